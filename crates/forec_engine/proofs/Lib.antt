@@ -1,0 +1,10 @@
+mod Advancing
+mod Endings
+mod Heading
+mod Progressing
+mod Ranges
+mod Reports
+mod Running
+mod Splitting
+mod TickLines
+mod Told

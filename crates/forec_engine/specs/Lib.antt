@@ -1,1 +1,16 @@
+pub mod Calls
+pub mod Commands
+pub mod Ends
+pub mod FirstForm
 pub mod FirstProgram
+pub mod Judging
+pub mod Laws
+pub mod Lines
+pub mod Machine
+pub mod Progress
+pub mod Report
+pub mod ReportLines
+pub mod Rows
+pub mod StatusNumbers
+pub mod WaitingRoom
+pub mod Waits

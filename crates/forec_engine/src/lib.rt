@@ -1,9 +1,19 @@
 //! The top call: from the words, the program's text and the trace to the bytes of the report.
 #![tactic(auto)]
 
-use forec_base::OutOfMemory;
+mod command;
+mod first_form;
+mod found;
+mod generator;
+mod laws;
+mod lines;
+mod machine;
+mod rows;
+mod sink;
+mod status;
+mod ticks;
+mod waiting;
 
-/// Placeholder.
-pub fn placeholder() -> OutOfMemory {
-    OutOfMemory
-}
+pub use command::forec;
+pub use laws::{each_command_has_a_report, reports_are_unique};
+pub use status::Status;
