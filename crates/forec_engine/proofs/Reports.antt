@@ -7,6 +7,7 @@ use Rattle.forec_engine.specs.FirstForm.{First}
 use Rattle.forec_engine.specs.Judging.{Refusal, Too_long, No_form, Refuses, Runs, Judged, most_bytes}
 use Rattle.forec_engine.specs.Laws.{OneKernel, OneReport, SomeReport}
 use Rattle.forec_engine.specs.Report.{Report, trace_report}
+use Rattle.forec_engine.proofs.Running.{some_map}
 
 some_same : {A : Type 0} (x y : A) → Some x ≡ Some y → x ≡ y
 some_same x y e = cc
@@ -87,10 +88,6 @@ words_text words content trace P name n p r (Of_usage m e) = absurd (let h : Non
 words_text words content trace P name n p r (Of_text other text m c t) =
     let same : name ≡ other = some_same name other (n ∙ m) in
     told_same (content name) (λ x. (q : Report) → TextReport x trace q → P q) text p (ap content same ∙ c) r t
-
-some_map : (o : Option (List ℕ)) (P Q : List ℕ → Type 0) → IfSome o P → ((x : List ℕ) → P x → Q x) → IfSome o Q
-some_map None P Q h f = tt
-some_map (Some x) P Q h f = f x h
 
 pub words_told : (words : List (List ℕ)) (content : List ℕ → Option (List ℕ)) (trace : Option (List ℕ)) (P : Report → Type 0) (name text : List ℕ) → Some name ≡ program_of words →
     IfSome (content name) (λ c. text ≡ c) → ((r : Report) → TextReport text trace r → P r) → (r : Report) → IsReport words content trace r → P r
