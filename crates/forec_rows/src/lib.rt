@@ -72,14 +72,7 @@ mod tests {
         let mut texts = MemTexts::new(files, Vec::new(alloc));
         let mut source = MemSource::pieces(trace.to_vec(alloc)?, streams.read_fails, streams.read);
         let mut sink = MemSink::pieces(alloc, 200_000, streams.write_fails, streams.write)?;
-        let status = forec(
-            alloc,
-            &owned,
-            &mut texts,
-            &mut source,
-            &mut sink,
-            &OpenGate,
-        );
+        let status = forec(alloc, &owned, &mut texts, &mut source, &mut sink, &OpenGate);
         Ok(Ended {
             held: sink.bytes().to_vec(alloc)?,
             status,
@@ -90,12 +83,22 @@ mod tests {
     fn rows(rt: HostRuntime) -> Result<(), Fail> {
         let alloc = rt.alloc();
         for (text, trace, want, status) in [
-            (COUNTER, b"\n\n\n".as_slice(), b"tick 1 o=1\ntick 2 o=2\nrows 2\n".as_slice(), Status::Done),
+            (
+                COUNTER,
+                b"\n\n\n".as_slice(),
+                b"tick 1 o=1\ntick 2 o=2\nrows 2\n".as_slice(),
+                Status::Done,
+            ),
             (COUNTER, b"", b"row 0 bad\n", Status::Trace),
             (COUNTER, b"\n", b"rows 0\n", Status::Done),
             (COUNTER, b"\n \n", b"row 1 bad\n", Status::Trace),
             (COUNTER, b"\n\n ", b"tick 1 o=1\nrow 2 bad\n", Status::Trace),
-            (WRAPS, b"\n\n", b"tick 1 o=-2147483648\nend 1\n", Status::Done),
+            (
+                WRAPS,
+                b"\n\n",
+                b"tick 1 o=-2147483648\nend 1\n",
+                Status::Done,
+            ),
             (b"", b"", b"refused form\n", Status::Refused),
         ] {
             let end = run(&rt, alloc, &["run", "P"], text, trace, whole(alloc))?;
@@ -108,20 +111,22 @@ mod tests {
         Ok(())
     }
 
+    // These words are no command.
+    fn shows_usage(rt: &impl Abort, alloc: Global, words: &[&str]) -> Result<(), Fail> {
+        let usage =
+            b"usage: forec run|check|threads|code|explain|gen PROGRAM [--cores N] [--place LIST] [--budget B] [--order N]\n";
+        let end = run(rt, alloc, words, COUNTER, b"\n\n", whole(alloc))?;
+        assert_eq!(rt; end.held.as_slice(), usage.as_slice());
+        assert_eq!(rt; end.status, Status::Usage);
+        Ok(())
+    }
+
     #[test]
     fn words(rt: HostRuntime) -> Result<(), Fail> {
         let alloc = rt.alloc();
-        let usage = b"usage: forec run|check|threads|code|explain|gen PROGRAM [--cores N] [--place LIST] [--budget B] [--order N]\n";
-        for words in [
-            [].as_slice(),
-            ["run"].as_slice(),
-            ["ran", "P"].as_slice(),
-            ["run", "P", "P"].as_slice(),
-        ] {
-            let end = run(&rt, alloc, words, COUNTER, b"\n\n", whole(alloc))?;
-            assert_eq!(rt; end.held.as_slice(), usage.as_slice());
-            assert_eq!(rt; end.status, Status::Usage);
-        }
+        shows_usage(&rt, alloc, &["run"])?;
+        shows_usage(&rt, alloc, &["ran", "P"])?;
+        shows_usage(&rt, alloc, &["run", "P", "P"])?;
         let end = run(&rt, alloc, &["run", "Q"], COUNTER, b"\n\n", whole(alloc))?;
         assert_eq!(rt; end.held.as_slice(), b"".as_slice());
         assert_eq!(rt; end.status, Status::ReadFault);
@@ -164,7 +169,14 @@ mod tests {
             (3, 11, b"tick 1 o=1", Status::WriteFault),
             (3, 12, b"tick 1 o=1\n", Status::ReadFault),
         ] {
-            let end = run(&rt, alloc, &["run", "P"], COUNTER, b"\n\n\n", single(alloc, read, write)?)?;
+            let end = run(
+                &rt,
+                alloc,
+                &["run", "P"],
+                COUNTER,
+                b"\n\n\n",
+                single(alloc, read, write)?,
+            )?;
             assert_eq!(rt; end.held.as_slice(), want);
             assert_eq!(rt; end.status, status);
         }
