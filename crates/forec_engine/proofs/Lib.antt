@@ -1,0 +1,4 @@
+pub mod StackLemmas
+pub mod Stretch
+pub mod Texts
+pub mod Ticking
