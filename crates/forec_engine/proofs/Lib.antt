@@ -2,3 +2,4 @@ pub mod StackLemmas
 pub mod Stretch
 pub mod Texts
 pub mod Ticking
+pub mod Steps

@@ -41,7 +41,8 @@ fn fetch(block: &Block, at: usize) -> &Instruction
 }
 
 fn operate(stack: &mut Stack, op: Binary)
-    requires { 1 < length stack.old.list }
+    requires sides { 1 < length stack.old.list }
+    requires room { length stack.old.list ≤ stack.old.room }
     ensures { stack.new ≡ operated op stack.old }
 {
     let right = stack.pop();
