@@ -3,3 +3,4 @@ pub mod Stretch
 pub mod Texts
 pub mod Ticking
 pub mod Steps
+pub mod FirstTick
