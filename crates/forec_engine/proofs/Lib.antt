@@ -4,3 +4,5 @@ pub mod Texts
 pub mod Ticking
 pub mod Steps
 pub mod FirstTick
+pub mod FirstValid
+pub mod Patch

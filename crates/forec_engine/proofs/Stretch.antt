@@ -10,17 +10,17 @@ use Rattle.thread_code.specs.declared.instruction.Instruction.TheVariants as ins
 use Rattle.forec_engine.specs.Core.{Core, On, Paused, Ended, Stuck, units_in, with_top, with_value, act, step, after, Comes}
 use Rattle.forec_engine.specs.Reading.{HasAt}
 
-pub has_front : (s : List Instruction) (p : ℕ) (a b : List Instruction) → HasAt s p (a ++ b) → HasAt s p a
+pub has_front : {A : Type 0} → (s : List A) (p : ℕ) (a b : List A) → HasAt s p (a ++ b) → HasAt s p a
 has_front s p [] b h = tt
 has_front s p (i ∷ a) b h = (h.0, has_front s (p + 1) a b h.1)
 
-pub has_back : (s : List Instruction) (p : ℕ) (a b : List Instruction) → HasAt s p (a ++ b) → HasAt s (p + length a) b
+pub has_back : {A : Type 0} → (s : List A) (p : ℕ) (a b : List A) → HasAt s p (a ++ b) → HasAt s (p + length a) b
 has_back s p [] b h = let e : p ≡ p + 0 = omega arith in subst (λ n. HasAt s n b) e h
 has_back s p (i ∷ a) b h =
     let e : p + 1 + length a ≡ p + length (i ∷ a) = omega arith in
     subst (λ n. HasAt s n b) e (has_back s (p + 1) a b h.1)
 
-pub has_all : (is pre : List Instruction) → HasAt (pre ++ is) (length pre) is
+pub has_all : {A : Type 0} → (is pre : List A) → HasAt (pre ++ is) (length pre) is
 has_all [] pre = tt
 has_all (i ∷ is) pre =
     let within : length pre < length (pre ++ i ∷ is) = omega (arith, length-append pre (i ∷ is)) in

@@ -11,8 +11,8 @@ use Rattle.thread_code.specs.declared.instruction.Instruction.{Instruction}
 use Rattle.thread_code.specs.declared.instruction.Instruction.TheVariants as instruction
 use Rattle.forec_engine.specs.FirstCode.{IsFirstStmt, IsFirstList, stmt_code, list_code}
 
--- these instructions stand in the block at this address
-abbrev pub HasAt : List Instruction → ℕ → List Instruction → Type 0
+-- these items, as instructions of a block, stand in the list from this place on
+abbrev pub HasAt : {A : Type 0} → List A → ℕ → List A → Type 0
 HasAt s p [] = Unit {0}
 HasAt s p (i ∷ is) = (slice_get s p ≡ Some i) × HasAt s (p + 1) is
 

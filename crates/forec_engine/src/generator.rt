@@ -6,8 +6,9 @@ ghost use Rattle.forec_kernel.specs.Shapes.{plain_kernel, plain_shape, plain_thr
 ghost use Rattle.forec_engine.specs.FirstCode.{IsFirstKernel, IsCodeOf, IsFirstExpr, IsFirstStmt, IsFirstList, expr_code, stmt_code, list_code, around_body};
 ghost use Rattle.forec_kernel.specs.Terms.{Set, Pause};
 
-use forec_base::{Labels, OutOfMemory};
-use forec_kernel::{Expression, Kernel, Shape, Spot, Statement, ThreadShape};
+use crate::shapes::copy_shape;
+use forec_base::OutOfMemory;
+use forec_kernel::{Expression, Kernel, Spot, Statement};
 use std::alloc::Global;
 use thread_code::{Block, Code, CodeParts, Instruction};
 
@@ -133,4 +134,29 @@ fn emit_statement(
         Statement::Pause => emit_pause(steps),
         _ => unreachable!(),
     }
+}
+
+/// The code of a kernel of the first form.
+pub fn generate(alloc: Global, kernel: &Kernel) -> Result<Code, OutOfMemory>
+    requires { IsFirstKernel (plain_kernel kernel.now) }
+    ensures { IfOk result (λ c. IsCodeOf (plain_kernel kernel.now) c) }
+{
+    let parts = kernel.parts();
+    let mut steps = Vec::new(alloc);
+    emit_statement(&mut steps, &parts.threads[0])?;
+    put(&mut steps, Instruction::End)?;
+    let mut threads = Vec::new(alloc);
+    threads.push(Block {
+        steps,
+        params: 0,
+        words: 0,
+        counters: 0,
+        flags: 0,
+    })?;
+    let parts = CodeParts {
+        shape: copy_shape(alloc, &parts.shape)?,
+        threads,
+        functions: Vec::new(alloc),
+    };
+    Ok(Code::of(parts))
 }

@@ -3,4 +3,5 @@
 
 mod generator;
 mod machine;
+mod shapes;
 mod stack;
