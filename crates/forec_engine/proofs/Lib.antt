@@ -6,3 +6,5 @@ pub mod Steps
 pub mod FirstTick
 pub mod FirstValid
 pub mod Patch
+pub mod Copies
+pub mod Generated

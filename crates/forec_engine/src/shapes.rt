@@ -39,12 +39,18 @@ fn copy_threads(alloc: Global, threads: &[ThreadShape]) -> Result<Vec<ThreadShap
     Ok(copies)
 }
 
+fn copy_table(table: &Vec<i32>) -> Result<Vec<i32>, OutOfMemory>
+    ensures { IfOk result (λ t. t.items ≡ table.now.items) }
+{
+    Ok(table.clone()?)
+}
+
 fn copy_tables(alloc: Global, tables: &[Vec<i32>]) -> Result<Vec<Vec<i32>>, OutOfMemory>
     ensures { IfOk result (λ ts. map (λ v. v.items) ts.items ≡ map (λ v. v.items) tables.now) }
 {
     let mut copies = Vec::new(alloc);
     for table in tables {
-        copies.push(table.clone()?)?;
+        copies.push(copy_table(table)?)?;
     }
     Ok(copies)
 }
