@@ -72,3 +72,20 @@ module _ (k : PlainKernel) (c : CodeParts) (x : Block) (first : IsFirstKernel k)
       ∙ ap (λ ts. record { shape = (plain_code c).shape; threads = ts; functions = [] }) (sym its_threads)
       ∙ ap (λ fs. record { shape = (plain_code c).shape; threads = (plain_code c).threads; functions = fs }) (sym its_functions) in
       subst IsValidCode same (valid_first p (body_of k 0) (first_body k first))
+
+-- the steps are those of the body, and the end behind them
+pub steps_are : (s0 s1 s2 : List Instruction) (read body : Stmt) → s0 ≡ [] → s1 ≡ s0 ++ stmt_code (length s0) read → s2 ≡ s1 ++ instruction.End ∷ [] → body ≡ read → s2 ≡ thread_steps body
+steps_are s0 s1 s2 read body e0 e1 e2 same =
+    e2 ∙ ap (λ l. l ++ instruction.End ∷ []) (e1 ∙ ap (λ l. l ++ stmt_code (length l) read) e0 ∙ ap (stmt_code 0) (sym same))
+
+abbrev pub bare_block : List Instruction → PlainBlock
+bare_block l = record { steps = l; params = 0; words = 0; counters = 0; flags = 0 }
+
+pub same_code : (k : PlainKernel) (c d : CodeParts) → plain_code c ≡ plain_code d → IsCodeOf k d → IsCodeOf k c
+same_code k c d e h =
+    record {
+      first = h.first;
+      shape = ap (λ (x : PlainCode). x.shape) e ∙ h.shape;
+      threads = ap (λ (x : PlainCode). x.threads) e ∙ h.threads;
+      functions = ap (λ (x : PlainCode). x.functions) e ∙ h.functions;
+    }

@@ -3,7 +3,8 @@
 ghost use Rattle.std.specs.Prelude.{◌≡◌, ◌+◌, ◌<◌, ◌≤◌, ◌^◌, [], ◌∷◌, ◌++◌, length, drop, map, OnOk, IfOk};
 ghost use Rattle.forec_kernel.specs.Plain.{expr, stmt, stmts};
 ghost use Rattle.forec_kernel.specs.Shapes.{plain_kernel, plain_shape, plain_thread};
-ghost use Rattle.forec_engine.specs.FirstCode.{IsFirstKernel, IsCodeOf, IsFirstExpr, IsFirstStmt, IsFirstList, expr_code, stmt_code, list_code, around_body};
+ghost use Rattle.forec_engine.specs.FirstCode.{IsFirstKernel, IsCodeOf, IsFirstExpr, IsFirstStmt, IsFirstList, expr_code, stmt_code, list_code, around_body, thread_block};
+ghost use Rattle.thread_code.specs.Plain.{plain_block};
 ghost use Rattle.forec_kernel.specs.Terms.{Set, Pause};
 
 use crate::shapes::copy_shape;
@@ -136,27 +137,35 @@ fn emit_statement(
     }
 }
 
-/// The code of a kernel of the first form.
-pub fn generate(alloc: Global, kernel: &Kernel) -> Result<Code, OutOfMemory>
-    requires { IsFirstKernel (plain_kernel kernel.now) }
-    ensures { IfOk result (λ c. IsCodeOf (plain_kernel kernel.now) c) }
+// The block of a thread: its body, and the end.
+fn emit_thread(alloc: Global, body: &Statement) -> Result<Block, OutOfMemory>
+    requires { IsFirstStmt (stmt body.now) }
+    ensures { IfOk result (λ b. plain_block b ≡ thread_block (stmt body.now)) }
 {
-    let parts = kernel.parts();
     let mut steps = Vec::new(alloc);
-    emit_statement(&mut steps, &parts.threads[0])?;
+    emit_statement(&mut steps, body)?;
     put(&mut steps, Instruction::End)?;
-    let mut threads = Vec::new(alloc);
-    threads.push(Block {
+    Ok(Block {
         steps,
         params: 0,
         words: 0,
         counters: 0,
         flags: 0,
-    })?;
-    let parts = CodeParts {
+    })
+}
+
+/// The code of a kernel of the first form. A code of more than 8,388,608 instructions is answered as
+/// want of memory.
+pub fn generate(alloc: Global, kernel: &Kernel) -> Result<Code, OutOfMemory>
+    requires { IsFirstKernel (plain_kernel kernel.now) }
+    ensures { IfOk result (λ c. IsCodeOf (plain_kernel kernel.now) c) }
+{
+    let parts = kernel.parts();
+    let mut threads = Vec::new(alloc);
+    threads.push(emit_thread(alloc, &parts.threads[0])?)?;
+    Ok(Code::of(CodeParts {
         shape: copy_shape(alloc, &parts.shape)?,
         threads,
         functions: Vec::new(alloc),
-    };
-    Ok(Code::of(parts))
+    }))
 }
