@@ -8,3 +8,4 @@ pub mod FirstValid
 pub mod Patch
 pub mod Copies
 pub mod Generated
+pub mod WorkedKernels

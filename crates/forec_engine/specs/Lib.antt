@@ -4,3 +4,4 @@ pub mod Numbers
 pub mod Core
 pub mod Reading
 pub mod Follows
+pub mod Worked

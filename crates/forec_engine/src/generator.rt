@@ -29,13 +29,14 @@ fn next(steps: &Vec<Instruction>) -> Result<u32, OutOfMemory>
     ensures small { IfOk result (λ p. p < 8388608) }
 {
     let at = steps.len();
-    if at < MOST { Ok(at as u32) } else { Err(OutOfMemory) }
+    if at < MOST {
+        Ok(at as u32)
+    } else {
+        Err(OutOfMemory)
+    }
 }
 
-fn emit_expression(
-    steps: &mut Vec<Instruction>,
-    expression: &Expression,
-) -> Result<(), OutOfMemory>
+fn emit_expression(steps: &mut Vec<Instruction>, expression: &Expression) -> Result<(), OutOfMemory>
     requires { IsFirstExpr (expr expression.now) }
     ensures { OnOk result (steps.new.items ≡ steps.old.items ++ expr_code (expr expression.now)) }
 {
@@ -67,11 +68,7 @@ fn emit_expression(
     }
 }
 
-fn emit_set(
-    steps: &mut Vec<Instruction>,
-    to: Spot,
-    value: &Expression,
-) -> Result<(), OutOfMemory>
+fn emit_set(steps: &mut Vec<Instruction>, to: Spot, value: &Expression) -> Result<(), OutOfMemory>
     requires { IsFirstStmt (Set to (expr value.now)) }
     ensures { OnOk result (steps.new.items ≡ steps.old.items ++ stmt_code (length steps.old.items) (Set to (expr value.now))) }
 {
@@ -115,10 +112,7 @@ fn emit_loop(
 }
 
 #[cycle(statement)]
-fn emit_statement(
-    steps: &mut Vec<Instruction>,
-    statement: &Statement,
-) -> Result<(), OutOfMemory>
+fn emit_statement(steps: &mut Vec<Instruction>, statement: &Statement) -> Result<(), OutOfMemory>
     requires { IsFirstStmt (stmt statement.now) }
     ensures { OnOk result (steps.new.items ≡ steps.old.items ++ stmt_code (length steps.old.items) (stmt statement.now)) }
 {

@@ -5,3 +5,5 @@ mod generator;
 mod machine;
 mod shapes;
 mod stack;
+#[cfg(test)]
+mod tests;

@@ -219,4 +219,3 @@ returns-in-Pause-clause-stops c =
     let is : slice_get b.steps h.at ≡ Some (instruction.Pause c.in-Pause.to) = c.fetch.ensures ∙ ap Some c.in-Pause.is in
     let p = pause_shows b c.args.budget h at c.in-Pause.to is in
     (is, c.requires.within, p.0, p.1)
-

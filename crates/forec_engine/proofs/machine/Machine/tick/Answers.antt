@@ -44,4 +44,3 @@ returns-in-Over-clause-outcome c =
     let x = c.index-block.result.now in
     let read : x ≡ get_or c.args.code.now.threads.items 0 x = c.index-block.ensures ∙ ap (λ (p : CodeParts). get_or p.threads.items 0 x) c.parts.ensures.same in
     λ k s f. tick_over k s c.args.code.now x c.args.self.now c.args.budget f read c.run.new.self c.in-Over.ensures.comes c.in-Over.ensures.shows
-
