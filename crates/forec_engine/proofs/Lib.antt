@@ -1,0 +1,11 @@
+pub mod StackLemmas
+pub mod Stretch
+pub mod Texts
+pub mod Ticking
+pub mod Steps
+pub mod FirstTick
+pub mod FirstValid
+pub mod Patch
+pub mod Copies
+pub mod Generated
+pub mod WorkedKernels

@@ -1,1 +1,7 @@
 pub mod FirstProgram
+pub mod FirstCode
+pub mod Numbers
+pub mod Core
+pub mod Reading
+pub mod Follows
+pub mod Worked

@@ -1,9 +1,9 @@
 //! The top call: from the words, the program's text and the trace to the bytes of the report.
 #![tactic(auto)]
 
-use forec_base::OutOfMemory;
-
-/// Placeholder.
-pub fn placeholder() -> OutOfMemory {
-    OutOfMemory
-}
+mod generator;
+mod machine;
+mod shapes;
+mod stack;
+#[cfg(test)]
+mod tests;
