@@ -9,3 +9,13 @@ pub mod Patch
 pub mod Copies
 pub mod Generated
 pub mod WorkedKernels
+mod Advancing
+mod Endings
+mod Heading
+mod Progressing
+mod Ranges
+mod Reports
+mod Running
+mod Splitting
+mod TickLines
+mod Told

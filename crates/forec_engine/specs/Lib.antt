@@ -1,3 +1,7 @@
+pub mod Calls
+pub mod Commands
+pub mod Ends
+pub mod FirstForm
 pub mod FirstProgram
 pub mod FirstCode
 pub mod Numbers
@@ -5,3 +9,13 @@ pub mod Core
 pub mod Reading
 pub mod Follows
 pub mod Worked
+pub mod Judging
+pub mod Laws
+pub mod Lines
+pub mod Progress
+pub mod Report
+pub mod ReportLines
+pub mod Rows
+pub mod StatusNumbers
+pub mod WaitingRoom
+pub mod Waits

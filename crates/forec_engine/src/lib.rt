@@ -1,9 +1,23 @@
 //! The top call: from the words, the program's text and the trace to the bytes of the report.
 #![tactic(auto)]
 
+mod command;
+mod first_form;
+mod found;
 mod generator;
+mod laws;
+mod lines;
 mod machine;
+mod rows;
 mod shapes;
+mod sink;
 mod stack;
+mod status;
 #[cfg(test)]
 mod tests;
+mod ticks;
+mod waiting;
+
+pub use command::forec;
+pub use laws::{each_command_has_a_report, reports_are_unique};
+pub use status::Status;

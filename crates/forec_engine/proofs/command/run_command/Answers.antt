@@ -1,0 +1,59 @@
+use Rattle.std.proofs.Common.{map, string_bytes, sym, subst, List, ℕ}
+use Rattle.forec_engine.specs.Calls.{AppendsFront}
+use Rattle.forec_engine.specs.Commands.{TextReport}
+use Rattle.forec_engine.specs.Ends.{Given}
+use Rattle.forec_engine.specs.Report.{Report}
+use Rattle.forec_engine.proofs.Running.{own_not}
+use Rattle.forec_engine.proofs.Reports.{words_usage, words_told, words_long}
+use Rattle.forec_engine.proofs.command.run_command.Goals as goal
+
+pub returns-in_default-clause-own : goal.returns-in_default-clause-own
+returns-in_default-clause-own g c = λ own.
+    let not = own_not c.say.result own in
+    let h0 = g.K.Sink.held c.args.out.now in
+    let h2 = g.K.Sink.held c.say.new.out in
+    words_usage (map string_bytes c.args.words.now) (g.T.Texts.content c.args.texts.now) (g.S.Source.left c.args.trace.now) (λ r. Given r c.say.result h0 h2) (sym c.in_default.ensures)
+    (record { status = c.say.ensures.said not; bytes = c.say.ensures.line not })
+
+pub returns-in_default-clause-write : goal.returns-in_default-clause-write
+returns-in_default-clause-write g c = λ is.
+    let h0 = g.K.Sink.held c.args.out.now in
+    let h2 = g.K.Sink.held c.say.new.out in (
+      c.say.ensures.fault is,
+      words_usage (map string_bytes c.args.words.now) (g.T.Texts.content c.args.texts.now) (g.S.Source.left c.args.trace.now) (λ r. AppendsFront h0 h2 r.bytes) (sym c.in_default.ensures) (c.say.ensures.front is),
+    )
+
+pub returns-in-Ok-clause-own : goal.returns-in-Ok-clause-own
+returns-in-Ok-clause-own g c = λ own.
+    let h0 = g.K.Sink.held c.args.out.now in
+    let h2 = g.K.Sink.held c.run_text.new.out in
+    let P : Report → Type 0 = λ r. Given r c.run_text.result h0 h2 in
+    words_told (map string_bytes c.args.words.now) (g.T.Texts.content c.args.texts.now) (g.S.Source.left c.args.trace.now) P c.in-Some.name.now c.in-Ok.text.items c.in-Some.ensures c.in-Ok.ensures.bytes.1
+    (subst (λ (t : List ℕ). (r : Report) → TextReport t (g.S.Source.left c.args.trace.now) r → P r) c.deref.ensures.value (c.run_text.ensures.own own))
+
+pub returns-in-Ok-clause-write : goal.returns-in-Ok-clause-write
+returns-in-Ok-clause-write g c = λ is.
+    let h0 = g.K.Sink.held c.args.out.now in
+    let h2 = g.K.Sink.held c.run_text.new.out in
+    let w = c.run_text.ensures.write is in
+    let P : Report → Type 0 = λ r. AppendsFront h0 h2 r.bytes in (
+      w.0,
+      words_told (map string_bytes c.args.words.now) (g.T.Texts.content c.args.texts.now) (g.S.Source.left c.args.trace.now) P c.in-Some.name.now c.in-Ok.text.items c.in-Some.ensures c.in-Ok.ensures.bytes.1
+          (subst (λ (t : List ℕ). (r : Report) → TextReport t (g.S.Source.left c.args.trace.now) r → P r) c.deref.ensures.value w.1),
+    )
+
+pub returns-in-Err-Long-clause-own : goal.returns-in-Err-Long-clause-own
+returns-in-Err-Long-clause-own g c = λ own.
+    let not = own_not c.say-in-Err-Long.result own in
+    let h0 = g.K.Sink.held c.args.out.now in
+    let h2 = g.K.Sink.held c.say-in-Err-Long.new.out in
+    words_long (map string_bytes c.args.words.now) (g.T.Texts.content c.args.texts.now) (g.S.Source.left c.args.trace.now) (λ r. Given r c.say-in-Err-Long.result h0 h2) c.in-Some.name.now c.in-Some.ensures (rw c.in-Err-Long.field-0-is at c.in-Err-Long.ensures.bytes)
+    (record { status = c.say-in-Err-Long.ensures.said not; bytes = c.say-in-Err-Long.ensures.line not })
+
+pub returns-in-Err-Long-clause-write : goal.returns-in-Err-Long-clause-write
+returns-in-Err-Long-clause-write g c = λ is.
+    let h0 = g.K.Sink.held c.args.out.now in
+    let h2 = g.K.Sink.held c.say-in-Err-Long.new.out in (
+      c.say-in-Err-Long.ensures.fault is,
+      words_long (map string_bytes c.args.words.now) (g.T.Texts.content c.args.texts.now) (g.S.Source.left c.args.trace.now) (λ r. AppendsFront h0 h2 r.bytes) c.in-Some.name.now c.in-Some.ensures (rw c.in-Err-Long.field-0-is at c.in-Err-Long.ensures.bytes) (c.say-in-Err-Long.ensures.front is),
+    )

@@ -1,0 +1,48 @@
+-- How a command ends.
+use Rattle.std.specs.Prelude.{◌≡◌, ℕ, List, ◌++◌, Option, Some, IfSome, ⊤}
+use Rattle.std.specs.Io.KnownBytes.{Appends}
+use Rattle.forec_kernel.specs.Shapes.{PlainKernel}
+use Rattle.forec_engine.specs.Calls.{IfTold}
+use Rattle.forec_engine.specs.Commands.{program_of, budget}
+use Rattle.forec_engine.specs.Judging.{Runs, Judged}
+use Rattle.forec_engine.specs.Lines.{whole_lines}
+use Rattle.forec_engine.specs.Report.{Report, printed_for}
+use Rattle.forec_engine.specs.declared.status.Status.{Status}
+use Rattle.forec_engine.specs.declared.status.Status.TheVariants as status
+
+-- a status that a report ends with: neither a fault nor want of memory
+abbrev pub IsOwn : Status → Type 0
+IsOwn status.Done = ⊤
+IsOwn status.Usage = ⊤
+IsOwn status.Refused = ⊤
+IsOwn status.Trace = ⊤
+IsOwn status.Trapped = ⊤
+IsOwn status.Over = ⊤
+IsOwn status.ReadFault = ⊥
+IsOwn status.WriteFault = ⊥
+IsOwn status.NoMemory = ⊥
+
+-- the report was given, whole
+pub record Given (r : Report) (end : Status) (held_old held_new : Option (List ℕ)) : Type 0 where
+  pub status : end ≡ r.status
+  pub bytes : Appends held_old held_new r.bytes
+
+-- these bytes are what the lines print that have come whole, none of which stops the program
+abbrev pub PrintedFor : PlainKernel → ℕ → List ℕ → List ℕ → List ℕ → Type 0
+PrintedFor k budget bytes left_old left_new =
+    (given : List ℕ) × (left_old ≡ given ++ left_new) × (printed_for k budget (whole_lines given) ≡ Some bytes)
+
+-- the trace was wanted by a kernel: no line that came whole stops it, and what was printed is what those lines print
+abbrev pub Wanted : PlainKernel → ℕ → Option (List ℕ) → Option (List ℕ) → Option (List ℕ) → Option (List ℕ) → Type 0
+Wanted k budget left_old left_new held_old held_new =
+    (bytes : List ℕ) × Appends held_old held_new bytes × IfTold left_old left_new (PrintedFor k budget bytes)
+
+-- the same by a text, which is accepted
+abbrev pub WantedByText : List ℕ → Option (List ℕ) → Option (List ℕ) → Option (List ℕ) → Option (List ℕ) → Type 0
+WantedByText text left_old left_new held_old held_new =
+    (k : PlainKernel) × Judged text (Runs k) × Wanted k budget left_old left_new held_old held_new
+
+-- the same by words, which are a command
+abbrev pub WantedByWords : List (List ℕ) → (List ℕ → Option (List ℕ)) → Option (List ℕ) → Option (List ℕ) → Option (List ℕ) → Option (List ℕ) → Type 0
+WantedByWords words content left_old left_new held_old held_new =
+    (name : List ℕ) × (program_of words ≡ Some name) × IfSome (content name) (λ text. WantedByText text left_old left_new held_old held_new)

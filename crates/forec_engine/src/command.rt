@@ -1,0 +1,176 @@
+// The top call.
+ghost use Rattle.std.specs.Prelude.{◌≡◌, ◌≤◌, ◌≢◌, ◌⊎◌, List, ℕ, map, length, string_bytes, IfSome, Some};
+ghost use Rattle.std.specs.Option.{option_copied};
+ghost use Rattle.forec_base.specs.Outside.{Fell, Rose};
+ghost use Rattle.forec_kernel.specs.Shapes.{PlainKernel, plain_kernel};
+ghost use Rattle.forec_engine.specs.Calls.{AppendsFront};
+ghost use Rattle.forec_engine.specs.Commands.{program_of, budget, IsReport, TextReport};
+ghost use Rattle.forec_engine.specs.Ends.{IsOwn, Given, Wanted, WantedByText, WantedByWords};
+ghost use Rattle.forec_engine.specs.Judging.{Verdict, Judged, Runs, Refuses};
+ghost use Rattle.forec_engine.specs.Machine.{IsFirstKernel};
+ghost use Rattle.forec_engine.specs.Report.{Report, trace_report};
+
+use crate::first_form::{FormFault, one_kernel, read_program};
+use crate::generator::generate;
+use crate::lines::Lines;
+use crate::machine::Machine;
+use crate::sink::say;
+use crate::status::Status;
+use crate::ticks::{Program, output_name, run};
+use crate::waiting::Waiting;
+use forec_base::{Gate, Sink, Source, TextFault, Texts};
+use forec_kernel::Kernel;
+use std::alloc::Global;
+
+const MOST_BYTES: usize = 1_048_576;
+
+// The units that a tick may have.
+const BUDGET: u64 = 10_000_000;
+
+const USAGE: &[u8] =
+    b"usage: forec run|check|threads|code|explain|gen PROGRAM [--cores N] [--place LIST] [--budget B] [--order N]\n";
+
+// The program that the words name, where they are a command.
+fn program<'a>(words: &'a [String]) -> Option<&'a str>
+    ensures { option_copied result ≡ program_of (map string_bytes words.now) }
+{
+    match words {
+        [command, program] => {
+            if command.as_str() == "run" {
+                Some(program.as_str())
+            } else {
+                None
+            }
+        }
+        _ => None,
+    }
+}
+
+// Makes all that a run needs, and runs.
+fn start<S: Source, K: Sink>(alloc: Global, kernel: Kernel, trace: &mut S, out: &mut K) -> Status
+    requires { IsFirstKernel (plain_kernel kernel) }
+    ensures own { IsOwn result → IfSome (S.left trace.old)
+        (λ x. Given (trace_report (plain_kernel kernel) budget x) result (K.held out.old) (K.held out.new)) }
+    ensures read { result ≡ Status.ReadFault → Fell (S.faults trace.old) (S.faults trace.new) (S.down trace.new)
+        × Wanted (plain_kernel kernel) budget (S.left trace.old) (S.left trace.new) (K.held out.old) (K.held out.new) }
+    ensures write { result ≡ Status.WriteFault → Fell (K.faults out.old) (K.faults out.new) (K.down out.new)
+        × IfSome (S.left trace.old) (λ x. AppendsFront (K.held out.old) (K.held out.new) (trace_report (plain_kernel kernel) budget x).bytes) }
+    ensures memory { result ≡ Status.NoMemory → K.held out.new ≡ K.held out.old }
+{
+    let Ok(code) = generate(alloc, &kernel) else {
+        return Status::NoMemory;
+    };
+    let Ok(mut machine) = Machine::load(alloc, &code) else {
+        return Status::NoMemory;
+    };
+    let Ok(mut lines) = Lines::new(alloc) else {
+        return Status::NoMemory;
+    };
+    let Ok(mut waiting) = Waiting::new(alloc, output_name(&kernel)) else {
+        return Status::NoMemory;
+    };
+    let program = Program {
+        kernel,
+        code,
+        budget: BUDGET,
+    };
+    run(&program, &mut machine, &mut lines, &mut waiting, trace, out)
+}
+
+// Runs a text.
+fn run_text<S: Source, K: Sink>(alloc: Global, text: &[u8], trace: &mut S, out: &mut K) -> Status
+    requires { length text.now ≤ 1048576 }
+    ensures own { IsOwn result → (r : Report) → TextReport text.now (S.left trace.old) r → Given r result (K.held out.old) (K.held out.new) }
+    ensures read { result ≡ Status.ReadFault → Fell (S.faults trace.old) (S.faults trace.new) (S.down trace.new)
+        × WantedByText text.now (S.left trace.old) (S.left trace.new) (K.held out.old) (K.held out.new) }
+    ensures write { result ≡ Status.WriteFault → Fell (K.faults out.old) (K.faults out.new) (K.down out.new)
+        × ((r : Report) → TextReport text.now (S.left trace.old) r → AppendsFront (K.held out.old) (K.held out.new) r.bytes) }
+    ensures memory { result ≡ Status.NoMemory → K.held out.new ≡ K.held out.old }
+{
+    // A text has one kernel at most, so that the report of this one is its report.
+    one_kernel();
+    match read_program(alloc, text) {
+        Ok(kernel) => start(alloc, kernel, trace, out),
+        Err(FormFault::OutOfMemory) => Status::NoMemory,
+        Err(FormFault::Form) => say(out, b"refused form\n", Status::Refused),
+    }
+}
+
+// Runs a command.
+fn run_command<T: Texts, S: Source, K: Sink, G: Gate>(
+    alloc: Global,
+    words: &[String],
+    texts: &mut T,
+    trace: &mut S,
+    out: &mut K,
+    gate: &G,
+) -> Status
+    // The text that the words name may be asked for.
+    requires may { (name : List ℕ) → program_of (map string_bytes words.now) ≡ Some name → T.may texts.old name }
+
+    // What is printed is the report, and the status is the report's.
+    ensures own { IsOwn result → (r : Report) → IsReport (map string_bytes words.now) (T.content texts.old) (S.left trace.old) r
+        → Given r result (K.held out.old) (K.held out.new) }
+
+    // A store or a trace that was wanted failed. What was printed is what the rows that had come whole print.
+    ensures read { result ≡ Status.ReadFault →
+        (Fell (T.faults texts.old) (T.faults texts.new) (T.down texts.new) × (K.held out.new ≡ K.held out.old))
+        ⊎ (Fell (S.faults trace.old) (S.faults trace.new) (S.down trace.new)
+        × WantedByWords (map string_bytes words.now) (T.content texts.old) (S.left trace.old) (S.left trace.new) (K.held out.old) (K.held out.new)) }
+
+    // The sink failed. What was printed is a front of the report.
+    ensures write { result ≡ Status.WriteFault → Fell (K.faults out.old) (K.faults out.new) (K.down out.new)
+        × ((r : Report) → IsReport (map string_bytes words.now) (T.content texts.old) (S.left trace.old) r
+        → AppendsFront (K.held out.old) (K.held out.new) r.bytes) }
+
+    // Where memory was wanting, nothing was printed.
+    ensures memory { result ≡ Status.NoMemory → K.held out.new ≡ K.held out.old }
+{
+    let _ = gate;
+    let Some(name) = program(words) else {
+        return say(out, USAGE, Status::Usage);
+    };
+    match texts.read(alloc, name, MOST_BYTES) {
+        Ok(text) => run_text(alloc, &text, trace, out),
+        Err(TextFault::Failed) => Status::ReadFault,
+        Err(TextFault::OutOfMemory) => Status::NoMemory,
+        Err(TextFault::Long) => say(out, b"refused long\n", Status::Refused),
+    }
+}
+
+/// Runs the command that the words are, and gives its status.
+pub fn forec<T: Texts, S: Source, K: Sink, G: Gate>(
+    alloc: Global,
+    words: &[String],
+    texts: &mut T,
+    trace: &mut S,
+    out: &mut K,
+    gate: &G,
+) -> Status
+    // The text that the words name may be asked for.
+    requires may { (name : List ℕ) → program_of (map string_bytes words.now) ≡ Some name → T.may texts.old name }
+
+    // What is printed is the report, and the status is the report's.
+    ensures own { IsOwn result → (r : Report) → IsReport (map string_bytes words.now) (T.content texts.old) (S.left trace.old) r
+        → Given r result (K.held out.old) (K.held out.new) }
+
+    // A store or a trace that was wanted failed. What was printed is what the rows that had come whole print.
+    ensures read { result ≡ Status.ReadFault →
+        (Fell (T.faults texts.old) (T.faults texts.new) (T.down texts.new) × (K.held out.new ≡ K.held out.old))
+        ⊎ (Fell (S.faults trace.old) (S.faults trace.new) (S.down trace.new)
+        × WantedByWords (map string_bytes words.now) (T.content texts.old) (S.left trace.old) (S.left trace.new) (K.held out.old) (K.held out.new)) }
+
+    // The sink failed. What was printed is a front of the report.
+    ensures write { result ≡ Status.WriteFault → Fell (K.faults out.old) (K.faults out.new) (K.down out.new)
+        × ((r : Report) → IsReport (map string_bytes words.now) (T.content texts.old) (S.left trace.old) r
+        → AppendsFront (K.held out.old) (K.held out.new) r.bytes) }
+
+    // Where memory was wanting, nothing was printed.
+    ensures memory { result ≡ Status.NoMemory → K.held out.new ≡ K.held out.old }
+
+    // Where no count of faults rises, the report is given whole, or memory was wanting.
+    ensures complete { (Rose (T.faults texts.old) (T.faults texts.new) → ⊥) → (Rose (S.faults trace.old) (S.faults trace.new) → ⊥)
+        → (Rose (K.faults out.old) (K.faults out.new) → ⊥) → IsOwn result ⊎ (result ≡ Status.NoMemory) }
+{
+    run_command(alloc, words, texts, trace, out, gate)
+}

@@ -1,0 +1,209 @@
+// Finished lines of the report that aren't with the sink yet.
+ghost use Rattle.std.specs.Prelude.{◌≡◌, ◌≢◌, ◌+◌, ◌≤◌, ◌++◌, ◌∷◌, [], ℤ, List, length, decimal, vec_len, vec_capacity, IfOk, OnOk, OnErr, IsTrue};
+ghost use Rattle.std.specs.Io.KnownBytes.{Appends};
+ghost use Rattle.forec_base.specs.Outside.{Fell};
+ghost use Rattle.forec_engine.specs.Calls.{AppendsFront, Faults};
+ghost use Rattle.forec_engine.specs.Machine.{HasOutput};
+ghost use Rattle.forec_engine.specs.ReportLines.{tick_line, end_line, trap_word, trap_line, over_line, rows_line, fault_word, row_line, outcome_lines};
+
+use crate::found::RowFault;
+use crate::sink::write_all;
+use crate::status::Status;
+use forec_base::{Failed, OutOfMemory, Place, Sink, Trap};
+use forec_kernel::Outcome;
+use itoa::Buffer;
+use std::alloc::Global;
+
+// Room for the lines of a tick, the name of its output apart.
+const TICK_ROOM: usize = 64;
+
+// What is written at once where many lines wait.
+const PIECE: usize = 65536;
+
+/// Lines that wait, in room that is made once.
+#[derive(Drop)]
+pub struct Waiting {
+    pub bytes: Vec<u8>,
+    pub room: usize,
+    ghost fits: { room ≤ vec_capacity bytes },
+    ghost least: { 64 ≤ room },
+}
+
+impl Waiting {
+    ghost use Rattle.forec_engine.specs.WaitingRoom.{HasRoom, Gains};
+
+    /// Nothing waits. There is room for the lines of a tick of a program whose output has this name.
+    pub fn new(alloc: Global, name: &str) -> Result<Waiting, OutOfMemory>
+        ensures empty { IfOk result (λ w. w.bytes.items ≡ []) }
+        ensures room { IfOk result (λ w. w.room ≡ length name.now + 64) }
+    {
+        let room = name.len() + TICK_ROOM;
+        let bytes = Vec::with_capacity(alloc, PIECE + room)?;
+        Ok(Waiting { bytes, room })
+    }
+
+    /// Whether the lines of a further tick fit.
+    pub fn has_room(&self) -> bool
+        ensures { IsTrue result → HasRoom self.now self.now.room }
+    {
+        self.bytes.capacity() - self.bytes.len() >= self.room
+    }
+
+    // Adds bytes for which there is room.
+    fn put(&mut self, bytes: &[u8])
+        requires { HasRoom self.old (length bytes.now) }
+        ensures { Gains self.old self.new bytes.now }
+    {
+        let Ok(()) = self.bytes.extend_from_slice(bytes) else {
+            unreachable!()
+        };
+    }
+
+    // Adds a number in decimal.
+    fn put_number(&mut self, number: u64)
+        requires { HasRoom self.old 20 }
+        ensures number { Gains self.old self.new (decimal number) }
+        ensures short { length (decimal number) ≤ 20 }
+    {
+        self.put(Buffer::new().format(number).as_bytes());
+    }
+
+    // Adds the line of a tick whose one output has this name and value.
+    fn put_tick(&mut self, tick: u64, name: &str, value: i32)
+        requires { HasRoom self.old (length name.now + 39) }
+        ensures line { Gains self.old self.new (tick_line tick (name.now ∷ []) (value ∷ [])) }
+        ensures short { length (tick_line tick (name.now ∷ []) (value ∷ [])) ≤ length name.now + 39 }
+    {
+        self.put(b"tick ");
+        self.put_number(tick);
+        self.put(b" ");
+        self.put(name.as_bytes());
+        self.put(b"=");
+        self.put(Buffer::new().format(value).as_bytes());
+        self.put(b"\n");
+    }
+
+    fn put_end(&mut self, tick: u64)
+        requires { HasRoom self.old 25 }
+        ensures { Gains self.old self.new (end_line tick) }
+    {
+        self.put(b"end ");
+        self.put_number(tick);
+        self.put(b"\n");
+    }
+
+    fn put_trap(&mut self, tick: u64, place: Place, trap: Trap)
+        requires { HasRoom self.old 64 }
+        ensures { Gains self.old self.new (trap_line tick place trap) }
+    {
+        self.put(b"trap ");
+        self.put_number(tick);
+        self.put(b" ");
+        self.put(Buffer::new().format(place.line).as_bytes());
+        self.put(b":");
+        self.put(Buffer::new().format(place.column).as_bytes());
+        self.put(trap_text(trap));
+    }
+
+    fn put_over(&mut self, tick: u64, budget: u64)
+        requires { HasRoom self.old 64 }
+        ensures { Gains self.old self.new (over_line tick budget) }
+    {
+        self.put(b"over ");
+        self.put_number(tick);
+        self.put(b" budget ");
+        self.put_number(budget);
+        self.put(b"\n");
+    }
+
+    /// Adds the line of a trace that ended after so many rows.
+    pub fn put_rows(&mut self, rows: u64)
+        requires { HasRoom self.old 64 }
+        ensures { Gains self.old self.new (rows_line rows) }
+    {
+        self.put(b"rows ");
+        self.put_number(rows);
+        self.put(b"\n");
+    }
+
+    /// Adds the line of a line of the trace that is no row.
+    pub fn put_row(&mut self, row: u64, fault: RowFault)
+        requires { HasRoom self.old 64 }
+        ensures { Gains self.old self.new (row_line row fault) }
+    {
+        self.put(b"row ");
+        self.put_number(row);
+        self.put(fault_text(fault));
+    }
+
+    /// Adds the lines of a tick that went so, whose one output has this name and value.
+    pub fn put_outcome(&mut self, tick: u64, outcome: Outcome, name: &str, value: i32, budget: u64)
+        requires sized { self.old.room ≡ length name.now + 64 }
+        requires fits { HasRoom self.old self.old.room }
+        ensures { (outputs : List ℤ) → (HasOutput outcome → outputs ≡ value ∷ [])
+            → Gains self.old self.new (outcome_lines (name.now ∷ []) budget tick outcome outputs) }
+    {
+        match outcome {
+            Outcome::Paused => self.put_tick(tick, name, value),
+            Outcome::Ended => {
+                self.put_tick(tick, name, value);
+                self.put_end(tick);
+            }
+            Outcome::Trapped { place, trap } => self.put_trap(tick, place, trap),
+            Outcome::Over => self.put_over(tick, budget),
+        }
+    }
+
+    /// Writes all that waits. At an `Err` a front of it is written.
+    pub fn flush<K: Sink>(&mut self, out: &mut K) -> Result<(), Failed>
+        ensures ok { OnOk result (Appends (K.held out.old) (K.held out.new) self.old.bytes.items) }
+        ensures empty { OnOk result (self.new.bytes.items ≡ []) }
+        ensures err { OnErr result (AppendsFront (K.held out.old) (K.held out.new) self.old.bytes.items) }
+        ensures room { self.new.room ≡ self.old.room }
+        ensures cause { Faults (K.faults out.old) (K.faults out.new) (K.down out.new) result }
+    {
+        match write_all(out, &self.bytes) {
+            Ok(()) => {
+                self.bytes.clear();
+                Ok(())
+            }
+            Err(failed) => Err(failed),
+        }
+    }
+
+    /// Writes all that waits, and gives the status.
+    pub fn finish<K: Sink>(&mut self, out: &mut K, status: Status) -> Status
+        requires { status ≢ Status.WriteFault }
+        ensures said { result ≢ Status.WriteFault → result ≡ status }
+        ensures all { result ≢ Status.WriteFault → Appends (K.held out.old) (K.held out.new) self.old.bytes.items }
+        ensures fault { result ≡ Status.WriteFault → Fell (K.faults out.old) (K.faults out.new) (K.down out.new) }
+        ensures front { result ≡ Status.WriteFault → AppendsFront (K.held out.old) (K.held out.new) self.old.bytes.items }
+    {
+        match self.flush(out) {
+            Ok(()) => status,
+            Err(_) => Status::WriteFault,
+        }
+    }
+}
+
+fn trap_text(trap: Trap) -> &'static [u8]
+    ensures text { result.now ≡ trap_word trap }
+    ensures short { length result.now ≤ 8 }
+{
+    match trap {
+        Trap::Divide => b" divide\n",
+        Trap::Index => b" index\n",
+        Trap::Turns => b" turns\n",
+    }
+}
+
+fn fault_text(fault: RowFault) -> &'static [u8]
+    ensures text { result.now ≡ fault_word fault }
+    ensures short { length result.now ≤ 6 }
+{
+    match fault {
+        RowFault::Bad => b" bad\n",
+        RowFault::Long => b" long\n",
+        RowFault::Many => b" many\n",
+    }
+}

@@ -1,0 +1,198 @@
+//! The worked rows of the top call, and how it ends where streams fail, over stores in memory.
+#![tactic(auto)]
+
+#[cfg(test)]
+mod tests {
+    use forec_base::{MemSink, MemSource, MemTexts, NamedText, OpenGate};
+    use forec_engine::{Status, forec};
+    use std::alloc::Global;
+    use std::process::Abort;
+    use std::test::Fail;
+
+    // One output, which a loop raises in each tick.
+    const COUNTER: &[u8] = b"output int o = 0; void main(void) { while (1) { o = o + 1; pause; } }";
+
+    // One output, which passes the greatest number.
+    const WRAPS: &[u8] = b"output int o = 2147483647; void main(void) { o = o + 1; }";
+
+    // How streams behave: the most bytes of a read and of a write, and the numbers of the calls that fail.
+    #[derive(Drop)]
+    struct Streams {
+        read: usize,
+        read_fails: Vec<u64>,
+        write: usize,
+        write_fails: Vec<u64>,
+    }
+
+    // What is held, and the status.
+    #[derive(Drop)]
+    struct Ended {
+        held: Vec<u8>,
+        status: Status,
+    }
+
+    fn whole(alloc: Global) -> Streams {
+        Streams {
+            read: 65536,
+            read_fails: Vec::new(alloc),
+            write: 65536,
+            write_fails: Vec::new(alloc),
+        }
+    }
+
+    // Streams that take and give single bytes, of which these calls fail; 0 is none.
+    fn single(alloc: Global, read: u64, write: u64) -> Result<Streams, Fail> {
+        Ok(Streams {
+            read: 1,
+            read_fails: vec![in alloc; read; 1]?,
+            write: 1,
+            write_fails: vec![in alloc; write; 1]?,
+        })
+    }
+
+    // Runs words over a store with one text, named `P`.
+    fn run(
+        rt: &impl Abort,
+        alloc: Global,
+        words: &[&str],
+        text: &[u8],
+        trace: &[u8],
+        streams: Streams,
+    ) -> Result<Ended, Fail> {
+        assert!(rt; streams.read > 0 && streams.write > 0);
+        let mut owned = Vec::new(alloc);
+        for word in words {
+            owned.push(String::from_str(alloc, word)?)?;
+        }
+        let mut files = Vec::new(alloc);
+        files.push(NamedText {
+            name: String::from_str(alloc, "P")?,
+            bytes: text.to_vec(alloc)?,
+        })?;
+        let mut texts = MemTexts::new(files, Vec::new(alloc));
+        let mut source = MemSource::pieces(trace.to_vec(alloc)?, streams.read_fails, streams.read);
+        let mut sink = MemSink::pieces(alloc, 200_000, streams.write_fails, streams.write)?;
+        let status = forec(
+            alloc,
+            &owned,
+            &mut texts,
+            &mut source,
+            &mut sink,
+            &OpenGate,
+        );
+        Ok(Ended {
+            held: sink.bytes().to_vec(alloc)?,
+            status,
+        })
+    }
+
+    #[test]
+    fn rows(rt: HostRuntime) -> Result<(), Fail> {
+        let alloc = rt.alloc();
+        for (text, trace, want, status) in [
+            (COUNTER, b"\n\n\n".as_slice(), b"tick 1 o=1\ntick 2 o=2\nrows 2\n".as_slice(), Status::Done),
+            (COUNTER, b"", b"row 0 bad\n", Status::Trace),
+            (COUNTER, b"\n", b"rows 0\n", Status::Done),
+            (COUNTER, b"\n \n", b"row 1 bad\n", Status::Trace),
+            (COUNTER, b"\n\n ", b"tick 1 o=1\nrow 2 bad\n", Status::Trace),
+            (WRAPS, b"\n\n", b"tick 1 o=-2147483648\nend 1\n", Status::Done),
+            (b"", b"", b"refused form\n", Status::Refused),
+        ] {
+            let end = run(&rt, alloc, &["run", "P"], text, trace, whole(alloc))?;
+            assert_eq!(rt; end.held.as_slice(), want);
+            assert_eq!(rt; end.status, status);
+            let end = run(&rt, alloc, &["run", "P"], text, trace, single(alloc, 0, 0)?)?;
+            assert_eq!(rt; end.held.as_slice(), want);
+            assert_eq!(rt; end.status, status);
+        }
+        Ok(())
+    }
+
+    #[test]
+    fn words(rt: HostRuntime) -> Result<(), Fail> {
+        let alloc = rt.alloc();
+        let usage = b"usage: forec run|check|threads|code|explain|gen PROGRAM [--cores N] [--place LIST] [--budget B] [--order N]\n";
+        for words in [
+            [].as_slice(),
+            ["run"].as_slice(),
+            ["ran", "P"].as_slice(),
+            ["run", "P", "P"].as_slice(),
+        ] {
+            let end = run(&rt, alloc, words, COUNTER, b"\n\n", whole(alloc))?;
+            assert_eq!(rt; end.held.as_slice(), usage.as_slice());
+            assert_eq!(rt; end.status, Status::Usage);
+        }
+        let end = run(&rt, alloc, &["run", "Q"], COUNTER, b"\n\n", whole(alloc))?;
+        assert_eq!(rt; end.held.as_slice(), b"".as_slice());
+        assert_eq!(rt; end.status, Status::ReadFault);
+        Ok(())
+    }
+
+    #[test]
+    fn sizes(rt: HostRuntime) -> Result<(), Fail> {
+        let alloc = rt.alloc();
+        let text = vec![in alloc; b' '; 1_048_576]?;
+        let end = run(&rt, alloc, &["run", "P"], &text, b"", whole(alloc))?;
+        assert_eq!(rt; end.held.as_slice(), b"refused form\n".as_slice());
+        let text = vec![in alloc; b' '; 1_048_577]?;
+        let end = run(&rt, alloc, &["run", "P"], &text, b"", whole(alloc))?;
+        assert_eq!(rt; end.held.as_slice(), b"refused long\n".as_slice());
+        for (bytes, want) in [
+            (8192, b"row 0 bad\n".as_slice()),
+            (8193, b"row 0 long\n"),
+            (65536, b"row 0 long\n"),
+        ] {
+            let trace = vec![in alloc; b' '; bytes]?;
+            let end = run(&rt, alloc, &["run", "P"], COUNTER, &trace, whole(alloc))?;
+            assert_eq!(rt; end.held.as_slice(), want);
+            assert_eq!(rt; end.status, Status::Trace);
+        }
+        Ok(())
+    }
+
+    #[test]
+    fn failing_streams(rt: HostRuntime) -> Result<(), Fail> {
+        let alloc = rt.alloc();
+        for (read, write, want, status) in [
+            (1u64, 0u64, b"".as_slice(), Status::ReadFault),
+            (2, 0, b"", Status::ReadFault),
+            (3, 0, b"tick 1 o=1\n", Status::ReadFault),
+            (4, 0, b"tick 1 o=1\ntick 2 o=2\n", Status::ReadFault),
+            (5, 0, b"tick 1 o=1\ntick 2 o=2\nrows 2\n", Status::Done),
+            (0, 1, b"", Status::WriteFault),
+            (0, 12, b"tick 1 o=1\n", Status::WriteFault),
+            (3, 11, b"tick 1 o=1", Status::WriteFault),
+            (3, 12, b"tick 1 o=1\n", Status::ReadFault),
+        ] {
+            let end = run(&rt, alloc, &["run", "P"], COUNTER, b"\n\n\n", single(alloc, read, write)?)?;
+            assert_eq!(rt; end.held.as_slice(), want);
+            assert_eq!(rt; end.status, status);
+        }
+        Ok(())
+    }
+
+    #[test]
+    fn each_write_fails(rt: HostRuntime) -> Result<(), Fail> {
+        let alloc = rt.alloc();
+        let report = b"tick 1 o=1\ntick 2 o=2\nrows 2\n";
+        for call in 1..=report.len() {
+            let streams = single(alloc, 0, call as u64)?;
+            let end = run(&rt, alloc, &["run", "P"], COUNTER, b"\n\n\n", streams)?;
+            assert_eq!(rt; end.held.as_slice(), &report[..call - 1]);
+            assert_eq!(rt; end.status, Status::WriteFault);
+        }
+        Ok(())
+    }
+
+    // A run whose lines fill the room for them many times.
+    #[test]
+    fn many_ticks(rt: HostRuntime) -> Result<(), Fail> {
+        let alloc = rt.alloc();
+        let trace = vec![in alloc; 10u8; 10_001]?;
+        let end = run(&rt, alloc, &["run", "P"], COUNTER, &trace, whole(alloc))?;
+        assert_eq!(rt; end.held.len(), 167_799);
+        assert!(rt; end.held.ends_with(b"\ntick 10000 o=10000\nrows 10000\n"));
+        assert_eq!(rt; end.status, Status::Done);
+        Ok(())
+    }
+}
