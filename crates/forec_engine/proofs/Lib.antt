@@ -1,0 +1,2 @@
+pub mod FirstCuts
+pub mod FirstWords

@@ -1,1 +1,5 @@
+pub mod FirstCursor
+pub mod FirstForm
 pub mod FirstProgram
+pub mod FirstReading
+pub mod FirstViews

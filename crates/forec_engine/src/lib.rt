@@ -1,9 +1,6 @@
 //! The top call: from the words, the program's text and the trace to the bytes of the report.
 #![tactic(auto)]
 
-use forec_base::OutOfMemory;
+mod first_form;
 
-/// Placeholder.
-pub fn placeholder() -> OutOfMemory {
-    OutOfMemory
-}
+pub use first_form::FormFault;

@@ -1,0 +1,9 @@
+//! Programs of the first form: one output, and one thread that assigns it and pauses.
+
+mod fault;
+mod reading;
+mod terms;
+mod tokens;
+mod words;
+
+pub use fault::FormFault;
