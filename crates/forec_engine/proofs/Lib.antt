@@ -1,2 +1,4 @@
 pub mod FirstCuts
+pub mod FirstLists
+pub mod FirstSteps
 pub mod FirstWords

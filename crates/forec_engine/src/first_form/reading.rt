@@ -1,9 +1,9 @@
 //! Reads a program from its tokens.
 
-ghost use Rattle.std.specs.Prelude.{◌≡◌, ◌≢◌, ◌≤◌, length, [], map};
+ghost use Rattle.std.specs.Prelude.{◌≡◌, ◌≢◌, ◌≤◌, length, [], map, IfOk};
 ghost use Rattle.std.specs.List.{list_any};
 ghost use Rattle.std.specs.Option.{option_map};
-ghost use Rattle.forec_engine.specs.FirstForm.{is_pause};
+ghost use Rattle.forec_engine.specs.FirstForm as form;
 ghost use Rattle.forec_engine.specs.FirstReading as spec;
 ghost use Rattle.forec_engine.specs.FirstReading.{Reads};
 ghost use Rattle.forec_engine.specs.FirstViews.{the_value, the_operand, value_of, action_of, actions_of, endless_of, loop_of, program_of};
@@ -16,7 +16,8 @@ use std::alloc::Global;
 
 #[tactic(auto, unfolding(crate::specs::FirstReading::name), using(crate::proofs::FirstWords::name_not_empty))]
 fn name<'t>(tokens: &mut Tokens<'t>) -> Result<&'t [u8], FormFault>
-    ensures { Reads (λ name. name.now) (spec.name tokens.old) result tokens.new }
+    ensures reads { Reads (λ name. name.now) (spec.name tokens.old) result tokens.new }
+    ensures some { IfOk result (λ name. name.now ≢ []) }
 {
     let word = tokens.ahead();
     if !is_name(word) {
@@ -26,7 +27,7 @@ fn name<'t>(tokens: &mut Tokens<'t>) -> Result<&'t [u8], FormFault>
     Ok(word)
 }
 
-#[tactic(auto, unfolding(crate::specs::FirstReading::number), using(crate::proofs::FirstWords::number_not_empty))]
+#[tactic(auto, unfolding(crate::specs::FirstReading::number), using(crate::proofs::FirstWords::no_number))]
 fn number(tokens: &mut Tokens<'_>) -> Result<Number, FormFault>
     ensures { Reads the_value (spec.number tokens.old) result tokens.new }
 {
@@ -48,7 +49,7 @@ fn operand_of(output: &[u8], word: &[u8]) -> Option<Operand>
     Some(Operand::Number { number })
 }
 
-#[tactic(auto, unfolding(crate::specs::FirstReading::operand))]
+#[tactic(auto, unfolding(crate::specs::FirstReading::operand), using(crate::proofs::FirstWords::no_operand))]
 fn operand(tokens: &mut Tokens<'_>, output: &[u8]) -> Result<Operand, FormFault>
     requires { output.now ≢ [] }
     ensures { Reads the_operand (spec.operand output.now tokens.old) result tokens.new }
@@ -120,6 +121,7 @@ fn begins(output: &[u8], word: &[u8]) -> bool
     word == b"pause".as_slice() || word == output
 }
 
+#[tactic(auto, using(crate::proofs::FirstLists::actions_begin, crate::proofs::FirstLists::actions_step, crate::proofs::FirstLists::actions_stop, crate::proofs::FirstLists::actions_none, crate::proofs::FirstLists::action_shrinks, crate::proofs::FirstLists::actions_push))]
 fn actions(
     alloc: Global,
     tokens: &mut Tokens<'_>,
@@ -135,13 +137,19 @@ fn actions(
     Ok(found)
 }
 
-fn pauses(actions: &[Action]) -> bool
-    ensures { result ≡ list_any is_pause (map action_of actions.now) }
+fn is_pause(action: Action) -> bool
+    ensures { result ≡ form.is_pause (action_of action) }
 {
-    actions.iter().any(|action| matches!(action, Action::Pause))
+    matches!(action, Action::Pause)
 }
 
-#[tactic(auto, unfolding(crate::specs::FirstReading::endless))]
+fn pauses(actions: &[Action]) -> bool
+    ensures { result ≡ list_any (λ action. form.is_pause (action_of action)) actions.now }
+{
+    actions.iter().any(|action| is_pause(*action))
+}
+
+#[tactic(auto, unfolding(crate::specs::FirstReading::endless), using(crate::proofs::FirstWords::any_pause))]
 fn endless(
     alloc: Global,
     tokens: &mut Tokens<'_>,
@@ -181,7 +189,8 @@ fn endless_if_any(
 
 #[tactic(auto, unfolding(crate::specs::FirstReading::declaration))]
 fn declaration<'t>(tokens: &mut Tokens<'t>) -> Result<(&'t [u8], Number), FormFault>
-    ensures { Reads (λ d. (d.0.now, the_value d.1)) (spec.declaration tokens.old) result tokens.new }
+    ensures reads { Reads (λ d. (d.0.now, the_value d.1)) (spec.declaration tokens.old) result tokens.new }
+    ensures some { IfOk result (λ d. d.0.now ≢ []) }
 {
     tokens.take(b"output")?;
     tokens.take(b"int")?;
