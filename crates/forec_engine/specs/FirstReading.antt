@@ -49,22 +49,19 @@ is_end (t ∷ ts) = false
 
 -- ---- words
 
-abbrev pub is_declared_by : List ℕ → Bool
-is_declared_by w =
-    list_any (bytes_eq w) (
-      codes "int" ∷ codes "void" ∷ codes "const" ∷ codes "input" ∷ codes "output" ∷ codes "shared" ∷ codes "combine" ∷ codes "all"
-      ∷ codes "new" ∷ codes "mod" ∷ codes "with" ∷ []
-    )
+-- the words of declarations, and those of statements
+abbrev pub declaring : List (List ℕ)
+declaring =
+    codes "int" ∷ codes "void" ∷ codes "const" ∷ codes "input" ∷ codes "output" ∷ codes "shared" ∷ codes "combine" ∷ codes "all"
+    ∷ codes "new" ∷ codes "mod" ∷ codes "with" ∷ []
 
-abbrev pub is_flow : List ℕ → Bool
-is_flow w =
-    list_any (bytes_eq w) (
-      codes "par" ∷ codes "pause" ∷ codes "weak" ∷ codes "abort" ∷ codes "immediate" ∷ codes "when" ∷ codes "if" ∷ codes "else"
-      ∷ codes "while" ∷ codes "for" ∷ codes "return" ∷ []
-    )
+abbrev pub flowing : List (List ℕ)
+flowing =
+    codes "par" ∷ codes "pause" ∷ codes "weak" ∷ codes "abort" ∷ codes "immediate" ∷ codes "when" ∷ codes "if" ∷ codes "else"
+    ∷ codes "while" ∷ codes "for" ∷ codes "return" ∷ []
 
 unfoldable pub is_reserved : List ℕ → Bool
-is_reserved w = is_declared_by w || is_flow w
+is_reserved w = list_any (bytes_eq w) declaring || list_any (bytes_eq w) flowing
 
 unfoldable pub is_name : List ℕ → Bool
 is_name w = begins_as_name w && list_all goes_on w && nat_le (length w) 63 && not (is_reserved w) && not (bytes_eq w (codes "main"))
@@ -131,12 +128,14 @@ operand_of o w = if bytes_eq w o then Some The_output else numbered (number_of w
 unfoldable pub operand : List ℕ → Parser Operand
 operand o = λ ts. given (operand_of o (ahead ts)) ts
 
-unfoldable pub value : List ℕ → Parser Value
-value o = do
-  a ← operand o
-  (λ ts.
+-- what stands behind the left operand
+abbrev pub sides : List ℕ → Operand → Parser Value
+sides o a = λ ts.
     if bytes_eq (ahead ts) (codes "+") then (word (codes "+") >> operand o >>= λ b. pure (Sum a b)) ts
-    else (if bytes_eq (ahead ts) (codes "-") then (word (codes "-") >> operand o >>= λ b. pure (Difference a b)) ts else Some (Alone a, ts)))
+    else (if bytes_eq (ahead ts) (codes "-") then (word (codes "-") >> operand o >>= λ b. pure (Difference a b)) ts else Some (Alone a, ts))
+
+unfoldable pub value : List ℕ → Parser Value
+value o = operand o >>= sides o
 
 unfoldable pub pausing : Parser Action
 pausing = do

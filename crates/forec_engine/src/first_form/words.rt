@@ -1,7 +1,7 @@
 //! Names and numbers.
 
 ghost use Rattle.std.specs.Prelude.{◌≡◌, ◌+◌, ◌≤◌, ◌<◌, true, length};
-ghost use Rattle.std.specs.List.{list_all};
+ghost use Rattle.std.specs.List.{list_all, list_any};
 ghost use Rattle.std.specs.Str.{bytes_eq};
 ghost use Rattle.forec_engine.specs.FirstForm as form;
 ghost use Rattle.forec_engine.specs.FirstReading as spec;
@@ -18,11 +18,11 @@ const MAX_NAME: usize = 63;
 fn is_reserved(word: &[u8]) -> bool
     ensures { result ≡ spec.is_reserved word.now }
 {
-    is_declared_by(word) || is_flow(word)
+    is_declaring(word) || is_flowing(word)
 }
 
-fn is_declared_by(word: &[u8]) -> bool
-    ensures { result ≡ spec.is_declared_by word.now }
+fn is_declaring(word: &[u8]) -> bool
+    ensures { result ≡ list_any (bytes_eq word.now) spec.declaring }
 {
     word == b"int".as_slice()
         || word == b"void".as_slice()
@@ -37,8 +37,8 @@ fn is_declared_by(word: &[u8]) -> bool
         || word == b"with".as_slice()
 }
 
-fn is_flow(word: &[u8]) -> bool
-    ensures { result ≡ spec.is_flow word.now }
+fn is_flowing(word: &[u8]) -> bool
+    ensures { result ≡ list_any (bytes_eq word.now) spec.flowing }
 {
     word == b"par".as_slice()
         || word == b"pause".as_slice()
