@@ -1,4 +1,6 @@
+pub mod FirstComplete
 pub mod FirstCuts
 pub mod FirstLists
+pub mod FirstSound
 pub mod FirstSteps
 pub mod FirstWords

@@ -164,16 +164,16 @@ actions_from (suc n) o found = λ ts. if begins o (ahead ts) then (action o >>= 
 unfoldable pub actions : List ℕ → Parser (List Action)
 actions o = λ ts. actions_from (length ts) o [] ts
 
+abbrev pub paused_loop : Place → List Action → Parser EndlessLoop
+paused_loop place list = λ ts. if list_any is_pause list then Some (record { place = place; actions = list }, ts) else None
+
 unfoldable pub endless : List ℕ → Parser EndlessLoop
 endless o = do
   place ← word (codes "while")
-  word (codes "(")
-  word (codes "1")
-  word (codes ")")
-  word (codes "{")
+  words (codes "(" ∷ codes "1" ∷ codes ")" ∷ codes "{" ∷ [])
   list ← actions o
   word (codes "}")
-  (λ ts. if list_any is_pause list then Some (record { place = place; actions = list }, ts) else None)
+  paused_loop place list
 
 abbrev pub some_loop : EndlessLoop → Option EndlessLoop
 some_loop l = Some l
@@ -183,8 +183,7 @@ endless_if_any o = λ ts. if bytes_eq (ahead ts) (codes "while") then (endless o
 
 unfoldable pub declaration : Parser (List ℕ × ℕ)
 declaration = do
-  word (codes "output")
-  word (codes "int")
+  words (codes "output" ∷ codes "int" ∷ [])
   o ← name
   word (codes "=")
   n ← number
@@ -194,6 +193,9 @@ declaration = do
 unfoldable pub opening : Parser (Unit {0})
 opening = words (codes "void" ∷ codes "main" ∷ codes "(" ∷ codes "void" ∷ codes ")" ∷ codes "{" ∷ [])
 
+abbrev pub ended : List ℕ × ℕ → List Action → Option EndlessLoop → Parser FirstProgram
+ended d list l = λ ts. if is_end ts then Some (record { name = d.0; start = d.1; actions = list; loop = l }, ts) else None
+
 unfoldable pub program : Parser FirstProgram
 program = do
   d ← declaration
@@ -201,4 +203,4 @@ program = do
   list ← actions d.0
   l ← endless_if_any d.0
   word (codes "}")
-  (λ ts. if is_end ts then Some (record { name = d.0; start = d.1; actions = list; loop = l }, ts) else None)
+  ended d list l

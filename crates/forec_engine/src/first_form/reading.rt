@@ -149,7 +149,7 @@ fn pauses(actions: &[Action]) -> bool
     actions.iter().any(|action| is_pause(*action))
 }
 
-#[tactic(auto, unfolding(crate::specs::FirstReading::endless), using(crate::proofs::FirstWords::any_pause))]
+#[tactic(auto, unfolding(crate::specs::FirstReading::endless, crate::specs::FirstReading::words), using(crate::proofs::FirstWords::any_pause))]
 fn endless(
     alloc: Global,
     tokens: &mut Tokens<'_>,
@@ -187,7 +187,7 @@ fn endless_if_any(
     Ok(Some(found))
 }
 
-#[tactic(auto, unfolding(crate::specs::FirstReading::declaration))]
+#[tactic(auto, unfolding(crate::specs::FirstReading::declaration, crate::specs::FirstReading::words))]
 fn declaration<'t>(tokens: &mut Tokens<'t>) -> Result<(&'t [u8], Number), FormFault>
     ensures reads { Reads (λ d. (d.0.now, the_value d.1)) (spec.declaration tokens.old) result tokens.new }
     ensures some { IfOk result (λ d. d.0.now ≢ []) }
