@@ -1,5 +1,6 @@
 pub mod FirstComplete
 pub mod FirstCuts
+pub mod FirstLexes
 pub mod FirstLists
 pub mod FirstSound
 pub mod FirstSteps
