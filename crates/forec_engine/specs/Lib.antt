@@ -2,4 +2,5 @@ pub mod FirstCursor
 pub mod FirstForm
 pub mod FirstProgram
 pub mod FirstReading
+pub mod FirstSizes
 pub mod FirstViews
