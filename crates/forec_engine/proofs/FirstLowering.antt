@@ -1,5 +1,5 @@
 -- The kernel of a program of the first form is well formed.
-use Rattle.std.proofs.Common.{◌≡◌, ◌≢◌, ◌∙◌, ℕ, zero, suc, ◌+◌, ◌<◌, ◌≤◌, ◌==◌, max, Bool, true, false, cond, ◌&&◌, IsTrue, if◌then◌else◌, Option, None, Some, List, [], ◌∷◌, ◌++◌, length, map, get_or, refl, sym, ap, subst, length-append, arith, Vec, Global}
+use Rattle.std.proofs.Common.{◌≡◌, ◌≢◌, ◌∙◌, ℕ, zero, suc, ◌+◌, ◌<◌, ◌≤◌, ◌==◌, max, Bool, true, false, cond, ◌&&◌, IsTrue, if◌then◌else◌, Option, None, Some, List, [], ◌∷◌, ◌++◌, length, map, get_or, refl, sym, ap, subst, length-append, append-nil, add-zero, nat_le, arith, Vec, Global}
 use Rattle.std.proofs.lemmas.Bool.Decides.{nat_tests}
 use Rattle.std.specs.List.{list_all}
 use Rattle.std.specs.Str.{IsAscii, IsUtf8}
@@ -87,17 +87,53 @@ too_many p h =
     omega arith
 
 pub terms_alone : (p : FirstProgram) → p.loop ≡ None → stmt_terms (body_stmt p) ≡ sequenced (length p.actions) (list_terms_of p.actions)
-terms_alone p h = ?
+terms_alone p h =
+    body_terms p
+    ∙ ap (λ l. sequenced (length p.actions + length (loop_stmts l)) (list_terms_of p.actions + sum_of (loop_stmts l))) h
+    ∙ nothing_more (length p.actions) (list_terms_of p.actions)
+  where
+    nothing_more : (m n : ℕ) → sequenced (m + 0) (n + 0) ≡ sequenced m n
+    nothing_more m n = rw (add-zero m, add-zero n)
 
 loop_terms : (l : EndlessLoop) → sum_of (loop_stmts (Some l)) ≡ 2 + sequenced (length l.actions) (list_terms_of l.actions)
-loop_terms l = ?
+loop_terms l =
+    let e = sequence_terms (map action_stmt l.actions) ∙ ap (λ n. sequenced n (list_terms_of l.actions)) (length_map l.actions) in
+    ap (λ n. 2 + n + 0) e ∙ add-zero (2 + sequenced (length l.actions) (list_terms_of l.actions))
 
 pub terms_with_loop : (p : FirstProgram) (l : EndlessLoop) → p.loop ≡ Some l
     → stmt_terms (body_stmt p) ≡ sequenced (length p.actions + 1) (list_terms_of p.actions + (2 + sequenced (length l.actions) (list_terms_of l.actions)))
-terms_with_loop p l h = ?
+terms_with_loop p l h =
+    body_terms p
+    ∙ ap (λ x. sequenced (length p.actions + length (loop_stmts x)) (list_terms_of p.actions + sum_of (loop_stmts x))) h
+    ∙ ap (λ n. sequenced (length p.actions + 1) (list_terms_of p.actions + n)) (loop_terms l)
 
 pub too_many_turning : (p : FirstProgram) (l : EndlessLoop) → p.loop ≡ Some l → 200000 < list_terms_of l.actions → 200000 < stmt_terms (body_stmt p)
-too_many_turning p l h k = ?
+too_many_turning p l h k =
+    let e = terms_with_loop p l h in
+    let m = at_least (length l.actions) (list_terms_of l.actions) in
+    let n = at_least (length p.actions + 1) (list_terms_of p.actions + (2 + sequenced (length l.actions) (list_terms_of l.actions))) in
+    omega arith
+
+pub counted : (p : FirstProgram) (l : EndlessLoop) (m n first inner turning total : ℕ) → p.loop ≡ Some l → m ≡ length p.actions → n ≡ length l.actions → first ≡ list_terms_of p.actions
+    → inner ≡ list_terms_of l.actions → turning ≡ sequenced n inner → total ≡ sequenced (m + 1) (first + (2 + turning)) → total ≡ stmt_terms (body_stmt p)
+counted p l m n first inner turning total h a b c d e f =
+    f
+    ∙ ap (λ x. sequenced (x + 1) (first + (2 + turning))) a
+    ∙ ap (λ x. sequenced (length p.actions + 1) (x + (2 + turning))) c
+    ∙ ap (λ x. sequenced (length p.actions + 1) (list_terms_of p.actions + (2 + x))) (e ∙ ap (λ x. sequenced x inner) b ∙ ap (sequenced (length l.actions)) d)
+    ∙ sym (terms_with_loop p l h)
+
+pub tested : (total terms : ℕ) → total ≡ terms → (nat_le total 200000 ≡ true → terms ≤ 200000) × (terms ≤ 200000 → nat_le total 200000 ≡ true)
+tested total terms e = (λ h. subst (λ x. x ≤ 200000) e (within h), λ h. reads (omega arith))
+  where
+    within : nat_le total 200000 ≡ true → total ≤ 200000
+    within h = grind (arith, nat_tests)
+
+    reads : total ≤ 200000 → nat_le total 200000 ≡ true
+    reads h = grind (arith, nat_tests)
+
+pub refused : (terms : ℕ) → 200000 < terms → (false ≡ true → terms ≤ 200000) × (terms ≤ 200000 → false ≡ true)
+refused terms h = (λ e. absurd (cc), λ k. absurd (omega arith))
 
 -- ---- the conditions
 
@@ -181,7 +217,7 @@ actions_simple p deep (a ∷ rest) more d h =
 loop_simple : (p : FirstProgram) (l : Option EndlessLoop) → AllSimple p 5 (loop_stmts l)
 loop_simple p None = tt
 loop_simple p (Some l) =
-    let s = sequence_simple p 3 (map action_stmt l.actions) (omega arith) ? in
+    let s = sequence_simple p 3 (map action_stmt l.actions) (omega arith) (subst (AllSimple p 3) (append-nil (map action_stmt l.actions)) (actions_simple p 3 l.actions [] (omega arith) tt)) in
     (record { fine = (refl, tt, s.fine); pars = s.pars; calls = s.calls; depth = (let e = s.depth in omega arith) }, tt)
 
 body_simple : (p : FirstProgram) → Simple p 6 (body_stmt p)
@@ -199,7 +235,7 @@ well_formed p h =
       each_function = λ f k. absurd (omega arith);
       each_variable = variable_fine;
       ranked = record { rank = λ f. f; falls = λ f g k. absurd (omega arith) };
-      once = ?;
+      once = once;
       in_order = refl;
       inputs_named = refl;
       inputs_once = refl;
@@ -215,6 +251,12 @@ well_formed p h =
       few_terms = omega arith;
     }
   where
+    once : WellFormed.distinct (WellFormed.joined_lists (pars_of (body_stmt p)) ++ []) ≡ true
+    once = let e = (body_simple p).pars in rw e
+
+    no_calls : WellFormed.thread_calls (first_kernel p) 0 ≡ []
+    no_calls = let s = body_simple p in let e = s.calls in let f = s.pars in rw (e, f)
+
     thread_fine : (t : ℕ) → t < 1 → FineThread (first_kernel p) t
     thread_fine zero k =
         let s = body_simple p in
@@ -223,8 +265,8 @@ well_formed p h =
           uses = refl;
           body = s.fine;
           pars = λ branches i l e. absurd (let n = ap length s.pars in omega arith);
-          words = ?;
-          depth = ?;
+          words = rw no_calls (omega arith);
+          depth = (let d = s.depth in rw no_calls (omega arith));
         }
     thread_fine (suc t) k = absurd (omega arith)
 
@@ -232,7 +274,13 @@ well_formed p h =
     variable_fine zero k = record { combine = λ f e. absurd (cc) }
     variable_fine (suc v) k = absurd (omega arith)
 
+abbrev kernel_of : PlainShape → List Stmt → List Stmt → PlainKernel
+kernel_of s list functions = record { shape = s; threads = list; functions = functions }
+
 -- the parts are those of the program's kernel
 pub parts_are : (p : FirstProgram) (s : PlainShape) (list functions : List Stmt) (body : Stmt) → s ≡ (first_kernel p).shape → list ≡ body ∷ [] → body ≡ body_stmt p → functions ≡ []
-    → (let k : PlainKernel = record { shape = s; threads = list; functions = functions } in k) ≡ first_kernel p
-parts_are p s list functions body a b c d = cc
+    → kernel_of s list functions ≡ first_kernel p
+parts_are p s list functions body a b c d =
+    ap (λ x. kernel_of x list functions) a
+    ∙ ap (λ x. kernel_of (first_kernel p).shape x functions) (b ∙ ap (λ x. x ∷ []) c)
+    ∙ ap (λ x. kernel_of (first_kernel p).shape (body_stmt p ∷ []) x) d

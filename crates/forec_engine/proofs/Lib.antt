@@ -1,5 +1,6 @@
 pub mod FirstComplete
 pub mod FirstCuts
+pub mod FirstExact
 pub mod FirstLexes
 pub mod FirstLists
 pub mod FirstLowering

@@ -3,4 +3,4 @@
 
 mod first_form;
 
-pub use first_form::FormFault;
+pub use first_form::{FormFault, one_kernel, read_program};

@@ -5,6 +5,8 @@ mod lowering;
 mod reading;
 mod terms;
 mod tokens;
+mod whole;
 mod words;
 
 pub use fault::FormFault;
+pub use whole::{one_kernel, read_program};

@@ -1,0 +1,21 @@
+use Rattle.std.proofs.Common.{◌∙◌, ap, sym, subst}
+use Rattle.forec_engine.specs.FirstForm.{First}
+use Rattle.forec_engine.specs.FirstReading.{program}
+use Rattle.forec_engine.specs.FirstViews.{program_of}
+use Rattle.forec_engine.proofs.FirstExact.{first_found, first_none, name_read}
+use Rattle.forec_engine.proofs.first_form.whole.read_program.Goals as goal
+
+pub returns-in_err-program-clause-none : goal.returns-in_err-program-clause-none
+returns-in_err-program-clause-none c =
+    λ h k f. first_none c.args.text.now k (ap program (sym c.new-tokens.ensures) ∙ c.in_err-program.ensures (cc)) f
+
+pub kernel-requires : goal.kernel-requires
+kernel-requires c =
+    name_read c.args.text.now (program_of c.in_ok-program.program) c.program.new.tokens (ap program (sym c.new-tokens.ensures) ∙ c.in_ok-program.ensures)
+
+pub returns-clause-found : goal.returns-clause-found
+returns-clause-found c =
+    subst
+    (First c.args.text.now)
+    (sym c.in_ok-kernel.ensures)
+    (first_found c.args.text.now (program_of c.in_ok-program.program) c.program.new.tokens (ap program (sym c.new-tokens.ensures) ∙ c.in_ok-program.ensures))
