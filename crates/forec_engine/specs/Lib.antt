@@ -19,3 +19,7 @@ pub mod Rows
 pub mod StatusNumbers
 pub mod WaitingRoom
 pub mod Waits
+pub mod FirstCursor
+pub mod FirstReading
+pub mod FirstSizes
+pub mod FirstViews
