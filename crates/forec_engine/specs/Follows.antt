@@ -14,8 +14,7 @@ use Rattle.forec_engine.specs.declared.machine.Machine.{Machine}
 use Rattle.forec_engine.specs.declared.machine.Stop.{Stop}
 use Rattle.forec_engine.specs.declared.machine.Stop.TheVariants as stop
 use Rattle.forec_engine.specs.FirstCode.{IsCodeOf, thread_block, thread_steps}
-use Rattle.forec_engine.specs.Core.{Core, On, Paused, Ended, Comes}
-use Rattle.forec_engine.specs.Numbers.{Numbers}
+use Rattle.forec_engine.specs.Core.{Core, On, Comes}
 use Rattle.forec_engine.specs.Reading.{Reads}
 
 -- a valid block, at a place of which the machine is, with room on the stack

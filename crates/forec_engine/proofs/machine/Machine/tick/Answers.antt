@@ -1,4 +1,4 @@
-use Rattle.std.proofs.Common.{rules, w32, to_z, of_z, ◌≡◌, ◌∙◌, ap, subst, get_or}
+use Rattle.std.proofs.Common.{◌≡◌, ◌∙◌, ap, get_or}
 use Rattle.thread_code.specs.declared.instruction.CodeParts.{CodeParts}
 use Rattle.forec_engine.proofs.FirstTick.{restarted_at, tick_over, tick_ended, tick_paused}
 use Rattle.forec_engine.proofs.machine.Machine.tick.Goals as goal
