@@ -19,7 +19,7 @@ use Rattle.forec_engine.specs.FirstProgram.{Operand, The_output, A_number, Value
 use Rattle.forec_engine.specs.FirstCode.{IsFirstExpr, IsFirstStmt, IsFirstList, stmt_code, thread_steps, thread_block, IsFirstKernel, IsCodeOf}
 use Rattle.forec_engine.specs.Core.{On, Comes}
 use Rattle.forec_engine.specs.Reading.{Reads}
-use Rattle.forec_engine.specs.Follows.{IsAt, core_of, Follows, Shows, first_start}
+use Rattle.forec_engine.specs.Machine.{IsAt, core_of, Follows, Shows, first_start}
 use Rattle.forec_engine.proofs.Stretch.{has_front, has_back, has_all, comes_on, one}
 use Rattle.forec_engine.proofs.Texts.{text_at}
 use Rattle.forec_engine.proofs.Ticking.{no_row, Last, last_reached, over_tick, paused_tick, ended_tick}

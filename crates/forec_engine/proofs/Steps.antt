@@ -12,7 +12,7 @@ use Rattle.thread_code.specs.Valid.{costs, Leads, IsFine}
 use Rattle.forec_engine.specs.declared.machine.Machine.{Machine}
 use Rattle.forec_engine.specs.Numbers.{Numbers, top_of, rest_of, pushed, popped, pushed_some, operated}
 use Rattle.forec_engine.specs.Core.{Core, On, act, with_top, with_value, zero_to}
-use Rattle.forec_engine.specs.Follows.{IsAt, core_of, left_at, Goes}
+use Rattle.forec_engine.specs.Machine.{IsAt, core_of, left_at, Goes}
 use Rattle.forec_engine.proofs.Stretch.{one, comes_at}
 use Rattle.forec_engine.proofs.Texts.{has_value}
 

@@ -3,5 +3,5 @@ pub mod FirstCode
 pub mod Numbers
 pub mod Core
 pub mod Reading
-pub mod Follows
+pub mod Machine
 pub mod Worked
