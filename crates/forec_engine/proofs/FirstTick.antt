@@ -1,5 +1,5 @@
 -- A machine that stands for a kernel between ticks: where it begins, and what a tick makes of it.
-use Rattle.std.proofs.Common.{◌≡◌, ℕ, ◌+◌, ◌<◌, ◌≤◌, ℤ, pos, false, Option, Some, None, List, [], ◌∷◌, ◌++◌, map, length, get_or, refl, sym, ap, ◌∙◌, subst, arith}
+use Rattle.std.proofs.Common.{◌≡◌, ℕ, ◌+◌, ◌<◌, ℤ, pos, false, Option, Some, None, List, [], ◌∷◌, ◌++◌, map, length, get_or, refl, sym, ap, ◌∙◌, subst}
 use Rattle.std.specs.Prelude.{slice_get}
 use Rattle.forec_kernel.specs.declared.shape.VarCopy.{VarCopy}
 use Rattle.forec_kernel.specs.declared.shape.Outcome.TheVariants as outcome
@@ -15,11 +15,11 @@ use Rattle.thread_code.specs.Plain.{PlainBlock, plain_block, plain_code}
 use Rattle.thread_code.specs.Valid.{IsValidCode}
 use Rattle.forec_engine.specs.declared.machine.Machine.{Machine}
 use Rattle.forec_engine.specs.declared.machine.Stop.TheVariants as stop
-use Rattle.forec_engine.specs.FirstProgram.{Operand, The_output, A_number, Value, Alone, Sum, Difference, Action, Assigns, Pauses, EndlessLoop, FirstProgram, operand_expr, value_expr, action_stmt, stmts_of, sequence_of, loop_stmts, body_stmt, first_kernel}
+use Rattle.forec_engine.specs.FirstProgram.{Operand, The_output, A_number, Value, Alone, Sum, Difference, Action, Assigns, Pauses, EndlessLoop, operand_expr, value_expr, action_stmt, stmts_of, sequence_of, loop_stmts}
 use Rattle.forec_engine.specs.FirstCode.{IsFirstExpr, IsFirstStmt, IsFirstList, stmt_code, thread_steps, thread_block, IsFirstKernel, IsCodeOf}
-use Rattle.forec_engine.specs.Core.{On, Paused, Ended, Comes}
-use Rattle.forec_engine.specs.Reading.{At, Reads}
-use Rattle.forec_engine.specs.Follows.{IsAt, core_of, Follows, Shows, first_start}
+use Rattle.forec_engine.specs.Core.{On, Comes}
+use Rattle.forec_engine.specs.Reading.{Reads}
+use Rattle.forec_engine.specs.Machine.{IsAt, core_of, Follows, Shows, first_start}
 use Rattle.forec_engine.proofs.Stretch.{has_front, has_back, has_all, comes_on, one}
 use Rattle.forec_engine.proofs.Texts.{text_at}
 use Rattle.forec_engine.proofs.Ticking.{no_row, Last, last_reached, over_tick, paused_tick, ended_tick}

@@ -1,5 +1,5 @@
 -- The code of a first program is valid: its stack has one depth at each place.
-use Rattle.std.proofs.Common.{◌≡◌, ℕ, zero, suc, ◌+◌, ◌-◌, ◌<◌, ◌≤◌, true, false, Option, Some, None, List, [], ◌∷◌, ◌++◌, length, refl, sym, ap, ◌∙◌, subst, arith, length-append}
+use Rattle.std.proofs.Common.{◌≡◌, ℕ, zero, suc, ◌+◌, ◌-◌, ◌≤◌, false, Some, None, List, [], ◌∷◌, ◌++◌, length, refl, ap, subst, arith, length-append}
 use Rattle.std.specs.Prelude.{slice_get}
 use Rattle.forec_kernel.specs.declared.terms.Spot.TheVariants as spot
 use Rattle.forec_kernel.specs.Terms.{Expr, Num, Var, Bin, Stmt, Stmts, Nop, Set, Seq, While, Pause, no_stmts, more_stmts}
@@ -7,7 +7,7 @@ use Rattle.thread_code.specs.declared.instruction.Instruction.{Instruction}
 use Rattle.thread_code.specs.declared.instruction.Instruction.TheVariants as instruction
 use Rattle.thread_code.specs.Plain.{PlainBlock}
 use Rattle.thread_code.specs.Valid.{Scope, costs, Leads, IsFine, IsSound}
-use Rattle.forec_engine.specs.FirstCode.{IsFirstExpr, IsFirstStmt, IsFirstList, expr_code, stmt_code, list_code, thread_steps, thread_block}
+use Rattle.forec_engine.specs.FirstCode.{IsFirstExpr, IsFirstStmt, IsFirstList, expr_code, stmt_code, list_code, thread_block}
 use Rattle.forec_engine.specs.Reading.{HasAt}
 use Rattle.forec_engine.proofs.Stretch.{has_front, has_back, has_all}
 

@@ -1,5 +1,5 @@
 -- The parts that the generator puts together are a valid code, and the code of its kernel.
-use Rattle.std.proofs.Common.{◌≡◌, ◌∙◌, ℕ, zero, suc, ◌+◌, ◌<◌, Some, List, [], ◌∷◌, ◌++◌, map, length, refl, sym, ap, subst, arith}
+use Rattle.std.proofs.Common.{◌≡◌, ◌∙◌, ℕ, zero, suc, Some, List, [], ◌∷◌, ◌++◌, map, length, refl, sym, ap, subst, arith}
 use Rattle.std.specs.Prelude.{slice_get, IsTrue}
 use Rattle.forec_kernel.specs.Terms.{Stmt}
 use Rattle.forec_kernel.specs.Shapes.{PlainShape, PlainKernel}

@@ -1,8 +1,7 @@
 -- What each instruction does to the machine.
 use Rattle.std.proofs.Common.{◌≡◌, ℕ, zero, suc, ◌+◌, ◌-◌, ◌*◌, ◌<◌, ◌≤◌, List, [], ◌∷◌, length, Some, Bool, true, false, refl, sym, ap, ◌∙◌, subst, ⊎_elim, arith}
-use Rattle.std.specs.Prelude.{ℤ, pos, negsuc, nat_lt, slice_get}
+use Rattle.std.specs.Prelude.{ℤ, pos, negsuc, slice_get}
 use Rattle.std.proofs.lemmas.Bool.{cases_lt}
-use Rattle.std.proofs.lemmas.Bool.Decides.{nat_tests}
 use Rattle.std.proofs.lemmas.Option.{slice_get_past}
 use Rattle.std.proofs.Math.Nat.{mul-le-mul_left}
 use Rattle.forec_base.specs.Numbers.{binary_of}
@@ -12,8 +11,8 @@ use Rattle.thread_code.specs.Plain.{PlainBlock}
 use Rattle.thread_code.specs.Valid.{costs, Leads, IsFine}
 use Rattle.forec_engine.specs.declared.machine.Machine.{Machine}
 use Rattle.forec_engine.specs.Numbers.{Numbers, top_of, rest_of, pushed, popped, pushed_some, operated}
-use Rattle.forec_engine.specs.Core.{Core, On, Comes, act, with_top, with_value, zero_to}
-use Rattle.forec_engine.specs.Follows.{IsAt, core_of, left_at, left, Goes, on_to}
+use Rattle.forec_engine.specs.Core.{Core, On, act, with_top, with_value, zero_to}
+use Rattle.forec_engine.specs.Machine.{IsAt, core_of, left_at, Goes}
 use Rattle.forec_engine.proofs.Stretch.{one, comes_at}
 use Rattle.forec_engine.proofs.Texts.{has_value}
 

@@ -1,5 +1,5 @@
 -- The code goes as the text moves: each step of a running text is followed by the instructions at its place.
-use Rattle.std.proofs.Common.{◌≡◌, ℕ, zero, suc, ◌+◌, ℤ, pos, negsuc, true, false, Option, Some, None, List, [], ◌∷◌, ◌++◌, length, refl, sym, ap, ◌∙◌, subst, arith, length-append}
+use Rattle.std.proofs.Common.{◌≡◌, ℕ, zero, suc, ◌+◌, ℤ, pos, negsuc, true, false, Some, None, List, [], ◌∷◌, ◌++◌, length, refl, sym, ap, ◌∙◌, subst, arith, length-append}
 use Rattle.std.specs.Prelude.{slice_get}
 use Rattle.forec_base.specs.Numbers.{is_zero, binary_of}
 use Rattle.forec_base.specs.declared.operators.Binary.{Binary}
@@ -10,12 +10,12 @@ use Rattle.forec_kernel.specs.Terms.{Expr, Num, Var, Bin, Stmt, Stmts, Nop, Set,
 use Rattle.forec_kernel.specs.Shapes.{PlainKernel}
 use Rattle.forec_kernel.specs.WellFormed.{can_divide}
 use Rattle.forec_kernel.specs.Values.{Value, Gives, Setting, Sight, setting, val, value_then, divided, more_units}
-use Rattle.forec_kernel.specs.Texts.{Loop, After, Go_on, Again, Text, Done, Run, Then, Turning, Resting, text_of, texts_of, then_list, after_text}
-use Rattle.forec_kernel.specs.Steps.{Move, Finished, Halts, Moves, Traps, more_move, move_with, Owner, evaluated, assigned, turned, statement_move, loop_move, move_before, refilled, Woken, Wakes, woken_in, text_move, woken}
+use Rattle.forec_kernel.specs.Texts.{Loop, After, Go_on, Again, Text, Done, Run, Then, Turning, Resting, text_of, texts_of, after_text}
+use Rattle.forec_kernel.specs.Steps.{Move, Finished, Halts, Moves, Traps, more_move, move_with, Owner, assigned, turned, statement_move, loop_move, move_before, refilled, Wakes, woken_in, text_move, woken}
 use Rattle.thread_code.specs.declared.instruction.Instruction.{Instruction}
 use Rattle.thread_code.specs.declared.instruction.Instruction.TheVariants as instruction
-use Rattle.forec_engine.specs.FirstCode.{IsFirstExpr, IsFirstStmt, IsFirstList, expr_code, stmt_code, list_code}
-use Rattle.forec_engine.specs.Core.{Core, On, Comes, with_value, zero_to, act}
+use Rattle.forec_engine.specs.FirstCode.{IsFirstExpr, IsFirstList, expr_code, stmt_code, list_code}
+use Rattle.forec_engine.specs.Core.{On, Comes, with_value, zero_to}
 use Rattle.forec_engine.specs.Reading.{HasAt, CodeAt, endless, LoopAt, AfterAt, At}
 use Rattle.forec_engine.proofs.Stretch.{has_front, has_back, stays, comes_on, one, comes_at}
 

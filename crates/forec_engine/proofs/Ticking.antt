@@ -5,18 +5,17 @@ use Rattle.std.proofs.lemmas.Bool.Decides.{nat_tests}
 use Rattle.forec_kernel.specs.declared.shape.VarCopy.{VarCopy}
 use Rattle.forec_kernel.specs.declared.shape.Outcome.TheVariants as outcome
 use Rattle.forec_kernel.specs.Shapes.{PlainKernel}
-use Rattle.forec_kernel.specs.Values.{copy_of}
 use Rattle.forec_kernel.specs.Texts as text
 use Rattle.forec_kernel.specs.Texts.{Status, Text, Thread, is_running, uses_of, put_copy}
-use Rattle.forec_kernel.specs.Steps.{Move, Finished, Halts, Moves, Traps, text_move, thread_move, thread_after, units_of, woken, Woken, Wakes, text_if, status_of, waking_units}
-use Rattle.forec_kernel.specs.Ticks.{Going, is_stopped, moved, State, Fresh, After_tick, begin, with_row, unmarked, finished, concluded, outcome_of, values_of, Tick, tick}
+use Rattle.forec_kernel.specs.Steps.{Move, Finished, Halts, Moves, Traps, text_move, thread_move, thread_after, woken, Wakes, text_if, status_of, waking_units}
+use Rattle.forec_kernel.specs.Ticks.{Going, is_stopped, moved, State, After_tick, begin, with_row, unmarked, finished, concluded, outcome_of, values_of, Tick, tick}
 use Rattle.forec_kernel.proofs.Ends.{leftmost, step_unless, step_moves, step_stays, ends, tick_in_time}
 use Rattle.thread_code.specs.declared.instruction.Instruction.{Instruction}
 use Rattle.thread_code.specs.declared.instruction.Instruction.TheVariants as instruction
 use Rattle.forec_engine.specs.Core.{Core, On, Paused, Ended, units_in, Comes}
 use Rattle.forec_engine.specs.Reading.{At, Reads}
-use Rattle.forec_engine.proofs.Stretch.{stays, comes_on, one, comes_at, comes_rises, one_way, paused_is, ended_is}
-use Rattle.forec_engine.proofs.Texts.{PausesAt, GoesOn, Matches, text_goes}
+use Rattle.forec_engine.proofs.Stretch.{stays, comes_on, one, comes_rises, one_way, paused_is, ended_is}
+use Rattle.forec_engine.proofs.Texts.{Matches, text_goes}
 
 pub no_row : (uses inputs : List ℕ) (copies : List VarCopy) → with_row uses inputs [] copies ≡ copies
 no_row uses [] copies = refl

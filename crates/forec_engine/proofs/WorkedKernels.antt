@@ -1,14 +1,12 @@
 -- The kernels of the worked programs are well formed.
-use Rattle.std.proofs.Common.{ℕ, zero, suc, ◌<◌, ◌≡◌, Bool, true, false, Some, IsTrue, List, [], ◌∷◌, map, get_or, refl, ap, ◌∙◌, arith}
+use Rattle.std.proofs.Common.{ℕ, zero, suc, ◌<◌, ◌≡◌, Bool, true, false, List, [], ◌∷◌, map, get_or, refl, ap, ◌∙◌, arith}
 use Rattle.std.specs.Prelude.{ℤ, pos}
 use Rattle.forec_kernel.specs.declared.terms.Statement.{Statement}
 use Rattle.forec_kernel.specs.declared.shape.KernelParts.{KernelParts}
 use Rattle.forec_kernel.specs.Plain.{stmt}
-use Rattle.forec_kernel.specs.Terms.{Stmt}
 use Rattle.forec_kernel.specs.Shapes.{PlainShape, PlainKernel, plain_shape, plain_kernel}
-use Rattle.forec_kernel.specs.Texts.{body_of}
-use Rattle.forec_kernel.specs.WellFormed.{WellFormed, FineThread, FineChild, FineFunction, FineVariable, FinePar, Ranked, stmt_calls, function_body}
-use Rattle.forec_kernel.specs.Combining.{contains, variable_of}
+use Rattle.forec_kernel.specs.WellFormed.{WellFormed, FineThread, FineVariable, FinePar}
+use Rattle.forec_kernel.specs.Combining.{variable_of}
 use Rattle.forec_engine.specs.FirstProgram.{body_stmt, first_kernel}
 use Rattle.forec_engine.specs.Worked.{worked, shape_of}
 

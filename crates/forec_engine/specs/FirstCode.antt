@@ -1,5 +1,5 @@
 -- The code of a program of the first form: the instructions of its one thread.
-use Rattle.std.specs.Prelude.{ℕ, zero, ◌+◌, ◌≡◌, false, Option, Some, None, List, [], ◌∷◌, ◌++◌, length, slice_get}
+use Rattle.std.specs.Prelude.{ℕ, zero, ◌+◌, ◌≡◌, false, None, List, [], ◌∷◌, ◌++◌, length}
 use Rattle.forec_base.specs.Numbers.{is_zero}
 use Rattle.forec_kernel.specs.declared.terms.Spot.TheVariants as spot
 use Rattle.forec_kernel.specs.Terms.{Expr, Num, Var, Bin, Stmt, Stmts, Nop, Set, Seq, While, Pause, no_stmts, more_stmts}

@@ -7,7 +7,7 @@ pub mod FirstCode
 pub mod Numbers
 pub mod Core
 pub mod Reading
-pub mod Follows
+pub mod Machine
 pub mod Worked
 pub mod Judging
 pub mod Laws

@@ -1,11 +1,10 @@
 -- Where the code of a running text stands.
-use Rattle.std.specs.Prelude.{◌≡◌, ℕ, ◌+◌, ℤ, false, None, Some, List, [], ◌∷◌, length, slice_get}
-use Rattle.forec_base.specs.Numbers.{is_zero}
+use Rattle.std.specs.Prelude.{◌≡◌, ℕ, ◌+◌, ℤ, None, Some, List, [], ◌∷◌, length, slice_get}
 use Rattle.forec_base.specs.declared.Place.{Place}
 use Rattle.forec_kernel.specs.declared.shape.VarCopy.{VarCopy}
-use Rattle.forec_kernel.specs.Terms.{Expr, Num, Stmt, While}
+use Rattle.forec_kernel.specs.Terms.{Num, Stmt, While}
 use Rattle.forec_kernel.specs.Shapes.{PlainKernel}
-use Rattle.forec_kernel.specs.Texts.{Loop, After, Go_on, Again, Status, Running, Text, Done, Run, Then, Turning, Resting, uses_of}
+use Rattle.forec_kernel.specs.Texts.{Loop, After, Go_on, Again, Running, Text, Done, Run, Then, Turning, Resting, uses_of}
 use Rattle.forec_kernel.specs.Ticks.{Going}
 use Rattle.thread_code.specs.declared.instruction.Instruction.{Instruction}
 use Rattle.thread_code.specs.declared.instruction.Instruction.TheVariants as instruction

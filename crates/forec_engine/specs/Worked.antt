@@ -1,5 +1,5 @@
 -- Two worked programs: one that counts for ever, pausing at each number, and one that adds 1 to the greatest number.
-use Rattle.std.specs.Prelude.{ℕ, ℤ, Bool, true, false, Option, Some, None, List, [], ◌∷◌, codes}
+use Rattle.std.specs.Prelude.{ℤ, Bool, true, false, Some, None, [], ◌∷◌, codes}
 use Rattle.forec_base.specs.declared.Policy.TheVariants as policy
 use Rattle.forec_kernel.specs.Shapes.{PlainShape}
 use Rattle.forec_engine.specs.FirstProgram.{The_output, A_number, Sum, Action, Assigns, Pauses, EndlessLoop, FirstProgram}

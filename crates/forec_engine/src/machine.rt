@@ -7,7 +7,7 @@ ghost use Rattle.thread_code.specs.Plain.{plain_block};
 ghost use Rattle.forec_engine.specs.FirstCode.{IsCodeOf};
 ghost use Rattle.forec_engine.specs.Core.{Comes, zero_to};
 ghost use Rattle.forec_engine.specs.Numbers.{pushed, popped, top_of, operated};
-ghost use Rattle.forec_engine.specs.Follows.{Follows, Stands, HasOutput, output_of, IsAt, Goes, Shows, core_of, on_to, first_start};
+ghost use Rattle.forec_engine.specs.Machine.{Follows, Stands, HasOutput, output_of, IsAt, Goes, Shows, core_of, on_to, first_start};
 
 use crate::stack::Stack;
 use forec_base::{Binary, OutOfMemory, binary};

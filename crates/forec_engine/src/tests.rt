@@ -1,7 +1,7 @@
 // The worked rows of the machine.
 
 ghost use Rattle.std.specs.Prelude.{◌≡◌, [], ◌∷◌, true, false, pos, ◌≤◌, ◌^◌, IfOk, OnSome};
-ghost use Rattle.forec_engine.specs.Follows.{Stands};
+ghost use Rattle.forec_engine.specs.Machine.{Stands};
 ghost use Rattle.forec_kernel.specs.Plain.{stmt};
 ghost use Rattle.forec_kernel.specs.Shapes.{plain_kernel, plain_shape, plain_thread};
 ghost use Rattle.forec_engine.specs.FirstProgram.{action_stmt, body_stmt};

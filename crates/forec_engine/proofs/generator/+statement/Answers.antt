@@ -2,9 +2,8 @@ use Rattle.std.proofs.Common.{◌≡◌, ◌∙◌, ◌++◌, [], length, drop, 
 use Rattle.std.proofs.Math.ListN.{drop_of_length-le}
 use Rattle.std.proofs.lemmas.List.{append-nil}
 use Rattle.forec_kernel.specs.Plain.{expr, stmt, stmts}
-use Rattle.forec_kernel.specs.Terms as plain
 use Rattle.forec_kernel.proofs.VecTerms.{stmt-sequence}
-use Rattle.forec_engine.specs.FirstCode.{IsFirstStmt, IsFirstList, stmt_code, list_code}
+use Rattle.forec_engine.specs.FirstCode.{IsFirstStmt, stmt_code, list_code}
 use Rattle.forec_engine.proofs.Patch.{patch_loop}
 use Rattle.forec_engine.proofs.generator.+statement.Goals as goal
 

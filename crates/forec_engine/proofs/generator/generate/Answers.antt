@@ -1,9 +1,8 @@
-use Rattle.std.proofs.Common.{◌≡◌, ◌∙◌, ◌++◌, ◌<◌, [], ◌∷◌, ap, sym, subst, length, get_or, arith}
+use Rattle.std.proofs.Common.{◌∙◌, ◌++◌, ◌<◌, [], ◌∷◌, ap, sym, subst, length, arith}
 use Rattle.std.proofs.lemmas.List.{length-map}
 use Rattle.forec_kernel.specs.Plain.{stmt}
 use Rattle.forec_kernel.specs.Shapes.{plain_kernel, plain_shape}
 use Rattle.forec_kernel.specs.declared.shape.KernelParts.{KernelParts}
-use Rattle.forec_kernel.specs.Texts.{body_of}
 use Rattle.forec_kernel.proofs.Weights.{body_read}
 use Rattle.thread_code.specs.declared.instruction.Block.{Block}
 use Rattle.thread_code.specs.declared.instruction.CodeParts.{CodeParts}

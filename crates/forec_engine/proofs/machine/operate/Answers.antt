@@ -1,4 +1,4 @@
-use Rattle.std.proofs.Common.{◌<◌, length, arith}
+use Rattle.std.proofs.Common.{arith}
 use Rattle.forec_engine.proofs.Steps.{rest_count}
 use Rattle.forec_engine.proofs.machine.operate.Goals as goal
 

@@ -1,7 +1,6 @@
 use Rattle.std.specs.Prelude.{pos}
-use Rattle.std.proofs.Common.{◌≡◌, ◌∙◌, ◌++◌, [], ◌∷◌, None, ap, refl, List}
+use Rattle.std.proofs.Common.{◌∙◌, ◌++◌, [], ◌∷◌, None, ap}
 use Rattle.forec_base.specs.declared.Place.{Place}
-use Rattle.forec_kernel.specs.declared.terms.Statement.{Statement}
 use Rattle.forec_kernel.specs.declared.terms.Statement.TheVariants as statement
 use Rattle.forec_kernel.specs.Plain.{stmt, stmts}
 use Rattle.forec_kernel.specs.Terms as plain

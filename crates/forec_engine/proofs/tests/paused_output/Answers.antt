@@ -4,4 +4,4 @@ use Rattle.forec_engine.proofs.tests.paused_output.Goals as goal
 pub returns-in-Paused : goal.returns-in-Paused
 returns-in-Paused c =
     let s = c.requires.stands in
-    record { kernel = s.kernel; state = _; follows = c.in-Paused.ensures.state s.kernel s.state s.follows refl }
+    record { k = s.k; s = _; follows = c.in-Paused.ensures.state s.k s.s s.follows refl }

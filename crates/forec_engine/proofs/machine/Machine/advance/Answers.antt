@@ -1,9 +1,8 @@
-use Rattle.std.proofs.Common.{rules, w32, to_z, of_z, ◌≡◌, ◌+◌, ◌<◌, arith, sym, ap, ◌∙◌, subst, Some, length}
+use Rattle.std.proofs.Common.{rules, w32, to_z, of_z, ◌≡◌, ◌+◌, arith, sym, ap, ◌∙◌, Some}
 use Rattle.std.specs.Prelude.{slice_get}
 use Rattle.thread_code.specs.Plain.{plain_block}
 use Rattle.thread_code.specs.declared.instruction.Instruction.TheVariants as instruction
-use Rattle.forec_engine.specs.Follows.{Goes}
-use Rattle.forec_engine.proofs.Steps.{fine, in_block, next_in, grows, machine, push_goes, get_goes, put_goes, operate_goes, zero_goes, jump_goes, count_goes, pause_shows, zero_here, zero_other}
+use Rattle.forec_engine.proofs.Steps.{fine, next_in, grows, push_goes, get_goes, put_goes, operate_goes, zero_goes, jump_goes, count_goes, pause_shows, zero_here, zero_other}
 use Rattle.forec_engine.specs.Numbers.{top_of}
 use Rattle.forec_engine.proofs.machine.Machine.advance.Goals as goal
 

@@ -1,7 +1,7 @@
 use Rattle.std.proofs.Common.{rules, arith, w32, to_z, of_z, ◌≡◌, ◌∙◌, ap, get_or, refl, length}
 use Rattle.thread_code.specs.declared.instruction.CodeParts.{CodeParts}
 use Rattle.forec_engine.specs.declared.machine.Machine.{Machine}
-use Rattle.forec_engine.specs.Follows.{first_start}
+use Rattle.forec_engine.specs.Machine.{first_start}
 use Rattle.forec_engine.proofs.FirstTick.{load_follows}
 use Rattle.forec_engine.proofs.machine.Machine.load.Goals as goal
 

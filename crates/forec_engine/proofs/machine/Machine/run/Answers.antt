@@ -1,4 +1,4 @@
-use Rattle.forec_engine.specs.Follows.{core_of}
+use Rattle.forec_engine.specs.Machine.{core_of}
 use Rattle.forec_engine.proofs.Stretch.{comes_on}
 use Rattle.forec_engine.proofs.machine.Machine.run.Goals as goal
 

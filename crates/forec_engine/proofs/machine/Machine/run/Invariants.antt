@@ -1,6 +1,6 @@
 use Rattle.thread_code.specs.Plain.{plain_block}
 use Rattle.forec_engine.specs.Core.{Comes}
-use Rattle.forec_engine.specs.Follows.{IsAt, core_of, left}
+use Rattle.forec_engine.specs.Machine.{IsAt, core_of, left}
 use Rattle.forec_engine.proofs.machine.Machine.run.Given as goal
 
 abbrev pub invariant-loop-self : goal.invariant-loop-self

@@ -1,4 +1,4 @@
-use Rattle.std.proofs.Common.{rules, w32, to_z, of_z, ◌≡◌, ◌∙◌, ap, subst, get_or}
+use Rattle.std.proofs.Common.{◌≡◌, ◌∙◌, ap, get_or}
 use Rattle.thread_code.specs.declared.instruction.CodeParts.{CodeParts}
 use Rattle.forec_engine.proofs.FirstTick.{restarted_at, tick_over, tick_ended, tick_paused}
 use Rattle.forec_engine.proofs.machine.Machine.tick.Goals as goal
@@ -7,7 +7,7 @@ pub run-requires : goal.run-requires
 run-requires c =
     let x = c.index-block.result.now in
     let read : x ≡ get_or c.args.code.now.threads.items 0 x = c.index-block.ensures ∙ ap (λ (p : CodeParts). get_or p.threads.items 0 x) c.parts.ensures.same in
-    record { at = restarted_at c.requires.stands.kernel c.requires.stands.state c.args.code.now x c.args.self.now c.requires.stands.follows read; small = c.requires.small }
+    record { at = restarted_at c.requires.stands.k c.requires.stands.s c.args.code.now x c.args.self.now c.requires.stands.follows read; small = c.requires.small }
 
 pub returns-in-Paused-clause-outcome : goal.returns-in-Paused-clause-outcome
 returns-in-Paused-clause-outcome c =

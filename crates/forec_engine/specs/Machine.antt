@@ -13,9 +13,9 @@ use Rattle.thread_code.specs.Valid.{Scope, costs, Leads, IsValid}
 use Rattle.forec_engine.specs.declared.machine.Machine.{Machine}
 use Rattle.forec_engine.specs.declared.machine.Stop.{Stop}
 use Rattle.forec_engine.specs.declared.machine.Stop.TheVariants as stop
-use Rattle.forec_engine.specs.FirstCode.{IsCodeOf, thread_block, thread_steps}
-use Rattle.forec_engine.specs.Core.{Core, On, Paused, Ended, Comes}
-use Rattle.forec_engine.specs.Numbers.{Numbers}
+pub use Rattle.forec_engine.specs.FirstCode.{IsFirstKernel, IsCodeOf}
+use Rattle.forec_engine.specs.FirstCode.{thread_block, thread_steps}
+use Rattle.forec_engine.specs.Core.{Core, On, Comes}
 use Rattle.forec_engine.specs.Reading.{Reads}
 
 -- a valid block, at a place of which the machine is, with room on the stack
@@ -40,9 +40,9 @@ pub record Follows (k : PlainKernel) (s : State) (c : CodeParts) (m : Machine) :
 
 -- the machine stands for some kernel in some state
 pub record Stands (c : CodeParts) (m : Machine) : Type 0 where
-  pub kernel : PlainKernel
-  pub state : State
-  pub follows : Follows kernel state c m
+  pub k : PlainKernel
+  pub s : State
+  pub follows : Follows k s c m
 
 abbrev pub output_of : Machine → ℤ
 output_of m = m.output
