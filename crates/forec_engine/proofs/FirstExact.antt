@@ -59,15 +59,14 @@ list_bytes o list ts n (pauses {actions = others} front rest f l) =
 
 loop_bytes : (o : List ℕ) (l : Option EndlessLoop) (ts : List Token) → IsName o → IsLoop o l ts → AllBytes ts
 loop_bytes o l ts n absent = tt
-loop_bytes o l ts n (endless {actions = list} t front inner back e f i p b) =
-    (
-      sign_bytes t.bytes _ e (λ k. cc),
-      all_append
+loop_bytes o l ts n (endless {actions = list} t front inner back e f i p b) = (
+  sign_bytes t.bytes _ e (λ k. cc),
+  all_append
       (front ++ inner)
       back
       (all_append front inner (words_bytes front _ f (λ k. cc, (λ k. cc, (λ k. cc, (λ k. cc, tt))))) (list_bytes o list inner n i))
       (words_bytes back _ b (λ k. cc, tt)),
-    )
+)
 
 program_bytes : (p : FirstProgram) (ts : List Token) → Spells p ts → AllBytes ts
 program_bytes p ts s =

@@ -125,10 +125,10 @@ endless_taken o l ts rest some h =
         record {
           front = t ∷ front ++ inner ++ u ∷ [];
           are =
-            at_xs
-            ∙ ap
-            (λ z. t ∷ z)
-            (at_ys ∙ ap (λ z. front ++ z) (at_zs ∙ ap (λ z. inner ++ z) (at_end ∙ ap (λ z. u ∷ z) q.1)) ∙ joined front inner (u ∷ []) rest);
+              at_xs
+              ∙ ap
+              (λ z. t ∷ z)
+              (at_ys ∙ ap (λ z. front ++ z) (at_zs ∙ ap (λ z. inner ++ z) (at_end ∙ ap (λ z. u ∷ z) q.1)) ∙ joined front inner (u ∷ []) rest);
           loop = subst (λ x. IsLoop o (Some x) (t ∷ front ++ inner ++ u ∷ [])) q.0 (endless t front inner (u ∷ []) first opens is e (cc));
         }
     closed t u list front inner xs ys zs end at_xs at_ys at_zs at_end first opens is last false e k = absurd (cc)
@@ -222,9 +222,9 @@ declaration_taken d ts rest h =
           front = front ++ t ∷ e ∷ u ∷ c ∷ [];
           number = u.bytes;
           are =
-            at_xs
-            ∙ ap (λ z. front ++ z) (at_ys ∙ ap (λ z. t ∷ z) (at_zs ∙ ap (λ z. e ∷ z) (at_ws ∙ ap (λ z. u ∷ z) at_rest)))
-            ∙ sym (append_assoc front (t ∷ e ∷ u ∷ c ∷ []) rest);
+              at_xs
+              ∙ ap (λ z. front ++ z) (at_ys ∙ ap (λ z. t ∷ z) (at_zs ∙ ap (λ z. e ∷ z) (at_ws ∙ ap (λ z. u ∷ z) at_rest)))
+              ∙ sym (append_assoc front (t ∷ e ∷ u ∷ c ∷ []) rest);
           words = are_both front (t ∷ e ∷ u ∷ c ∷ []) output_int (o ∷ codes "=" ∷ u.bytes ∷ codes ";" ∷ []) first (cc);
           named = named;
           starts = numbered;
@@ -286,5 +286,5 @@ spelled p ts rest h =
           end = lo;
           closing = cc;
           are = at_ws ∙ ap (λ z. first ++ z) (at_bs ∙ ap (λ z. second ++ z) (at_cs ∙ ap (λ z. inner ++ z) (at_ds ∙ ap (λ z. loop ++ z) at_end)))
-            ∙ sym (append_assoc first second (inner ++ (loop ++ t ∷ []))) ∙ joined (first ++ second) inner loop (t ∷ []);
+              ∙ sym (append_assoc first second (inner ++ (loop ++ t ∷ []))) ∙ joined (first ++ second) inner loop (t ∷ []);
         })

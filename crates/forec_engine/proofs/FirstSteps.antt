@@ -212,8 +212,8 @@ assignment_taken o a ts rest some h =
           are = is_as ∙ ap (λ z. t ∷ z) (is_bs ∙ ap (λ z. e ∷ z) (is_cs ∙ ap (λ z. side ++ z) is_rest ∙ sym (append_assoc side (u ∷ []) rest)));
           long = omega arith;
           first = λ actions us list.
-            subst (λ x. IsList o (x ∷ actions) (t ∷ e ∷ (side ++ u ∷ []) ++ us)) is
-            (assigns (t ∷ e ∷ []) side (u ∷ []) us (cc) value (cc) list);
+              subst (λ x. IsList o (x ∷ actions) (t ∷ e ∷ (side ++ u ∷ []) ++ us)) is
+              (assigns (t ∷ e ∷ []) side (u ∷ []) us (cc) value (cc) list);
         }
 
 pub action_taken : (o : List ℕ) (a : Action) (ts rest : List Token) → o ≢ [] → action o ts ≡ Some (a, rest) → ActionTaken o a ts rest

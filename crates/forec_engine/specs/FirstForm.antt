@@ -145,8 +145,8 @@ pub record Spells (p : FirstProgram) (ts : List Token) : Type 0 where
   pub starts : IsNumber p.start number
   pub heading :
       Are front (
-        codes "output" ∷ codes "int" ∷ p.name ∷ codes "=" ∷ number ∷ codes ";"
-        ∷ codes "void" ∷ codes "main" ∷ codes "(" ∷ codes "void" ∷ codes ")" ∷ codes "{" ∷ []
+      codes "output" ∷ codes "int" ∷ p.name ∷ codes "=" ∷ number ∷ codes ";"
+      ∷ codes "void" ∷ codes "main" ∷ codes "(" ∷ codes "void" ∷ codes ")" ∷ codes "{" ∷ []
       )
   pub body : IsList p.name p.actions list
   pub end : IsLoop p.name p.loop loop

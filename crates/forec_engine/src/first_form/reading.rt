@@ -122,11 +122,7 @@ fn begins(output: &[u8], word: &[u8]) -> bool
 }
 
 #[tactic(auto, using(crate::proofs::FirstLists::actions_begin, crate::proofs::FirstLists::actions_step, crate::proofs::FirstLists::actions_stop, crate::proofs::FirstLists::actions_none, crate::proofs::FirstLists::action_shrinks, crate::proofs::FirstLists::actions_push))]
-fn actions(
-    alloc: Global,
-    tokens: &mut Tokens<'_>,
-    output: &[u8],
-) -> Result<Vec<Action>, FormFault>
+fn actions(alloc: Global, tokens: &mut Tokens<'_>, output: &[u8]) -> Result<Vec<Action>, FormFault>
     requires { output.now ≢ [] }
     ensures { Reads actions_of (spec.actions output.now tokens.old) result tokens.new }
 {
@@ -150,11 +146,7 @@ fn pauses(actions: &[Action]) -> bool
 }
 
 #[tactic(auto, unfolding(crate::specs::FirstReading::endless, crate::specs::FirstReading::words), using(crate::proofs::FirstWords::any_pause))]
-fn endless(
-    alloc: Global,
-    tokens: &mut Tokens<'_>,
-    output: &[u8],
-) -> Result<Endless, FormFault>
+fn endless(alloc: Global, tokens: &mut Tokens<'_>, output: &[u8]) -> Result<Endless, FormFault>
     requires { output.now ≢ [] }
     ensures { Reads endless_of (spec.endless output.now tokens.old) result tokens.new }
 {
@@ -215,10 +207,7 @@ fn opening(tokens: &mut Tokens<'_>) -> Result<(), FormFault>
 }
 
 #[tactic(auto, unfolding(crate::specs::FirstReading::program))]
-pub fn program<'t>(
-    alloc: Global,
-    tokens: &mut Tokens<'t>,
-) -> Result<Program<'t>, FormFault>
+pub fn program<'t>(alloc: Global, tokens: &mut Tokens<'t>) -> Result<Program<'t>, FormFault>
     ensures { Reads program_of (spec.program tokens.old) result tokens.new }
 {
     let (name, start) = declaration(tokens)?;

@@ -42,9 +42,7 @@ fn is_mark(bytes: &[u8]) -> bool
 {
     match bytes {
         [a, b, c] => b"<>".contains(a) && *a == *b && *c == b'=',
-        [a, b] => {
-            *b == b'=' && b"+-*/%&|^<>=!".contains(a) || *a == *b && b"<>&|+-".contains(a)
-        }
+        [a, b] => { *b == b'=' && b"+-*/%&|^<>=!".contains(a) || *a == *b && b"<>&|+-".contains(a) }
         [a] => b"+-*/%&|^~!<>=?:;,(){}[]#".contains(a),
         _ => false,
     }
@@ -69,7 +67,11 @@ fn mark_at(text: &[u8]) -> &[u8]
 fn front(text: &[u8], most: usize) -> &[u8]
     ensures { result.now ≡ take most text.now }
 {
-    if text.len() < most { text } else { &text[..most] }
+    if text.len() < most {
+        text
+    } else {
+        &text[..most]
+    }
 }
 
 /// How many letters and digits stand at the front of the text.
@@ -94,7 +96,11 @@ fn token_at(text: &[u8]) -> &[u8]
     ensures { result.now ≡ spec.token_at text.now }
 {
     let len = run(text);
-    if len == 0 { mark_at(text) } else { front(text, len) }
+    if len == 0 {
+        mark_at(text)
+    } else {
+        front(text, len)
+    }
 }
 
 fn after(place: Place, byte: u8) -> Place

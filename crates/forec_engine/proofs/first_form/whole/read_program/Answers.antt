@@ -16,11 +16,11 @@ is_form (Err y) e a h = let k : y ≡ Form = cc in sym a ∙ k
 pub returns-in_err-program-clause-none : goal.returns-in_err-program-clause-none
 returns-in_err-program-clause-none c =
     λ h k f.
-        first_none
-        c.args.text.now
-        k
-        (ap program (sym c.new-tokens.ensures) ∙ c.in_err-program.ensures (is_form c.from_residual.result c.in_err-program.field-0.0 c.from_residual.ensures.1 h))
-        f
+    first_none
+    c.args.text.now
+    k
+    (ap program (sym c.new-tokens.ensures) ∙ c.in_err-program.ensures (is_form c.from_residual.result c.in_err-program.field-0.0 c.from_residual.ensures.1 h))
+    f
 
 pub kernel-requires : goal.kernel-requires
 kernel-requires c =
