@@ -1,17 +1,16 @@
 -- What tokens spell is read from them.
-use Rattle.std.proofs.Common.{◌≡◌, ◌≢◌, ◌∙◌, ℕ, zero, suc, ◌+◌, ◌<◌, ◌≤◌, Bool, true, false, ◌||◌, if◌then◌else◌, Option, None, Some, List, [], ◌∷◌, ◌++◌, length, map, refl, sym, ap, subst, append_assoc, append-nil, length-append, arith}
+use Rattle.std.proofs.Common.{◌≡◌, ◌≢◌, ◌∙◌, ℕ, zero, suc, ◌≤◌, Bool, true, false, Option, Some, List, [], ◌∷◌, ◌++◌, length, refl, sym, ap, subst, append_assoc, append-nil, length-append, arith}
 use Rattle.std.specs.Prelude.{codes}
 use Rattle.std.proofs.lemmas.Bool.Decides.{nat_tests}
 use Rattle.std.proofs.lemmas.Slice.Eq.{bytes_eq-Decides}
 use Rattle.std.proofs.lemmas.List.{length-map}
 use Rattle.std.specs.List.{list_any, list_all}
 use Rattle.std.specs.Str.{bytes_eq}
-use Rattle.forec_base.specs.declared.Place.{Place}
-use Rattle.forec_engine.specs.FirstProgram.{Operand, The_output, A_number, Value, Alone, Sum, Difference, Action, Assigns, Pauses, EndlessLoop, FirstProgram}
-use Rattle.forec_engine.specs.FirstForm.{Token, reserved, is_digit, is_letter, begins_as_name, begins_as_number, Are, IsName, IsNumber, IsOperand, output, number, IsValue, alone, sum, difference, IsList, ends, assigns, pauses, is_pause, IsLoop, absent, endless, Spells}
+use Rattle.forec_engine.specs.FirstProgram.{Operand, Value, Action, Assigns, Pauses, EndlessLoop, FirstProgram}
+use Rattle.forec_engine.specs.FirstForm.{Token, reserved, is_digit, is_letter, begins_as_name, Are, IsName, IsNumber, IsOperand, output, number, IsValue, alone, sum, difference, IsList, ends, assigns, pauses, is_pause, IsLoop, absent, endless, Spells}
 use Rattle.forec_engine.specs.FirstReading as r
 use Rattle.forec_engine.specs.FirstReading.{Outcome, ahead, word, words, name, is_name, number_of, given, numbered, operand_of, operand, value, pausing, assignment, action, begins, actions_from, actions, endless_if_any, declaration, opening, program}
-use Rattle.forec_engine.proofs.FirstWords.{name_reads, name_not_empty, number_reads}
+use Rattle.forec_engine.proofs.FirstWords.{name_reads, number_reads}
 use Rattle.forec_engine.proofs.FirstLists.{actions_stop}
 
 -- ---- words

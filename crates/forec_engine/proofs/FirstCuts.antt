@@ -1,12 +1,11 @@
 -- The tokens of a text, step by step.
-use Rattle.std.proofs.Common.{◌≡◌, ◌≢◌, ◌∙◌, ℕ, zero, suc, ◌+◌, ◌-◌, ◌<◌, ◌≤◌, Bool, true, false, cond, nat_eq, ◌==◌, not, if◌then◌else◌, IsTrue, List, [], ◌∷◌, ◌++◌, length, take, drop, refl, sym, ap, subst, length-append, arith}
+use Rattle.std.proofs.Common.{◌≡◌, ◌≢◌, ◌∙◌, ℕ, zero, suc, ◌+◌, ◌-◌, ◌≤◌, Bool, true, false, cond, nat_eq, ◌==◌, not, if◌then◌else◌, List, [], ◌∷◌, ◌++◌, length, take, drop, refl, sym, ap, length-append, arith}
 use Rattle.std.specs.List.{take_while, prefix_len}
 use Rattle.std.proofs.lemmas.Bool.Decides.{nat_tests}
 use Rattle.std.proofs.lemmas.List.{take-append-drop}
 use Rattle.std.proofs.lemmas.List.Folds.{length-prefix_len}
-use Rattle.std.proofs.lemmas.List.Sums.{prefix_len-le-length}
 use Rattle.forec_base.specs.declared.Place.{Place}
-use Rattle.forec_engine.specs.FirstForm.{Token, is_space, goes_on, is_mark, after, passed}
+use Rattle.forec_engine.specs.FirstForm.{is_space, goes_on, is_mark, after, passed}
 use Rattle.forec_engine.specs.FirstReading.{mark_at, first_of, token_at, cut, ahead, place_ahead, behind, is_end}
 use Rattle.forec_engine.specs.FirstCursor.{begins_no_blank}
 

@@ -1,6 +1,5 @@
 -- A text is read exactly where it is of the first form, and then as its program.
-use Rattle.std.proofs.Common.{◌≡◌, ◌≢◌, ◌∙◌, ℕ, ◌≤◌, true, Option, None, Some, Result, Ok, Err, IfOk, List, [], ◌∷◌, ◌++◌, length, map, refl, sym, ap, subst, arith}
-use Rattle.std.specs.Prelude.{codes}
+use Rattle.std.proofs.Common.{◌≡◌, ◌≢◌, ◌∙◌, ℕ, true, Option, None, Some, List, [], ◌∷◌, ◌++◌, length, refl, sym, ap, subst, arith}
 use Rattle.forec_kernel.specs.Shapes.{PlainKernel}
 use Rattle.forec_engine.specs.FirstProgram.{Operand, Value, Action, EndlessLoop, FirstProgram, first_kernel}
 use Rattle.forec_engine.specs.FirstForm.{Token, start, begins_as_name, begins_as_number, Are, IsName, IsNumber, IsOperand, output, number, IsValue, alone, sum, difference, IsList, ends, assigns, pauses, IsLoop, absent, endless, Spells, First}

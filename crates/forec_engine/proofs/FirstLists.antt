@@ -1,9 +1,9 @@
 -- Lists of actions.
-use Rattle.std.proofs.Common.{◌≡◌, ◌≢◌, ◌∙◌, ℕ, zero, suc, ◌+◌, ◌<◌, ◌≤◌, Bool, true, false, Option, None, Some, if◌then◌else◌, List, [], ◌∷◌, ◌++◌, length, map, refl, sym, ap, subst, length-append, arith}
+use Rattle.std.proofs.Common.{◌≡◌, ◌≢◌, ℕ, zero, suc, ◌<◌, ◌≤◌, Bool, true, false, None, Some, if◌then◌else◌, List, [], ◌∷◌, ◌++◌, length, map, refl, sym, ap, length-append, arith}
 use Rattle.forec_engine.specs.FirstProgram as plain
 use Rattle.forec_engine.specs.FirstForm.{Token}
 use Rattle.forec_engine.proofs.FirstSteps.{action_taken}
-use Rattle.forec_engine.specs.FirstReading.{Outcome, and_then, ahead, word, action, begins, actions_from, actions}
+use Rattle.forec_engine.specs.FirstReading.{Outcome, and_then, ahead, action, begins, actions_from, actions}
 use Rattle.forec_engine.specs.FirstViews.{action_of}
 use Rattle.forec_engine.specs.declared.first_form.terms.Action.{Action}
 

@@ -1,18 +1,16 @@
 -- The kernel of a program of the first form is well formed.
-use Rattle.std.proofs.Common.{◌≡◌, ◌≢◌, ◌∙◌, ℕ, zero, suc, ◌+◌, ◌<◌, ◌≤◌, ◌==◌, max, Bool, true, false, cond, ◌&&◌, IsTrue, if◌then◌else◌, Option, None, Some, List, [], ◌∷◌, ◌++◌, length, map, get_or, refl, sym, ap, subst, length-append, append-nil, add-zero, nat_le, arith, Vec, Global}
+use Rattle.std.proofs.Common.{◌≡◌, ◌∙◌, ℕ, zero, suc, ◌+◌, ◌<◌, ◌≤◌, ◌==◌, Bool, true, false, ◌&&◌, if◌then◌else◌, Option, None, Some, List, [], ◌∷◌, ◌++◌, length, map, refl, sym, ap, subst, length-append, append-nil, add-zero, nat_le, arith, Vec, Global}
 use Rattle.std.proofs.lemmas.Bool.Decides.{nat_tests}
 use Rattle.std.specs.List.{list_all}
 use Rattle.std.specs.Str.{IsAscii, IsUtf8}
 use Rattle.std.proofs.lemmas.Str.{IsUtf8-from_ascii}
-use Rattle.forec_base.specs.declared.Policy.TheVariants as policy
-use Rattle.forec_kernel.specs.Terms.{Expr, Num, Var, Bin, Stmt, Stmts, Seq, no_stmts, more_stmts}
+use Rattle.forec_kernel.specs.Terms.{Stmt, Stmts, Seq, more_stmts}
 use Rattle.forec_kernel.specs.Plain.{stmt, stmts}
-use Rattle.forec_kernel.specs.Shapes.{PlainKernel, PlainShape, plain_shape, plain_kernel}
+use Rattle.forec_kernel.specs.Shapes.{PlainKernel, PlainShape}
 use Rattle.forec_kernel.specs.WellFormed
 use Rattle.forec_kernel.specs.WellFormed.{Scope, FineExpr, FineStmt, FineStmts, FinePar, pars_of, pars_in, stmt_calls, stmts_calls, stmt_terms, stmts_terms, stmt_depth, stmts_depth, expr_depth, FineThread, FineChild, FineFunction, FineVariable, WellFormed}
 use Rattle.forec_kernel.specs.Combining.{variable_of}
 use Rattle.forec_kernel.specs.declared.terms.Statement.{Statement, Sequence}
-use Rattle.forec_kernel.specs.declared.shape.Shape.{Shape}
 use Rattle.forec_kernel.proofs.VecTerms.{stmt-sequence}
 use Rattle.forec_engine.specs.FirstProgram.{Operand, The_output, A_number, Value, Alone, Sum, Difference, Action, Assigns, Pauses, EndlessLoop, FirstProgram, operand_expr, value_expr, action_stmt, stmts_of, sequence_of, loop_stmts, body_stmt, first_kernel}
 use Rattle.forec_engine.specs.FirstForm.{goes_on, IsName}

@@ -1,11 +1,11 @@
 -- Reading, a step at a time: what a parser took stands at the front of the tokens.
-use Rattle.std.proofs.Common.{◌≡◌, ◌≢◌, ◌∙◌, ℕ, zero, suc, ◌+◌, ◌<◌, ◌≤◌, Bool, true, false, cond, if◌then◌else◌, Option, None, Some, List, [], ◌∷◌, ◌++◌, length, map, refl, sym, ap, subst, append_assoc, length-append, arith}
+use Rattle.std.proofs.Common.{◌≡◌, ◌≢◌, ◌∙◌, ℕ, ◌<◌, Bool, true, false, if◌then◌else◌, Option, None, Some, List, [], ◌∷◌, ◌++◌, length, refl, sym, ap, subst, append_assoc, arith}
 use Rattle.std.specs.Prelude.{codes}
 use Rattle.std.proofs.lemmas.Slice.Eq.{bytes_eq-Decides}
 use Rattle.std.specs.Str.{bytes_eq}
 use Rattle.forec_base.specs.declared.Place.{Place}
 use Rattle.forec_engine.specs.FirstProgram.{Operand, The_output, A_number, Value, Alone, Sum, Difference, Action, Assigns, Pauses}
-use Rattle.forec_engine.specs.FirstForm.{Token, Are, IsNumber, IsOperand, output, number, IsValue, alone, sum, difference, IsList, assigns, pauses}
+use Rattle.forec_engine.specs.FirstForm.{Token, IsOperand, output, number, IsValue, alone, sum, difference, IsList, assigns, pauses}
 use Rattle.forec_engine.proofs.FirstWords.{no_operand, number_is}
 use Rattle.forec_engine.specs.FirstReading.{Outcome, Parser, and_then, ◌>>=◌, ◌>>◌, pure, ahead, behind, place_ahead, word, number_of, operand_of, operand, sides, numbered, given, value, pausing, assignment, action}
 

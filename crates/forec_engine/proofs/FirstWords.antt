@@ -1,5 +1,5 @@
 -- Numbers.
-use Rattle.std.proofs.Common.{◌≡◌, ◌≢◌, map, ◌||◌, ◌&&◌, ◌∙◌, ℕ, zero, suc, ◌+◌, ◌*◌, ◌-◌, ◌<◌, ◌≤◌, Bool, true, false, nat_le, not, ◌++◌, if◌then◌else◌, Option, None, Some, List, [], ◌∷◌, length, drop, get_or, refl, sym, ap, drop-cons, arith}
+use Rattle.std.proofs.Common.{◌≡◌, ◌≢◌, map, ◌||◌, ◌&&◌, ◌∙◌, ℕ, suc, ◌+◌, ◌*◌, ◌-◌, ◌<◌, ◌≤◌, Bool, true, false, nat_le, not, ◌++◌, if◌then◌else◌, None, Some, List, [], ◌∷◌, length, drop, get_or, refl, sym, ap, drop-cons, arith}
 use Rattle.std.proofs.lemmas.Bool.Decides.{nat_tests}
 use Rattle.std.proofs.lemmas.Slice.Eq.{bytes_eq-Decides}
 use Rattle.std.specs.List.{list_any, list_all}

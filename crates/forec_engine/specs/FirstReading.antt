@@ -1,10 +1,10 @@
 -- Reading a program of the first form: functions on the text and on its tokens. `proofs/` shows that they are the converse of the definitions.
-use Rattle.std.specs.Prelude.{ℕ, zero, suc, ◌+◌, ◌≡◌, ◌-◌, ◌==◌, Bool, true, false, ◌&&◌, ◌||◌, not, nat_le, if◌then◌else◌, Option, Some, None, Result, Ok, Err, List, [], ◌∷◌, ◌++◌, length, take, codes}
+use Rattle.std.specs.Prelude.{ℕ, zero, suc, ◌≡◌, ◌-◌, Bool, true, false, ◌&&◌, ◌||◌, not, nat_le, if◌then◌else◌, Option, Some, None, Result, Ok, Err, List, [], ◌∷◌, ◌++◌, length, take, codes}
 use Rattle.std.specs.List.{list_any, list_all, take_while}
 use Rattle.std.specs.Str.{bytes_eq}
 use Rattle.forec_base.specs.declared.Place.{Place}
 use Rattle.forec_engine.specs.FirstProgram.{Operand, The_output, A_number, Value, Alone, Sum, Difference, Action, Assigns, Pauses, EndlessLoop, FirstProgram}
-use Rattle.forec_engine.specs.FirstForm.{Token, is_space, is_digit, goes_on, is_mark, after, start, reserved, begins_as_name, begins_as_number, decimal_from, is_pause}
+use Rattle.forec_engine.specs.FirstForm.{Token, is_space, is_digit, goes_on, is_mark, after, start, begins_as_name, begins_as_number, decimal_from, is_pause}
 use Rattle.forec_engine.specs.declared.first_form.fault.FormFault.{FormFault}
 use Rattle.forec_engine.specs.declared.first_form.fault.FormFault.TheVariants.{Form}
 

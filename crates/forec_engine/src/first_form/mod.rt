@@ -4,6 +4,8 @@ mod fault;
 mod lowering;
 mod reading;
 mod terms;
+#[cfg(test)]
+mod tests;
 mod tokens;
 mod whole;
 mod words;
