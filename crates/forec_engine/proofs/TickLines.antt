@@ -3,7 +3,7 @@ use Rattle.std.proofs.Common.{◌≡◌, ℕ, ℤ, List, [], ◌∷◌, sym, ap,
 use Rattle.forec_kernel.specs.declared.shape.Outcome.{Outcome}
 use Rattle.forec_kernel.specs.Shapes.{PlainKernel}
 use Rattle.forec_kernel.specs.Ticks.{Tick}
-use Rattle.forec_engine.specs.Follows.{HasOutput}
+use Rattle.forec_engine.specs.Machine.{HasOutput}
 use Rattle.forec_engine.specs.ReportLines.{output_names, outcome_lines}
 use Rattle.forec_engine.specs.Report.{tick_lines}
 use Rattle.forec_engine.specs.WaitingRoom.{Gains}

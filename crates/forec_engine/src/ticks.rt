@@ -7,7 +7,7 @@ ghost use Rattle.forec_kernel.specs.Ticks.{Fresh};
 ghost use Rattle.forec_engine.specs.Calls.{AppendsFront, Faults, IfTold, NoNewline};
 ghost use Rattle.forec_engine.specs.Ends.{IsOwn, Given, Wanted};
 ghost use Rattle.forec_engine.specs.FirstCode.{IsFirstKernel};
-ghost use Rattle.forec_engine.specs.Follows.{Follows};
+ghost use Rattle.forec_engine.specs.Machine.{Follows};
 ghost use Rattle.forec_engine.specs.Report.{trace_report};
 ghost use Rattle.forec_engine.specs.ReportLines.{output_names};
 ghost use Rattle.forec_engine.specs.Progress.{Led, report_rest};

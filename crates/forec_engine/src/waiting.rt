@@ -3,7 +3,7 @@ ghost use Rattle.std.specs.Prelude.{◌≡◌, ◌≢◌, ◌+◌, ◌≤◌, �
 ghost use Rattle.std.specs.Io.KnownBytes.{Appends};
 ghost use Rattle.forec_base.specs.Outside.{Fell};
 ghost use Rattle.forec_engine.specs.Calls.{AppendsFront, Faults};
-ghost use Rattle.forec_engine.specs.Follows.{HasOutput};
+ghost use Rattle.forec_engine.specs.Machine.{HasOutput};
 ghost use Rattle.forec_engine.specs.ReportLines.{tick_line, end_line, trap_word, trap_line, over_line, rows_line, fault_word, row_line, outcome_lines};
 
 use crate::found::RowFault;

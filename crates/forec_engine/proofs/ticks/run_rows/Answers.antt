@@ -2,7 +2,7 @@ use Rattle.std.proofs.Common.{◌≡◌, ◌-◌, ◌+◌, ◌++◌, ◌∷◌, 
 use Rattle.std.proofs.lemmas.Int.{to_z-of_z}
 use Rattle.forec_kernel.specs.Shapes.{plain_kernel}
 use Rattle.forec_kernel.specs.Ticks.{State, tick, goes_on}
-use Rattle.forec_engine.specs.Follows.{Follows}
+use Rattle.forec_engine.specs.Machine.{Follows}
 use Rattle.forec_engine.specs.Report.{Report, tick_lines}
 use Rattle.forec_engine.specs.ReportLines.{rows_line, row_line}
 use Rattle.forec_engine.specs.Waits.{waits}

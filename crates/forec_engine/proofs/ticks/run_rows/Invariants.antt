@@ -1,7 +1,7 @@
 use Rattle.std.proofs.Common.{◌≡◌, ◌≤◌, ◌+◌, ◌-◌, ◌∷◌, List, ℕ, [], length, true}
 use Rattle.std.specs.Io.KnownBytes.{IsAtEnd}
 use Rattle.forec_kernel.specs.Shapes.{plain_kernel}
-use Rattle.forec_engine.specs.Follows.{Follows}
+use Rattle.forec_engine.specs.Machine.{Follows}
 use Rattle.forec_engine.specs.Waits.{waits}
 use Rattle.forec_engine.proofs.Running.{Reached}
 use Rattle.forec_engine.proofs.ticks.run_rows.Given as goal
