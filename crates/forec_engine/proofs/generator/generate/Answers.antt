@@ -1,4 +1,4 @@
-use Rattle.std.proofs.Common.{◌∙◌, ◌++◌, ◌<◌, [], ◌∷◌, ap, sym, subst, length, arith}
+use Rattle.std.proofs.Common.{◌≡◌, ◌∙◌, ◌++◌, ◌<◌, [], ◌∷◌, ap, sym, subst, length, arith}
 use Rattle.std.proofs.lemmas.List.{length-map}
 use Rattle.forec_kernel.specs.Plain.{stmt}
 use Rattle.forec_kernel.specs.Shapes.{plain_kernel, plain_shape}
@@ -25,7 +25,7 @@ of-requires c =
     let body = body_read k c.parts-parts.result.now 0 c.index.result.now some c.parts-parts.ensures.same c.index.ensures in
     let x : Block = c.in_ok-emit_thread.field-0 in
     let parts : CodeParts = record { shape = c.in_ok-copy_shape.field-0; threads = c.push.new.self; functions = c.new.result } in
-    let shape = c.in_ok-copy_shape.ensures ∙ ap (λ (p : KernelParts). plain_shape p.shape) c.parts-parts.ensures.same in
+    let shape : plain_shape parts.shape ≡ (plain_kernel k).shape = c.in_ok-copy_shape.ensures ∙ ap (λ (p : KernelParts). plain_shape p.shape) c.parts-parts.ensures.same in
     let threads = c.in_ok-push.ensures.items ∙ ap (λ l. l ++ x ∷ []) c.new-threads.ensures.items in
     let block = c.in_ok-emit_thread.ensures ∙ ap thread_block (sym body) in
     is_valid (plain_kernel k) parts x c.requires shape threads block c.new.ensures.items
@@ -37,7 +37,7 @@ returns c =
     let body = body_read k c.parts-parts.result.now 0 c.index.result.now some c.parts-parts.ensures.same c.index.ensures in
     let x : Block = c.in_ok-emit_thread.field-0 in
     let parts : CodeParts = record { shape = c.in_ok-copy_shape.field-0; threads = c.push.new.self; functions = c.new.result } in
-    let shape = c.in_ok-copy_shape.ensures ∙ ap (λ (p : KernelParts). plain_shape p.shape) c.parts-parts.ensures.same in
+    let shape : plain_shape parts.shape ≡ (plain_kernel k).shape = c.in_ok-copy_shape.ensures ∙ ap (λ (p : KernelParts). plain_shape p.shape) c.parts-parts.ensures.same in
     let threads = c.in_ok-push.ensures.items ∙ ap (λ l. l ++ x ∷ []) c.new-threads.ensures.items in
     let block = c.in_ok-emit_thread.ensures ∙ ap thread_block (sym body) in
     same_code (plain_kernel k) c.of.result parts c.of.ensures (is_code (plain_kernel k) parts x c.requires shape threads block c.new.ensures.items)
