@@ -12,7 +12,7 @@ use forec_kernel::Kernel;
 use std::alloc::Global;
 
 /// Reads the kernel of a text of the first form, of at most 1,048,576 bytes, in time linear in its
-/// length. `Form` comes exactly where the text has another form. `OutOfMemory` comes where memory ends,
+/// length. `Form` comes only where the text has another form. `OutOfMemory` comes where memory ends,
 /// and where the program has more than the 200,000 terms that a kernel may have.
 pub fn read_program(alloc: Global, text: &[u8]) -> Result<Kernel, FormFault>
     requires { length text.now ≤ 1048576 }
