@@ -11,9 +11,9 @@ use crate::first_form::tokens::Tokens;
 use forec_kernel::Kernel;
 use std::alloc::Global;
 
-/// The kernel of a text of the first form. A program of more than 200,000 terms is one that no kernel
-/// holds: it is answered as want of memory.
-
+/// Reads the kernel of a text of the first form, of at most 1,048,576 bytes, in time linear in its
+/// length. `Form` comes only where the text has another form. `OutOfMemory` comes where memory ends,
+/// and where the program has more than the 200,000 terms that a kernel may have.
 pub fn read_program(alloc: Global, text: &[u8]) -> Result<Kernel, FormFault>
     requires { length text.now ≤ 1048576 }
     ensures found { IfOk result (λ k. First text.now (plain_kernel k)) }
