@@ -56,6 +56,7 @@ fn sign_ahead(text: &[u8]) -> Option<(Piece, usize)>
     Some((Piece::Mark { mark }, len))
 }
 
+#[tactic(auto, unfolding(crate::specs::Reading::front))]
 fn front(text: &[u8]) -> Option<(Piece, usize)>
     ensures { result ≡ reading.front text.now }
 {
