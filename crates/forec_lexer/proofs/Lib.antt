@@ -6,3 +6,5 @@ pub mod CommentLemmas
 pub mod EachSpelling
 pub mod FrontLemmas
 pub mod OneWay
+pub mod NameLemmas
+pub mod Whole
