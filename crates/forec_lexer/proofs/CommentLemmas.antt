@@ -1,10 +1,9 @@
 -- Comments: where the code finds the end of one.
-use Rattle.std.proofs.Common.{◌≡◌, ℕ, zero, suc, ◌+◌, ◌-◌, ◌<◌, ◌≤◌, Bool, true, false, nat_eq, cond, not, List, [], ◌∷◌, ◌++◌, length, take, drop, ◌⊎◌, inl, inr, Option, Some, None, refl, sym, ap, subst, ◌∙◌, arith, codes}
-use Rattle.std.specs.List.{starts_with, take_while}
-use Rattle.std.proofs.lemmas.List.{length-take-le, length-drop}
+use Rattle.std.proofs.Common.{◌≡◌, ℕ, zero, suc, ◌+◌, ◌≤◌, Bool, true, false, nat_eq, cond, List, [], ◌∷◌, length, take, drop, inl, inr, Some, refl, sym, ap, subst, ◌∙◌, arith, codes}
+use Rattle.std.specs.List.{starts_with}
+use Rattle.std.proofs.lemmas.List.{length-take-le}
 use Rattle.forec_tree.specs.Lexis.{Each, EndsOr, is_line_end, IsToClose, IsComment, block, line}
 use Rattle.forec_lexer.specs.Reading.{close_from, is_in_line}
-use Rattle.forec_lexer.proofs.Runs.{run_is}
 use Rattle.forec_lexer.proofs.Tables.{begins_true, begins_false, starts}
 
 -- ---- `*/`

@@ -1,5 +1,5 @@
 -- Each reserved word and each mark: its first byte, its place in the table, and that its spelling gives it back.
-use Rattle.std.proofs.Common.{◌≡◌, ℕ, Bool, true, false, List, [], ◌∷◌, length, Some, refl, inl, inr, arith}
+use Rattle.std.proofs.Common.{◌≡◌, ℕ, true, false, List, [], ◌∷◌, length, Some, refl, inl, inr, arith}
 use Rattle.forec_tree.specs.declared.token.Word.{Word}
 use Rattle.forec_tree.specs.declared.token.Word.TheVariants as reserved
 use Rattle.forec_tree.specs.declared.token.Mark.{Mark}

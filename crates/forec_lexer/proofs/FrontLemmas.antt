@@ -14,10 +14,10 @@ use Rattle.forec_tree.specs.Lexis.{is_space, is_letter, is_digit, goes_on, is_li
 use Rattle.forec_lexer.specs.declared.pieces.Piece.{Piece}
 use Rattle.forec_lexer.specs.declared.pieces.Piece.TheVariants as piece
 use Rattle.forec_lexer.specs.Reading.{shown, IsText, words, word_in, marks, mark_ahead, number_of, close_from, is_in_line, run, word_or_name, letters_ahead, number_ahead, sign_ahead, front}
-use Rattle.forec_lexer.proofs.Runs.{run_within, run_front, run_each, run_longest, run_ends, run_is, each_by}
+use Rattle.forec_lexer.proofs.Runs.{run_within, run_front, run_each, run_longest, run_ends, run_is}
 use Rattle.forec_lexer.proofs.NumberLemmas.{number_sound, number_complete, number_goes_on, number_first, number_some}
 use Rattle.forec_lexer.proofs.CommentLemmas.{Closed, close_found, close_there, Comment, is_block, is_line, comment_opens, comment_some, comment_long, comment_is}
-use Rattle.forec_lexer.proofs.Tables.{Begins, begins_true, begins_false, Among, mark_found, mark_none, word_found, word_none}
+use Rattle.forec_lexer.proofs.Tables.{Begins, begins_true, begins_false, mark_found, mark_none, word_found, word_none}
 use Rattle.forec_lexer.proofs.EachSpelling.{word_first, word_some, word_goes_on, word_among, NoRun, mark_first, mark_some, mark_among, marks_sorted}
 
 -- ---- the first byte tells the sort of a piece
@@ -344,7 +344,7 @@ reads_sign b (c ∷ cs) sort = by_line (starts_with nat_eq (b ∷ c ∷ cs) (cod
 
     by_line : (t : Bool) → starts_with nat_eq (b ∷ c ∷ cs) (codes "//") ≡ t
         → Reads (b ∷ c ∷ cs) (cond t (Some (piece.Blank, 2 + length (take_while is_in_line cs)))
-            (cond (starts_with nat_eq (b ∷ c ∷ cs) (codes "/*")) (option_map (λ n. (piece.Blank, 2 + n)) (close_from 0 cs)) (option_map (λ r. (piece.Mark r.0, r.1)) (mark_ahead marks (b ∷ c ∷ cs)))))
+        (cond (starts_with nat_eq (b ∷ c ∷ cs) (codes "/*")) (option_map (λ n. (piece.Blank, 2 + n)) (close_from 0 cs)) (option_map (λ r. (piece.Mark r.0, r.1)) (mark_ahead marks (b ∷ c ∷ cs)))))
     by_line true e =
         let s = begins_true (b ∷ c ∷ cs) (codes "//") e in
         let p = two_slashes b c 47 47 cs s in

@@ -8,3 +8,4 @@ pub mod FrontLemmas
 pub mod OneWay
 pub mod NameLemmas
 pub mod Whole
+pub mod Exact

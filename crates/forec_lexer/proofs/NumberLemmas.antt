@@ -1,8 +1,8 @@
 -- What is read as a number is one, and each number is read.
-use Rattle.std.proofs.Common.{◌≡◌, ◌≢◌, ℕ, zero, suc, ◌+◌, ◌*◌, ◌-◌, ◌<◌, ◌≤◌, Bool, true, false, nat_eq, nat_le, nat_lt, cond, ◌||◌, ◌==◌, ◌⊎◌, inl, inr, List, [], ◌∷◌, ◌++◌, length, Option, Some, None, refl, sym, ap, subst, ◌∙◌, arith, codes}
+use Rattle.std.proofs.Common.{◌≡◌, ℕ, ◌+◌, ◌*◌, ◌≤◌, Bool, true, false, nat_le, cond, ◌||◌, ◌==◌, ◌⊎◌, inl, inr, List, [], ◌∷◌, ◌++◌, Option, Some, None, refl, sym, ap, subst, ◌∙◌, arith, codes}
 use Rattle.std.specs.List.{fold}
 use Rattle.std.proofs.lemmas.Bool.Decides.{nat_tests}
-use Rattle.forec_tree.specs.Lexis.{is_digit, is_letter, goes_on, digit_of, is_digit_in, value_in, Each, IsNumber, decimal, octal, hexadecimal}
+use Rattle.forec_tree.specs.Lexis.{is_digit, goes_on, digit_of, is_digit_in, value_in, Each, IsNumber, decimal, octal, hexadecimal}
 use Rattle.forec_lexer.specs.Reading.{value_from, number_of, behind_zero}
 use Rattle.forec_lexer.specs.Reading as reading
 use Rattle.forec_lexer.proofs.Runs.{each_by}

@@ -1,5 +1,5 @@
 -- A text is lexed in one way.
-use Rattle.std.proofs.Common.{◌≡◌, ℕ, zero, suc, ◌+◌, ◌<◌, ◌≤◌, true, false, ◌⊎◌, inl, inr, List, [], ◌∷◌, ◌++◌, length, take, drop, ℤ, Option, Some, None, refl, sym, subst, ◌∙◌, ap, arith, append_assoc, append-nil, length-append, get_or}
+use Rattle.std.proofs.Common.{◌≡◌, ℕ, zero, ◌+◌, ◌≤◌, true, ◌⊎◌, inl, inr, List, [], ◌∷◌, ◌++◌, length, take, drop, ℤ, Option, Some, None, refl, sym, subst, ◌∙◌, ap, arith, append_assoc, append-nil, length-append, get_or}
 use Rattle.std.specs.Int.{w32, cast_signed}
 use Rattle.std.proofs.lemmas.Bool.Decides.{nat_tests}
 use Rattle.forec_base.specs.declared.Place.{Place}
@@ -7,11 +7,10 @@ use Rattle.forec_tree.specs.declared.token.Word.{Word}
 use Rattle.forec_tree.specs.declared.token.Mark.{Mark}
 use Rattle.forec_tree.specs.declared.token.Token.{Token}
 use Rattle.forec_tree.specs.declared.token.TokenKind.{TokenKind}
-use Rattle.forec_tree.specs.Lexis.{is_space, is_letter, is_digit, letters_of, spelling, IsComment, block, line, IsInt, OpensComment, Piece, blank, name, number, word, mark, Fits, FitsAhead, Next, NothingFits}
+use Rattle.forec_tree.specs.Lexis.{is_space, is_letter, is_digit, spelling, IsComment, block, line, IsInt, OpensComment, Piece, blank, name, number, word, mark, Fits, Next, NothingFits}
 use Rattle.forec_tree.specs.LexedText.{kind_of, names_after, token_at, place_at, slice, Cuts, begins, skips, takes, Lexes, IsLexed, IsBad, IsMany}
-use Rattle.forec_lexer.specs.Reading.{words, word_in, marks, mark_ahead, number_of}
+use Rattle.forec_lexer.specs.Reading.{words, word_in, marks, mark_ahead}
 use Rattle.forec_lexer.proofs.NumberLemmas.{number_complete}
-use Rattle.forec_lexer.proofs.CommentLemmas.{comment_some}
 use Rattle.forec_lexer.proofs.EachSpelling.{NoRun, word_back, mark_back}
 use Rattle.forec_lexer.proofs.FrontLemmas.{First, first, some_byte, letter_no_space, digit_no_space, digit_no_letter}
 

@@ -1,11 +1,9 @@
 -- One turn of the loops over digits, over a comment and over the bytes of a piece.
-use Rattle.std.proofs.Common.{◌≡◌, ℕ, suc, ◌+◌, ◌*◌, ◌<◌, ◌≤◌, Bool, true, false, nat_eq, nat_le, nat_lt, cond, List, [], ◌∷◌, length, drop, get_or, Option, Some, None, refl, sym, ap, ◌∙◌, add-one, drop-cons, arith, codes}
-use Rattle.std.specs.List.{starts_with, fold}
+use Rattle.std.proofs.Common.{◌≡◌, ℕ, suc, ◌+◌, ◌*◌, ◌<◌, ◌≤◌, Bool, true, false, nat_eq, nat_le, List, ◌∷◌, length, drop, get_or, Some, None, add-one, drop-cons, arith, codes}
+use Rattle.std.specs.List.{starts_with}
 use Rattle.std.proofs.lemmas.List.{drop_all}
 use Rattle.std.proofs.lemmas.Bool.Decides.{nat_tests}
-use Rattle.forec_base.specs.declared.Place.{Place}
 use Rattle.forec_tree.specs.Lexis.{digit_of, is_digit_in}
-use Rattle.forec_tree.specs.LexedText.{place_after}
 use Rattle.forec_lexer.specs.Reading.{close_from, value_from}
 
 abbrev closes : List ℕ → Bool

@@ -1,5 +1,5 @@
 -- One turn of the loop over a text, its exits, and what the names of a front are.
-use Rattle.std.proofs.Common.{◌≡◌, ℕ, zero, suc, ◌+◌, ◌-◌, ◌<◌, ◌≤◌, Bool, true, false, cond, ◌⊎◌, inl, inr, List, [], ◌∷◌, ◌++◌, length, take, drop, ℤ, Option, Some, None, refl, sym, subst, ◌∙◌, ap, arith, length-append}
+use Rattle.std.proofs.Common.{◌≡◌, ℕ, zero, suc, ◌+◌, ◌-◌, ◌<◌, ◌≤◌, Bool, true, false, cond, List, [], ◌∷◌, ◌++◌, length, take, drop, Option, Some, None, refl, sym, subst, ◌∙◌, ap, arith, length-append}
 use Rattle.std.specs.List.{fold, slice_get, All}
 use Rattle.std.proofs.Math.Seq.{take-add}
 use Rattle.std.proofs.Math.ListN.{drop_of_length-le}
@@ -11,11 +11,10 @@ use Rattle.forec_tree.specs.declared.token.Token.{Token}
 use Rattle.forec_tree.specs.declared.token.TokenKind.{TokenKind}
 use Rattle.forec_tree.specs.declared.token.TokenKind.TheVariants as kind
 use Rattle.forec_tree.specs.Lexis.{Piece, blank, name, number, word, mark, is_line_end, Next, NothingFits}
-use Rattle.forec_tree.specs.LexedText.{place_after, first_place, place_at, number_of, with_name, kind_of, names_after, token_at, slice, Cuts, begins, skips, takes, Lexes, IsLexed, IsBad, IsMany, AreDistinct, IsSpelt}
+use Rattle.forec_tree.specs.LexedText.{place_after, first_place, place_at, number_of, with_name, kind_of, names_after, token_at, slice, Cuts, begins, skips, takes, IsLexed, IsBad, AreDistinct, IsSpelt}
 use Rattle.forec_lexer.specs.declared.fault.LexFault.{LexFault}
 use Rattle.forec_lexer.specs.declared.fault.LexFault.TheVariants as fault
 use Rattle.forec_lexer.specs.Answers.{kept, IsFull, HasCause}
-use Rattle.forec_lexer.specs.Reading.{front}
 use Rattle.forec_lexer.proofs.FrontLemmas.{some_byte}
 use Rattle.forec_lexer.proofs.NameLemmas.{spelt_there, name_kept, names_more, with_distinct}
 
@@ -50,6 +49,12 @@ place_within text at le =
     record { line = omega (arith, r.line, n); column = omega (arith, r.column, n) }
 
 -- ---- a turn
+
+pub start : (text : List ℕ) (tokens : List Token) (names : List (List ℕ)) → tokens ≡ [] → names ≡ [] → Cuts text tokens names 0
+start text tokens names t n =
+    let P : List Token → Type 0 = λ z. Cuts text z [] 0 in
+    let Q : List (List ℕ) → Type 0 = λ z. Cuts text tokens z 0 in
+    subst Q (sym n) (subst P (sym t) begins)
 
 blank_only : (names : List (List ℕ)) (p : Piece) (bytes : List ℕ) → None ≡ kind_of names p bytes → p ≡ blank
 blank_only names blank bytes h = refl
@@ -160,6 +165,6 @@ named {text} (takes {tokens} {names} {at} p n k c x h) =
       distinct = names_distinct names p (slice text at n) r.distinct;
       spelt =
           All-push (IsSpelt text (names_after names p (slice text at n))) tokens (token_at text at n k)
-            (All-weaker (IsSpelt text names) (IsSpelt text (names_after names p (slice text at n))) (λ t s i e. names_kept names p (slice text at n) i (slice text t.start (t.end - t.start)) (s i e)) tokens r.spelt)
-            (token_spelt text names p at n k h);
+          (All-weaker (IsSpelt text names) (IsSpelt text (names_after names p (slice text at n))) (λ t s i e. names_kept names p (slice text at n) i (slice text t.start (t.end - t.start)) (s i e)) tokens r.spelt)
+          (token_spelt text names p at n k h);
     }

@@ -18,11 +18,11 @@ returns-clause-number c =
 pub returns-clause-after : goal.returns-clause-after
 returns-clause-after c = elim c.if-is_new.branch [
   | then-is_new+in_ok-push w ↦
-    let new = not_true (list_any (same c.in-Ok.name) c.args.self.now.set.keys) c.in-Ok-insert_full.is_new c.in-Ok-insert_full.ensures.added w.if-is_new.true in
-    ap (λ (n : Names). n.labels) w.self-is ∙ w.in_ok-push.ensures.ok ∙ after_new c.args.self.now.set.keys c.in-Ok.name c.args.self.now.labels c.requires.same new
-    ∙ ap (with_name c.args.self.now.labels) c.in-Ok.ensures.cases.0
+      let new = not_true (list_any (same c.in-Ok.name) c.args.self.now.set.keys) c.in-Ok-insert_full.is_new c.in-Ok-insert_full.ensures.added w.if-is_new.true in
+      ap (λ (n : Names). n.labels) w.self-is ∙ w.in_ok-push.ensures.ok ∙ after_new c.args.self.now.set.keys c.in-Ok.name c.args.self.now.labels c.requires.same new
+      ∙ ap (with_name c.args.self.now.labels) c.in-Ok.ensures.cases.0
   | else-is_new w ↦
-    let old = not_false (list_any (same c.in-Ok.name) c.args.self.now.set.keys) c.in-Ok-insert_full.is_new c.in-Ok-insert_full.ensures.added w.if-is_new.false in
-    ap (λ (n : Names). n.labels) w.self-is ∙ after_old c.args.self.now.set.keys c.in-Ok.name c.args.self.now.labels c.requires.same old
-    ∙ ap (with_name c.args.self.now.labels) c.in-Ok.ensures.cases.0
+      let old = not_false (list_any (same c.in-Ok.name) c.args.self.now.set.keys) c.in-Ok-insert_full.is_new c.in-Ok-insert_full.ensures.added w.if-is_new.false in
+      ap (λ (n : Names). n.labels) w.self-is ∙ after_old c.args.self.now.set.keys c.in-Ok.name c.args.self.now.labels c.requires.same old
+      ∙ ap (with_name c.args.self.now.labels) c.in-Ok.ensures.cases.0
 ]
