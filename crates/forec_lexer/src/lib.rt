@@ -9,6 +9,8 @@ mod marks;
 mod names;
 mod numbers;
 mod pieces;
+#[cfg(test)]
+mod tests;
 mod text;
 mod words;
 
