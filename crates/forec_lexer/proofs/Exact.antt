@@ -4,13 +4,13 @@ use Rattle.std.specs.Prelude.{IsOkAnd}
 use Rattle.std.specs.List.{All}
 use Rattle.forec_base.specs.declared.Place.{Place}
 use Rattle.forec_tree.specs.declared.token.Token.{Token}
-use Rattle.forec_tree.specs.LexedText.{IsLexed, IsBad, IsMany, AreDistinct, IsSpelt}
+use Rattle.forec_tree.specs.LexedText.{IsLexed, IsBad, IsMany, AreDistinct, IsSpelt, NumbersSpellings, AreInOrder}
 use Rattle.forec_lexer.specs.declared.fault.LexFault.{LexFault}
 use Rattle.forec_lexer.specs.declared.fault.LexFault.TheVariants as fault
 use Rattle.forec_lexer.specs.declared.text.Lexed.{Lexed}
 use Rattle.forec_lexer.specs.Answers.{HasCause}
 use Rattle.forec_lexer.proofs.OneWay.{one_lexed, lexed_not_bad, lexed_not_many, bad_not_many, one_bad, one_many}
-use Rattle.forec_lexer.proofs.Whole.{named}
+use Rattle.forec_lexer.proofs.Whole.{named, in_order, numbers_spellings}
 
 abbrev Answer : Type 0
 Answer = Result Lexed LexFault
@@ -51,3 +51,11 @@ module _ (text : List ℕ) where
   pub names_distinct : (r : Result Lexed LexFault) → IfOk r (λ l. IsLexed text l.tokens.items l.names) → IfOk r (λ l. AreDistinct l.names)
   names_distinct (Ok l) ok = (named ok.lexes.cuts).distinct
   names_distinct (Err f) ok = tt
+
+  pub tokens_in_order : (r : Result Lexed LexFault) → IfOk r (λ l. IsLexed text l.tokens.items l.names) → IfOk r (λ l. AreInOrder 0 l.tokens.items (length text))
+  tokens_in_order (Ok l) ok = in_order ok.lexes.cuts
+  tokens_in_order (Err f) ok = tt
+
+  pub names_numbered : (r : Result Lexed LexFault) → IfOk r (λ l. IsLexed text l.tokens.items l.names) → IfOk r (λ l. NumbersSpellings text l.tokens.items)
+  names_numbered (Ok l) ok = numbers_spellings text l.tokens.items l.names (named ok.lexes.cuts)
+  names_numbered (Err f) ok = tt

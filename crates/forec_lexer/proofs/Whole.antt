@@ -5,13 +5,14 @@ use Rattle.std.proofs.Math.Seq.{take-add}
 use Rattle.std.proofs.Math.ListN.{drop_of_length-le}
 use Rattle.std.proofs.lemmas.List.{length-take-le}
 use Rattle.std.proofs.lemmas.List.Sums.{fold-append}
+use Rattle.std.proofs.lemmas.Option.{slice_get_within, get_or_from_slice_get}
 use Rattle.std.proofs.lemmas.List.Elements.{All-nil, All-push, All-weaker}
 use Rattle.forec_base.specs.declared.Place.{Place}
 use Rattle.forec_tree.specs.declared.token.Token.{Token}
 use Rattle.forec_tree.specs.declared.token.TokenKind.{TokenKind}
 use Rattle.forec_tree.specs.declared.token.TokenKind.TheVariants as kind
 use Rattle.forec_tree.specs.Lexis.{Piece, blank, name, number, word, mark, is_line_end, Next, NothingFits}
-use Rattle.forec_tree.specs.LexedText.{place_after, first_place, place_at, number_of, with_name, kind_of, names_after, token_at, slice, Cuts, begins, skips, takes, IsLexed, IsBad, AreDistinct, IsSpelt}
+use Rattle.forec_tree.specs.LexedText.{place_after, first_place, place_at, number_of, with_name, kind_of, names_after, token_at, slice, Cuts, begins, skips, takes, IsLexed, IsBad, AreDistinct, IsSpelt, NumbersSpellings, AreInOrder, bytes_of}
 use Rattle.forec_lexer.specs.declared.fault.LexFault.{LexFault}
 use Rattle.forec_lexer.specs.declared.fault.LexFault.TheVariants as fault
 use Rattle.forec_lexer.specs.Answers.{kept, IsFull, HasCause}
@@ -168,3 +169,45 @@ named {text} (takes {tokens} {names} {at} p n k c x h) =
           (All-weaker (IsSpelt text names) (IsSpelt text (names_after names p (slice text at n))) (λ t s i e. names_kept names p (slice text at n) i (slice text t.start (t.end - t.start)) (s i e)) tokens r.spelt)
           (token_spelt text names p at n k h);
     }
+
+-- ---- the tokens of a front
+
+order_push : (from to end : ℕ) (ts : List Token) (t : Token) → AreInOrder from ts to → to ≤ t.start → t.start < t.end → t.end ≤ end → AreInOrder from (ts ++ t ∷ []) end
+order_push from to end [] t h a b c = (omega (arith, h), b, c)
+order_push from to end (x ∷ xs) t h a b c = (h.0, h.1, order_push x.end to end xs t h.2 a b c)
+
+order_wide : (from to end : ℕ) (ts : List Token) → AreInOrder from ts to → to ≤ end → AreInOrder from ts end
+order_wide from to end [] h a = omega (arith, h)
+order_wide from to end (x ∷ xs) h a = (h.0, h.1, order_wide x.end to end xs h.2 a)
+
+some_size : (text : List ℕ) (p : Piece) (n : ℕ) → Next text p n → 0 < n
+some_size text p zero r = absurd (some_byte p text r.fits.fits)
+some_size text p (suc n) r = omega arith
+
+pub in_order : {text : List ℕ} {tokens : List Token} {names : List (List ℕ)} {at : ℕ} → Cuts text tokens names at → AreInOrder 0 tokens at
+in_order begins = omega arith
+in_order (skips {tokens} {at} n c x) = order_wide 0 at (at + n) tokens (in_order c) (omega arith)
+in_order {text} (takes {tokens} {at} p n k c x h) =
+    let s = some_size (drop at text) p n x in
+    order_push 0 at (at + n) tokens (token_at text at n k) (in_order c) (omega arith) (omega arith) (omega arith)
+
+all_at : (P : Token → Type 0) (ts : List Token) (a : ℕ) (t : Token) → All P ts → slice_get ts a ≡ Some t → P t
+all_at P ts a t h e = subst P (get_or_from_slice_get ts a t t e) (h a t (slice_get_within ts a t e))
+
+name_at : (names : List (List ℕ)) (i : ℕ) (x y : List ℕ) → slice_get names i ≡ Some x → slice_get names i ≡ Some y → x ≡ y
+name_at names i x y a b = let e = sym a ∙ b in cc
+
+pub numbers_spellings : (text : List ℕ) (tokens : List Token) (names : List (List ℕ)) → Named text tokens names → NumbersSpellings text tokens
+numbers_spellings text tokens names n a b i j s t sa tb si tj = (there, back)
+  where
+    first : slice_get names i ≡ Some (bytes_of text s)
+    first = all_at (IsSpelt text names) tokens a s n.spelt sa i si
+
+    second : slice_get names j ≡ Some (bytes_of text t)
+    second = all_at (IsSpelt text names) tokens b t n.spelt tb j tj
+
+    there : i ≡ j → bytes_of text s ≡ bytes_of text t
+    there e = name_at names j (bytes_of text s) (bytes_of text t) (ap (slice_get names) (sym e) ∙ first) second
+
+    back : bytes_of text s ≡ bytes_of text t → i ≡ j
+    back e = n.distinct i j (bytes_of text t) (first ∙ ap (λ z. Some z) e) second

@@ -59,9 +59,8 @@ fn kinds(alloc: Global, text: &str) -> Result<Vec<TokenKind>, Fail>
 #[test]
 fn refuses_at_the_place(rt: HostRuntime) -> Result<(), Fail> {
     for (text, line, column) in BAD {
-        if text.len() <= 1000 {
-            assert_eq!(rt; bad_place(rt.alloc(), text), Some((line, column)), "{text}");
-        }
+        assert!(rt; text.len() <= 1000);
+        assert_eq!(rt; bad_place(rt.alloc(), text), Some((line, column)), "{text}");
     }
     Ok(())
 }
@@ -69,11 +68,10 @@ fn refuses_at_the_place(rt: HostRuntime) -> Result<(), Fail> {
 #[test]
 fn reads_numbers(rt: HostRuntime) -> Result<(), Fail> {
     for (text, value) in NUMBERS {
-        if text.len() <= 1000 {
-            let kinds = kinds(rt.alloc(), text)?;
-            assert_eq!(rt; kinds.len(), 1, "{text}");
-            assert_eq!(rt; kinds[0], TokenKind::Number { value }, "{text}");
-        }
+        assert!(rt; text.len() <= 1000);
+        let kinds = kinds(rt.alloc(), text)?;
+        assert_eq!(rt; kinds.len(), 1, "{text}");
+        assert_eq!(rt; kinds[0], TokenKind::Number { value }, "{text}");
     }
     Ok(())
 }

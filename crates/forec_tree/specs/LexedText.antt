@@ -1,5 +1,5 @@
 -- The tokens and the names of a whole text.
-use Rattle.std.specs.Prelude.{◌≡◌, ℕ, suc, zero, ◌+◌, ◌-◌, ◌≤◌, ◌<◌, if◌then◌else◌, Option, Some, None, List, [], ◌∷◌, ◌++◌, length, take, drop, fold, slice_get}
+use Rattle.std.specs.Prelude.{◌≡◌, ◌↔◌, ℕ, suc, zero, ◌+◌, ◌-◌, ◌≤◌, ◌<◌, if◌then◌else◌, Option, Some, None, List, [], ◌∷◌, ◌++◌, length, take, drop, fold, slice_get}
 use Rattle.std.specs.Str.{bytes_eq}
 use Rattle.forec_base.specs.declared.Place.{Place}
 use Rattle.forec_tree.specs.declared.token.Token.{Token}
@@ -106,6 +106,21 @@ pub record IsMany (text : List ℕ) (place : Place) : Type 0 where
 abbrev pub AreDistinct : List (List ℕ) → Type 0
 AreDistinct names = (i j : ℕ) (spelt : List ℕ) → slice_get names i ≡ Some spelt → slice_get names j ≡ Some spelt → i ≡ j
 
+-- the bytes of a token
+abbrev pub bytes_of : List ℕ → Token → List ℕ
+bytes_of text token = slice text token.start (token.end - token.start)
+
 -- a name's number is that of its spelling
 abbrev pub IsSpelt : List ℕ → List (List ℕ) → Token → Type 0
-IsSpelt text names token = (i : ℕ) → token.kind ≡ kind.Name i → slice_get names i ≡ Some (slice text token.start (token.end - token.start))
+IsSpelt text names token = (i : ℕ) → token.kind ≡ kind.Name i → slice_get names i ≡ Some (bytes_of text token)
+
+-- two name tokens have one number exactly where their spelling is equal
+abbrev pub NumbersSpellings : List ℕ → List Token → Type 0
+NumbersSpellings text tokens =
+    (a b i j : ℕ) (s t : Token) → slice_get tokens a ≡ Some s → slice_get tokens b ≡ Some t → s.kind ≡ kind.Name i → t.kind ≡ kind.Name j
+    → (i ≡ j) ↔ (bytes_of text s ≡ bytes_of text t)
+
+-- the tokens stand one behind the other, from one byte of the text up to another, and none is empty
+abbrev pub AreInOrder : ℕ → List Token → ℕ → Type 0
+AreInOrder from [] to = from ≤ to
+AreInOrder from (t ∷ ts) to = (from ≤ t.start) × (t.start < t.end) × AreInOrder t.end ts to

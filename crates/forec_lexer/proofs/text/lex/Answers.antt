@@ -1,4 +1,4 @@
-use Rattle.forec_lexer.proofs.Exact.{only_lexed, only_bad, only_many, names_spelt, names_few, names_distinct}
+use Rattle.forec_lexer.proofs.Exact.{only_lexed, only_bad, only_many, names_spelt, names_few, names_distinct, tokens_in_order, names_numbered}
 use Rattle.forec_lexer.proofs.text.lex.Goals as goal
 
 pub returns-clause-lexed : goal.returns-clause-lexed
@@ -18,3 +18,9 @@ returns-clause-few c = names_few c.args.text.now c.lexed_text.result c.lexed_tex
 
 pub returns-clause-distinct : goal.returns-clause-distinct
 returns-clause-distinct c = names_distinct c.args.text.now c.lexed_text.result c.lexed_text.ensures.ok
+
+pub returns-clause-order : goal.returns-clause-order
+returns-clause-order c = tokens_in_order c.args.text.now c.lexed_text.result c.lexed_text.ensures.ok
+
+pub returns-clause-numbers : goal.returns-clause-numbers
+returns-clause-numbers c = names_numbered c.args.text.now c.lexed_text.result c.lexed_text.ensures.ok
