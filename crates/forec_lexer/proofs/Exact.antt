@@ -2,9 +2,11 @@
 use Rattle.std.proofs.Common.{◌≡◌, ◌≢◌, ℕ, ◌≤◌, List, length, Result, Ok, Err, IfOk, IfErr, refl, ap}
 use Rattle.std.specs.Prelude.{IsOkAnd}
 use Rattle.std.specs.List.{All}
+use Rattle.std.proofs.lemmas.List.Elements.{All-weaker}
+use Rattle.std.proofs.lemmas.Option.{slice_get_within}
 use Rattle.forec_base.specs.declared.Place.{Place}
 use Rattle.forec_tree.specs.declared.token.Token.{Token}
-use Rattle.forec_tree.specs.LexedText.{IsLexed, IsBad, IsMany, AreDistinct, IsSpelt, NumbersSpellings, AreInOrder}
+use Rattle.forec_tree.specs.LexedText.{IsLexed, IsBad, IsMany, AreDistinct, IsSpelt, IsNumbered, NumbersSpellings, AreInOrder, bytes_of}
 use Rattle.forec_lexer.specs.declared.fault.LexFault.{LexFault}
 use Rattle.forec_lexer.specs.declared.fault.LexFault.TheVariants as fault
 use Rattle.forec_lexer.specs.declared.text.Lexed.{Lexed}
@@ -59,3 +61,8 @@ module _ (text : List ℕ) where
   pub names_numbered : (r : Result Lexed LexFault) → IfOk r (λ l. IsLexed text l.tokens.items l.names) → IfOk r (λ l. NumbersSpellings text l.tokens.items)
   names_numbered (Ok l) ok = numbers_spellings text l.tokens.items l.names (named ok.lexes.cuts)
   names_numbered (Err f) ok = tt
+
+  pub ids_small : (r : Result Lexed LexFault) → IfOk r (λ l. IsLexed text l.tokens.items l.names) → IfOk r (λ l. All (IsNumbered l.names) l.tokens.items)
+  ids_small (Ok l) ok =
+      All-weaker (IsSpelt text l.names) (IsNumbered l.names) (λ t s i e. slice_get_within l.names i (bytes_of text t) (s i e)) l.tokens.items (named ok.lexes.cuts).spelt
+  ids_small (Err f) ok = tt

@@ -3,7 +3,7 @@ ghost use Rattle.std.specs.Prelude.{◌≡◌, ◌≢◌, ◌≤◌, ◌<◌, �
 ghost use Rattle.forec_base.specs.declared.Place.{Place};
 ghost use Rattle.forec_tree.specs.declared.token.Token.{Token};
 ghost use Rattle.forec_tree.specs.LexedText as lexed;
-ghost use Rattle.forec_tree.specs.LexedText.{place_after, IsLexed, IsBad, IsMany, AreDistinct, IsSpelt, NumbersSpellings, AreInOrder};
+ghost use Rattle.forec_tree.specs.LexedText.{place_after, IsLexed, IsBad, IsMany, AreDistinct, IsSpelt, IsNumbered, NumbersSpellings, AreInOrder};
 ghost use Rattle.forec_lexer.specs.Reading.{shown, IsText};
 ghost use Rattle.forec_lexer.specs.Answers.{kept, IsFull, HasCause};
 ghost use Rattle.forec_lexer.specs.Shown.{IsSame};
@@ -145,6 +145,7 @@ pub fn lex(alloc: Global, text: &[u8]) -> Result<Lexed, LexFault>
     ensures order { IfOk result (λ l. AreInOrder 0 l.tokens.items (length text.now)) }
     ensures numbers { IfOk result (λ l. NumbersSpellings text.now l.tokens.items) }
     ensures spelt { IfOk result (λ l. All (IsSpelt text.now l.names) l.tokens.items) }
+    ensures ids { IfOk result (λ l. All (IsNumbered l.names) l.tokens.items) }
     ensures few { IfOk result (λ l. length l.names ≤ length l.tokens.items) }
     ensures distinct { IfOk result (λ l. AreDistinct l.names) }
 {

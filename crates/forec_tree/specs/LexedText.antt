@@ -114,6 +114,10 @@ bytes_of text token = slice text token.start (token.end - token.start)
 abbrev pub IsSpelt : List ℕ → List (List ℕ) → Token → Type 0
 IsSpelt text names token = (i : ℕ) → token.kind ≡ kind.Name i → slice_get names i ≡ Some (bytes_of text token)
 
+-- a name's number is one of the names
+abbrev pub IsNumbered : List (List ℕ) → Token → Type 0
+IsNumbered names token = (i : ℕ) → token.kind ≡ kind.Name i → i < length names
+
 -- two name tokens have one number exactly where their spelling is equal
 abbrev pub NumbersSpellings : List ℕ → List Token → Type 0
 NumbersSpellings text tokens =

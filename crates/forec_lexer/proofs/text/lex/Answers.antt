@@ -1,4 +1,4 @@
-use Rattle.forec_lexer.proofs.Exact.{only_lexed, only_bad, only_many, names_spelt, names_few, names_distinct, tokens_in_order, names_numbered}
+use Rattle.forec_lexer.proofs.Exact.{only_lexed, only_bad, only_many, names_spelt, names_few, names_distinct, ids_small, tokens_in_order, names_numbered}
 use Rattle.forec_lexer.proofs.text.lex.Goals as goal
 
 pub returns-clause-lexed : goal.returns-clause-lexed
@@ -24,3 +24,6 @@ returns-clause-order c = tokens_in_order c.args.text.now c.lexed_text.result c.l
 
 pub returns-clause-numbers : goal.returns-clause-numbers
 returns-clause-numbers c = names_numbered c.args.text.now c.lexed_text.result c.lexed_text.ensures.ok
+
+pub returns-clause-ids : goal.returns-clause-ids
+returns-clause-ids c = ids_small c.args.text.now c.lexed_text.result c.lexed_text.ensures.ok
