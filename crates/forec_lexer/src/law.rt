@@ -5,5 +5,6 @@ ghost use Rattle.forec_tree.specs.LexedText.{Lexes};
 
 /// A text is lexed in one way: its tokens, its names and the end of its lexed front are determined.
 pub fn one_lexing()
-    ensures { (text : List ℕ) (ts us : List Token) (ns ms : List (List ℕ)) (a b : ℕ) → Lexes text ts ns a → Lexes text us ms b → (ts ≡ us) × (ns ≡ ms) × (a ≡ b) }
+    ensures { (text : List ℕ) (ts us : List Token) (ns ms : List (List ℕ)) (a b : ℕ)
+        → Lexes text ts ns a → Lexes text us ms b → (ts ≡ us) × (ns ≡ ms) × (a ≡ b) }
 {}

@@ -12,7 +12,7 @@ pub struct Names<'a> {
 }
 
 impl<'a> Names<'a> {
-    ghost use Rattle.std.specs.Prelude.{◌≡◌, ◌<◌, ◌^◌, ◌-◌, [], length, IfOk};
+    ghost use Rattle.std.specs.Prelude.{◌≡◌, ◌<◌, ◌^◌, ◌-◌, [], length, IfOk, OnOk};
     ghost use Rattle.std.specs.Str.{IsAscii};
     ghost use Rattle.forec_tree.specs.LexedText.{number_of, with_name};
     ghost use Rattle.forec_lexer.specs.Shown.{IsSame};
@@ -33,8 +33,9 @@ impl<'a> Names<'a> {
         requires same { IsSame self.old }
         requires few { length self.old.labels < 2 ^ 32 - 1 }
         ensures number { IfOk result (λ id. id ≡ number_of self.old.labels name.entry.now) }
-        ensures after { IfOk result (λ _. self.new.labels ≡ with_name self.old.labels name.entry.now) }
-        ensures same { IfOk result (λ _. IsSame self.new) }
+        ensures after { OnOk result
+            (self.new.labels ≡ with_name self.old.labels name.entry.now) }
+        ensures same { OnOk result (IsSame self.new) }
     {
         let Ok(name) = str::from_utf8(name) else {
             unreachable!()

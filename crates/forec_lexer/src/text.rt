@@ -52,8 +52,10 @@ fn kind_of<'a>(
     requires text { IsText piece bytes.now }
     requires same { IsSame names.old }
     requires few { length names.old.labels < 4294967295 }
-    ensures kind { IfOk result (λ kind. kind ≡ lexed.kind_of names.old.labels (shown piece) bytes.entry.now) }
-    ensures after { OnOk result (names.new.labels ≡ lexed.names_after names.old.labels (shown piece) bytes.entry.now) }
+    ensures kind { IfOk result
+        (λ kind. kind ≡ lexed.kind_of names.old.labels (shown piece) bytes.entry.now) }
+    ensures after { OnOk result
+        (names.new.labels ≡ lexed.names_after names.old.labels (shown piece) bytes.entry.now) }
     ensures same { OnOk result (IsSame names.new) }
 {
     match piece {
@@ -137,9 +139,15 @@ pub fn lex(alloc: Global, text: &[u8]) -> Result<Lexed, LexFault>
     ensures err { IfErr result (HasCause text.now) }
 
     // Each answer but want of memory comes wherever its cause is.
-    ensures lexed { (tokens : List Token) (names : List (List ℕ)) → IsLexed text.now tokens names → result ≢ Err LexFault.OutOfMemory → IsOkAnd result (λ l. (l.tokens.items ≡ tokens) × (l.names ≡ names)) }
-    ensures bad { (place : Place) → IsBad text.now place → result ≢ Err LexFault.OutOfMemory → result ≡ Err (LexFault.Bad place) }
-    ensures many { (place : Place) → IsMany text.now place → result ≢ Err LexFault.OutOfMemory → result ≡ Err (LexFault.Many place) }
+    ensures lexed { (tokens : List Token) (names : List (List ℕ)) → IsLexed text.now tokens names
+        → result ≢ Err LexFault.OutOfMemory
+        → IsOkAnd result (λ l. (l.tokens.items ≡ tokens) × (l.names ≡ names)) }
+    ensures bad { (place : Place) → IsBad text.now place
+        → result ≢ Err LexFault.OutOfMemory
+        → result ≡ Err (LexFault.Bad place) }
+    ensures many { (place : Place) → IsMany text.now place
+        → result ≢ Err LexFault.OutOfMemory
+        → result ≡ Err (LexFault.Many place) }
 
     // What the parts above rely on.
     ensures order { IfOk result (λ l. AreInOrder 0 l.tokens.items (length text.now)) }
