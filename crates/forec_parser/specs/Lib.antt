@@ -1,0 +1,4 @@
+pub mod Input
+pub mod Meaning
+pub mod Reading
+pub mod Cursor
