@@ -1,2 +1,6 @@
 pub mod Turns
 pub mod Lists
+pub mod Spans
+pub mod Exact
+pub mod Closers
+pub mod Leaves
