@@ -58,6 +58,30 @@ Any k = Unit {0}
 
 -- ---- putting together
 
+-- a part behind another one
+pub then_read : {limit : ℕ} {A B : Type 0} {P : Lang A} {Q : A → Lang B} {x : A} {y : B} {i j k : Input} → Read limit P x i j → Read limit (Q x) y j k → Read limit (Bind P Q) y i k
+then_read {limit} {A} {B} {P} {Q} {x} {y} {i} {j} {k} m n =
+    let e : kind_ahead j.rest ≡ first n.spelt (kind_ahead k.rest) = ap kind_ahead n.front ∙ first-is n.spelt k.rest in
+    let R : Option TokenKind → Type 0 = λ z. P i.level x j.level m.spelt z in
+    record {
+      spelt = m.spelt ++ n.spelt;
+      front = m.front ∙ ap (λ z. tokens m.spelt ++ z) n.front ∙ sym (tokens_append m.spelt n.spelt k.rest);
+      spells = both (subst R e m.spells) n.spells;
+      within = within_join limit m.spelt n.spelt m.within n.within;
+      small = n.small;
+    }
+
+-- the same tokens in another language; what stands first among them is what stood ahead
+pub read_as : {limit : ℕ} {A B : Type 0} {P : Lang A} {Q : Lang B} {x : A} {y : B} {i j : Input} → Read limit P x i j
+    → ((ls : List Spelt) → first ls (kind_ahead j.rest) ≡ kind_ahead i.rest → P i.level x j.level ls (kind_ahead j.rest) → Q i.level y j.level ls (kind_ahead j.rest)) → Read limit Q y i j
+read_as {limit} {A} {B} {P} {Q} {x} {y} {i} {j} m to =
+    record { spelt = m.spelt; front = m.front; spells = to m.spelt (sym (ap kind_ahead m.front ∙ first-is m.spelt j.rest)) m.spells; within = m.within; small = m.small }
+
+-- what a rule finds, by what it is made of
+pub reads_by : {limit : ℕ} {A : Type 0} {p : Parser A} {P Q : Lang A} {v w : ℕ} {x : A} {ls : List Spelt} {k : Option TokenKind} → Exact limit p P Q → Q v x w ls k → Reading limit p v x w ls k
+reads_by {limit} {A} {p} {P} {Q} {v} {w} {x} {ls} {k} a q =
+    reading (λ rest e within. let R : Option TokenKind → Type 0 = λ z. Q v x w ls z in a.complete v w x ls rest (subst R (sym e) q) within)
+
 module _ {limit : ℕ} {A B : Type 0} {p : Parser A} {f : A → Parser B} {P P' : Lang A} {Q Q' : A → Lang B} where
   pub bind : Exact limit p P P' → ((x : A) → Exact limit (f x) (Q x) (Q' x)) → Exact limit (p >>= f) (Bind P Q) (Bind P' Q')
   bind a b = record { sound = so; complete = co }
@@ -66,16 +90,7 @@ module _ {limit : ℕ} {A B : Type 0} {p : Parser A} {f : A → Parser B} {P P' 
       so i j y small h =
           let s = step (p i) f (y, j) h in
           let m = a.sound i s.state s.value small s.was in
-          let n = (b s.value).sound s.state j y m.small s.goes in
-          let k : kind_ahead s.state.rest ≡ first n.spelt (kind_ahead j.rest) = ap kind_ahead n.front ∙ first-is n.spelt j.rest in
-          let R : Option TokenKind → Type 0 = λ z. P i.level s.value s.state.level m.spelt z in
-          record {
-            spelt = m.spelt ++ n.spelt;
-            front = m.front ∙ ap (λ z. tokens m.spelt ++ z) n.front ∙ sym (tokens_append m.spelt n.spelt j.rest);
-            spells = both (subst R k m.spells) n.spells;
-            within = within_join limit m.spelt n.spelt m.within n.within;
-            small = n.small;
-          }
+          then_read m ((b s.value).sound s.state j y m.small s.goes)
 
       co : (v w : ℕ) (y : B) (ls : List Spelt) (rest : List Token) → Bind P' Q' v y w ls (kind_ahead rest) → IsWithin limit ls → and_then (p (input (tokens ls ++ rest) v)) f ≡ Ok (y, input rest w)
       co v w y ls rest q within = of q rest refl within

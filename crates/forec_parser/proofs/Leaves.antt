@@ -113,6 +113,56 @@ opening limit f = record { sound = so; complete = λ v w t ls rest q within. of 
     of : {v w : ℕ} {t : Token} {ls : List Spelt} {k : Option TokenKind} → Up f v t w ls k → (rest : List Token) → IsWithin limit ls → enter limit f (input (tokens ls ++ rest) v) ≡ Ok (t, input rest w)
     of (up {v} {t} {k} h) rest within = enter_ok limit f t rest v within.0 h
 
+-- ---- brackets
+
+pub data Enclosed {A B : Type 0} (l r : Fixed) (f : Token → A → B) (P : Lang A) : ℕ → B → ℕ → List Spelt → Option TokenKind → Type 0 where
+  between : {v w : ℕ} {left : Token} (right : Token) {x : A} {ls : List Spelt} {k : Option TokenKind} → Is l left → P (v + 1) x w ls (Some right.kind) → Is r right
+      → Enclosed l r f P v (f left x) v (at left (v + 1) ∷ (ls ++ (at right v ∷ []))) k
+
+module _ {limit : ℕ} {A B : Type 0} {p : Parser A} {P P' : Lang A} (l r : Fixed) (f : Token → A → B) where
+  pub enclosing : Exact limit p P P' → Exact limit (reading.enclosed limit l r f p) (Enclosed l r f P) (Enclosed l r f P')
+  enclosing a = record { sound = so; complete = λ v w y ls rest q within. of q rest within }
+    where
+      finish : Token → A → Parser B
+      finish t x = λ k. and_then (close r k) (λ _ m. ok_of (f t x) m)
+
+      so : (i j : Input) (y : B) → i.level ≤ limit → reading.enclosed limit l r f p i ≡ Ok (y, j) → Read limit (Enclosed l r f P) y i j
+      so i j y small h =
+          let o = step (and_then (enter limit l i) (λ t k. and_then (p k) (finish t))) (λ x k. Ok (x, input k.rest i.level)) (y, j) h in
+          let b = step (enter limit l i) (λ t k. and_then (p k) (finish t)) (o.value, o.state) o.was in
+          let c = step (p b.state) (finish b.value) (o.value, o.state) b.goes in
+          let d = step (close r c.state) (λ _ m. ok_of (f b.value c.value) m) (o.value, o.state) c.goes in
+          let e = entered limit l i b.value b.state b.was in
+          let m = a.sound b.state c.state c.value (omega (arith, e.raised.level, e.raised.small)) c.was in
+          let g = closed r c.state d.value d.state d.was in
+          let q = ok_pair (f b.value c.value) o.value d.state o.state d.goes in
+          let z = ok_pair o.value y (input o.state.rest i.level) j o.goes in
+          let R : ℕ → Type 0 = λ n. P n c.value c.state.level m.spelt (kind_ahead c.state.rest) in
+          let S : Option TokenKind → Type 0 = λ k. P (i.level + 1) c.value c.state.level m.spelt k in
+          let inner : P (i.level + 1) c.value c.state.level m.spelt (Some d.value.kind) = subst S (ap kind_ahead g.took.front) (subst R e.raised.level m.spells) in
+          let last : d.state.rest ≡ j.rest = ap (λ (u : Input). u.rest) q.1 ∙ ap (λ (u : Input). u.rest) z.1 in
+          let T : ℕ → Type 0 = λ n. Enclosed l r f P i.level (f b.value c.value) n (at b.value (i.level + 1) ∷ (m.spelt ++ (at d.value i.level ∷ []))) (kind_ahead j.rest) in
+          let U : B → Type 0 = λ u. Enclosed l r f P i.level u j.level (at b.value (i.level + 1) ∷ (m.spelt ++ (at d.value i.level ∷ []))) (kind_ahead j.rest) in
+          let level : i.level ≡ j.level = ap (λ (u : Input). u.level) z.1 in
+          record {
+            spelt = at b.value (i.level + 1) ∷ (m.spelt ++ (at d.value i.level ∷ []));
+            front = e.raised.front ∙ ap (λ u. b.value ∷ u)
+                (m.front ∙ ap (λ u. tokens m.spelt ++ u) (g.took.front ∙ ap (λ u. d.value ∷ u) last) ∙ sym (tokens_append m.spelt (at d.value i.level ∷ []) j.rest));
+            spells = subst U (q.0 ∙ z.0) (subst T level (between d.value e.is inner g.is));
+            within = (e.raised.small, within_join limit m.spelt (at d.value i.level ∷ []) m.within (small, tt));
+            small = omega (arith, level);
+          }
+
+      of : {v w : ℕ} {y : B} {ls : List Spelt} {k : Option TokenKind} → Enclosed l r f P' v y w ls k → (rest : List Token) → IsWithin limit ls
+          → reading.enclosed limit l r f p (input (tokens ls ++ rest) v) ≡ Ok (y, input rest w)
+      of (between {v} {w} {left} right {x} {ls} {k} hl q hr) rest within =
+          let tail = tokens ls ++ (right ∷ rest) in
+          let same : tokens (ls ++ (at right v ∷ [])) ++ rest ≡ tail = tokens_append ls (at right v ∷ []) rest in
+          let one : enter limit l (input (left ∷ tail) v) ≡ Ok (left, input tail (v + 1)) = enter_ok limit l left tail v within.0 hl in
+          let two : p (input tail (v + 1)) ≡ Ok (x, input (right ∷ rest) w) = a.complete (v + 1) w x ls (right ∷ rest) q (within_front limit ls (at right v ∷ []) within.1) in
+          let three : close r (input (right ∷ rest) w) ≡ Ok (right, input rest w) = close_ok r right rest w hr in
+          rw (same, one, two, three)
+
 -- ---- names and numbers
 
 abbrev HasName : Option TokenKind → Option ℕ → Type 0
@@ -184,11 +234,11 @@ a_number limit = record { sound = so; complete = λ v w n ls rest q within. of q
 abbrev pub Comma : Token → Type 0
 Comma t = Is fixed.Comma t
 
--- one or more, each of which leaves the level as it was
+-- one or more
 pub data Listed {A : Type 0} (P : Lang A) : ℕ → List A → ℕ → List Spelt → Option TokenKind → Type 0 where
-  end_of_list : {v : ℕ} {x : A} {ls : List Spelt} {k : Option TokenKind} → P v x v ls k → is_fixed fixed.Comma k ≡ false → Listed P v (x ∷ []) v ls k
-  next_of_list : {v : ℕ} {x : A} {xs : List A} (comma : Token) {ls rs : List Spelt} {k : Option TokenKind} → P v x v ls (Some comma.kind) → Comma comma → Listed P v xs v rs k
-      → Listed P v (x ∷ xs) v (ls ++ (at comma v ∷ rs)) k
+  end_of_list : {v w : ℕ} {x : A} {ls : List Spelt} {k : Option TokenKind} → P v x w ls k → is_fixed fixed.Comma k ≡ false → Listed P v (x ∷ []) w ls k
+  next_of_list : {v u w : ℕ} {x : A} {xs : List A} (comma : Token) {ls rs : List Spelt} {k : Option TokenKind} → P v x u ls (Some comma.kind) → Comma comma → Listed P u xs w rs k
+      → Listed P v (x ∷ xs) w (ls ++ (at comma u ∷ rs)) k
 
 -- not empty
 abbrev pub Filled : List Spelt → Type 0
@@ -199,15 +249,11 @@ pub filled-long : (ls : List Spelt) (rest : List Token) → Filled ls → suc (l
 filled-long [] rest h = absurd h
 filled-long (s ∷ ls) rest h = omega (arith, longer ls rest)
 
-module _ {limit : ℕ} {A : Type 0} {p : Parser A} {P P' : Lang A} (a : Exact limit p P P') (flat : (v w : ℕ) (x : A) (ls : List Spelt) (k : Option TokenKind) → P v x w ls k → v ≡ w) where
+module _ {limit : ℕ} {A : Type 0} {p : Parser A} {P P' : Lang A} (a : Exact limit p P P') where
   record More (found all : List A) (i j : Input) : Type 0 where
     pub xs : List A
     pub all_is : all ≡ found ++ xs
-    pub spelt : List Spelt
-    pub front : i.rest ≡ tokens spelt ++ j.rest
-    pub lists : Listed P i.level xs i.level spelt (kind_ahead j.rest)
-    pub within : IsWithin limit spelt
-    pub level : j.level ≡ i.level
+    pub read : Read limit (Listed P) xs i j
 
   l_turn : (n : ℕ) (found all : List A) (i j : Input) → i.level ≤ limit → separated_from p n found i ≡ Ok (all, j) → More found all i j
   unfolding separated_from
@@ -220,12 +266,6 @@ module _ {limit : ℕ} {A : Type 0} {p : Parser A} {P P' : Lang A} (a : Exact li
       m : Read limit P s.value i s.state
       m = a.sound i s.state s.value small s.was
 
-      same : i.level ≡ s.state.level
-      same = flat i.level s.state.level s.value m.spelt (kind_ahead s.state.rest) m.spells
-
-      here : P i.level s.value i.level m.spelt (kind_ahead s.state.rest)
-      here = let R : ℕ → Type 0 = λ z. P i.level s.value z m.spelt (kind_ahead s.state.rest) in subst R (sym same) m.spells
-
       by_test : ((found all : List A) (i j : Input) → i.level ≤ limit → separated_from p n found i ≡ Ok (all, j) → More found all i j)
           → (b : Bool) → is_fixed fixed.Comma (kind_ahead s.state.rest) ≡ b
           → cond b (and_then (take s.state) (λ _ l. separated_from p n (found ++ s.value ∷ []) l)) (Ok (found ++ s.value ∷ [], s.state)) ≡ Ok (all, j) → More found all i j
@@ -233,57 +273,59 @@ module _ {limit : ℕ} {A : Type 0} {p : Parser A} {P P' : Lang A} (a : Exact li
           let t = step (take s.state) (λ _ l. separated_from p n (found ++ s.value ∷ []) l) (all, j) k in
           let c = took s.state.rest s.state.level t.value t.state t.was in
           let is : Comma t.value = head_kind s.state.rest t.state.rest t.value (kind_of fixed.Comma) c.front (fixed-kind fixed.Comma (kind_ahead s.state.rest) e) in
-          let level : t.state.level ≡ i.level = c.level ∙ sym same in
-          let more = ih (found ++ s.value ∷ []) all t.state j (omega (arith, level)) t.goes in
-          let R : Option TokenKind → Type 0 = λ z. P i.level s.value i.level m.spelt z in
-          let S : ℕ → Type 0 = λ z. Listed P z more.xs z more.spelt (kind_ahead j.rest) in
+          let more = ih (found ++ s.value ∷ []) all t.state j (omega (arith, c.level, m.small)) t.goes in
+          let r = more.read in
+          let R : Option TokenKind → Type 0 = λ z. P i.level s.value s.state.level m.spelt z in
+          let S : ℕ → Type 0 = λ z. Listed P z more.xs j.level r.spelt (kind_ahead j.rest) in
           record {
             xs = s.value ∷ more.xs;
             all_is = more.all_is ∙ append_assoc found (s.value ∷ []) more.xs;
-            spelt = m.spelt ++ (at t.value i.level ∷ more.spelt);
-            front = m.front ∙ ap (λ z. tokens m.spelt ++ z) (c.front ∙ ap (λ z. t.value ∷ z) more.front) ∙ sym (tokens_append m.spelt (at t.value i.level ∷ more.spelt) j.rest);
-            lists = next_of_list t.value (subst R (ap kind_ahead c.front) here) is (subst S level more.lists);
-            within = within_join limit m.spelt (at t.value i.level ∷ more.spelt) m.within (small, more.within);
-            level = more.level ∙ level;
+            read = record {
+              spelt = m.spelt ++ (at t.value s.state.level ∷ r.spelt);
+              front = m.front ∙ ap (λ z. tokens m.spelt ++ z) (c.front ∙ ap (λ z. t.value ∷ z) r.front) ∙ sym (tokens_append m.spelt (at t.value s.state.level ∷ r.spelt) j.rest);
+              spells = next_of_list t.value (subst R (ap kind_ahead c.front) m.spells) is (subst S c.level r.spells);
+              within = within_join limit m.spelt (at t.value s.state.level ∷ r.spelt) m.within (m.small, r.within);
+              small = r.small;
+            };
           }
       by_test ih false e k =
           let q = ok_pair (found ++ s.value ∷ []) all s.state j k in
           let made : More found (found ++ s.value ∷ []) i s.state =
-          record { xs = s.value ∷ []; all_is = refl; spelt = m.spelt; front = m.front; lists = end_of_list here e; within = m.within; level = sym same } in
+          record { xs = s.value ∷ []; all_is = refl; read = record { spelt = m.spelt; front = m.front; spells = end_of_list m.spells e; within = m.within; small = m.small } } in
           let R : Input → Type 0 = λ z. More found (found ++ s.value ∷ []) i z in
           let S : List A → Type 0 = λ z. More found z i j in
           subst S q.0 (subst R q.1 made)
 
-  l_sound : (i j : Input) (all : List A) → i.level ≤ limit → separated p i ≡ Ok (all, j) → Read limit (Listed P) all i j
+  pub l_sound : (i j : Input) (all : List A) → i.level ≤ limit → separated p i ≡ Ok (all, j) → Read limit (Listed P) all i j
   unfolding separated
   l_sound i j all small h =
       let m = l_turn (length i.rest) [] all i j small h in
-      let R : ℕ → Type 0 = λ z. Listed P i.level m.xs z m.spelt (kind_ahead j.rest) in
-      let S : List A → Type 0 = λ z. Listed P i.level z j.level m.spelt (kind_ahead j.rest) in
-      record { spelt = m.spelt; front = m.front; spells = subst S (sym m.all_is) (subst R (sym m.level) m.lists); within = m.within; small = omega (arith, m.level) }
+      let S : List A → Type 0 = λ z. Read limit (Listed P) z i j in
+      subst S (sym m.all_is) m.read
 
-  l_complete : (some : (v w : ℕ) (x : A) (ls : List Spelt) (k : Option TokenKind) → P' v x w ls k → Filled ls) → {v w : ℕ} {xs : List A} {ls : List Spelt} {k : Option TokenKind} → Listed P' v xs w ls k → (n : ℕ) (found : List A) (rest : List Token) → k ≡ kind_ahead rest → IsWithin limit ls
+  l_complete : (some : (v w : ℕ) (x : A) (ls : List Spelt) (k : Option TokenKind) → P' v x w ls k → Filled ls) → {v w : ℕ} {xs : List A} {ls : List Spelt} {k : Option TokenKind}
+      → Listed P' v xs w ls k → (n : ℕ) (found : List A) (rest : List Token) → k ≡ kind_ahead rest → IsWithin limit ls
       → length (tokens ls ++ rest) ≤ n → separated_from p n found (input (tokens ls ++ rest) v) ≡ Ok (found ++ xs, input rest w)
   unfolding separated_from
-  l_complete some (end_of_list {v} {x} {ls} {k} q c) zero found rest e within enough = absurd (omega (arith, filled-long ls rest (some v v x ls k q)))
-  l_complete some (end_of_list {v} {x} {ls} {k} q c) (suc n) found rest e within enough =
-      let R : Option TokenKind → Type 0 = λ z. P' v x v ls z in
-      let one : p (input (tokens ls ++ rest) v) ≡ Ok (x, input rest v) = a.complete v v x ls rest (subst R e q) within in
+  l_complete some (end_of_list {v} {w} {x} {ls} {k} q c) zero found rest e within enough = absurd (omega (arith, filled-long ls rest (some v w x ls k q)))
+  l_complete some (end_of_list {v} {w} {x} {ls} {k} q c) (suc n) found rest e within enough =
+      let R : Option TokenKind → Type 0 = λ z. P' v x w ls z in
+      let one : p (input (tokens ls ++ rest) v) ≡ Ok (x, input rest w) = a.complete v w x ls rest (subst R e q) within in
       let no : is_fixed fixed.Comma (kind_ahead rest) ≡ false = ap (is_fixed fixed.Comma) (sym e) ∙ c in
       rw (one, no)
-  l_complete some (next_of_list {v} {x} {xs} comma {ls} {rs} {k} q c more) zero found rest e within enough =
+  l_complete some (next_of_list {v} {u} {w} {x} {xs} comma {ls} {rs} {k} q c more) zero found rest e within enough =
       let tail = tokens rs ++ rest in
-      let same : tokens (ls ++ (at comma v ∷ rs)) ++ rest ≡ tokens ls ++ (comma ∷ tail) = tokens_append ls (at comma v ∷ rs) rest in
+      let same : tokens (ls ++ (at comma u ∷ rs)) ++ rest ≡ tokens ls ++ (comma ∷ tail) = tokens_append ls (at comma u ∷ rs) rest in
       let room : length (tokens ls ++ (comma ∷ tail)) ≤ 0 = rw same at enough in
       absurd (omega (arith, longer ls (comma ∷ tail)))
-  l_complete some (next_of_list {v} {x} {xs} comma {ls} {rs} {k} q c more) (suc n) found rest e within enough =
+  l_complete some (next_of_list {v} {u} {w} {x} {xs} comma {ls} {rs} {k} q c more) (suc n) found rest e within enough =
       let tail = tokens rs ++ rest in
-      let one : p (input (tokens ls ++ (comma ∷ tail)) v) ≡ Ok (x, input (comma ∷ tail) v) = a.complete v v x ls (comma ∷ tail) q (within_front limit ls (at comma v ∷ rs) within) in
+      let one : p (input (tokens ls ++ (comma ∷ tail)) v) ≡ Ok (x, input (comma ∷ tail) u) = a.complete v u x ls (comma ∷ tail) q (within_front limit ls (at comma u ∷ rs) within) in
       let yes' : is_fixed fixed.Comma (Some comma.kind) ≡ true = is_so fixed.Comma comma c in
-      let same : tokens (ls ++ (at comma v ∷ rs)) ++ rest ≡ tokens ls ++ (comma ∷ tail) = tokens_append ls (at comma v ∷ rs) rest in
+      let same : tokens (ls ++ (at comma u ∷ rs)) ++ rest ≡ tokens ls ++ (comma ∷ tail) = tokens_append ls (at comma u ∷ rs) rest in
       let room : length (tokens ls ++ (comma ∷ tail)) ≤ suc n = rw same at enough in
-      let many = l_complete some more n (found ++ x ∷ []) rest e (within_back limit ls (at comma v ∷ rs) within).1 (omega (arith, longer ls (comma ∷ tail))) in
-      rw (same, one, yes', take_ok) (many ∙ ap (λ z. Ok (z, input rest v)) (append_assoc found (x ∷ []) xs))
+      let many = l_complete some more n (found ++ x ∷ []) rest e (within_back limit ls (at comma u ∷ rs) within).1 (omega (arith, longer ls (comma ∷ tail))) in
+      rw (same, one, yes', take_ok) (many ∙ ap (λ z. Ok (z, input rest w)) (append_assoc found (x ∷ []) xs))
 
   pub commas : ((v w : ℕ) (x : A) (ls : List Spelt) (k : Option TokenKind) → P' v x w ls k → Filled ls) → Exact limit (separated p) (Listed P) (Listed P')
   unfolding separated

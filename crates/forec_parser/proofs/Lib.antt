@@ -4,3 +4,5 @@ pub mod Spans
 pub mod Exact
 pub mod Closers
 pub mod Leaves
+pub mod Operators
+pub mod ExpressionSound

@@ -31,6 +31,14 @@ close f = λ i. if next_is f i then take i else refuse i
 unfoldable pub enter : ℕ → Fixed → Parser Token
 enter limit f = λ i. if next_is f i then raise limit i else refuse i
 
+-- a part between two brackets
+abbrev pub enclosed : {A B : Type 0} → ℕ → Fixed → Fixed → (Token → A → B) → Parser A → Parser B
+enclosed limit left right f part = scoped (do
+  t ← enter limit left
+  x ← part
+  close right
+  pure (f t x))
+
 abbrev pub name_by : Option ℕ → Parser Name
 name_by (Some id) = do
   t ← take
@@ -72,29 +80,17 @@ module _ (limit : ℕ) (expr : ℕ → Parser Term) where
   value = scoped (expr 1)
 
   unfoldable pub bracketed : Parser Term
-  bracketed = scoped (do
-    enter limit fixed.LeftRound
-    inner ← expr 1
-    close fixed.RightRound
-    pure inner)
+  bracketed = enclosed limit fixed.LeftRound fixed.RightRound (λ _ inner. inner) (expr 1)
 
   unfoldable pub indexed : Parser Term
-  indexed = scoped (do
-    enter limit fixed.LeftSquare
-    index ← expr 1
-    close fixed.RightSquare
-    pure index)
+  indexed = enclosed limit fixed.LeftSquare fixed.RightSquare (λ _ index. index) (expr 1)
 
   unfoldable pub arguments : Parser (List Term)
   arguments = λ i. if next_is fixed.RightRound i then Ok ([], i) else separated value i
 
   -- the arguments of a call, with their brackets
   unfoldable pub passed : Parser (List Term)
-  passed = scoped (do
-    enter limit fixed.LeftRound
-    args ← arguments
-    close fixed.RightRound
-    pure args)
+  passed = enclosed limit fixed.LeftRound fixed.RightRound (λ _ args. args) arguments
 
   abbrev pub named_by : Behind → Name → Parser Term
   named_by follow.Index n = do
