@@ -201,3 +201,7 @@ by_reading {limit} {A} {p} {P} s = record { sound = s; complete = λ v w x ls re
     of : {v w : ℕ} {x : A} {ls : List Spelt} {k : Option TokenKind} → Reading limit p v x w ls k → (rest : List Token) → k ≡ kind_ahead rest → IsWithin limit ls
         → p (input (tokens ls ++ rest) v) ≡ Ok (x, input rest w)
     of (reading r) rest e within = r rest (sym e) within
+
+pub read_at : {limit : ℕ} {A : Type 0} {p : Parser A} {v w : ℕ} {x : A} {ls : List Spelt} {k : Option TokenKind} → Reading limit p v x w ls k → (rest : List Token) → kind_ahead rest ≡ k → IsWithin limit ls
+    → p (input (tokens ls ++ rest) v) ≡ Ok (x, input rest w)
+read_at (reading r) = r

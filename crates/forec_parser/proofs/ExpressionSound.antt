@@ -175,6 +175,19 @@ module _ (limit : ℕ) where
         of : {v w : ℕ} {y : Term} {ls : List Spelt} {k : Option TokenKind} → Done (plain.Read n.place n) v y w ls k → Behind_name n v y w ls k
         of done = by_nothing
 
+    -- the same, by what each finds
+    pub indexed_by : Exact limit (reading.indexed limit ex) (Part Any Indexes) (Reading limit (reading.indexed limit ex))
+    indexed_by = by_reading an_indexed.sound
+
+    pub passed_by : Exact limit (reading.passed limit ex) (Part Any Passes) (Reading limit (reading.passed limit ex))
+    passed_by = by_reading a_passed.sound
+
+    pub value_by : Exact limit (reading.value limit ex) (Part Any Whole) (Reading limit (reading.value limit ex))
+    value_by = by_reading a_value.sound
+
+    pub bracketed_by : Exact limit (reading.bracketed limit ex) (Part Any Brackets) (Reading limit (reading.bracketed limit ex))
+    bracketed_by = by_reading a_bracketed.sound
+
     pub a_named : Exact limit (reading.named limit ex) (At 12) (Bind (Part Any NameIs) (λ n. Reading limit (λ i. named_by limit ex (behind_of (kind_ahead i.rest)) n i)))
     unfolding reading.named
     a_named = convert of (λ v w x ls k q. q) (bind (a_name limit) (λ n. by_reading (λ i j x small h. behind_by n (behind_of (kind_ahead i.rest)) i j x small h)))

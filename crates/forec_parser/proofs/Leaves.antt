@@ -17,7 +17,7 @@ use Rattle.forec_parser.specs.Reading as reading
 use Rattle.forec_parser.specs.Reading.{close, enter, name, number, name_by, number_by, separated, separated_from}
 use Rattle.forec_parser.proofs.Spans.{tokens_append, longer, within_front, within_back, within_join, first, first-is, Step, step, ok_of, ok_pair, Took, Raised, took, raised, head_kind, raise_ok, take_ok}
 use Rattle.forec_parser.proofs.Closers.{kind_of, fixed-kind, kind-fixed}
-use Rattle.forec_parser.proofs.Exact.{Lang, Read, Exact, Part, part, Any}
+use Rattle.forec_parser.proofs.Exact.{Lang, Read, Exact, Part, part, Any, convert}
 
 abbrev pub Is : Fixed → Token → Type 0
 Is f t = t.kind ≡ kind_of f
@@ -333,3 +333,16 @@ module _ {limit : ℕ} {A : Type 0} {p : Parser A} {P P' : Lang A} (a : Exact li
     sound = l_sound;
     complete = λ v w xs ls rest q within. l_complete some q (length (tokens ls ++ rest)) [] rest refl within (omega arith);
   }
+
+-- a part that has a token
+pub data Full {A : Type 0} (P : Lang A) : ℕ → A → ℕ → List Spelt → Option TokenKind → Type 0 where
+  full : {v w : ℕ} {x : A} {ls : List Spelt} {k : Option TokenKind} → P v x w ls k → Filled ls → Full P v x w ls k
+
+pub full_commas : {limit : ℕ} {A : Type 0} {p : Parser A} {P P' : Lang A} → Exact limit p P P' → Exact limit (separated p) (Listed P) (Listed (Full P'))
+full_commas {limit} {A} {p} {P} {P'} a = commas (convert (λ v w x ls k q. q) of a) some
+  where
+    of : (v w : ℕ) (x : A) (ls : List Spelt) (k : Option TokenKind) → Full P' v x w ls k → P' v x w ls k
+    of v w x ls k (full q f) = q
+
+    some : (v w : ℕ) (x : A) (ls : List Spelt) (k : Option TokenKind) → Full P' v x w ls k → Filled ls
+    some v w x ls k (full q f) = f

@@ -6,3 +6,4 @@ pub mod Closers
 pub mod Leaves
 pub mod Operators
 pub mod ExpressionSound
+pub mod ExpressionComplete
