@@ -44,6 +44,11 @@ pub data If {A : Type 0} (f : Fixed) (P Q : Lang A) : ℕ → A → ℕ → List
   on : {v w : ℕ} {x : A} {ls : List Spelt} {k : Option TokenKind} → is_fixed f (first ls k) ≡ true → P v x w ls k → If f P Q v x w ls k
   off : {v w : ℕ} {x : A} {ls : List Spelt} {k : Option TokenKind} → is_fixed f (first ls k) ≡ false → Q v x w ls k → If f P Q v x w ls k
 
+-- a part, and what follows it by the token ahead; the part itself is told of in two ways
+pub data Choice {A B : Type 0} (f : Fixed) (P1 P0 : Lang A) (Q1 Q0 : A → Lang B) : ℕ → B → ℕ → List Spelt → Option TokenKind → Type 0 where
+  taken : {v u w : ℕ} {x : A} {y : B} {ls rs : List Spelt} {k : Option TokenKind} → is_fixed f (first rs k) ≡ true → P1 v x u ls (first rs k) → Q1 x u y w rs k → Choice f P1 P0 Q1 Q0 v y w (ls ++ rs) k
+  left_out : {v u w : ℕ} {x : A} {y : B} {ls rs : List Spelt} {k : Option TokenKind} → is_fixed f (first rs k) ≡ false → P0 v x u ls (first rs k) → Q0 x u y w rs k → Choice f P1 P0 Q1 Q0 v y w (ls ++ rs) k
+
 -- a part that leaves the level as it was, where the token behind is one of these
 pub data Part {A : Type 0} (C : Option TokenKind → Type 0) (R : A → ℕ → List Spelt → Type 0) : ℕ → A → ℕ → List Spelt → Option TokenKind → Type 0 where
   part : {v : ℕ} {x : A} {ls : List Spelt} {k : Option TokenKind} → R x v ls → C k → Part C R v x v ls k
@@ -205,3 +210,32 @@ by_reading {limit} {A} {p} {P} s = record { sound = s; complete = λ v w x ls re
 pub read_at : {limit : ℕ} {A : Type 0} {p : Parser A} {v w : ℕ} {x : A} {ls : List Spelt} {k : Option TokenKind} → Reading limit p v x w ls k → (rest : List Token) → kind_ahead rest ≡ k → IsWithin limit ls
     → p (input (tokens ls ++ rest) v) ≡ Ok (x, input rest w)
 read_at (reading r) = r
+
+module _ {limit : ℕ} {A B : Type 0} {p : Parser A} {g h : A → Parser B} {P1 P0 P' : Lang A} {Q1 Q0 R1 R0 : A → Lang B} (f : Fixed) where
+  pub choose_by : Exact limit p P1 P' → Exact limit p P0 P' → ((x : A) → Exact limit (g x) (Q1 x) (R1 x)) → ((x : A) → Exact limit (h x) (Q0 x) (R0 x))
+      → Exact limit (p >>= (λ x i. cond (next_is f i) (g x i) (h x i))) (Choice f P1 P0 Q1 Q0) (Bind P' (λ x. If f (R1 x) (R0 x)))
+  unfolding then_read
+  choose_by a b c d = record { sound = so; complete = (bind a (λ x. either f (c x) (d x))).complete }
+    where
+      by_test : (i m j : Input) (x : A) (y : B) → i.level ≤ limit → p i ≡ Ok (x, m) → (t : Bool) → next_is f m ≡ t → cond t (g x m) (h x m) ≡ Ok (y, j) → Read limit (Choice f P1 P0 Q1 Q0) y i j
+      by_test i m j x y small was true e k =
+          let q = a.sound i m x small was in
+          let n = (c x).sound m j y q.small k in
+          let r : Read limit (Bind P1 Q1) y i j = then_read q n in
+          let s : is_fixed f (first n.spelt (kind_ahead j.rest)) ≡ true = ap (is_fixed f) (sym (ap kind_ahead n.front ∙ first-is n.spelt j.rest)) ∙ e in
+          let o : kind_ahead m.rest ≡ first n.spelt (kind_ahead j.rest) = ap kind_ahead n.front ∙ first-is n.spelt j.rest in
+          let R : Option TokenKind → Type 0 = λ z. P1 i.level x m.level q.spelt z in
+          record { spelt = r.spelt; front = r.front; spells = taken s (subst R o q.spells) n.spells; within = r.within; small = r.small }
+      by_test i m j x y small was false e k =
+          let q = b.sound i m x small was in
+          let n = (d x).sound m j y q.small k in
+          let r : Read limit (Bind P0 Q0) y i j = then_read q n in
+          let s : is_fixed f (first n.spelt (kind_ahead j.rest)) ≡ false = ap (is_fixed f) (sym (ap kind_ahead n.front ∙ first-is n.spelt j.rest)) ∙ e in
+          let o : kind_ahead m.rest ≡ first n.spelt (kind_ahead j.rest) = ap kind_ahead n.front ∙ first-is n.spelt j.rest in
+          let R : Option TokenKind → Type 0 = λ z. P0 i.level x m.level q.spelt z in
+          record { spelt = r.spelt; front = r.front; spells = left_out s (subst R o q.spells) n.spells; within = r.within; small = r.small }
+
+      so : (i j : Input) (y : B) → i.level ≤ limit → and_then (p i) (λ x m. cond (next_is f m) (g x m) (h x m)) ≡ Ok (y, j) → Read limit (Choice f P1 P0 Q1 Q0) y i j
+      so i j y small k =
+          let s = step (p i) (λ x m. cond (next_is f m) (g x m) (h x m)) (y, j) k in
+          by_test i s.state j s.value y small s.was (next_is f s.state) refl s.goes

@@ -7,7 +7,7 @@ use Rattle.forec_tree.specs.declared.token.TokenKind.TheVariants as kind
 use Rattle.forec_tree.specs.declared.tree.Name.{Name}
 use Rattle.forec_tree.specs.declared.tree.Number.{Number}
 use Rattle.forec_tree.specs.Spelling.{Spelt, at, tokens, IsWithin, IsName, IsNumber, name_at}
-use Rattle.forec_tree.specs.SpelledStatements.{number_at}
+use Rattle.forec_tree.specs.Parts.{number_at}
 use Rattle.forec_parser.specs.declared.fault.Fault.TheVariants.{Syntax}
 use Rattle.forec_parser.specs.declared.fixed.Fixed.{Fixed}
 use Rattle.forec_parser.specs.declared.fixed.Fixed.TheVariants as fixed
@@ -115,18 +115,22 @@ opening limit f = record { sound = so; complete = λ v w t ls rest q within. of 
 
 -- ---- brackets
 
-pub data Enclosed {A B : Type 0} (l r : Fixed) (f : Token → A → B) (P : Lang A) : ℕ → B → ℕ → List Spelt → Option TokenKind → Type 0 where
+-- between two brackets, after the second of which the level is g of that before the first
+pub data EnclosedTo {A B : Type 0} (g : ℕ → ℕ) (l r : Fixed) (f : Token → A → B) (P : Lang A) : ℕ → B → ℕ → List Spelt → Option TokenKind → Type 0 where
   between : {v w : ℕ} {left : Token} (right : Token) {x : A} {ls : List Spelt} {k : Option TokenKind} → Is l left → P (v + 1) x w ls (Some right.kind) → Is r right
-      → Enclosed l r f P v (f left x) v (at left (v + 1) ∷ (ls ++ (at right v ∷ []))) k
+      → EnclosedTo g l r f P v (f left x) v (at left (v + 1) ∷ (ls ++ (at right (g v) ∷ []))) k
 
-module _ {limit : ℕ} {A B : Type 0} {p : Parser A} {P P' : Lang A} (l r : Fixed) (f : Token → A → B) where
-  pub enclosing : Exact limit p P P' → Exact limit (reading.enclosed limit l r f p) (Enclosed l r f P) (Enclosed l r f P')
-  enclosing a = record { sound = so; complete = λ v w y ls rest q within. of q rest within }
+abbrev pub Enclosed : {A B : Type 0} → Fixed → Fixed → (Token → A → B) → Lang A → Lang B
+Enclosed l r f P = EnclosedTo (λ v. v) l r f P
+
+module _ {limit : ℕ} {A B : Type 0} {p : Parser A} {P P' : Lang A} (g : ℕ → ℕ) (low : (v : ℕ) → v ≤ limit → g v ≤ limit) (l r : Fixed) (f : Token → A → B) where
+  pub enclosing_to : Exact limit p P P' → Exact limit (reading.enclosed limit l r f p) (EnclosedTo g l r f P) (EnclosedTo g l r f P')
+  enclosing_to a = record { sound = so; complete = λ v w y ls rest q within. of q rest within }
     where
       finish : Token → A → Parser B
       finish t x = λ k. and_then (close r k) (λ _ m. ok_of (f t x) m)
 
-      so : (i j : Input) (y : B) → i.level ≤ limit → reading.enclosed limit l r f p i ≡ Ok (y, j) → Read limit (Enclosed l r f P) y i j
+      so : (i j : Input) (y : B) → i.level ≤ limit → reading.enclosed limit l r f p i ≡ Ok (y, j) → Read limit (EnclosedTo g l r f P) y i j
       so i j y small h =
           let o = step (and_then (enter limit l i) (λ t k. and_then (p k) (finish t))) (λ x k. Ok (x, input k.rest i.level)) (y, j) h in
           let b = step (enter limit l i) (λ t k. and_then (p k) (finish t)) (o.value, o.state) o.was in
@@ -134,34 +138,38 @@ module _ {limit : ℕ} {A B : Type 0} {p : Parser A} {P P' : Lang A} (l r : Fixe
           let d = step (close r c.state) (λ _ m. ok_of (f b.value c.value) m) (o.value, o.state) c.goes in
           let e = entered limit l i b.value b.state b.was in
           let m = a.sound b.state c.state c.value (omega (arith, e.raised.level, e.raised.small)) c.was in
-          let g = closed r c.state d.value d.state d.was in
+          let z1 = closed r c.state d.value d.state d.was in
           let q = ok_pair (f b.value c.value) o.value d.state o.state d.goes in
           let z = ok_pair o.value y (input o.state.rest i.level) j o.goes in
           let R : ℕ → Type 0 = λ n. P n c.value c.state.level m.spelt (kind_ahead c.state.rest) in
           let S : Option TokenKind → Type 0 = λ k. P (i.level + 1) c.value c.state.level m.spelt k in
-          let inner : P (i.level + 1) c.value c.state.level m.spelt (Some d.value.kind) = subst S (ap kind_ahead g.took.front) (subst R e.raised.level m.spells) in
+          let inner : P (i.level + 1) c.value c.state.level m.spelt (Some d.value.kind) = subst S (ap kind_ahead z1.took.front) (subst R e.raised.level m.spells) in
           let last : d.state.rest ≡ j.rest = ap (λ (u : Input). u.rest) q.1 ∙ ap (λ (u : Input). u.rest) z.1 in
-          let T : ℕ → Type 0 = λ n. Enclosed l r f P i.level (f b.value c.value) n (at b.value (i.level + 1) ∷ (m.spelt ++ (at d.value i.level ∷ []))) (kind_ahead j.rest) in
-          let U : B → Type 0 = λ u. Enclosed l r f P i.level u j.level (at b.value (i.level + 1) ∷ (m.spelt ++ (at d.value i.level ∷ []))) (kind_ahead j.rest) in
+          let T : ℕ → Type 0 = λ n. EnclosedTo g l r f P i.level (f b.value c.value) n (at b.value (i.level + 1) ∷ (m.spelt ++ (at d.value (g i.level) ∷ []))) (kind_ahead j.rest) in
+          let U : B → Type 0 = λ u. EnclosedTo g l r f P i.level u j.level (at b.value (i.level + 1) ∷ (m.spelt ++ (at d.value (g i.level) ∷ []))) (kind_ahead j.rest) in
           let level : i.level ≡ j.level = ap (λ (u : Input). u.level) z.1 in
           record {
-            spelt = at b.value (i.level + 1) ∷ (m.spelt ++ (at d.value i.level ∷ []));
+            spelt = at b.value (i.level + 1) ∷ (m.spelt ++ (at d.value (g i.level) ∷ []));
             front = e.raised.front ∙ ap (λ u. b.value ∷ u)
-                (m.front ∙ ap (λ u. tokens m.spelt ++ u) (g.took.front ∙ ap (λ u. d.value ∷ u) last) ∙ sym (tokens_append m.spelt (at d.value i.level ∷ []) j.rest));
-            spells = subst U (q.0 ∙ z.0) (subst T level (between d.value e.is inner g.is));
-            within = (e.raised.small, within_join limit m.spelt (at d.value i.level ∷ []) m.within (small, tt));
+                (m.front ∙ ap (λ u. tokens m.spelt ++ u) (z1.took.front ∙ ap (λ u. d.value ∷ u) last) ∙ sym (tokens_append m.spelt (at d.value (g i.level) ∷ []) j.rest));
+            spells = subst U (q.0 ∙ z.0) (subst T level (between d.value e.is inner z1.is));
+            within = (e.raised.small, within_join limit m.spelt (at d.value (g i.level) ∷ []) m.within (low i.level small, tt));
             small = omega (arith, level);
           }
 
-      of : {v w : ℕ} {y : B} {ls : List Spelt} {k : Option TokenKind} → Enclosed l r f P' v y w ls k → (rest : List Token) → IsWithin limit ls
+      of : {v w : ℕ} {y : B} {ls : List Spelt} {k : Option TokenKind} → EnclosedTo g l r f P' v y w ls k → (rest : List Token) → IsWithin limit ls
           → reading.enclosed limit l r f p (input (tokens ls ++ rest) v) ≡ Ok (y, input rest w)
       of (between {v} {w} {left} right {x} {ls} {k} hl q hr) rest within =
           let tail = tokens ls ++ (right ∷ rest) in
-          let same : tokens (ls ++ (at right v ∷ [])) ++ rest ≡ tail = tokens_append ls (at right v ∷ []) rest in
+          let same : tokens (ls ++ (at right (g v) ∷ [])) ++ rest ≡ tail = tokens_append ls (at right (g v) ∷ []) rest in
           let one : enter limit l (input (left ∷ tail) v) ≡ Ok (left, input tail (v + 1)) = enter_ok limit l left tail v within.0 hl in
-          let two : p (input tail (v + 1)) ≡ Ok (x, input (right ∷ rest) w) = a.complete (v + 1) w x ls (right ∷ rest) q (within_front limit ls (at right v ∷ []) within.1) in
+          let two : p (input tail (v + 1)) ≡ Ok (x, input (right ∷ rest) w) = a.complete (v + 1) w x ls (right ∷ rest) q (within_front limit ls (at right (g v) ∷ []) within.1) in
           let three : close r (input (right ∷ rest) w) ≡ Ok (right, input rest w) = close_ok r right rest w hr in
           rw (same, one, two, three)
+
+module _ {limit : ℕ} {A B : Type 0} {p : Parser A} {P P' : Lang A} (l r : Fixed) (f : Token → A → B) where
+  pub enclosing : Exact limit p P P' → Exact limit (reading.enclosed limit l r f p) (Enclosed l r f P) (Enclosed l r f P')
+  enclosing a = enclosing_to (λ v. v) (λ v h. h) l r f a
 
 -- ---- names and numbers
 

@@ -11,7 +11,7 @@ use Rattle.forec_tree.specs.declared.token.TokenKind.TheVariants as kind
 use Rattle.forec_tree.specs.declared.token.Mark.TheVariants as mark
 use Rattle.forec_tree.specs.declared.token.Word.TheVariants as word
 use Rattle.forec_tree.specs.Spelling as spelling
-use Rattle.forec_tree.specs.SpelledStatements.{updates_by, steps_by}
+use Rattle.forec_tree.specs.Parts.{updates_by, steps_by}
 use Rattle.forec_parser.specs.declared.fixed.Fixed.{Fixed}
 use Rattle.forec_parser.specs.declared.fixed.Fixed.TheVariants as fixed
 use Rattle.forec_parser.specs.declared.meaning.Start.{Start}

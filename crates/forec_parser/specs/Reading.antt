@@ -6,7 +6,7 @@ use Rattle.forec_tree.specs.declared.tree.Number.{Number}
 use Rattle.forec_tree.specs.Terms as plain
 use Rattle.forec_tree.specs.Terms.{Term}
 use Rattle.forec_tree.specs.Spelling.{name_at, joined, listed, level_of}
-use Rattle.forec_tree.specs.SpelledStatements.{number_at}
+use Rattle.forec_tree.specs.Parts.{number_at}
 use Rattle.forec_parser.specs.declared.fault.Fault.TheVariants.{Deep}
 use Rattle.forec_parser.specs.declared.fixed.Fixed.{Fixed}
 use Rattle.forec_parser.specs.declared.fixed.Fixed.TheVariants as fixed

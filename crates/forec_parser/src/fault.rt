@@ -1,6 +1,7 @@
 // Why nothing is read.
 
 use std::alloc::AllocError;
+use thiserror::Error;
 
 /// Why a rule of the grammar stops; `left` is the number of tokens from the refused one on.
 #[derive(Clone, Copy, Debug, Drop)]
@@ -19,4 +20,14 @@ impl From<AllocError> for Fault {
     fn from(_: AllocError) -> Fault {
         Fault::OutOfMemory
     }
+}
+
+/// Why no program is read.
+#[derive(Clone, Copy, Debug, PartialEq, Eq, Error)]
+pub enum ParseFault {
+    /// No program within the greatest level has these tokens.
+    #[error("the text is no program")]
+    Unfit,
+    #[error("out of memory")]
+    OutOfMemory,
 }

@@ -4,6 +4,17 @@
 mod expression;
 mod fault;
 mod fixed;
+mod item;
 mod meaning;
 mod nodes;
+mod parts;
+mod simple;
+mod statement;
 mod tokens;
+mod whole;
+
+pub use fault::ParseFault;
+pub use whole::{one_program, parse};
+
+#[cfg(test)]
+mod tests;

@@ -5,7 +5,7 @@ ghost use Rattle.forec_tree.specs.Spelling as spelling;
 ghost use Rattle.forec_parser.specs.Meaning as spec;
 
 use forec_base::{Binary, Policy, Unary};
-use forec_tree::{Mark, Operator, TokenKind, Word};
+use forec_tree::{GlobalKind, Mark, Operator, TokenKind, Word};
 
 /// What a token begins where an operand is wanted.
 #[derive(Clone, Copy, Debug)]
@@ -80,20 +80,54 @@ pub enum Opening {
     Nothing,
 }
 
+/// What a global is declared as.
+#[derive(Clone, Copy, Debug)]
+pub enum Declarator {
+    /// A constant, or a table of constants.
+    Table,
+    /// An input: a name alone.
+    Bare,
+    /// A name with or without a value.
+    Valued { kind: GlobalKind },
+}
+
+pub fn name_of(kind: Option<TokenKind>) -> Option<u32>
+    ensures { result ≡ spec.name_of kind }
+{
+    match kind {
+        Some(TokenKind::Name { id }) => Some(id),
+        _ => None,
+    }
+}
+
+pub fn number_of(kind: Option<TokenKind>) -> Option<i32>
+    ensures { result ≡ spec.number_of kind }
+{
+    match kind {
+        Some(TokenKind::Number { value }) => Some(value),
+        _ => None,
+    }
+}
+
+fn start_mark(mark: Mark) -> Start
+    ensures { result ≡ spec.start_of (Some (TokenKind.Mark mark)) }
+{
+    match mark {
+        Mark::Minus => Start::Sign { op: Unary::Minus },
+        Mark::Tilde => Start::Sign { op: Unary::Invert },
+        Mark::Bang => Start::Sign { op: Unary::Not },
+        Mark::LeftRound => Start::Round,
+        _ => Start::Nothing,
+    }
+}
+
 pub fn start_of(kind: Option<TokenKind>) -> Start
     ensures { result ≡ spec.start_of kind }
 {
     match kind {
+        Some(TokenKind::Mark { mark }) => start_mark(mark),
         Some(TokenKind::Number { value: _ }) => Start::Literal,
         Some(TokenKind::Name { id: _ }) => Start::Named,
-        Some(TokenKind::Mark { mark: Mark::Minus }) => Start::Sign { op: Unary::Minus },
-        Some(TokenKind::Mark { mark: Mark::Tilde }) => Start::Sign { op: Unary::Invert },
-        Some(TokenKind::Mark { mark: Mark::Bang }) => Start::Sign { op: Unary::Not },
-        Some(
-            TokenKind::Mark {
-                mark: Mark::LeftRound,
-            },
-        ) => Start::Round,
         _ => Start::Nothing,
     }
 }
@@ -106,58 +140,49 @@ fn computes(op: Binary) -> Infix
     }
 }
 
+fn infix_mark(mark: Mark) -> Infix
+    ensures { result ≡ spec.infix_of (Some (TokenKind.Mark mark)) }
+{
+    match mark {
+        Mark::OrOr => Infix::Joins { op: Operator::Or },
+        Mark::AndAnd => Infix::Joins { op: Operator::And },
+        Mark::Bar => computes(Binary::BitOr),
+        Mark::Caret => computes(Binary::BitXor),
+        Mark::Ampersand => computes(Binary::BitAnd),
+        Mark::Equal => computes(Binary::Eq),
+        Mark::NotEqual => computes(Binary::Ne),
+        Mark::Less => computes(Binary::Lt),
+        Mark::LessEqual => computes(Binary::Le),
+        Mark::Greater => computes(Binary::Gt),
+        Mark::GreaterEqual => computes(Binary::Ge),
+        Mark::Shl => computes(Binary::Shl),
+        Mark::Shr => computes(Binary::Shr),
+        Mark::Plus => computes(Binary::Add),
+        Mark::Minus => computes(Binary::Sub),
+        Mark::Star => computes(Binary::Mul),
+        Mark::Slash => computes(Binary::Div),
+        Mark::Percent => computes(Binary::Rem),
+        Mark::Question => Infix::Question,
+        _ => Infix::Nothing,
+    }
+}
+
 pub fn infix_of(kind: Option<TokenKind>) -> Infix
     ensures { result ≡ spec.infix_of kind }
 {
     match kind {
-        Some(TokenKind::Mark { mark: Mark::OrOr }) => Infix::Joins { op: Operator::Or },
-        Some(TokenKind::Mark { mark: Mark::AndAnd }) => Infix::Joins { op: Operator::And },
-        Some(TokenKind::Mark { mark: Mark::Bar }) => computes(Binary::BitOr),
-        Some(TokenKind::Mark { mark: Mark::Caret }) => computes(Binary::BitXor),
-        Some(
-            TokenKind::Mark {
-                mark: Mark::Ampersand,
-            },
-        ) => computes(Binary::BitAnd),
-        Some(TokenKind::Mark { mark: Mark::Equal }) => computes(Binary::Eq),
-        Some(
-            TokenKind::Mark {
-                mark: Mark::NotEqual,
-            },
-        ) => computes(Binary::Ne),
-        Some(TokenKind::Mark { mark: Mark::Less }) => computes(Binary::Lt),
-        Some(
-            TokenKind::Mark {
-                mark: Mark::LessEqual,
-            },
-        ) => computes(Binary::Le),
-        Some(
-            TokenKind::Mark {
-                mark: Mark::Greater,
-            },
-        ) => computes(Binary::Gt),
-        Some(
-            TokenKind::Mark {
-                mark: Mark::GreaterEqual,
-            },
-        ) => computes(Binary::Ge),
-        Some(TokenKind::Mark { mark: Mark::Shl }) => computes(Binary::Shl),
-        Some(TokenKind::Mark { mark: Mark::Shr }) => computes(Binary::Shr),
-        Some(TokenKind::Mark { mark: Mark::Plus }) => computes(Binary::Add),
-        Some(TokenKind::Mark { mark: Mark::Minus }) => computes(Binary::Sub),
-        Some(TokenKind::Mark { mark: Mark::Star }) => computes(Binary::Mul),
-        Some(TokenKind::Mark { mark: Mark::Slash }) => computes(Binary::Div),
-        Some(
-            TokenKind::Mark {
-                mark: Mark::Percent,
-            },
-        ) => computes(Binary::Rem),
-        Some(
-            TokenKind::Mark {
-                mark: Mark::Question,
-            },
-        ) => Infix::Question,
+        Some(TokenKind::Mark { mark }) => infix_mark(mark),
         _ => Infix::Nothing,
+    }
+}
+
+fn behind_mark(mark: Mark) -> Behind
+    ensures { result ≡ spec.behind_of (Some (TokenKind.Mark mark)) }
+{
+    match mark {
+        Mark::LeftSquare => Behind::Index,
+        Mark::LeftRound => Behind::Arguments,
+        _ => Behind::Nothing,
     }
 }
 
@@ -165,16 +190,7 @@ pub fn behind_of(kind: Option<TokenKind>) -> Behind
     ensures { result ≡ spec.behind_of kind }
 {
     match kind {
-        Some(
-            TokenKind::Mark {
-                mark: Mark::LeftSquare,
-            },
-        ) => Behind::Index,
-        Some(
-            TokenKind::Mark {
-                mark: Mark::LeftRound,
-            },
-        ) => Behind::Arguments,
+        Some(TokenKind::Mark { mark }) => behind_mark(mark),
         _ => Behind::Nothing,
     }
 }
@@ -225,20 +241,20 @@ pub fn binds(shown: Infix) -> u8
     }
 }
 
-pub fn name_of(kind: Option<TokenKind>) -> Option<u32>
-    ensures { result ≡ spec.name_of kind }
+fn update_mark(mark: Mark) -> Option<Binary>
+    ensures { result ≡ spec.update_of (Some (TokenKind.Mark mark)) }
 {
-    match kind {
-        Some(TokenKind::Name { id }) => Some(id),
-        _ => None,
-    }
-}
-
-pub fn number_of(kind: Option<TokenKind>) -> Option<i32>
-    ensures { result ≡ spec.number_of kind }
-{
-    match kind {
-        Some(TokenKind::Number { value }) => Some(value),
+    match mark {
+        Mark::ShlAssign => Some(Binary::Shl),
+        Mark::ShrAssign => Some(Binary::Shr),
+        Mark::AddAssign => Some(Binary::Add),
+        Mark::SubAssign => Some(Binary::Sub),
+        Mark::MulAssign => Some(Binary::Mul),
+        Mark::DivAssign => Some(Binary::Div),
+        Mark::RemAssign => Some(Binary::Rem),
+        Mark::AndAssign => Some(Binary::BitAnd),
+        Mark::OrAssign => Some(Binary::BitOr),
+        Mark::XorAssign => Some(Binary::BitXor),
         _ => None,
     }
 }
@@ -248,56 +264,17 @@ pub fn update_of(kind: Option<TokenKind>) -> Option<Binary>
     ensures { result ≡ spec.update_of kind }
 {
     match kind {
-        Some(
-            TokenKind::Mark {
-                mark: Mark::ShlAssign,
-            },
-        ) => Some(Binary::Shl),
-        Some(
-            TokenKind::Mark {
-                mark: Mark::ShrAssign,
-            },
-        ) => Some(Binary::Shr),
-        Some(
-            TokenKind::Mark {
-                mark: Mark::AddAssign,
-            },
-        ) => Some(Binary::Add),
-        Some(
-            TokenKind::Mark {
-                mark: Mark::SubAssign,
-            },
-        ) => Some(Binary::Sub),
-        Some(
-            TokenKind::Mark {
-                mark: Mark::MulAssign,
-            },
-        ) => Some(Binary::Mul),
-        Some(
-            TokenKind::Mark {
-                mark: Mark::DivAssign,
-            },
-        ) => Some(Binary::Div),
-        Some(
-            TokenKind::Mark {
-                mark: Mark::RemAssign,
-            },
-        ) => Some(Binary::Rem),
-        Some(
-            TokenKind::Mark {
-                mark: Mark::AndAssign,
-            },
-        ) => Some(Binary::BitAnd),
-        Some(
-            TokenKind::Mark {
-                mark: Mark::OrAssign,
-            },
-        ) => Some(Binary::BitOr),
-        Some(
-            TokenKind::Mark {
-                mark: Mark::XorAssign,
-            },
-        ) => Some(Binary::BitXor),
+        Some(TokenKind::Mark { mark }) => update_mark(mark),
+        _ => None,
+    }
+}
+
+fn step_mark(mark: Mark) -> Option<Binary>
+    ensures { result ≡ spec.step_of (Some (TokenKind.Mark mark)) }
+{
+    match mark {
+        Mark::PlusPlus => Some(Binary::Add),
+        Mark::MinusMinus => Some(Binary::Sub),
         _ => None,
     }
 }
@@ -307,17 +284,29 @@ pub fn step_of(kind: Option<TokenKind>) -> Option<Binary>
     ensures { result ≡ spec.step_of kind }
 {
     match kind {
-        Some(
-            TokenKind::Mark {
-                mark: Mark::PlusPlus,
-            },
-        ) => Some(Binary::Add),
-        Some(
-            TokenKind::Mark {
-                mark: Mark::MinusMinus,
-            },
-        ) => Some(Binary::Sub),
+        Some(TokenKind::Mark { mark }) => step_mark(mark),
         _ => None,
+    }
+}
+
+fn change_mark(mark: Mark) -> Change
+    ensures { result ≡ spec.change_of (Some (TokenKind.Mark mark)) }
+{
+    match mark {
+        Mark::Assign => Change::Sets,
+        Mark::ShlAssign => Change::Updates,
+        Mark::ShrAssign => Change::Updates,
+        Mark::AddAssign => Change::Updates,
+        Mark::SubAssign => Change::Updates,
+        Mark::MulAssign => Change::Updates,
+        Mark::DivAssign => Change::Updates,
+        Mark::RemAssign => Change::Updates,
+        Mark::AndAssign => Change::Updates,
+        Mark::OrAssign => Change::Updates,
+        Mark::XorAssign => Change::Updates,
+        Mark::PlusPlus => Change::Steps,
+        Mark::MinusMinus => Change::Steps,
+        _ => Change::Nothing,
     }
 }
 
@@ -325,68 +314,18 @@ pub fn change_of(kind: Option<TokenKind>) -> Change
     ensures { result ≡ spec.change_of kind }
 {
     match kind {
-        Some(TokenKind::Mark { mark: Mark::Assign }) => Change::Sets,
-        Some(
-            TokenKind::Mark {
-                mark: Mark::ShlAssign,
-            },
-        ) => Change::Updates,
-        Some(
-            TokenKind::Mark {
-                mark: Mark::ShrAssign,
-            },
-        ) => Change::Updates,
-        Some(
-            TokenKind::Mark {
-                mark: Mark::AddAssign,
-            },
-        ) => Change::Updates,
-        Some(
-            TokenKind::Mark {
-                mark: Mark::SubAssign,
-            },
-        ) => Change::Updates,
-        Some(
-            TokenKind::Mark {
-                mark: Mark::MulAssign,
-            },
-        ) => Change::Updates,
-        Some(
-            TokenKind::Mark {
-                mark: Mark::DivAssign,
-            },
-        ) => Change::Updates,
-        Some(
-            TokenKind::Mark {
-                mark: Mark::RemAssign,
-            },
-        ) => Change::Updates,
-        Some(
-            TokenKind::Mark {
-                mark: Mark::AndAssign,
-            },
-        ) => Change::Updates,
-        Some(
-            TokenKind::Mark {
-                mark: Mark::OrAssign,
-            },
-        ) => Change::Updates,
-        Some(
-            TokenKind::Mark {
-                mark: Mark::XorAssign,
-            },
-        ) => Change::Updates,
-        Some(
-            TokenKind::Mark {
-                mark: Mark::PlusPlus,
-            },
-        ) => Change::Steps,
-        Some(
-            TokenKind::Mark {
-                mark: Mark::MinusMinus,
-            },
-        ) => Change::Steps,
+        Some(TokenKind::Mark { mark }) => change_mark(mark),
         _ => Change::Nothing,
+    }
+}
+
+fn act_mark(mark: Mark) -> Act
+    ensures { result ≡ spec.act_of (Some (TokenKind.Mark mark)) }
+{
+    match mark {
+        Mark::PlusPlus => Act::Steps,
+        Mark::MinusMinus => Act::Steps,
+        _ => Act::Nothing,
     }
 }
 
@@ -394,18 +333,38 @@ pub fn act_of(kind: Option<TokenKind>) -> Act
     ensures { result ≡ spec.act_of kind }
 {
     match kind {
+        Some(TokenKind::Mark { mark }) => act_mark(mark),
         Some(TokenKind::Name { id: _ }) => Act::Named,
-        Some(
-            TokenKind::Mark {
-                mark: Mark::PlusPlus,
-            },
-        ) => Act::Steps,
-        Some(
-            TokenKind::Mark {
-                mark: Mark::MinusMinus,
-            },
-        ) => Act::Steps,
         _ => Act::Nothing,
+    }
+}
+
+fn sort_mark(mark: Mark) -> Sort
+    ensures { result ≡ spec.sort_of (Some (TokenKind.Mark mark)) }
+{
+    match mark {
+        Mark::Semicolon => Sort::Empty,
+        Mark::LeftCurly => Sort::Curly,
+        Mark::PlusPlus => Sort::Simple,
+        Mark::MinusMinus => Sort::Simple,
+        _ => Sort::Nothing,
+    }
+}
+
+fn sort_word(word: Word) -> Sort
+    ensures { result ≡ spec.sort_of (Some (TokenKind.Word word)) }
+{
+    match word {
+        Word::Int => Sort::Declares,
+        Word::If => Sort::If,
+        Word::While => Sort::While,
+        Word::For => Sort::For,
+        Word::Pause => Sort::Pause,
+        Word::Par => Sort::Par,
+        Word::Weak => Sort::Weak,
+        Word::Abort => Sort::Abort,
+        Word::Return => Sort::Return,
+        _ => Sort::Nothing,
     }
 }
 
@@ -413,37 +372,24 @@ pub fn sort_of(kind: Option<TokenKind>) -> Sort
     ensures { result ≡ spec.sort_of kind }
 {
     match kind {
-        Some(
-            TokenKind::Mark {
-                mark: Mark::Semicolon,
-            },
-        ) => Sort::Empty,
-        Some(
-            TokenKind::Mark {
-                mark: Mark::LeftCurly,
-            },
-        ) => Sort::Curly,
-        Some(TokenKind::Word { word: Word::Int }) => Sort::Declares,
-        Some(TokenKind::Word { word: Word::If }) => Sort::If,
-        Some(TokenKind::Word { word: Word::While }) => Sort::While,
-        Some(TokenKind::Word { word: Word::For }) => Sort::For,
-        Some(TokenKind::Word { word: Word::Pause }) => Sort::Pause,
-        Some(TokenKind::Word { word: Word::Par }) => Sort::Par,
-        Some(TokenKind::Word { word: Word::Weak }) => Sort::Weak,
-        Some(TokenKind::Word { word: Word::Abort }) => Sort::Abort,
-        Some(TokenKind::Word { word: Word::Return }) => Sort::Return,
+        Some(TokenKind::Mark { mark }) => sort_mark(mark),
+        Some(TokenKind::Word { word }) => sort_word(word),
         Some(TokenKind::Name { id: _ }) => Sort::Simple,
-        Some(
-            TokenKind::Mark {
-                mark: Mark::PlusPlus,
-            },
-        ) => Sort::Simple,
-        Some(
-            TokenKind::Mark {
-                mark: Mark::MinusMinus,
-            },
-        ) => Sort::Simple,
         _ => Sort::Nothing,
+    }
+}
+
+fn opening_word(word: Word) -> Opening
+    ensures { result ≡ spec.opening_of (Some (TokenKind.Word word)) }
+{
+    match word {
+        Word::Const => Opening::Const,
+        Word::Input => Opening::Input,
+        Word::Output => Opening::Output,
+        Word::Shared => Opening::Shared,
+        Word::Int => Opening::Int,
+        Word::Void => Opening::Void,
+        _ => Opening::Nothing,
     }
 }
 
@@ -451,13 +397,19 @@ pub fn opening_of(kind: Option<TokenKind>) -> Opening
     ensures { result ≡ spec.opening_of kind }
 {
     match kind {
-        Some(TokenKind::Word { word: Word::Const }) => Opening::Const,
-        Some(TokenKind::Word { word: Word::Input }) => Opening::Input,
-        Some(TokenKind::Word { word: Word::Output }) => Opening::Output,
-        Some(TokenKind::Word { word: Word::Shared }) => Opening::Shared,
-        Some(TokenKind::Word { word: Word::Int }) => Opening::Int,
-        Some(TokenKind::Word { word: Word::Void }) => Opening::Void,
+        Some(TokenKind::Word { word }) => opening_word(word),
         _ => Opening::Nothing,
+    }
+}
+
+fn policy_word(word: Word) -> Option<Policy>
+    ensures { result ≡ spec.policy_of (Some (TokenKind.Word word)) }
+{
+    match word {
+        Word::All => Some(Policy::All),
+        Word::New => Some(Policy::New),
+        Word::Mod => Some(Policy::Mod),
+        _ => None,
     }
 }
 
@@ -465,9 +417,7 @@ pub fn policy_of(kind: Option<TokenKind>) -> Option<Policy>
     ensures { result ≡ spec.policy_of kind }
 {
     match kind {
-        Some(TokenKind::Word { word: Word::All }) => Some(Policy::All),
-        Some(TokenKind::Word { word: Word::New }) => Some(Policy::New),
-        Some(TokenKind::Word { word: Word::Mod }) => Some(Policy::Mod),
+        Some(TokenKind::Word { word }) => policy_word(word),
         _ => None,
     }
 }

@@ -7,6 +7,7 @@ ghost use Rattle.forec_tree.specs.declared.tree.Number.{Number};
 ghost use Rattle.forec_parser.specs.Input as spec;
 ghost use Rattle.forec_parser.specs.Input.{Reads};
 ghost use Rattle.forec_parser.specs.Reading as reading;
+ghost use Rattle.forec_parser.specs.Items as items;
 
 use crate::fault::Fault;
 use crate::fixed::{Fixed, is_fixed};
@@ -56,6 +57,16 @@ impl<'t> Tokens<'t> {
         ensures { result ≡ reading.next_is fixed self.now }
     {
         is_fixed(fixed, self.kind())
+    }
+
+    /// Whether no token is left.
+    pub fn at_end(&self) -> bool
+        ensures { result ≡ items.at_end (spec.kind_ahead self.now.rest) }
+    {
+        match self.kind() {
+            None => true,
+            Some(_) => false,
+        }
     }
 
     pub fn left(&self) -> usize

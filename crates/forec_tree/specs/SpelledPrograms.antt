@@ -16,10 +16,8 @@ use Rattle.forec_tree.specs.declared.tree.GlobalKind.{GlobalKind}
 use Rattle.forec_tree.specs.declared.tree.GlobalKind.TheVariants as sort
 use Rattle.forec_tree.specs.Terms.{Statement, PlainGlobal, PlainFunction, PlainItem, IsGlobal, IsFunction, Text}
 use Rattle.forec_tree.specs.Spelling.{Spelt, at, IsMark, IsWord, IsName, IsNumber, name_at, tokens, IsWithin}
-use Rattle.forec_tree.specs.SpelledStatements.{number_at, in_order, Separated, Lengths, Block}
-
-abbrev pub global_of : GlobalKind → Option Combine → Name → Option Number → List Number → PlainGlobal
-global_of kind combine name length values = record { name = name; kind = kind; length = length; values = values; combine = combine }
+use Rattle.forec_tree.specs.Parts.{number_at, in_order, global_of}
+use Rattle.forec_tree.specs.SpelledStatements.{Separated, Lengths, Block}
 
 -- a number with or without a sign: its value, wrapped, at the place of the first token
 pub data Signed : Number → ℕ → List Spelt → Type 0 where
@@ -69,6 +67,11 @@ pub data Params : List Name → ℕ → List Spelt → Type 0 where
   void_params : {v : ℕ} {t : Token} → IsWord word.Void t → Params [] v (at t v ∷ [])
   params : {v : ℕ} {names : List Name} {ls : List Spelt} → Separated Param names v ls → Params names v ls
 
+-- parameters, with their brackets
+pub data Parameters : List Name → ℕ → List Spelt → Type 0 where
+  parameters : {v : ℕ} {left : Token} (right : Token) {names : List Name} {ls : List Spelt} → IsMark mark.LeftRound left → Params names (v + 1) ls → IsMark mark.RightRound right
+      → Parameters names v (at left (v + 1) ∷ (ls ++ (at right v ∷ [])))
+
 -- `int` where the function gives a number, `void` where it does not
 abbrev pub gives_word : Bool → Word
 gives_word true = word.Int
@@ -91,10 +94,9 @@ pub data Introduces : List PlainItem → ℕ → List Spelt → Type 0 where
   shares : {v : ℕ} (int semicolon : Token) {kind : GlobalKind} {global : PlainGlobal} {combine : Combine} {ls ms rs : List Spelt}
       → Sharing kind v ls → IsWord word.Int int → Scalar kind (Some combine) global v ms → Combines combine v rs → IsMark mark.Semicolon semicolon
       → Introduces (IsGlobal global ∷ []) v (ls ++ (at int v ∷ (ms ++ (rs ++ (at semicolon v ∷ [])))))
-  function : {v : ℕ} {t name left : Token} (right : Token) {place : Place} {parameters : List Name} {body : List Statement} {ls ms : List Spelt} (gives : Bool) (id : ℕ)
-      → IsWord (gives_word gives) t → IsName id name → IsMark mark.LeftRound left → Params parameters (v + 1) ls → IsMark mark.RightRound right → Block place body v v ms
-      → Introduces (IsFunction (record { name = name_at id name.place; gives = gives; params = parameters; body = in_order body }) ∷ []) v
-          (at t v ∷ at name v ∷ at left (v + 1) ∷ (ls ++ (at right v ∷ ms)))
+  function : {v : ℕ} {t name : Token} {place : Place} {names : List Name} {body : List Statement} {ls ms : List Spelt} (gives : Bool) (id : ℕ)
+      → IsWord (gives_word gives) t → IsName id name → Parameters names v ls → Block place body v v ms
+      → Introduces (IsFunction (record { name = name_at id name.place; gives = gives; params = names; body = in_order body }) ∷ []) v (at t v ∷ at name v ∷ (ls ++ ms))
 
 pub data Programs : Text → ℕ → List Spelt → Type 0 where
   no_items : {v : ℕ} → Programs [] v []

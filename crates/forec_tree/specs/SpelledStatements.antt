@@ -2,75 +2,21 @@
 use Rattle.std.specs.Prelude.{◌≡◌, ℕ, ℤ, pos, ◌+◌, Bool, true, false, List, [], ◌∷◌, ◌++◌, Option, Some, None}
 use Rattle.forec_base.specs.declared.Place.{Place}
 use Rattle.forec_base.specs.declared.operators.Binary.{Binary}
-use Rattle.forec_base.specs.declared.operators.Binary.TheVariants as bin
 use Rattle.forec_tree.specs.declared.token.Token.{Token}
-use Rattle.forec_tree.specs.declared.token.TokenKind.{TokenKind}
-use Rattle.forec_tree.specs.declared.token.TokenKind.TheVariants as kind
 use Rattle.forec_tree.specs.declared.token.Mark.TheVariants as mark
 use Rattle.forec_tree.specs.declared.token.Word.{Word}
 use Rattle.forec_tree.specs.declared.token.Word.TheVariants as word
-use Rattle.forec_tree.specs.declared.tree.Name.{Name}
 use Rattle.forec_tree.specs.declared.tree.Number.{Number}
-use Rattle.forec_tree.specs.declared.tree.OpAt.{OpAt}
 use Rattle.forec_tree.specs.Terms as plain
-use Rattle.forec_tree.specs.Terms.{Term, Terms, Declared, Written, Statement, Statements, no_statements, more_statements, Perhaps, absent, present, Branches, no_branches, by_call, by_group}
+use Rattle.forec_tree.specs.Terms.{Term, Declared, Written, Statement, Perhaps, absent, present}
+use Rattle.forec_tree.specs.Parts.{number_at, op_at, updates_by, steps_by, written_at, declared_as, in_order, Launch, Calls, Blocks, launched, Head, head_of}
 use Rattle.forec_tree.specs.Spelling.{Spelt, at, IsMark, IsWord, IsName, IsNumber, name_at, listed, Whole, Brackets, Indexes, Passes, Arguments}
-
-abbrev pub number_at : ℤ → Place → Number
-number_at value place = record { value = value; place = place }
-
-abbrev pub op_at : Binary → Place → OpAt
-op_at op place = record { op = op; place = place }
-
--- the operator of `+=` and its kin
-abbrev pub updates_by : TokenKind → Option Binary
-updates_by (kind.Mark mark.ShlAssign) = Some bin.Shl
-updates_by (kind.Mark mark.ShrAssign) = Some bin.Shr
-updates_by (kind.Mark mark.AddAssign) = Some bin.Add
-updates_by (kind.Mark mark.SubAssign) = Some bin.Sub
-updates_by (kind.Mark mark.MulAssign) = Some bin.Mul
-updates_by (kind.Mark mark.DivAssign) = Some bin.Div
-updates_by (kind.Mark mark.RemAssign) = Some bin.Rem
-updates_by (kind.Mark mark.AndAssign) = Some bin.BitAnd
-updates_by (kind.Mark mark.OrAssign) = Some bin.BitOr
-updates_by (kind.Mark mark.XorAssign) = Some bin.BitXor
-updates_by _ = None
-
--- the operator of `++` and `--`
-abbrev pub steps_by : TokenKind → Option Binary
-steps_by (kind.Mark mark.PlusPlus) = Some bin.Add
-steps_by (kind.Mark mark.MinusMinus) = Some bin.Sub
-steps_by _ = None
 
 abbrev pub IsUpdate : Binary → Token → Type 0
 IsUpdate op t = updates_by t.kind ≡ Some op
 
 abbrev pub IsStep : Binary → Token → Type 0
 IsStep op t = steps_by t.kind ≡ Some op
-
-abbrev pub written_at : Name → Option Term → Written
-written_at name index = record { name = name; index = index }
-
-abbrev pub declared_as : Name → Option Number → List Term → Declared
-declared_as name length values = record { name = name; length = length; values = listed values }
-
--- the statements of a list, as a statement holds them
-abbrev pub in_order : List Statement → Statements
-in_order [] = no_statements
-in_order (s ∷ ss) = more_statements s (in_order ss)
-
--- a branch of a `par`: a void function with arguments, or a block
-pub data Launch : Type 0 where
-  Calls : (name : Name) → (args : Terms) → Launch
-  Blocks : (place : Place) → (body : Statements) → Launch
-
-abbrev pub launched_before : Launch → Branches → Branches
-launched_before (Calls name args) rest = by_call name args rest
-launched_before (Blocks place body) rest = by_group place body rest
-
-abbrev pub launched : List Launch → Branches
-launched [] = no_branches
-launched (b ∷ bs) = launched_before b (launched bs)
 
 -- One or more, with a comma between each two; `Part x v ls` says that the tokens of ls spell x at the level v.
 pub data Separated {A : Type 0} (Part : A → ℕ → List Spelt → Type 0) : List A → ℕ → List Spelt → Type 0 where
@@ -143,20 +89,16 @@ pub data Steps : Perhaps → ℕ → List Spelt → Type 0 where
   no_step : {v : ℕ} → Steps absent v []
   some_step : {v : ℕ} {x : Statement} {ls : List Spelt} → Simple x v ls → Steps (present x) v ls
 
+-- what stands between the brackets of a `for`
+pub data HeadParts : Head → ℕ → List Spelt → Type 0 where
+  head_parts : {v : ℕ} (first second : Token) {start : Perhaps} {test : Option Term} {step : Perhaps} {ls ms rs : List Spelt}
+      → Starts start v ls → IsMark mark.Semicolon first → Tests test v ms → IsMark mark.Semicolon second → Steps step v rs
+      → HeadParts (head_of start test step) v (ls ++ (at first v ∷ (ms ++ (at second v ∷ rs))))
+
 -- the head of a `for`, with its brackets
-pub record Head : Type 0 where
-  pub start : Perhaps
-  pub test : Option Term
-  pub step : Perhaps
-
-abbrev pub head_of : Perhaps → Option Term → Perhaps → Head
-head_of start test step = record { start = start; test = test; step = step }
-
 pub data Heads : Head → ℕ → List Spelt → Type 0 where
-  heads : {v : ℕ} {left : Token} (first second right : Token) {start : Perhaps} {test : Option Term} {step : Perhaps} {ls ms rs : List Spelt}
-      → IsMark mark.LeftRound left → Starts start (v + 1) ls → IsMark mark.Semicolon first → Tests test (v + 1) ms → IsMark mark.Semicolon second
-      → Steps step (v + 1) rs → IsMark mark.RightRound right
-      → Heads (head_of start test step) v (at left (v + 1) ∷ (ls ++ (at first (v + 1) ∷ (ms ++ (at second (v + 1) ∷ (rs ++ (at right v ∷ [])))))))
+  heads : {v : ℕ} {left : Token} (right : Token) {head : Head} {ls : List Spelt} → IsMark mark.LeftRound left → HeadParts head (v + 1) ls → IsMark mark.RightRound right
+      → Heads head v (at left (v + 1) ∷ (ls ++ (at right v ∷ [])))
 
 -- ---- statements
 
@@ -181,8 +123,8 @@ mutual
         → Says (plain.If t.place test first absent) true v u (at t (v + 1) ∷ (ls ++ ms))
     -- what stands before `else` does not end in an `if` without `else`
     if_else : {v u : ℕ} {o : Bool} {t : Token} (other : Token) {test : Term} {first second : Statement} {ls ms rs : List Spelt}
-        → IsWord word.If t → Brackets test (v + 1) ls → Says first false (v + 1) (v + 1) ms → IsWord word.Else other → Says second o (v + 2) u rs
-        → Says (plain.If t.place test first (present second)) o v u (at t (v + 1) ∷ (ls ++ (ms ++ (at other (v + 2) ∷ rs))))
+        → IsWord word.If t → Brackets test (v + 1) ls → Says first false (v + 1) (v + 1) ms → IsWord word.Else other → Says second o (v + 1 + 1) u rs
+        → Says (plain.If t.place test first (present second)) o v u (at t (v + 1) ∷ (ls ++ (ms ++ (at other (v + 1 + 1) ∷ rs))))
     loops : {v u : ℕ} {o : Bool} {t : Token} {test : Term} {bound : Option Number} {body : Statement} {ls ms rs : List Spelt}
         → IsWord word.While t → Brackets test (v + 1) ls → Bounds bound (v + 1) ms → Says body o (v + 1) u rs
         → Says (plain.While t.place test bound body) o v u (at t (v + 1) ∷ (ls ++ (ms ++ rs)))
@@ -190,9 +132,8 @@ mutual
         → IsWord word.For t → Heads head (v + 1) ls → Bounds bound (v + 1) ms → Says body o (v + 1) u rs
         → Says (plain.For t.place head.start head.test head.step bound body) o v u (at t (v + 1) ∷ (ls ++ (ms ++ rs)))
     pauses : {v u : ℕ} {t semicolon : Token} → IsWord word.Pause t → IsMark mark.Semicolon semicolon → Says (plain.Pause t.place) false v u (at t v ∷ at semicolon u ∷ [])
-    forks : {v u : ℕ} {t left : Token} (right semicolon : Token) {branches : List Launch} {ls : List Spelt}
-        → IsWord word.Par t → IsMark mark.LeftRound left → Launches branches (v + 1) ls → IsMark mark.RightRound right → IsMark mark.Semicolon semicolon
-        → Says (plain.Par t.place (launched branches)) false v u (at t v ∷ at left (v + 1) ∷ (ls ++ (at right v ∷ at semicolon u ∷ [])))
+    forks : {v u : ℕ} {t : Token} (semicolon : Token) {branches : List Launch} {ls : List Spelt} → IsWord word.Par t → Forks branches v ls → IsMark mark.Semicolon semicolon
+        → Says (plain.Par t.place (launched branches)) false v u (at t v ∷ (ls ++ (at semicolon u ∷ [])))
     -- the place is that of `abort`
     aborts : {v u : ℕ} {weak immediate : Bool} {place : Place} (t when semicolon : Token) {test : Term} {body : List Statement} {ws ls is ms : List Spelt}
         → Optional word.Weak weak v ws → IsWord word.Abort t → Block place body (v + 1) (v + 1) ls
@@ -211,6 +152,11 @@ mutual
   pub data Lists : List Statement → ℕ → List Spelt → Type 0 where
     no_more : {v : ℕ} → Lists [] v []
     and_more : {v : ℕ} {o : Bool} {x : Statement} {xs : List Statement} {ls rs : List Spelt} → Says x o v v ls → Lists xs v rs → Lists (x ∷ xs) v (ls ++ rs)
+
+  -- branches, with their brackets
+  pub data Forks : List Launch → ℕ → List Spelt → Type 0 where
+    forked : {v : ℕ} {left : Token} (right : Token) {branches : List Launch} {ls : List Spelt} → IsMark mark.LeftRound left → Launches branches (v + 1) ls → IsMark mark.RightRound right
+        → Forks branches v (at left (v + 1) ∷ (ls ++ (at right v ∷ [])))
 
   pub data Starting : Launch → ℕ → List Spelt → Type 0 where
     bare_call : {v : ℕ} {t : Token} (id : ℕ) → IsName id t → Starting (Calls (name_at id t.place) (listed [])) v (at t v ∷ [])
