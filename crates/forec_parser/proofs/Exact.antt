@@ -1,14 +1,14 @@
 -- A parser and what it reads, both ways; and the same of each way to put parsers together.
 use mathlib.Core.Path.{subst}
-use Rattle.std.proofs.Common.{◌≡◌, ℕ, ◌+◌, ◌≤◌, Bool, true, false, cond, List, [], ◌∷◌, ◌++◌, Option, Some, None, Ok, Err, refl, sym, ◌∙◌, ap, arith}
+use Rattle.std.proofs.Common.{◌≡◌, ℕ, ◌≤◌, Bool, true, false, cond, List, [], ◌++◌, Option, Ok, refl, sym, ◌∙◌, ap}
 use Rattle.forec_tree.specs.declared.token.Token.{Token}
 use Rattle.forec_tree.specs.declared.token.TokenKind.{TokenKind}
-use Rattle.forec_tree.specs.Spelling.{Spelt, at, tokens, IsWithin}
+use Rattle.forec_tree.specs.Spelling.{Spelt, tokens, IsWithin}
 use Rattle.forec_parser.specs.declared.fixed.Fixed.{Fixed}
-use Rattle.forec_parser.specs.Input.{Input, input, Parser, Outcome, and_then, ◌>>=◌, pure, scoped, kind_ahead}
+use Rattle.forec_parser.specs.Input.{Input, input, Parser, and_then, ◌>>=◌, pure, scoped, kind_ahead}
 use Rattle.forec_parser.specs.Meaning.{is_fixed}
 use Rattle.forec_parser.specs.Reading.{next_is}
-use Rattle.forec_parser.proofs.Spans.{tokens_append, within_front, within_back, within_join, first, first-is, Step, step, ok_of, ok_pair}
+use Rattle.forec_parser.proofs.Spans.{tokens_append, within_front, within_back, within_join, first, first-is, step, ok_of, ok_pair}
 
 -- what a parser reads: the level before, the value, the level behind, the tokens, and the kind of the token behind them
 abbrev pub Lang : Type 0 → Type 1

@@ -1,6 +1,5 @@
 -- What is spelled as an expression is read.
-use mathlib.Core.Path.{subst}
-use Rattle.std.proofs.Common.{◌≡◌, ℕ, ℤ, zero, suc, ◌+◌, ◌≤◌, ◌<◌, Bool, true, false, nat_lt, List, [], ◌∷◌, ◌++◌, length, Option, Some, None, Ok, refl, sym, ◌∙◌, ap, arith}
+use Rattle.std.proofs.Common.{◌≡◌, ℕ, ℤ, zero, suc, ◌+◌, ◌≤◌, ◌<◌, Bool, true, false, nat_lt, List, [], ◌∷◌, ◌++◌, length, Option, Some, Ok, refl, ◌∙◌, ap, arith}
 use Rattle.forec_base.specs.declared.operators.Unary.{Unary}
 use Rattle.forec_base.specs.declared.operators.Unary.TheVariants as un
 use Rattle.forec_tree.specs.declared.operators.Operator.{Operator}
@@ -21,7 +20,7 @@ use Rattle.forec_parser.specs.Meaning.{start_of, infix_of, behind_of, binds, is_
 use Rattle.forec_parser.specs.Reading as reading
 use Rattle.forec_parser.specs.Reading.{ahead, expr, climb, prefix, operation, close}
 use Rattle.forec_parser.proofs.Spans.{tokens_append, longer, within_front, within_back, first, first-is, raise_ok}
-use Rattle.forec_parser.proofs.Exact.{Exact, Part, part, Reading, reading, Any, Bind, both, Map, mapped, Scoped, inside, Done, done, If, on, off, map_to, reads_by, read_at}
+use Rattle.forec_parser.proofs.Exact.{part, Reading, reading, both, mapped, inside, done, on, off, map_to, reads_by, read_at}
 use Rattle.forec_parser.proofs.Leaves.{name_is, number_is, a_number, between, Listed, end_of_list, next_of_list, full_commas, Full, full, Filled, is_so, close_ok}
 use Rattle.forec_parser.proofs.Operators.{sign_start, mark_infix, mark_behind, level_bounds, binds_small, ends, ends_ahead, ends_behind}
 use Rattle.forec_parser.proofs.ExpressionSound.{sound, a_value, a_bracketed, an_indexed, a_passed, a_named, indexed_by, passed_by, value_by}

@@ -20,13 +20,13 @@ use Rattle.forec_parser.specs.declared.meaning.Infix.{Infix}
 use Rattle.forec_parser.specs.declared.meaning.Infix.TheVariants as inf
 use Rattle.forec_parser.specs.declared.meaning.Behind.{Behind}
 use Rattle.forec_parser.specs.declared.meaning.Behind.TheVariants as follow
-use Rattle.forec_parser.specs.Input.{Input, input, Parser, Outcome, and_then, pure, kind_ahead, raise}
-use Rattle.forec_parser.specs.Meaning.{start_of, infix_of, behind_of, binds, is_fixed}
+use Rattle.forec_parser.specs.Input.{Input, Parser, and_then, kind_ahead, raise}
+use Rattle.forec_parser.specs.Meaning.{start_of, infix_of, behind_of, binds}
 use Rattle.forec_parser.specs.Reading as reading
 use Rattle.forec_parser.specs.Reading.{infix_at, ahead, name, number, expr, climb, prefix, prefix_by, named_by, operation, operation_by, close}
-use Rattle.forec_parser.proofs.Spans.{first, Step, step, ok_of, ok_pair, Raised, raised}
+use Rattle.forec_parser.proofs.Spans.{first, step, ok_of, ok_pair, Raised, raised}
 use Rattle.forec_parser.proofs.Exact.{Lang, Read, Exact, Bind, both, Map, mapped, Scoped, inside, Done, done, If, on, off, Part, part, Reading, Any, bind, map_to, scope, convert, either, done_at, by_reading, then_read, read_as}
-use Rattle.forec_parser.proofs.Leaves.{Is, Tok, tok, Up, up, NameIs, name_is, NumberIs, number_is, token, opening, a_name, a_number, Enclosed, between, enclosing, l_sound, Listed, end_of_list, next_of_list, commas, Filled}
+use Rattle.forec_parser.proofs.Leaves.{Tok, tok, NameIs, name_is, NumberIs, number_is, token, a_name, a_number, Enclosed, between, enclosing, l_sound, Listed, end_of_list, next_of_list}
 use Rattle.forec_parser.proofs.Operators.{Begins, begins, Joins, joins, mark_infix, level_bounds, binds_small}
 
 -- an expression at a level of the operators

@@ -1,6 +1,6 @@
 -- Parts of globals and functions: what is read, both ways.
 use mathlib.Core.Path.{subst}
-use Rattle.std.proofs.Common.{◌≡◌, ℕ, ◌+◌, ◌≤◌, Bool, true, false, List, [], ◌∷◌, ◌++◌, map, Option, Some, None, Ok, refl, sym, ◌∙◌, ap, arith}
+use Rattle.std.proofs.Common.{◌≡◌, ℕ, ◌+◌, ◌≤◌, true, false, List, [], ◌∷◌, ◌++◌, map, Option, Some, None, Ok, refl, sym, ap, arith}
 use Rattle.forec_base.specs.declared.Policy.{Policy}
 use Rattle.forec_base.specs.declared.Policy.TheVariants as policy
 use Rattle.forec_base.specs.declared.operators.Unary.TheVariants as un
@@ -17,25 +17,25 @@ use Rattle.forec_tree.specs.declared.tree.GlobalKind.{GlobalKind}
 use Rattle.forec_tree.specs.declared.tree.GlobalKind.TheVariants as glob
 use Rattle.forec_tree.specs.Terms.{PlainGlobal, PlainItem, IsGlobal}
 use Rattle.forec_tree.specs.Parts.{number_at, global_of}
-use Rattle.forec_tree.specs.Spelling.{Spelt, at, IsMark, IsWord, IsWithin}
-use Rattle.forec_tree.specs.SpelledStatements.{Separated, last_part, next_part, Lengths, lengths}
+use Rattle.forec_tree.specs.Spelling.{Spelt, at, IsMark, IsWord}
+use Rattle.forec_tree.specs.SpelledStatements.{Separated, last_part, next_part}
 use Rattle.forec_tree.specs.SpelledPrograms.{Signed, positive, negative, Named, named, Scalar, unset, set, Table, constant, table, policy_word, Combines, combines, Param, param, Params, no_params, void_params, params, Parameters, parameters}
 use Rattle.forec_parser.specs.declared.fixed.Fixed.TheVariants as fixed
 use Rattle.forec_parser.specs.declared.meaning.Declarator.{Declarator}
 use Rattle.forec_parser.specs.declared.meaning.Declarator.TheVariants as decl
-use Rattle.forec_parser.specs.Input.{Input, input, Parser, kind_ahead, take}
+use Rattle.forec_parser.specs.Input.{Input, Parser, kind_ahead, take}
 use Rattle.forec_parser.specs.Meaning.{policy_of, is_fixed}
-use Rattle.forec_parser.specs.Reading.{number, name, separated}
+use Rattle.forec_parser.specs.Reading.{separated}
 use Rattle.forec_parser.specs.Statements as st
 use Rattle.forec_parser.specs.Items as it
 use Rattle.forec_parser.specs.Items.{combine_of}
-use Rattle.forec_parser.proofs.Spans.{first, Step, step, ok_pair, Took, took, head_kind, take_ok}
+use Rattle.forec_parser.proofs.Spans.{first, step, ok_pair, took, head_kind, take_ok}
 use Rattle.forec_parser.proofs.Closers.{fixed-kind}
-use Rattle.forec_parser.proofs.Exact.{Lang, Read, Exact, Bind, both, Map, mapped, Done, done, If, on, off, Part, part, Reading, reading, Any, bind, map_to, convert, either, done_at, by_reading, read_as, reads_by, read_at}
-use Rattle.forec_parser.proofs.Leaves.{Is, Tok, tok, NameIs, name_is, NumberIs, number_is, token, a_name, a_number, Enclosed, between, enclosing, Listed, end_of_list, next_of_list, full_commas, Full, full, Filled, is_so}
-use Rattle.forec_parser.proofs.Operators.{ends, ends_square, ends_assign}
+use Rattle.forec_parser.proofs.Exact.{Lang, Read, Exact, Bind, both, Map, mapped, Done, done, If, on, off, Part, part, Reading, reading, Any, bind, map_to, convert, either, done_at, by_reading, read_as, reads_by}
+use Rattle.forec_parser.proofs.Leaves.{Tok, tok, NameIs, name_is, NumberIs, number_is, token, a_name, a_number, Enclosed, between, enclosing, Listed, end_of_list, next_of_list, full_commas, Full, full, Filled, is_so}
+use Rattle.forec_parser.proofs.Operators.{ends, ends_assign}
 use Rattle.forec_parser.proofs.SimpleRules.{a_list, list_reads}
-use Rattle.forec_parser.proofs.PartRules.{MaybeLength, some_length, no_length, maybe_length_by, maybe_length_reads, length_reads}
+use Rattle.forec_parser.proofs.PartRules.{MaybeLength, some_length, no_length, maybe_length_by, maybe_length_reads}
 
 curly_ends : (t : Token) → IsMark mark.RightCurly t → ends (Some t.kind) ≡ true
 curly_ends t h = rw h

@@ -1,6 +1,5 @@
 -- Globals, functions and programs: what is read, both ways.
-use mathlib.Core.Path.{subst}
-use Rattle.std.proofs.Common.{◌≡◌, ℕ, zero, suc, ◌+◌, ◌≤◌, Bool, true, false, cond, List, [], ◌∷◌, ◌++◌, length, map, Option, Some, None, Ok, Err, refl, sym, ◌∙◌, ap, append_assoc, append-nil, arith}
+use Rattle.std.proofs.Common.{◌≡◌, ℕ, suc, ◌≤◌, Bool, true, false, List, [], ◌∷◌, ◌++◌, map, Option, Some, None, Ok, ◌∙◌, ap, arith}
 use Rattle.forec_base.specs.declared.Place.{Place}
 use Rattle.forec_tree.specs.declared.token.Token.{Token}
 use Rattle.forec_tree.specs.declared.token.TokenKind.{TokenKind}
@@ -12,33 +11,31 @@ use Rattle.forec_tree.specs.declared.tree.Number.{Number}
 use Rattle.forec_tree.specs.declared.tree.Combine.{Combine}
 use Rattle.forec_tree.specs.declared.tree.GlobalKind.{GlobalKind}
 use Rattle.forec_tree.specs.declared.tree.GlobalKind.TheVariants as glob
-use Rattle.forec_tree.specs.Terms.{Statement, PlainGlobal, PlainItem, IsGlobal, IsFunction, Text}
+use Rattle.forec_tree.specs.Terms.{Statement, PlainGlobal, PlainItem, IsGlobal, IsFunction}
 use Rattle.forec_tree.specs.Parts.{in_order, global_of}
-use Rattle.forec_tree.specs.Spelling.{Spelt, at, tokens, IsMark, IsWord, IsName, IsWithin, name_at}
+use Rattle.forec_tree.specs.Spelling.{Spelt, at, tokens, IsMark, IsWord, IsName, name_at}
 use Rattle.forec_tree.specs.SpelledStatements.{Separated, last_part, next_part, Block, block}
 use Rattle.forec_tree.specs.SpelledPrograms.{Signed, positive, negative, Named, Scalar, unset, set, Table, Sharing, Combines, combines, Parameters, parameters, gives_word, Introduces, constants, inputs, outputs, globals, shares, function, Programs, no_items, more_items}
 use Rattle.forec_tree.specs.SpelledPrograms as sp
-use Rattle.forec_parser.specs.declared.fault.Fault.TheVariants.{Syntax}
 use Rattle.forec_parser.specs.declared.fixed.Fixed.{Fixed}
 use Rattle.forec_parser.specs.declared.fixed.Fixed.TheVariants as fixed
 use Rattle.forec_parser.specs.declared.meaning.Opening.{Opening}
 use Rattle.forec_parser.specs.declared.meaning.Opening.TheVariants as opening
 use Rattle.forec_parser.specs.declared.meaning.Declarator.{Declarator}
 use Rattle.forec_parser.specs.declared.meaning.Declarator.TheVariants as decl
-use Rattle.forec_parser.specs.Input.{Input, input, Parser, and_then, kind_ahead}
+use Rattle.forec_parser.specs.Input.{Input, kind_ahead}
 use Rattle.forec_parser.specs.Meaning.{opening_of, is_fixed}
-use Rattle.forec_parser.specs.Reading.{separated}
 use Rattle.forec_parser.specs.Statements as st
 use Rattle.forec_parser.specs.Statements.{stmt}
 use Rattle.forec_parser.specs.Items as it
 use Rattle.forec_parser.specs.Items.{at_end}
-use Rattle.forec_parser.proofs.Spans.{tokens_append, within_front, within_back, first, first-is, Step, step, ok_of, ok_pair}
-use Rattle.forec_parser.proofs.Exact.{Lang, Read, Exact, Bind, both, Map, mapped, Done, done, If, on, off, Part, part, Reading, reading, Any, bind, map_to, convert, either, done_at, by_reading, then_read, read_as, reads_by, read_at}
-use Rattle.forec_parser.proofs.Leaves.{Tok, tok, NameIs, name_is, token, a_name, between, Listed, Full, Filled, filled-long, is_so}
+use Rattle.forec_parser.proofs.Spans.{first, first-is}
+use Rattle.forec_parser.proofs.Exact.{Lang, Read, Exact, Bind, both, Map, mapped, Done, done, If, on, off, Part, part, Reading, reading, Any, bind, map_to, convert, either, done_at, by_reading, read_as, reads_by, read_at}
+use Rattle.forec_parser.proofs.Leaves.{Tok, tok, NameIs, name_is, token, a_name, between, Listed, Full, Filled, is_so}
 use Rattle.forec_parser.proofs.Operators.{ends}
 use Rattle.forec_parser.proofs.StatementSound.{Bodied, bodied, Braces, block_here, sound_stmt}
 use Rattle.forec_parser.proofs.StatementComplete.{here_reads, block_reads}
-use Rattle.forec_parser.proofs.ItemRules.{MaybeValue, no_value, some_value, IsItem, is_item, Wrapped, wrapped, DeclaredAs, wrap_in, items_read, maybe_value_by, maybe_value_reads, combines_by, combines_reads, parameters_by, parameters_read, declared_reads, declared_filled, declared_list}
+use Rattle.forec_parser.proofs.ItemRules.{MaybeValue, no_value, some_value, IsItem, Wrapped, wrapped, DeclaredAs, wrap_in, items_read, maybe_value_by, maybe_value_reads, combines_by, combines_reads, parameters_by, parameters_read, declared_reads, declared_filled, declared_list}
 
 semicolon_ends : (t : Token) → IsMark mark.Semicolon t → ends (Some t.kind) ≡ true
 semicolon_ends t h = rw h
@@ -78,7 +75,6 @@ data PlainRest (n : Name) : List PlainItem → ℕ → List Spelt → Type 0 whe
 module _ (limit : ℕ) where
   abbrev IntsBy : Lang (List PlainItem) → Lang (List PlainItem)
   IntsBy L = Bind (Tok fixed.Int) (λ _. Bind L (λ found. Map (λ (_ : Token). found) (Tok fixed.Semicolon)))
-
 
   an_ints : (d : Declarator) → Exact limit (it.ints limit d) (Part Any (Ints d)) (IntsBy (Listed (Full (Reading limit (it.declared limit d)))))
   unfolding it.ints it.globals

@@ -3,12 +3,12 @@ use Rattle.std.proofs.Common.{◌≡◌, Bool, List, [], ◌∷◌, map, refl, s
 use Rattle.forec_base.specs.declared.Place.{Place}
 use Rattle.forec_tree.specs.declared.tree.Name.{Name}
 use Rattle.forec_tree.specs.declared.tree.Expr.{Expr}
-use Rattle.forec_tree.specs.declared.tree.ExprKind.{ExprKind, Call}
+use Rattle.forec_tree.specs.declared.tree.ExprKind.{Call}
 use Rattle.forec_tree.specs.Terms as plain
 use Rattle.forec_tree.specs.Terms.{more_terms, more_statements}
 use Rattle.forec_tree.specs.Plain.{term, terms, term_at, statement, statements, statement_at, branches, branch_with}
 use Rattle.forec_tree.specs.declared.tree.Stmt.{Stmt}
-use Rattle.forec_tree.specs.declared.tree.StmtKind.{StmtKind, Group, Abort, Par}
+use Rattle.forec_tree.specs.declared.tree.StmtKind.{Group, Abort, Par}
 use Rattle.forec_tree.specs.declared.tree.Branch.{Branch}
 use Rattle.forec_tree.specs.declared.tree.Branch as branch
 use Rattle.forec_tree.specs.Parts.{in_order, Launch, Calls, Blocks, launched, launched_before}

@@ -1,5 +1,5 @@
 -- Declarators, bounds and heads of loops: what is read, both ways.
-use Rattle.std.proofs.Common.{◌≡◌, ℕ, suc, ◌+◌, ◌≤◌, Bool, true, false, List, [], ◌∷◌, ◌++◌, Option, Some, None, refl, ap, arith}
+use Rattle.std.proofs.Common.{◌≡◌, ℕ, ◌+◌, ◌≤◌, true, false, List, [], ◌∷◌, ◌++◌, Option, Some, None, ap}
 use Rattle.forec_tree.specs.declared.token.Token.{Token}
 use Rattle.forec_tree.specs.declared.token.TokenKind.{TokenKind}
 use Rattle.forec_tree.specs.declared.token.TokenKind.TheVariants as kind
@@ -8,18 +8,16 @@ use Rattle.forec_tree.specs.declared.tree.Name.{Name}
 use Rattle.forec_tree.specs.declared.tree.Number.{Number}
 use Rattle.forec_tree.specs.Terms as plain
 use Rattle.forec_tree.specs.Terms.{Term, Declared, Statement, Perhaps, absent, present}
-use Rattle.forec_tree.specs.Spelling.{Spelt, at, IsMark, IsWord, IsName, IsNumber, name_at, IsWithin, Whole, Arguments}
+use Rattle.forec_tree.specs.Spelling.{Spelt, at, IsMark, Whole, Arguments}
 use Rattle.forec_tree.specs.Parts.{declared_as, Head, head_of}
-use Rattle.forec_tree.specs.SpelledStatements.{Separated, Simple, Lengths, lengths, Declares, bare, valued, array, valued_array, Bounds, unbounded, bounded, Starts, no_start, simple_start, declared_start, Tests, no_test, some_test, Steps, no_step, some_step, HeadParts, head_parts, Heads, heads}
+use Rattle.forec_tree.specs.SpelledStatements.{Simple, Lengths, lengths, Declares, bare, valued, array, valued_array, Bounds, unbounded, bounded, Starts, no_start, simple_start, declared_start, Tests, no_test, some_test, Steps, no_step, some_step, HeadParts, head_parts, Heads, heads}
 use Rattle.forec_parser.specs.declared.fixed.Fixed.{Fixed}
 use Rattle.forec_parser.specs.declared.fixed.Fixed.TheVariants as fixed
-use Rattle.forec_parser.specs.Input.{pure}
 use Rattle.forec_parser.specs.Meaning.{is_fixed}
-use Rattle.forec_parser.specs.Reading.{number, close}
 use Rattle.forec_parser.specs.Statements as st
 use Rattle.forec_parser.proofs.Spans.{first}
-use Rattle.forec_parser.proofs.Exact.{Lang, Read, Exact, Bind, both, Map, mapped, Done, done, If, on, off, Part, part, Reading, reading, Any, bind, map_to, convert, either, done_at, by_reading, read_as, reads_by, read_at}
-use Rattle.forec_parser.proofs.Leaves.{Is, Tok, tok, NameIs, name_is, NumberIs, number_is, token, a_name, a_number, Enclosed, between, enclosing, is_so}
+use Rattle.forec_parser.proofs.Exact.{Lang, Exact, Bind, both, Map, mapped, Done, done, If, on, off, Part, part, Reading, reading, Any, bind, map_to, convert, either, done_at, by_reading, read_as, reads_by, read_at}
+use Rattle.forec_parser.proofs.Leaves.{Tok, tok, NameIs, name_is, NumberIs, number_is, token, a_name, a_number, Enclosed, between, enclosing, is_so}
 use Rattle.forec_parser.proofs.Operators.{ends, ends_square, ends_assign}
 use Rattle.forec_parser.proofs.ExpressionComplete.{begun_whole, begun_semicolon}
 use Rattle.forec_parser.proofs.Marks.{acts_first, acts_semicolon, acts_round, acts_int}

@@ -1,6 +1,6 @@
 -- Reading a program is the converse of spelling it, and no tokens spell two programs.
 use mathlib.Core.Path.{subst}
-use Rattle.std.proofs.Common.{◌≡◌, ◌≢◌, ℕ, zero, suc, ◌+◌, ◌≤◌, Bool, true, false, cond, List, [], ◌∷◌, ◌++◌, length, Option, Some, None, Result, Ok, Err, refl, sym, ◌∙◌, ap, append_assoc, append-nil, arith}
+use Rattle.std.proofs.Common.{◌≡◌, ◌≢◌, ℕ, zero, suc, ◌+◌, ◌≤◌, Bool, true, false, cond, List, [], ◌∷◌, ◌++◌, length, Option, Ok, Err, refl, sym, ◌∙◌, ap, append_assoc, append-nil, arith}
 use Rattle.forec_tree.specs.declared.token.Token.{Token}
 use Rattle.forec_tree.specs.declared.token.TokenKind.{TokenKind}
 use Rattle.forec_tree.specs.declared.tree.Program.{Program}
@@ -11,10 +11,10 @@ use Rattle.forec_tree.specs.SpelledPrograms.{Introduces, Programs, no_items, mor
 use Rattle.forec_parser.specs.declared.fault.Fault.{Fault}
 use Rattle.forec_parser.specs.declared.fault.Fault.TheVariants.{Syntax, Deep, OutOfMemory}
 use Rattle.forec_parser.specs.declared.fault.ParseFault.TheVariants as public
-use Rattle.forec_parser.specs.Input.{Input, input, Outcome, and_then, kind_ahead, max_level}
+use Rattle.forec_parser.specs.Input.{Input, input, and_then, kind_ahead, max_level}
 use Rattle.forec_parser.specs.Items.{item, items, items_from, at_end}
-use Rattle.forec_parser.specs.Program.{Ends, Gives, told_of}
-use Rattle.forec_parser.proofs.Spans.{tokens_append, within_front, within_back, within_more, Step, step, ok_of, ok_pair}
+use Rattle.forec_parser.specs.Program.{Ends, told_of}
+use Rattle.forec_parser.proofs.Spans.{tokens_append, within_front, within_back, within_more, step, ok_of, ok_pair}
 use Rattle.forec_parser.proofs.Exact.{Read, Bind, both, Map, mapped, Part, part, Any, then_read, read_as, read_at}
 use Rattle.forec_parser.proofs.Leaves.{Filled, filled-long}
 use Rattle.forec_parser.proofs.ItemSound.{sound_item, item_reads, item_filled}

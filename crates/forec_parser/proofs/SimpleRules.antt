@@ -1,39 +1,35 @@
 -- What statements are made of that hold no statements in them: what is read, both ways.
 use mathlib.Core.Path.{subst}
-use Rattle.std.proofs.Common.{◌≡◌, ℕ, ℤ, pos, suc, ◌+◌, ◌≤◌, ◌<◌, Bool, true, false, List, [], ◌∷◌, ◌++◌, length, Option, Some, None, Ok, Err, refl, sym, ◌∙◌, ap, arith}
+use Rattle.std.proofs.Common.{◌≡◌, ℕ, pos, suc, ◌≤◌, true, false, List, [], ◌∷◌, ◌++◌, Option, Some, None, Ok, refl, sym, ◌∙◌, ap, arith}
 use Rattle.forec_base.specs.declared.operators.Binary.{Binary}
 use Rattle.forec_tree.specs.declared.token.Token.{Token}
 use Rattle.forec_tree.specs.declared.token.TokenKind.{TokenKind}
 use Rattle.forec_tree.specs.declared.token.TokenKind.TheVariants as kind
 use Rattle.forec_tree.specs.declared.token.Mark.TheVariants as mark
-use Rattle.forec_tree.specs.declared.tree.Name.{Name}
-use Rattle.forec_tree.specs.declared.tree.Number.{Number}
 use Rattle.forec_tree.specs.declared.tree.OpAt.{OpAt}
 use Rattle.forec_tree.specs.Terms as plain
 use Rattle.forec_tree.specs.Terms.{Term, Declared, Written, Statement, Perhaps, absent, present}
-use Rattle.forec_tree.specs.Spelling.{Spelt, at, IsMark, IsWord, IsName, IsNumber, name_at, tokens, IsWithin, listed, Whole, Brackets, Indexes, Passes, Arguments, one, more}
-use Rattle.forec_tree.specs.SpelledStatements as sp
-use Rattle.forec_tree.specs.Parts.{number_at, op_at, updates_by, steps_by, written_at, declared_as, Head, head_of}
-use Rattle.forec_tree.specs.SpelledStatements.{IsUpdate, IsStep, Separated, last_part, next_part, Targets, scalar, indexed, Simple, sets, updates, steps_behind, steps_ahead, invokes, Lengths, lengths, Declares, bare, valued, array, valued_array, Bounds, unbounded, bounded, Starts, no_start, simple_start, declared_start, Tests, no_test, some_test, Steps, no_step, some_step, Heads, heads}
-use Rattle.forec_parser.specs.declared.fixed.Fixed.{Fixed}
+use Rattle.forec_tree.specs.Spelling.{Spelt, at, IsMark, IsName, name_at, listed, Whole, Brackets, Indexes, Passes, Arguments, one, more}
+use Rattle.forec_tree.specs.Parts.{op_at, updates_by, steps_by, written_at}
+use Rattle.forec_tree.specs.SpelledStatements.{IsUpdate, IsStep, Separated, last_part, next_part, Targets, scalar, indexed, Simple, sets, updates, steps_behind, steps_ahead, invokes}
 use Rattle.forec_parser.specs.declared.fixed.Fixed.TheVariants as fixed
 use Rattle.forec_parser.specs.declared.meaning.Change.{Change}
 use Rattle.forec_parser.specs.declared.meaning.Change.TheVariants as change
 use Rattle.forec_parser.specs.declared.meaning.Act.{Act}
 use Rattle.forec_parser.specs.declared.meaning.Act.TheVariants as act
-use Rattle.forec_parser.specs.Input.{Input, input, Parser, pure, kind_ahead, take}
+use Rattle.forec_parser.specs.Input.{Input, Parser, kind_ahead, take}
 use Rattle.forec_parser.specs.Meaning.{update_of, step_of, change_of, act_of, is_fixed}
 use Rattle.forec_parser.specs.Reading as reading
 use Rattle.forec_parser.specs.Reading.{expr, separated}
 use Rattle.forec_parser.specs.Statements as st
 use Rattle.forec_parser.specs.Statements.{op_by}
-use Rattle.forec_parser.proofs.Spans.{first, first-is, Step, step, ok_pair, Took, took, take_ok}
+use Rattle.forec_parser.proofs.Spans.{first, step, ok_pair, took, take_ok}
 use Rattle.forec_parser.proofs.Exact.{Lang, Read, Exact, Bind, both, Map, mapped, Done, done, If, on, off, Part, part, Reading, reading, Any, bind, map_to, convert, either, done_at, by_reading, read_as, reads_by, read_at}
-use Rattle.forec_parser.proofs.Leaves.{Is, Tok, tok, Up, up, NameIs, name_is, NumberIs, number_is, token, a_name, a_number, Enclosed, between, enclosing, Listed, end_of_list, next_of_list, full_commas, Full, full, Filled, is_so}
-use Rattle.forec_parser.proofs.Operators.{ends, ends_square, ends_assign, ends_round}
+use Rattle.forec_parser.proofs.Leaves.{Tok, tok, NameIs, name_is, token, a_name, Listed, end_of_list, next_of_list, full_commas, Full, full, Filled}
+use Rattle.forec_parser.proofs.Operators.{ends, ends_square}
 use Rattle.forec_parser.proofs.ExpressionSound.{sound, value_by, bracketed_by, indexed_by, passed_by}
-use Rattle.forec_parser.proofs.ExpressionComplete.{complete_whole, complete_brackets, complete_indexes, complete_passes, complete_arguments, indexes_first, passes_first, begun_whole, begun_semicolon}
-use Rattle.forec_parser.proofs.Marks.{update_changes, step_changes, step_acts, update_square, update_round, step_square, step_round, acts_first, step_first, acts_semicolon, acts_round, acts_int}
+use Rattle.forec_parser.proofs.ExpressionComplete.{complete_whole, complete_brackets, complete_indexes, complete_passes, complete_arguments, indexes_first, passes_first}
+use Rattle.forec_parser.proofs.Marks.{update_changes, step_changes, step_acts, update_square, update_round, step_square, step_round, acts_first, step_first}
 
 -- ---- lists with commas
 
@@ -294,7 +290,7 @@ module _ (limit : ℕ) where
 
   by_name : {v : ℕ} {x : Statement} {ls : List Spelt} {k : Option TokenKind} {t : Token} (id : ℕ) → IsName id t
       → If fixed.LeftRound (Map (λ args. plain.Invoke t.place (name_at id t.place) (listed args)) (Reading limit (st.passed limit)))
-          (Bind (Reading limit (st.maybe_index limit)) (λ index. Reading limit (st.changed limit (written_at (name_at id t.place) index)))) v x v ls k
+      (Bind (Reading limit (st.maybe_index limit)) (λ index. Reading limit (st.changed limit (written_at (name_at id t.place) index)))) v x v ls k
       → Reading limit (st.simple limit) v x v (at t v ∷ ls) k
   unfolding st.simple
   by_name {v} {x} {ls} {k} {t} id h q = reading (λ rest e within.

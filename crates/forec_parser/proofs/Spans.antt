@@ -1,8 +1,8 @@
 -- Tokens with their levels, and the steps of a parser.
-use Rattle.std.proofs.Common.{◌≡◌, ℕ, suc, ◌+◌, ◌≤◌, ◌<◌, Bool, true, false, nat_lt, cond, List, [], ◌∷◌, ◌++◌, length, Option, Some, None, Ok, Err, refl, sym, ◌∙◌, ap, arith}
+use Rattle.std.proofs.Common.{◌≡◌, ℕ, suc, ◌+◌, ◌≤◌, ◌<◌, Bool, true, false, nat_lt, cond, List, [], ◌∷◌, ◌++◌, length, Option, Some, Ok, Err, refl, sym, ◌∙◌, ap, arith}
 use Rattle.forec_tree.specs.declared.token.Token.{Token}
 use Rattle.forec_tree.specs.declared.token.TokenKind.{TokenKind}
-use Rattle.forec_tree.specs.Spelling.{Spelt, at, tokens, IsWithin}
+use Rattle.forec_tree.specs.Spelling.{Spelt, tokens, IsWithin}
 use Rattle.forec_parser.specs.declared.fault.Fault.TheVariants.{Deep}
 use Rattle.forec_parser.specs.Input.{Input, input, Parser, Outcome, and_then, kind_ahead, take, raise}
 

@@ -1,5 +1,5 @@
 -- Reading globals, functions and a program, from tokens to the tree.
-use Rattle.std.specs.Prelude.{ℕ, zero, suc, Bool, true, false, if◌then◌else◌, List, [], ◌∷◌, ◌++◌, length, Option, Some, None, Ok, Err}
+use Rattle.std.specs.Prelude.{ℕ, zero, suc, Bool, true, false, if◌then◌else◌, List, [], ◌∷◌, ◌++◌, length, Option, Some, None, Ok}
 use Rattle.forec_base.specs.declared.Policy.{Policy}
 use Rattle.forec_base.specs.declared.operators.Unary.TheVariants as un
 use Rattle.forec_base.specs.Numbers.{unary_of}
@@ -9,7 +9,7 @@ use Rattle.forec_tree.specs.declared.tree.Number.{Number}
 use Rattle.forec_tree.specs.declared.tree.Combine.{Combine}
 use Rattle.forec_tree.specs.declared.tree.GlobalKind.{GlobalKind}
 use Rattle.forec_tree.specs.declared.tree.GlobalKind.TheVariants as kind
-use Rattle.forec_tree.specs.Terms.{PlainGlobal, PlainItem, IsGlobal, IsFunction, Text, Statement}
+use Rattle.forec_tree.specs.Terms.{PlainItem, IsGlobal, IsFunction, Text}
 use Rattle.forec_tree.specs.Parts.{number_at, in_order, global_of}
 use Rattle.forec_parser.specs.declared.fixed.Fixed.TheVariants as fixed
 use Rattle.forec_parser.specs.declared.meaning.Opening.{Opening}
@@ -19,7 +19,7 @@ use Rattle.forec_parser.specs.declared.meaning.Declarator.TheVariants as declara
 use Rattle.forec_parser.specs.Input.{Parser, ◌>>=◌, ◌>>◌, pure, refuse, kind_ahead, take}
 use Rattle.forec_parser.specs.Meaning.{opening_of, policy_of}
 use Rattle.forec_parser.specs.Reading.{next_is, close, enclosed, name, number, separated}
-use Rattle.forec_parser.specs.Statements.{flag, maybe_length, block, stmt}
+use Rattle.forec_parser.specs.Statements.{maybe_length, block, stmt}
 
 -- ---- values
 

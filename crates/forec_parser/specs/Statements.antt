@@ -68,21 +68,21 @@ module _ (limit : ℕ) where
     pure (written_at n index)
 
   abbrev pub changed_by : Change → Written → Parser Statement
-  changed_by change.Sets target = do
+  changed_by change.Sets to = do
     close fixed.Assign
     x ← value
-    pure (plain.Assign target.name.place target None x)
-  changed_by change.Updates target = do
+    pure (plain.Assign to.name.place to None x)
+  changed_by change.Updates to = do
     op ← update
     x ← value
-    pure (plain.Assign target.name.place target (Some op) x)
-  changed_by change.Steps target = do
+    pure (plain.Assign to.name.place to (Some op) x)
+  changed_by change.Steps to = do
     op ← step_mark
-    pure (plain.Assign target.name.place target (Some op) (plain.Num op.place (pos 1)))
-  changed_by change.Nothing target = refuse
+    pure (plain.Assign to.name.place to (Some op) (plain.Num op.place (pos 1)))
+  changed_by change.Nothing to = refuse
 
   unfoldable pub changed : Written → Parser Statement
-  changed target = λ i. changed_by (change_of (kind_ahead i.rest)) target i
+  changed to = λ i. changed_by (change_of (kind_ahead i.rest)) to i
 
   unfoldable pub invoked : Name → Parser Statement
   invoked n = do

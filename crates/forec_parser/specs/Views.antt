@@ -4,7 +4,7 @@ use Rattle.forec_base.specs.declared.Place.{Place}
 use Rattle.forec_tree.specs.declared.tree.Branch as branch
 use Rattle.forec_tree.specs.declared.tree.Branch.{Branch}
 use Rattle.forec_tree.specs.declared.tree.Stmt.{Stmt}
-use Rattle.forec_tree.specs.Terms.{Statement, Statements, Perhaps, absent, present}
+use Rattle.forec_tree.specs.Terms.{Statement, Perhaps, absent, present}
 use Rattle.forec_tree.specs.Plain.{terms, statement, statement_row, optional_term}
 use Rattle.forec_tree.specs.Parts.{Launch, Calls, Blocks, Head}
 use Rattle.forec_parser.specs.declared.parts.Block.{Block}

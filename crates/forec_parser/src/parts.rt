@@ -9,7 +9,9 @@ ghost use Rattle.forec_tree.specs.Parts.{declared_as, in_order, launched, Calls,
 ghost use Rattle.forec_parser.specs.Views.{perhaps_of, launch_of, head_view};
 
 use forec_base::Place;
-use forec_tree::{Branch, Expr, ExprKind, Function, Item, Local, Name, Number, OpAt, Stmt, StmtKind, Target};
+use forec_tree::{
+    Branch, Expr, ExprKind, Function, Item, Local, Name, Number, OpAt, Stmt, StmtKind, Target,
+};
 use sqlite_items::Items;
 use std::alloc::{AllocError, Global};
 
@@ -67,12 +69,7 @@ pub fn local(name: Name, length: Option<Number>, values: Items<Expr>) -> Local
 }
 
 /// `int x = e`, as a `for` starts.
-pub fn first_local(
-    alloc: Global,
-    place: Place,
-    name: Name,
-    value: Expr,
-) -> Result<Stmt, AllocError>
+pub fn first_local(alloc: Global, place: Place, name: Name, value: Expr) -> Result<Stmt, AllocError>
     ensures { IfOk result (λ s. statement s ≡ plain.Declare place (declared_as name None (term value ∷ []) ∷ [])) }
 {
     let mut values = Items::new(alloc);

@@ -10,9 +10,7 @@ use crate::fault::Fault;
 use crate::fixed::{Fixed, ends_body};
 use crate::meaning::{Sort, sort_of};
 use crate::parts::{self, Block};
-use crate::simple::{
-    acting, bound, bracketed, called, declaring, flag, giving, head, pausing,
-};
+use crate::simple::{acting, bound, bracketed, called, declaring, flag, giving, head, pausing};
 use crate::tokens::Tokens;
 use forec_tree::{Branch, Expr, Stmt, Token};
 use sqlite_items::Items;
@@ -207,12 +205,7 @@ fn forking(alloc: Global, tokens: &mut Tokens<'_>, depth: usize) -> Result<Stmt,
 /// An abort from the word `abort` on.
 #[cycle(stmt)]
 #[tactic(auto, unfolding(crate::specs::Statements::aborting))]
-fn aborting(
-    alloc: Global,
-    tokens: &mut Tokens<'_>,
-    depth: usize,
-    weak: bool,
-) -> Result<Stmt, Fault>
+fn aborting(alloc: Global, tokens: &mut Tokens<'_>, depth: usize, weak: bool) -> Result<Stmt, Fault>
     ensures { Reads statement (spec.aborting max_level (spec.stmt max_level depth) weak tokens.old) result tokens.new }
 {
     let outer = tokens.level();

@@ -191,8 +191,12 @@ fn groups_to_the_left(rt: HostRuntime) -> Result<(), Fail> {
     let found = match &program {
         Some(program) => match value(program) {
             Some(value) => match &value.what {
-                ExprKind::Binary { op, left, right } =>
-                    (*op == Binary::Sub, left.place.column, value.place.column, right.place.column),
+                ExprKind::Binary { op, left, right } => (
+                    *op == Binary::Sub,
+                    left.place.column,
+                    value.place.column,
+                    right.place.column,
+                ),
                 _ => (false, 0, 0, 0),
             },
             None => (false, 0, 0, 0),
@@ -209,7 +213,11 @@ fn statements(rt: HostRuntime) -> Result<(), Fail> {
     let rows = [
         ("void f ( ) { ; }", 1, 6),
         ("void f ( void ) { { pause ; } }", 2, 7),
-        ("void f ( int a , int b ) { int x , y = 1 , z [ 2 ] , w [ 2 ] = { 1 , a + b } ; }", 3, 11),
+        (
+            "void f ( int a , int b ) { int x , y = 1 , z [ 2 ] , w [ 2 ] = { 1 , a + b } ; }",
+            3,
+            11,
+        ),
         ("void f ( ) { x [ 1 + 2 ] = 3 ; }", 4, 6),
         ("void f ( ) { x <<= 3 ; }", 4, 6),
         ("void f ( ) { x -- ; }", 4, 6),
@@ -220,13 +228,25 @@ fn statements(rt: HostRuntime) -> Result<(), Fail> {
         ("void f ( ) { while ( 1 ) # 3 pause ; }", 7, 6),
         ("void f ( ) { while ( 1 ) pause ; }", 7, 6),
         ("void f ( ) { for ( ; ; ) pause ; }", 8, 6),
-        ("void f ( ) { for ( int i = 0 ; i < 3 ; i ++ ) # 3 ; }", 8, 6),
+        (
+            "void f ( ) { for ( int i = 0 ; i < 3 ; i ++ ) # 3 ; }",
+            8,
+            6,
+        ),
         ("void f ( ) { for ( i = 0 ; 1 ; g ( ) ) ; }", 8, 6),
         ("void f ( ) { pause ; }", 9, 6),
         ("void f ( ) { par ( g , h ( 1 ) , { pause ; } ) ; }", 10, 6),
-        ("void f ( ) { weak abort { pause ; } when immediate ( a ) ; }", 11, 7),
+        (
+            "void f ( ) { weak abort { pause ; } when immediate ( a ) ; }",
+            11,
+            7,
+        ),
         ("void f ( ) { abort { } when ( a ) ; }", 11, 6),
-        ("int f ( ) { return a ? b : c ? - d : ~ ! e && 1 || 2 ; }", 12, 6),
+        (
+            "int f ( ) { return a ? b : c ? - d : ~ ! e && 1 || 2 ; }",
+            12,
+            6,
+        ),
     ];
     for (text, sort_wanted, column) in rows.iter() {
         let program = read(rt.alloc(), text)?;
@@ -251,7 +271,10 @@ fn globals(rt: HostRuntime) -> Result<(), Fail> {
         ("int a ; int f ( ) { return 1 ; }", 2),
         ("shared int a = 1 combine all with f ;", 1),
         ("shared output int a combine new with f ;", 1),
-        ("output shared int a combine mod with f ; void f ( void ) { }", 2),
+        (
+            "output shared int a combine mod with f ; void f ( void ) { }",
+            2,
+        ),
     ];
     for (text, count) in rows.iter() {
         let program = read(rt.alloc(), text)?;

@@ -139,7 +139,7 @@ mutual
         → Optional word.Weak weak v ws → IsWord word.Abort t → Block place body (v + 1) (v + 1) ls
         → IsWord word.When when → Optional word.Immediate immediate (v + 1) is → Brackets test (v + 1) ms → IsMark mark.Semicolon semicolon
         → Says (plain.Abort t.place weak immediate test (in_order body)) false v u
-            (ws ++ (at t (v + 1) ∷ (ls ++ (at when (v + 1) ∷ (is ++ (ms ++ (at semicolon u ∷ [])))))))
+        (ws ++ (at t (v + 1) ∷ (ls ++ (at when (v + 1) ∷ (is ++ (ms ++ (at semicolon u ∷ [])))))))
     gives_back : {v u : ℕ} {t : Token} (semicolon : Token) {value : Term} {ls : List Spelt} → IsWord word.Return t → Whole value v ls → IsMark mark.Semicolon semicolon
         → Says (plain.Return t.place value) false v u (at t v ∷ (ls ++ (at semicolon u ∷ [])))
 
