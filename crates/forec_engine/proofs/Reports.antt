@@ -88,6 +88,10 @@ words_text words content trace P name n p r (Of_text other text m c t) =
     let same : name ≡ other = some_same name other (n ∙ m) in
     told_same (content name) (λ x. (q : Report) → TextReport x trace q → P q) text p (ap content same ∙ c) r t
 
+pub some_map : (o : Option (List ℕ)) (P Q : List ℕ → Type 0) → IfSome o P → ((x : List ℕ) → P x → Q x) → IfSome o Q
+some_map None P Q h f = tt
+some_map (Some x) P Q h f = f x h
+
 pub words_told : (words : List (List ℕ)) (content : List ℕ → Option (List ℕ)) (trace : Option (List ℕ)) (P : Report → Type 0) (name text : List ℕ) → Some name ≡ program_of words →
     IfSome (content name) (λ c. text ≡ c) → ((r : Report) → TextReport text trace r → P r) → (r : Report) → IsReport words content trace r → P r
 words_told words content trace P name text n c p =

@@ -3,10 +3,15 @@ pub mod Commands
 pub mod Ends
 pub mod FirstForm
 pub mod FirstProgram
+pub mod FirstCode
+pub mod Numbers
+pub mod Core
+pub mod Reading
+pub mod Machine
+pub mod Worked
 pub mod Judging
 pub mod Laws
 pub mod Lines
-pub mod Machine
 pub mod Progress
 pub mod Report
 pub mod ReportLines
@@ -14,3 +19,7 @@ pub mod Rows
 pub mod StatusNumbers
 pub mod WaitingRoom
 pub mod Waits
+pub mod FirstCursor
+pub mod FirstReading
+pub mod FirstSizes
+pub mod FirstViews

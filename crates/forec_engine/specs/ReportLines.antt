@@ -40,7 +40,6 @@ rows_line rows = codes "rows " ++ decimal rows ++ codes "\n"
 
 abbrev pub fault_word : RowFault → List ℕ
 fault_word fault.Bad = codes " bad\n"
-fault_word fault.Long = codes " long\n"
 fault_word fault.Many = codes " many\n"
 
 -- line n of the trace is no row; the header is line 0

@@ -29,10 +29,10 @@ abbrev pub or_bad : Option Row → Result Row RowFault
 or_bad (Some row) = Ok row
 or_bad None = Err fault.Bad
 
--- what stands in line n: beyond the limit there may be no line, then it may be too long, then it may be no row
+-- what stands in line n: beyond the limit there may be no line, and it may be no row
 abbrev pub row_at : ℕ → ℕ → List ℕ → Result Row RowFault
 row_at limit n line =
-    if nat_lt limit n then Err fault.Many else (if nat_lt 8192 (length line) then Err fault.Long else or_bad (values_of line))
+    if nat_lt limit n then Err fault.Many else or_bad (values_of line)
 
 abbrev pub stop : Option RowFault → ℕ → Trace
 stop cause n = record { rows = []; end = record { cause = cause; line = n } }

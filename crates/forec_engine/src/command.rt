@@ -7,7 +7,7 @@ ghost use Rattle.forec_engine.specs.Calls.{AppendsFront};
 ghost use Rattle.forec_engine.specs.Commands.{program_of, budget, IsReport, TextReport};
 ghost use Rattle.forec_engine.specs.Ends.{IsOwn, Given, Wanted, WantedByText, WantedByWords};
 ghost use Rattle.forec_engine.specs.Judging.{Verdict, Judged, Runs, Refuses};
-ghost use Rattle.forec_engine.specs.Machine.{IsFirstKernel};
+ghost use Rattle.forec_engine.specs.FirstCode.{IsFirstKernel};
 ghost use Rattle.forec_engine.specs.Report.{Report, trace_report};
 
 use crate::first_form::{FormFault, one_kernel, read_program};

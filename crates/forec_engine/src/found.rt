@@ -3,10 +3,8 @@
 /// Why a line is no row.
 #[derive(Clone, Copy, Debug, PartialEq, Eq)]
 pub enum RowFault {
-    /// It is within the limits, and no header or row.
+    /// It is no header or row.
     Bad,
-    /// It has too many bytes.
-    Long,
     /// As many rows as there may be were given.
     Many,
 }

@@ -9,8 +9,12 @@ mod laws;
 mod lines;
 mod machine;
 mod rows;
+mod shapes;
 mod sink;
+mod stack;
 mod status;
+#[cfg(test)]
+mod tests;
 mod ticks;
 mod waiting;
 

@@ -27,7 +27,7 @@ pub fn next_row<S: Source>(lines: &mut Lines, trace: &mut S, n: u64) -> Next
             if n > MOST_ROWS {
                 Next::Fault(RowFault::Many)
             } else {
-                Next::Fault(RowFault::Long)
+                Next::Fault(RowFault::Bad)
             }
         }
         Ok(Found::Line) => {

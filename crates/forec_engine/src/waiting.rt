@@ -203,7 +203,6 @@ fn fault_text(fault: RowFault) -> &'static [u8]
 {
     match fault {
         RowFault::Bad => b" bad\n",
-        RowFault::Long => b" long\n",
         RowFault::Many => b" many\n",
     }
 }

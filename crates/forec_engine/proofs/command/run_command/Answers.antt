@@ -1,10 +1,10 @@
-use Rattle.std.proofs.Common.{◌≡◌, inr, map, string_bytes, sym, subst, List, ℕ}
+use Rattle.std.proofs.Common.{map, string_bytes, sym, subst, List, ℕ, ◌≡◌, ◌∙◌, inr}
 use Rattle.forec_engine.specs.Calls.{AppendsFront}
 use Rattle.forec_engine.specs.Commands.{TextReport}
 use Rattle.forec_engine.specs.Ends.{Given, WantedByText}
 use Rattle.forec_engine.specs.Report.{Report}
-use Rattle.forec_engine.proofs.Running.{own_not, some_map}
-use Rattle.forec_engine.proofs.Reports.{words_usage, words_told, words_long}
+use Rattle.forec_engine.proofs.Running.{own_not}
+use Rattle.forec_engine.proofs.Reports.{some_map, words_usage, words_told, words_long}
 use Rattle.forec_engine.proofs.command.run_command.Goals as goal
 
 pub returns-in_default-clause-own : goal.returns-in_default-clause-own
@@ -30,6 +30,19 @@ returns-in-Ok-clause-own g c = λ own.
     let P : Report → Type 0 = λ r. Given r c.run_text.result h0 h2 in
     words_told (map string_bytes c.args.words.now) (g.T.Texts.content c.args.texts.now) (g.S.Source.left c.args.trace.now) P c.in-Some.name.now c.in-Ok.text.items c.in-Some.ensures c.in-Ok.ensures.bytes.1
     (subst (λ (t : List ℕ). (r : Report) → TextReport t (g.S.Source.left c.args.trace.now) r → P r) c.deref.ensures.value (c.run_text.ensures.own own))
+
+pub returns-in-Ok-clause-read : goal.returns-in-Ok-clause-read
+returns-in-Ok-clause-read g c = λ is.
+    let w = c.run_text.ensures.read is in
+    let W : List ℕ → Type 0 = λ t. WantedByText t (g.S.Source.left c.args.trace.now) (g.S.Source.left c.run_text.new.trace) (g.K.Sink.held c.args.out.now) (g.K.Sink.held c.run_text.new.out) in
+    inr (
+      w.0,
+      (
+        c.in-Some.name.now,
+        sym c.in-Some.ensures,
+        some_map (g.T.Texts.content c.args.texts.now c.in-Some.name.now) (λ x. c.in-Ok.text.items ≡ x) W c.in-Ok.ensures.bytes.1 (λ x e. subst W (c.deref.ensures.value ∙ e) w.1),
+      ),
+    )
 
 pub returns-in-Ok-clause-write : goal.returns-in-Ok-clause-write
 returns-in-Ok-clause-write g c = λ is.
