@@ -1,12 +1,12 @@
 -- Words have one report.
-use Rattle.std.proofs.Common.{◌≡◌, ℕ, ◌<◌, List, Option, Some, None, Bool, true, false, nat_lt, length, ltb-true, ltb-false, refl, sym, ap, subst, ◌∙◌, arith}
+use Rattle.std.proofs.Common.{◌≡◌, ℕ, ◌<◌, ◌≤◌, List, Option, Some, None, Bool, true, false, nat_lt, length, ltb-true, ltb-false, refl, sym, ap, subst, ◌∙◌, arith}
 use Rattle.std.specs.Option.{IfSome}
 use Rattle.forec_kernel.specs.Shapes.{PlainKernel}
 use Rattle.forec_engine.specs.Commands.{Of_refusal, Of_run, Of_usage, Of_text, TextReport, IsReport, program_of, usage, refused, budget}
+use Rattle.forec_engine.specs.FirstForm.{First}
 use Rattle.forec_engine.specs.Judging.{Refusal, Too_long, No_form, Refuses, Runs, Judged, most_bytes}
 use Rattle.forec_engine.specs.Laws.{OneKernel, OneReport, SomeReport}
 use Rattle.forec_engine.specs.Report.{Report, trace_report}
-use Rattle.forec_engine.proofs.Running.{some_map}
 
 some_same : {A : Type 0} (x y : A) → Some x ≡ Some y → x ≡ y
 some_same x y e = cc

@@ -2,7 +2,7 @@
 use Rattle.std.specs.Prelude.{◌≡◌, ℕ, List, Option, Some}
 use Rattle.forec_kernel.specs.Shapes.{PlainKernel}
 use Rattle.forec_engine.specs.FirstForm.{First}
-use Rattle.forec_engine.specs.Commands.{IsReport}
+use Rattle.forec_engine.specs.Commands.{program_of, IsReport}
 use Rattle.forec_engine.specs.Report.{Report}
 
 -- a text is of the first form for one kernel at most

@@ -144,8 +144,8 @@ mod tests {
         assert_eq!(rt; end.held.as_slice(), b"refused long\n".as_slice());
         for (bytes, want) in [
             (8192, b"row 0 bad\n".as_slice()),
-            (8193, b"row 0 long\n"),
-            (65536, b"row 0 long\n"),
+            (8193, b"row 0 bad\n"),
+            (65536, b"row 0 bad\n"),
         ] {
             let trace = vec![in alloc; b' '; bytes]?;
             let end = run(&rt, alloc, &["run", "P"], COUNTER, &trace, whole(alloc))?;

@@ -70,21 +70,3 @@ returns-in-Err-Long-clause-write g c = λ is.
       c.say-in-Err-Long.ensures.fault is,
       words_long (map string_bytes c.args.words.now) (g.T.Texts.content c.args.texts.now) (g.S.Source.left c.args.trace.now) (λ r. AppendsFront h0 h2 r.bytes) c.in-Some.name.now c.in-Some.ensures (rw c.in-Err-Long.field-0-is at c.in-Err-Long.ensures.bytes) (c.say-in-Err-Long.ensures.front is),
     )
-
-pub returns-in-Ok-clause-read : goal.returns-in-Ok-clause-read
-returns-in-Ok-clause-read g c = λ is.
-    let h0 = g.K.Sink.held c.args.out.now in
-    let h2 = g.K.Sink.held c.run_text.new.out in
-    let l0 = g.S.Source.left c.args.trace.now in
-    let l2 = g.S.Source.left c.run_text.new.trace in
-    let r = c.run_text.ensures.read is in
-    let text : List ℕ = c.in-Ok.text.items in
-    let wanted : WantedByText text l0 l2 h0 h2 = subst (λ (t : List ℕ). WantedByText t l0 l2 h0 h2) c.deref.ensures.value r.1 in
-    inr (
-      r.0,
-      (
-        c.in-Some.name.now,
-        sym c.in-Some.ensures,
-        some_map (g.T.Texts.content c.args.texts.now c.in-Some.name.now) (λ x. text ≡ x) _ c.in-Ok.ensures.bytes.1 (λ x e. subst (λ (t : List ℕ). WantedByText t l0 l2 h0 h2) e wanted),
-      ),
-    )
