@@ -10,11 +10,9 @@ use crate::input::Input;
 use crate::output::Output;
 use forec_base::OpenGate;
 use forec_engine::forec;
-use std::env;
-use std::io::Stdout;
-use std::os::fd::AsFd;
-use std::process::{ChildStdin, ExitCode};
+use std::process::ExitCode;
 use std::rt::Env;
+use std::{env, io};
 
 // The words after the program's own name. Where they can't be had they are none, which is no command.
 fn words(rt: &(impl Env + AllocGlobal)) -> Vec<String> {
@@ -28,19 +26,11 @@ fn words(rt: &(impl Env + AllocGlobal)) -> Vec<String> {
     }
 }
 
-// Standard output, as a pipe's end, to which a write with no reader left is a fault and no signal.
-fn writer(stdout: &Stdout) -> Option<ChildStdin> {
-    match stdout.as_fd().try_clone_to_owned() {
-        Ok(end) => Some(ChildStdin::from(end)),
-        Err(_) => None,
-    }
-}
-
 fn main(rt: HostRuntime) -> ExitCode {
     let words = words(&rt);
     let mut texts = Files::new(&rt);
     let mut trace = Input::new(rt.stdin());
-    let mut out = Output::new(writer(&rt.stdout()));
+    let mut out = Output::new(io::writer(&rt));
     let status = forec(
         rt.alloc(),
         &words,

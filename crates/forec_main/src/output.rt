@@ -4,16 +4,17 @@ ghost use Rattle.std.specs.Prelude.{◌≡◌, false};
 use forec_base::{Failed, Sink};
 use std::io::Write;
 
-/// A writer as a sink. To take nothing of a piece is a fault, and so is each write where there is no writer.
+/// A writer as a sink. To take nothing of a piece that isn't empty is a fault.
 #[derive(Drop)]
 pub struct Output<W> {
-    inner: Option<W>,
+    inner: W,
     faults: u64,
     down: bool,
 }
 
 impl<W: Write> Output<W> {
-    pub fn new(inner: Option<W>) -> Self {
+    /// Nothing is written yet.
+    pub fn new(inner: W) -> Self {
         Output {
             inner,
             faults: 0,
@@ -32,12 +33,10 @@ impl<W: Write> Sink for Output<W> {
     ghost down = { λ s. s.down };
 
     fn write(&mut self, piece: &[u8]) -> Result<usize, Failed> {
-        if let Some(writer) = &mut self.inner {
-            if let Ok(count) = writer.write(piece) {
-                if count > 0 || piece.is_empty() {
-                    self.down = false;
-                    return Ok(count);
-                }
+        if let Ok(count) = self.inner.write(piece) {
+            if count > 0 || piece.is_empty() {
+                self.down = false;
+                return Ok(count);
             }
         }
         self.down = true;
@@ -76,15 +75,12 @@ mod tests {
 
     #[test]
     fn counts_faults(rt: HostRuntime) -> Result<(), Fail> {
-        let mut output = Output::new(Some(Writer { calls: 0 }));
+        let mut output = Output::new(Writer { calls: 0 });
         assert_eq!(rt; output.write(b"ab"), Ok(1));
         assert_eq!(rt; output.write(b"b"), Err(Failed));
         assert!(rt; output.down && output.faults == 1);
         assert_eq!(rt; output.write(b""), Ok(0));
         assert!(rt; !output.down && output.faults == 1);
-        let mut none: Output<Writer> = Output::new(None);
-        assert_eq!(rt; none.write(b"a"), Err(Failed));
-        assert!(rt; none.down && none.faults == 1);
         Ok(())
     }
 }
