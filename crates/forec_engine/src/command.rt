@@ -4,16 +4,17 @@ ghost use Rattle.std.specs.Option.{option_copied};
 ghost use Rattle.forec_base.specs.Outside.{Fell, Rose};
 ghost use Rattle.forec_kernel.specs.Shapes.{PlainKernel, plain_kernel};
 ghost use Rattle.forec_engine.specs.Calls.{AppendsFront};
-ghost use Rattle.forec_engine.specs.Commands.{program_of, budget, IsReport, TextReport};
+ghost use Rattle.forec_engine.specs.Commands.{program_of, budget, refused, IsReport, TextReport};
 ghost use Rattle.forec_engine.specs.Ends.{IsOwn, Given, Wanted, WantedByText, WantedByWords};
 ghost use Rattle.forec_engine.specs.Judging.{Verdict, Judged, Runs, Refuses};
 ghost use Rattle.forec_engine.specs.FirstCode.{IsFirstKernel};
 ghost use Rattle.forec_engine.specs.Report.{Report, trace_report};
 
-use crate::first_form::{FormFault, one_kernel, read_program};
 use crate::generator::generate;
+use crate::judging::{judge, one_verdict};
 use crate::lines::Lines;
 use crate::machine::Machine;
+use crate::refusal::{JudgeFault, Refusal};
 use crate::sink::say;
 use crate::status::Status;
 use crate::ticks::{Program, output_name, run};
@@ -77,6 +78,21 @@ fn start<S: Source, K: Sink>(alloc: Global, kernel: Kernel, trace: &mut S, out: 
     run(&program, &mut machine, &mut lines, &mut waiting, trace, out)
 }
 
+// Says why a text is refused.
+fn refuse<K: Sink>(alloc: Global, why: Refusal, out: &mut K) -> Status
+    ensures own { IsOwn result → Given (refused why) result (K.held out.old) (K.held out.new) }
+    ensures read { result ≢ Status.ReadFault }
+    ensures write { result ≡ Status.WriteFault → Fell (K.faults out.old) (K.faults out.new) (K.down out.new)
+        × AppendsFront (K.held out.old) (K.held out.new) (refused why).bytes }
+    ensures memory { result ≡ Status.NoMemory → K.held out.new ≡ K.held out.old }
+{
+    let Ok(mut waiting) = Waiting::new(alloc, "") else {
+        return Status::NoMemory;
+    };
+    waiting.put_refusal(why);
+    waiting.finish(out, Status::Refused)
+}
+
 // Runs a text.
 fn run_text<S: Source, K: Sink>(alloc: Global, text: &[u8], trace: &mut S, out: &mut K) -> Status
     requires { length text.now ≤ 1048576 }
@@ -87,12 +103,12 @@ fn run_text<S: Source, K: Sink>(alloc: Global, text: &[u8], trace: &mut S, out: 
         × ((r : Report) → TextReport text.now (S.left trace.old) r → AppendsFront (K.held out.old) (K.held out.new) r.bytes) }
     ensures memory { result ≡ Status.NoMemory → K.held out.new ≡ K.held out.old }
 {
-    // A text has one kernel at most, so that the report of this one is its report.
-    one_kernel();
-    match read_program(alloc, text) {
+    // A text has one verdict at most, so that the report of this one is its report.
+    one_verdict();
+    match judge(alloc, text) {
         Ok(kernel) => start(alloc, kernel, trace, out),
-        Err(FormFault::OutOfMemory) => Status::NoMemory,
-        Err(FormFault::Form) => say(out, b"refused form\n", Status::Refused),
+        Err(JudgeFault::Refused { why }) => refuse(alloc, why, out),
+        Err(JudgeFault::OutOfMemory) => Status::NoMemory,
     }
 }
 
@@ -134,7 +150,7 @@ fn run_command<T: Texts, S: Source, K: Sink, G: Gate>(
         Ok(text) => run_text(alloc, &text, trace, out),
         Err(TextFault::Failed) => Status::ReadFault,
         Err(TextFault::OutOfMemory) => Status::NoMemory,
-        Err(TextFault::Long) => say(out, b"refused long\n", Status::Refused),
+        Err(TextFault::Long) => refuse(alloc, Refusal::Long, out),
     }
 }
 
