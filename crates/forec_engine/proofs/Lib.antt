@@ -22,3 +22,5 @@ mod Told
 pub mod FirstLowering
 pub mod FirstExact
 pub mod FirstLists
+mod Lexing
+mod Verdicts

@@ -7,6 +7,8 @@ use Rattle.forec_tree.specs.declared.token.Token.{Token}
 use Rattle.forec_tree.specs.LexedText.{IsLexed, IsBad, IsMany}
 use Rattle.forec_tree.specs.SpelledPrograms.{IsSpelled}
 use Rattle.forec_tree.specs.Terms.{Text}
+use Rattle.forec_lexer.specs.declared.fault.LexFault.{LexFault}
+use Rattle.forec_lexer.specs.declared.fault.LexFault.TheVariants as lexer
 use Rattle.forec_engine.specs.FirstForm.{First}
 use Rattle.forec_engine.specs.declared.refusal.Refusal.{Refusal}
 use Rattle.forec_engine.specs.declared.refusal.Refusal.TheVariants as why
@@ -63,3 +65,9 @@ abbrev pub Says : (Verdict → Type 0) → Result Kernel JudgeFault → Type 0
 Says Holds (Ok k) = Holds (Runs (plain_kernel k))
 Says Holds (Err (fault.Refused why)) = Holds (Refuses why)
 Says Holds (Err fault.OutOfMemory) = Unit {0}
+
+-- what a fault of the lexer is for the text
+abbrev pub lexer_fault : LexFault → JudgeFault
+lexer_fault (lexer.Bad place) = fault.Refused (why.Lex place)
+lexer_fault (lexer.Many place) = fault.Refused (why.Many place)
+lexer_fault lexer.OutOfMemory = fault.OutOfMemory

@@ -1,7 +1,7 @@
 // From a text to its kernel, or to the first cause for which it is refused.
-ghost use Rattle.std.specs.Prelude.{◌≤◌, length};
+ghost use Rattle.std.specs.Prelude.{◌≡◌, ◌≤◌, length};
 ghost use Rattle.forec_tree.specs.Plain as tree;
-ghost use Rattle.forec_engine.specs.Judging.{Judged, OnTokens, OnProgram, Says};
+ghost use Rattle.forec_engine.specs.Judging.{Judged, OnTokens, OnProgram, Says, lexer_fault};
 ghost use Rattle.forec_engine.specs.Laws.{OneVerdict};
 
 use crate::first_form::{FormFault, first_kernel, one_kernel};
@@ -34,6 +34,21 @@ fn judge_tokens(alloc: Global, tokens: &[Token], names: &Labels) -> Result<Kerne
     }
 }
 
+// What a fault of the lexer is for the text.
+fn of_lexer(fault: LexFault) -> JudgeFault
+    ensures { result ≡ lexer_fault fault }
+{
+    match fault {
+        LexFault::Bad { place } => JudgeFault::Refused {
+            why: Refusal::Lex { place },
+        },
+        LexFault::Many { place } => JudgeFault::Refused {
+            why: Refusal::Many { place },
+        },
+        LexFault::OutOfMemory => JudgeFault::OutOfMemory,
+    }
+}
+
 /// The kernel of a text of at most 1,048,576 bytes, or why it has none.
 pub fn judge(alloc: Global, text: &[u8]) -> Result<Kernel, JudgeFault>
     requires { length text.now ≤ 1048576 }
@@ -41,13 +56,7 @@ pub fn judge(alloc: Global, text: &[u8]) -> Result<Kernel, JudgeFault>
 {
     match lex(alloc, text) {
         Ok(lexed) => judge_tokens(alloc, &lexed.tokens, &lexed.names),
-        Err(LexFault::Bad { place }) => Err(JudgeFault::Refused {
-            why: Refusal::Lex { place },
-        }),
-        Err(LexFault::Many { place }) => Err(JudgeFault::Refused {
-            why: Refusal::Many { place },
-        }),
-        Err(LexFault::OutOfMemory) => Err(JudgeFault::OutOfMemory),
+        Err(fault) => Err(of_lexer(fault)),
     }
 }
 
