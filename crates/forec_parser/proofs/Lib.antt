@@ -1,0 +1,17 @@
+pub mod Turns
+pub mod Lists
+pub mod Spans
+pub mod Exact
+pub mod Closers
+pub mod Leaves
+pub mod Operators
+pub mod ExpressionSound
+pub mod ExpressionComplete
+pub mod Marks
+pub mod SimpleRules
+pub mod PartRules
+pub mod StatementSound
+pub mod StatementComplete
+pub mod ItemRules
+pub mod ItemSound
+pub mod Programs

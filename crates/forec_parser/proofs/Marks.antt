@@ -1,0 +1,186 @@
+-- The tables of statements, read in the other direction.
+use Rattle.std.proofs.Common.{◌≡◌, Bool, true, false, Option, Some, refl}
+use Rattle.forec_base.specs.declared.operators.Binary.{Binary}
+use Rattle.forec_tree.specs.declared.token.TokenKind.{TokenKind}
+use Rattle.forec_tree.specs.declared.token.TokenKind.TheVariants as kind
+use Rattle.forec_tree.specs.declared.token.Mark.TheVariants as mark
+use Rattle.forec_tree.specs.declared.token.Word.TheVariants as word
+use Rattle.forec_tree.specs.Parts.{updates_by, steps_by}
+use Rattle.forec_parser.specs.declared.fixed.Fixed.TheVariants as fixed
+use Rattle.forec_parser.specs.declared.meaning.Change.TheVariants as change
+use Rattle.forec_parser.specs.declared.meaning.Act.TheVariants as act
+use Rattle.forec_parser.specs.declared.meaning.Sort.TheVariants as sort
+use Rattle.forec_parser.specs.Meaning.{change_of, act_of, sort_of, is_fixed, ends_body}
+
+pub update_changes : (k : TokenKind) (op : Binary) → updates_by k ≡ Some op → change_of (Some k) ≡ change.Updates
+update_changes (kind.Mark mark.ShlAssign) op h = refl
+update_changes (kind.Mark mark.ShrAssign) op h = refl
+update_changes (kind.Mark mark.AddAssign) op h = refl
+update_changes (kind.Mark mark.SubAssign) op h = refl
+update_changes (kind.Mark mark.MulAssign) op h = refl
+update_changes (kind.Mark mark.DivAssign) op h = refl
+update_changes (kind.Mark mark.RemAssign) op h = refl
+update_changes (kind.Mark mark.AndAssign) op h = refl
+update_changes (kind.Mark mark.OrAssign) op h = refl
+update_changes (kind.Mark mark.XorAssign) op h = refl
+update_changes _ op h = absurd (cc)
+
+pub step_changes : (k : TokenKind) (op : Binary) → steps_by k ≡ Some op → change_of (Some k) ≡ change.Steps
+step_changes (kind.Mark mark.PlusPlus) op h = refl
+step_changes (kind.Mark mark.MinusMinus) op h = refl
+step_changes _ op h = absurd (cc)
+
+pub step_acts : (k : TokenKind) (op : Binary) → steps_by k ≡ Some op → act_of (Some k) ≡ act.Steps
+step_acts (kind.Mark mark.PlusPlus) op h = refl
+step_acts (kind.Mark mark.MinusMinus) op h = refl
+step_acts _ op h = absurd (cc)
+
+-- what stands behind a target, if it has no index
+pub update_square : (k : TokenKind) (op : Binary) → updates_by k ≡ Some op → is_fixed fixed.LeftSquare (Some k) ≡ false
+update_square (kind.Mark mark.ShlAssign) op h = refl
+update_square (kind.Mark mark.ShrAssign) op h = refl
+update_square (kind.Mark mark.AddAssign) op h = refl
+update_square (kind.Mark mark.SubAssign) op h = refl
+update_square (kind.Mark mark.MulAssign) op h = refl
+update_square (kind.Mark mark.DivAssign) op h = refl
+update_square (kind.Mark mark.RemAssign) op h = refl
+update_square (kind.Mark mark.AndAssign) op h = refl
+update_square (kind.Mark mark.OrAssign) op h = refl
+update_square (kind.Mark mark.XorAssign) op h = refl
+update_square _ op h = absurd (cc)
+
+pub update_round : (k : TokenKind) (op : Binary) → updates_by k ≡ Some op → is_fixed fixed.LeftRound (Some k) ≡ false
+update_round (kind.Mark mark.ShlAssign) op h = refl
+update_round (kind.Mark mark.ShrAssign) op h = refl
+update_round (kind.Mark mark.AddAssign) op h = refl
+update_round (kind.Mark mark.SubAssign) op h = refl
+update_round (kind.Mark mark.MulAssign) op h = refl
+update_round (kind.Mark mark.DivAssign) op h = refl
+update_round (kind.Mark mark.RemAssign) op h = refl
+update_round (kind.Mark mark.AndAssign) op h = refl
+update_round (kind.Mark mark.OrAssign) op h = refl
+update_round (kind.Mark mark.XorAssign) op h = refl
+update_round _ op h = absurd (cc)
+
+pub step_square : (k : TokenKind) (op : Binary) → steps_by k ≡ Some op → is_fixed fixed.LeftSquare (Some k) ≡ false
+step_square (kind.Mark mark.PlusPlus) op h = refl
+step_square (kind.Mark mark.MinusMinus) op h = refl
+step_square _ op h = absurd (cc)
+
+pub step_round : (k : TokenKind) (op : Binary) → steps_by k ≡ Some op → is_fixed fixed.LeftRound (Some k) ≡ false
+step_round (kind.Mark mark.PlusPlus) op h = refl
+step_round (kind.Mark mark.MinusMinus) op h = refl
+step_round _ op h = absurd (cc)
+
+-- ---- what a simple statement begins with
+
+abbrev pub acts_first : Option TokenKind → Bool
+acts_first (Some (kind.Name id)) = true
+acts_first (Some (kind.Mark mark.PlusPlus)) = true
+acts_first (Some (kind.Mark mark.MinusMinus)) = true
+acts_first _ = false
+
+pub step_first : (k : TokenKind) (op : Binary) → steps_by k ≡ Some op → acts_first (Some k) ≡ true
+step_first (kind.Mark mark.PlusPlus) op h = refl
+step_first (kind.Mark mark.MinusMinus) op h = refl
+step_first _ op h = absurd (cc)
+
+pub acts_simple : (k : Option TokenKind) → acts_first k ≡ true → sort_of k ≡ sort.Simple
+acts_simple (Some (kind.Name id)) h = refl
+acts_simple (Some (kind.Mark mark.PlusPlus)) h = refl
+acts_simple (Some (kind.Mark mark.MinusMinus)) h = refl
+acts_simple _ h = absurd (cc)
+
+pub acts_semicolon : (k : Option TokenKind) → acts_first k ≡ true → is_fixed fixed.Semicolon k ≡ false
+acts_semicolon (Some (kind.Name id)) h = refl
+acts_semicolon (Some (kind.Mark mark.PlusPlus)) h = refl
+acts_semicolon (Some (kind.Mark mark.MinusMinus)) h = refl
+acts_semicolon _ h = absurd (cc)
+
+pub acts_round : (k : Option TokenKind) → acts_first k ≡ true → is_fixed fixed.RightRound k ≡ false
+acts_round (Some (kind.Name id)) h = refl
+acts_round (Some (kind.Mark mark.PlusPlus)) h = refl
+acts_round (Some (kind.Mark mark.MinusMinus)) h = refl
+acts_round _ h = absurd (cc)
+
+pub acts_int : (k : Option TokenKind) → acts_first k ≡ true → is_fixed fixed.Int k ≡ false
+acts_int (Some (kind.Name id)) h = refl
+acts_int (Some (kind.Mark mark.PlusPlus)) h = refl
+acts_int (Some (kind.Mark mark.MinusMinus)) h = refl
+acts_int _ h = absurd (cc)
+
+-- ---- what a statement begins with
+
+abbrev pub says_first : Option TokenKind → Bool
+says_first (Some (kind.Mark mark.Semicolon)) = true
+says_first (Some (kind.Mark mark.LeftCurly)) = true
+says_first (Some (kind.Word word.Int)) = true
+says_first (Some (kind.Word word.If)) = true
+says_first (Some (kind.Word word.While)) = true
+says_first (Some (kind.Word word.For)) = true
+says_first (Some (kind.Word word.Pause)) = true
+says_first (Some (kind.Word word.Par)) = true
+says_first (Some (kind.Word word.Weak)) = true
+says_first (Some (kind.Word word.Abort)) = true
+says_first (Some (kind.Word word.Return)) = true
+says_first (Some (kind.Name id)) = true
+says_first (Some (kind.Mark mark.PlusPlus)) = true
+says_first (Some (kind.Mark mark.MinusMinus)) = true
+says_first _ = false
+
+pub acts_says : (k : Option TokenKind) → acts_first k ≡ true → says_first k ≡ true
+acts_says (Some (kind.Name id)) h = refl
+acts_says (Some (kind.Mark mark.PlusPlus)) h = refl
+acts_says (Some (kind.Mark mark.MinusMinus)) h = refl
+acts_says _ h = absurd (cc)
+
+pub says_else : (k : Option TokenKind) → says_first k ≡ true → is_fixed fixed.Else k ≡ false
+says_else (Some (kind.Mark mark.Semicolon)) h = refl
+says_else (Some (kind.Mark mark.LeftCurly)) h = refl
+says_else (Some (kind.Word word.Int)) h = refl
+says_else (Some (kind.Word word.If)) h = refl
+says_else (Some (kind.Word word.While)) h = refl
+says_else (Some (kind.Word word.For)) h = refl
+says_else (Some (kind.Word word.Pause)) h = refl
+says_else (Some (kind.Word word.Par)) h = refl
+says_else (Some (kind.Word word.Weak)) h = refl
+says_else (Some (kind.Word word.Abort)) h = refl
+says_else (Some (kind.Word word.Return)) h = refl
+says_else (Some (kind.Name id)) h = refl
+says_else (Some (kind.Mark mark.PlusPlus)) h = refl
+says_else (Some (kind.Mark mark.MinusMinus)) h = refl
+says_else _ h = absurd (cc)
+
+pub says_hash : (k : Option TokenKind) → says_first k ≡ true → is_fixed fixed.Hash k ≡ false
+says_hash (Some (kind.Mark mark.Semicolon)) h = refl
+says_hash (Some (kind.Mark mark.LeftCurly)) h = refl
+says_hash (Some (kind.Word word.Int)) h = refl
+says_hash (Some (kind.Word word.If)) h = refl
+says_hash (Some (kind.Word word.While)) h = refl
+says_hash (Some (kind.Word word.For)) h = refl
+says_hash (Some (kind.Word word.Pause)) h = refl
+says_hash (Some (kind.Word word.Par)) h = refl
+says_hash (Some (kind.Word word.Weak)) h = refl
+says_hash (Some (kind.Word word.Abort)) h = refl
+says_hash (Some (kind.Word word.Return)) h = refl
+says_hash (Some (kind.Name id)) h = refl
+says_hash (Some (kind.Mark mark.PlusPlus)) h = refl
+says_hash (Some (kind.Mark mark.MinusMinus)) h = refl
+says_hash _ h = absurd (cc)
+
+pub says_ends : (k : Option TokenKind) → says_first k ≡ true → ends_body k ≡ false
+says_ends (Some (kind.Mark mark.Semicolon)) h = refl
+says_ends (Some (kind.Mark mark.LeftCurly)) h = refl
+says_ends (Some (kind.Word word.Int)) h = refl
+says_ends (Some (kind.Word word.If)) h = refl
+says_ends (Some (kind.Word word.While)) h = refl
+says_ends (Some (kind.Word word.For)) h = refl
+says_ends (Some (kind.Word word.Pause)) h = refl
+says_ends (Some (kind.Word word.Par)) h = refl
+says_ends (Some (kind.Word word.Weak)) h = refl
+says_ends (Some (kind.Word word.Abort)) h = refl
+says_ends (Some (kind.Word word.Return)) h = refl
+says_ends (Some (kind.Name id)) h = refl
+says_ends (Some (kind.Mark mark.PlusPlus)) h = refl
+says_ends (Some (kind.Mark mark.MinusMinus)) h = refl
+says_ends _ h = absurd (cc)

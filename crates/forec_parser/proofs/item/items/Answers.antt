@@ -1,0 +1,14 @@
+use Rattle.std.proofs.Common.{rules, arith, map}
+use Rattle.std.proofs.lemmas.List.{map-append}
+use Rattle.std.proofs.lemmas.Grind.{common_steps}
+use Rattle.forec_tree.specs.Plain.{plain_item}
+use Rattle.forec_parser.specs.Input.{max_level}
+use Rattle.forec_parser.specs.Items.{items_from}
+use Rattle.forec_parser.proofs.Turns.{one_more}
+use Rattle.forec_parser.proofs.item.items.Goals as goal
+
+pub loop-turn-preserved : goal.loop-turn-preserved
+unfolding items_from
+loop-turn-preserved c =
+    let e = one_more (λ n. items_from max_level n (map plain_item c.loop-turn.found) c.loop-turn.tokens) _ c.loop-turn._turn c.loop-turn-test.true c.loop-turn.invariant in
+    first_of (search rules, grind (arith, map-append, common_steps))

@@ -1,0 +1,53 @@
+use Rattle.std.proofs.Common.{◌≡◌, ◌+◌, ◌-◌, ◌*◌, map}
+use Rattle.forec_tree.specs.Plain.{statement}
+use Rattle.forec_parser.specs.Input.{max_level}
+use Rattle.forec_parser.specs.Reading.{separated_from}
+use Rattle.forec_parser.specs.Statements as spec
+use Rattle.forec_parser.specs.Views.{launch_of}
+use Rattle.forec_parser.proofs.statement.+stmt.Given as goal
+
+abbrev pub decreases-stmt : goal.decreases-stmt
+decreases-stmt l = 8 * l.depth
+
+abbrev pub decreases-one : goal.decreases-one
+decreases-one l = 8 * l.depth + 6
+
+abbrev pub decreases-forking : goal.decreases-forking
+decreases-forking l = 8 * l.depth + 5
+
+abbrev pub decreases-launches : goal.decreases-launches
+decreases-launches l = 8 * l.depth + 4
+
+abbrev pub decreases-launch : goal.decreases-launch
+decreases-launch l = 8 * l.depth + 3
+
+abbrev pub decreases-aborting : goal.decreases-aborting
+decreases-aborting l = 8 * l.depth + 3
+
+abbrev pub decreases-block : goal.decreases-block
+decreases-block l = 8 * l.depth + 2
+
+abbrev pub decreases-body : goal.decreases-body
+decreases-body l = 8 * l.depth + 1
+
+abbrev pub decreases-branching : goal.decreases-branching
+decreases-branching l = 8 * l.depth + 2
+
+abbrev pub decreases-otherwise : goal.decreases-otherwise
+decreases-otherwise l = 8 * l.depth + 1
+
+abbrev pub decreases-looping : goal.decreases-looping
+decreases-looping l = 8 * l.depth + 1
+
+abbrev pub decreases-counting : goal.decreases-counting
+decreases-counting l = 8 * l.depth + 1
+
+abbrev pub invariant-body-loop-turn : goal.invariant-body-loop-turn
+invariant-body-loop-turn l =
+    spec.body max_level (spec.stmt max_level l.depth) l.fn.tokens
+    ≡ spec.body_from max_level (spec.stmt max_level l.depth) (l._turn-end - l._turn) (map statement l.found) l.tokens
+
+abbrev pub invariant-launches-loop-turn : goal.invariant-launches-loop-turn
+invariant-launches-loop-turn l =
+    spec.launches max_level (spec.stmt max_level l.depth) l.fn.tokens
+    ≡ separated_from (spec.launch max_level (spec.stmt max_level l.depth)) (l._turn-end - l._turn) (map launch_of l.found) l.tokens

@@ -1,0 +1,5 @@
+use Rattle.forec_parser.proofs.Programs.{one_program}
+use Rattle.forec_parser.proofs.whole.one_program.Goals as goal
+
+pub returns : goal.returns
+returns c = one_program

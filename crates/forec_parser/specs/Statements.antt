@@ -1,0 +1,312 @@
+-- Reading a statement, from tokens to the tree.
+use Rattle.std.specs.Prelude.{ℕ, zero, suc, pos, Bool, true, false, if◌then◌else◌, List, [], ◌∷◌, ◌++◌, length, Option, Some, None, Ok, Err}
+use Rattle.forec_base.specs.declared.Place.{Place}
+use Rattle.forec_base.specs.declared.operators.Binary.{Binary}
+use Rattle.forec_tree.specs.declared.token.Token.{Token}
+use Rattle.forec_tree.specs.declared.tree.Name.{Name}
+use Rattle.forec_tree.specs.declared.tree.Number.{Number}
+use Rattle.forec_tree.specs.declared.tree.OpAt.{OpAt}
+use Rattle.forec_tree.specs.Terms as plain
+use Rattle.forec_tree.specs.Terms.{Term, Declared, Written, Statement, Perhaps, absent, present}
+use Rattle.forec_tree.specs.Spelling.{listed}
+use Rattle.forec_tree.specs.Parts.{op_at, written_at, declared_as, in_order, Launch, Calls, Blocks, launched, Head, head_of}
+use Rattle.forec_parser.specs.declared.fault.Fault.TheVariants.{Deep}
+use Rattle.forec_parser.specs.declared.fixed.Fixed.{Fixed}
+use Rattle.forec_parser.specs.declared.fixed.Fixed.TheVariants as fixed
+use Rattle.forec_parser.specs.declared.meaning.Change.{Change}
+use Rattle.forec_parser.specs.declared.meaning.Change.TheVariants as change
+use Rattle.forec_parser.specs.declared.meaning.Act.{Act}
+use Rattle.forec_parser.specs.declared.meaning.Act.TheVariants as act
+use Rattle.forec_parser.specs.declared.meaning.Sort.{Sort}
+use Rattle.forec_parser.specs.declared.meaning.Sort.TheVariants as sort
+use Rattle.forec_parser.specs.Input.{Parser, ◌>>=◌, ◌>>◌, pure, refuse, scoped, kind_ahead, take}
+use Rattle.forec_parser.specs.Meaning.{update_of, step_of, change_of, act_of, sort_of, ends_body}
+use Rattle.forec_parser.specs.Reading as expression
+use Rattle.forec_parser.specs.Reading.{next_is, close, enter, enclosed, name, number, separated, expr}
+
+abbrev pub op_by : Option Binary → Parser OpAt
+op_by (Some op) = do
+  t ← take
+  pure (op_at op t.place)
+op_by None = refuse
+
+unfoldable pub update : Parser OpAt
+update = λ i. op_by (update_of (kind_ahead i.rest)) i
+
+unfoldable pub step_mark : Parser OpAt
+step_mark = λ i. op_by (step_of (kind_ahead i.rest)) i
+
+-- whether this token is there
+unfoldable pub flag : Fixed → Parser Bool
+flag f = λ i. if next_is f i then (close f >>= λ _. pure true) i else pure false i
+
+module _ (limit : ℕ) where
+  unfoldable pub value : Parser Term
+  value = expression.value limit (expr limit (suc limit))
+
+  unfoldable pub values : Parser (List Term)
+  values = separated (expression.value limit (expr limit (suc limit)))
+
+  unfoldable pub bracketed : Parser Term
+  bracketed = expression.bracketed limit (expr limit (suc limit))
+
+  unfoldable pub indexed : Parser Term
+  indexed = expression.indexed limit (expr limit (suc limit))
+
+  unfoldable pub passed : Parser (List Term)
+  passed = expression.passed limit (expr limit (suc limit))
+
+  -- ---- simple statements
+
+  unfoldable pub maybe_index : Parser (Option Term)
+  maybe_index = λ i. if next_is fixed.LeftSquare i then (indexed >>= λ x. pure (Some x)) i else pure None i
+
+  unfoldable pub target : Parser Written
+  target = do
+    n ← name
+    index ← maybe_index
+    pure (written_at n index)
+
+  abbrev pub changed_by : Change → Written → Parser Statement
+  changed_by change.Sets to = do
+    close fixed.Assign
+    x ← value
+    pure (plain.Assign to.name.place to None x)
+  changed_by change.Updates to = do
+    op ← update
+    x ← value
+    pure (plain.Assign to.name.place to (Some op) x)
+  changed_by change.Steps to = do
+    op ← step_mark
+    pure (plain.Assign to.name.place to (Some op) (plain.Num op.place (pos 1)))
+  changed_by change.Nothing to = refuse
+
+  unfoldable pub changed : Written → Parser Statement
+  changed to = λ i. changed_by (change_of (kind_ahead i.rest)) to i
+
+  unfoldable pub invoked : Name → Parser Statement
+  invoked n = do
+    args ← passed
+    pure (plain.Invoke n.place n (listed args))
+
+  unfoldable pub assigned : Name → Parser Statement
+  assigned n = do
+    index ← maybe_index
+    changed (written_at n index)
+
+  unfoldable pub named : Parser Statement
+  named = do
+    n ← name
+    (λ i. if next_is fixed.LeftRound i then invoked n i else assigned n i)
+
+  unfoldable pub stepped : Parser Statement
+  stepped = do
+    op ← step_mark
+    found ← target
+    pure (plain.Assign op.place found (Some op) (plain.Num op.place (pos 1)))
+
+  abbrev pub simple_by : Act → Parser Statement
+  simple_by act.Named = named
+  simple_by act.Steps = stepped
+  simple_by act.Nothing = refuse
+
+  unfoldable pub simple : Parser Statement
+  simple = λ i. simple_by (act_of (kind_ahead i.rest)) i
+
+  -- ---- declarations
+
+  unfoldable pub array_length : Parser Number
+  array_length = enclosed limit fixed.LeftSquare fixed.RightSquare (λ _ n. n) number
+
+  unfoldable pub maybe_length : Parser (Option Number)
+  maybe_length = λ i. if next_is fixed.LeftSquare i then (array_length >>= λ n. pure (Some n)) i else pure None i
+
+  unfoldable pub listed_values : Parser (List Term)
+  listed_values = enclosed limit fixed.LeftCurly fixed.RightCurly (λ _ xs. xs) values
+
+  abbrev pub initial_by : Option Number → Parser (List Term)
+  initial_by None = do
+    x ← value
+    pure (x ∷ [])
+  initial_by (Some n) = listed_values
+
+  unfoldable pub initial : Option Number → Parser (List Term)
+  initial length = λ i. if next_is fixed.Assign i then (close fixed.Assign >> initial_by length) i else pure [] i
+
+  unfoldable pub local : Parser Declared
+  local = do
+    n ← name
+    length ← maybe_length
+    found ← initial length
+    pure (declared_as n length found)
+
+  -- ---- loops
+
+  unfoldable pub bound : Parser (Option Number)
+  bound = λ i. if next_is fixed.Hash i then (close fixed.Hash >> number >>= λ n. pure (Some n)) i else pure None i
+
+  unfoldable pub first_local : Parser Perhaps
+  first_local = do
+    int ← close fixed.Int
+    n ← name
+    close fixed.Assign
+    x ← value
+    pure (present (plain.Declare int.place (declared_as n None (x ∷ []) ∷ [])))
+
+  unfoldable pub some_start : Parser Perhaps
+  some_start = λ i. if next_is fixed.Int i then first_local i else (simple >>= λ x. pure (present x)) i
+
+  unfoldable pub start : Parser Perhaps
+  start = λ i. if next_is fixed.Semicolon i then pure absent i else some_start i
+
+  unfoldable pub test : Parser (Option Term)
+  test = λ i. if next_is fixed.Semicolon i then pure None i else (value >>= λ x. pure (Some x)) i
+
+  unfoldable pub step : Parser Perhaps
+  step = λ i. if next_is fixed.RightRound i then pure absent i else (simple >>= λ x. pure (present x)) i
+
+  unfoldable pub head_parts : Parser Head
+  head_parts = do
+    first ← start
+    close fixed.Semicolon
+    second ← test
+    close fixed.Semicolon
+    third ← step
+    pure (head_of first second third)
+
+  unfoldable pub head : Parser Head
+  head = enclosed limit fixed.LeftRound fixed.RightRound (λ _ h. h) head_parts
+
+  -- ---- statements without others in them
+
+  unfoldable pub declaring : Parser Statement
+  declaring = do
+    t ← close fixed.Int
+    locals ← separated local
+    close fixed.Semicolon
+    pure (plain.Declare t.place locals)
+
+  unfoldable pub acting : Parser Statement
+  acting = do
+    x ← simple
+    close fixed.Semicolon
+    pure x
+
+  unfoldable pub pausing : Parser Statement
+  pausing = do
+    t ← close fixed.Pause
+    close fixed.Semicolon
+    pure (plain.Pause t.place)
+
+  unfoldable pub giving : Parser Statement
+  giving = do
+    t ← close fixed.Return
+    x ← value
+    close fixed.Semicolon
+    pure (plain.Return t.place x)
+
+  unfoldable pub maybe_passed : Parser (List Term)
+  maybe_passed = λ i. if next_is fixed.LeftRound i then passed i else pure [] i
+
+  unfoldable pub called : Parser Launch
+  called = do
+    n ← name
+    args ← maybe_passed
+    pure (Calls n (listed args))
+
+  -- ---- statements, by the parser of those in them
+
+  module _ (stmt : Parser Statement) where
+    unfoldable pub body_from : ℕ → List Statement → Parser (List Statement)
+    body_from zero found = λ i. if ends_body (kind_ahead i.rest) then Ok (found, i) else refuse i
+    body_from (suc n) found = λ i. if ends_body (kind_ahead i.rest) then Ok (found, i) else (stmt >>= λ x. body_from n (found ++ x ∷ [])) i
+
+    unfoldable pub body : Parser (List Statement)
+    body = λ i. body_from (length i.rest) [] i
+
+    unfoldable pub block : Parser (Place × List Statement)
+    block = enclosed limit fixed.LeftCurly fixed.RightCurly (λ t xs. (t.place, xs)) body
+
+    unfoldable pub group : Parser Statement
+    group = do
+      b ← block
+      pure (plain.Group b.0 (in_order b.1))
+
+    unfoldable pub otherwise : Token → Term → Statement → Parser Statement
+    otherwise t test first = do
+      enter limit fixed.Else
+      second ← stmt
+      pure (plain.If t.place test first (present second))
+
+    unfoldable pub branching : Parser Statement
+    branching = scoped (do
+      t ← enter limit fixed.If
+      test ← bracketed
+      first ← stmt
+      (λ i. if next_is fixed.Else i then otherwise t test first i else pure (plain.If t.place test first absent) i))
+
+    unfoldable pub looping : Parser Statement
+    looping = scoped (do
+      t ← enter limit fixed.While
+      test ← bracketed
+      turns ← bound
+      x ← stmt
+      pure (plain.While t.place test turns x))
+
+    unfoldable pub counting : Parser Statement
+    counting = scoped (do
+      t ← enter limit fixed.For
+      h ← head
+      turns ← bound
+      x ← stmt
+      pure (plain.For t.place h.start h.test h.step turns x))
+
+    unfoldable pub launch : Parser Launch
+    launch = λ i. if next_is fixed.LeftCurly i then (block >>= λ b. pure (Blocks b.0 (in_order b.1))) i else called i
+
+    unfoldable pub launches : Parser (List Launch)
+    launches = separated launch
+
+    unfoldable pub forking : Parser Statement
+    forking = do
+      t ← close fixed.Par
+      branches ← enclosed limit fixed.LeftRound fixed.RightRound (λ _ xs. xs) launches
+      close fixed.Semicolon
+      pure (plain.Par t.place (launched branches))
+
+    unfoldable pub aborting : Bool → Parser Statement
+    aborting weak = scoped (do
+      t ← enter limit fixed.Abort
+      b ← block
+      close fixed.When
+      immediate ← flag fixed.Immediate
+      test ← bracketed
+      close fixed.Semicolon
+      pure (plain.Abort t.place weak immediate test (in_order b.1)))
+
+    abbrev pub one_by : Sort → Parser Statement
+    one_by sort.Empty = do
+      t ← close fixed.Semicolon
+      pure (plain.Nothing t.place)
+    one_by sort.Curly = group
+    one_by sort.Declares = declaring
+    one_by sort.If = branching
+    one_by sort.While = looping
+    one_by sort.For = counting
+    one_by sort.Pause = pausing
+    one_by sort.Par = forking
+    one_by sort.Weak = do
+      close fixed.Weak
+      aborting true
+    one_by sort.Abort = aborting false
+    one_by sort.Return = giving
+    one_by sort.Simple = acting
+    one_by sort.Nothing = refuse
+
+    unfoldable pub one : Parser Statement
+    one = λ i. one_by (sort_of (kind_ahead i.rest)) i
+
+-- with statements nested no deeper than the second number
+unfoldable pub stmt : ℕ → ℕ → Parser Statement
+stmt limit zero = λ i. Err (Deep (length i.rest))
+stmt limit (suc depth) = one limit (stmt limit depth)

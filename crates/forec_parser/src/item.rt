@@ -1,0 +1,484 @@
+//! Globals and functions.
+
+ghost use Rattle.std.specs.Prelude.{◌≡◌, map};
+ghost use Rattle.forec_base.specs.declared.Policy.{Policy};
+ghost use Rattle.forec_tree.specs.declared.tree.Combine.{Combine};
+ghost use Rattle.forec_tree.specs.declared.tree.Name.{Name};
+ghost use Rattle.forec_tree.specs.declared.tree.Number.{Number};
+ghost use Rattle.std.specs.Prelude.{List};
+ghost use Rattle.forec_tree.specs.Plain.{plain_item};
+ghost use Rattle.forec_parser.specs.Input.{Reads, max_level};
+ghost use Rattle.forec_parser.specs.Items as spec;
+ghost use Rattle.forec_parser.specs.Reading.{separated};
+
+use crate::fault::Fault;
+use crate::fixed::Fixed;
+use crate::meaning::{Declarator, Opening, opening_of, policy_of};
+use crate::parts;
+use crate::simple::maybe_length;
+use crate::statement::block;
+use crate::tokens::Tokens;
+use forec_base::{Policy, Unary, unary};
+use forec_tree::{Combine, Global as Variable, GlobalKind, Item, Name, Number};
+use sqlite_items::Items;
+use std::alloc::Global;
+
+const BLOCK_DEPTH: usize = 129;
+
+#[tactic(auto, unfolding(crate::specs::Items::negative))]
+fn negative(tokens: &mut Tokens<'_>) -> Result<Number, Fault>
+    ensures { Reads (λ (n : Number). n) (spec.negative tokens.old) result tokens.new }
+{
+    let token = tokens.close(Fixed::Minus)?;
+    let number = tokens.number()?;
+    Ok(Number {
+        value: unary(Unary::Minus, number.value),
+        place: token.place,
+    })
+}
+
+/// A number with or without a sign.
+#[tactic(auto, unfolding(crate::specs::Items::signed))]
+fn signed(tokens: &mut Tokens<'_>) -> Result<Number, Fault>
+    ensures { Reads (λ (n : Number). n) (spec.signed tokens.old) result tokens.new }
+{
+    if tokens.next_is(Fixed::Minus) {
+        negative(tokens)
+    } else {
+        tokens.number()
+    }
+}
+
+#[tactic(auto, unfolding(crate::specs::Items::one_value))]
+fn one_value(alloc: Global, tokens: &mut Tokens<'_>) -> Result<Items<Number>, Fault>
+    ensures { Reads (λ (ns : List Number). ns) (spec.one_value tokens.old) result tokens.new }
+{
+    tokens.close(Fixed::Assign)?;
+    let number = signed(tokens)?;
+    let mut found = Items::new(alloc);
+    found.push(number)?;
+    Ok(found)
+}
+
+#[tactic(auto, unfolding(crate::specs::Items::maybe_value))]
+fn maybe_value(alloc: Global, tokens: &mut Tokens<'_>) -> Result<Items<Number>, Fault>
+    ensures { Reads (λ (ns : List Number). ns) (spec.maybe_value tokens.old) result tokens.new }
+{
+    if tokens.next_is(Fixed::Assign) {
+        one_value(alloc, tokens)
+    } else {
+        Ok(Items::new(alloc))
+    }
+}
+
+#[tactic(auto, unfolding(crate::specs::Reading::separated, crate::specs::Reading::separated_from))]
+fn signed_values(alloc: Global, tokens: &mut Tokens<'_>) -> Result<Items<Number>, Fault>
+    ensures { Reads (λ (ns : List Number). ns) (separated spec.signed tokens.old) result tokens.new }
+{
+    let mut found = Items::new(alloc);
+    for _turn in 0..tokens.left() {
+        found.push(signed(tokens)?)?;
+        if !tokens.next_is(Fixed::Comma) {
+            return Ok(found);
+        }
+        tokens.take()?;
+    }
+    Err(tokens.refuse())
+}
+
+#[tactic(auto, unfolding(crate::specs::Items::table_values))]
+fn table_values(alloc: Global, tokens: &mut Tokens<'_>) -> Result<Items<Number>, Fault>
+    ensures { Reads (λ (ns : List Number). ns) (spec.table_values max_level tokens.old) result tokens.new }
+{
+    let outer = tokens.level();
+    tokens.enter(Fixed::LeftCurly)?;
+    let found = signed_values(alloc, tokens)?;
+    tokens.close(Fixed::RightCurly)?;
+    tokens.leave(outer);
+    Ok(found)
+}
+
+#[tactic(auto, unfolding(crate::specs::Items::many_values))]
+fn many_values(alloc: Global, tokens: &mut Tokens<'_>) -> Result<Items<Number>, Fault>
+    ensures { Reads (λ (ns : List Number). ns) (spec.many_values max_level tokens.old) result tokens.new }
+{
+    tokens.close(Fixed::Assign)?;
+    table_values(alloc, tokens)
+}
+
+fn values_by(
+    alloc: Global,
+    tokens: &mut Tokens<'_>,
+    length: Option<Number>,
+) -> Result<Items<Number>, Fault>
+    ensures { Reads (λ (ns : List Number). ns) (spec.values_by max_level length tokens.old) result tokens.new }
+{
+    match length {
+        None => one_value(alloc, tokens),
+        Some(_) => many_values(alloc, tokens),
+    }
+}
+
+/// A constant, or a table of constants.
+#[tactic(auto, unfolding(crate::specs::Items::table))]
+fn table(alloc: Global, tokens: &mut Tokens<'_>) -> Result<Item, Fault>
+    ensures { Reads plain_item (spec.table max_level tokens.old) result tokens.new }
+{
+    let name = tokens.name()?;
+    let length = maybe_length(tokens)?;
+    let values = values_by(alloc, tokens, length)?;
+    Ok(Item::Global {
+        global: Variable {
+            name,
+            kind: GlobalKind::Const,
+            length,
+            values,
+            combine: None,
+        },
+    })
+}
+
+/// One declarator of a global.
+#[tactic(auto, unfolding(crate::specs::Items::declared))]
+fn declared(alloc: Global, tokens: &mut Tokens<'_>, declarator: Declarator) -> Result<Item, Fault>
+    ensures { Reads plain_item (spec.declared max_level declarator tokens.old) result tokens.new }
+{
+    match declarator {
+        Declarator::Table => table(alloc, tokens),
+        Declarator::Bare => {
+            let name = tokens.name()?;
+            Ok(Item::Global {
+                global: Variable {
+                    name,
+                    kind: GlobalKind::Input,
+                    length: None,
+                    values: Items::new(alloc),
+                    combine: None,
+                },
+            })
+        }
+        Declarator::Valued { kind } => {
+            let name = tokens.name()?;
+            let values = maybe_value(alloc, tokens)?;
+            Ok(Item::Global {
+                global: Variable {
+                    name,
+                    kind,
+                    length: None,
+                    values,
+                    combine: None,
+                },
+            })
+        }
+    }
+}
+
+#[tactic(auto, unfolding(crate::specs::Reading::separated, crate::specs::Reading::separated_from))]
+fn declared_list(
+    alloc: Global,
+    tokens: &mut Tokens<'_>,
+    declarator: Declarator,
+) -> Result<Items<Item>, Fault>
+    ensures { Reads (map plain_item) (separated (spec.declared max_level declarator) tokens.old) result tokens.new }
+{
+    let mut found = Items::new(alloc);
+    for _turn in 0..tokens.left() {
+        found.push(declared(alloc, tokens, declarator)?)?;
+        if !tokens.next_is(Fixed::Comma) {
+            return Ok(found);
+        }
+        tokens.take()?;
+    }
+    Err(tokens.refuse())
+}
+
+#[tactic(auto, unfolding(crate::specs::Items::globals))]
+fn globals(
+    alloc: Global,
+    tokens: &mut Tokens<'_>,
+    declarator: Declarator,
+) -> Result<Items<Item>, Fault>
+    ensures { Reads (map plain_item) (spec.globals max_level declarator tokens.old) result tokens.new }
+{
+    let found = declared_list(alloc, tokens, declarator)?;
+    tokens.close(Fixed::Semicolon)?;
+    Ok(found)
+}
+
+/// Globals from `int` on.
+#[tactic(auto, unfolding(crate::specs::Items::ints))]
+fn ints(
+    alloc: Global,
+    tokens: &mut Tokens<'_>,
+    declarator: Declarator,
+) -> Result<Items<Item>, Fault>
+    ensures { Reads (map plain_item) (spec.ints max_level declarator tokens.old) result tokens.new }
+{
+    tokens.close(Fixed::Int)?;
+    globals(alloc, tokens, declarator)
+}
+
+#[tactic(auto, unfolding(crate::specs::Items::policy))]
+fn policy(tokens: &mut Tokens<'_>) -> Result<Policy, Fault>
+    ensures { Reads (λ (p : Policy). p) (spec.policy tokens.old) result tokens.new }
+{
+    match policy_of(tokens.kind()) {
+        Some(policy) => {
+            tokens.take()?;
+            Ok(policy)
+        }
+        None => Err(tokens.refuse()),
+    }
+}
+
+#[tactic(auto, unfolding(crate::specs::Items::combines))]
+fn combines(tokens: &mut Tokens<'_>) -> Result<Combine, Fault>
+    ensures { Reads (λ (c : Combine). c) (spec.combines tokens.old) result tokens.new }
+{
+    tokens.close(Fixed::Combine)?;
+    let policy = policy(tokens)?;
+    tokens.close(Fixed::With)?;
+    let with = tokens.name()?;
+    Ok(Combine { policy, with })
+}
+
+/// A shared variable from `int` on.
+#[tactic(auto, unfolding(crate::specs::Items::shared))]
+fn shared(alloc: Global, tokens: &mut Tokens<'_>, kind: GlobalKind) -> Result<Items<Item>, Fault>
+    ensures { Reads (map plain_item) (spec.shared max_level kind tokens.old) result tokens.new }
+{
+    tokens.close(Fixed::Int)?;
+    let name = tokens.name()?;
+    let values = maybe_value(alloc, tokens)?;
+    let combine = combines(tokens)?;
+    tokens.close(Fixed::Semicolon)?;
+    let mut found = Items::new(alloc);
+    found.push(Item::Global {
+        global: Variable {
+            name,
+            kind,
+            length: None,
+            values,
+            combine: Some(combine),
+        },
+    })?;
+    Ok(found)
+}
+
+#[tactic(auto, unfolding(crate::specs::Items::output_shared))]
+fn output_shared(alloc: Global, tokens: &mut Tokens<'_>) -> Result<Items<Item>, Fault>
+    ensures { Reads (map plain_item) (spec.output_shared max_level tokens.old) result tokens.new }
+{
+    tokens.close(Fixed::Shared)?;
+    shared(alloc, tokens, GlobalKind::SharedOutput)
+}
+
+#[tactic(auto, unfolding(crate::specs::Items::shared_output))]
+fn shared_output(alloc: Global, tokens: &mut Tokens<'_>) -> Result<Items<Item>, Fault>
+    ensures { Reads (map plain_item) (spec.shared_output max_level tokens.old) result tokens.new }
+{
+    tokens.close(Fixed::Output)?;
+    let kind = GlobalKind::SharedOutput;
+    shared(alloc, tokens, kind)
+}
+
+#[tactic(auto, unfolding(crate::specs::Items::param))]
+fn param(tokens: &mut Tokens<'_>) -> Result<Name, Fault>
+    ensures { Reads (λ (n : Name). n) (spec.param tokens.old) result tokens.new }
+{
+    tokens.close(Fixed::Int)?;
+    tokens.name()
+}
+
+#[tactic(auto, unfolding(crate::specs::Reading::separated, crate::specs::Reading::separated_from))]
+fn listed_params(alloc: Global, tokens: &mut Tokens<'_>) -> Result<Items<Name>, Fault>
+    ensures { Reads (λ (ns : List Name). ns) (separated spec.param tokens.old) result tokens.new }
+{
+    let mut found = Items::new(alloc);
+    for _turn in 0..tokens.left() {
+        found.push(param(tokens)?)?;
+        if !tokens.next_is(Fixed::Comma) {
+            return Ok(found);
+        }
+        tokens.take()?;
+    }
+    Err(tokens.refuse())
+}
+
+#[tactic(auto, unfolding(crate::specs::Items::some_params))]
+fn some_params(alloc: Global, tokens: &mut Tokens<'_>) -> Result<Items<Name>, Fault>
+    ensures { Reads (λ (ns : List Name). ns) (spec.some_params tokens.old) result tokens.new }
+{
+    if tokens.next_is(Fixed::Void) {
+        tokens.close(Fixed::Void)?;
+        let none = Items::new(alloc);
+        Ok(none)
+    } else {
+        listed_params(alloc, tokens)
+    }
+}
+
+#[tactic(auto, unfolding(crate::specs::Items::params))]
+fn params(alloc: Global, tokens: &mut Tokens<'_>) -> Result<Items<Name>, Fault>
+    ensures { Reads (λ (ns : List Name). ns) (spec.params tokens.old) result tokens.new }
+{
+    if tokens.next_is(Fixed::RightRound) {
+        Ok(Items::new(alloc))
+    } else {
+        some_params(alloc, tokens)
+    }
+}
+
+/// Parameters, with their brackets.
+#[tactic(auto, unfolding(crate::specs::Items::parameters))]
+fn parameters(alloc: Global, tokens: &mut Tokens<'_>) -> Result<Items<Name>, Fault>
+    ensures { Reads (λ (ns : List Name). ns) (spec.parameters max_level tokens.old) result tokens.new }
+{
+    let outer = tokens.level();
+    tokens.enter(Fixed::LeftRound)?;
+    let found = params(alloc, tokens)?;
+    tokens.close(Fixed::RightRound)?;
+    tokens.leave(outer);
+    Ok(found)
+}
+
+/// A function from its parameters on.
+#[tactic(auto, unfolding(crate::specs::Items::function))]
+fn function(
+    alloc: Global,
+    tokens: &mut Tokens<'_>,
+    gives: bool,
+    name: Name,
+) -> Result<Items<Item>, Fault>
+    ensures { Reads (map plain_item) (spec.function max_level gives name tokens.old) result tokens.new }
+{
+    let params = parameters(alloc, tokens)?;
+    let block = block(alloc, tokens, BLOCK_DEPTH)?;
+    let mut found = Items::new(alloc);
+    found.push(parts::function(name, gives, params, block))?;
+    Ok(found)
+}
+
+#[tactic(auto, unfolding(crate::specs::Items::more_globals))]
+fn more_globals(alloc: Global, tokens: &mut Tokens<'_>) -> Result<Items<Item>, Fault>
+    ensures { Reads (map plain_item) (spec.more_globals max_level tokens.old) result tokens.new }
+{
+    if tokens.next_is(Fixed::Comma) {
+        tokens.close(Fixed::Comma)?;
+        let plain = Declarator::Valued {
+            kind: GlobalKind::Plain,
+        };
+        declared_list(alloc, tokens, plain)
+    } else {
+        Ok(Items::new(alloc))
+    }
+}
+
+/// Plain globals behind the first name.
+#[tactic(auto, unfolding(crate::specs::Items::plain_globals))]
+fn plain_globals(alloc: Global, tokens: &mut Tokens<'_>, name: Name) -> Result<Items<Item>, Fault>
+    ensures { Reads (map plain_item) (spec.plain_globals max_level name tokens.old) result tokens.new }
+{
+    let values = maybe_value(alloc, tokens)?;
+    let more = more_globals(alloc, tokens)?;
+    tokens.close(Fixed::Semicolon)?;
+    let mut found = Items::new(alloc);
+    found.push(Item::Global {
+        global: Variable {
+            name,
+            kind: GlobalKind::Plain,
+            length: None,
+            values,
+            combine: None,
+        },
+    })?;
+    found.append(more)?;
+    Ok(found)
+}
+
+/// An item that begins with `output`.
+#[tactic(auto, unfolding(crate::specs::Items::outputs))]
+fn outputs(alloc: Global, tokens: &mut Tokens<'_>) -> Result<Items<Item>, Fault>
+    ensures { Reads (map plain_item) (spec.outputs max_level tokens.old) result tokens.new }
+{
+    tokens.close(Fixed::Output)?;
+    if tokens.next_is(Fixed::Shared) {
+        output_shared(alloc, tokens)
+    } else {
+        let output = Declarator::Valued {
+            kind: GlobalKind::Output,
+        };
+        ints(alloc, tokens, output)
+    }
+}
+
+/// An item that begins with `shared`.
+#[tactic(auto, unfolding(crate::specs::Items::shares))]
+fn shares(alloc: Global, tokens: &mut Tokens<'_>) -> Result<Items<Item>, Fault>
+    ensures { Reads (map plain_item) (spec.shares max_level tokens.old) result tokens.new }
+{
+    tokens.close(Fixed::Shared)?;
+    if tokens.next_is(Fixed::Output) {
+        shared_output(alloc, tokens)
+    } else {
+        shared(alloc, tokens, GlobalKind::Shared)
+    }
+}
+
+/// An item that begins with `int`.
+#[tactic(auto, unfolding(crate::specs::Items::numbers))]
+fn numbers(alloc: Global, tokens: &mut Tokens<'_>) -> Result<Items<Item>, Fault>
+    ensures { Reads (map plain_item) (spec.numbers max_level tokens.old) result tokens.new }
+{
+    tokens.close(Fixed::Int)?;
+    let name = tokens.name()?;
+    if tokens.next_is(Fixed::LeftRound) {
+        function(alloc, tokens, true, name)
+    } else {
+        plain_globals(alloc, tokens, name)
+    }
+}
+
+/// The items of one declaration.
+#[tactic(auto, unfolding(crate::specs::Items::item))]
+fn item(alloc: Global, tokens: &mut Tokens<'_>) -> Result<Items<Item>, Fault>
+    ensures { Reads (map plain_item) (spec.item max_level tokens.old) result tokens.new }
+{
+    match opening_of(tokens.kind()) {
+        Opening::Const => {
+            tokens.close(Fixed::Const)?;
+            ints(alloc, tokens, Declarator::Table)
+        }
+        Opening::Input => {
+            tokens.close(Fixed::Input)?;
+            ints(alloc, tokens, Declarator::Bare)
+        }
+        Opening::Output => outputs(alloc, tokens),
+        Opening::Shared => shares(alloc, tokens),
+        Opening::Int => numbers(alloc, tokens),
+        Opening::Void => {
+            tokens.close(Fixed::Void)?;
+            let name = tokens.name()?;
+            function(alloc, tokens, false, name)
+        }
+        Opening::Nothing => Err(tokens.refuse()),
+    }
+}
+
+/// Items up to the end of the tokens.
+#[tactic(auto, unfolding(crate::specs::Items::items, crate::specs::Items::items_from))]
+pub fn items(alloc: Global, tokens: &mut Tokens<'_>) -> Result<Items<Item>, Fault>
+    ensures { Reads (map plain_item) (spec.items max_level tokens.old) result tokens.new }
+{
+    let mut found = Items::new(alloc);
+    for _turn in 0..tokens.left() {
+        if tokens.at_end() {
+            return Ok(found);
+        }
+        found.append(item(alloc, tokens)?)?;
+    }
+    if tokens.at_end() {
+        return Ok(found);
+    }
+    Err(tokens.refuse())
+}

@@ -1,0 +1,220 @@
+//! Statements, by recursive descent. `depth` bounds how deep calls nest; the level of the tokens ends a text first.
+
+ghost use Rattle.std.specs.Prelude.{◌≡◌, map};
+ghost use Rattle.forec_tree.specs.Plain.{term, statement};
+ghost use Rattle.forec_parser.specs.Input.{Reads, max_level};
+ghost use Rattle.forec_parser.specs.Statements as spec;
+ghost use Rattle.forec_parser.specs.Views.{launch_of, block_of};
+
+use crate::fault::Fault;
+use crate::fixed::{Fixed, ends_body};
+use crate::meaning::{Sort, sort_of};
+use crate::parts::{self, Block};
+use crate::simple::{acting, bound, bracketed, called, declaring, flag, giving, head, pausing};
+use crate::tokens::Tokens;
+use forec_tree::{Branch, Expr, Stmt, Token};
+use sqlite_items::Items;
+use std::alloc::Global;
+
+#[cycle(stmt)]
+#[tactic(auto, unfolding(crate::specs::Statements::stmt))]
+pub fn stmt(alloc: Global, tokens: &mut Tokens<'_>, depth: usize) -> Result<Stmt, Fault>
+    ensures { Reads statement (spec.stmt max_level depth tokens.old) result tokens.new }
+{
+    if depth == 0 {
+        return Err(tokens.too_deep());
+    }
+    one(alloc, tokens, depth - 1)
+}
+
+#[cycle(stmt)]
+#[tactic(auto, unfolding(crate::specs::Statements::one, crate::specs::Statements::group))]
+fn one(alloc: Global, tokens: &mut Tokens<'_>, depth: usize) -> Result<Stmt, Fault>
+    ensures { Reads statement (spec.one max_level (spec.stmt max_level depth) tokens.old) result tokens.new }
+{
+    match sort_of(tokens.kind()) {
+        Sort::Empty => {
+            let token = tokens.close(Fixed::Semicolon)?;
+            Ok(parts::nothing(token.place))
+        }
+        Sort::Curly => {
+            let block = block(alloc, tokens, depth)?;
+            Ok(parts::group(block))
+        }
+        Sort::Declares => declaring(alloc, tokens),
+        Sort::If => branching(alloc, tokens, depth),
+        Sort::While => looping(alloc, tokens, depth),
+        Sort::For => counting(alloc, tokens, depth),
+        Sort::Pause => pausing(tokens),
+        Sort::Par => forking(alloc, tokens, depth),
+        Sort::Weak => {
+            tokens.close(Fixed::Weak)?;
+            aborting(alloc, tokens, depth, true)
+        }
+        Sort::Abort => aborting(alloc, tokens, depth, false),
+        Sort::Return => giving(alloc, tokens),
+        Sort::Simple => acting(alloc, tokens),
+        Sort::Nothing => Err(tokens.refuse()),
+    }
+}
+
+/// Statements up to the bracket that closes them, or the end.
+#[cycle(stmt)]
+#[tactic(auto, unfolding(crate::specs::Statements::body, crate::specs::Statements::body_from))]
+fn body(alloc: Global, tokens: &mut Tokens<'_>, depth: usize) -> Result<Items<Stmt>, Fault>
+    ensures { Reads (map statement) (spec.body max_level (spec.stmt max_level depth) tokens.old) result tokens.new }
+{
+    let mut found = Items::new(alloc);
+    for _turn in 0..tokens.left() {
+        if ends_body(tokens.kind()) {
+            return Ok(found);
+        }
+        found.push(stmt(alloc, tokens, depth)?)?;
+    }
+    if ends_body(tokens.kind()) {
+        return Ok(found);
+    }
+    Err(tokens.refuse())
+}
+
+/// Statements between curly brackets.
+#[cycle(stmt)]
+#[tactic(auto, unfolding(crate::specs::Statements::block))]
+pub fn block(alloc: Global, tokens: &mut Tokens<'_>, depth: usize) -> Result<Block, Fault>
+    ensures { Reads block_of (spec.block max_level (spec.stmt max_level depth) tokens.old) result tokens.new }
+{
+    let outer = tokens.level();
+    let token = tokens.enter(Fixed::LeftCurly)?;
+    let body = body(alloc, tokens, depth)?;
+    tokens.close(Fixed::RightCurly)?;
+    tokens.leave(outer);
+    Ok(Block {
+        place: token.place,
+        body,
+    })
+}
+
+#[cycle(stmt)]
+#[tactic(auto, unfolding(crate::specs::Statements::branching))]
+fn branching(alloc: Global, tokens: &mut Tokens<'_>, depth: usize) -> Result<Stmt, Fault>
+    ensures { Reads statement (spec.branching max_level (spec.stmt max_level depth) tokens.old) result tokens.new }
+{
+    let outer = tokens.level();
+    let token = tokens.enter(Fixed::If)?;
+    let test = bracketed(alloc, tokens)?;
+    let yes = stmt(alloc, tokens, depth)?;
+    let found = if tokens.next_is(Fixed::Else) {
+        otherwise(alloc, tokens, depth, token, test, yes)?
+    } else {
+        parts::branch(alloc, token.place, test, yes, None)?
+    };
+    tokens.leave(outer);
+    Ok(found)
+}
+
+/// An `if` from its `else` on.
+#[cycle(stmt)]
+#[tactic(auto, unfolding(crate::specs::Statements::otherwise))]
+fn otherwise(
+    alloc: Global,
+    tokens: &mut Tokens<'_>,
+    depth: usize,
+    token: Token,
+    test: Expr,
+    yes: Stmt,
+) -> Result<Stmt, Fault>
+    ensures { Reads statement (spec.otherwise max_level (spec.stmt max_level depth) token (term test) (statement yes) tokens.old) result tokens.new }
+{
+    tokens.enter(Fixed::Else)?;
+    let no = stmt(alloc, tokens, depth)?;
+    Ok(parts::branch(alloc, token.place, test, yes, Some(no))?)
+}
+
+#[cycle(stmt)]
+#[tactic(auto, unfolding(crate::specs::Statements::looping))]
+fn looping(alloc: Global, tokens: &mut Tokens<'_>, depth: usize) -> Result<Stmt, Fault>
+    ensures { Reads statement (spec.looping max_level (spec.stmt max_level depth) tokens.old) result tokens.new }
+{
+    let outer = tokens.level();
+    let token = tokens.enter(Fixed::While)?;
+    let test = bracketed(alloc, tokens)?;
+    let turns = bound(tokens)?;
+    let body = stmt(alloc, tokens, depth)?;
+    tokens.leave(outer);
+    Ok(parts::repeat(alloc, token.place, test, turns, body)?)
+}
+
+#[cycle(stmt)]
+#[tactic(auto, unfolding(crate::specs::Statements::counting))]
+fn counting(alloc: Global, tokens: &mut Tokens<'_>, depth: usize) -> Result<Stmt, Fault>
+    ensures { Reads statement (spec.counting max_level (spec.stmt max_level depth) tokens.old) result tokens.new }
+{
+    let outer = tokens.level();
+    let token = tokens.enter(Fixed::For)?;
+    let head = head(alloc, tokens)?;
+    let turns = bound(tokens)?;
+    let body = stmt(alloc, tokens, depth)?;
+    tokens.leave(outer);
+    Ok(parts::count(alloc, token.place, head, turns, body)?)
+}
+
+#[cycle(stmt)]
+#[tactic(auto, unfolding(crate::specs::Statements::launch))]
+fn launch(alloc: Global, tokens: &mut Tokens<'_>, depth: usize) -> Result<Branch, Fault>
+    ensures { Reads launch_of (spec.launch max_level (spec.stmt max_level depth) tokens.old) result tokens.new }
+{
+    if tokens.next_is(Fixed::LeftCurly) {
+        let block = block(alloc, tokens, depth)?;
+        Ok(parts::start_block(block))
+    } else {
+        called(alloc, tokens)
+    }
+}
+
+#[cycle(stmt)]
+#[tactic(auto, unfolding(crate::specs::Statements::launches, crate::specs::Reading::separated, crate::specs::Reading::separated_from))]
+fn launches(alloc: Global, tokens: &mut Tokens<'_>, depth: usize) -> Result<Items<Branch>, Fault>
+    ensures { Reads (map launch_of) (spec.launches max_level (spec.stmt max_level depth) tokens.old) result tokens.new }
+{
+    let mut found = Items::new(alloc);
+    for _turn in 0..tokens.left() {
+        found.push(launch(alloc, tokens, depth)?)?;
+        if !tokens.next_is(Fixed::Comma) {
+            return Ok(found);
+        }
+        tokens.take()?;
+    }
+    Err(tokens.refuse())
+}
+
+#[cycle(stmt)]
+#[tactic(auto, unfolding(crate::specs::Statements::forking))]
+fn forking(alloc: Global, tokens: &mut Tokens<'_>, depth: usize) -> Result<Stmt, Fault>
+    ensures { Reads statement (spec.forking max_level (spec.stmt max_level depth) tokens.old) result tokens.new }
+{
+    let token = tokens.close(Fixed::Par)?;
+    let outer = tokens.level();
+    tokens.enter(Fixed::LeftRound)?;
+    let branches = launches(alloc, tokens, depth)?;
+    tokens.close(Fixed::RightRound)?;
+    tokens.leave(outer);
+    tokens.close(Fixed::Semicolon)?;
+    Ok(parts::fork(token.place, branches))
+}
+
+/// An abort from the word `abort` on.
+#[cycle(stmt)]
+#[tactic(auto, unfolding(crate::specs::Statements::aborting))]
+fn aborting(alloc: Global, tokens: &mut Tokens<'_>, depth: usize, weak: bool) -> Result<Stmt, Fault>
+    ensures { Reads statement (spec.aborting max_level (spec.stmt max_level depth) weak tokens.old) result tokens.new }
+{
+    let outer = tokens.level();
+    let token = tokens.enter(Fixed::Abort)?;
+    let block = block(alloc, tokens, depth)?;
+    tokens.close(Fixed::When)?;
+    let immediate = flag(tokens, Fixed::Immediate)?;
+    let test = bracketed(alloc, tokens)?;
+    tokens.close(Fixed::Semicolon)?;
+    tokens.leave(outer);
+    Ok(parts::abort(token.place, weak, immediate, test, block))
+}

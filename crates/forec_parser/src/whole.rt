@@ -1,0 +1,51 @@
+//! A program, all of the tokens.
+
+ghost use Rattle.std.specs.Prelude.{◌≡◌, ◌≤◌, ℕ, IfOk, List, length};
+ghost use Rattle.forec_tree.specs.declared.token.Token.{Token};
+ghost use Rattle.forec_tree.specs.Plain.{program};
+ghost use Rattle.forec_tree.specs.Terms.{Text};
+ghost use Rattle.forec_tree.specs.SpelledPrograms.{IsSpelled};
+ghost use Rattle.forec_parser.specs.Input.{input, max_level};
+ghost use Rattle.forec_parser.specs.Items as spec;
+ghost use Rattle.forec_parser.specs.Program.{Answers, Gives, told_of};
+
+use crate::fault::{Fault, ParseFault};
+use crate::item;
+use crate::tokens::Tokens;
+use forec_tree::{Program, Token};
+use std::alloc::Global;
+
+fn read(alloc: Global, tokens: &[Token]) -> Result<Program, Fault>
+    ensures { Gives (spec.items max_level (input tokens.now 0)) result }
+{
+    let mut rest = Tokens::new(tokens, 0);
+    let items = item::items(alloc, &mut rest)?;
+    Ok(Program { items })
+}
+
+fn told(fault: Fault) -> ParseFault
+    ensures { result ≡ told_of fault }
+{
+    match fault {
+        Fault::Syntax { left: _ } => ParseFault::Unfit,
+        Fault::Deep { left: _ } => ParseFault::Unfit,
+        Fault::OutOfMemory => ParseFault::OutOfMemory,
+    }
+}
+
+/// The program that the tokens spell within the greatest level, 128.
+pub fn parse(alloc: Global, tokens: &[Token]) -> Result<Program, ParseFault>
+    requires { length tokens.now ≤ 200000 }
+    ensures found { IfOk result (λ p. IsSpelled max_level (program p) tokens.now) }
+    ensures only { (text : Text) → IsSpelled max_level text tokens.now → Answers text result }
+{
+    match read(alloc, tokens) {
+        Ok(program) => Ok(program),
+        Err(fault) => Err(told(fault)),
+    }
+}
+
+/// No tokens spell two programs, at any level.
+pub fn one_program()
+    ensures { (k l : ℕ) (a b : Text) (ts : List Token) → IsSpelled k a ts → IsSpelled l b ts → a ≡ b }
+{}
