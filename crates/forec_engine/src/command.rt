@@ -1,5 +1,5 @@
 // The top call.
-ghost use Rattle.std.specs.Prelude.{◌≡◌, ◌≤◌, ◌≢◌, ◌⊎◌, List, ℕ, map, length, string_bytes, IfSome, Some};
+ghost use Rattle.std.specs.Prelude.{◌≡◌, ◌≤◌, ◌≢◌, ◌⊎◌, List, ℕ, map, length, string_bytes, IfSome, Some, None};
 ghost use Rattle.std.specs.Option.{option_copied};
 ghost use Rattle.forec_base.specs.Outside.{Fell, Rose};
 ghost use Rattle.forec_kernel.specs.Shapes.{PlainKernel, plain_kernel};
@@ -57,6 +57,7 @@ fn start<S: Source, K: Sink>(alloc: Global, kernel: Kernel, trace: &mut S, out: 
     ensures write { result ≡ Status.WriteFault → Fell (K.faults out.old) (K.faults out.new) (K.down out.new)
         × IfSome (S.left trace.old) (λ x. AppendsFront (K.held out.old) (K.held out.new) (trace_report (plain_kernel kernel) budget x).bytes) }
     ensures memory { result ≡ Status.NoMemory → K.held out.new ≡ K.held out.old }
+    ensures usage { result ≢ Status.Usage }
 {
     let Ok(code) = generate(alloc, &kernel) else {
         return Status::NoMemory;
@@ -85,6 +86,7 @@ fn refuse<K: Sink>(alloc: Global, why: Refusal, out: &mut K) -> Status
     ensures write { result ≡ Status.WriteFault → Fell (K.faults out.old) (K.faults out.new) (K.down out.new)
         × AppendsFront (K.held out.old) (K.held out.new) (refused why).bytes }
     ensures memory { result ≡ Status.NoMemory → K.held out.new ≡ K.held out.old }
+    ensures usage { result ≢ Status.Usage }
 {
     let Ok(mut waiting) = Waiting::new(alloc, "") else {
         return Status::NoMemory;
@@ -102,6 +104,7 @@ fn run_text<S: Source, K: Sink>(alloc: Global, text: &[u8], trace: &mut S, out: 
     ensures write { result ≡ Status.WriteFault → Fell (K.faults out.old) (K.faults out.new) (K.down out.new)
         × ((r : Report) → TextReport text.now (S.left trace.old) r → AppendsFront (K.held out.old) (K.held out.new) r.bytes) }
     ensures memory { result ≡ Status.NoMemory → K.held out.new ≡ K.held out.old }
+    ensures usage { result ≢ Status.Usage }
 {
     // A text has one verdict at most, so that the report of this one is its report.
     one_verdict();
@@ -141,6 +144,9 @@ fn run_command<T: Texts, S: Source, K: Sink, G: Gate>(
 
     // Where memory was wanting, nothing was printed.
     ensures memory { result ≡ Status.NoMemory → K.held out.new ≡ K.held out.old }
+
+    // The usage line comes only where the words are no command.
+    ensures usage { result ≡ Status.Usage → program_of (map string_bytes words.now) ≡ None }
 {
     let _ = gate;
     let Some(name) = program(words) else {
@@ -183,6 +189,9 @@ pub fn forec<T: Texts, S: Source, K: Sink, G: Gate>(
 
     // Where memory was wanting, nothing was printed.
     ensures memory { result ≡ Status.NoMemory → K.held out.new ≡ K.held out.old }
+
+    // The usage line comes only where the words are no command.
+    ensures usage { result ≡ Status.Usage → program_of (map string_bytes words.now) ≡ None }
 
     // Where no count of faults rises, the report is given whole, or memory was wanting.
     ensures complete { (Rose (T.faults texts.old) (T.faults texts.new) → ⊥) → (Rose (S.faults trace.old) (S.faults trace.new) → ⊥)

@@ -6,6 +6,8 @@ mod first_form;
 mod found;
 mod generator;
 mod judging;
+#[cfg(test)]
+mod judging_tests;
 mod laws;
 mod lines;
 mod machine;
