@@ -1,9 +1,6 @@
--- The kernel of a program of the first form is well formed.
+-- The kernel of a first program is well formed.
 use Rattle.std.proofs.Common.{◌≡◌, ◌∙◌, ℕ, zero, suc, ◌+◌, ◌<◌, ◌≤◌, ◌==◌, Bool, true, false, ◌&&◌, if◌then◌else◌, Option, None, Some, List, [], ◌∷◌, ◌++◌, length, map, refl, sym, ap, subst, length-append, append-nil, add-zero, nat_le, arith, Vec, Global}
 use Rattle.std.proofs.lemmas.Bool.Decides.{nat_tests}
-use Rattle.std.specs.List.{list_all}
-use Rattle.std.specs.Str.{IsAscii, IsUtf8}
-use Rattle.std.proofs.lemmas.Str.{IsUtf8-from_ascii}
 use Rattle.forec_kernel.specs.Terms.{Stmt, Stmts, Seq, more_stmts}
 use Rattle.forec_kernel.specs.Plain.{stmt, stmts}
 use Rattle.forec_kernel.specs.Shapes.{PlainKernel, PlainShape}
@@ -13,25 +10,7 @@ use Rattle.forec_kernel.specs.Combining.{variable_of}
 use Rattle.forec_kernel.specs.declared.terms.Statement.{Statement, Sequence}
 use Rattle.forec_kernel.proofs.VecTerms.{stmt-sequence}
 use Rattle.forec_engine.specs.FirstProgram.{Operand, The_output, A_number, Value, Alone, Sum, Difference, Action, Assigns, Pauses, EndlessLoop, FirstProgram, operand_expr, value_expr, action_stmt, stmts_of, sequence_of, loop_stmts, body_stmt, first_kernel}
-use Rattle.forec_engine.specs.FirstForm.{goes_on, IsName}
 use Rattle.forec_engine.specs.FirstSizes.{list_terms_of, sequenced}
-
--- ---- names are text
-
-goes_on_ascii : (b : ℕ) → goes_on b ≡ true → b < 128
-goes_on_ascii b h = grind (arith, nat_tests)
-
-and_true : (s t : Bool) → (s && t) ≡ true → (s ≡ true) × (t ≡ true)
-and_true true t k = (refl, k)
-and_true false t k = absurd (cc)
-
-word_ascii : (w : List ℕ) → list_all goes_on w ≡ true → IsAscii w
-word_ascii [] h i = omega arith
-word_ascii (b ∷ bs) h zero = goes_on_ascii b (and_true (goes_on b) (list_all goes_on bs) h).0
-word_ascii (b ∷ bs) h (suc i) = word_ascii bs (and_true (goes_on b) (list_all goes_on bs) h).1 i
-
-pub name_utf8 : (w : List ℕ) → IsName w → IsUtf8 w
-name_utf8 w n = IsUtf8-from_ascii w (word_ascii w n.goes)
 
 -- ---- lists of statements
 

@@ -93,7 +93,7 @@ first_reads k f =
     let end = instruction.End ∷ [] in
     let all = has_all (code ++ end) [] in
     let p = f.program in
-    let copy : VarCopy = record { value = pos p.start; modified = false } in
+    let copy : VarCopy = record { value = p.start; modified = false } in
     record {
       running = refl;
       uses = first_uses k f;

@@ -19,12 +19,8 @@ mod Running
 mod Splitting
 mod TickLines
 mod Told
-pub mod FirstComplete
-pub mod FirstCuts
-pub mod FirstExact
-pub mod FirstLexes
-pub mod FirstLists
 pub mod FirstLowering
-pub mod FirstSound
-pub mod FirstSteps
-pub mod FirstWords
+pub mod FirstExact
+pub mod FirstLists
+mod Lexing
+mod Verdicts

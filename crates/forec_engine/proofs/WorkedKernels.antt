@@ -97,12 +97,12 @@ worked_fine false =
     one_variable zero h = record { combine = λ f e. cc }
     one_variable (suc v) h = absurd (omega arith)
 
-shape_same : (b : Bool) (start : ℤ) → start ≡ pos (worked b).start → shape_of start ≡ (first_kernel (worked b)).shape
+shape_same : (b : Bool) (start : ℤ) → start ≡ (worked b).start → shape_of start ≡ (first_kernel (worked b)).shape
 shape_same true start e = ap shape_of e
 shape_same false start e = ap shape_of e
 
 -- the parts that were put together for a worked program are those of its kernel
-pub parts_are : (b : Bool) (parts : KernelParts) (body : Statement) (start : ℤ) → plain_shape parts.shape ≡ shape_of start → start ≡ pos (worked b).start →
+pub parts_are : (b : Bool) (parts : KernelParts) (body : Statement) (start : ℤ) → plain_shape parts.shape ≡ shape_of start → start ≡ (worked b).start →
     parts.threads.items ≡ body ∷ [] → stmt body ≡ body_stmt (worked b) → parts.functions.items ≡ [] → plain_kernel parts ≡ first_kernel (worked b)
 parts_are b parts body start shape at threads is functions =
     let bodies : map stmt parts.threads.items ≡ body_stmt (worked b) ∷ [] = ap (map stmt) threads ∙ ap (λ s. s ∷ []) is in

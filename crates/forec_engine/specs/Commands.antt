@@ -2,7 +2,8 @@
 use Rattle.std.specs.Prelude.{◌≡◌, ℕ, List, [], ◌∷◌, Option, Some, None, nat_eq, if◌then◌else◌, codes}
 use Rattle.std.specs.Cmp.Lexicographic.{pointwise}
 use Rattle.forec_kernel.specs.Shapes.{PlainKernel}
-use Rattle.forec_engine.specs.Judging.{Refusal, refusal_line, Runs, Refuses, Judged}
+use Rattle.forec_engine.specs.Judging.{refusal_line, Runs, Refuses, Judged}
+use Rattle.forec_engine.specs.declared.refusal.Refusal.{Refusal}
 use Rattle.forec_engine.specs.Report.{Report, trace_report}
 use Rattle.forec_engine.specs.declared.status.Status.TheVariants as status
 

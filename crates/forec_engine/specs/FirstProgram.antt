@@ -1,5 +1,5 @@
--- A program of the first form: one output, and one thread that assigns it and pauses, at the end perhaps for ever in a loop.
-use Rattle.std.specs.Prelude.{ℕ, pos, false, Option, Some, None, List, [], ◌∷◌, ◌++◌, map, codes}
+-- A first program: one output, and one thread that assigns it and pauses, at the end perhaps for ever in a loop.
+use Rattle.std.specs.Prelude.{ℕ, ℤ, pos, false, Option, Some, None, List, [], ◌∷◌, ◌++◌, map, codes}
 use Rattle.forec_base.specs.declared.Place.{Place}
 use Rattle.forec_base.specs.declared.Policy.TheVariants as policy
 use Rattle.forec_base.specs.declared.operators.Binary.TheVariants as binary
@@ -10,7 +10,7 @@ use Rattle.forec_kernel.specs.Shapes.{PlainKernel}
 -- the output, or a number
 pub data Operand : Type 0 where
   The_output : Operand
-  A_number : (value : ℕ) → Operand
+  A_number : (value : ℤ) → Operand
 
 pub data Value : Type 0 where
   Alone : Operand → Value
@@ -29,7 +29,7 @@ pub record EndlessLoop : Type 0 where
 
 pub record FirstProgram : Type 0 where
   pub name : List ℕ
-  pub start : ℕ
+  pub start : ℤ
   pub actions : List Action
   pub loop : Option EndlessLoop
 
@@ -37,7 +37,7 @@ pub record FirstProgram : Type 0 where
 
 abbrev pub operand_expr : Operand → Expr
 operand_expr The_output = Var 0
-operand_expr (A_number n) = Num (pos n)
+operand_expr (A_number n) = Num n
 
 abbrev pub value_expr : Value → Expr
 value_expr (Alone a) = operand_expr a
@@ -70,7 +70,7 @@ first_kernel p =
     record {
       shape = record {
         threads = record { parent = None; par = None; name = Some (codes "main"); params = 0; words = 0; uses = 0 ∷ [] } ∷ [];
-        variables = record { policy = policy.Mod; combine = None; start = pos p.start; input = false } ∷ [];
+        variables = record { policy = policy.Mod; combine = None; start = p.start; input = false } ∷ [];
         functions = [];
         tables = [];
         inputs = [];

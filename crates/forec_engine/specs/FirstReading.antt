@@ -1,206 +1,167 @@
--- Reading a program of the first form: functions on the text and on its tokens. `proofs/` shows that they are the converse of the definitions.
-use Rattle.std.specs.Prelude.{ℕ, zero, suc, ◌≡◌, ◌-◌, Bool, true, false, ◌&&◌, ◌||◌, not, nat_le, if◌then◌else◌, Option, Some, None, Result, Ok, Err, List, [], ◌∷◌, ◌++◌, length, take, codes}
-use Rattle.std.specs.List.{list_any, list_all, take_while}
+-- Reading a first program: functions on its tree. `proofs/` shows that they are the converse of the definitions.
+use Rattle.std.specs.Prelude.{ℕ, ℤ, pos, ◌≡◌, ◌==◌, Bool, true, false, ◌&&◌, not, nat_le, if◌then◌else◌, Option, Some, None, Result, Ok, Err, List, [], ◌∷◌, ◌++◌, length, slice_get, codes}
+use Rattle.std.specs.List.{list_any}
 use Rattle.std.specs.Str.{bytes_eq}
+use Rattle.forec_base.specs.Numbers.{int_same}
 use Rattle.forec_base.specs.declared.Place.{Place}
+use Rattle.forec_base.specs.declared.operators.Binary.{Binary}
+use Rattle.forec_base.specs.declared.operators.Binary.TheVariants as binary
+use Rattle.forec_tree.specs.declared.tree.Name.{Name}
+use Rattle.forec_tree.specs.declared.tree.Number.{Number}
+use Rattle.forec_tree.specs.declared.tree.OpAt.{OpAt}
+use Rattle.forec_tree.specs.declared.tree.GlobalKind.{GlobalKind}
+use Rattle.forec_tree.specs.declared.tree.GlobalKind.TheVariants as sort
+use Rattle.forec_tree.specs.Terms as tree
+use Rattle.forec_tree.specs.Terms.{Term, Written, Statement, Statements, no_statements, more_statements, PlainGlobal, PlainFunction, PlainItem, IsGlobal, IsFunction, Text}
 use Rattle.forec_engine.specs.FirstProgram.{Operand, The_output, A_number, Value, Alone, Sum, Difference, Action, Assigns, Pauses, EndlessLoop, FirstProgram}
-use Rattle.forec_engine.specs.FirstForm.{Token, is_space, is_digit, goes_on, is_mark, after, start, begins_as_name, begins_as_number, decimal_from, is_pause}
+use Rattle.forec_engine.specs.FirstForm.{is_pause}
 use Rattle.forec_engine.specs.declared.first_form.fault.FormFault.{FormFault}
 use Rattle.forec_engine.specs.declared.first_form.fault.FormFault.TheVariants.{Form}
 
--- ---- tokens
+-- what a function that reads ensures: it gives what there is, unless memory fails
+abbrev pub Reads : {A B : Type 0} → (A → B) → Option B → Result A FormFault → Type 0
+Reads view there (Ok a) = there ≡ Some (view a)
+Reads view there (Err e) = e ≡ Form → there ≡ None
 
-abbrev pub mark_at : List ℕ → List ℕ
-mark_at text =
-    if is_mark (take 3 text) then take 3 text
-    else (if is_mark (take 2 text) then take 2 text else (if is_mark (take 1 text) then take 1 text else []))
+-- ---- values
 
-abbrev pub first_of : List ℕ → List ℕ → List ℕ
-first_of [] ys = ys
-first_of (x ∷ xs) ys = x ∷ xs
+abbrev pub operand_of : ℕ → Term → Option Operand
+operand_of o (tree.Num at n) = Some (A_number n)
+operand_of o (tree.Read at name) = if name.id == o then Some The_output else None
+operand_of o _ = None
 
--- the longest token at the front; none where there is none
-unfoldable pub token_at : List ℕ → List ℕ
-token_at text = first_of (take_while goes_on text) (mark_at text)
+abbrev pub alone : Option Operand → Option Value
+alone (Some a) = Some (Alone a)
+alone None = None
 
--- The tokens behind so many bytes; a byte that begins no token gives a token of no bytes.
-unfoldable pub cut : ℕ → Place → List ℕ → List Token
-cut n at [] = []
-cut (suc n) at (b ∷ bs) = cut n (after at b) bs
-cut zero at (b ∷ bs) =
-    if is_space b then cut 0 (after at b) bs
-    else record { bytes = token_at (b ∷ bs); place = at } ∷ cut (length (token_at (b ∷ bs)) - 1) (after at b) bs
+abbrev pub both : (Operand → Operand → Value) → Option Operand → Option Operand → Option Value
+both f (Some a) (Some b) = Some (f a b)
+both f (Some a) None = None
+both f None b = None
 
-abbrev pub ahead : List Token → List ℕ
-ahead [] = []
-ahead (t ∷ ts) = t.bytes
+abbrev pub joined_of : Binary → Option Operand → Option Operand → Option Value
+joined_of binary.Add a b = both Sum a b
+joined_of binary.Sub a b = both Difference a b
+joined_of _ a b = None
 
-abbrev pub place_ahead : List Token → Place
-place_ahead [] = start
-place_ahead (t ∷ ts) = t.place
+abbrev pub value_of : ℕ → Term → Option Value
+value_of o (tree.Bin at op left right) = joined_of op (operand_of o left) (operand_of o right)
+value_of o e = alone (operand_of o e)
 
-abbrev pub behind : List Token → List Token
-behind [] = []
-behind (t ∷ ts) = ts
+-- ---- statements
 
-abbrev pub is_end : List Token → Bool
-is_end [] = true
-is_end (t ∷ ts) = false
+abbrev pub has_none : {A : Type 0} → Option A → Bool
+has_none None = true
+has_none (Some a) = false
 
--- ---- words
+abbrev pub is_output : ℕ → Written → Bool
+is_output o target = (target.name.id == o) && has_none target.index
 
--- the words of declarations, and those of statements
-abbrev pub declaring : List (List ℕ)
-declaring =
-    codes "int" ∷ codes "void" ∷ codes "const" ∷ codes "input" ∷ codes "output" ∷ codes "shared" ∷ codes "combine" ∷ codes "all"
-    ∷ codes "new" ∷ codes "mod" ∷ codes "with" ∷ []
+abbrev pub assigned : Bool → Option Value → Option Action
+assigned true (Some v) = Some (Assigns v)
+assigned true None = None
+assigned false v = None
 
-abbrev pub flowing : List (List ℕ)
-flowing =
-    codes "par" ∷ codes "pause" ∷ codes "weak" ∷ codes "abort" ∷ codes "immediate" ∷ codes "when" ∷ codes "if" ∷ codes "else"
-    ∷ codes "while" ∷ codes "for" ∷ codes "return" ∷ []
+abbrev pub action_of : ℕ → Statement → Option Action
+action_of o (tree.Assign at target op e) = assigned (is_output o target && has_none op) (value_of o e)
+action_of o (tree.Pause at) = Some Pauses
+action_of o _ = None
 
-unfoldable pub is_reserved : List ℕ → Bool
-is_reserved w = list_any (bytes_eq w) declaring || list_any (bytes_eq w) flowing
+abbrev pub with_action : Option Action → (Action → Option (List Action)) → Option (List Action)
+with_action None go = None
+with_action (Some a) go = go a
 
-unfoldable pub is_name : List ℕ → Bool
-is_name w = begins_as_name w && list_all goes_on w && nat_le (length w) 63 && not (is_reserved w) && not (bytes_eq w (codes "main"))
+-- the actions that were found, and those of these statements
+abbrev pub actions_from : ℕ → List Action → Statements → Option (List Action)
+actions_from o found no_statements = Some found
+actions_from o found (more_statements s rest) = with_action (action_of o s) (λ a. actions_from o (found ++ a ∷ []) rest)
 
-abbrev pub at_most : ℕ → ℕ → Option ℕ
-at_most most n = if nat_le n most then Some n else None
+abbrev pub is_one : Term → Bool
+is_one (tree.Num at n) = int_same n (pos 1)
+is_one _ = false
 
-unfoldable pub number_of : List ℕ → Option ℕ
-number_of w = if begins_as_number w && list_all is_digit w then at_most 2147483647 (decimal_from 0 w) else None
+abbrev pub paused : Place → Option (List Action) → Option EndlessLoop
+paused at (Some actions) = if list_any is_pause actions then Some (record { place = at; actions = actions }) else None
+paused at None = None
 
--- ---- parsers
+abbrev pub group_of : ℕ → Statement → Option (List Action)
+group_of o (tree.Group at body) = actions_from o [] body
+group_of o _ = None
 
-abbrev pub Outcome : Type 0 → Type 0
-Outcome A = Option (A × List Token)
+abbrev pub loop_of : ℕ → Place → Term → Option Number → Statement → Option EndlessLoop
+loop_of o at test bound body = if is_one test && has_none bound then paused at (group_of o body) else None
 
-abbrev pub Parser : Type 0 → Type 0
-Parser A = List Token → Outcome A
+-- an action, or a loop
+pub data Part : Type 0 where
+  Acts : Action → Part
+  Turns : EndlessLoop → Part
 
-abbrev pub and_then : {A B : Type 0} → Outcome A → (A → Parser B) → Outcome B
-and_then (Some p) f = f p.0 p.1
-and_then None f = None
+abbrev pub acting : Option Action → Option Part
+acting (Some a) = Some (Acts a)
+acting None = None
 
-infixl 10 ◌>>=◌
-abbrev pub ◌>>=◌ : {A B : Type 0} → Parser A → (A → Parser B) → Parser B
-p >>= f = λ ts. and_then (p ts) f
+abbrev pub turning : Option EndlessLoop → Option Part
+turning (Some l) = Some (Turns l)
+turning None = None
 
-infixl 10 ◌>>◌
-abbrev pub ◌>>◌ : {A B : Type 0} → Parser A → Parser B → Parser B
-p >> q = p >>= (λ _. q)
+abbrev pub part_of : ℕ → Statement → Option Part
+part_of o (tree.While at test bound body) = turning (loop_of o at test bound body)
+part_of o s = acting (action_of o s)
 
-abbrev pub pure : {A : Type 0} → A → Parser A
-pure a = λ ts. Some (a, ts)
+abbrev pub Body : Type 0
+Body = List Action × Option EndlessLoop
 
--- what a function that reads ensures: the parser's outcome, unless memory fails
-abbrev pub Reads : {A B : Type 0} → (A → B) → Outcome B → Result A FormFault → List Token → Type 0
-Reads view outcome (Ok a) new = outcome ≡ Some (view a, new)
-Reads view outcome (Err e) new = e ≡ Form → outcome ≡ None
+abbrev pub with_part : Option Part → List Action → (List Action → Option EndlessLoop → Option Body) → Option Body
+with_part None found go = None
+with_part (Some (Acts a)) found go = go (found ++ a ∷ []) None
+with_part (Some (Turns l)) found go = go found (Some l)
 
--- takes the word, and gives its place
-unfoldable pub word : List ℕ → Parser Place
-word w = λ ts. if bytes_eq (ahead ts) w then Some (place_ahead ts, behind ts) else None
+-- The actions and the loop that were found, and those of these statements. Nothing stands behind a loop.
+abbrev pub body_from : ℕ → List Action → Option EndlessLoop → Statements → Option Body
+body_from o found l no_statements = Some (found, l)
+body_from o found (Some l) (more_statements s rest) = None
+body_from o found None (more_statements s rest) = with_part (part_of o s) found (λ more l. body_from o more l rest)
 
-unfoldable pub words : List (List ℕ) → Parser (Unit {0})
-words [] = pure tt
-words (w ∷ ws) = word w >> words ws
+-- ---- the program
 
-unfoldable pub name : Parser (List ℕ)
-name = λ ts. if is_name (ahead ts) then Some (ahead ts, behind ts) else None
+abbrev pub is_output_kind : GlobalKind → Bool
+is_output_kind sort.Output = true
+is_output_kind _ = false
 
-abbrev pub given : {A : Type 0} → Option A → Parser A
-given (Some n) = λ ts. Some (n, behind ts)
-given None = λ ts. None
+abbrev pub one_value : List Number → Option ℤ
+one_value (n ∷ []) = Some n.value
+one_value _ = None
 
-unfoldable pub number : Parser ℕ
-number = λ ts. given (number_of (ahead ts)) ts
+abbrev pub start_of : PlainGlobal → Option ℤ
+start_of g = if is_output_kind g.kind && has_none g.length then one_value g.values else None
 
-abbrev pub numbered : Option ℕ → Option Operand
-numbered (Some n) = Some (A_number n)
-numbered None = None
+abbrev pub if_name : Option (List ℕ) → Option (List ℕ)
+if_name (Some name) = if nat_le (length name) 63 && not (bytes_eq name (codes "main")) then Some name else None
+if_name None = None
 
-unfoldable pub operand_of : List ℕ → List ℕ → Option Operand
-operand_of o w = if bytes_eq w o then Some The_output else numbered (number_of w)
+abbrev pub name_of : List (List ℕ) → PlainGlobal → Option (List ℕ)
+name_of names g = if_name (slice_get names g.name.id)
 
-unfoldable pub operand : List ℕ → Parser Operand
-operand o = λ ts. given (operand_of o (ahead ts)) ts
+abbrev pub is_empty : {A : Type 0} → List A → Bool
+is_empty [] = true
+is_empty (x ∷ xs) = false
 
--- what stands behind the left operand
-abbrev pub sides : List ℕ → Operand → Parser Value
-sides o a = λ ts.
-    if bytes_eq (ahead ts) (codes "+") then (word (codes "+") >> operand o >>= λ b. pure (Sum a b)) ts
-    else (if bytes_eq (ahead ts) (codes "-") then (word (codes "-") >> operand o >>= λ b. pure (Difference a b)) ts else Some (Alone a, ts))
+abbrev pub is_named_main : Option (List ℕ) → Bool
+is_named_main (Some name) = bytes_eq name (codes "main")
+is_named_main None = false
 
-unfoldable pub value : List ℕ → Parser Value
-value o = operand o >>= sides o
+abbrev pub is_main : List (List ℕ) → PlainFunction → Bool
+is_main names f = is_named_main (slice_get names f.name.id) && (not f.gives && is_empty f.params)
 
-unfoldable pub pausing : Parser Action
-pausing = do
-  word (codes "pause")
-  word (codes ";")
-  pure Pauses
+abbrev pub made : Option (List ℕ) → Option ℤ → Option Body → Option FirstProgram
+made (Some name) (Some start) (Some body) = Some (record { name = name; start = start; actions = body.0; loop = body.1 })
+made (Some name) (Some start) None = None
+made (Some name) None body = None
+made None start body = None
 
-unfoldable pub assignment : List ℕ → Parser Action
-assignment o = do
-  word o
-  word (codes "=")
-  v ← value o
-  word (codes ";")
-  pure (Assigns v)
+abbrev pub pair_of : List (List ℕ) → PlainGlobal → PlainFunction → Option FirstProgram
+pair_of names g f = if is_main names f then made (name_of names g) (start_of g) (body_from g.name.id [] None f.body) else None
 
-unfoldable pub action : List ℕ → Parser Action
-action o = λ ts. if bytes_eq (ahead ts) (codes "pause") then pausing ts else assignment o ts
-
-unfoldable pub begins : List ℕ → List ℕ → Bool
-begins o w = bytes_eq w (codes "pause") || bytes_eq w o
-
-unfoldable pub actions_from : ℕ → List ℕ → List Action → Parser (List Action)
-actions_from zero o found = pure found
-actions_from (suc n) o found = λ ts. if begins o (ahead ts) then (action o >>= λ a. actions_from n o (found ++ a ∷ [])) ts else Some (found, ts)
-
-unfoldable pub actions : List ℕ → Parser (List Action)
-actions o = λ ts. actions_from (length ts) o [] ts
-
-abbrev pub paused_loop : Place → List Action → Parser EndlessLoop
-paused_loop place list = λ ts. if list_any is_pause list then Some (record { place = place; actions = list }, ts) else None
-
-unfoldable pub endless : List ℕ → Parser EndlessLoop
-endless o = do
-  place ← word (codes "while")
-  words (codes "(" ∷ codes "1" ∷ codes ")" ∷ codes "{" ∷ [])
-  list ← actions o
-  word (codes "}")
-  paused_loop place list
-
-abbrev pub some_loop : EndlessLoop → Option EndlessLoop
-some_loop l = Some l
-
-unfoldable pub endless_if_any : List ℕ → Parser (Option EndlessLoop)
-endless_if_any o = λ ts. if bytes_eq (ahead ts) (codes "while") then (endless o >>= λ l. pure (some_loop l)) ts else Some (None, ts)
-
-unfoldable pub declaration : Parser (List ℕ × ℕ)
-declaration = do
-  words (codes "output" ∷ codes "int" ∷ [])
-  o ← name
-  word (codes "=")
-  n ← number
-  word (codes ";")
-  pure (o, n)
-
-unfoldable pub opening : Parser (Unit {0})
-opening = words (codes "void" ∷ codes "main" ∷ codes "(" ∷ codes "void" ∷ codes ")" ∷ codes "{" ∷ [])
-
-abbrev pub ended : List ℕ × ℕ → List Action → Option EndlessLoop → Parser FirstProgram
-ended d list l = λ ts. if is_end ts then Some (record { name = d.0; start = d.1; actions = list; loop = l }, ts) else None
-
-unfoldable pub program : Parser FirstProgram
-program = do
-  d ← declaration
-  opening
-  list ← actions d.0
-  l ← endless_if_any d.0
-  word (codes "}")
-  ended d list l
+abbrev pub program_of : Text → List (List ℕ) → Option FirstProgram
+program_of (IsGlobal g ∷ IsFunction f ∷ []) names = pair_of names g f
+program_of _ names = None

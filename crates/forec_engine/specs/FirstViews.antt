@@ -4,7 +4,7 @@ use Rattle.std.specs.declared.vec.Vec.{Vec}
 use Rattle.std.specs.declared.alloc.Global.{Global}
 use Rattle.forec_engine.specs.FirstProgram as plain
 use Rattle.forec_engine.specs.FirstProgram.{FirstProgram, EndlessLoop, The_output, A_number, Alone, Sum, Difference, Assigns, Pauses}
-use Rattle.forec_engine.specs.declared.first_form.terms.Number.{Number}
+use Rattle.forec_engine.specs.FirstReading as reading
 use Rattle.forec_engine.specs.declared.first_form.terms.Operand.{Operand}
 use Rattle.forec_engine.specs.declared.first_form.terms.Operand.TheVariants as operand
 use Rattle.forec_engine.specs.declared.first_form.terms.Value.{Value}
@@ -12,14 +12,14 @@ use Rattle.forec_engine.specs.declared.first_form.terms.Value.TheVariants as val
 use Rattle.forec_engine.specs.declared.first_form.terms.Action.{Action}
 use Rattle.forec_engine.specs.declared.first_form.terms.Action.TheVariants as action
 use Rattle.forec_engine.specs.declared.first_form.terms.Endless.{Endless}
-use Rattle.forec_engine.specs.declared.first_form.terms.Program.{Program}
-
-abbrev pub the_value : Number → ℕ
-the_value n = n.value
+use Rattle.forec_engine.specs.declared.first_form.terms.Part.{Part}
+use Rattle.forec_engine.specs.declared.first_form.terms.Part.TheVariants as part
+use Rattle.forec_engine.specs.declared.first_form.terms.Body.{Body}
+use Rattle.forec_engine.specs.declared.first_form.terms.FirstProgram as read
 
 abbrev pub the_operand : Operand → plain.Operand
 the_operand operand.Output = The_output
-the_operand (operand.Number n) = A_number n.value
+the_operand (operand.Number n) = A_number n
 
 abbrev pub value_of : Value → plain.Value
 value_of (value.Alone a) = Alone (the_operand a)
@@ -40,5 +40,12 @@ abbrev pub loop_of : Option Endless → Option EndlessLoop
 loop_of (Some l) = Some (endless_of l)
 loop_of None = None
 
-abbrev pub program_of : Program → FirstProgram
-program_of p = record { name = p.name.now; start = p.start.value; actions = actions_of p.actions; loop = loop_of p.endless }
+abbrev pub part_of : Part → reading.Part
+part_of (part.Act a) = reading.Acts (action_of a)
+part_of (part.Loop l) = reading.Turns (endless_of l)
+
+abbrev pub body_of : Body → reading.Body
+body_of b = (actions_of b.actions, loop_of b.endless)
+
+abbrev pub program_of : read.FirstProgram → FirstProgram
+program_of p = record { name = p.name.now; start = p.start; actions = actions_of p.body.actions; loop = loop_of p.body.endless }

@@ -1,27 +1,73 @@
--- Whether a text is accepted.
-use Rattle.std.specs.Prelude.{◌≤◌, ◌<◌, ℕ, List, length, codes}
-use Rattle.forec_kernel.specs.Shapes.{PlainKernel}
+-- What becomes of a text.
+use Rattle.std.specs.Prelude.{◌≡◌, ◌≤◌, ◌<◌, ℕ, List, ◌++◌, length, codes, decimal, Result, Ok, Err}
+use Rattle.forec_base.specs.declared.Place.{Place}
+use Rattle.forec_kernel.specs.declared.kernel.Kernel.{Kernel}
+use Rattle.forec_kernel.specs.Shapes.{PlainKernel, plain_kernel}
+use Rattle.forec_tree.specs.declared.token.Token.{Token}
+use Rattle.forec_tree.specs.LexedText.{IsLexed, IsBad, IsMany}
+use Rattle.forec_tree.specs.SpelledPrograms.{IsSpelled}
+use Rattle.forec_tree.specs.Terms.{Text}
+use Rattle.forec_lexer.specs.declared.fault.LexFault.{LexFault}
+use Rattle.forec_lexer.specs.declared.fault.LexFault.TheVariants as lexer
 use Rattle.forec_engine.specs.FirstForm.{First}
+use Rattle.forec_engine.specs.declared.refusal.Refusal.{Refusal}
+use Rattle.forec_engine.specs.declared.refusal.Refusal.TheVariants as why
+use Rattle.forec_engine.specs.declared.refusal.JudgeFault.{JudgeFault}
+use Rattle.forec_engine.specs.declared.refusal.JudgeFault.TheVariants as fault
 
 abbrev pub most_bytes : ℕ
 most_bytes = 1048576
 
--- why a text is refused: it has too many bytes, or it isn't of the first form
-pub data Refusal : Type 0 where
-  Too_long : Refusal
-  No_form : Refusal
+-- the greatest level of a program
+abbrev pub most_levels : ℕ
+most_levels = 128
+
+-- ---- refusals
+
+-- `refused L:C` and the word
+abbrev pub refused_at : Place → List ℕ → List ℕ
+refused_at place word = codes "refused " ++ decimal place.line ++ codes ":" ++ decimal place.column ++ word
 
 abbrev pub refusal_line : Refusal → List ℕ
-refusal_line Too_long = codes "refused long\n"
-refusal_line No_form = codes "refused form\n"
+refusal_line why.Long = codes "refused long\n"
+refusal_line (why.Lex place) = refused_at place (codes " lex\n")
+refusal_line (why.Many place) = refused_at place (codes " many\n")
+refusal_line why.Syntax = codes "refused syntax\n"
+refusal_line why.Form = codes "refused form\n"
+
+-- ---- verdicts, in the order of the refusals
 
 -- what becomes of a text: it runs as a kernel, or it is refused
 pub data Verdict : Type 0 where
   Runs : PlainKernel → Verdict
   Refuses : Refusal → Verdict
 
+-- the verdict on a program
+pub data OnProgram (program : Text) (names : List (List ℕ)) : Verdict → Type 0 where
+  runs : (k : PlainKernel) → First program names k → OnProgram program names (Runs k)
+  another_form : ((k : PlainKernel) → First program names k → ⊥) → OnProgram program names (Refuses why.Form)
+
+-- the verdict on tokens
+pub data OnTokens (tokens : List Token) (names : List (List ℕ)) : Verdict → Type 0 where
+  spelled : {v : Verdict} (program : Text) → IsSpelled most_levels program tokens → OnProgram program names v → OnTokens tokens names v
+  unspelled : ((program : Text) → IsSpelled most_levels program tokens → ⊥) → OnTokens tokens names (Refuses why.Syntax)
+
 -- the verdict on a text
-abbrev pub Judged : List ℕ → Verdict → Type 0
-Judged text (Runs k) = (length text ≤ most_bytes) × First text k
-Judged text (Refuses Too_long) = most_bytes < length text
-Judged text (Refuses No_form) = (length text ≤ most_bytes) × ((k : PlainKernel) → First text k → ⊥)
+pub data Judged (text : List ℕ) : Verdict → Type 0 where
+  too_long : most_bytes < length text → Judged text (Refuses why.Long)
+  stops : (place : Place) → length text ≤ most_bytes → IsBad text place → Judged text (Refuses (why.Lex place))
+  too_many : (place : Place) → length text ≤ most_bytes → IsMany text place → Judged text (Refuses (why.Many place))
+  lexed : {v : Verdict} (tokens : List Token) (names : List (List ℕ)) → length text ≤ most_bytes → IsLexed text tokens names → OnTokens tokens names v
+      → Judged text v
+
+-- what code that judges ensures: its verdict is one that holds, unless memory fails
+abbrev pub Says : (Verdict → Type 0) → Result Kernel JudgeFault → Type 0
+Says Holds (Ok k) = Holds (Runs (plain_kernel k))
+Says Holds (Err (fault.Refused why)) = Holds (Refuses why)
+Says Holds (Err fault.OutOfMemory) = Unit {0}
+
+-- what a fault of the lexer is for the text
+abbrev pub lexer_fault : LexFault → JudgeFault
+lexer_fault (lexer.Bad place) = fault.Refused (why.Lex place)
+lexer_fault (lexer.Many place) = fault.Refused (why.Many place)
+lexer_fault lexer.OutOfMemory = fault.OutOfMemory

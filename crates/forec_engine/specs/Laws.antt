@@ -1,13 +1,12 @@
 -- What holds of all reports.
 use Rattle.std.specs.Prelude.{◌≡◌, ℕ, List, Option, Some}
-use Rattle.forec_kernel.specs.Shapes.{PlainKernel}
-use Rattle.forec_engine.specs.FirstForm.{First}
 use Rattle.forec_engine.specs.Commands.{program_of, IsReport}
+use Rattle.forec_engine.specs.Judging.{Verdict, Judged}
 use Rattle.forec_engine.specs.Report.{Report}
 
--- a text is of the first form for one kernel at most
-abbrev pub OneKernel : Type 0
-OneKernel = (text : List ℕ) (k l : PlainKernel) → First text k → First text l → k ≡ l
+-- a text has one verdict at most
+abbrev pub OneVerdict : Type 0
+OneVerdict = (text : List ℕ) (v w : Verdict) → Judged text v → Judged text w → v ≡ w
 
 -- words have one report at most
 abbrev pub OneReport : Type 0

@@ -19,7 +19,6 @@ pub mod Rows
 pub mod StatusNumbers
 pub mod WaitingRoom
 pub mod Waits
-pub mod FirstCursor
 pub mod FirstReading
 pub mod FirstSizes
 pub mod FirstViews

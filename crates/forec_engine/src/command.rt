@@ -1,19 +1,20 @@
 // The top call.
-ghost use Rattle.std.specs.Prelude.{◌≡◌, ◌≤◌, ◌≢◌, ◌⊎◌, List, ℕ, map, length, string_bytes, IfSome, Some};
+ghost use Rattle.std.specs.Prelude.{◌≡◌, ◌≤◌, ◌≢◌, ◌⊎◌, List, ℕ, map, length, string_bytes, IfSome, Some, None};
 ghost use Rattle.std.specs.Option.{option_copied};
 ghost use Rattle.forec_base.specs.Outside.{Fell, Rose};
 ghost use Rattle.forec_kernel.specs.Shapes.{PlainKernel, plain_kernel};
 ghost use Rattle.forec_engine.specs.Calls.{AppendsFront};
-ghost use Rattle.forec_engine.specs.Commands.{program_of, budget, IsReport, TextReport};
+ghost use Rattle.forec_engine.specs.Commands.{program_of, budget, refused, IsReport, TextReport};
 ghost use Rattle.forec_engine.specs.Ends.{IsOwn, Given, Wanted, WantedByText, WantedByWords};
 ghost use Rattle.forec_engine.specs.Judging.{Verdict, Judged, Runs, Refuses};
 ghost use Rattle.forec_engine.specs.FirstCode.{IsFirstKernel};
 ghost use Rattle.forec_engine.specs.Report.{Report, trace_report};
 
-use crate::first_form::{FormFault, one_kernel, read_program};
 use crate::generator::generate;
+use crate::judging::{judge, one_verdict};
 use crate::lines::Lines;
 use crate::machine::Machine;
+use crate::refusal::{JudgeFault, Refusal};
 use crate::sink::say;
 use crate::status::Status;
 use crate::ticks::{Program, output_name, run};
@@ -56,6 +57,7 @@ fn start<S: Source, K: Sink>(alloc: Global, kernel: Kernel, trace: &mut S, out: 
     ensures write { result ≡ Status.WriteFault → Fell (K.faults out.old) (K.faults out.new) (K.down out.new)
         × IfSome (S.left trace.old) (λ x. AppendsFront (K.held out.old) (K.held out.new) (trace_report (plain_kernel kernel) budget x).bytes) }
     ensures memory { result ≡ Status.NoMemory → K.held out.new ≡ K.held out.old }
+    ensures usage { result ≢ Status.Usage }
 {
     let Ok(code) = generate(alloc, &kernel) else {
         return Status::NoMemory;
@@ -77,6 +79,22 @@ fn start<S: Source, K: Sink>(alloc: Global, kernel: Kernel, trace: &mut S, out: 
     run(&program, &mut machine, &mut lines, &mut waiting, trace, out)
 }
 
+// Says why a text is refused.
+fn refuse<K: Sink>(alloc: Global, why: Refusal, out: &mut K) -> Status
+    ensures own { IsOwn result → Given (refused why) result (K.held out.old) (K.held out.new) }
+    ensures read { result ≢ Status.ReadFault }
+    ensures write { result ≡ Status.WriteFault → Fell (K.faults out.old) (K.faults out.new) (K.down out.new)
+        × AppendsFront (K.held out.old) (K.held out.new) (refused why).bytes }
+    ensures memory { result ≡ Status.NoMemory → K.held out.new ≡ K.held out.old }
+    ensures usage { result ≢ Status.Usage }
+{
+    let Ok(mut waiting) = Waiting::new(alloc, "") else {
+        return Status::NoMemory;
+    };
+    waiting.put_refusal(why);
+    waiting.finish(out, Status::Refused)
+}
+
 // Runs a text.
 fn run_text<S: Source, K: Sink>(alloc: Global, text: &[u8], trace: &mut S, out: &mut K) -> Status
     requires { length text.now ≤ 1048576 }
@@ -86,13 +104,14 @@ fn run_text<S: Source, K: Sink>(alloc: Global, text: &[u8], trace: &mut S, out: 
     ensures write { result ≡ Status.WriteFault → Fell (K.faults out.old) (K.faults out.new) (K.down out.new)
         × ((r : Report) → TextReport text.now (S.left trace.old) r → AppendsFront (K.held out.old) (K.held out.new) r.bytes) }
     ensures memory { result ≡ Status.NoMemory → K.held out.new ≡ K.held out.old }
+    ensures usage { result ≢ Status.Usage }
 {
-    // A text has one kernel at most, so that the report of this one is its report.
-    one_kernel();
-    match read_program(alloc, text) {
+    // A text has one verdict at most, so that the report of this one is its report.
+    one_verdict();
+    match judge(alloc, text) {
         Ok(kernel) => start(alloc, kernel, trace, out),
-        Err(FormFault::OutOfMemory) => Status::NoMemory,
-        Err(FormFault::Form) => say(out, b"refused form\n", Status::Refused),
+        Err(JudgeFault::Refused { why }) => refuse(alloc, why, out),
+        Err(JudgeFault::OutOfMemory) => Status::NoMemory,
     }
 }
 
@@ -125,6 +144,9 @@ fn run_command<T: Texts, S: Source, K: Sink, G: Gate>(
 
     // Where memory was wanting, nothing was printed.
     ensures memory { result ≡ Status.NoMemory → K.held out.new ≡ K.held out.old }
+
+    // The usage line comes only where the words are no command.
+    ensures usage { result ≡ Status.Usage → program_of (map string_bytes words.now) ≡ None }
 {
     let _ = gate;
     let Some(name) = program(words) else {
@@ -134,7 +156,7 @@ fn run_command<T: Texts, S: Source, K: Sink, G: Gate>(
         Ok(text) => run_text(alloc, &text, trace, out),
         Err(TextFault::Failed) => Status::ReadFault,
         Err(TextFault::OutOfMemory) => Status::NoMemory,
-        Err(TextFault::Long) => say(out, b"refused long\n", Status::Refused),
+        Err(TextFault::Long) => refuse(alloc, Refusal::Long, out),
     }
 }
 
@@ -167,6 +189,9 @@ pub fn forec<T: Texts, S: Source, K: Sink, G: Gate>(
 
     // Where memory was wanting, nothing was printed.
     ensures memory { result ≡ Status.NoMemory → K.held out.new ≡ K.held out.old }
+
+    // The usage line comes only where the words are no command.
+    ensures usage { result ≡ Status.Usage → program_of (map string_bytes words.now) ≡ None }
 
     // Where no count of faults rises, the report is given whole, or memory was wanting.
     ensures complete { (Rose (T.faults texts.old) (T.faults texts.new) → ⊥) → (Rose (S.faults trace.old) (S.faults trace.new) → ⊥)

@@ -5,9 +5,13 @@ mod command;
 mod first_form;
 mod found;
 mod generator;
+mod judging;
+#[cfg(test)]
+mod judging_tests;
 mod laws;
 mod lines;
 mod machine;
+mod refusal;
 mod rows;
 mod shapes;
 mod sink;

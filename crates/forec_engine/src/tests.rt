@@ -1,6 +1,6 @@
 // The worked rows of the machine.
 
-ghost use Rattle.std.specs.Prelude.{◌≡◌, [], ◌∷◌, true, false, pos, ◌≤◌, ◌^◌, IfOk, OnSome};
+ghost use Rattle.std.specs.Prelude.{◌≡◌, [], ◌∷◌, true, false, ◌≤◌, ◌^◌, IfOk, OnSome};
 ghost use Rattle.forec_engine.specs.Machine.{Stands};
 ghost use Rattle.forec_kernel.specs.Plain.{stmt};
 ghost use Rattle.forec_kernel.specs.Shapes.{plain_kernel, plain_shape, plain_thread};
@@ -94,7 +94,7 @@ fn kernel_of(
     counts: bool,
 ) -> Result<Kernel, OutOfMemory>
     requires body { stmt body ≡ body_stmt (worked counts) }
-    requires start { start ≡ pos (worked counts).start }
+    requires start { start ≡ (worked counts).start }
     ensures { IfOk result (λ k. IsFirstKernel (plain_kernel k)) }
 {
     Ok(Kernel::of(KernelParts {

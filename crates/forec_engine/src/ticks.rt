@@ -80,6 +80,7 @@ pub fn run_rows<S: Source, K: Sink>(
         × IfSome (S.left trace.old) (λ x. AppendsFront (K.held out.old) (K.held out.new)
         (report_rest (plain_kernel program.now.kernel) program.now.budget (waits lines.old ++ x)).bytes) }
     ensures memory { result ≢ Status.NoMemory }
+    ensures usage { result ≢ Status.Usage }
 {
     let name = output_name(&program.kernel);
     let mut row = 1;
@@ -134,6 +135,7 @@ pub fn run<S: Source, K: Sink>(
         × IfSome (S.left trace.old) (λ x. AppendsFront (K.held out.old) (K.held out.new)
         (trace_report (plain_kernel program.now.kernel) program.now.budget x).bytes) }
     ensures memory { result ≢ Status.NoMemory }
+    ensures usage { result ≢ Status.Usage }
 {
     match next_row(lines, trace, 0) {
         Next::Failed => Status::ReadFault,

@@ -5,8 +5,10 @@ ghost use Rattle.forec_base.specs.Outside.{Fell};
 ghost use Rattle.forec_engine.specs.Calls.{AppendsFront, Faults};
 ghost use Rattle.forec_engine.specs.Machine.{HasOutput};
 ghost use Rattle.forec_engine.specs.ReportLines.{tick_line, end_line, trap_word, trap_line, over_line, rows_line, fault_word, row_line, outcome_lines};
+ghost use Rattle.forec_engine.specs.Judging.{refused_at, refusal_line};
 
 use crate::found::RowFault;
+use crate::refusal::Refusal;
 use crate::sink::write_all;
 use crate::status::Status;
 use forec_base::{Failed, OutOfMemory, Place, Sink, Trap};
@@ -134,6 +136,33 @@ impl Waiting {
         self.put(b"row ");
         self.put_number(row);
         self.put(fault_text(fault));
+    }
+
+    // Adds `refused`, a place and a word.
+    fn put_refused_at(&mut self, place: Place, word: &[u8])
+        requires room { HasRoom self.old 64 }
+        requires short { length word.now ≤ 8 }
+        ensures { Gains self.old self.new (refused_at place word.now) }
+    {
+        self.put(b"refused ");
+        self.put(Buffer::new().format(place.line).as_bytes());
+        self.put(b":");
+        self.put(Buffer::new().format(place.column).as_bytes());
+        self.put(word);
+    }
+
+    /// Adds the line of a text that is refused.
+    pub fn put_refusal(&mut self, why: Refusal)
+        requires { HasRoom self.old 64 }
+        ensures { Gains self.old self.new (refusal_line why) }
+    {
+        match why {
+            Refusal::Long => self.put(b"refused long\n"),
+            Refusal::Lex { place } => self.put_refused_at(place, b" lex\n"),
+            Refusal::Many { place } => self.put_refused_at(place, b" many\n"),
+            Refusal::Syntax => self.put(b"refused syntax\n"),
+            Refusal::Form => self.put(b"refused form\n"),
+        }
     }
 
     /// Adds the lines of a tick that went so, whose one output has this name and value.

@@ -12,6 +12,10 @@ mod tests {
     // One output, which a loop raises in each tick.
     const COUNTER: &[u8] = b"output int o = 0; void main(void) { while (1) { o = o + 1; pause; } }";
 
+    // The same with a comment and a hexadecimal number.
+    const HEXADECIMAL: &[u8] =
+        b"// x\noutput int o = 0; void main(void) { while (1) { o = o + 0x1; pause; } }";
+
     // One output, which passes the greatest number.
     const WRAPS: &[u8] = b"output int o = 2147483647; void main(void) { o = o + 1; }";
 
@@ -72,7 +76,14 @@ mod tests {
         let mut texts = MemTexts::new(files, Vec::new(alloc));
         let mut source = MemSource::pieces(trace.to_vec(alloc)?, streams.read_fails, streams.read);
         let mut sink = MemSink::pieces(alloc, 200_000, streams.write_fails, streams.write)?;
-        let status = forec(alloc, &owned, &mut texts, &mut source, &mut sink, &OpenGate);
+        let status = forec(
+            alloc,
+            &owned,
+            &mut texts,
+            &mut source,
+            &mut sink,
+            &OpenGate,
+        );
         Ok(Ended {
             held: sink.bytes().to_vec(alloc)?,
             status,
@@ -83,23 +94,17 @@ mod tests {
     fn rows(rt: HostRuntime) -> Result<(), Fail> {
         let alloc = rt.alloc();
         for (text, trace, want, status) in [
-            (
-                COUNTER,
-                b"\n\n\n".as_slice(),
-                b"tick 1 o=1\ntick 2 o=2\nrows 2\n".as_slice(),
-                Status::Done,
-            ),
+            (COUNTER, b"\n\n\n".as_slice(), b"tick 1 o=1\ntick 2 o=2\nrows 2\n".as_slice(), Status::Done),
             (COUNTER, b"", b"row 0 bad\n", Status::Trace),
             (COUNTER, b"\n", b"rows 0\n", Status::Done),
             (COUNTER, b"\n \n", b"row 1 bad\n", Status::Trace),
             (COUNTER, b"\n\n ", b"tick 1 o=1\nrow 2 bad\n", Status::Trace),
-            (
-                WRAPS,
-                b"\n\n",
-                b"tick 1 o=-2147483648\nend 1\n",
-                Status::Done,
-            ),
+            (WRAPS, b"\n\n", b"tick 1 o=-2147483648\nend 1\n", Status::Done),
+            (HEXADECIMAL, b"\n\n", b"tick 1 o=1\nrows 1\n", Status::Done),
             (b"", b"", b"refused form\n", Status::Refused),
+            (b"output int o = 0; void main(void) { o = ; }", b"", b"refused syntax\n", Status::Refused),
+            (b"int @", b"", b"refused 1:5 lex\n", Status::Refused),
+            (b"/* a", b"", b"refused 1:1 lex\n", Status::Refused),
         ] {
             let end = run(&rt, alloc, &["run", "P"], text, trace, whole(alloc))?;
             assert_eq!(rt; end.held.as_slice(), want);
@@ -142,6 +147,15 @@ mod tests {
         let text = vec![in alloc; b' '; 1_048_577]?;
         let end = run(&rt, alloc, &["run", "P"], &text, b"", whole(alloc))?;
         assert_eq!(rt; end.held.as_slice(), b"refused long\n".as_slice());
+        for (tokens, want) in [
+            (200_000, b"refused syntax\n".as_slice()),
+            (200_001, b"refused 1:200001 many\n"),
+        ] {
+            let text = vec![in alloc; b';'; tokens]?;
+            let end = run(&rt, alloc, &["run", "P"], &text, b"", whole(alloc))?;
+            assert_eq!(rt; end.held.as_slice(), want);
+            assert_eq!(rt; end.status, Status::Refused);
+        }
         for (bytes, want) in [
             (8192, b"row 0 bad\n".as_slice()),
             (8193, b"row 0 bad\n"),
@@ -169,14 +183,7 @@ mod tests {
             (3, 11, b"tick 1 o=1", Status::WriteFault),
             (3, 12, b"tick 1 o=1\n", Status::ReadFault),
         ] {
-            let end = run(
-                &rt,
-                alloc,
-                &["run", "P"],
-                COUNTER,
-                b"\n\n\n",
-                single(alloc, read, write)?,
-            )?;
+            let end = run(&rt, alloc, &["run", "P"], COUNTER, b"\n\n\n", single(alloc, read, write)?)?;
             assert_eq!(rt; end.held.as_slice(), want);
             assert_eq!(rt; end.status, status);
         }

@@ -3,10 +3,10 @@
 use forec_base::OutOfMemory;
 use std::alloc::{AllocError, AllocFailed};
 
-/// Why a text gives no kernel.
+/// Why a program gives no kernel.
 #[derive(Clone, Copy, Debug, PartialEq, Eq)]
 pub enum FormFault {
-    /// The text isn't a program of the first form.
+    /// It isn't a first program.
     Form,
     /// There is no memory left, or the program has more terms than a kernel holds.
     OutOfMemory,

@@ -1,17 +1,15 @@
-//! The kernel of a program of the first form.
+//! The kernel of a first program.
 
 ghost use Rattle.std.specs.Prelude.{◌≡◌, ◌+◌, ◌<◌, ◌≤◌, ◌==◌, ◌∷◌, [], if◌then◌else◌, map, length, IfOk, IfSome, IfNone, IsTrue, ◌↔◌};
 ghost use Rattle.forec_kernel.specs.Terms.{Bin};
 ghost use Rattle.forec_kernel.specs.Plain.{expr, stmt};
 ghost use Rattle.forec_kernel.specs.Shapes.{plain_kernel, plain_thread, plain_shape};
 ghost use Rattle.forec_kernel.specs.WellFormed.{stmt_terms};
-ghost use Rattle.forec_engine.specs.FirstForm.{IsName};
 ghost use Rattle.forec_engine.specs.FirstProgram.{operand_expr, value_expr, action_stmt, sequence_of, loop_stmts, body_stmt, first_kernel};
 ghost use Rattle.forec_engine.specs.FirstViews.{the_operand, value_of, action_of, endless_of, program_of};
 ghost use Rattle.forec_engine.specs.FirstSizes.{list_terms_of, sequenced, root_thread};
 
-use crate::first_form::fault::FormFault;
-use crate::first_form::terms::{Action, Endless, Operand, Program, Value};
+use crate::first_form::terms::{Action, Endless, FirstProgram, Operand, Value};
 use forec_base::{Binary, Labels, OutOfMemory, Policy};
 use forec_kernel::{
     Expression, Kernel, KernelParts, Shape, Spot, Statement, ThreadShape, Variable,
@@ -26,9 +24,7 @@ fn operand_expression(operand: Operand) -> Expression
 {
     match operand {
         Operand::Output => Expression::Variable { variable: 0 },
-        Operand::Number { number } => Expression::Number {
-            value: number.value as i32,
-        },
+        Operand::Number { value } => Expression::Number { value },
     }
 }
 
@@ -118,11 +114,11 @@ fn endless_statement(alloc: Global, endless: &Endless) -> Result<Statement, OutO
     })
 }
 
-fn body(alloc: Global, program: &Program<'_>) -> Result<Statement, OutOfMemory>
+fn body(alloc: Global, program: &FirstProgram<'_>) -> Result<Statement, OutOfMemory>
     ensures { IfOk result (λ s. stmt s ≡ body_stmt (program_of program.now)) }
 {
-    let mut list = statements(alloc, &program.actions)?;
-    if let Some(endless) = &program.endless {
+    let mut list = statements(alloc, &program.body.actions)?;
+    if let Some(endless) = &program.body.endless {
         list.push(endless_statement(alloc, endless)?)?;
     }
     Ok(sequence(list))
@@ -165,20 +161,20 @@ fn sequence_terms(count: usize, terms: u32) -> u32
 }
 
 /// Whether a kernel may have as many terms as the program gives.
-fn fits(program: &Program<'_>) -> bool
+fn fits(program: &FirstProgram<'_>) -> bool
     ensures { IsTrue result ↔ (stmt_terms (body_stmt (program_of program.now)) ≤ 200000) }
 {
-    let Some(first) = list_terms(&program.actions) else {
+    let Some(first) = list_terms(&program.body.actions) else {
         return false;
     };
-    let Some(endless) = &program.endless else {
-        return sequence_terms(program.actions.len(), first) <= MAX_TERMS;
+    let Some(endless) = &program.body.endless else {
+        return sequence_terms(program.body.actions.len(), first) <= MAX_TERMS;
     };
     let Some(inner) = list_terms(&endless.actions) else {
         return false;
     };
     let turning = 2 + sequence_terms(endless.actions.len(), inner);
-    sequence_terms(program.actions.len() + 1, first + turning) <= MAX_TERMS
+    sequence_terms(program.body.actions.len() + 1, first + turning) <= MAX_TERMS
 }
 
 fn only<T: Drop>(alloc: Global, item: T) -> Result<Vec<T>, OutOfMemory>
@@ -203,19 +199,15 @@ fn root(alloc: Global) -> Result<ThreadShape, OutOfMemory>
     })
 }
 
-fn shape(alloc: Global, program: &Program<'_>) -> Result<Shape, OutOfMemory>
-    requires { IsName program.now.name.now }
+fn shape(alloc: Global, program: &FirstProgram<'_>) -> Result<Shape, OutOfMemory>
     ensures { IfOk result (λ shape. plain_shape shape ≡ (first_kernel (program_of program.now)).shape) }
 {
-    let Ok(name) = str::from_utf8(program.name) else {
-        unreachable!();
-    };
     let mut names = Labels::new(alloc)?;
-    names.push(name)?;
+    names.push(program.name)?;
     let output = Variable {
         policy: Policy::Mod,
         combine: None,
-        start: program.start.value as i32,
+        start: program.start,
         input: false,
     };
     Ok(Shape {
@@ -230,8 +222,7 @@ fn shape(alloc: Global, program: &Program<'_>) -> Result<Shape, OutOfMemory>
 }
 
 /// The program's kernel; `OutOfMemory` also where it has more terms than a kernel may have.
-pub fn kernel(alloc: Global, program: &Program<'_>) -> Result<Kernel, OutOfMemory>
-    requires { IsName program.now.name.now }
+pub fn kernel(alloc: Global, program: &FirstProgram<'_>) -> Result<Kernel, OutOfMemory>
     ensures { IfOk result (λ k. plain_kernel k ≡ first_kernel (program_of program.now)) }
 {
     if !fits(program) {

@@ -1,14 +1,10 @@
-//! Programs of the first form: one output, and one thread that assigns it and pauses.
+//! First programs: one output, and one thread that assigns it and pauses.
 
 mod fault;
 mod lowering;
 mod reading;
 mod terms;
-#[cfg(test)]
-mod tests;
-mod tokens;
 mod whole;
-mod words;
 
 pub use fault::FormFault;
-pub use whole::{one_kernel, read_program};
+pub use whole::{first_kernel, one_kernel};

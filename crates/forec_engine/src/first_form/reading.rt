@@ -1,136 +1,139 @@
-//! Reads a program from its tokens.
+//! Reads a first program from the tree of a program.
 
-ghost use Rattle.std.specs.Prelude.{◌≡◌, ◌≢◌, ◌≤◌, length, [], map, IfOk};
+ghost use Rattle.std.specs.Prelude.{◌≡◌, ◌&&◌, [], None, Some, nat_le, not, codes, length, map, slice_get};
+ghost use Rattle.std.specs.Str.{bytes_eq};
 ghost use Rattle.std.specs.List.{list_any};
-ghost use Rattle.std.specs.Option.{option_map};
+ghost use Rattle.std.specs.Option.{option_map, option_copied};
+ghost use Rattle.forec_tree.specs.Plain.{term, written, statement, statements, plain_global, plain_function, plain_item};
 ghost use Rattle.forec_engine.specs.FirstForm as form;
 ghost use Rattle.forec_engine.specs.FirstReading as spec;
 ghost use Rattle.forec_engine.specs.FirstReading.{Reads};
-ghost use Rattle.forec_engine.specs.FirstViews.{the_value, the_operand, value_of, action_of, actions_of, endless_of, loop_of, program_of};
+ghost use Rattle.forec_engine.specs.FirstViews.{the_operand, value_of, action_of, actions_of, endless_of, part_of, body_of, program_of};
 
 use crate::first_form::fault::FormFault;
-use crate::first_form::terms::{Action, Endless, Number, Operand, Program, Value};
-use crate::first_form::tokens::Tokens;
-use crate::first_form::words::{is_name, number_of};
+use crate::first_form::terms::{Action, Body, Endless, FirstProgram, Operand, Part, Value};
+use forec_base::{Binary, Labels, Place};
+use forec_tree::{
+    Expr, ExprKind, Function, Global as Variable, GlobalKind, Item, Number, OpAt, Program, Stmt,
+    StmtKind, Target,
+};
 use std::alloc::Global;
 
-#[tactic(auto, unfolding(crate::specs::FirstReading::name), using(crate::proofs::FirstWords::name_not_empty))]
-fn name<'t>(tokens: &mut Tokens<'t>) -> Result<&'t [u8], FormFault>
-    ensures reads { Reads (λ name. name.now) (spec.name tokens.old) result tokens.new }
-    ensures some { IfOk result (λ name. name.now ≢ []) }
-{
-    let word = tokens.ahead();
-    if !is_name(word) {
-        return Err(FormFault::Form);
-    }
-    tokens.skip();
-    Ok(word)
-}
+/// The longest name, in bytes.
+const MAX_NAME: usize = 63;
 
-#[tactic(auto, unfolding(crate::specs::FirstReading::number), using(crate::proofs::FirstWords::no_number))]
-fn number(tokens: &mut Tokens<'_>) -> Result<Number, FormFault>
-    ensures { Reads the_value (spec.number tokens.old) result tokens.new }
+fn operand(output: u32, e: &Expr) -> Option<Operand>
+    ensures { option_map the_operand result ≡ spec.operand_of output (term e.now) }
 {
-    let Some(found) = number_of(tokens.ahead()) else {
-        return Err(FormFault::Form);
-    };
-    tokens.skip();
-    Ok(found)
-}
-
-#[tactic(auto, unfolding(crate::specs::FirstReading::operand_of))]
-fn operand_of(output: &[u8], word: &[u8]) -> Option<Operand>
-    ensures { option_map the_operand result ≡ spec.operand_of output.now word.now }
-{
-    if word == output {
-        return Some(Operand::Output);
-    }
-    let number = number_of(word)?;
-    Some(Operand::Number { number })
-}
-
-#[tactic(auto, unfolding(crate::specs::FirstReading::operand), using(crate::proofs::FirstWords::no_operand))]
-fn operand(tokens: &mut Tokens<'_>, output: &[u8]) -> Result<Operand, FormFault>
-    requires { output.now ≢ [] }
-    ensures { Reads the_operand (spec.operand output.now tokens.old) result tokens.new }
-{
-    let Some(found) = operand_of(output, tokens.ahead()) else {
-        return Err(FormFault::Form);
-    };
-    tokens.skip();
-    Ok(found)
-}
-
-#[tactic(auto, unfolding(crate::specs::FirstReading::value))]
-fn value(tokens: &mut Tokens<'_>, output: &[u8]) -> Result<Value, FormFault>
-    requires { output.now ≢ [] }
-    ensures { Reads value_of (spec.value output.now tokens.old) result tokens.new }
-{
-    let left = operand(tokens, output)?;
-    if tokens.ahead() == b"+".as_slice() {
-        tokens.take(b"+")?;
-        let right = operand(tokens, output)?;
-        return Ok(Value::Sum { left, right });
-    }
-    if tokens.ahead() == b"-".as_slice() {
-        tokens.take(b"-")?;
-        let right = operand(tokens, output)?;
-        return Ok(Value::Difference { left, right });
-    }
-    Ok(Value::Alone { operand: left })
-}
-
-#[tactic(auto, unfolding(crate::specs::FirstReading::pausing))]
-fn pausing(tokens: &mut Tokens<'_>) -> Result<Action, FormFault>
-    ensures { Reads action_of (spec.pausing tokens.old) result tokens.new }
-{
-    tokens.take(b"pause")?;
-    tokens.take(b";")?;
-    Ok(Action::Pause)
-}
-
-#[tactic(auto, unfolding(crate::specs::FirstReading::assignment))]
-fn assignment(tokens: &mut Tokens<'_>, output: &[u8]) -> Result<Action, FormFault>
-    requires { output.now ≢ [] }
-    ensures { Reads action_of (spec.assignment output.now tokens.old) result tokens.new }
-{
-    tokens.take(output)?;
-    tokens.take(b"=")?;
-    let value = value(tokens, output)?;
-    tokens.take(b";")?;
-    Ok(Action::Assign { value })
-}
-
-#[tactic(auto, unfolding(crate::specs::FirstReading::action))]
-fn action(tokens: &mut Tokens<'_>, output: &[u8]) -> Result<Action, FormFault>
-    requires { output.now ≢ [] }
-    ensures { Reads action_of (spec.action output.now tokens.old) result tokens.new }
-{
-    if tokens.ahead() == b"pause".as_slice() {
-        pausing(tokens)
-    } else {
-        assignment(tokens, output)
+    match &e.what {
+        ExprKind::Number { value } => Some(Operand::Number { value: *value }),
+        ExprKind::Read { name } => {
+            if name.id == output {
+                Some(Operand::Output)
+            } else {
+                None
+            }
+        }
+        _ => None,
     }
 }
 
-/// Whether the word begins an action.
-#[tactic(auto, unfolding(crate::specs::FirstReading::begins))]
-fn begins(output: &[u8], word: &[u8]) -> bool
-    ensures { result ≡ spec.begins output.now word.now }
+fn sum(output: u32, left: &Expr, right: &Expr) -> Option<Value>
+    ensures { option_map value_of result ≡ spec.joined_of Binary.Add (spec.operand_of output (term left.now)) (spec.operand_of output (term right.now)) }
 {
-    word == b"pause".as_slice() || word == output
+    let left = operand(output, left)?;
+    let right = operand(output, right)?;
+    Some(Value::Sum { left, right })
 }
 
-#[tactic(auto, using(crate::proofs::FirstLists::actions_begin, crate::proofs::FirstLists::actions_step, crate::proofs::FirstLists::actions_stop, crate::proofs::FirstLists::actions_none, crate::proofs::FirstLists::action_shrinks, crate::proofs::FirstLists::actions_push))]
-fn actions(alloc: Global, tokens: &mut Tokens<'_>, output: &[u8]) -> Result<Vec<Action>, FormFault>
-    requires { output.now ≢ [] }
-    ensures { Reads actions_of (spec.actions output.now tokens.old) result tokens.new }
+fn difference(output: u32, left: &Expr, right: &Expr) -> Option<Value>
+    ensures { option_map value_of result ≡ spec.joined_of Binary.Sub (spec.operand_of output (term left.now)) (spec.operand_of output (term right.now)) }
+{
+    let left = operand(output, left)?;
+    let right = operand(output, right)?;
+    Some(Value::Difference { left, right })
+}
+
+fn joined(output: u32, op: Binary, left: &Expr, right: &Expr) -> Option<Value>
+    ensures { option_map value_of result ≡ spec.joined_of op (spec.operand_of output (term left.now)) (spec.operand_of output (term right.now)) }
+{
+    match op {
+        Binary::Add => sum(output, left, right),
+        Binary::Sub => difference(output, left, right),
+        _ => None,
+    }
+}
+
+fn alone(output: u32, e: &Expr) -> Option<Value>
+    ensures { option_map value_of result ≡ spec.alone (spec.operand_of output (term e.now)) }
+{
+    let operand = operand(output, e)?;
+    Some(Value::Alone { operand })
+}
+
+fn value(output: u32, e: &Expr) -> Option<Value>
+    ensures { option_map value_of result ≡ spec.value_of output (term e.now) }
+{
+    match &e.what {
+        ExprKind::Binary { op, left, right } => joined(output, *op, left, right),
+        _ => alone(output, e),
+    }
+}
+
+fn is_output(output: u32, target: &Target) -> bool
+    ensures { result ≡ spec.is_output output (written target.now) }
+{
+    target.name.id == output && target.index.is_none()
+}
+
+fn assignment(output: u32, plain: bool, e: &Expr) -> Option<Action>
+    ensures { option_map action_of result ≡ spec.assigned plain (spec.value_of output (term e.now)) }
+{
+    if !plain {
+        return None;
+    }
+    let value = value(output, e)?;
+    Some(Action::Assign { value })
+}
+
+fn is_plain(output: u32, target: &Target, op: &Option<OpAt>) -> bool
+    ensures { result ≡ (spec.is_output output (written target.now) && spec.has_none op.now) }
+{
+    is_output(output, target) && op.is_none()
+}
+
+fn action(output: u32, s: &Stmt) -> Option<Action>
+    ensures { option_map action_of result ≡ spec.action_of output (statement s.now) }
+{
+    match &s.what {
+        StmtKind::Assign { target, op, value } => {
+            assignment(output, is_plain(output, target, op), value)
+        }
+        StmtKind::Pause => Some(Action::Pause),
+        _ => None,
+    }
+}
+
+fn actions(alloc: Global, output: u32, list: &[Stmt]) -> Result<Vec<Action>, FormFault>
+    ensures { Reads actions_of (spec.actions_from output [] (statements list.now)) result }
 {
     let mut found = Vec::new(alloc);
-    while begins(output, tokens.ahead()) {
-        found.push(action(tokens, output)?)?;
+    for s in list {
+        let Some(action) = action(output, s) else {
+            return Err(FormFault::Form);
+        };
+        found.push(action)?;
     }
     Ok(found)
+}
+
+fn is_one(e: &Expr) -> bool
+    ensures { result ≡ spec.is_one (term e.now) }
+{
+    match &e.what {
+        ExprKind::Number { value } => *value == 1,
+        _ => false,
+    }
 }
 
 fn is_pause(action: Action) -> bool
@@ -145,83 +148,193 @@ fn pauses(actions: &[Action]) -> bool
     actions.iter().any(|action| is_pause(*action))
 }
 
-#[tactic(auto, unfolding(crate::specs::FirstReading::endless, crate::specs::FirstReading::words), using(crate::proofs::FirstWords::any_pause))]
-fn endless(alloc: Global, tokens: &mut Tokens<'_>, output: &[u8]) -> Result<Endless, FormFault>
-    requires { output.now ≢ [] }
-    ensures { Reads endless_of (spec.endless output.now tokens.old) result tokens.new }
+/// The actions of a group.
+fn group(alloc: Global, output: u32, s: &Stmt) -> Result<Vec<Action>, FormFault>
+    ensures { Reads actions_of (spec.group_of output (statement s.now)) result }
 {
-    let place = tokens.take(b"while")?;
-    tokens.take(b"(")?;
-    tokens.take(b"1")?;
-    tokens.take(b")")?;
-    tokens.take(b"{")?;
-    let actions = actions(alloc, tokens, output)?;
-    tokens.take(b"}")?;
-    if !pauses(&actions) {
-        return Err(FormFault::Form);
+    match &s.what {
+        StmtKind::Group { body } => actions(alloc, output, body.as_slice()),
+        _ => Err(FormFault::Form),
     }
-    Ok(Endless { place, actions })
 }
 
-#[tactic(auto, unfolding(crate::specs::FirstReading::endless_if_any))]
-fn endless_if_any(
+#[tactic(auto, using(crate::proofs::FirstLists::any_pause))]
+fn paused(place: Place, actions: Vec<Action>) -> Option<Endless>
+    ensures { option_map endless_of result ≡ spec.paused place (Some (actions_of actions)) }
+{
+    if pauses(&actions) {
+        Some(Endless { place, actions })
+    } else {
+        None
+    }
+}
+
+fn endless(
     alloc: Global,
-    tokens: &mut Tokens<'_>,
-    output: &[u8],
-) -> Result<Option<Endless>, FormFault>
-    requires { output.now ≢ [] }
-    ensures { Reads loop_of (spec.endless_if_any output.now tokens.old) result tokens.new }
+    output: u32,
+    place: Place,
+    test: &Expr,
+    bound: &Option<Number>,
+    body: &Stmt,
+) -> Result<Endless, FormFault>
+    ensures { Reads endless_of (spec.loop_of output place (term test.now) bound.now (statement body.now)) result }
 {
-    if tokens.ahead() != b"while".as_slice() {
-        return Ok(None);
-    }
-    let found = endless(alloc, tokens, output)?;
-    Ok(Some(found))
-}
-
-#[tactic(auto, unfolding(crate::specs::FirstReading::declaration, crate::specs::FirstReading::words))]
-fn declaration<'t>(tokens: &mut Tokens<'t>) -> Result<(&'t [u8], Number), FormFault>
-    ensures reads { Reads (λ d. (d.0.now, the_value d.1)) (spec.declaration tokens.old) result tokens.new }
-    ensures some { IfOk result (λ d. d.0.now ≢ []) }
-{
-    tokens.take(b"output")?;
-    tokens.take(b"int")?;
-    let name = name(tokens)?;
-    tokens.take(b"=")?;
-    let start = number(tokens)?;
-    tokens.take(b";")?;
-    Ok((name, start))
-}
-
-#[tactic(auto, unfolding(crate::specs::FirstReading::opening, crate::specs::FirstReading::words))]
-fn opening(tokens: &mut Tokens<'_>) -> Result<(), FormFault>
-    ensures { Reads (λ _. tt) (spec.opening tokens.old) result tokens.new }
-{
-    tokens.take(b"void")?;
-    tokens.take(b"main")?;
-    tokens.take(b"(")?;
-    tokens.take(b"void")?;
-    tokens.take(b")")?;
-    tokens.take(b"{")?;
-    Ok(())
-}
-
-#[tactic(auto, unfolding(crate::specs::FirstReading::program))]
-pub fn program<'t>(alloc: Global, tokens: &mut Tokens<'t>) -> Result<Program<'t>, FormFault>
-    ensures { Reads program_of (spec.program tokens.old) result tokens.new }
-{
-    let (name, start) = declaration(tokens)?;
-    opening(tokens)?;
-    let actions = actions(alloc, tokens, name)?;
-    let endless = endless_if_any(alloc, tokens, name)?;
-    tokens.take(b"}")?;
-    if !tokens.is_end() {
+    if !is_one(test) || bound.is_some() {
         return Err(FormFault::Form);
     }
-    Ok(Program {
-        name,
-        start,
-        actions,
-        endless,
-    })
+    let actions = group(alloc, output, body)?;
+    let Some(endless) = paused(place, actions) else {
+        return Err(FormFault::Form);
+    };
+    Ok(endless)
+}
+
+fn act(output: u32, s: &Stmt) -> Result<Part, FormFault>
+    ensures { Reads part_of (spec.acting (spec.action_of output (statement s.now))) result }
+{
+    let Some(action) = action(output, s) else {
+        return Err(FormFault::Form);
+    };
+    Ok(Part::Act { action })
+}
+
+fn part(alloc: Global, output: u32, s: &Stmt) -> Result<Part, FormFault>
+    ensures { Reads part_of (spec.part_of output (statement s.now)) result }
+{
+    match &s.what {
+        StmtKind::While { test, bound, body } => {
+            let endless = endless(alloc, output, s.place, test, bound, body)?;
+            Ok(Part::Loop { endless })
+        }
+        _ => act(output, s),
+    }
+}
+
+fn body(alloc: Global, output: u32, list: &[Stmt]) -> Result<Body, FormFault>
+    ensures { Reads body_of (spec.body_from output [] None (statements list.now)) result }
+{
+    let mut actions = Vec::new(alloc);
+    let mut endless = None;
+    for s in list {
+        if endless.is_some() {
+            return Err(FormFault::Form);
+        }
+        match part(alloc, output, s)? {
+            Part::Act { action } => actions.push(action)?,
+            Part::Loop { endless: found } => endless = Some(found),
+        }
+    }
+    Ok(Body { actions, endless })
+}
+
+fn is_scalar_output(global: &Variable) -> bool
+    ensures { result ≡ (spec.is_output_kind global.now.kind && spec.has_none global.now.length) }
+{
+    global.kind == GlobalKind::Output && global.length.is_none()
+}
+
+fn one_value(values: &[Number]) -> Option<i32>
+    ensures { result ≡ spec.one_value values.now }
+{
+    match values {
+        [only] => Some(only.value),
+        _ => None,
+    }
+}
+
+/// The value with which an output starts.
+fn start(global: &Variable) -> Option<i32>
+    ensures { result ≡ spec.start_of (plain_global global.now) }
+{
+    if is_scalar_output(global) {
+        one_value(global.values.as_slice())
+    } else {
+        None
+    }
+}
+
+/// The spelling of a name.
+fn spelling(names: &Labels, id: u32) -> Option<&str>
+    ensures { option_copied result ≡ slice_get names.now id }
+{
+    if id < names.len() {
+        Some(names.get(id))
+    } else {
+        None
+    }
+}
+
+fn may_name_output(name: &str) -> bool
+    ensures { result ≡ (nat_le (length name.now) 63 && not (bytes_eq name.now (codes "main"))) }
+{
+    name.len() <= MAX_NAME && name != "main"
+}
+
+fn output_name<'n>(names: &'n Labels, global: &Variable) -> Option<&'n str>
+    ensures { option_copied result ≡ spec.name_of names.now (plain_global global.now) }
+{
+    let name = spelling(names, global.name.id)?;
+    if may_name_output(name) {
+        Some(name)
+    } else {
+        None
+    }
+}
+
+fn is_named_main(names: &Labels, id: u32) -> bool
+    ensures { result ≡ spec.is_named_main (slice_get names.now id) }
+{
+    match spelling(names, id) {
+        Some(name) => name == "main",
+        None => false,
+    }
+}
+
+fn is_void(function: &Function) -> bool
+    ensures { result ≡ (not function.now.gives && spec.is_empty function.now.params) }
+{
+    !function.gives && function.params.is_empty()
+}
+
+fn is_main(names: &Labels, function: &Function) -> bool
+    ensures { result ≡ spec.is_main names.now (plain_function function.now) }
+{
+    is_named_main(names, function.name.id) && is_void(function)
+}
+
+fn pair<'n>(
+    alloc: Global,
+    names: &'n Labels,
+    global: &Variable,
+    function: &Function,
+) -> Result<FirstProgram<'n>, FormFault>
+    ensures { Reads program_of (spec.pair_of names.now (plain_global global.now) (plain_function function.now)) result }
+{
+    if !is_main(names, function) {
+        return Err(FormFault::Form);
+    }
+    let Some(name) = output_name(names, global) else {
+        return Err(FormFault::Form);
+    };
+    let Some(start) = start(global) else {
+        return Err(FormFault::Form);
+    };
+    let body = body(alloc, global.name.id, function.body.as_slice())?;
+    Ok(FirstProgram { name, start, body })
+}
+
+/// Reads a first program from its tree.
+pub fn program<'n>(
+    alloc: Global,
+    program: &Program,
+    names: &'n Labels,
+) -> Result<FirstProgram<'n>, FormFault>
+    ensures { Reads program_of (spec.program_of (map plain_item program.now.items) names.now) result }
+{
+    match program.items.as_slice() {
+        [Item::Global { global }, Item::Function { function }] => {
+            pair(alloc, names, global, function)
+        }
+        _ => Err(FormFault::Form),
+    }
 }

@@ -1,24 +1,14 @@
-//! A program of the first form, as it was read.
-
-ghost use Rattle.std.specs.Prelude.{◌<◌, ◌^◌};
+//! A first program, as it was read.
 
 use forec_base::Place;
-
-/// The greatest number that a text may have.
-pub const MAX_NUMBER: u32 = 2147483647;
-
-/// A number of a text.
-#[derive(Clone, Copy)]
-pub struct Number {
-    pub value: u32,
-    ghost small: { value < 2 ^ 31 },
-}
 
 #[derive(Clone, Copy)]
 pub enum Operand {
     /// The output's own value.
     Output,
-    Number { number: Number },
+    Number {
+        value: i32,
+    },
 }
 
 #[derive(Clone, Copy)]
@@ -42,12 +32,24 @@ pub struct Endless {
     pub actions: Vec<Action>,
 }
 
+/// A statement of a body.
 #[derive(Drop)]
-pub struct Program<'t> {
-    /// The output's.
-    pub name: &'t [u8],
-    /// The output's first value.
-    pub start: Number,
+pub enum Part {
+    Act { action: Action },
+    Loop { endless: Endless },
+}
+
+#[derive(Drop)]
+pub struct Body {
     pub actions: Vec<Action>,
     pub endless: Option<Endless>,
+}
+
+#[derive(Drop)]
+pub struct FirstProgram<'n> {
+    /// The output's.
+    pub name: &'n str,
+    /// The output's first value.
+    pub start: i32,
+    pub body: Body,
 }

@@ -57,16 +57,16 @@ returns-in-Ok-clause-write g c = λ is.
 
 pub returns-in-Err-Long-clause-own : goal.returns-in-Err-Long-clause-own
 returns-in-Err-Long-clause-own g c = λ own.
-    let not = own_not c.say-in-Err-Long.result own in
     let h0 = g.K.Sink.held c.args.out.now in
-    let h2 = g.K.Sink.held c.say-in-Err-Long.new.out in
-    words_long (map string_bytes c.args.words.now) (g.T.Texts.content c.args.texts.now) (g.S.Source.left c.args.trace.now) (λ r. Given r c.say-in-Err-Long.result h0 h2) c.in-Some.name.now c.in-Some.ensures (rw c.in-Err-Long.field-0-is at c.in-Err-Long.ensures.bytes)
-    (record { status = c.say-in-Err-Long.ensures.said not; bytes = c.say-in-Err-Long.ensures.line not })
+    let h2 = g.K.Sink.held c.refuse.new.out in
+    words_long (map string_bytes c.args.words.now) (g.T.Texts.content c.args.texts.now) (g.S.Source.left c.args.trace.now) (λ r. Given r c.refuse.result h0 h2) c.in-Some.name.now c.in-Some.ensures (rw c.in-Err-Long.field-0-is at c.in-Err-Long.ensures.bytes)
+    (c.refuse.ensures.own own)
 
 pub returns-in-Err-Long-clause-write : goal.returns-in-Err-Long-clause-write
 returns-in-Err-Long-clause-write g c = λ is.
     let h0 = g.K.Sink.held c.args.out.now in
-    let h2 = g.K.Sink.held c.say-in-Err-Long.new.out in (
-      c.say-in-Err-Long.ensures.fault is,
-      words_long (map string_bytes c.args.words.now) (g.T.Texts.content c.args.texts.now) (g.S.Source.left c.args.trace.now) (λ r. AppendsFront h0 h2 r.bytes) c.in-Some.name.now c.in-Some.ensures (rw c.in-Err-Long.field-0-is at c.in-Err-Long.ensures.bytes) (c.say-in-Err-Long.ensures.front is),
+    let h2 = g.K.Sink.held c.refuse.new.out in
+    let w = c.refuse.ensures.write is in (
+      w.0,
+      words_long (map string_bytes c.args.words.now) (g.T.Texts.content c.args.texts.now) (g.S.Source.left c.args.trace.now) (λ r. AppendsFront h0 h2 r.bytes) c.in-Some.name.now c.in-Some.ensures (rw c.in-Err-Long.field-0-is at c.in-Err-Long.ensures.bytes) w.1,
     )

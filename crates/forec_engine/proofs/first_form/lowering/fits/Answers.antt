@@ -38,7 +38,7 @@ returns c =
     c.sequence_terms-turning.result
     c.sequence_terms-2.result
     (ap loop_of c.in-Some-endless.is)
-    (c.len-3.ensures ∙ sym c.deref.ensures.len ∙ ap length c.deref.ensures.value ∙ sym (length-map c.args.program.now.actions.items action_of))
+    (c.len-3.ensures ∙ sym c.deref.ensures.len ∙ ap length c.deref.ensures.value ∙ sym (length-map c.args.program.now.body.actions.items action_of))
     (c.len-2.ensures ∙ sym c.deref-2.ensures.len ∙ ap length c.deref-2.ensures.value ∙ sym (length-map c.in-Some-endless.endless.actions.items action_of))
     (c.in-Some.ensures.exact ∙ ap (λ z. list_terms_of (map action_of z)) c.deref.ensures.value)
     (c.in-Some-list_terms.ensures.exact ∙ ap (λ z. list_terms_of (map action_of z)) c.deref-2.ensures.value)

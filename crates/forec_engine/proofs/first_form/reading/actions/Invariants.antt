@@ -1,10 +1,8 @@
-use Rattle.std.proofs.Common.{◌≡◌, length}
-use Rattle.forec_engine.specs.FirstReading as spec
+use Rattle.std.proofs.Common.{◌≡◌, [], drop}
+use Rattle.forec_tree.specs.Plain.{statements}
+use Rattle.forec_engine.specs.FirstReading.{actions_from}
 use Rattle.forec_engine.specs.FirstViews.{actions_of}
 use Rattle.forec_engine.proofs.first_form.reading.actions.Given as goal
 
-abbrev pub invariant-loop-found : goal.invariant-loop-found
-invariant-loop-found l = spec.actions_from (length l.tokens) l.output (actions_of l.found) l.tokens ≡ spec.actions l.output l.fn.tokens
-
-abbrev pub decreases-loop-found : goal.decreases-loop-found
-decreases-loop-found l = length l.tokens
+abbrev pub invariant-loop-s : goal.invariant-loop-s
+invariant-loop-s l = actions_from l.output (actions_of l.found) (statements (drop l.s-index l.list)) ≡ actions_from l.output [] (statements l.list)

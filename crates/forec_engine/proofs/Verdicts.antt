@@ -1,0 +1,133 @@
+-- A text has one verdict, and it can't be that it has none.
+use Rattle.std.proofs.Common.{◌≡◌, Result, Ok, Err, ℕ, ◌<◌, ◌≤◌, Bool, true, false, nat_lt, ltb-true, ltb-false, List, length, refl, sym, ap, subst, ◌∙◌, arith}
+use Rattle.forec_base.specs.declared.Place.{Place}
+use Rattle.forec_kernel.specs.declared.kernel.Kernel.{Kernel}
+use Rattle.forec_kernel.specs.Shapes.{PlainKernel, plain_kernel}
+use Rattle.forec_tree.specs.declared.token.Token.{Token}
+use Rattle.forec_tree.specs.LexedText.{IsLexed}
+use Rattle.forec_tree.specs.SpelledPrograms.{IsSpelled}
+use Rattle.forec_tree.specs.Terms.{Text}
+use Rattle.forec_lexer.specs.Answers.{HasCause}
+use Rattle.forec_lexer.specs.declared.fault.LexFault.{LexFault}
+use Rattle.forec_lexer.specs.declared.fault.LexFault.TheVariants as lexer
+use Rattle.forec_lexer.proofs.OneWay.{one_lexed, lexed_not_bad, lexed_not_many, bad_not_many, one_bad, one_many}
+use Rattle.forec_engine.specs.FirstForm.{First}
+use Rattle.forec_engine.specs.FirstCode.{IsFirstKernel}
+use Rattle.forec_engine.specs.Judging.{most_bytes, most_levels, Verdict, Runs, Refuses, OnProgram, runs, another_form, OnTokens, spelled, unspelled, Judged, too_long, stops, too_many, lexed, Says, lexer_fault}
+use Rattle.forec_engine.specs.Laws.{OneVerdict}
+use Rattle.forec_engine.specs.declared.refusal.Refusal.{Refusal}
+use Rattle.forec_engine.specs.declared.refusal.Refusal.TheVariants as why
+use Rattle.forec_engine.specs.declared.refusal.JudgeFault.{JudgeFault}
+use Rattle.forec_engine.specs.declared.refusal.JudgeFault.TheVariants as fault
+use Rattle.forec_engine.proofs.Lexing.{some_lexing}
+
+-- ---- one
+
+abbrev pub OneProgram : Type 0
+OneProgram = (k l : ℕ) (a b : Text) (ts : List Token) → IsSpelled k a ts → IsSpelled l b ts → a ≡ b
+
+abbrev pub OneKernel : Type 0
+OneKernel = (text : Text) (names : List (List ℕ)) (k l : PlainKernel) → First text names k → First text names l → k ≡ l
+
+module _ (one_program : OneProgram) (one_kernel : OneKernel) where
+  one_on_program : (program : Text) (names : List (List ℕ)) (v w : Verdict) → OnProgram program names v → OnProgram program names w → v ≡ w
+  one_on_program program names v w (runs k f) (runs l g) = ap Runs (one_kernel program names k l f g)
+  one_on_program program names v w (runs k f) (another_form h) = absurd (h k f)
+  one_on_program program names v w (another_form h) (runs l g) = absurd (h l g)
+  one_on_program program names v w (another_form h) (another_form i) = refl
+
+  one_on_tokens : (tokens : List Token) (names : List (List ℕ)) (v w : Verdict) → OnTokens tokens names v → OnTokens tokens names w → v ≡ w
+  one_on_tokens tokens names v w (spelled p s x) (spelled q t y) =
+      one_on_program q names v w (subst (λ z. OnProgram z names v) (one_program most_levels most_levels p q tokens s t) x) y
+  one_on_tokens tokens names v w (spelled p s x) (unspelled h) = absurd (h p s)
+  one_on_tokens tokens names v w (unspelled h) (spelled q t y) = absurd (h q t)
+  one_on_tokens tokens names v w (unspelled h) (unspelled i) = refl
+
+  one_of_lexed : (text : List ℕ) (ts us : List Token) (ns ms : List (List ℕ)) (v w : Verdict) → IsLexed text ts ns → IsLexed text us ms
+      → OnTokens ts ns v → OnTokens us ms w → v ≡ w
+  one_of_lexed text ts us ns ms v w x y s t =
+      let e = one_lexed text ts us ns ms x y in
+      one_on_tokens us ms v w (subst (λ z. OnTokens us z v) e.1 (subst (λ z. OnTokens z ns v) e.0 s)) t
+
+  pub one_verdict : OneVerdict
+  one_verdict text v w (too_long h) (too_long i) = refl
+  one_verdict text v w (too_long h) (stops q le y) = absurd (omega arith)
+  one_verdict text v w (too_long h) (too_many q le y) = absurd (omega arith)
+  one_verdict text v w (too_long h) (lexed us ms le y t) = absurd (omega arith)
+  one_verdict text v w (stops p le x) (too_long i) = absurd (omega arith)
+  one_verdict text v w (stops p le x) (stops q ge y) = ap (λ z. Refuses (why.Lex z)) (one_bad text p q x y)
+  one_verdict text v w (stops p le x) (too_many q ge y) = absurd (bad_not_many text p q x y)
+  one_verdict text v w (stops p le x) (lexed us ms ge y t) = absurd (lexed_not_bad text us ms p y x)
+  one_verdict text v w (too_many p le x) (too_long i) = absurd (omega arith)
+  one_verdict text v w (too_many p le x) (stops q ge y) = absurd (bad_not_many text q p y x)
+  one_verdict text v w (too_many p le x) (too_many q ge y) = ap (λ z. Refuses (why.Many z)) (one_many text p q x y)
+  one_verdict text v w (too_many p le x) (lexed us ms ge y t) = absurd (lexed_not_many text us ms p y x)
+  one_verdict text v w (lexed ts ns le x s) (too_long i) = absurd (omega arith)
+  one_verdict text v w (lexed ts ns le x s) (stops q ge y) = absurd (lexed_not_bad text ts ns q x y)
+  one_verdict text v w (lexed ts ns le x s) (too_many q ge y) = absurd (lexed_not_many text ts ns q x y)
+  one_verdict text v w (lexed ts ns le x s) (lexed us ms ge y t) = one_of_lexed text ts us ns ms v w x y s t
+
+-- a text that is too long is refused for that alone
+pub only_long : (text : List ℕ) (v : Verdict) → most_bytes < length text → Judged text v → v ≡ Refuses why.Long
+only_long text v h (too_long i) = refl
+only_long text v h (stops q le y) = absurd (omega arith)
+only_long text v h (too_many q le y) = absurd (omega arith)
+only_long text v h (lexed us ms le y t) = absurd (omega arith)
+
+-- ---- not none
+
+some_on_program : (program : Text) (names : List (List ℕ)) → ((v : Verdict) → OnProgram program names v → ⊥) → ⊥
+some_on_program program names never = never (Refuses why.Form) (another_form (λ k f. never (Runs k) (runs k f)))
+
+some_on_tokens : (tokens : List Token) (names : List (List ℕ)) → ((v : Verdict) → OnTokens tokens names v → ⊥) → ⊥
+some_on_tokens tokens names never =
+    never (Refuses why.Syntax) (unspelled (λ program s. some_on_program program names (λ v x. never v (spelled program s x))))
+
+pub some_verdict : (text : List ℕ) → ((v : Verdict) → Judged text v → ⊥) → ⊥
+some_verdict text never = by (nat_lt most_bytes (length text)) refl
+  where
+    by : (t : Bool) → nat_lt most_bytes (length text) ≡ t → ⊥
+    by true e = never (Refuses why.Long) (too_long (ltb-true most_bytes (length text) e))
+    by false e =
+        let short = ltb-false most_bytes (length text) e in
+        some_lexing text (λ ts ns x. some_on_tokens ts ns (λ v t. never v (lexed ts ns short x t)))
+        (λ p x. never (Refuses (why.Lex p)) (stops p short x)) (λ p x. never (Refuses (why.Many p)) (too_many p short x))
+
+-- ---- what runs
+
+first_of_program : (program : Text) (names : List (List ℕ)) (v : Verdict) (k : PlainKernel) → OnProgram program names v → v ≡ Runs k → IsFirstKernel k
+first_of_program program names v k (runs l f) e =
+    let same : l ≡ k = cc in
+    subst IsFirstKernel same (record { program = f.program; is = f.kernel })
+first_of_program program names v k (another_form h) e = absurd (cc)
+
+first_of_tokens : (tokens : List Token) (names : List (List ℕ)) (v : Verdict) (k : PlainKernel) → OnTokens tokens names v → v ≡ Runs k → IsFirstKernel k
+first_of_tokens tokens names v k (spelled p s x) e = first_of_program p names v k x e
+first_of_tokens tokens names v k (unspelled h) e = absurd (cc)
+
+first_of_text : (text : List ℕ) (v : Verdict) (k : PlainKernel) → Judged text v → v ≡ Runs k → IsFirstKernel k
+first_of_text text v k (too_long i) e = absurd (cc)
+first_of_text text v k (stops q le y) e = absurd (cc)
+first_of_text text v k (too_many q le y) e = absurd (cc)
+first_of_text text v k (lexed us ms le y t) e = first_of_tokens us ms v k t e
+
+pub runs_first : (text : List ℕ) (k : PlainKernel) → Judged text (Runs k) → IsFirstKernel k
+runs_first text k j = first_of_text text (Runs k) k j refl
+
+-- ---- what code says
+
+pub says_too : (P Q : Verdict → Type 0) → ((v : Verdict) → P v → Q v) → (r : Result Kernel JudgeFault) → Says P r → Says Q r
+says_too P Q f (Ok k) h = f (Runs (plain_kernel k)) h
+says_too P Q f (Err (fault.Refused why)) h = f (Refuses why) h
+says_too P Q f (Err fault.OutOfMemory) h = tt
+
+abbrev given : JudgeFault → Result Kernel JudgeFault
+given e = Err e
+
+told_exactly : (text : List ℕ) (f : LexFault) → length text ≤ most_bytes → HasCause text f → Says (Judged text) (given (lexer_fault f))
+told_exactly text (lexer.Bad p) le h = stops p le h
+told_exactly text (lexer.Many p) le h = too_many p le h
+told_exactly text lexer.OutOfMemory le h = tt
+
+pub told : (text : List ℕ) (f : LexFault) (e : JudgeFault) → length text ≤ most_bytes → HasCause text f → e ≡ lexer_fault f → Says (Judged text) (given e)
+told text f e le h is = subst (λ x. Says (Judged text) (given x)) (sym is) (told_exactly text f le h)

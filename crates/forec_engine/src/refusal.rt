@@ -1,0 +1,28 @@
+// Why a text doesn't run.
+
+use forec_base::Place;
+
+/// Why a text is refused, in the order in which causes are looked for.
+#[derive(Clone, Copy, Debug, PartialEq, Eq)]
+pub enum Refusal {
+    /// It has more than 1,048,576 bytes.
+    Long,
+    /// No token fits at this place.
+    Lex { place: Place },
+    /// It has more than 200,000 tokens. This is the place of the next one.
+    Many { place: Place },
+    /// No program within the greatest level has its tokens.
+    Syntax,
+    /// Its program is no first program.
+    Form,
+}
+
+/// Why no kernel is given.
+#[derive(Clone, Copy, Debug, PartialEq, Eq)]
+pub enum JudgeFault {
+    Refused {
+        why: Refusal,
+    },
+    /// There is no memory left, or the program has more terms than a kernel holds.
+    OutOfMemory,
+}
