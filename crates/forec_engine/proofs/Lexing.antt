@@ -51,12 +51,18 @@ next_cut text at n (mark m) c x =
 no_end : (text : List ℕ) → ((ts : List Token) (ns : List (List ℕ)) (stop : ℕ) → stop ≤ length text → Lexes text ts ns stop → ⊥)
     → (fuel at : ℕ) → at ≤ length text → length text ≤ at + fuel → Cut text at → ⊥
 no_end text never zero at le enough c =
-    never c.tokens c.names at le (record { cuts = c.cuts; stops = no_fit (drop at text) (λ p n x.
-    let s = some_bytes (drop at text) p n x.fits in let w = x.fits.within in let l = length-drop at text in omega arith) })
+    never c.tokens c.names at le (record {
+      cuts = c.cuts;
+      stops = no_fit (drop at text) (λ p n x.
+          let s = some_bytes (drop at text) p n x.fits in let w = x.fits.within in let l = length-drop at text in omega arith);
+    })
 no_end text never (suc fuel) at le enough c =
-    never c.tokens c.names at le (record { cuts = c.cuts; stops = no_fit (drop at text) (λ p n x.
-    let s = some_bytes (drop at text) p n x.fits in let w = x.fits.within in let l = length-drop at text in
-    no_end text never fuel (at + n) (omega arith) (omega arith) (next_cut text at n p c x)) })
+    never c.tokens c.names at le (record {
+      cuts = c.cuts;
+      stops = no_fit (drop at text) (λ p n x.
+          let s = some_bytes (drop at text) p n x.fits in let w = x.fits.within in let l = length-drop at text in
+          no_end text never fuel (at + n) (omega arith) (omega arith) (next_cut text at n p c x));
+    })
 
 -- ---- more tokens than there may be
 
