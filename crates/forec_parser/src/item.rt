@@ -23,6 +23,7 @@ use forec_tree::{Combine, Global as Variable, GlobalKind, Item, Name, Number};
 use sqlite_items::Items;
 use std::alloc::Global;
 
+// More than the levels that the statements of a function have.
 const BLOCK_DEPTH: usize = 129;
 
 #[tactic(auto, unfolding(crate::specs::Items::negative))]

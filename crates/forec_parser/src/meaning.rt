@@ -91,6 +91,7 @@ pub enum Declarator {
     Valued { kind: GlobalKind },
 }
 
+/// The number of a name's spelling.
 pub fn name_of(kind: Option<TokenKind>) -> Option<u32>
     ensures { result ≡ spec.name_of kind }
 {
@@ -100,6 +101,7 @@ pub fn name_of(kind: Option<TokenKind>) -> Option<u32>
     }
 }
 
+/// The value of a number.
 pub fn number_of(kind: Option<TokenKind>) -> Option<i32>
     ensures { result ≡ spec.number_of kind }
 {
@@ -121,6 +123,7 @@ fn start_mark(mark: Mark) -> Start
     }
 }
 
+/// What the token begins where an operand is wanted.
 pub fn start_of(kind: Option<TokenKind>) -> Start
     ensures { result ≡ spec.start_of kind }
 {
@@ -167,6 +170,7 @@ fn infix_mark(mark: Mark) -> Infix
     }
 }
 
+/// What the token is behind an operand.
 pub fn infix_of(kind: Option<TokenKind>) -> Infix
     ensures { result ≡ spec.infix_of kind }
 {
@@ -186,6 +190,7 @@ fn behind_mark(mark: Mark) -> Behind
     }
 }
 
+/// What the token begins behind a name.
 pub fn behind_of(kind: Option<TokenKind>) -> Behind
     ensures { result ≡ spec.behind_of kind }
 {
@@ -231,6 +236,7 @@ pub fn level_of(op: Operator) -> u8
     }
 }
 
+/// How tightly what stands behind an operand binds, up to 11; 0 is nothing.
 pub fn binds(shown: Infix) -> u8
     ensures { result ≡ spec.binds shown }
 {
@@ -310,6 +316,7 @@ fn change_mark(mark: Mark) -> Change
     }
 }
 
+/// How the token changes the target before it.
 pub fn change_of(kind: Option<TokenKind>) -> Change
     ensures { result ≡ spec.change_of kind }
 {
@@ -329,6 +336,7 @@ fn act_mark(mark: Mark) -> Act
     }
 }
 
+/// What the token begins where a simple statement is wanted.
 pub fn act_of(kind: Option<TokenKind>) -> Act
     ensures { result ≡ spec.act_of kind }
 {
@@ -368,6 +376,7 @@ fn sort_word(word: Word) -> Sort
     }
 }
 
+/// What the token begins where a statement is wanted.
 pub fn sort_of(kind: Option<TokenKind>) -> Sort
     ensures { result ≡ spec.sort_of kind }
 {
@@ -393,6 +402,7 @@ fn opening_word(word: Word) -> Opening
     }
 }
 
+/// What the token begins where a global or a function is wanted.
 pub fn opening_of(kind: Option<TokenKind>) -> Opening
     ensures { result ≡ spec.opening_of kind }
 {
@@ -413,6 +423,7 @@ fn policy_word(word: Word) -> Option<Policy>
     }
 }
 
+/// The policy that the token names.
 pub fn policy_of(kind: Option<TokenKind>) -> Option<Policy>
     ensures { result ≡ spec.policy_of kind }
 {

@@ -10,6 +10,7 @@ use forec_tree::{Expr, ExprKind, Name, Number, Operator};
 use sqlite_items::Items;
 use std::alloc::{AllocError, Global};
 
+/// A number.
 pub fn number(number: Number) -> Expr
     ensures { term result ≡ plain.Num number.place number.value }
 {
@@ -21,6 +22,7 @@ pub fn number(number: Number) -> Expr
     }
 }
 
+/// A variable that is read.
 pub fn read(name: Name) -> Expr
     ensures { term result ≡ plain.Read name.place name }
 {
@@ -30,6 +32,7 @@ pub fn read(name: Name) -> Expr
     }
 }
 
+/// An element of an array that is read.
 pub fn element(alloc: Global, name: Name, index: Expr) -> Result<Expr, AllocError>
     ensures { IfOk result (λ e. term e ≡ plain.Element name.place name (term index)) }
 {
@@ -42,6 +45,7 @@ pub fn element(alloc: Global, name: Name, index: Expr) -> Result<Expr, AllocErro
     })
 }
 
+/// A call of a function that gives a number.
 pub fn call(name: Name, args: Items<Expr>) -> Expr
     ensures { term result ≡ plain.Call name.place name (listed (map term args)) }
 {
@@ -51,6 +55,7 @@ pub fn call(name: Name, args: Items<Expr>) -> Expr
     }
 }
 
+/// A unary operator, at its place, before its operand.
 pub fn unary(alloc: Global, place: Place, op: Unary, part: Expr) -> Result<Expr, AllocError>
     ensures { IfOk result (λ e. term e ≡ plain.Un place op (term part)) }
 {
@@ -63,6 +68,7 @@ pub fn unary(alloc: Global, place: Place, op: Unary, part: Expr) -> Result<Expr,
     })
 }
 
+/// An operator, at its place, between its operands.
 pub fn join(
     alloc: Global,
     place: Place,
@@ -82,6 +88,7 @@ pub fn join(
     Ok(Expr { place, what })
 }
 
+/// `test ? yes : no`, at the place of the question mark.
 pub fn choose(
     alloc: Global,
     place: Place,

@@ -30,6 +30,7 @@ pub struct ForHead {
     pub step: Option<Stmt>,
 }
 
+/// `;`
 pub fn nothing(place: Place) -> Stmt
     ensures { statement result ≡ plain.Nothing place }
 {
@@ -39,6 +40,7 @@ pub fn nothing(place: Place) -> Stmt
     }
 }
 
+/// A block as a statement.
 pub fn group(block: Block) -> Stmt
     ensures { statement result ≡ plain.Group block.place (in_order (map statement block.body)) }
 {
@@ -49,6 +51,7 @@ pub fn group(block: Block) -> Stmt
     }
 }
 
+/// A declaration of locals, at the place of `int`.
 pub fn declare(place: Place, locals: Items<Local>) -> Stmt
     ensures { statement result ≡ plain.Declare place (map declared locals) }
 {
@@ -58,6 +61,7 @@ pub fn declare(place: Place, locals: Items<Local>) -> Stmt
     }
 }
 
+/// One declarator of a local.
 pub fn local(name: Name, length: Option<Number>, values: Items<Expr>) -> Local
     ensures { declared result ≡ declared_as name length (map term values) }
 {
@@ -83,6 +87,7 @@ pub fn first_local(alloc: Global, place: Place, name: Name, value: Expr) -> Resu
     Ok(declare(place, locals))
 }
 
+/// An assignment, with the operator of `+=` and its kin if it is one.
 pub fn assign(place: Place, target: Target, op: Option<OpAt>, value: Expr) -> Stmt
     ensures { statement result ≡ plain.Assign place (written target) op (term value) }
 {
@@ -103,6 +108,7 @@ pub fn step(place: Place, target: Target, op: OpAt) -> Stmt
     assign(place, target, Some(op), one)
 }
 
+/// A call of a void function.
 pub fn invoke(name: Name, args: Items<Expr>) -> Stmt
     ensures { statement result ≡ plain.Invoke name.place name (listed (map term args)) }
 {
@@ -112,6 +118,7 @@ pub fn invoke(name: Name, args: Items<Expr>) -> Stmt
     }
 }
 
+/// `if`, with what stands behind `else` if there is one.
 pub fn branch(
     alloc: Global,
     place: Place,
@@ -132,6 +139,7 @@ pub fn branch(
     })
 }
 
+/// `while`
 pub fn repeat(
     alloc: Global,
     place: Place,
@@ -151,6 +159,7 @@ pub fn repeat(
     })
 }
 
+/// `for`
 pub fn count(
     alloc: Global,
     place: Place,
@@ -181,6 +190,7 @@ pub fn count(
     })
 }
 
+/// `pause`
 pub fn pause(place: Place) -> Stmt
     ensures { statement result ≡ plain.Pause place }
 {
@@ -190,6 +200,7 @@ pub fn pause(place: Place) -> Stmt
     }
 }
 
+/// `par`
 pub fn fork(place: Place, branches: Items<Branch>) -> Stmt
     ensures { statement result ≡ plain.Par place (launched (map launch_of branches)) }
 {
@@ -199,12 +210,14 @@ pub fn fork(place: Place, branches: Items<Branch>) -> Stmt
     }
 }
 
+/// A branch that is a function.
 pub fn start_call(name: Name, args: Items<Expr>) -> Branch
     ensures { launch_of result ≡ Calls name (listed (map term args)) }
 {
     Branch::Call { name, args }
 }
 
+/// A branch that is a block.
 pub fn start_block(block: Block) -> Branch
     ensures { launch_of result ≡ Blocks block.place (in_order (map statement block.body)) }
 {
@@ -212,6 +225,7 @@ pub fn start_block(block: Block) -> Branch
     Branch::Group { place, body }
 }
 
+/// `abort`, at the place of this word.
 pub fn abort(place: Place, weak: bool, immediate: bool, test: Expr, block: Block) -> Stmt
     ensures { statement result ≡ plain.Abort place weak immediate (term test) (in_order (map statement block.body)) }
 {
@@ -227,6 +241,7 @@ pub fn abort(place: Place, weak: bool, immediate: bool, test: Expr, block: Block
     }
 }
 
+/// `return`
 pub fn give(place: Place, value: Expr) -> Stmt
     ensures { statement result ≡ plain.Return place (term value) }
 {
@@ -236,6 +251,7 @@ pub fn give(place: Place, value: Expr) -> Stmt
     }
 }
 
+/// A function; it gives a number or is void.
 pub fn function(name: Name, gives: bool, params: Items<Name>, block: Block) -> Item
     ensures { plain_item result ≡ IsFunction (record { name = name; gives = gives; params = params; body = in_order (map statement block.body) }) }
 {

@@ -19,8 +19,10 @@ use forec_tree::{Branch, Expr, Local, Name, Number, OpAt, Stmt, Target};
 use sqlite_items::Items;
 use std::alloc::Global;
 
+// More than the levels that an expression has.
 const EXPR_DEPTH: usize = 129;
 
+/// An expression of its own.
 #[tactic(auto, unfolding(crate::specs::Statements::value))]
 pub fn value(alloc: Global, tokens: &mut Tokens<'_>) -> Result<Expr, Fault>
     ensures { Reads term (spec.value max_level tokens.old) result tokens.new }
@@ -35,6 +37,7 @@ fn values(alloc: Global, tokens: &mut Tokens<'_>) -> Result<Items<Expr>, Fault>
     expression::values(alloc, tokens, EXPR_DEPTH)
 }
 
+/// An expression between round brackets.
 #[tactic(auto, unfolding(crate::specs::Statements::bracketed))]
 pub fn bracketed(alloc: Global, tokens: &mut Tokens<'_>) -> Result<Expr, Fault>
     ensures { Reads term (spec.bracketed max_level tokens.old) result tokens.new }
@@ -196,6 +199,7 @@ pub fn array_length(tokens: &mut Tokens<'_>) -> Result<Number, Fault>
     Ok(length)
 }
 
+/// An array's length, if there is one.
 #[tactic(auto, unfolding(crate::specs::Statements::maybe_length))]
 pub fn maybe_length(tokens: &mut Tokens<'_>) -> Result<Option<Number>, Fault>
     ensures { Reads (λ (n : Option Number). n) (spec.maybe_length max_level tokens.old) result tokens.new }
@@ -372,6 +376,7 @@ pub fn head(alloc: Global, tokens: &mut Tokens<'_>) -> Result<ForHead, Fault>
     Ok(ForHead { start, test, step })
 }
 
+/// A declaration of locals.
 #[tactic(auto, unfolding(crate::specs::Statements::declaring))]
 pub fn declaring(alloc: Global, tokens: &mut Tokens<'_>) -> Result<Stmt, Fault>
     ensures { Reads statement (spec.declaring max_level tokens.old) result tokens.new }
@@ -382,6 +387,7 @@ pub fn declaring(alloc: Global, tokens: &mut Tokens<'_>) -> Result<Stmt, Fault>
     Ok(parts::declare(token.place, found))
 }
 
+/// A simple statement and what ends it.
 #[tactic(auto, unfolding(crate::specs::Statements::acting))]
 pub fn acting(alloc: Global, tokens: &mut Tokens<'_>) -> Result<Stmt, Fault>
     ensures { Reads statement (spec.acting max_level tokens.old) result tokens.new }
@@ -391,6 +397,7 @@ pub fn acting(alloc: Global, tokens: &mut Tokens<'_>) -> Result<Stmt, Fault>
     Ok(found)
 }
 
+/// `pause ;`
 #[tactic(auto, unfolding(crate::specs::Statements::pausing))]
 pub fn pausing(tokens: &mut Tokens<'_>) -> Result<Stmt, Fault>
     ensures { Reads statement (spec.pausing max_level tokens.old) result tokens.new }
@@ -400,6 +407,7 @@ pub fn pausing(tokens: &mut Tokens<'_>) -> Result<Stmt, Fault>
     Ok(parts::pause(token.place))
 }
 
+/// `return` and its value.
 #[tactic(auto, unfolding(crate::specs::Statements::giving))]
 pub fn giving(alloc: Global, tokens: &mut Tokens<'_>) -> Result<Stmt, Fault>
     ensures { Reads statement (spec.giving max_level tokens.old) result tokens.new }

@@ -16,6 +16,7 @@ use forec_tree::{Branch, Expr, Stmt, Token};
 use sqlite_items::Items;
 use std::alloc::Global;
 
+/// A statement in which others nest no deeper than `depth`.
 #[cycle(stmt)]
 #[tactic(auto, unfolding(crate::specs::Statements::stmt))]
 pub fn stmt(alloc: Global, tokens: &mut Tokens<'_>, depth: usize) -> Result<Stmt, Fault>

@@ -36,6 +36,7 @@ impl<'t> Model for Tokens<'t> {
 }
 
 impl<'t> Tokens<'t> {
+    /// A place before these tokens, at this level.
     pub fn new(rest: &'t [Token], level: u32) -> Tokens<'t>
         ensures { result ≡ spec.input rest.now level }
     {
@@ -69,12 +70,14 @@ impl<'t> Tokens<'t> {
         }
     }
 
+    /// How many tokens are left.
     pub fn left(&self) -> usize
         ensures { result ≡ length self.now.rest }
     {
         self.rest.len()
     }
 
+    /// The level after the last token that was read.
     pub fn level(&self) -> u32
         ensures { result ≡ self.now.level }
     {
@@ -160,6 +163,7 @@ impl<'t> Tokens<'t> {
         }
     }
 
+    /// Takes a name.
     #[tactic(auto, unfolding(crate::specs::Reading::name))]
     pub fn name(&mut self) -> Result<Name, Fault>
         ensures { Reads (λ (n : Name). n) (reading.name self.old) result self.new }
@@ -176,6 +180,7 @@ impl<'t> Tokens<'t> {
         }
     }
 
+    /// Takes a number.
     #[tactic(auto, unfolding(crate::specs::Reading::number))]
     pub fn number(&mut self) -> Result<Number, Fault>
         ensures { Reads (λ (n : Number). n) (reading.number self.old) result self.new }

@@ -15,6 +15,7 @@ use crate::tokens::Tokens;
 use forec_tree::{Program, Token};
 use std::alloc::Global;
 
+/// The program, with the place at which none is read.
 fn read(alloc: Global, tokens: &[Token]) -> Result<Program, Fault>
     ensures { Gives (spec.items max_level (input tokens.now 0)) result }
 {
@@ -23,6 +24,7 @@ fn read(alloc: Global, tokens: &[Token]) -> Result<Program, Fault>
     Ok(Program { items })
 }
 
+/// What the caller is told.
 fn told(fault: Fault) -> ParseFault
     ensures { result ≡ told_of fault }
 {
@@ -33,11 +35,17 @@ fn told(fault: Fault) -> ParseFault
     }
 }
 
-/// The program that the tokens spell within the greatest level, 128.
+/// The program that these tokens spell, all of them in the order of the text.
+///
+/// The level of a program is how deep its brackets, statements and operators nest; 128 is the
+/// greatest that is read, so a stack of one megabyte does. The time is linear in the tokens.
+/// `ParseFault::Unfit` comes exactly where no such program has these tokens, and
+/// `ParseFault::OutOfMemory` where memory ran out.
 pub fn parse(alloc: Global, tokens: &[Token]) -> Result<Program, ParseFault>
     requires { length tokens.now ≤ 200000 }
     ensures found { IfOk result (λ p. IsSpelled max_level (program p) tokens.now) }
     ensures only { (text : Text) → IsSpelled max_level text tokens.now → Answers text result }
+    ensures unfit { result ≡ Err ParseFault.Unfit → (text : Text) → IsSpelled max_level text tokens.now → ⊥ }
 {
     match read(alloc, tokens) {
         Ok(program) => Ok(program),

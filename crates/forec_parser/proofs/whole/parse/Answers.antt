@@ -1,4 +1,5 @@
-use Rattle.std.proofs.Common.{◌∙◌}
+use Rattle.std.proofs.Common.{◌≡◌, ◌∙◌}
+use Rattle.forec_parser.specs.declared.fault.ParseFault.TheVariants.{OutOfMemory}
 use Rattle.forec_parser.proofs.Programs.{found_so, only_so, only_memory}
 use Rattle.forec_parser.proofs.whole.parse.Goals as goal
 
@@ -10,3 +11,11 @@ returns-in-Ok-clause-only c text s = only_so c.args.tokens.now c.in-Ok.program t
 
 pub returns-in-Err-clause-only : goal.returns-in-Err-clause-only
 returns-in-Err-clause-only c text s = c.told.ensures ∙ only_memory c.args.tokens.now c.in-Err.fault text c.in-Err.ensures s
+
+pub returns-in-Ok-clause-unfit : goal.returns-in-Ok-clause-unfit
+returns-in-Ok-clause-unfit c h text s = cc
+
+pub returns-in-Err-clause-unfit : goal.returns-in-Err-clause-unfit
+returns-in-Err-clause-unfit c h text s =
+    let e : c.told.result ≡ OutOfMemory = c.told.ensures ∙ only_memory c.args.tokens.now c.in-Err.fault text c.in-Err.ensures s in
+    cc
