@@ -29,7 +29,9 @@ fn judge_tokens(alloc: Global, tokens: &[Token], names: &Labels) -> Result<Kerne
 {
     match parse(alloc, tokens) {
         Ok(program) => judge_program(alloc, &program, names),
-        Err(ParseFault::Unfit) => Err(JudgeFault::Refused { why: Refusal::Syntax }),
+        Err(ParseFault::Unfit) => Err(JudgeFault::Refused {
+            why: Refusal::Syntax,
+        }),
         Err(ParseFault::OutOfMemory) => Err(JudgeFault::OutOfMemory),
     }
 }

@@ -12,9 +12,7 @@ const COUNTER: &[u8] = b"output int o = 0; void main(void) { while (1) { o = o +
 /// Why the text doesn't run.
 fn why(alloc: Global, text: &[u8]) -> Option<JudgeFault> {
     if text.len() > 1_048_576 {
-        return Some(JudgeFault::Refused {
-            why: Refusal::Long,
-        });
+        return Some(JudgeFault::Refused { why: Refusal::Long });
     }
     judge(alloc, text).err()
 }
@@ -77,12 +75,30 @@ fn programs_of_another_form(rt: HostRuntime) {
 #[test]
 fn the_earliest_cause(rt: HostRuntime) {
     for (text, want) in [
-        (b"output int o = 0; void main(void) { o = ; }".as_slice(), Refusal::Syntax),
+        (
+            b"output int o = 0; void main(void) { o = ; }".as_slice(),
+            Refusal::Syntax,
+        ),
         (b"output int o = 0; void main(void) { ", Refusal::Syntax),
         (b"output int o = 0; void main(void) { } ;", Refusal::Syntax),
-        (b"int int @", Refusal::Lex { place: Place { line: 1, column: 9 } }),
-        (b"int\n/* a", Refusal::Lex { place: Place { line: 2, column: 1 } }),
-        (b"o = 08;", Refusal::Lex { place: Place { line: 1, column: 5 } }),
+        (
+            b"int int @",
+            Refusal::Lex {
+                place: Place { line: 1, column: 9 },
+            },
+        ),
+        (
+            b"int\n/* a",
+            Refusal::Lex {
+                place: Place { line: 2, column: 1 },
+            },
+        ),
+        (
+            b"o = 08;",
+            Refusal::Lex {
+                place: Place { line: 1, column: 5 },
+            },
+        ),
         (b"int o", Refusal::Syntax),
         (b"int o;", Refusal::Form),
     ] {
@@ -125,7 +141,13 @@ fn tokens_before_terms(rt: HostRuntime) -> Result<(), Fail> {
     let most = long_text(rt.alloc(), 33329, 4)?;
     assert_eq!(rt; why(rt.alloc(), most.as_str().as_bytes()), None);
     let more = long_text(rt.alloc(), 33329, 5)?;
-    let place = Place { line: 1, column: 200040 };
-    assert_eq!(rt; why(rt.alloc(), more.as_str().as_bytes()), refused(Refusal::Many { place }));
+    let place = Place {
+        line: 1,
+        column: 200040,
+    };
+    assert_eq!(rt;
+        why(rt.alloc(), more.as_str().as_bytes()),
+        refused(Refusal::Many { place })
+    );
     Ok(())
 }

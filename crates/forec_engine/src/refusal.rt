@@ -20,9 +20,7 @@ pub enum Refusal {
 /// Why no kernel is given.
 #[derive(Clone, Copy, Debug, PartialEq, Eq)]
 pub enum JudgeFault {
-    Refused {
-        why: Refusal,
-    },
+    Refused { why: Refusal },
     /// There is no memory left, or the program has more terms than a kernel holds.
     OutOfMemory,
 }

@@ -76,14 +76,7 @@ mod tests {
         let mut texts = MemTexts::new(files, Vec::new(alloc));
         let mut source = MemSource::pieces(trace.to_vec(alloc)?, streams.read_fails, streams.read);
         let mut sink = MemSink::pieces(alloc, 200_000, streams.write_fails, streams.write)?;
-        let status = forec(
-            alloc,
-            &owned,
-            &mut texts,
-            &mut source,
-            &mut sink,
-            &OpenGate,
-        );
+        let status = forec(alloc, &owned, &mut texts, &mut source, &mut sink, &OpenGate);
         Ok(Ended {
             held: sink.bytes().to_vec(alloc)?,
             status,
@@ -94,15 +87,30 @@ mod tests {
     fn rows(rt: HostRuntime) -> Result<(), Fail> {
         let alloc = rt.alloc();
         for (text, trace, want, status) in [
-            (COUNTER, b"\n\n\n".as_slice(), b"tick 1 o=1\ntick 2 o=2\nrows 2\n".as_slice(), Status::Done),
+            (
+                COUNTER,
+                b"\n\n\n".as_slice(),
+                b"tick 1 o=1\ntick 2 o=2\nrows 2\n".as_slice(),
+                Status::Done,
+            ),
             (COUNTER, b"", b"row 0 bad\n", Status::Trace),
             (COUNTER, b"\n", b"rows 0\n", Status::Done),
             (COUNTER, b"\n \n", b"row 1 bad\n", Status::Trace),
             (COUNTER, b"\n\n ", b"tick 1 o=1\nrow 2 bad\n", Status::Trace),
-            (WRAPS, b"\n\n", b"tick 1 o=-2147483648\nend 1\n", Status::Done),
+            (
+                WRAPS,
+                b"\n\n",
+                b"tick 1 o=-2147483648\nend 1\n",
+                Status::Done,
+            ),
             (HEXADECIMAL, b"\n\n", b"tick 1 o=1\nrows 1\n", Status::Done),
             (b"", b"", b"refused form\n", Status::Refused),
-            (b"output int o = 0; void main(void) { o = ; }", b"", b"refused syntax\n", Status::Refused),
+            (
+                b"output int o = 0; void main(void) { o = ; }",
+                b"",
+                b"refused syntax\n",
+                Status::Refused,
+            ),
             (b"int @", b"", b"refused 1:5 lex\n", Status::Refused),
             (b"/* a", b"", b"refused 1:1 lex\n", Status::Refused),
         ] {
@@ -119,7 +127,8 @@ mod tests {
     #[test]
     fn words(rt: HostRuntime) -> Result<(), Fail> {
         let alloc = rt.alloc();
-        let usage = b"usage: forec run|check|threads|code|explain|gen PROGRAM [--cores N] [--place LIST] [--budget B] [--order N]\n";
+        let usage =
+            b"usage: forec run|check|threads|code|explain|gen PROGRAM [--cores N] [--place LIST] [--budget B] [--order N]\n";
         for words in [
             [].as_slice(),
             ["run"].as_slice(),
@@ -156,8 +165,8 @@ mod tests {
         }
         for (bytes, want) in [
             (8192, b"row 0 bad\n".as_slice()),
-            (8193, b"row 0 long\n"),
-            (65536, b"row 0 long\n"),
+            (8193, b"row 0 bad\n"),
+            (65536, b"row 0 bad\n"),
         ] {
             let trace = vec![in alloc; b' '; bytes]?;
             let end = run(&rt, alloc, &["run", "P"], COUNTER, &trace, whole(alloc))?;
@@ -181,7 +190,14 @@ mod tests {
             (3, 11, b"tick 1 o=1", Status::WriteFault),
             (3, 12, b"tick 1 o=1\n", Status::ReadFault),
         ] {
-            let end = run(&rt, alloc, &["run", "P"], COUNTER, b"\n\n\n", single(alloc, read, write)?)?;
+            let end = run(
+                &rt,
+                alloc,
+                &["run", "P"],
+                COUNTER,
+                b"\n\n\n",
+                single(alloc, read, write)?,
+            )?;
             assert_eq!(rt; end.held.as_slice(), want);
             assert_eq!(rt; end.status, status);
         }

@@ -6,9 +6,7 @@ use forec_base::Place;
 pub enum Operand {
     /// The output's own value.
     Output,
-    Number {
-        value: i32,
-    },
+    Number { value: i32 },
 }
 
 #[derive(Clone, Copy)]
