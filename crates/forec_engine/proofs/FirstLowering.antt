@@ -1,5 +1,5 @@
 -- The kernel of a first program is well formed.
-use Rattle.std.proofs.Common.{◌≡◌, ◌∙◌, ℕ, zero, suc, ◌+◌, ◌<◌, ◌≤◌, ◌==◌, Bool, true, false, ◌&&◌, if◌then◌else◌, Option, None, Some, List, [], ◌∷◌, ◌++◌, length, map, refl, sym, ap, subst, length-append, append-nil, add-zero, nat_le, arith, Vec, Global}
+use Rattle.std.proofs.Common.{◌≡◌, ◌∙◌, ℕ, zero, suc, ◌+◌, ◌<◌, ◌≤◌, ◌==◌, Bool, true, false, if◌then◌else◌, Option, None, Some, List, [], ◌∷◌, ◌++◌, length, map, refl, sym, ap, subst, length-append, append-nil, add-zero, nat_le, arith, Vec, Global}
 use Rattle.std.proofs.lemmas.Bool.Decides.{nat_tests}
 use Rattle.forec_kernel.specs.Terms.{Stmt, Stmts, Seq, more_stmts}
 use Rattle.forec_kernel.specs.Plain.{stmt, stmts}

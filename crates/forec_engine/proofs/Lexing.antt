@@ -1,10 +1,10 @@
 -- A text is lexed, or it is bad somewhere, or it has too many tokens: it can't be that none of these holds.
-use Rattle.std.proofs.Common.{◌≡◌, ℕ, zero, suc, ◌+◌, ◌<◌, ◌≤◌, Bool, true, false, nat_le, ltb-true, ltb-false, nat_lt, Some, List, [], ◌∷◌, ◌++◌, length, take, drop, refl, sym, subst, ap, arith, length-append, length-drop}
+use Rattle.std.proofs.Common.{◌≡◌, ℕ, zero, suc, ◌+◌, ◌<◌, ◌≤◌, Bool, true, false, nat_le, ltb-true, ltb-false, nat_lt, List, [], ◌∷◌, ◌++◌, length, drop, refl, subst, arith, length-append, length-drop}
 use Rattle.std.proofs.lemmas.Bool.Decides.{nat_tests}
 use Rattle.forec_base.specs.declared.Place.{Place}
 use Rattle.forec_tree.specs.declared.token.Token.{Token}
 use Rattle.forec_tree.specs.declared.token.TokenKind.TheVariants as kind
-use Rattle.forec_tree.specs.Lexis.{Piece, blank, name, number, word, mark, Fits, FitsAhead, Next, NothingFits}
+use Rattle.forec_tree.specs.Lexis.{Piece, blank, name, number, word, mark, FitsAhead, Next, NothingFits}
 use Rattle.forec_tree.specs.LexedText.{number_of, names_after, token_at, slice, place_at, Cuts, begins, skips, takes, Lexes, max_tokens, IsLexed, IsBad, IsMany}
 use Rattle.forec_lexer.proofs.FrontLemmas.{some_byte}
 

@@ -1,5 +1,5 @@
 -- Words have one report.
-use Rattle.std.proofs.Common.{◌≡◌, ℕ, ◌<◌, ◌≤◌, List, Option, Some, None, Bool, true, false, nat_lt, length, ltb-true, ltb-false, refl, sym, ap, subst, ◌∙◌, arith}
+use Rattle.std.proofs.Common.{◌≡◌, ℕ, ◌<◌, List, Option, Some, None, length, refl, sym, ap, subst, ◌∙◌}
 use Rattle.std.specs.Option.{IfSome}
 use Rattle.forec_kernel.specs.Shapes.{PlainKernel}
 use Rattle.forec_engine.specs.Commands.{Of_refusal, Of_run, Of_usage, Of_text, TextReport, IsReport, program_of, usage, refused, budget}

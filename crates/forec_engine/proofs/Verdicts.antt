@@ -1,6 +1,5 @@
 -- A text has one verdict, and it can't be that it has none.
-use Rattle.std.proofs.Common.{◌≡◌, Result, Ok, Err, ℕ, ◌<◌, ◌≤◌, Bool, true, false, nat_lt, ltb-true, ltb-false, List, length, refl, sym, ap, subst, ◌∙◌, arith}
-use Rattle.forec_base.specs.declared.Place.{Place}
+use Rattle.std.proofs.Common.{◌≡◌, Result, Ok, Err, ℕ, ◌<◌, ◌≤◌, Bool, true, false, nat_lt, ltb-true, ltb-false, List, length, refl, sym, ap, subst, arith}
 use Rattle.forec_kernel.specs.declared.kernel.Kernel.{Kernel}
 use Rattle.forec_kernel.specs.Shapes.{PlainKernel, plain_kernel}
 use Rattle.forec_tree.specs.declared.token.Token.{Token}
@@ -15,7 +14,6 @@ use Rattle.forec_engine.specs.FirstForm.{First}
 use Rattle.forec_engine.specs.FirstCode.{IsFirstKernel}
 use Rattle.forec_engine.specs.Judging.{most_bytes, most_levels, Verdict, Runs, Refuses, OnProgram, runs, another_form, OnTokens, spelled, unspelled, Judged, too_long, stops, too_many, lexed, Says, lexer_fault}
 use Rattle.forec_engine.specs.Laws.{OneVerdict}
-use Rattle.forec_engine.specs.declared.refusal.Refusal.{Refusal}
 use Rattle.forec_engine.specs.declared.refusal.Refusal.TheVariants as why
 use Rattle.forec_engine.specs.declared.refusal.JudgeFault.{JudgeFault}
 use Rattle.forec_engine.specs.declared.refusal.JudgeFault.TheVariants as fault

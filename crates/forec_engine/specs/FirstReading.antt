@@ -6,9 +6,7 @@ use Rattle.forec_base.specs.Numbers.{int_same}
 use Rattle.forec_base.specs.declared.Place.{Place}
 use Rattle.forec_base.specs.declared.operators.Binary.{Binary}
 use Rattle.forec_base.specs.declared.operators.Binary.TheVariants as binary
-use Rattle.forec_tree.specs.declared.tree.Name.{Name}
 use Rattle.forec_tree.specs.declared.tree.Number.{Number}
-use Rattle.forec_tree.specs.declared.tree.OpAt.{OpAt}
 use Rattle.forec_tree.specs.declared.tree.GlobalKind.{GlobalKind}
 use Rattle.forec_tree.specs.declared.tree.GlobalKind.TheVariants as sort
 use Rattle.forec_tree.specs.Terms as tree

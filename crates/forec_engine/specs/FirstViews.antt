@@ -1,5 +1,5 @@
 -- What was read, as the plain values of a program.
-use Rattle.std.specs.Prelude.{ℕ, Option, Some, None, List, map}
+use Rattle.std.specs.Prelude.{Option, Some, None, List, map}
 use Rattle.std.specs.declared.vec.Vec.{Vec}
 use Rattle.std.specs.declared.alloc.Global.{Global}
 use Rattle.forec_engine.specs.FirstProgram as plain

@@ -1,5 +1,5 @@
 -- What becomes of a text.
-use Rattle.std.specs.Prelude.{◌≡◌, ◌≤◌, ◌<◌, ℕ, List, ◌++◌, length, codes, decimal, Result, Ok, Err}
+use Rattle.std.specs.Prelude.{◌≤◌, ◌<◌, ℕ, List, ◌++◌, length, codes, decimal, Result, Ok, Err}
 use Rattle.forec_base.specs.declared.Place.{Place}
 use Rattle.forec_kernel.specs.declared.kernel.Kernel.{Kernel}
 use Rattle.forec_kernel.specs.Shapes.{PlainKernel, plain_kernel}

@@ -1,6 +1,6 @@
 -- What holds of all reports.
 use Rattle.std.specs.Prelude.{◌≡◌, ℕ, List, Option, Some}
-use Rattle.forec_engine.specs.Commands.{program_of, IsReport}
+use Rattle.forec_engine.specs.Commands.{IsReport}
 use Rattle.forec_engine.specs.Judging.{Verdict, Judged}
 use Rattle.forec_engine.specs.Report.{Report}
 

@@ -1,6 +1,5 @@
 -- How far a trace was taken.
 use Rattle.std.specs.Prelude.{◌≡◌, ℕ, Bool, false, List, [], ◌∷◌, ◌++◌, Option, Some, Ok, Err}
-use Rattle.std.specs.Io.KnownBytes.{Appends}
 use Rattle.forec_kernel.specs.Shapes.{PlainKernel}
 use Rattle.forec_kernel.specs.Ticks.{Fresh}
 use Rattle.forec_engine.specs.Lines.{lines_of, whole_lines}

@@ -1,6 +1,6 @@
 -- The rows of a trace, of its lines. The first line is the header. A program without inputs has a header and rows
 -- without bytes.
-use Rattle.std.specs.Prelude.{ℕ, ◌+◌, List, [], ◌∷◌, ℤ, Option, Some, None, Result, Ok, Err, nat_lt, length, if◌then◌else◌}
+use Rattle.std.specs.Prelude.{ℕ, ◌+◌, List, [], ◌∷◌, ℤ, Option, Some, None, Result, Ok, Err, nat_lt, if◌then◌else◌}
 use Rattle.forec_engine.specs.declared.found.RowFault.{RowFault}
 use Rattle.forec_engine.specs.declared.found.RowFault.TheVariants as fault
 

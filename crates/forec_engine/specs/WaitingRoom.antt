@@ -1,5 +1,5 @@
 -- Room for lines that wait.
-use Rattle.std.specs.Prelude.{◌≡◌, ◌+◌, ◌≤◌, ◌++◌, ℕ, List, length, vec_len, vec_capacity}
+use Rattle.std.specs.Prelude.{◌≡◌, ◌+◌, ◌≤◌, ◌++◌, ℕ, List, vec_len, vec_capacity}
 use Rattle.forec_engine.specs.declared.waiting.Waiting.{Waiting}
 
 -- so many bytes more fit

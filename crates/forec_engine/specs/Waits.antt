@@ -1,5 +1,5 @@
 -- What was read and isn't taken yet, and whether a whole line stands there.
-use Rattle.std.specs.Prelude.{ℕ, Bool, List}
+use Rattle.std.specs.Prelude.{ℕ, List}
 use Rattle.std.specs.List.{slice_range}
 use Rattle.forec_engine.specs.declared.lines.Lines.{Lines}
 

@@ -1,4 +1,4 @@
-use Rattle.std.proofs.Common.{◌≡◌, ◌⊎◌, inl, inr}
+use Rattle.std.proofs.Common.{inl, inr}
 use Rattle.forec_engine.proofs.Endings.{neither_fault}
 use Rattle.forec_engine.proofs.command.forec.Goals as goal
 

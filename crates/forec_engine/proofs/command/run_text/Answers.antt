@@ -1,8 +1,6 @@
-use Rattle.std.proofs.Common.{◌≡◌, Option, List, ℕ, subst, refl}
 use Rattle.forec_kernel.specs.Shapes.{plain_kernel}
 use Rattle.forec_engine.specs.Calls.{AppendsFront}
 use Rattle.forec_engine.specs.Ends.{Given}
-use Rattle.forec_engine.specs.Report.{Report}
 use Rattle.forec_engine.proofs.Reports.{text_runs, text_refused}
 use Rattle.forec_engine.proofs.Verdicts.{runs_first}
 use Rattle.forec_engine.proofs.command.run_text.Goals as goal

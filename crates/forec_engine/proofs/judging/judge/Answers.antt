@@ -1,4 +1,4 @@
-use Rattle.std.proofs.Common.{◌≡◌, refl, subst, List}
+use Rattle.std.proofs.Common.{subst, List}
 use Rattle.forec_tree.specs.declared.token.Token.{Token}
 use Rattle.forec_engine.specs.Judging.{OnTokens, Judged, Says, lexed}
 use Rattle.forec_engine.proofs.Verdicts.{says_too, told}

@@ -1,6 +1,6 @@
 use Rattle.std.proofs.Common.{List, ℕ, refl}
 use Rattle.forec_kernel.specs.Shapes.{plain_kernel}
-use Rattle.forec_engine.specs.Report.{Report, trace_report}
+use Rattle.forec_engine.specs.Report.{trace_report}
 use Rattle.forec_engine.specs.ReportLines.{row_line}
 use Rattle.forec_engine.specs.Waits.{waits}
 use Rattle.forec_engine.specs.declared.found.RowFault.TheVariants as fault

@@ -1,4 +1,4 @@
-use Rattle.std.proofs.Common.{◌≡◌, ◌≤◌, ◌+◌, ◌-◌, ◌∷◌, List, ℕ, [], length, true}
+use Rattle.std.proofs.Common.{◌≡◌, ◌≤◌, ◌-◌, true}
 use Rattle.std.specs.Io.KnownBytes.{IsAtEnd}
 use Rattle.forec_kernel.specs.Shapes.{plain_kernel}
 use Rattle.forec_engine.specs.Machine.{Follows}

@@ -1,4 +1,4 @@
-use Rattle.std.proofs.Common.{◌≡◌, ◌∙◌, [], ap, sym, subst}
+use Rattle.std.proofs.Common.{◌∙◌, [], ap, sym, subst}
 use Rattle.forec_tree.specs.Plain.{statement_at, statements}
 use Rattle.forec_tree.proofs.Rows.{statement-group}
 use Rattle.forec_engine.specs.FirstReading.{Reads, group_of, actions_from}

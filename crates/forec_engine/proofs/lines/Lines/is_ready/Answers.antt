@@ -1,5 +1,4 @@
-use Rattle.std.proofs.Common.{◌≡◌, Bool, true, false, ℕ, List, ◌∷◌, ◌++◌, Option, Some, None, IsTrue, IfSome, ap, sym, subst, ◌∙◌, length, ◌<◌, ◌+◌, take, drop}
-use Rattle.std.specs.Option.{is_some}
+use Rattle.std.proofs.Common.{ℕ, List, IsTrue, sym, subst}
 use Rattle.std.specs.List.{slice_range}
 use Rattle.forec_engine.specs.Calls.{NoNewline}
 use Rattle.forec_engine.proofs.Ranges.{some_line}
