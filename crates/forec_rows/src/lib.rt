@@ -137,24 +137,9 @@ mod tests {
     #[test]
     fn words(rt: HostRuntime) -> Result<(), Fail> {
         let alloc = rt.alloc();
-<<<<<<< HEAD
         shows_usage(&rt, alloc, &["run"])?;
         shows_usage(&rt, alloc, &["ran", "P"])?;
         shows_usage(&rt, alloc, &["run", "P", "P"])?;
-=======
-        let usage =
-            b"usage: forec run|check|threads|code|explain|gen PROGRAM [--cores N] [--place LIST] [--budget B] [--order N]\n";
-        for words in [
-            [].as_slice(),
-            ["run"].as_slice(),
-            ["ran", "P"].as_slice(),
-            ["run", "P", "P"].as_slice(),
-        ] {
-            let end = run(&rt, alloc, words, COUNTER, b"\n\n", whole(alloc))?;
-            assert_eq!(rt; end.held.as_slice(), usage.as_slice());
-            assert_eq!(rt; end.status, Status::Usage);
-        }
->>>>>>> h_engine2
         let end = run(&rt, alloc, &["run", "Q"], COUNTER, b"\n\n", whole(alloc))?;
         assert_eq!(rt; end.held.as_slice(), b"".as_slice());
         assert_eq!(rt; end.status, Status::ReadFault);
