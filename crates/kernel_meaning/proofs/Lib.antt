@@ -1,0 +1,6 @@
+pub mod Copies
+pub mod Words
+pub mod Metering
+pub mod Falls
+pub mod Tests
+pub mod Onward

@@ -1,0 +1,7 @@
+//! The meaning of kernels, by rewriting.
+#![tactic(auto)]
+
+mod evaluation;
+mod functions;
+mod meter;
+mod operators;
