@@ -1,4 +1,6 @@
 pub mod Copies
+pub mod Lists
+pub mod Pushes
 pub mod Words
 pub mod Metering
 pub mod Falls

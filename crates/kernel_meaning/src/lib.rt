@@ -1,7 +1,11 @@
 //! The meaning of kernels, by rewriting.
 #![tactic(auto)]
 
+mod children;
+mod duplication;
 mod evaluation;
 mod functions;
 mod meter;
+mod moving;
 mod operators;
+mod texts;
