@@ -1,4 +1,5 @@
 pub mod Copies
+pub mod Puts
 pub mod Lists
 pub mod Pushes
 pub mod Words
