@@ -4,8 +4,10 @@
 mod children;
 mod duplication;
 mod evaluation;
+mod forks;
 mod functions;
 mod meter;
 mod moving;
 mod operators;
+mod statements;
 mod texts;
