@@ -1,4 +1,5 @@
 pub mod Copies
+pub mod Kernels
 pub mod Puts
 pub mod Lists
 pub mod Pushes
@@ -7,3 +8,6 @@ pub mod Metering
 pub mod Falls
 pub mod Tests
 pub mod Onward
+pub mod Arguments
+pub mod Stepping
+pub mod Loops

@@ -1,8 +1,9 @@
 // One step of a statement, and of a loop in progress.
 
-ghost use Rattle.std.specs.Prelude.{◌≡◌, ◌<◌, ◌+◌, ℕ, ℤ, IfOk, map};
+ghost use Rattle.std.specs.Prelude.{◌≡◌, ◌<◌, ◌+◌, ℕ, ℤ, IfOk, map, true};
 ghost use Rattle.forec_kernel.specs.Shapes.{PlainKernel, plain_kernel};
 ghost use Rattle.forec_kernel.specs.Plain.{expr, exprs, stmt, branch};
+ghost use Rattle.forec_kernel.specs.Terms as terms;
 ghost use Rattle.forec_kernel.specs.Texts as plain;
 ghost use Rattle.forec_kernel.specs.Texts.{text_of, handed_down, uses_of};
 ghost use Rattle.forec_kernel.specs.Values.{vals, setting};
@@ -17,7 +18,7 @@ use crate::forks::{fork_text, start_children};
 use crate::meter::{Halt, pay, tested};
 use crate::moving::{Step, after_assign, after_assign_at, clear_step, moved};
 use crate::texts::{After, Loop, Text, start_list, start_text};
-use forec_base::Trap;
+use forec_base::{Place, Trap};
 use forec_kernel::{Expression, KernelParts, Launch, Statement, VarCopy};
 use std::alloc::{AllocError, Global};
 
@@ -108,7 +109,7 @@ fn loop_text(
     test: &Expression,
     bound: Option<u32>,
     body: &Statement,
-    place: forec_base::Place,
+    place: Place,
 ) -> Result<Text, AllocError>
     ensures { IfOk result (λ x. text x ≡ plain.Turning (record { test = expr test.now; bound = bound; left = bound; body = stmt body.now; place = place })) }
 {
@@ -196,7 +197,7 @@ fn enter_step(
 ) -> Result<Step, Halt>
     ensures { IsMoved left.old left.new result
         (statement_move (record { kernel = plain_kernel kernel.now; uses = uses.now }) words.now copies.now
-            (Rattle.forec_kernel.specs.Terms.Enter weak Rattle.std.specs.Prelude.true (expr test.now) (stmt body.now))) }
+            (terms.Enter weak true (expr test.now) (stmt body.now))) }
 {
     let part = number_of(alloc, kernel, uses, words, copies, test, left);
     match tested(part, left) {
@@ -224,7 +225,7 @@ fn par_step(
 ) -> Result<Step, Halt>
     ensures { IsMoved left.old left.new result
         (statement_move (record { kernel = plain_kernel kernel.now; uses = uses.now }) words.now copies.now
-            (Rattle.forec_kernel.specs.Terms.Par (map branch branches.now))) }
+            (terms.Par (map branch branches.now))) }
 {
     match arguments_of(alloc, kernel, uses, words, copies, branches, left) {
         Ok(arguments) => match pay(1, left) {
