@@ -94,3 +94,10 @@ lists_same old now ns whole a b s e = record { units = s.units; is = s.is ∙ ap
 pub launches_next : (s : Setting) (e : Sight) (xs : List Launch) (i : ℕ) (x : Launch) → i < length xs → x ≡ get_or xs i x →
     arguments s e (map branch (drop i xs)) ≡ arguments_then (vals s e (exprs x.args.items)) (arguments s e (map branch (drop (i + 1) xs)))
 launches_next s e xs i x h read = ap (λ l. arguments s e (map branch l)) (drop_next xs i x h read)
+
+pub items_push : (ls all : List (Vec ℤ Global)) (l : Vec ℤ Global) → all ≡ ls ++ l ∷ [] → map (λ v. v.items) all ≡ map (λ v. v.items) ls ++ l.items ∷ []
+items_push ls all l e = ap (map (λ v. v.items)) e ∙ push ls
+  where
+    push : (ls : List (Vec ℤ Global)) → map (λ v. v.items) (ls ++ l ∷ []) ≡ map (λ v. v.items) ls ++ l.items ∷ []
+    push [] = refl
+    push (x ∷ xs) = ap (λ r. x.items ∷ r) (push xs)

@@ -10,4 +10,5 @@ pub mod Tests
 pub mod Onward
 pub mod Arguments
 pub mod Stepping
+pub mod Forking
 pub mod Loops
