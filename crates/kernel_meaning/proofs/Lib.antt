@@ -11,4 +11,9 @@ pub mod Onward
 pub mod Arguments
 pub mod Stepping
 pub mod Forking
+pub mod Awaking
 pub mod Loops
+pub mod Running
+pub mod Rows
+pub mod Transposed
+pub mod FoldLists

@@ -10,6 +10,7 @@ ghost use Rattle.kernel_meaning.specs.Views.{text, threads};
 ghost use Rattle.kernel_meaning.specs.Moving.{IsMoved, AreJoined};
 
 use crate::children::{all_done, leftmost_trap, without_ended};
+use crate::folds::{begin_folds, end_folds, fold_children};
 use crate::meter::Halt;
 use crate::moving::Step;
 use crate::texts::{Children, Text};
@@ -18,18 +19,22 @@ use std::alloc::{AllocError, Global};
 
 // The parent's copies, with those of the children combined.
 fn join_copies(
-    _alloc: Global,
-    _kernel: &KernelParts,
-    _uses: &[u32],
-    _copies: &[VarCopy],
-    _children: &Children,
-    _left: &mut u64,
+    alloc: Global,
+    kernel: &KernelParts,
+    uses: &[u32],
+    copies: &[VarCopy],
+    children: &Children,
+    left: &mut u64,
 ) -> Result<Vec<VarCopy>, Halt>
-    ensures { AreJoined _left.old _left.new result
-        (joined_copies (plain_kernel _kernel.now) (threads _children.now) _uses.now _copies.now)
-        (join_cost (plain_kernel _kernel.now) (threads _children.now) _uses.now _copies.now) }
+    ensures { AreJoined left.old left.new result
+        (joined_copies (plain_kernel kernel.now) (threads children.now) uses.now copies.now)
+        (join_cost (plain_kernel kernel.now) (threads children.now) uses.now copies.now) }
 {
-    Err(Halt::OutOfMemory)
+    let folds = begin_folds(alloc, uses, copies)?;
+    match fold_children(alloc, kernel, children, folds, left) {
+        Ok(folds) => Ok(end_folds(alloc, kernel, children, uses, copies, &folds)?),
+        Err(halt) => Err(halt),
+    }
 }
 
 // What is left of a fork whose copies are combined.

@@ -15,17 +15,27 @@ pub(crate) fn word_at(words: &[i32], slot: usize) -> i32
     if slot < words.len() { words[slot] } else { 0 }
 }
 
-pub(crate) fn copy_value(uses: &[u32], copies: &[VarCopy], variable: u32) -> i32
-    ensures { result ≡ (copy_of uses.now copies.now variable).value }
+// A thread's copy of a variable.
+pub(crate) fn copy_in(uses: &[u32], copies: &[VarCopy], variable: u32) -> VarCopy
+    ensures { result ≡ copy_of uses.now copies.now variable }
 {
     let mut i = 0;
     while i < uses.len() && i < copies.len() {
         if uses[i] == variable {
-            return copies[i].value;
+            return copies[i];
         }
         i += 1;
     }
-    0
+    VarCopy {
+        value: 0,
+        modified: false,
+    }
+}
+
+pub(crate) fn copy_value(uses: &[u32], copies: &[VarCopy], variable: u32) -> i32
+    ensures { result ≡ (copy_of uses.now copies.now variable).value }
+{
+    copy_in(uses, copies, variable).value
 }
 
 pub(crate) fn table_at(tables: &[Vec<i32>], table: u32) -> &[i32]

@@ -202,7 +202,7 @@ fn child_after(
 }
 
 // A child in front of others that have stepped.
-fn child_before(
+pub(crate) fn child_before(
     alloc: Global,
     number: u32,
     from: &Text,
