@@ -89,12 +89,22 @@ then_goes k first main start old new r before g = record { on = λ budget from a
 abbrev pub size_of : Thread → ℕ
 size_of t = text_size t.text + cond (is_running t.status) 1 0
 
+less : (a : ℕ) (running : Bool) → running ≡ true → a + 0 < a + cond running 1 0
+less a true e = omega arith
+less a false e = cc
+
+pub outer_falls : (new old : ℕ) (before after : Bool) → before ≡ true → new ≤ old → (after ≡ true → new < old) →
+    2 * new + cond after 1 0 < 2 * old + cond before 1 0
+outer_falls new old true true e l h = let s = h refl in omega arith
+outer_falls new old true false e l h = omega arith
+outer_falls new old false after e l h = cc
+
 falls_main : (t : Thread) (m : Move) → is_running t.status ≡ true → Falls (text_size t.text) m → units_of m ≡ 0 → size_of (thread_after t m) < size_of t
-falls_main t Finished r f z = let one : cond (is_running t.status) 1 0 ≡ 1 = ap (λ b. cond b 1 0) r in omega arith
-falls_main t Halts r f z = let one : cond (is_running t.status) 1 0 ≡ 1 = ap (λ b. cond b 1 0) r in omega arith
+falls_main t Finished r f z = less (text_size t.text) (is_running t.status) r
+falls_main t Halts r f z = less (text_size t.text) (is_running t.status) r
 falls_main t (Moves R words copies u) r (inl h) z = absurd (omega arith)
 falls_main t (Moves R words copies u) r (inr h) z = omega arith
-falls_main t (Traps place trap u) r f z = let one : cond (is_running t.status) 1 0 ≡ 1 = ap (λ b. cond b 1 0) r in omega arith
+falls_main t (Traps place trap u) r f z = less (text_size t.text) (is_running t.status) r
 
 pub free_falls : (k : PlainKernel) (main m : Main) (old new : ℕ) → is_running (standing main.status) ≡ true → Advances k main old new (Ok m) → new ≡ old →
     size_of (main_thread m) < size_of (main_thread main)

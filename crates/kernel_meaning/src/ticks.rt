@@ -1,6 +1,6 @@
 // Ticks.
 
-ghost use Rattle.std.specs.Prelude.{◌≡◌, ◌<◌, ◌+◌, ◌≤◌, ℕ, ℤ, Bool, cond, true, false, length, List, IfOk, OnErr};
+ghost use Rattle.std.specs.Prelude.{◌≡◌, ◌<◌, ◌+◌, ◌≤◌, ℕ, ℤ, Bool, cond, true, false, length, List, get_or, pos, IfOk, OnErr};
 ghost use Rattle.forec_kernel.specs.Shapes.{PlainKernel, plain_kernel};
 ghost use Rattle.forec_kernel.specs.Texts as plain;
 ghost use Rattle.forec_kernel.specs.Texts.{uses_of, is_running};
@@ -64,16 +64,22 @@ fn duplicate_state(alloc: Global, state: &State) -> Result<State, AllocError>
     }
 }
 
+fn start_copy(variable: &Variable) -> VarCopy
+    ensures { result ≡ record { value = variable.now.start; modified = false } }
+{
+    VarCopy {
+        value: variable.start,
+        modified: false,
+    }
+}
+
 // The variables' values at the start of a program.
 fn first_copies(alloc: Global, variables: &[Variable]) -> Result<Vec<VarCopy>, AllocError>
     ensures { IfOk result (λ v. v.items ≡ start_copies variables.now) }
 {
     let mut list = Vec::new(alloc);
     for variable in variables {
-        list.push(VarCopy {
-            value: variable.start,
-            modified: false,
-        })?;
+        list.push(start_copy(variable))?;
     }
     Ok(list)
 }
@@ -91,17 +97,24 @@ fn without_marks(alloc: Global, copies: &[VarCopy]) -> Result<Vec<VarCopy>, Allo
     Ok(list)
 }
 
+// An input's copy for a row.
+fn input_at(row: &[i32], at: usize) -> VarCopy
+    requires { at < length row.now }
+    ensures { result ≡ record { value = get_or row.now at (pos 0); modified = false } }
+{
+    VarCopy {
+        value: row[at],
+        modified: false,
+    }
+}
+
 // The inputs get the values of the row.
 fn take_row(uses: &[u32], inputs: &[u32], row: &[i32], copies: &mut Vec<VarCopy>)
     ensures { copies.new.items ≡ with_row uses.now inputs.now row.now copies.old.items }
 {
     let count = inputs.len().min(row.len());
     for i in 0..count {
-        let copy = VarCopy {
-            value: row[i],
-            modified: false,
-        };
-        set_copy(uses, copies, inputs[i], copy);
+        set_copy(uses, copies, inputs[i], input_at(row, i));
     }
 }
 
@@ -232,7 +245,7 @@ fn run_free(
     ensures paid { IfOk result (λ m. (left.new ≤ left.old) × (is_running (standing m.status) ≡ true → left.new < left.old)) }
 {
     let before = *left;
-    while runs(main.status) {
+    'free: while runs(main.status) {
         let place = *at;
         *at = place.saturating_add(1);
         match advance(alloc, kernel, order, place, main, left) {
@@ -260,7 +273,7 @@ fn run_tick(
     ensures stopped { IfOk result (λ m. is_running (standing m.status) ≡ false) }
 {
     let mut at = 0;
-    while runs(main.status) {
+    'steps: while runs(main.status) {
         match run_free(alloc, kernel, order, &mut at, main, left) {
             Ok(next) => main = next,
             Err(halt) => return Err(halt),

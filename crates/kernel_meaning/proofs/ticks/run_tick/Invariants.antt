@@ -6,10 +6,10 @@ use Rattle.kernel_meaning.specs.States.{main_thread, Along}
 use Rattle.kernel_meaning.specs.Views.{standing}
 use Rattle.kernel_meaning.proofs.ticks.run_tick.Given as goal
 
-abbrev pub invariant-loop-main : goal.invariant-loop-main
-invariant-loop-main l =
+abbrev pub invariant-steps : goal.invariant-steps
+invariant-steps l =
     (budget : ℕ) (from : Going) → Along (plain_kernel l.kernel) budget from (main_thread l.initial.main) l.initial.left →
     Along (plain_kernel l.kernel) budget from (main_thread l.main) l.left
 
-abbrev pub decreases-loop-main : goal.decreases-loop-main
-decreases-loop-main l = 2 * l.left + cond (is_running (standing l.main.status)) 1 0
+abbrev pub decreases-steps : goal.decreases-steps
+decreases-steps l = 2 * l.left + cond (is_running (standing l.main.status)) 1 0
