@@ -331,6 +331,22 @@ fn write_outputs(uses: &[u32], copies: &[VarCopy], variables: &[u32], outputs: &
     }
 }
 
+// How a tick ended; its outputs are written where the program goes on or has ended.
+fn tell(kernel: &KernelParts, main: &Main, outputs: &mut [i32]) -> Outcome
+    requires { length outputs.old ≡ length kernel.now.shape.outputs.items }
+    ensures outcome { result ≡ outcome_of (standing main.now.status) }
+    ensures outputs { outputs.new ≡ cond (is_told (outcome_of (standing main.now.status)))
+        (values_of (uses_of (plain_kernel kernel.now) 0) main.now.copies.items kernel.now.shape.outputs.items) outputs.old }
+{
+    let outcome = outcome(main.status);
+    if tells(outcome) {
+        let list = kernel.shape.outputs.as_slice();
+        write_outputs(thread_uses(kernel, 0), &main.copies, list, outputs);
+        return outcome;
+    }
+    outcome
+}
+
 impl State {
     /// The state before the first tick: nothing has run.
     pub fn first(_alloc: Global, _kernel: &Kernel) -> Result<State, OutOfMemory>
@@ -363,15 +379,7 @@ pub fn rewrite_tick(
     match tick_of(alloc, parts, state, row, order, budget)? {
         None => Ok((Outcome::Over, duplicate_state(alloc, state)?)),
         Some(main) => {
-            let outcome = outcome(main.status);
-            if tells(outcome) {
-                write_outputs(
-                    thread_uses(parts, 0),
-                    &main.copies,
-                    &parts.shape.outputs,
-                    outputs,
-                );
-            }
+            let outcome = tell(parts, &main, outputs);
             Ok((outcome, State { main: Some(main) }))
         }
     }
