@@ -48,7 +48,7 @@ lists_more old mid new ns more whole rest v x s m e =
     record {
       units = s.units + m.by.units;
       is = s.is ∙ ap (λ y. after_lists ns s.units (arguments_then y rest)) m.by.is ∙ lists_after ns s.units m.by.units x.items rest
-      ∙ ap (λ l. after_lists l (s.units + m.by.units) rest) (sym e);
+          ∙ ap (λ l. after_lists l (s.units + m.by.units) rest) (sym e);
       left = let a = s.left in let b = m.by.left in omega arith;
     }
 

@@ -44,7 +44,7 @@ folds_more e old mid new ns more whole rest v x s m is =
     record {
       units = s.units + m.by.units;
       is = s.is ∙ ap (λ y. after_folds ns s.units (fold_then e y rest)) m.by.is ∙ folds_after ns s.units m.by.units (record e { total = x }) rest
-      ∙ ap (λ l. after_folds l (s.units + m.by.units) rest) (sym is);
+          ∙ ap (λ l. after_folds l (s.units + m.by.units) rest) (sym is);
       left = let a = s.left in let b = m.by.left in omega arith;
     }
 

@@ -74,7 +74,7 @@ numbers_more old mid new ns more whole rest v x s m e =
     record {
       units = s.units + m.by.units;
       is = s.is ∙ ap (λ y. after_numbers ns s.units (first_then y rest)) m.by.is ∙ after_more ns s.units m.by.units x rest
-      ∙ ap (λ l. after_numbers l (s.units + m.by.units) rest) (sym e);
+          ∙ ap (λ l. after_numbers l (s.units + m.by.units) rest) (sym e);
       left = let a = s.left in let b = m.by.left in omega arith;
     }
 

@@ -61,7 +61,7 @@ advanced k main path old new (Ok m) run h budget from a =
       order = a.order ++ path ∷ [];
       units = a.units + units_of (thread_move k path (main_thread main));
       is = along_next k budget from (main_thread main) old path run a
-      ∙ ap (λ t. record { thread = t; units = a.units + units_of (thread_move k path (main_thread main)) }) (sym h.by.0);
+          ∙ ap (λ t. record { thread = t; units = a.units + units_of (thread_move k path (main_thread main)) }) (sym h.by.0);
       left = omega arith;
     }
 advanced k main path old new (Err (Trapped place trap)) run h budget from a = h.by

@@ -174,12 +174,13 @@ module _ (k : PlainKernel) (j : ℕ) (rest : Threads) where
   entry_called e total f (Gives n u) is =
       let quiet : calls_from j (fold_calls f n (later e)) ≡ [] =
       fold_quiet f n (suc j) j (later e) (part_from k (suc j) e rest) (omega arith) in
-      let sum : u + 0 ≡ u = omega arith in
-      (ap (λ b. cost_of (cond b (Gives n u ∷ calls_from j (fold_calls f n (later e))) (calls_from j (fold_calls f n (later e))))) (itself j)
-        ∙ ap (λ l. cost_of (Gives n u ∷ l)) quiet ∙ ap Costs sum,
+      let sum : u + 0 ≡ u = omega arith in (
+        ap (λ b. cost_of (cond b (Gives n u ∷ calls_from j (fold_calls f n (later e))) (calls_from j (fold_calls f n (later e))))) (itself j)
+            ∙ ap (λ l. cost_of (Gives n u ∷ l)) quiet ∙ ap Costs sum,
         λ i lt. ap (λ b. cond b (Gives n u ∷ calls_from i (fold_calls f n (later e))) (calls_from i (fold_calls f n (later e)))) (differs i lt)
-        ∙ ap (λ g. calls_from i (rest_from g n (later e))) (sym is),
-        ap (λ g. Some (last_value n (rest_from g n (later e)))) (sym is))
+            ∙ ap (λ g. calls_from i (rest_from g n (later e))) (sym is),
+        ap (λ g. Some (last_value n (rest_from g n (later e)))) (sym is),
+      )
     where
       differs : (i : ℕ) → j < i → (j == i) ≡ false
       differs i lt = grind (arith, nat_tests)
@@ -188,10 +189,11 @@ module _ (k : PlainKernel) (j : ℕ) (rest : Threads) where
 
   entry_in : (e : Fold) (x : VarCopy) (f : Option (ℤ → ℤ → Value)) (total : Option ℤ) → function_of k e ≡ f →
       EntryOk e (rest_calls f total (record { from = j; copy = x } ∷ later e)) (rest_total f total (record { from = j; copy = x } ∷ later e)) (added f total x.value)
-  entry_in e x f None is =
-      (ap (λ g. cost_of (calls_from j (rest_from g x.value (later e)))) (sym is) ∙ quiet_now e (Some x.value),
-        λ i lt. ap (λ g. calls_from i (rest_from g x.value (later e))) (sym is),
-        ap (λ g. Some (last_value x.value (rest_from g x.value (later e)))) (sym is))
+  entry_in e x f None is = (
+    ap (λ g. cost_of (calls_from j (rest_from g x.value (later e)))) (sym is) ∙ quiet_now e (Some x.value),
+    λ i lt. ap (λ g. calls_from i (rest_from g x.value (later e))) (sym is),
+    ap (λ g. Some (last_value x.value (rest_from g x.value (later e)))) (sym is),
+  )
   entry_in e x None (Some total) is =
       (refl, λ i lt. ap (λ g. calls_from i (rest_from g total (later e))) (sym is), ap (λ g. Some (last_value total (rest_from g total (later e)))) (sym is))
   entry_in e x (Some f) (Some total) is = entry_called e total f (f total x.value) is
@@ -239,10 +241,11 @@ module _ (k : PlainKernel) (j : ℕ) (rest : Threads) where
 
   more_entry : (e : Fold) (row : List Joint) (end : Option ℤ) (all : List (List Joint)) (ends : List Fold) (a : Added) (fs : Folds) →
       EntryOk e row end a → BranchOk all ends fs → BranchOk (row ∷ all) (record e { total = end } ∷ ends) (fold_then e a fs)
-  more_entry e row end all ends (Comes total u) (Come es w) h b =
-      (cost_append (calls_from j row) (calls_at j all) ∙ ap (λ x. cost_then x (cost_of (calls_at j all))) h.0 ∙ ap (more_cost u) b.0,
-        λ i lt. ap (λ l. l ++ calls_at i all) (h.1 i lt) ∙ ap (λ l. calls_from i (rest_calls (function_of k e) total (later e)) ++ l) (b.1 i lt),
-        ap (λ x. record e { total = x } ∷ ends) h.2 ∙ ap (λ l. record e { total = rest_total (function_of k e) total (later e) } ∷ l) b.2)
+  more_entry e row end all ends (Comes total u) (Come es w) h b = (
+    cost_append (calls_from j row) (calls_at j all) ∙ ap (λ x. cost_then x (cost_of (calls_at j all))) h.0 ∙ ap (more_cost u) b.0,
+    λ i lt. ap (λ l. l ++ calls_at i all) (h.1 i lt) ∙ ap (λ l. calls_from i (rest_calls (function_of k e) total (later e)) ++ l) (b.1 i lt),
+    ap (λ x. record e { total = x } ∷ ends) h.2 ∙ ap (λ l. record e { total = rest_total (function_of k e) total (later e) } ∷ l) b.2,
+  )
   more_entry e row end all ends (Comes total u) (Stop place trap w) h b =
       cost_append (calls_from j row) (calls_at j all) ∙ ap (λ x. cost_then x (cost_of (calls_at j all))) h.0 ∙ ap (more_cost u) b
   more_entry e row end all ends (Stays place trap u) fs h b =
@@ -304,9 +307,11 @@ done_skip : (k : PlainKernel) (j t : ℕ) (R : Text) (w : List ℤ) (c : List Va
     done k j es (child t R w c st rest) ≡ done k (suc j) es rest
 done_skip k j t R w c st rest [] e = refl
 done_skip k j t R w c st rest (x ∷ es) e =
-    ap (λ a. record x { total = rest_total (function_of k x) x.total (taking_part (variable_of k x.variable).policy x.base
-    (cond (a && contains x.variable (uses_of k t)) (record { from = j; copy = copy_of (uses_of k t) c x.variable } ∷ shares k x.variable (suc j) rest)
-    (shares k x.variable (suc j) rest))) } ∷ done k j es (child t R w c st rest)) e
+    ap (λ a. record x {
+      total = rest_total (function_of k x) x.total (taking_part (variable_of k x.variable).policy x.base
+          (cond (a && contains x.variable (uses_of k t)) (record { from = j; copy = copy_of (uses_of k t) c x.variable } ∷ shares k x.variable (suc j) rest)
+          (shares k x.variable (suc j) rest)));
+    } ∷ done k j es (child t R w c st rest)) e
     ∙ ap (λ l. record x { total = rest_total (function_of k x) x.total (part k (suc j) x rest) } ∷ l) (done_skip k j t R w c st rest es e)
 
 pub transposed : (k : PlainKernel) (cs : Threads) (j : ℕ) (es : List Fold) →
@@ -332,7 +337,7 @@ transposed k (child t R w c st rest) j es = pick (is_active st) refl (λ x. tran
         let skipped = rows_skip k j t R w c st rest es e in
         let quiet : calls_at j (rows k j es (child t R w c st rest)) ≡ [] = ap (calls_at j) skipped ∙ rows_quiet k (suc j) j es rest (omega arith) in
         let cost : cost_of (calls_at j (rows k j es (child t R w c st rest)) ++ in_order (suc j) (count_threads rest) (rows k j es (child t R w c st rest)))
-          ≡ cost_of (in_order (suc j) (count_threads rest) (rows k (suc j) es rest)) =
+        ≡ cost_of (in_order (suc j) (count_threads rest) (rows k (suc j) es rest)) =
         ap (λ l. cost_of (l ++ in_order (suc j) (count_threads rest) (rows k j es (child t R w c st rest)))) quiet
         ∙ ap (λ l. cost_of (in_order (suc j) (count_threads rest) l)) skipped in
         subst (λ x. Matches (all_folds k rest es) x (done k j es (child t R w c st rest))) (sym cost)
@@ -381,9 +386,10 @@ join_gives k cs uses copies =
 
     at : (fs : Folds) → Matches fs (cost_of (in_order 0 (count_threads cs) (rows k 0 (first_folds uses copies) cs))) (done k 0 (first_folds uses copies) cs) →
         JoinGives k cs uses copies fs
-    at (Come es u) m =
-        (ap (λ l. cost_of (in_order 0 (count_threads cs) l)) (rows_are k cs uses copies) ∙ m.0,
-          copies_are k cs uses copies ∙ ap (folded_copies k cs uses copies) (sym m.1))
+    at (Come es u) m = (
+      ap (λ l. cost_of (in_order 0 (count_threads cs) l)) (rows_are k cs uses copies) ∙ m.0,
+      copies_are k cs uses copies ∙ ap (folded_copies k cs uses copies) (sym m.1),
+    )
     at (Stop place trap u) m = ap (λ l. cost_of (in_order 0 (count_threads cs) l)) (rows_are k cs uses copies) ∙ m
 
 -- ---- under an allowance

@@ -225,9 +225,7 @@ fn run(
             body,
             place,
         } => match bound {
-            Some(turns) => run_turns(
-                alloc, kernel, deep, words, *turns, test, body, *place, left,
-            ),
+            Some(turns) => run_turns(alloc, kernel, deep, words, *turns, test, body, *place, left),
             None => Ok(Ran::Goes(words)),
         },
         Statement::Return { value } => {
@@ -274,7 +272,7 @@ fn run_turns(
 ) -> Result<Ran, Halt>
     ensures { IsMetered flowing left.old left.new result
         (turns bound (λ w. val (setting_within (plain_kernel kernel.now) deep) (words_alone w) (expr test.now))
-            (flow (setting_within (plain_kernel kernel.now) deep) (stmt body.now)) place words.items) }
+        (flow (setting_within (plain_kernel kernel.now) deep) (stmt body.now)) place words.items) }
 {
     let mut turns_left = bound;
     'turns: loop {

@@ -243,7 +243,13 @@ fn some_mark(kernel: &KernelParts, variable: u32, children: &Children) -> bool
 }
 
 // The parent's copy of a variable after the last branch.
-fn end_fold(kernel: &KernelParts, children: &Children, variable: u32, copy: VarCopy, fold: Fold) -> VarCopy
+fn end_fold(
+    kernel: &KernelParts,
+    children: &Children,
+    variable: u32,
+    copy: VarCopy,
+    fold: Fold,
+) -> VarCopy
     ensures { result ≡ record { value = unwrap_or fold.total copy.value; modified = copy.modified || some_marked (shares (plain_kernel kernel.now) variable 0 (threads children.now)) } }
 {
     let marked = some_mark(kernel, variable, children);

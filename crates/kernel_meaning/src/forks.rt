@@ -49,7 +49,11 @@ fn thread_params(kernel: &KernelParts, thread: u32) -> u32
 }
 
 // The body of a thread as a text.
-pub(crate) fn body_text(alloc: Global, kernel: &KernelParts, thread: u32) -> Result<Text, AllocError>
+pub(crate) fn body_text(
+    alloc: Global,
+    kernel: &KernelParts,
+    thread: u32,
+) -> Result<Text, AllocError>
     ensures { IfOk result (λ x. text x ≡ text_of (body_of (plain_kernel kernel.now) thread)) }
 {
     let bodies = kernel.threads.as_slice();
@@ -80,7 +84,12 @@ pub(crate) fn copies_below(
 }
 
 // The words of a thread that starts: its arguments, no more than it has parameters, and zeros.
-fn started_words(alloc: Global, kernel: &KernelParts, thread: u32, args: &[i32]) -> Result<Vec<i32>, AllocError>
+fn started_words(
+    alloc: Global,
+    kernel: &KernelParts,
+    thread: u32,
+    args: &[i32],
+) -> Result<Vec<i32>, AllocError>
     ensures { IfOk result (λ v. v.items ≡ fresh_words (take (params_of (plain_kernel kernel.now) thread) args.now) (words_of (plain_kernel kernel.now) thread)) }
 {
     let count = args.len().min(thread_params(kernel, thread) as usize);

@@ -27,7 +27,10 @@ fn steppable_among(children: &Children) -> u32 {
     match children {
         Children::Nobody => 0,
         Children::Child {
-            text, status, rest, ..
+            text,
+            status,
+            rest,
+            ..
         } => {
             let others = steppable_among(rest);
             if runs(*status) {
@@ -61,7 +64,10 @@ fn add_path_among(
     match children {
         Children::Nobody => Ok(()),
         Children::Child {
-            text, status, rest, ..
+            text,
+            status,
+            rest,
+            ..
         } => {
             let count = if runs(*status) { steppable(text) } else { 0 };
             if pick < count {

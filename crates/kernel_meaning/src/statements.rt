@@ -175,7 +175,12 @@ pub(crate) fn loop_step(
                             trap: Trap::Turns,
                         });
                     }
-                    moved(alloc, turn_text(alloc, turn, Some(turns - 1)), words, copies)
+                    moved(
+                        alloc,
+                        turn_text(alloc, turn, Some(turns - 1)),
+                        words,
+                        copies,
+                    )
                 }
             }
         }
@@ -197,7 +202,7 @@ fn enter_step(
 ) -> Result<Step, Halt>
     ensures { IsMoved left.old left.new result
         (statement_move (record { kernel = plain_kernel kernel.now; uses = uses.now }) words.now copies.now
-            (terms.Enter weak true (expr test.now) (stmt body.now))) }
+        (terms.Enter weak true (expr test.now) (stmt body.now))) }
 {
     let part = number_of(alloc, kernel, uses, words, copies, test, left);
     match tested(part, left) {
@@ -225,7 +230,7 @@ fn par_step(
 ) -> Result<Step, Halt>
     ensures { IsMoved left.old left.new result
         (statement_move (record { kernel = plain_kernel kernel.now; uses = uses.now }) words.now copies.now
-            (terms.Par (map branch branches.now))) }
+        (terms.Par (map branch branches.now))) }
 {
     match arguments_of(alloc, kernel, uses, words, copies, branches, left) {
         Ok(arguments) => match pay(1, left) {
@@ -267,9 +272,7 @@ pub(crate) fn statement_step(
         } => match number_of(alloc, kernel, uses, words, copies, index, left) {
             Ok(at) => {
                 let part = number_of(alloc, kernel, uses, words, copies, value, left);
-                after_assign_at(
-                    alloc, words, copies, *slot, *length, at, *place, part, left,
-                )
+                after_assign_at(alloc, words, copies, *slot, *length, at, *place, part, left)
             }
             Err(halt) => Err(halt),
         },
@@ -294,7 +297,12 @@ pub(crate) fn statement_step(
             bound,
             body,
             place,
-        } => moved(alloc, loop_text(alloc, test, *bound, body, *place), words, copies),
+        } => moved(
+            alloc,
+            loop_text(alloc, test, *bound, body, *place),
+            words,
+            copies,
+        ),
         Statement::Pause => match pay(1, left) {
             Ok(()) => moved(alloc, Ok(Text::Resting), words, copies),
             Err(halt) => Err(halt),

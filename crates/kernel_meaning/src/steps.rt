@@ -23,7 +23,6 @@ use crate::texts::{
 use forec_kernel::{Expression, KernelParts, VarCopy};
 use std::alloc::{AllocError, Global};
 
-
 fn then_text(alloc: Global, first: Text, next: &After) -> Result<Text, AllocError>
     ensures { IfOk result (λ x. text x ≡ plain.Then (text first) (after next.now)) }
 {
@@ -34,7 +33,12 @@ fn then_text(alloc: Global, first: Text, next: &After) -> Result<Text, AllocErro
     })
 }
 
-fn watched_text(alloc: Global, weak: bool, test: &Expression, inner: Text) -> Result<Text, AllocError>
+fn watched_text(
+    alloc: Global,
+    weak: bool,
+    test: &Expression,
+    inner: Text,
+) -> Result<Text, AllocError>
     ensures { IfOk result (λ x. text x ≡ plain.Watch weak (expr test.now) (text inner)) }
 {
     let inner = Box::new(alloc, inner)?;
@@ -58,11 +62,13 @@ fn step_before(
     match part {
         Ok(Step::Finished) => moved(alloc, start_after(alloc, next), words, copies),
         Ok(Step::Halts) => Ok(Step::Halts),
-        Ok(Step::Moves {
-            text,
-            words,
-            copies,
-        }) => Ok(Step::Moves {
+        Ok(
+            Step::Moves {
+                text,
+                words,
+                copies,
+            },
+        ) => Ok(Step::Moves {
             text: then_text(alloc, text, next)?,
             words,
             copies,
@@ -85,11 +91,13 @@ fn step_watched(
     match part {
         Ok(Step::Finished) => moved(alloc, Ok(Text::Done), words, copies),
         Ok(Step::Halts) => Ok(Step::Halts),
-        Ok(Step::Moves {
-            text,
-            words,
-            copies,
-        }) => Ok(Step::Moves {
+        Ok(
+            Step::Moves {
+                text,
+                words,
+                copies,
+            },
+        ) => Ok(Step::Moves {
             text: watched_text(alloc, weak, test, text)?,
             words,
             copies,
@@ -109,11 +117,13 @@ fn step_last(
 {
     match part {
         Ok(Step::Finished | Step::Halts) => moved(alloc, Ok(Text::Done), words, copies),
-        Ok(Step::Moves {
-            text,
-            words,
-            copies,
-        }) => Ok(Step::Moves {
+        Ok(
+            Step::Moves {
+                text,
+                words,
+                copies,
+            },
+        ) => Ok(Step::Moves {
             text: Text::Last {
                 inner: Box::new(alloc, text)?,
             },
@@ -162,21 +172,36 @@ fn child_after(
     part: Result<Step, Halt>,
 ) -> Result<Children, Halt>
     ensures { (old new : ℕ) (m : Move) → IsMoved old new part m → AreStepped old new result (record {
-        children = child_of (thread_after (record { number = number; text = text from.now; words = words.now; copies = copies.now; status = standing status }) m) (threads rest.now);
-        units = units_of m }) }
+      children = child_of (thread_after (record { number = number; text = text from.now; words = words.now; copies = copies.now; status = standing status }) m) (threads rest.now);
+      units = units_of m;
+    }) }
 {
     match part {
         Ok(Step::Finished) => Ok(child_standing(
-            alloc, number, from, words, copies, Status::Ended, rest,
-        )?),
-        Ok(Step::Halts) => Ok(child_standing(
-            alloc, number, from, words, copies, Status::Paused, rest,
-        )?),
-        Ok(Step::Moves {
-            text,
+            alloc,
+            number,
+            from,
             words,
             copies,
-        }) => {
+            Status::Ended,
+            rest,
+        )?),
+        Ok(Step::Halts) => Ok(child_standing(
+            alloc,
+            number,
+            from,
+            words,
+            copies,
+            Status::Paused,
+            rest,
+        )?),
+        Ok(
+            Step::Moves {
+                text,
+                words,
+                copies,
+            },
+        ) => {
             let text = Box::new(alloc, text)?;
             let rest = Box::new(alloc, duplicate_children(alloc, rest)?)?;
             Ok(Children::Child {
@@ -307,9 +332,7 @@ pub(crate) fn text_step(
                 let at = picked(path, children);
                 let below = path_on(path, children);
                 match child_step(alloc, kernel, below, at, children, left) {
-                    Ok(children) => {
-                        moved(alloc, fork_text(alloc, Ok(children)), words, copies)
-                    }
+                    Ok(children) => { moved(alloc, fork_text(alloc, Ok(children)), words, copies) }
                     Err(halt) => Err(halt),
                 }
             } else {

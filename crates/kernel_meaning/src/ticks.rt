@@ -183,14 +183,25 @@ fn step_main(
     ensures { IsMain left.old left.new result (after_move (main_thread main) (thread_move (plain_kernel kernel.now) path.now (main_thread main))) }
 {
     let uses = thread_uses(kernel, 0);
-    match text_step(alloc, kernel, path, uses, &main.words, &main.copies, &main.text, left) {
+    match text_step(
+        alloc,
+        kernel,
+        path,
+        uses,
+        &main.words,
+        &main.copies,
+        &main.text,
+        left,
+    ) {
         Ok(Step::Finished) => Ok(standing_as(main, Status::Ended)),
         Ok(Step::Halts) => Ok(standing_as(main, Status::Paused)),
-        Ok(Step::Moves {
-            text,
-            words,
-            copies,
-        }) => Ok(Main {
+        Ok(
+            Step::Moves {
+                text,
+                words,
+                copies,
+            },
+        ) => Ok(Main {
             text,
             words,
             copies,
@@ -384,3 +395,6 @@ pub fn rewrite_tick(
         }
     }
 }
+
+#[cfg(test)]
+mod tests;

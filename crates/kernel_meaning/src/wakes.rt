@@ -15,7 +15,9 @@ use crate::forks::{copies_below, thread_uses};
 use crate::meter::{Halt, tested};
 use crate::statements::number_of;
 use crate::steps::child_before;
-use crate::texts::{After, Children, Loop, Status, Text, duplicate_after, duplicate_loop, duplicate_text};
+use crate::texts::{
+    After, Children, Loop, Status, Text, duplicate_after, duplicate_loop, duplicate_text,
+};
 use forec_kernel::{Expression, KernelParts, VarCopy};
 use std::alloc::{AllocError, Global};
 
@@ -97,11 +99,7 @@ pub(crate) struct Settled {
 }
 
 // A test that traps leaves the text as it was.
-pub(crate) fn settle(
-    alloc: Global,
-    from: &Text,
-    part: Result<Text, Halt>,
-) -> Result<Settled, Halt>
+pub(crate) fn settle(alloc: Global, from: &Text, part: Result<Text, Halt>) -> Result<Settled, Halt>
     ensures { (old new : ℕ) (w : Woken) → IsMetered waking old new part w → IsSettled old new result (text from.now) w }
 {
     match part {
@@ -190,11 +188,25 @@ fn wake_children(
                 };
             }
             let below = copies_below(alloc, uses, copies, thread_uses(kernel, *number))?;
-            let part = wake(alloc, kernel, thread_uses(kernel, *number), words, &below, text, left);
+            let part = wake(
+                alloc,
+                kernel,
+                thread_uses(kernel, *number),
+                words,
+                &below,
+                text,
+                left,
+            );
             match settle(alloc, text, part) {
                 Ok(settled) => match wake_children(alloc, kernel, uses, copies, rest, left) {
                     Ok(rest) => Ok(child_before(
-                        alloc, *number, &settled.text, words, &below, settled.status, rest,
+                        alloc,
+                        *number,
+                        &settled.text,
+                        words,
+                        &below,
+                        settled.status,
+                        rest,
                     )?),
                     Err(halt) => Err(halt),
                 },

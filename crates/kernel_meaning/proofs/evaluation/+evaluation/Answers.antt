@@ -107,7 +107,7 @@ pub evaluate-returns-in-Choose : goal.evaluate-returns-in-Choose
 evaluate-returns-in-Choose t c = rw (c.in-Choose.is, ← c.deref-in-Choose.ensures) (choose_err _ _ _ _ _ _ (c.in-Err-tested-3.ensures _ _ c.evaluate-test-in-Choose.ensures))
 
 pub evaluate-evaluate_all-requires : goal.evaluate-evaluate_all-requires
-evaluate-evaluate_all-requires t c = 
+evaluate-evaluate_all-requires t c =
     let h = call_depth c.in-Call.function c.in-Call.args c.args.e.now c.deref-in-Call.result.now c.in-Call.is c.deref-in-Call.ensures.value in
     let d = c.decreases in
     (omega arith, tt)
@@ -255,4 +255,3 @@ run_turns-returns-in-Err-run t c =
 pub run_turns-returns-in-Err : goal.run_turns-returns-in-Err
 run_turns-returns-in-Err t c =
     turns_err (λ w. val (setting_within (plain_kernel c.args.kernel.now) c.args.deep) (words_alone w) (expr c.args.test.now)) (flow (setting_within (plain_kernel c.args.kernel.now) c.args.deep) (stmt c.args.body.now)) c.args.place _ _ _ _ _ _ _ c.turns.invariant (c.in-Err.ensures _ _ (rw c.deref.ensures.value at c.evaluate-part.ensures))
-

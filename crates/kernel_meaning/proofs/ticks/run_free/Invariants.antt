@@ -9,7 +9,7 @@ abbrev pub invariant-free : goal.invariant-free
 invariant-free l =
     record {
       on : (budget : ℕ) (from : Going) → Along (plain_kernel l.kernel) budget from (main_thread l.initial.main) l.initial.left →
-        Along (plain_kernel l.kernel) budget from (main_thread l.main) l.left;
+          Along (plain_kernel l.kernel) budget from (main_thread l.main) l.left;
       same : l.left ≡ l.before;
     }
 
