@@ -1,23 +1,14 @@
 -- The arguments of branches, as far as they have been evaluated.
-use Rattle.std.proofs.Common.{◌≡◌, ◌≢◌, ◌∙◌, Bool, true, false, ℕ, zero, suc, ◌+◌, ◌-◌, ◌≤◌, ◌<◌, ℤ, pos, Result, Ok, Err, List, [], ◌∷◌, ◌++◌, append_assoc, length, drop, get_or, refl, ap, sym, subst, add-one, arith, map, Vec, Global}
-use Rattle.forec_base.specs.declared.Place.{Place}
-use Rattle.forec_base.specs.declared.Trap.{Trap}
-use Rattle.forec_kernel.specs.Terms.{Expr, Exprs, more_exprs, Stmt, Stmts, more_stmts}
+use Rattle.std.proofs.Common.{◌≡◌, ◌∙◌, ℕ, ◌+◌, ◌≤◌, ◌<◌, ℤ, Ok, Err, List, [], ◌∷◌, ◌++◌, append_assoc, length, drop, get_or, refl, ap, sym, arith, map, Vec, Global}
 use Rattle.forec_kernel.specs.Plain.{exprs, branch}
 use Rattle.forec_kernel.specs.declared.terms.Launch.{Launch}
 use Rattle.kernel_meaning.proofs.Kernels.{drop_next}
-use Rattle.forec_kernel.specs.declared.terms.Expression.{Expression}
-use Rattle.forec_kernel.specs.declared.terms.Statement.{Statement}
 use Rattle.forec_kernel.specs.Values.{Values, AllGive, OneStops, Setting, Sight, vals}
 use Rattle.forec_kernel.specs.Steps.{Arguments, Ready, Refused, one_more_list, arguments_then, arguments}
 use Rattle.kernel_meaning.specs.declared.meter.Halt.{Halt}
 use Rattle.kernel_meaning.specs.declared.meter.Halt.TheVariants.{Trapped, Over, OutOfMemory}
-use Rattle.kernel_meaning.specs.declared.functions.Ran.{Ran}
-use Rattle.kernel_meaning.specs.declared.functions.Ran.TheVariants as ran
 use Rattle.kernel_meaning.specs.Metered.{IsMetered, numbers, values_units}
 use Rattle.kernel_meaning.specs.Moving.{lists, lists_units}
-use Rattle.forec_base.specs.Numbers.{is_zero}
-use Rattle.forec_base.specs.declared.Trap.TheVariants.{Turns}
 
 -- ---- lists so far
 

@@ -1,20 +1,13 @@
 -- Waking, under one allowance.
-use Rattle.std.proofs.Common.{◌≡◌, ◌≢◌, ◌∙◌, ℕ, ◌+◌, ◌≤◌, ◌<◌, ℤ, pos, Bool, true, false, cond, Result, Ok, Err, List, refl, ap, sym, subst, arith}
-use Rattle.forec_base.specs.Numbers.{is_zero}
-use Rattle.forec_kernel.specs.declared.shape.VarCopy.{VarCopy}
-use Rattle.forec_kernel.specs.Shapes.{PlainKernel}
+use Rattle.std.proofs.Common.{◌≡◌, ◌≢◌, ◌∙◌, ℕ, ◌+◌, ◌≤◌, ℤ, pos, Bool, true, false, cond, Result, Ok, Err, refl, ap, arith}
 use Rattle.forec_kernel.specs.Terms.{Expr}
 use Rattle.forec_kernel.specs.Values.{Value, Gives, Stops}
-use Rattle.forec_kernel.specs.Texts.{Text, Done, Watch, Last, Threads, child, Status, Running, Paused, Ended, Gone, Trapped, is_active, handed_down, uses_of}
-use Rattle.forec_kernel.specs.Steps.{Woken, Wakes, Stays, Owner, evaluated, more_woken, woken_in, woken_with, watched_on, woken, woken_children, text_if, status_of, waking_units}
+use Rattle.forec_kernel.specs.Texts.{Done, Watch, Last}
+use Rattle.forec_kernel.specs.Steps.{Woken, Wakes, Stays, more_woken, woken_in, woken_with, watched_on, waking_units}
 use Rattle.kernel_meaning.specs.declared.meter.Halt.{Halt}
-use Rattle.kernel_meaning.specs.declared.meter.Halt.TheVariants as halt
 use Rattle.kernel_meaning.specs.declared.texts.Text as rust
-use Rattle.kernel_meaning.specs.declared.texts.Children.{Children}
-use Rattle.kernel_meaning.specs.declared.wakes.Settled.{Settled}
-use Rattle.kernel_meaning.specs.Views.{text, threads, standing}
 use Rattle.kernel_meaning.specs.Metered.{IsMetered, number}
-use Rattle.kernel_meaning.specs.Moving.{waking, AreStepped, IsSettled}
+use Rattle.kernel_meaning.specs.Moving.{waking}
 use Rattle.kernel_meaning.proofs.Metering.{Adds, Binds, is_zero_of, not_zero_of, test_ok, test_err}
 use Rattle.kernel_meaning.proofs.Tests.{AfterTest}
 

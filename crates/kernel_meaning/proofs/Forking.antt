@@ -2,7 +2,7 @@
 use Rattle.std.proofs.Common.{◌≡◌, ◌∙◌, ℕ, ◌+◌, ℤ, Bool, true, false, Result, Ok, List, ap, sym, subst}
 use Rattle.forec_kernel.specs.declared.shape.VarCopy.{VarCopy}
 use Rattle.forec_kernel.specs.Shapes.{PlainKernel}
-use Rattle.forec_kernel.specs.Texts.{Text, Fork, Threads, some_running, first_trap}
+use Rattle.forec_kernel.specs.Texts.{Fork, Threads, some_running, first_trap}
 use Rattle.forec_kernel.specs.Steps.{Path, Move, Moves, Stepped, joined, text_move, child_move, path_below, place_at}
 use Rattle.kernel_meaning.specs.declared.meter.Halt.{Halt}
 use Rattle.kernel_meaning.specs.declared.moving.Step.{Step}

@@ -1,15 +1,15 @@
 -- What a kernel says of a thread, and copies handed down.
-use Rattle.std.proofs.Common.{◌≡◌, ◌∙◌, ℕ, zero, suc, ◌+◌, ◌-◌, ◌≤◌, ◌<◌, min, false, ℤ, List, [], ◌∷◌, ◌++◌, length, take, drop, get_or, map, refl, ap, sym, add-one, arith, Vec, Global}
+use Rattle.std.proofs.Common.{◌≡◌, ◌∙◌, ℕ, zero, suc, ◌+◌, ◌≤◌, ◌<◌, min, false, ℤ, List, [], ◌∷◌, ◌++◌, length, take, drop, get_or, map, refl, ap, sym, add-one, arith, Vec, Global}
 use Rattle.std.proofs.lemmas.List.{take_more}
-use Rattle.forec_kernel.specs.Terms.{Branch, Stmt, Nop}
+use Rattle.forec_kernel.specs.Terms.{Nop}
 use Rattle.forec_kernel.specs.Plain.{stmt, branch}
-use Rattle.forec_kernel.specs.Shapes.{PlainKernel, PlainThread, plain_thread}
+use Rattle.forec_kernel.specs.Shapes.{plain_thread}
 use Rattle.forec_kernel.specs.declared.shape.ThreadShape.{ThreadShape}
 use Rattle.forec_kernel.specs.declared.shape.VarCopy.{VarCopy}
 use Rattle.forec_kernel.specs.declared.terms.Launch.{Launch}
 use Rattle.forec_kernel.specs.declared.terms.Statement.{Statement}
 use Rattle.forec_kernel.specs.Values.{copy_of}
-use Rattle.forec_kernel.specs.Texts.{Threads, no_threads, params_in, words_in, uses_in, handed_down}
+use Rattle.forec_kernel.specs.Texts.{no_threads, params_in, words_in, uses_in, handed_down}
 use Rattle.forec_kernel.specs.Steps.{Owner, started}
 
 pub params_at : (xs : List ThreadShape) (t : ℕ) (d : ThreadShape) → t < length xs → (get_or xs t d).params ≡ params_in (map plain_thread xs) t

@@ -1,5 +1,5 @@
 -- Sequences as texts.
-use Rattle.std.proofs.Common.{◌≡◌, ◌∙◌, ℕ, zero, suc, ◌==◌, true, false, List, [], ◌∷◌, length, ◌-◌, take, drop, get_or, refl, ap, sym, arith}
+use Rattle.std.proofs.Common.{◌≡◌, ◌∙◌, ℕ, suc, ◌==◌, true, false, List, [], ◌∷◌, length, ◌-◌, take, drop, get_or, refl, ap, arith}
 use Rattle.std.proofs.lemmas.Bool.Decides.{nat_tests}
 use Rattle.std.proofs.Math.Seq.{take-length}
 use Rattle.forec_kernel.specs.Plain.{stmt, stmts}

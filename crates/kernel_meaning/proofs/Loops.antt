@@ -1,13 +1,12 @@
 -- A step of a loop in progress, and other steps after a test.
-use Rattle.std.proofs.Common.{◌≡◌, ◌≢◌, ◌∙◌, ℕ, zero, suc, ◌+◌, ◌-◌, ◌≤◌, ◌<◌, ℤ, pos, Bool, true, false, cond, Option, Some, None, Result, Ok, Err, List, refl, ap, sym, subst, arith}
+use Rattle.std.proofs.Common.{◌≡◌, ◌≢◌, ◌∙◌, ℕ, zero, suc, ◌-◌, ◌≤◌, ℤ, pos, Bool, true, false, cond, Option, Some, None, Result, Ok, Err, List, refl, ap, sym, arith}
 use Rattle.forec_base.specs.Numbers.{is_zero}
 use Rattle.forec_base.specs.declared.Trap.TheVariants.{Turns}
 use Rattle.forec_kernel.specs.declared.shape.VarCopy.{VarCopy}
 use Rattle.forec_kernel.specs.Terms.{Expr, Stmt, If, Enter}
 use Rattle.forec_kernel.specs.Shapes.{PlainKernel}
-use Rattle.forec_kernel.specs.Values.{Value}
-use Rattle.forec_kernel.specs.Texts.{Loop, Again, Text, Done, Then, Watch, Last, text_of}
-use Rattle.forec_kernel.specs.Steps.{Move, Moves, Traps, Owner, evaluated, turned, entered, loop_move, statement_move, units_of, move_with}
+use Rattle.forec_kernel.specs.Texts.{Loop, Again, Done, Then, Watch, Last, text_of}
+use Rattle.forec_kernel.specs.Steps.{Move, Moves, Owner, evaluated, turned, entered, loop_move, statement_move, units_of, move_with}
 use Rattle.kernel_meaning.specs.declared.meter.Halt.{Halt}
 use Rattle.kernel_meaning.specs.declared.meter.Halt.TheVariants.{Trapped}
 use Rattle.kernel_meaning.specs.declared.moving.Step.{Step}

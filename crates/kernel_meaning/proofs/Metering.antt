@@ -1,14 +1,14 @@
 -- Computations one after the other under one allowance.
-use Rattle.std.proofs.Common.{◌≡◌, ◌≢◌, ◌∙◌, ℕ, zero, suc, ◌+◌, ◌≤◌, ◌<◌, ℤ, pos, negsuc, true, false, Result, Ok, Err, List, [], ◌∷◌, ◌++◌, append_assoc, refl, ap, sym, subst, arith, Vec, Global}
+use Rattle.std.proofs.Common.{◌≡◌, ◌≢◌, ◌∙◌, ℕ, zero, suc, ◌+◌, ◌≤◌, ◌<◌, ℤ, pos, negsuc, true, false, Result, Ok, Err, List, refl, ap, sym, subst, arith}
 use Rattle.forec_base.specs.Numbers.{is_zero}
 use Rattle.forec_base.specs.declared.Place.{Place}
 use Rattle.forec_base.specs.declared.Trap.{Trap}
-use Rattle.forec_kernel.specs.Values.{Value, Gives, Stops, more_units, value_then, Values, AllGive, OneStops, one_more, first_then, values_then, Flow, Goes, Returns, Breaks, more_flow, flow_with, flow_then}
+use Rattle.forec_kernel.specs.Values.{Value, Gives, Stops, more_units, value_then, Values, AllGive, OneStops, values_then, Flow, Goes, Returns, Breaks, more_flow, flow_with}
 use Rattle.kernel_meaning.specs.declared.meter.Halt.{Halt}
 use Rattle.kernel_meaning.specs.declared.meter.Halt.TheVariants.{Trapped, Over, OutOfMemory}
 use Rattle.kernel_meaning.specs.declared.functions.Ran.{Ran}
 use Rattle.kernel_meaning.specs.declared.functions.Ran.TheVariants as ran
-use Rattle.kernel_meaning.specs.Metered.{Kind, IsMetered, MeteredBy, Paid, number, numbers, flowing, value_units}
+use Rattle.kernel_meaning.specs.Metered.{Kind, IsMetered, number, numbers, flowing, value_units}
 
 pub is_zero_of : (x : ℤ) → x ≡ pos 0 → is_zero x ≡ true
 is_zero_of x e = ap is_zero e

@@ -1,17 +1,16 @@
 -- Loops over a list of terms, and over the turns of a loop, as far as they have come.
 use Rattle.std.proofs.Common.{◌≡◌, ◌≢◌, ◌∙◌, Bool, true, false, ℕ, zero, suc, ◌+◌, ◌-◌, ◌≤◌, ◌<◌, ℤ, pos, Result, Ok, Err, List, [], ◌∷◌, ◌++◌, append_assoc, length, drop, get_or, refl, ap, sym, subst, add-one, arith, Vec, Global}
 use Rattle.forec_base.specs.declared.Place.{Place}
-use Rattle.forec_base.specs.declared.Trap.{Trap}
-use Rattle.forec_kernel.specs.Terms.{Expr, Exprs, more_exprs, Stmt, Stmts, more_stmts}
+use Rattle.forec_kernel.specs.Terms.{more_exprs, more_stmts}
 use Rattle.forec_kernel.specs.Plain.{expr, exprs, stmt, stmts}
 use Rattle.forec_kernel.specs.declared.terms.Expression.{Expression}
 use Rattle.forec_kernel.specs.declared.terms.Statement.{Statement}
-use Rattle.forec_kernel.specs.Values.{Value, Gives, Stops, Values, AllGive, OneStops, one_more, first_then, vals, Setting, Sight, Flow, Goes, Returns, Breaks, more_flow, flow_then, flow_with, flow, flows, turns}
+use Rattle.forec_kernel.specs.Values.{Value, Gives, Stops, Values, AllGive, OneStops, one_more, first_then, Setting, Flow, Goes, Returns, Breaks, more_flow, flow_then, flow_with, flow, flows, turns}
 use Rattle.kernel_meaning.specs.declared.meter.Halt.{Halt}
 use Rattle.kernel_meaning.specs.declared.meter.Halt.TheVariants.{Trapped, Over, OutOfMemory}
 use Rattle.kernel_meaning.specs.declared.functions.Ran.{Ran}
 use Rattle.kernel_meaning.specs.declared.functions.Ran.TheVariants as ran
-use Rattle.kernel_meaning.specs.Metered.{IsMetered, MeteredBy, number, numbers, flowing, value_units, values_units}
+use Rattle.kernel_meaning.specs.Metered.{IsMetered, number, numbers, flowing, value_units, values_units}
 use Rattle.kernel_meaning.proofs.Metering.{more_metered, adds_flow, binds_flow, test_ok, test_err, tested_gives, is_zero_of, not_zero_of}
 use Rattle.kernel_meaning.proofs.Tests.{AfterTest}
 use Rattle.forec_base.specs.Numbers.{is_zero}

@@ -1,10 +1,9 @@
 -- A step of a loop that pushes copies: the pushed one reads as the one at the index.
-use Rattle.std.proofs.Common.{◌≡◌, ◌∙◌, ℕ, ◌+◌, ◌<◌, ◌≤◌, List, [], ◌∷◌, ◌++◌, length, take, get_or, map, refl, ap, sym, arith}
+use Rattle.std.proofs.Common.{◌≡◌, ◌∙◌, ℕ, ◌+◌, ◌<◌, List, [], ◌∷◌, ◌++◌, length, take, get_or, map, refl, ap, sym}
 use Rattle.std.proofs.lemmas.List.{take_more}
 use Rattle.std.proofs.Math.Seq.{take-length}
-use Rattle.forec_kernel.specs.Terms.{Stmt, Stmts, no_stmts, more_stmts, Branch}
-use Rattle.forec_kernel.specs.Plain.{expr, exprs, stmt, stmts, branch}
-use Rattle.forec_kernel.specs.declared.terms.Expression.{Expression}
+use Rattle.forec_kernel.specs.Terms.{Stmt, Stmts, no_stmts, more_stmts}
+use Rattle.forec_kernel.specs.Plain.{stmt, stmts, branch}
 use Rattle.forec_kernel.specs.declared.terms.Statement.{Statement}
 use Rattle.forec_kernel.specs.declared.terms.Launch.{Launch}
 

@@ -1,11 +1,9 @@
 -- The steps of a tick, under its budget.
-use Rattle.std.proofs.Common.{◌≡◌, ◌∙◌, ℕ, zero, suc, ◌+◌, ◌*◌, ◌≤◌, ◌<◌, ◌||◌, ℤ, Bool, true, false, not, cond, nat_lt, IsTrue, inl, inr, Option, Some, None, Result, Ok, Err, List, [], ◌∷◌, ◌++◌, refl, ap, sym, subst, arith}
+use Rattle.std.proofs.Common.{◌≡◌, ◌∙◌, ℕ, ◌+◌, ◌*◌, ◌≤◌, ◌<◌, ◌||◌, ℤ, Bool, true, false, not, cond, nat_lt, inl, inr, Some, None, Result, Ok, Err, List, [], ◌∷◌, ◌++◌, refl, ap, sym, subst, arith}
 use Rattle.std.proofs.lemmas.Bool.Decides.{nat_tests}
-use Rattle.forec_base.specs.declared.Place.{Place}
-use Rattle.forec_base.specs.declared.Trap.{Trap}
 use Rattle.forec_kernel.specs.declared.shape.Outcome.TheVariants as outcome
 use Rattle.forec_kernel.specs.Shapes.{PlainKernel}
-use Rattle.forec_kernel.specs.Texts.{Thread, Status, is_running, uses_of}
+use Rattle.forec_kernel.specs.Texts.{Thread, is_running, uses_of}
 use Rattle.forec_kernel.specs.Size.{text_size}
 use Rattle.forec_kernel.specs.Steps.{Path, Move, Finished, Halts, Moves, Traps, thread_after, units_of, thread_move}
 use Rattle.forec_kernel.specs.Ticks as ticks
@@ -15,7 +13,7 @@ use Rattle.forec_kernel.proofs.AnyOrder.{any_order}
 use Rattle.kernel_meaning.specs.declared.meter.Halt.{Halt}
 use Rattle.kernel_meaning.specs.declared.meter.Halt.TheVariants.{Trapped, Over, OutOfMemory}
 use Rattle.kernel_meaning.specs.declared.ticks.Main.{Main}
-use Rattle.kernel_meaning.specs.Views.{text, standing}
+use Rattle.kernel_meaning.specs.Views.{standing}
 use Rattle.kernel_meaning.specs.States.{main_thread, IsMain, Along, PassesBudget, CameTo, GoesOn, after_move, Advances, told}
 
 -- ---- one step more

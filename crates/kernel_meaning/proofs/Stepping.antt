@@ -1,10 +1,9 @@
 -- Steps after tests and arguments, under one allowance.
-use Rattle.std.proofs.Common.{◌≡◌, ◌≢◌, ◌∙◌, ℕ, zero, suc, ◌+◌, ◌-◌, ◌≤◌, ◌<◌, ℤ, pos, Bool, true, false, cond, Option, Some, None, Result, Ok, Err, List, [], ◌∷◌, ◌++◌, map, refl, ap, sym, subst, arith, Vec, Global}
-use Rattle.forec_base.specs.Numbers.{is_zero}
+use Rattle.std.proofs.Common.{◌≡◌, ◌∙◌, ℕ, ◌+◌, ◌≤◌, ◌<◌, ℤ, Option, Some, None, Result, Ok, Err, List, map, refl, ap, sym, subst, arith, Vec, Global}
 use Rattle.forec_base.specs.declared.Place.{Place}
 use Rattle.forec_base.specs.declared.Trap.{Trap}
 use Rattle.forec_kernel.specs.declared.shape.VarCopy.{VarCopy}
-use Rattle.forec_kernel.specs.Values.{Value, Gives, Stops, value_then}
+use Rattle.forec_kernel.specs.Values.{Value, Gives, Stops}
 use Rattle.forec_kernel.specs.Texts.{Text}
 use Rattle.forec_kernel.specs.Steps.{Move, Finished, Halts, Moves, Traps, more_move, move_with, units_of, Arguments, Ready, Refused, Owner, forked, started, assigned_at}
 use Rattle.forec_kernel.specs.Terms.{Branch}

@@ -1,12 +1,12 @@
 -- What follows a test, and a call after its arguments.
-use Rattle.std.proofs.Common.{◌≡◌, ◌≢◌, ◌∙◌, ℕ, ◌+◌, ◌≤◌, ◌<◌, ℤ, pos, Bool, true, false, not, Result, Ok, Err, List, refl, ap, sym, subst, arith, SFits, of_z, w32, Vec, Global}
+use Rattle.std.proofs.Common.{◌≡◌, ◌≢◌, ℕ, ◌+◌, ◌≤◌, ◌<◌, ℤ, pos, Bool, true, false, not, Result, Ok, Err, List, refl, ap, sym, subst, arith, SFits, of_z, w32, Vec, Global}
 use Rattle.std.proofs.lemmas.Int.{ints}
 use Rattle.forec_base.specs.Numbers.{is_zero, truth}
 use Rattle.forec_kernel.specs.Values.{Value, Gives, Stops, more_units, value_then, Values, values_then, Flow, more_flow, flow_with}
 use Rattle.kernel_meaning.specs.declared.meter.Halt.{Halt}
 use Rattle.kernel_meaning.specs.declared.meter.Halt.TheVariants.{Over}
 use Rattle.kernel_meaning.specs.declared.functions.Ran.{Ran}
-use Rattle.kernel_meaning.specs.Metered.{Kind, IsMetered, number, numbers, flowing, value_units}
+use Rattle.kernel_meaning.specs.Metered.{IsMetered, number, numbers, flowing, value_units}
 use Rattle.kernel_meaning.proofs.Metering.{is_zero_of, not_zero_of, more_metered, then_ok, then_err, test_ok, test_err, binds_value, adds_number, binds_values, binds_flow, adds_flow}
 
 pub zero_of : (n : ℤ) → SFits w32 n → of_z w32 n ≡ 0 → n ≡ pos 0

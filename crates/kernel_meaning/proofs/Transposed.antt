@@ -1,8 +1,6 @@
 -- Folds in progress, branch by branch, come to what the folds of each variable come to, and cost the calls in their order.
-use Rattle.std.proofs.Common.{◌≡◌, ◌≢◌, ◌∙◌, ℕ, zero, suc, ◌+◌, ◌≤◌, ◌<◌, ◌==◌, ◌&&◌, ◌||◌, ℤ, pos, Bool, true, false, cond, Option, Some, None, unwrap_or, List, [], ◌∷◌, ◌++◌, append_assoc, refl, ap, sym, subst, arith, Result, Ok, Err, Vec, Global}
+use Rattle.std.proofs.Common.{◌≡◌, ◌∙◌, ℕ, zero, suc, ◌+◌, ◌≤◌, ◌<◌, ◌==◌, ◌&&◌, ◌||◌, ℤ, Bool, true, false, cond, Option, Some, None, unwrap_or, List, [], ◌∷◌, ◌++◌, refl, ap, sym, subst, arith, Ok, Err, Vec, Global}
 use Rattle.std.proofs.lemmas.Bool.Decides.{nat_tests}
-use Rattle.forec_base.specs.declared.Place.{Place}
-use Rattle.forec_base.specs.declared.Trap.{Trap}
 use Rattle.forec_base.specs.declared.Policy.{Policy}
 use Rattle.forec_kernel.specs.declared.shape.VarCopy.{VarCopy}
 use Rattle.forec_kernel.specs.Shapes.{PlainKernel}
@@ -14,7 +12,7 @@ use Rattle.kernel_meaning.specs.declared.meter.Halt.{Halt}
 use Rattle.kernel_meaning.specs.declared.meter.Halt.TheVariants as halt
 use Rattle.kernel_meaning.specs.Metered.{IsMetered}
 use Rattle.kernel_meaning.specs.Moving.{AreJoined, cost_units}
-use Rattle.kernel_meaning.specs.Folding.{Added, Comes, Stays, Folds, Come, Stop, as_added, added, takes, branch_added, one_more_fold, fold_then, branch_folds, more_folds, folds_then, all_folds, first_folds, folded_copies, folding, folds_units}
+use Rattle.kernel_meaning.specs.Folding.{Added, Comes, Stays, Folds, Come, Stop, as_added, added, branch_added, fold_then, branch_folds, more_folds, folds_then, all_folds, first_folds, folded_copies, folding, folds_units}
 
 -- ---- what is left of a variable's fold
 

@@ -1,5 +1,5 @@
 -- States between ticks, and thread 0 within one.
-use Rattle.std.specs.Prelude.{ℕ, ◌+◌, ◌<◌, ◌≡◌, ℤ, Bool, true, false, Option, Some, None, List, []}
+use Rattle.std.specs.Prelude.{ℕ, ◌+◌, ◌<◌, ◌≡◌, Bool, true, false, Option, Some, None, List, []}
 use Rattle.std.specs.declared.result.Result.{Result}
 use Rattle.std.specs.declared.result.Result.TheVariants.{Ok, Err}
 use Rattle.forec_kernel.specs.Shapes.{PlainKernel}

@@ -1,5 +1,4 @@
 -- Running texts in Rust as plain ones.
-use Rattle.std.specs.Prelude.{List}
 use Rattle.forec_kernel.specs.Plain.{expr, stmt, stmts}
 use Rattle.forec_kernel.specs.Texts as plain
 use Rattle.forec_kernel.specs.Texts.{Threads, no_threads, child}

@@ -1,4 +1,5 @@
-//! The meaning of kernels, by rewriting.
+//! The meaning of kernels as a plain program: a tick rewrites the running texts of all threads, step by
+//! step in any order, and gives the outcome, the outputs and the state that the definition gives.
 #![tactic(auto)]
 
 mod children;

@@ -360,7 +360,7 @@ fn tell(kernel: &KernelParts, main: &Main, outputs: &mut [i32]) -> Outcome
 
 impl State {
     /// The state before the first tick: nothing has run.
-    pub fn first(_alloc: Global, _kernel: &Kernel) -> Result<State, OutOfMemory>
+    pub fn first(alloc: Global, kernel: &Kernel) -> Result<State, OutOfMemory>
         ensures { IfOk result (λ s. plain_state s ≡ ticks.Fresh) }
     {
         Ok(State { main: None })

@@ -1,4 +1,4 @@
-use Rattle.std.proofs.Common.{◌≡◌, ◌∙◌, length, take, ap, sym, arith}
+use Rattle.std.proofs.Common.{◌≡◌, ◌∙◌, length, ap, sym, arith}
 use Rattle.forec_kernel.specs.Terms as plain
 use Rattle.forec_kernel.specs.Plain.{stmt, stmts}
 use Rattle.forec_kernel.proofs.VecTerms.{stmt-sequence}

@@ -1,4 +1,3 @@
-use Rattle.std.proofs.Common.{arith}
 use Rattle.forec_kernel.proofs.VecTerms.{exprs-push_copy}
 use Rattle.kernel_meaning.proofs.duplication.duplicate_all.Goals as goal
 

@@ -1,14 +1,14 @@
-use Rattle.std.proofs.Common.{◌≡◌, ◌≢◌, ◌≤◌, ◌<◌, ◌+◌, ◌∙◌, length, get_or, map, [], ◌∷◌, ◌++◌, ℤ, pos, Bool, true, false, not, is_ok, rules, SFits, w32, arith, refl, ap, sym, Err}
+use Rattle.std.proofs.Common.{◌≡◌, ◌<◌, ◌∙◌, length, get_or, map, [], ◌∷◌, ◌++◌, true, not, is_ok, rules, SFits, w32, arith, ap}
 use Rattle.std.proofs.lemmas.Int.{to_z-of_z}
 use Rattle.forec_kernel.specs.Shapes.{plain_kernel}
 use Rattle.kernel_meaning.proofs.Words.{called, body_of_call}
-use Rattle.forec_kernel.specs.Plain.{expr, exprs, stmt, stmts}
+use Rattle.forec_kernel.specs.Plain.{expr, stmt}
 use Rattle.forec_kernel.proofs.VecTerms.{expr-call, stmt-sequence}
-use Rattle.forec_kernel.specs.Values.{value_then, more_units, Gives, function_words, fresh_words, val, vals, flow, words_alone, flow_with, more_flow}
-use Rattle.kernel_meaning.specs.Metered.{IsMetered, number, numbers, flowing, setting_within, sight}
+use Rattle.forec_kernel.specs.Values.{value_then, more_units, function_words, fresh_words, val, vals, flow, words_alone, flow_with, more_flow}
+use Rattle.kernel_meaning.specs.Metered.{number, flowing, setting_within, sight}
 use Rattle.kernel_meaning.proofs.Falls.{expression_within, statement_within, call_falls, call_depth, sequence_depth}
 use Rattle.kernel_meaning.proofs.Tests.{zero_of, nonzero_of, and_zero, and_some, and_err, or_some, or_zero, or_err, choose_no, choose_yes, choose_err, call_ok, call_over, call_err, if_no, if_yes, if_err}
-use Rattle.kernel_meaning.proofs.Metering.{then_ok, then_err, test_ok, test_err, binds_value, adds_number, binds_values, binds_flow, adds_flow}
+use Rattle.kernel_meaning.proofs.Metering.{then_ok, then_err, binds_value, adds_number, binds_flow, adds_flow}
 use Rattle.kernel_meaning.proofs.Onward.{exprs_next, numbers_same, numbers_stop, numbers_more, flow_same, flows_next, flow_returns, flow_stops, flow_goes, turns_end, turns_trap, turns_err, turns_turn}
 use Rattle.kernel_meaning.proofs.evaluation.+evaluation.Goals as goal
 

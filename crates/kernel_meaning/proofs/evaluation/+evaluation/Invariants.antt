@@ -1,4 +1,4 @@
-use Rattle.std.proofs.Common.{◌≡◌, ◌+◌, ◌*◌, max, drop}
+use Rattle.std.proofs.Common.{◌+◌, ◌*◌, max, drop}
 use Rattle.forec_kernel.specs.Plain.{expr, exprs, stmt, stmts}
 use Rattle.forec_kernel.specs.Shapes.{plain_kernel}
 use Rattle.forec_kernel.specs.Values.{val, vals, flow, flows, turns, words_alone}

@@ -1,4 +1,4 @@
-use Rattle.std.proofs.Common.{◌≡◌, ◌∙◌, ◌≤◌, min, length, false, pos, arith}
+use Rattle.std.proofs.Common.{◌∙◌, ◌≤◌, min, length, false, pos, arith}
 use Rattle.forec_kernel.specs.declared.shape.VarCopy.{VarCopy}
 use Rattle.kernel_meaning.proofs.FoldLists.{first_more, first_end}
 use Rattle.kernel_meaning.proofs.folds.begin_folds.Goals as goal

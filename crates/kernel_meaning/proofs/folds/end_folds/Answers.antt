@@ -1,8 +1,8 @@
-use Rattle.std.proofs.Common.{◌≡◌, ◌≤◌, min, length, false, pos, arith}
+use Rattle.std.proofs.Common.{◌≤◌, min, length, false, pos, arith}
 use Rattle.forec_kernel.specs.declared.shape.VarCopy.{VarCopy}
 use Rattle.forec_kernel.specs.Shapes.{plain_kernel}
 use Rattle.kernel_meaning.specs.Views.{threads}
-use Rattle.kernel_meaning.proofs.FoldLists.{folded_next, folded_keep, folded_end}
+use Rattle.kernel_meaning.proofs.FoldLists.{folded_keep, folded_end}
 use Rattle.kernel_meaning.proofs.folds.end_folds.Goals as goal
 
 pub returns : goal.returns

@@ -1,6 +1,5 @@
-use Rattle.std.proofs.Common.{◌≡◌, ◌∙◌, ap, get_or, is_ok, true, not, None, pos}
+use Rattle.std.proofs.Common.{◌≡◌, ◌∙◌, ap, get_or, is_ok, true, not}
 use Rattle.forec_kernel.specs.Shapes.{plain_kernel}
-use Rattle.kernel_meaning.specs.declared.folds.Fold.{Fold}
 use Rattle.kernel_meaning.proofs.FoldLists.{folds_more, folds_stop, folds_same, folds_next, blank}
 use Rattle.kernel_meaning.proofs.folds.fold_branch.Goals as goal
 

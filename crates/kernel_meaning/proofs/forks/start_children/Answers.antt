@@ -1,4 +1,4 @@
-use Rattle.std.proofs.Common.{arith, rules}
+use Rattle.std.proofs.Common.{arith}
 use Rattle.forec_kernel.specs.Shapes.{plain_kernel}
 use Rattle.kernel_meaning.proofs.Kernels.{started_none}
 use Rattle.kernel_meaning.proofs.forks.start_children.Goals as goal

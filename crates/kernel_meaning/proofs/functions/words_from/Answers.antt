@@ -1,4 +1,4 @@
-use Rattle.std.proofs.Common.{◌∙◌, cond, is_ok}
+use Rattle.std.proofs.Common.{◌∙◌}
 use Rattle.kernel_meaning.proofs.Words.{zeros_more}
 use Rattle.kernel_meaning.proofs.functions.words_from.Goals as goal
 

@@ -1,4 +1,4 @@
-use Rattle.std.proofs.Common.{◌≡◌, ◌∙◌, ◌≤◌, ap, sym, length, rules}
+use Rattle.std.proofs.Common.{◌∙◌, ◌≤◌, sym, length, rules}
 use Rattle.kernel_meaning.proofs.Puts.{put_some, put_none, set_past}
 use Rattle.kernel_meaning.proofs.moving.set_copy.Goals as goal
 

@@ -1,5 +1,5 @@
 use Rattle.std.proofs.Common.{◌∙◌, sym, add-one, arith}
-use Rattle.kernel_meaning.proofs.Copies.{copy_next, copy_here, copy_past, copy_out}
+use Rattle.kernel_meaning.proofs.Copies.{copy_next, copy_past}
 use Rattle.kernel_meaning.proofs.operators.copy_in.Goals as goal
 
 pub loop-i-preserved : goal.loop-i-preserved

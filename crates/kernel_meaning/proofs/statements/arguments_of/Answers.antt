@@ -1,8 +1,6 @@
-use Rattle.std.proofs.Common.{◌≡◌, ◌∙◌, List, ℤ, ap, map, arith, is_ok, true, not, [], ◌∷◌, ◌++◌}
-use Rattle.forec_kernel.specs.Plain.{exprs, branch}
+use Rattle.std.proofs.Common.{◌≡◌, ◌∙◌, ap, is_ok, true, not}
 use Rattle.forec_kernel.specs.Shapes.{plain_kernel}
-use Rattle.forec_kernel.specs.Values.{setting, vals}
-use Rattle.forec_kernel.specs.Steps.{arguments}
+use Rattle.forec_kernel.specs.Values.{setting}
 use Rattle.kernel_meaning.specs.Metered.{sight}
 use Rattle.kernel_meaning.proofs.Arguments.{lists_more, lists_stop, lists_same, launches_next, items_push}
 use Rattle.kernel_meaning.proofs.statements.arguments_of.Goals as goal

@@ -1,4 +1,4 @@
-use Rattle.std.proofs.Common.{◌≡◌, ◌≢◌, SFits, w32, rules, refl, arith}
+use Rattle.std.proofs.Common.{SFits, w32, rules, refl}
 use Rattle.forec_kernel.specs.Shapes.{plain_kernel}
 use Rattle.kernel_meaning.specs.Views.{looping}
 use Rattle.kernel_meaning.proofs.Tests.{zero_of, nonzero_of}

@@ -1,14 +1,11 @@
-use Rattle.std.proofs.Common.{◌≡◌, ◌∙◌, SFits, w32, rules, ap, sym, arith}
+use Rattle.std.proofs.Common.{◌≡◌, ◌∙◌, SFits, w32, rules, ap, arith}
 use Rattle.std.proofs.lemmas.Int.{to_z-of_z}
-use Rattle.forec_kernel.specs.Plain.{expr, stmt, stmts}
+use Rattle.forec_kernel.specs.Plain.{expr, stmt}
 use Rattle.forec_kernel.specs.Shapes.{plain_kernel}
 use Rattle.forec_kernel.specs.Values.{index_in}
-use Rattle.forec_kernel.specs.Steps.{statement_move, assigned_at, move_with, evaluated}
+use Rattle.forec_kernel.specs.Steps.{assigned_at, evaluated}
 use Rattle.forec_kernel.proofs.VecTerms.{stmt-sequence}
-use Rattle.kernel_meaning.specs.Moving.{IsMoved}
-use Rattle.kernel_meaning.proofs.Tests.{zero_of}
 use Rattle.kernel_meaning.proofs.Stepping.{operand_ok, with_goes, assigned_at_goes}
-use Rattle.kernel_meaning.proofs.Loops.{if_no}
 use Rattle.kernel_meaning.proofs.statements.statement_step.Goals as goal
 
 pub returns-then-immediate : goal.returns-then-immediate

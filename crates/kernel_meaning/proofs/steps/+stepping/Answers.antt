@@ -1,8 +1,4 @@
-use Rattle.std.proofs.Common.{◌≡◌, ◌∙◌, ap, sym, refl}
-use Rattle.forec_kernel.specs.Shapes.{plain_kernel}
-use Rattle.forec_kernel.specs.Steps.{place_at, path_below}
-use Rattle.kernel_meaning.specs.Views.{text, threads}
-use Rattle.kernel_meaning.specs.Moving.{place_or_first}
+use Rattle.std.proofs.Common.{◌≡◌, ◌∙◌, sym, refl}
 use Rattle.kernel_meaning.proofs.Forking.{fork_goes}
 use Rattle.kernel_meaning.proofs.steps.+stepping.Goals as goal
 

@@ -1,6 +1,6 @@
 use Rattle.std.proofs.Common.{◌≡◌, ◌∙◌, ap, sym, subst, take, drop, length, ◌-◌, IfOk}
-use Rattle.forec_kernel.specs.Plain.{stmt, stmts}
-use Rattle.forec_kernel.specs.Texts.{text_of, texts_of, then_list}
+use Rattle.forec_kernel.specs.Plain.{stmts}
+use Rattle.forec_kernel.specs.Texts.{then_list}
 use Rattle.kernel_meaning.specs.Views.{text}
 use Rattle.kernel_meaning.proofs.Lists.{texts_none, texts_some}
 use Rattle.kernel_meaning.proofs.texts.start_list.Goals as goal

@@ -1,4 +1,4 @@
-use Rattle.std.proofs.Common.{◌≡◌, []}
+use Rattle.std.proofs.Common.{[]}
 use Rattle.kernel_meaning.proofs.ticks.advance.Goals as goal
 
 pub returns-in-Ok : goal.returns-in-Ok

@@ -1,4 +1,3 @@
-use Rattle.std.proofs.Common.{◌≡◌}
 use Rattle.kernel_meaning.proofs.Rows.{start_more}
 use Rattle.kernel_meaning.proofs.ticks.first_copies.Goals as goal
 

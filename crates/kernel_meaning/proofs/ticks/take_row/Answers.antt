@@ -1,4 +1,4 @@
-use Rattle.std.proofs.Common.{◌≡◌, ◌∙◌, ◌≤◌, min, length, pos, sym, arith}
+use Rattle.std.proofs.Common.{◌∙◌, ◌≤◌, min, length, pos, sym, arith}
 use Rattle.kernel_meaning.proofs.Rows.{row_next, row_ends}
 use Rattle.kernel_meaning.proofs.ticks.take_row.Goals as goal
 
