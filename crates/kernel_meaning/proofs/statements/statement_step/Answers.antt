@@ -1,0 +1,32 @@
+use Rattle.std.proofs.Common.{◌≡◌, ◌∙◌, SFits, w32, rules, ap, arith}
+use Rattle.std.proofs.lemmas.Int.{to_z-of_z}
+use Rattle.forec_kernel.specs.Plain.{expr, stmt}
+use Rattle.forec_kernel.specs.Shapes.{plain_kernel}
+use Rattle.forec_kernel.specs.Values.{index_in}
+use Rattle.forec_kernel.specs.Steps.{assigned_at, evaluated}
+use Rattle.forec_kernel.proofs.VecTerms.{stmt-sequence}
+use Rattle.kernel_meaning.proofs.Stepping.{operand_ok, with_goes, assigned_at_goes}
+use Rattle.kernel_meaning.proofs.statements.statement_step.Goals as goal
+
+pub returns-then-immediate : goal.returns-then-immediate
+returns-then-immediate c =
+    let body : c.deref-then-immediate.result.now ≡ c.in-Enter.body.value = c.deref-then-immediate.ensures in
+    rw (c.in-Enter.is, c.if-immediate.true, ← body) c.enter_step.ensures
+
+pub returns-in-Set : goal.returns-in-Set
+returns-in-Set c = rw c.in-Set.is (c.after_assign.ensures (plain_kernel c.args.kernel.now) _ _ c.number_of-part.ensures)
+
+pub returns-in-Ok : goal.returns-in-Ok
+returns-in-Ok c =
+    let fits : SFits w32 c.in-Ok.at = search rules in
+    let rest = simp to_z-of_z at (c.after_assign_at.ensures _ _ c.number_of-part-in-Ok.ensures) in
+    rw c.in-SetAt.is
+    (operand_ok _ _ _ _ _ _ _ c.in-Ok.ensures
+    (with_goes (evaluated (record { kernel = plain_kernel c.args.kernel.now; uses = c.args.uses.now }) c.args.words.now c.args.copies.now (expr c.in-SetAt.value))
+    (λ x. assigned_at c.args.words.now c.args.copies.now c.in-SetAt.slot (index_in c.in-SetAt.length c.in-Ok.at) x c.in-SetAt.place)
+    (λ x. assigned_at_goes c.args.words.now c.args.copies.now c.in-SetAt.slot (index_in c.in-SetAt.length c.in-Ok.at) x c.in-SetAt.place)) rest)
+
+pub returns-in-Sequence : goal.returns-in-Sequence
+returns-in-Sequence c =
+    let list : c.deref.result.now ≡ c.in-Sequence.list.items = c.deref.ensures.value in
+    rw (ap stmt c.in-Sequence.is ∙ stmt-sequence c.in-Sequence.list, ← list) (c.moved.ensures _ _ _ 0 c.start_list.ensures (omega arith))

@@ -1,0 +1,5 @@
+pub mod Metered
+pub mod Views
+pub mod Moving
+pub mod States
+pub mod Folding

@@ -1,0 +1,400 @@
+// Ticks.
+
+ghost use Rattle.std.specs.Prelude.{◌≡◌, ◌<◌, ◌+◌, ◌≤◌, ℕ, ℤ, Bool, cond, true, false, length, List, get_or, pos, IfOk, OnErr};
+ghost use Rattle.forec_kernel.specs.Shapes.{PlainKernel, plain_kernel};
+ghost use Rattle.forec_kernel.specs.Texts as plain;
+ghost use Rattle.forec_kernel.specs.Texts.{uses_of, is_running};
+ghost use Rattle.forec_kernel.specs.Steps.{thread_move};
+ghost use Rattle.forec_kernel.specs.Ticks as ticks;
+ghost use Rattle.forec_kernel.specs.Ticks.{begin, start_copies, unmarked, with_row, values_of, outcome_of, tick};
+ghost use Rattle.kernel_meaning.specs.Views.{text, standing};
+ghost use Rattle.kernel_meaning.specs.States.{plain_state, main_thread, IsMain, Advances, GoesOn, after_move, told, is_told};
+
+use crate::children::runs;
+use crate::forks::{body_text, thread_uses, thread_words};
+use crate::functions::words_from;
+use crate::meter::Halt;
+use crate::moving::{Step, set_copy};
+use crate::operators::copy_value;
+use crate::orders::{add_path, steppable};
+use crate::steps::text_step;
+use crate::texts::{Status, Text, duplicate_text};
+use crate::wakes::{settle, wake};
+use forec_base::OutOfMemory;
+use forec_kernel::{Kernel, KernelParts, Outcome, VarCopy, Variable};
+use std::alloc::{AllocError, Global};
+
+/// Thread 0.
+#[derive(Drop)]
+pub(crate) struct Main {
+    pub(crate) text: Text,
+    pub(crate) words: Vec<i32>,
+    pub(crate) copies: Vec<VarCopy>,
+    pub(crate) status: Status,
+}
+
+/// A program between two ticks.
+#[derive(Drop)]
+pub struct State {
+    main: Option<Main>,
+}
+
+fn duplicate_main(alloc: Global, main: &Main) -> Result<Main, AllocError>
+    ensures { IfOk result (λ x. main_thread x ≡ main_thread main.now) }
+{
+    let text = duplicate_text(alloc, &main.text)?;
+    let words = Vec::from_slice(alloc, &main.words)?;
+    let copies = Vec::from_slice(alloc, &main.copies)?;
+    Ok(Main {
+        text,
+        words,
+        copies,
+        status: main.status,
+    })
+}
+
+fn duplicate_state(alloc: Global, state: &State) -> Result<State, AllocError>
+    ensures { IfOk result (λ x. plain_state x ≡ plain_state state.now) }
+{
+    match &state.main {
+        None => Ok(State { main: None }),
+        Some(main) => Ok(State {
+            main: Some(duplicate_main(alloc, main)?),
+        }),
+    }
+}
+
+fn start_copy(variable: &Variable) -> VarCopy
+    ensures { result ≡ record { value = variable.now.start; modified = false } }
+{
+    VarCopy {
+        value: variable.start,
+        modified: false,
+    }
+}
+
+// The variables' values at the start of a program.
+fn first_copies(alloc: Global, variables: &[Variable]) -> Result<Vec<VarCopy>, AllocError>
+    ensures { IfOk result (λ v. v.items ≡ start_copies variables.now) }
+{
+    let mut list = Vec::new(alloc);
+    for variable in variables {
+        list.push(start_copy(variable))?;
+    }
+    Ok(list)
+}
+
+fn without_marks(alloc: Global, copies: &[VarCopy]) -> Result<Vec<VarCopy>, AllocError>
+    ensures { IfOk result (λ v. v.items ≡ unmarked copies.now) }
+{
+    let mut list = Vec::new(alloc);
+    for copy in copies {
+        list.push(VarCopy {
+            value: copy.value,
+            modified: false,
+        })?;
+    }
+    Ok(list)
+}
+
+// An input's copy for a row.
+fn input_at(row: &[i32], at: usize) -> VarCopy
+    requires { at < length row.now }
+    ensures { result ≡ record { value = get_or row.now at (pos 0); modified = false } }
+{
+    VarCopy {
+        value: row[at],
+        modified: false,
+    }
+}
+
+// The inputs get the values of the row.
+fn take_row(uses: &[u32], inputs: &[u32], row: &[i32], copies: &mut Vec<VarCopy>)
+    ensures { copies.new.items ≡ with_row uses.now inputs.now row.now copies.old.items }
+{
+    let count = inputs.len().min(row.len());
+    for i in 0..count {
+        set_copy(uses, copies, inputs[i], input_at(row, i));
+    }
+}
+
+// Thread 0 at the start of a tick.
+fn begin_tick(
+    alloc: Global,
+    kernel: &KernelParts,
+    state: &State,
+    row: &[i32],
+    left: &mut u64,
+) -> Result<Main, Halt>
+    ensures { IsMain left.old left.new result (begin (plain_kernel kernel.now) (plain_state state.now) row.now) }
+{
+    let uses = thread_uses(kernel, 0);
+    let inputs = kernel.shape.inputs.as_slice();
+    match &state.main {
+        None => {
+            let text = body_text(alloc, kernel, 0)?;
+            let words = words_from(alloc, &[], thread_words(kernel, 0))?;
+            let mut copies = first_copies(alloc, &kernel.shape.variables)?;
+            take_row(uses, inputs, row, &mut copies);
+            Ok(Main {
+                text,
+                words,
+                copies,
+                status: Status::Running,
+            })
+        }
+        Some(main) => {
+            let mut copies = without_marks(alloc, &main.copies)?;
+            take_row(uses, inputs, row, &mut copies);
+            let words = Vec::from_slice(alloc, &main.words)?;
+            let part = wake(alloc, kernel, uses, &words, &copies, &main.text, left);
+            match settle(alloc, &main.text, part) {
+                Ok(settled) => Ok(Main {
+                    text: settled.text,
+                    words,
+                    copies,
+                    status: settled.status,
+                }),
+                Err(halt) => Err(halt),
+            }
+        }
+    }
+}
+
+fn standing_as(main: Main, status: Status) -> Main
+    ensures { main_thread result ≡ record (main_thread main) { status = standing status } }
+{
+    Main {
+        text: main.text,
+        words: main.words,
+        copies: main.copies,
+        status,
+    }
+}
+
+// Thread 0 after a step along a path.
+fn step_main(
+    alloc: Global,
+    kernel: &KernelParts,
+    path: &[u32],
+    main: Main,
+    left: &mut u64,
+) -> Result<Main, Halt>
+    ensures { IsMain left.old left.new result (after_move (main_thread main) (thread_move (plain_kernel kernel.now) path.now (main_thread main))) }
+{
+    let uses = thread_uses(kernel, 0);
+    match text_step(
+        alloc,
+        kernel,
+        path,
+        uses,
+        &main.words,
+        &main.copies,
+        &main.text,
+        left,
+    ) {
+        Ok(Step::Finished) => Ok(standing_as(main, Status::Ended)),
+        Ok(Step::Halts) => Ok(standing_as(main, Status::Paused)),
+        Ok(
+            Step::Moves {
+                text,
+                words,
+                copies,
+            },
+        ) => Ok(Main {
+            text,
+            words,
+            copies,
+            status: main.status,
+        }),
+        Err(Halt::Trapped { place, trap }) => {
+            Ok(standing_as(main, Status::Trapped { place, trap }))
+        }
+        Err(halt) => Err(halt),
+    }
+}
+
+// The path to the thread that the order picks, or to the first that can step.
+fn next_path(alloc: Global, order: &[u32], at: usize, from: &Text) -> Result<Vec<u32>, AllocError> {
+    let mut path = Vec::new(alloc);
+    if at < order.len() {
+        let count = steppable(from);
+        if count != 0 {
+            add_path(from, order[at] % count, &mut path)?;
+        }
+    }
+    Ok(path)
+}
+
+// The next step of thread 0.
+fn advance(
+    alloc: Global,
+    kernel: &KernelParts,
+    order: &[u32],
+    at: usize,
+    main: Main,
+    left: &mut u64,
+) -> Result<Main, Halt>
+    ensures { Advances (plain_kernel kernel.now) main left.old left.new result }
+{
+    match next_path(alloc, order, at, &main.text) {
+        Ok(path) => step_main(alloc, kernel, &path, main, left),
+        Err(_) => Err(Halt::OutOfMemory),
+    }
+}
+
+// Steps that cost nothing, up to one that costs units or to the end.
+fn run_free(
+    alloc: Global,
+    kernel: &KernelParts,
+    order: &[u32],
+    at: &mut usize,
+    mut main: Main,
+    left: &mut u64,
+) -> Result<Main, Halt>
+    ensures on { GoesOn (plain_kernel kernel.now) main left.old left.new result }
+    ensures paid { IfOk result (λ m. (left.new ≤ left.old) × (is_running (standing m.status) ≡ true → left.new < left.old)) }
+{
+    let before = *left;
+    'free: while runs(main.status) {
+        let place = *at;
+        *at = place.saturating_add(1);
+        match advance(alloc, kernel, order, place, main, left) {
+            Ok(next) => {
+                if *left < before {
+                    return Ok(next);
+                }
+                main = next;
+            }
+            Err(halt) => return Err(halt),
+        }
+    }
+    Ok(main)
+}
+
+// All steps of a tick.
+fn run_tick(
+    alloc: Global,
+    kernel: &KernelParts,
+    order: &[u32],
+    mut main: Main,
+    left: &mut u64,
+) -> Result<Main, Halt>
+    ensures on { GoesOn (plain_kernel kernel.now) main left.old left.new result }
+    ensures stopped { IfOk result (λ m. is_running (standing m.status) ≡ false) }
+{
+    let mut at = 0;
+    'steps: while runs(main.status) {
+        match run_free(alloc, kernel, order, &mut at, main, left) {
+            Ok(next) => main = next,
+            Err(halt) => return Err(halt),
+        }
+    }
+    Ok(main)
+}
+
+// Thread 0 at the end of a tick; none where the units pass the budget.
+fn tick_of(
+    alloc: Global,
+    kernel: &KernelParts,
+    state: &State,
+    row: &[i32],
+    order: &[u32],
+    budget: u64,
+) -> Result<Option<Main>, OutOfMemory>
+    ensures { IfOk result (λ o. tick (plain_kernel kernel.now) budget (plain_state state.now) row.now ≡ told (plain_kernel kernel.now) (plain_state state.now) o) }
+{
+    let mut left = budget;
+    match begin_tick(alloc, kernel, state, row, &mut left) {
+        Ok(main) => match run_tick(alloc, kernel, order, main, &mut left) {
+            Ok(main) => Ok(Some(main)),
+            Err(Halt::Over) => Ok(None),
+            Err(_) => Err(OutOfMemory),
+        },
+        Err(Halt::Over) => Ok(None),
+        Err(_) => Err(OutOfMemory),
+    }
+}
+
+fn outcome(status: Status) -> Outcome
+    ensures { result ≡ outcome_of (standing status) }
+{
+    match status {
+        Status::Running => Outcome::Over,
+        Status::Paused => Outcome::Paused,
+        Status::Ended | Status::Gone => Outcome::Ended,
+        Status::Trapped { place, trap } => Outcome::Trapped { place, trap },
+    }
+}
+
+fn tells(outcome: Outcome) -> bool
+    ensures { result ≡ is_told outcome }
+{
+    matches!(outcome, Outcome::Paused | Outcome::Ended)
+}
+
+fn write_outputs(uses: &[u32], copies: &[VarCopy], variables: &[u32], outputs: &mut [i32])
+    requires { length outputs.old ≡ length variables.now }
+    ensures { outputs.new ≡ values_of uses.now copies.now variables.now }
+{
+    for i in 0..variables.len() {
+        outputs[i] = copy_value(uses, copies, variables[i]);
+    }
+}
+
+// How a tick ended; its outputs are written where the program goes on or has ended.
+fn tell(kernel: &KernelParts, main: &Main, outputs: &mut [i32]) -> Outcome
+    requires { length outputs.old ≡ length kernel.now.shape.outputs.items }
+    ensures outcome { result ≡ outcome_of (standing main.now.status) }
+    ensures outputs { outputs.new ≡ cond (is_told (outcome_of (standing main.now.status)))
+        (values_of (uses_of (plain_kernel kernel.now) 0) main.now.copies.items kernel.now.shape.outputs.items) outputs.old }
+{
+    let outcome = outcome(main.status);
+    if tells(outcome) {
+        let list = kernel.shape.outputs.as_slice();
+        write_outputs(thread_uses(kernel, 0), &main.copies, list, outputs);
+        return outcome;
+    }
+    outcome
+}
+
+impl State {
+    /// The state before the first tick: nothing has run.
+    pub fn first(alloc: Global, kernel: &Kernel) -> Result<State, OutOfMemory>
+        ensures { IfOk result (λ s. plain_state s ≡ ticks.Fresh) }
+    {
+        Ok(State { main: None })
+    }
+}
+
+/// One tick of a kernel by rewriting its texts, with the outcome and the state after it.
+///
+/// At step i the thread steps that `order[i]`, modulo the number of threads that can step, picks in
+/// preorder; past the list it is the first one. The answer is the same for every order.
+pub fn rewrite_tick(
+    alloc: Global,
+    kernel: &Kernel,
+    state: &State,
+    row: &[i32],
+    order: &[u32],
+    budget: u64,
+    outputs: &mut [i32],
+) -> Result<(Outcome, State), OutOfMemory>
+    requires { length outputs.old ≡ length kernel.now.shape.outputs.items }
+    ensures outcome { IfOk result (λ p. p.0 ≡ (tick (plain_kernel kernel.now) budget (plain_state state.now) row.now).outcome) }
+    ensures state { IfOk result (λ p. plain_state p.1 ≡ (tick (plain_kernel kernel.now) budget (plain_state state.now) row.now).state) }
+    ensures outputs { IfOk result (λ p. outputs.new ≡ cond (is_told p.0) (tick (plain_kernel kernel.now) budget (plain_state state.now) row.now).outputs outputs.old) }
+    ensures err { OnErr result (outputs.new ≡ outputs.old) }
+{
+    let parts = kernel.parts();
+    match tick_of(alloc, parts, state, row, order, budget)? {
+        None => Ok((Outcome::Over, duplicate_state(alloc, state)?)),
+        Some(main) => {
+            let outcome = tell(parts, &main, outputs);
+            Ok((outcome, State { main: Some(main) }))
+        }
+    }
+}
+
+#[cfg(test)]
+mod tests;
