@@ -1,0 +1,1 @@
+// Statements that are certain to pause.
