@@ -1,2 +1,5 @@
 pub mod Branches
 pub mod Arithmetic
+pub mod Indexed
+pub mod Ordered
+pub mod Settled

@@ -1,1 +1,4 @@
 pub mod Forms
+pub mod Index
+pub mod Views
+pub mod Graph
