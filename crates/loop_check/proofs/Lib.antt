@@ -3,3 +3,4 @@ pub mod Arithmetic
 pub mod Indexed
 pub mod Ordered
 pub mod Settled
+pub mod Reading

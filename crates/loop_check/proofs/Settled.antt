@@ -87,10 +87,12 @@ left_is order [] g h = absurd (let q : false ≡ true = h in cc)
 left_is order (f ∷ fs) g h =
     let rest = left_is order fs g in
     split (f == g)
-    (λ e. (ap (λ b. cond b true (is_in g fs)) e,
-    split (is_in f order)
-    (λ o. (rest (sym (ap (is_in g) (ap (λ b. cond b (left_of order fs) (f ∷ left_of order fs)) o)) ∙ h)).1)
-    (λ o. subst (λ x. is_in x order ≡ false) (eqb-true f g e) o)))
+    (λ e. (
+      ap (λ b. cond b true (is_in g fs)) e,
+      split (is_in f order)
+          (λ o. (rest (sym (ap (is_in g) (ap (λ b. cond b (left_of order fs) (f ∷ left_of order fs)) o)) ∙ h)).1)
+          (λ o. subst (λ x. is_in x order ≡ false) (eqb-true f g e) o),
+    ))
     (λ e.
     let r =
     rest (split (is_in f order) (λ o. sym (ap (is_in g) (ap (λ b. cond b (left_of order fs) (f ∷ left_of order fs)) o)) ∙ h)

@@ -2,3 +2,4 @@ pub mod Forms
 pub mod Index
 pub mod Views
 pub mod Graph
+pub mod Known

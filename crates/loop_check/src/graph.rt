@@ -98,7 +98,8 @@ fn marked(alloc: Global, functions: &[u32]) -> Result<Vec<bool>, OutOfMemory>
     Ok(marks)
 }
 
-fn mark(marks: &mut Vec<bool>, f: u32) -> Result<(), OutOfMemory>
+/// Sets the mark of a number.
+pub fn mark(marks: &mut Vec<bool>, f: u32) -> Result<(), OutOfMemory>
     ensures set { OnOk result ((g : ℕ) → slice_index_or marks.new.items g false ≡ plain.set_at f g (slice_index_or marks.old.items g false)) }
     ensures few { OnOk result (trues marks.new.items ≤ trues marks.old.items + 1) }
 {

@@ -52,7 +52,11 @@ fn note(entries: &mut Vec<Entry>, at: usize, item: &Item) -> Result<(), OutOfMem
     grow(entries, id)?;
     let entry = entries[id];
     entries[id] = Entry {
-        first: if entry.first == 0 { at + 1 } else { entry.first },
+        first: if entry.first == 0 {
+            at + 1
+        } else {
+            entry.first
+        },
         global: entry.global || is_global(item),
     };
     Ok(())

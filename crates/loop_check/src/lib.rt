@@ -7,9 +7,12 @@ mod index;
 mod parts;
 mod pauses;
 mod reads;
-mod touch;
 mod runs;
+mod starts;
+mod table;
+mod touch;
 
 pub use graph::order;
 pub use index::{Index, item_name};
 pub use runs::turns;
+pub use table::{Pauses, certain};

@@ -15,7 +15,10 @@ fn signed_number(e: &Expr) -> Option<i32>
 {
     match &e.what {
         ExprKind::Number { value } => Some(*value),
-        ExprKind::Unary { op: Unary::Minus, of } => negated(of),
+        ExprKind::Unary {
+            op: Unary::Minus,
+            of,
+        } => negated(of),
         _ => None,
     }
 }
@@ -81,7 +84,11 @@ fn start_statement(s: &Stmt) -> Option<Start>
     ensures { pair_of result ≡ form.start_statement (plain.statement s.now) }
 {
     match &s.what {
-        StmtKind::Assign { target, op: None, value } => start_with(plain_target(target), value),
+        StmtKind::Assign {
+            target,
+            op: None,
+            value,
+        } => start_with(plain_target(target), value),
         StmtKind::Declare { locals } => start_local(locals.as_slice()),
         _ => None,
     }
@@ -145,8 +152,16 @@ fn step_statement(s: &Stmt) -> Option<Step>
     ensures { step_from result ≡ form.step_statement (plain.statement s.now) }
 {
     match &s.what {
-        StmtKind::Assign { target, op: Some(op), value } => step_with(plain_target(target), op.op, number_of(value)),
-        StmtKind::Assign { target, op: None, value } => step_by_sum(target, value),
+        StmtKind::Assign {
+            target,
+            op: Some(op),
+            value,
+        } => step_with(plain_target(target), op.op, number_of(value)),
+        StmtKind::Assign {
+            target,
+            op: None,
+            value,
+        } => step_by_sum(target, value),
         _ => None,
     }
 }
@@ -165,7 +180,11 @@ fn step_by_sum(target: &Target, value: &Expr) -> Option<Step>
 {
     match &value.what {
         ExprKind::Binary { op, left, right } => {
-            step_with(same_name(plain_target(target), read_of(left)), *op, number_of(right))
+            step_with(
+                same_name(plain_target(target), read_of(left)),
+                *op,
+                number_of(right),
+            )
         }
         _ => None,
     }
@@ -175,13 +194,7 @@ fn same_name(a: Option<u32>, b: Option<u32>) -> Option<u32>
     ensures { result ≡ form.same_name a b }
 {
     match (a, b) {
-        (Some(a), Some(b)) => {
-            if a == b {
-                Some(a)
-            } else {
-                None
-            }
-        }
+        (Some(a), Some(b)) => { if a == b { Some(a) } else { None } }
         _ => None,
     }
 }

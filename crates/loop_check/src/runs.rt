@@ -140,7 +140,13 @@ pub fn form_of(s: &Stmt) -> Option<Form>
     ensures { HasForm result (plain.statement s.now) }
 {
     match &s.what {
-        StmtKind::For { start, test, step, body, .. } => {
+        StmtKind::For {
+            start,
+            test,
+            step,
+            body,
+            ..
+        } => {
             match (start_of(start), test_of(test), step_of(step)) {
                 (Some(start), Some(test), Some(step)) => joined(start, test, step, body),
                 _ => None,

@@ -26,7 +26,12 @@ pub fn touches(id: u32, s: &Stmt) -> bool
             }
         }
         StmtKind::While { body, .. } => touches(id, body),
-        StmtKind::For { start, step, body, .. } => {
+        StmtKind::For {
+            start,
+            step,
+            body,
+            ..
+        } => {
             if let Some(first) = start {
                 if touches(id, first) {
                     return true;

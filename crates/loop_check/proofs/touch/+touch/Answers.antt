@@ -30,11 +30,11 @@ pub branches_touch-loop-branch-preserved : goal.branches_touch-loop-branch-prese
 branches_touch-loop-branch-preserved t c =
     elim c.match-branch.branch [
       | branches_touch-in-Call w ↦
-        sym (call_first (form.branches_touch c.args.id) c.args.list.now c.loop-branch.branch-index c.branch-item.result w.in-Call.name w.in-Call.args
-        c.loop-branch-test.true (sym c.branch-item.is) w.in-Call.is) ∙ c.loop-branch.invariant
+          sym (call_first (form.branches_touch c.args.id) c.args.list.now c.loop-branch.branch-index c.branch-item.result w.in-Call.name w.in-Call.args
+          c.loop-branch-test.true (sym c.branch-item.is) w.in-Call.is) ∙ c.loop-branch.invariant
       | branches_touch-in-Group+else-any_touches w ↦
-        let e = group_first (form.branches_touch c.args.id) c.args.list.now c.loop-branch.branch-index c.branch-item.result w.in-Group.place w.in-Group.body
-        w.as_slice.result.now c.loop-branch-test.true (sym c.branch-item.is) w.in-Group.is w.as_slice.ensures in
-        let d = sym w.any_touches.ensures ∙ w.if-any_touches.false in
-        sym (e ∙ rw d refl) ∙ c.loop-branch.invariant
+          let e = group_first (form.branches_touch c.args.id) c.args.list.now c.loop-branch.branch-index c.branch-item.result w.in-Group.place w.in-Group.body
+          w.as_slice.result.now c.loop-branch-test.true (sym c.branch-item.is) w.in-Group.is w.as_slice.ensures in
+          let d = sym w.any_touches.ensures ∙ w.if-any_touches.false in
+          sym (e ∙ rw d refl) ∙ c.loop-branch.invariant
     ]
