@@ -1,5 +1,5 @@
 -- What the checker's own types show.
-use Rattle.std.specs.Prelude.{ℕ, Bool, Option, Some, None, List, [], ◌∷◌, map, take, drop, ◌++◌}
+use Rattle.std.specs.Prelude.{◌≡◌, ℕ, Bool, Option, Some, None, List, [], ◌∷◌, map, take, drop, ◌++◌}
 use Rattle.forec_tree.specs.declared.uses.Seen.{Seen}
 use Rattle.forec_tree.specs.Scopes as scopes
 use Rattle.forec_tree.specs.Scopes.{find_last}
@@ -20,3 +20,15 @@ array_of_seen (Some v) = Some v.array
 
 abbrev pub local_array : scopes.Scope → ℕ → Option Bool
 local_array s id = array_of_seen (find_last id None (s.outer ++ s.here))
+
+-- the same scope as before, with names added to its innermost part
+pub record Framed (old new : Scope) : Type 0 where
+  pub base : new.base ≡ old.base
+  pub start : new.start ≡ old.start
+  pub front : take old.start new.stack.entries.items ≡ take old.start old.stack.entries.items
+
+-- the same scope as before
+pub record Same (old new : Scope) : Type 0 where
+  pub base : new.base ≡ old.base
+  pub start : new.start ≡ old.start
+  pub entries : new.stack.entries.items ≡ old.stack.entries.items

@@ -3,7 +3,11 @@
 
 mod declaration;
 mod entry;
+mod found;
 mod least;
+mod look;
 mod scope;
 mod stack;
+mod statement;
+mod term;
 mod uses;
