@@ -6,3 +6,4 @@ pub mod Parts
 pub mod Statements
 pub mod Frames
 pub mod Branching
+pub mod ItemRules

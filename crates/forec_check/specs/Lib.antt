@@ -1,3 +1,4 @@
 pub mod Stack
 pub mod Views
 pub mod Walk
+pub mod Items

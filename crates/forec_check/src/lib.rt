@@ -1,9 +1,11 @@
 //! The check of a program: its least fault, or that it has none.
 #![tactic(auto)]
 
+mod counts;
 mod declaration;
 mod entry;
 mod found;
+mod items;
 mod least;
 mod look;
 mod scope;
