@@ -1,8 +1,14 @@
 -- The rules on items, one after the other.
-use Rattle.std.proofs.Common.{ℕ, suc, ◌+◌, ◌<◌, ◌≤◌, ◌≡◌, ◌∙◌, ◌==◌, sym, ap, refl, Bool, true, false, cond, not, ◌&&◌, ◌||◌, Option, Some, None, List, [], ◌∷◌, ◌++◌, length, get_or, drop, take, add-one, map, append_assoc, append-nil, arith}
+use Rattle.std.proofs.Common.{ℕ, zero, suc, ◌+◌, ◌<◌, ◌≤◌, ◌≡◌, ◌∙◌, ◌==◌, sym, ap, refl, Bool, true, false, cond, not, ◌&&◌, ◌||◌, Option, Some, None, List, [], ◌∷◌, ◌++◌, length, get_or, drop, take, add-one, map, append_assoc, append-nil, arith}
 use Rattle.std.specs.Prelude.{nat_lt, nat_le, slice_get}
 use Rattle.std.proofs.Math.Seq.{drop-cons}
-use Rattle.std.proofs.lemmas.List.{drop_all}
+use Rattle.std.proofs.lemmas.List.{drop_all, map-append}
+use Rattle.std.specs.declared.vec.Vec.{Vec}
+use Rattle.std.specs.declared.alloc.Global.{Global}
+use Rattle.forec_tree.specs.declared.tree.Item.{Item}
+use Rattle.forec_tree.specs.Plain.{plain_item}
+use Rattle.loop_check.proofs.Reading.{next_of}
+use Rattle.forec_check.specs.declared.found.Event.{Event}
 use Rattle.forec_base.specs.declared.Place.{Place}
 use Rattle.forec_tree.specs.declared.fault.Fault.{Fault}
 use Rattle.forec_tree.specs.declared.tree.Name.{Name}
@@ -10,12 +16,12 @@ use Rattle.forec_tree.specs.declared.tree.Combine.{Combine}
 use Rattle.forec_tree.specs.Terms.{Text, PlainGlobal, PlainFunction, PlainItem, IsGlobal, IsFunction, Statement}
 use Rattle.forec_tree.specs.Scopes.{Scope, no_scope, with_name, with_params, is_among}
 use Rattle.forec_tree.specs.Findings.{Finding, Declares, in_params, in_statements}
-use Rattle.forec_tree.specs.Rules.{Judging, fault_if, length_faults, too_many, is_long, some_returns, findings_faults}
-use Rattle.forec_tree.specs.Faults.{Before, item_named, combine_faults, global_faults, function_faults, in_function, item_faults, items_faults, least_from, judged}
+use Rattle.forec_tree.specs.Rules.{Judging, fault_if, length_faults, too_many, is_long, some_returns, findings_faults, is_input, is_output, is_none}
+use Rattle.forec_tree.specs.Faults.{Before, item_named, combine_faults, global_faults, function_faults, in_function, item_faults, items_faults, text_faults, main_faults, start_name, main_place, none_before, after_item, one_if, least_from, judged}
 use Rattle.forec_tree.proofs.Least.{least-append}
 use Rattle.forec_check.specs.declared.counts.Counts.{Counts}
-use Rattle.forec_check.specs.Walk.{Gathered, walked, events_of, loops_of}
-use Rattle.forec_check.specs.Items.{is_extra, before_of, head_faults, in_item}
+use Rattle.forec_check.specs.Walk.{Gathered, walked, events_of, loops_of, items_loops, events_lists}
+use Rattle.forec_check.specs.Items.{is_extra, before_of, head_faults, in_item, counts_after, Few}
 use Rattle.forec_check.specs.Views.{judging}
 use Rattle.forec_check.proofs.Walked.{walked-append, walked-none}
 use Rattle.forec_check.proofs.Parts.{two, then}
@@ -93,3 +99,80 @@ module _ (j : Judging) (text : Text) (s : Scope) where
 
   pub params_end : (items : List Name) (i : ℕ) (kept whole : Gathered) → length items ≤ i → walked j (in_params text s (drop i items)) kept ≡ whole → kept ≡ whole
   params_end items i kept whole h w = sym (walked-none j kept) ∙ ap (λ xs. walked j (in_params text s xs) kept) (sym (drop_all i items h)) ∙ w
+
+-- ---- items, one after the other
+
+-- the item of a place, and those behind it
+pub items_at : (items : List Item) (i : ℕ) (x : Item) → i < length items → get_or items i x ≡ x → map plain_item (drop i items) ≡ plain_item x ∷ map plain_item (drop (i + 1) items)
+items_at items i x h e = let d : drop i items ≡ x ∷ drop (i + 1) items = drop-cons items i x h ∙ rw (e, add-one) refl in ap (map plain_item) d
+
+pub item_get : (items : List Item) (i : ℕ) (x : Item) → i < length items → get_or items i x ≡ x → slice_get (map plain_item items) i ≡ Some (plain_item x)
+item_get [] i x h e = absurd (omega arith)
+item_get (y ∷ ys) zero x h e = ap (λ z. Some (plain_item z)) e
+item_get (y ∷ ys) (suc i) x h e = item_get ys i x (omega arith) e
+
+pub before_next : (text : Text) (at : ℕ) (c : Counts) (x : PlainItem) → slice_get text at ≡ Some x → before_of text (at + 1) (counts_after c x) ≡ after_item (before_of text at c) x
+before_next text at c (IsGlobal g) h =
+    ap (λ xs. let b : Before = record { items = xs; inputs = c.inputs + one_if (is_input g.kind); outputs = c.outputs + one_if (is_output g.kind); functions = c.functions } in b)
+    (next_of text at (IsGlobal g) h)
+before_next text at c (IsFunction f) h =
+    ap (λ xs. let b : Before = record { items = xs; inputs = c.inputs; outputs = c.outputs; functions = suc c.functions } in b) (next_of text at (IsFunction f) h)
+
+pub least_step : (text : Text) (names : List (List ℕ)) (rest behind : List PlainItem) (at : ℕ) (c after : Counts) (x : PlainItem) (kept new whole : Option Fault) →
+    slice_get text at ≡ Some x → after ≡ counts_after c x → rest ≡ x ∷ behind → new ≡ least_from kept (item_faults text names (before_of text at c) x) →
+    least_from kept (items_faults text names (before_of text at c) rest) ≡ whole → least_from new (items_faults text names (before_of text (at + 1) after) behind) ≡ whole
+least_step text names rest behind at c after x kept new whole g a r n w =
+    ap (λ q. least_from new (items_faults text names (before_of text (at + 1) q) behind)) a
+    ∙ ap (λ b. least_from new (items_faults text names b behind)) (before_next text at c x g)
+    ∙ ap (λ k. least_from k (items_faults text names (after_item (before_of text at c) x) behind)) n
+    ∙ sym (least-append kept (item_faults text names (before_of text at c) x) (items_faults text names (after_item (before_of text at c) x) behind))
+    ∙ sym (ap (λ l. least_from kept (items_faults text names (before_of text at c) l)) r) ∙ w
+
+pub least_end : (text : Text) (names : List (List ℕ)) (b : Before) (rest : List PlainItem) (kept whole : Option Fault) → rest ≡ [] →
+    least_from kept (items_faults text names b rest) ≡ whole → kept ≡ whole
+unfolding least_from
+least_end text names b rest kept whole h w = sym (ap (λ l. least_from kept (items_faults text names b l)) h) ∙ w
+
+pub loops_step : (text : Text) (rest behind : List PlainItem) (x : PlainItem) (old new whole : List Statement) → rest ≡ x ∷ behind → new ≡ old ++ loops_of (in_item text x) →
+    old ++ items_loops text rest ≡ whole → new ++ items_loops text behind ≡ whole
+loops_step text rest behind x old new whole r n w =
+    ap (λ l. l ++ items_loops text behind) n ∙ append_assoc old (loops_of (in_item text x)) (items_loops text behind)
+    ∙ sym (ap (λ l. old ++ items_loops text l) r) ∙ w
+
+pub bodies_step : (text : Text) (at : ℕ) (x : PlainItem) (old new : List (Vec Event Global)) (v : Vec Event Global) (f : PlainItem → List Event) → slice_get text at ≡ Some x →
+    new ≡ old ++ v ∷ [] → v.items ≡ f x → events_lists old ≡ map f (take at text) → events_lists new ≡ map f (take (at + 1) text)
+bodies_step text at x old new v f g n e h =
+    ap events_lists n ∙ map-append (λ w. w.items) old (v ∷ []) ∙ ap (λ l. l ++ v.items ∷ []) h ∙ ap (λ i. map f (take at text) ++ i ∷ []) e
+    ∙ sym (map-append f (take at text) (x ∷ [])) ∙ ap (map f) (sym (next_of text at x g))
+
+one_le : (b : Bool) → one_if b ≤ 1
+one_le true = omega arith
+one_le false = omega arith
+
+pub few_more : (c after : Counts) (x : PlainItem) (n : ℕ) → after ≡ counts_after c x → Few c (n + 1) → Few after (n + 1 + 1)
+few_more c after (IsGlobal g) n h f =
+    let a = ap (λ y. y.inputs) h in
+    let b = ap (λ y. y.outputs) h in
+    let d = ap (λ y. y.functions) h in
+    let i = one_le (is_input g.kind) in
+    let o = one_le (is_output g.kind) in
+    let p = f.inputs in
+    let q = f.outputs in
+    let r = f.functions in
+    record { inputs = omega (arith, a, i, p); outputs = omega (arith, b, o, q); functions = omega (arith, d, r) }
+few_more c after (IsFunction g) n h f =
+    let a = ap (λ y. y.inputs) h in
+    let b = ap (λ y. y.outputs) h in
+    let d = ap (λ y. y.functions) h in
+    let p = f.inputs in
+    let q = f.outputs in
+    let r = f.functions in
+    record { inputs = omega (arith, a, p); outputs = omega (arith, b, q); functions = omega (arith, d, r) }
+
+pub text_is : (text : Text) (names : List (List ℕ)) (absent : Bool) (place : Place) (k1 k2 : Option Fault) → k1 ≡ least_from None (fault_if absent place 3) →
+    absent ≡ is_none (start_name names text) → place ≡ main_place names text → k2 ≡ least_from k1 (items_faults text names none_before text) →
+    k2 ≡ least_from None (text_faults text names)
+text_is text names absent place k1 k2 h a p g =
+    g ∙ ap (λ k. least_from k (items_faults text names none_before text)) (h ∙ ap (λ b. least_from None (fault_if b place 3)) a
+    ∙ ap (λ q. least_from None (fault_if (is_none (start_name names text)) q 3)) p)
+    ∙ sym (least-append None (main_faults text names) (items_faults text names none_before text))

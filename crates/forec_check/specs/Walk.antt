@@ -6,7 +6,10 @@ use Rattle.forec_tree.specs.declared.uses.How.{How}
 use Rattle.forec_tree.specs.declared.uses.How.TheVariants as how
 use Rattle.forec_tree.specs.declared.uses.Meaning.{Meaning}
 use Rattle.forec_tree.specs.declared.uses.Meaning.TheVariants as means
-use Rattle.forec_tree.specs.Terms.{Statement}
+use Rattle.std.specs.declared.vec.Vec.{Vec}
+use Rattle.std.specs.declared.alloc.Global.{Global}
+use Rattle.forec_tree.specs.Terms.{Text, PlainItem, Statement}
+use Rattle.forec_check.specs.Items.{in_item}
 use Rattle.forec_tree.specs.Plain.{statement}
 use Rattle.forec_tree.specs.Findings as finding
 use Rattle.forec_tree.specs.Findings.{Finding}
@@ -57,3 +60,14 @@ loops_of (f ∷ rest) = finding_loops f ++ loops_of rest
 -- what is kept after some findings
 unfoldable pub walked : Judging → List Finding → Gathered → Gathered
 walked j fs s = record { least = judged j fs s.least; events = s.events ++ events_of fs; loops = s.loops ++ loops_of fs }
+
+-- the events of an item, and the loops of some items
+abbrev pub item_events : Text → PlainItem → List Event
+item_events text i = events_of (in_item text i)
+
+abbrev pub items_loops : Text → List PlainItem → List Statement
+items_loops text [] = []
+items_loops text (i ∷ rest) = loops_of (in_item text i) ++ items_loops text rest
+
+abbrev pub events_lists : List (Vec Event Global) → List (List Event)
+events_lists vs = map (λ v. v.items) vs

@@ -43,7 +43,7 @@ fn params(
 }
 
 /// The faults of a function's parameters and body.
-fn body<'p>(
+pub fn body<'p>(
     index: &Index<'_>,
     names: &Labels,
     scope: &mut Scope,
@@ -120,7 +120,8 @@ fn judge_combine(index: &Index<'_>, combine: Option<Combine>, least: &mut Option
     }
 }
 
-fn is_input(kind: GlobalKind) -> bool
+/// An input.
+pub fn is_input(kind: GlobalKind) -> bool
     ensures { result ≡ rules.is_input kind }
 {
     match kind {
@@ -129,7 +130,8 @@ fn is_input(kind: GlobalKind) -> bool
     }
 }
 
-fn is_output(kind: GlobalKind) -> bool
+/// An output, plain or shared.
+pub fn is_output(kind: GlobalKind) -> bool
     ensures { result ≡ rules.is_output kind }
 {
     match kind {
@@ -147,7 +149,8 @@ fn extra(counts: Counts, kind: GlobalKind) -> bool
     is_output(kind) && 64 <= counts.outputs
 }
 
-fn judge_global(
+/// The faults of a global.
+pub fn judge_global(
     index: &Index<'_>,
     names: &Labels,
     at: usize,
@@ -165,7 +168,8 @@ fn judge_global(
     meet(least, extra(counts, g.kind), g.name.place, 22);
 }
 
-fn judge_head(
+/// The faults of a function but those in its parameters and body.
+pub fn judge_head(
     index: &Index<'_>,
     names: &Labels,
     at: usize,

@@ -3,6 +3,7 @@
 
 mod counts;
 mod declaration;
+mod early;
 mod entry;
 mod found;
 mod items;

@@ -4,3 +4,4 @@ pub mod Indexed
 pub mod Ordered
 pub mod Settled
 pub mod Reading
+pub mod Searched

@@ -11,7 +11,7 @@ use Rattle.loop_check.proofs.Indexed.{split}
 same_id : (f : ℕ) → (f == f) ≡ true
 same_id f = grind (arith, nat_tests)
 
-other_id : (f g : ℕ) → (f == g) ≡ false → g ≢ f
+pub other_id : (f g : ℕ) → (f == g) ≡ false → g ≢ f
 other_id f g h = λ e. grind (arith, nat_tests)
 
 -- ---- lists of numbers
@@ -107,7 +107,7 @@ and_false : (a : Bool) → (a && false) ≡ false
 and_false true = refl
 and_false false = refl
 
-in_marks : (marks : List Bool) (f : ℕ) → get_or marks f false ≡ true → f < length marks
+pub in_marks : (marks : List Bool) (f : ℕ) → get_or marks f false ≡ true → f < length marks
 in_marks [] f h = absurd (let q : false ≡ true = h in cc)
 in_marks (x ∷ xs) zero h = omega arith
 in_marks (x ∷ xs) (suc f) h = let r = in_marks xs f h in omega (arith, r)

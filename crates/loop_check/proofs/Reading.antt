@@ -12,7 +12,7 @@ use Rattle.forec_tree.proofs.Fixed.{IsLocal}
 use Rattle.forec_tree.proofs.Agrees.{certain_local}
 use Rattle.loop_check.specs.Graph.{IsOrder, set_at}
 use Rattle.loop_check.proofs.Settled.{settle, out, all_ordered}
-use Rattle.loop_check.specs.Known.{Read, is_function, put_at, Agrees, Judged}
+use Rattle.loop_check.specs.Known.{Read, list_at, started_in, is_function, put_at, Agrees, Judged}
 use Rattle.loop_check.proofs.Indexed.{split}
 use Rattle.loop_check.proofs.Ordered.{is_in_snoc}
 
@@ -64,18 +64,18 @@ same_item id xs x h =
     (λ e. ap (λ b. or_else (find_item id xs) (cond b (Some x) None)) e ∙ or_none (find_item id xs))
 
 -- nothing new
-stays : (xs ys : Text) (functions : List ℕ) (calls : ℕ → List ℕ) → length xs ≤ length ys → ((id : ℕ) → find_function id ys ≡ find_function id xs) → Read xs functions calls → Read ys functions calls
-stays xs ys functions calls l h r =
+stays : (of : PlainFunction → List ℕ) (xs ys : Text) (functions : List ℕ) (calls : ℕ → List ℕ) → length xs ≤ length ys → ((id : ℕ) → find_function id ys ≡ find_function id xs) → Read of xs functions calls → Read of ys functions calls
+stays of xs ys functions calls l h r =
     record {
       stands = λ id. r.stands id ∙ ap (λ f. not (is_none f)) (sym (h id));
-      lists = λ id. r.lists id ∙ ap function_starts (sym (h id));
+      lists = λ id. r.lists id ∙ ap (list_at of) (sym (h id));
       few = let n = r.few in omega (arith, n, l);
     }
 
-pub read_again : (xs : Text) (x : PlainItem) (functions : List ℕ) (calls : ℕ → List ℕ) → item_named (name_of x).id xs ≡ true →
-    Read xs functions calls → Read (xs ++ x ∷ []) functions calls
-read_again xs x functions calls h r =
-    stays xs (xs ++ x ∷ []) functions calls (let n = length-append xs (x ∷ []) in omega (arith, n)) (λ id. find_is id (xs ++ x ∷ []) ∙ ap function_at (same_item id xs x h) ∙ sym (find_is id xs)) r
+pub read_again : (of : PlainFunction → List ℕ) (xs : Text) (x : PlainItem) (functions : List ℕ) (calls : ℕ → List ℕ) → item_named (name_of x).id xs ≡ true →
+    Read of xs functions calls → Read of (xs ++ x ∷ []) functions calls
+read_again of xs x functions calls h r =
+    stays of xs (xs ++ x ∷ []) functions calls (let n = length-append xs (x ∷ []) in omega (arith, n)) (λ id. find_is id (xs ++ x ∷ []) ∙ ap function_at (same_item id xs x h) ∙ sym (find_is id xs)) r
 
 -- the function that is new, or what was found before
 found_new : (id : ℕ) (xs : Text) (x : PlainItem) → item_named (name_of x).id xs ≡ false →
@@ -91,10 +91,10 @@ found_new id xs x h =
     ap (λ b. function_at (or_else (find_item id xs) (cond b (Some x) None))) e ∙ ap function_at (or_none (find_item id xs)) ∙ sym (find_is id xs)
     ∙ sym (ap (λ b. cond b (function_at (Some x)) (find_function id xs)) e))
 
-pub read_global : (xs : Text) (x : PlainItem) (functions : List ℕ) (calls : ℕ → List ℕ) → item_named (name_of x).id xs ≡ false → function_at (Some x) ≡ None →
-    Read xs functions calls → Read (xs ++ x ∷ []) functions calls
-read_global xs x functions calls h g r =
-    stays xs (xs ++ x ∷ []) functions calls (let n = length-append xs (x ∷ []) in omega (arith, n))
+pub read_global : (of : PlainFunction → List ℕ) (xs : Text) (x : PlainItem) (functions : List ℕ) (calls : ℕ → List ℕ) → item_named (name_of x).id xs ≡ false → function_at (Some x) ≡ None →
+    Read of xs functions calls → Read of (xs ++ x ∷ []) functions calls
+read_global of xs x functions calls h g r =
+    stays of xs (xs ++ x ∷ []) functions calls (let n = length-append xs (x ∷ []) in omega (arith, n))
     (λ id.
     found_new id xs x h ∙
     split ((name_of x).id == id)
@@ -103,10 +103,10 @@ read_global xs x functions calls h g r =
     ap (λ b. cond b (function_at (Some x)) (find_function id xs)) e ∙ g ∙ sym (find_is id xs ∙ ap function_at n))
     (λ e. ap (λ b. cond b (function_at (Some x)) (find_function id xs)) e)) r
 
-pub read_function : (xs : Text) (f : PlainFunction) (functions list : List ℕ) (calls next : ℕ → List ℕ) → item_named f.name.id xs ≡ false →
-    list ≡ all_started f.body → ((g : ℕ) → next g ≡ put_at f.name.id g list (calls g)) →
-    Read xs functions calls → Read (xs ++ IsFunction f ∷ []) (functions ++ f.name.id ∷ []) next
-read_function xs f functions list calls next h e put r =
+pub read_function : (of : PlainFunction → List ℕ) (xs : Text) (f : PlainFunction) (functions list : List ℕ) (calls next : ℕ → List ℕ) → item_named f.name.id xs ≡ false →
+    list ≡ of f → ((g : ℕ) → next g ≡ put_at f.name.id g list (calls g)) →
+    Read of xs functions calls → Read of (xs ++ IsFunction f ∷ []) (functions ++ f.name.id ∷ []) next
+read_function of xs f functions list calls next h e put r =
     record {
       stands = λ id.
           is_in_snoc id f.name.id functions ∙ ap (λ b. b || (f.name.id == id)) (r.stands id)
@@ -116,9 +116,9 @@ read_function xs f functions list calls next h e put r =
             | false ↦ or_false (not (is_none (find_function id xs)))
           ]));
       lists = λ id.
-          put id ∙ ap (λ l. put_at f.name.id id l (calls id)) e ∙ ap (put_at f.name.id id (all_started f.body)) (r.lists id)
-          ∙ sym (ap function_starts (found_new id xs (IsFunction f) h)
-          ∙ (elim (f.name.id == id) as (λ b. function_starts (cond b (Some f) (find_function id xs)) ≡ cond b (all_started f.body) (starts xs id)) [ true ↦ refl | false ↦ refl ]));
+          put id ∙ ap (λ l. put_at f.name.id id l (calls id)) e ∙ ap (put_at f.name.id id (of f)) (r.lists id)
+          ∙ sym (ap (list_at of) (found_new id xs (IsFunction f) h)
+          ∙ (elim (f.name.id == id) as (λ b. list_at of (cond b (Some f) (find_function id xs)) ≡ cond b (of f) (list_at of (find_function id xs))) [ true ↦ refl | false ↦ refl ]));
       few =
           let n = length-append xs (IsFunction f ∷ []) in
           let m = length-append functions (f.name.id ∷ []) in
@@ -189,12 +189,17 @@ no_function text a g h = pick (find_function g text) h
     pick None h = refl
     pick (Some f) h = absurd (let q : true ≡ false = h in cc)
 
+started_list : (f : Option PlainFunction) → list_at started_in f ≡ function_starts f
+started_list None = refl
+started_list (Some f) = refl
+
 -- the table of a whole program
-pub all_judged : (text : Text) (functions order : List ℕ) (calls : ℕ → List ℕ) (table : ℕ → Bool) → Read text functions calls → IsOrder functions calls order →
+pub all_judged : (text : Text) (functions order : List ℕ) (calls : ℕ → List ℕ) (table : ℕ → Bool) → Read started_in text functions calls → IsOrder functions calls order →
     ((f : ℕ) → Leads (starts text) f f → ⊥) → Judged (certain_step text) order (length order) table → (id : ℕ) → table id ≡ certain_function text id
 all_judged text functions order calls table r o free judged id =
+    let lists = λ (f : ℕ). r.lists f ∙ started_list (find_function f text) in
     let loc : IsLocal calls (certain_step text) =
-    record { agrees = λ f a b h. (certain_local text).agrees f a b (λ g e. h g (ap (is_in g) (r.lists f) ∙ e)) } in
+    record { agrees = λ f a b h. (certain_local text).agrees f a b (λ g e. h g (ap (is_in g) (lists f) ∙ e)) } in
     let outside = λ (g : ℕ) (h : is_in g functions ≡ false) (a : ℕ → Bool). no_function text a g (sym (r.stands g) ∙ h) in
     let short = o.short in
     let few = r.few in
@@ -205,4 +210,4 @@ all_judged text functions order calls table r o free judged id =
     (λ i.
     agrees.outside id (ap (is_in id) whole ∙ i)
     ∙ sym (out false (certain_step text) functions calls order o loc outside (length text) id
-    (split (is_in id functions) (λ f. absurd_bool (is_in id order) (all_ordered functions calls order o (λ g l. free g (leads_same calls (starts text) r.lists l)) id f) i) (λ f. f))))
+    (split (is_in id functions) (λ f. absurd_bool (is_in id order) (all_ordered functions calls order o (λ g l. free g (leads_same calls (starts text) lists l)) id f) i) (λ f. f))))

@@ -2,7 +2,7 @@
 use Rattle.std.specs.Prelude.{ℕ, suc, ◌+◌, ◌<◌, ◌≤◌, ◌≡◌, ◌==◌, Bool, true, false, not, cond, ◌&&◌, ◌||◌, Option, Some, None, List, [], ◌∷◌, length, take, slice_get, slice_index_or}
 use Rattle.std.specs.declared.vec.Vec.{Vec}
 use Rattle.std.specs.declared.alloc.Global.{Global}
-use Rattle.forec_tree.specs.Faults.{is_in}
+use Rattle.forec_tree.specs.Faults.{is_in, Leads}
 
 -- the lists of a table by number; none past its end
 abbrev pub list_of : Option (Vec ℕ Global) → List ℕ
@@ -52,3 +52,23 @@ Held functions calls marks n =
 -- a mark after one was set
 abbrev pub set_at : ℕ → ℕ → Bool → Bool
 set_at f g before = cond (f == g) true before
+
+-- ---- which functions lead to one
+
+-- one of a list is the function, or leads to it
+abbrev pub hits : List Bool → ℕ → List ℕ → Bool
+hits reach f [] = false
+hits reach f (g ∷ gs) = (g == f) || (slice_index_or reach g false || hits reach f gs)
+
+pub record Backs (functions : List ℕ) (calls : ℕ → List ℕ) (f : ℕ) (waiting reach : List Bool) : Type 0 where
+  pub right : (g : ℕ) → slice_index_or waiting g false ≡ (is_in g functions && not (slice_index_or reach g false))
+  pub sound : (g : ℕ) → slice_index_or reach g false ≡ true → Leads calls g f
+
+-- none of the first functions that wait calls one that leads on
+abbrev pub Quiet : List ℕ → (ℕ → List ℕ) → ℕ → List Bool → List Bool → ℕ → Type 0
+Quiet functions calls f waiting reach n =
+    (k : ℕ) → k < n → slice_index_or waiting (slice_index_or functions k 0) false ≡ true → hits reach f (calls (slice_index_or functions k 0)) ≡ false
+
+-- functions alone call others
+abbrev pub FunctionsCall : List ℕ → (ℕ → List ℕ) → Type 0
+FunctionsCall functions calls = (g h : ℕ) → is_in h (calls g) ≡ true → is_in g functions ≡ true

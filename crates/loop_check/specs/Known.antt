@@ -1,7 +1,7 @@
 -- What a table says of each function, and the lists that a walk collects.
 use Rattle.std.specs.Prelude.{◌≡◌, ◌<◌, ◌≤◌, ℕ, length, take, Bool, true, false, cond, not, Option, Some, None, List, [], ◌∷◌, ◌==◌, slice_index_or}
 use Rattle.forec_tree.specs.Terms.{Text, PlainItem, IsGlobal, IsFunction, PlainFunction, Statements}
-use Rattle.forec_tree.specs.Pauses.{find_function, starts}
+use Rattle.forec_tree.specs.Pauses.{find_function, all_started}
 use Rattle.forec_tree.specs.Faults.{is_in}
 use Rattle.forec_tree.specs.Rules.{is_none}
 use Rattle.forec_tree.specs.Plain.{plain_function}
@@ -23,11 +23,29 @@ abbrev pub FunctionOf : Option (Bor Function) → Option PlainFunction → Type 
 FunctionOf None f = f ≡ None
 FunctionOf (Some r) f = f ≡ Some (plain_function r.now)
 
--- the functions among some items, and the lists of those that each calls or starts
-pub record Read (text : Text) (functions : List ℕ) (calls : ℕ → List ℕ) : Type 0 where
+-- a list of each function; none where there is no function
+abbrev pub list_at : (PlainFunction → List ℕ) → Option PlainFunction → List ℕ
+list_at of None = []
+list_at of (Some f) = of f
+
+-- the list of a function
+abbrev pub IsListOf : (PlainFunction → List ℕ) → PlainItem → List ℕ → Type 0
+IsListOf of (IsGlobal g) list = Unit {0}
+IsListOf of (IsFunction f) list = list ≡ of f
+
+abbrev pub started_in : PlainFunction → List ℕ
+started_in f = all_started f.body
+
+-- the functions among some items, and a list of each
+pub record Read (of : PlainFunction → List ℕ) (text : Text) (functions : List ℕ) (calls : ℕ → List ℕ) : Type 0 where
   pub stands : (id : ℕ) → is_in id functions ≡ is_function text id
-  pub lists : (id : ℕ) → calls id ≡ starts text id
+  pub lists : (id : ℕ) → calls id ≡ list_at of (find_function id text)
   pub few : length functions ≤ length text
+
+-- one more item with its list, whatever list of a function it is
+abbrev pub Adds : Text → Text → PlainItem → List ℕ → List ℕ → List ℕ → (ℕ → List ℕ) → (ℕ → List ℕ) → Type 0
+Adds before after item list functions functions_after calls calls_after =
+    (of : PlainFunction → List ℕ) → IsListOf of item list → Read of before functions calls → Read of after functions_after calls_after
 
 -- right at the first so many of an order, and false elsewhere
 pub record Agrees (value : ℕ → Bool) (order : List ℕ) (n : ℕ) (table : ℕ → Bool) : Type 0 where

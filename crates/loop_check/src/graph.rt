@@ -8,7 +8,8 @@ ghost use Rattle.loop_check.specs.Graph as plain;
 use forec_base::OutOfMemory;
 use std::alloc::Global;
 
-fn is_waiting(marks: &[bool], id: u32) -> bool
+/// Whether the mark of a number is set.
+pub fn is_waiting(marks: &[bool], id: u32) -> bool
     ensures { result ≡ slice_index_or marks.now id false }
 {
     match marks.get(id as usize) {
@@ -87,7 +88,7 @@ fn round(
 }
 
 /// A mark for each function.
-fn marked(alloc: Global, functions: &[u32]) -> Result<Vec<bool>, OutOfMemory>
+pub fn marked(alloc: Global, functions: &[u32]) -> Result<Vec<bool>, OutOfMemory>
     ensures right { IfOk result (λ marks. (g : ℕ) → slice_index_or marks.items g false ≡ is_in g functions.now) }
     ensures few { IfOk result (λ marks. trues marks.items ≤ length functions.now) }
 {

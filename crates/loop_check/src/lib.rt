@@ -8,11 +8,13 @@ mod parts;
 mod pauses;
 mod reads;
 mod runs;
+mod search;
 mod starts;
 mod table;
 mod touch;
 
-pub use graph::order;
+pub use graph::{is_waiting, marked, order};
 pub use index::{Index, item_name};
 pub use runs::turns;
-pub use table::{Pauses, certain};
+pub use search::reaches_itself;
+pub use table::{Calls, Pauses, add_function, certain};

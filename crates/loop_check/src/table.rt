@@ -7,7 +7,7 @@ ghost use Rattle.forec_tree.specs.Turns.{inferred};
 ghost use Rattle.forec_tree.specs.Pauses as pauses;
 ghost use Rattle.loop_check.specs.Graph.{callees};
 ghost use Rattle.loop_check.specs.Views.{text_of};
-ghost use Rattle.loop_check.specs.Known.{known, FunctionOf, Read, Judged};
+ghost use Rattle.loop_check.specs.Known.{known, started_in, FunctionOf, IsListOf, Read, Adds, Judged};
 ghost use Rattle.loop_check.specs.Known as table;
 
 use crate::graph::{mark, order};
@@ -42,22 +42,23 @@ fn put(alloc: Global, calls: &mut Vec<Vec<u32>>, id: u32, list: Vec<u32>) -> Res
 
 /// The functions that stand among the items by their names, and those that each one calls or starts.
 #[derive(Drop)]
-struct Calls {
-    functions: Vec<u32>,
-    lists: Vec<Vec<u32>>,
+pub struct Calls {
+    pub functions: Vec<u32>,
+    pub lists: Vec<Vec<u32>>,
 }
 
-fn read_item(
+/// Adds a function and its list to those of the items before it, unless one of these has its name.
+pub fn add_function(
     alloc: Global,
     index: &Index<'_>,
     at: usize,
     item: &Item,
-    functions: &mut Vec<u32>,
-    lists: &mut Vec<Vec<u32>>,
+    list: Vec<u32>,
+    calls: &mut Calls,
 ) -> Result<(), OutOfMemory>
-    requires item { slice_get (text_of index.now) at ≡ Some (plain.plain_item item.now) }
-    requires read { Read (take at (text_of index.now)) functions.old.items (callees lists.old.items) }
-    ensures { OnOk result (Read (take (at + 1) (text_of index.now)) functions.new.items (callees lists.new.items)) }
+    requires { slice_get (text_of index.now) at ≡ Some (plain.plain_item item.now) }
+    ensures { OnOk result (Adds (take at (text_of index.now)) (take (at + 1) (text_of index.now)) (plain.plain_item item.now) list.items
+        calls.old.functions.items calls.new.functions.items (callees calls.old.lists.items) (callees calls.new.lists.items)) }
 {
     let id = item_name(item).id;
     if index.named_before(id, at) {
@@ -65,25 +66,36 @@ fn read_item(
     }
     match item {
         Item::Global { .. } => Ok(()),
-        Item::Function { function } => {
-            let mut list = Vec::new(alloc);
-            all_started(&mut list, function.body.as_slice())?;
-            put(alloc, lists, id, list)?;
-            functions.push(id)?;
+        Item::Function { .. } => {
+            put(alloc, &mut calls.lists, id, list)?;
+            calls.functions.push(id)?;
             Ok(())
         }
     }
 }
 
-fn read_calls(alloc: Global, index: &Index<'_>) -> Result<Calls, OutOfMemory>
-    ensures { IfOk result (λ calls. Read (text_of index.now) calls.functions.items (callees calls.lists.items)) }
+fn started_list(alloc: Global, item: &Item) -> Result<Vec<u32>, OutOfMemory>
+    ensures { IfOk result (λ list. IsListOf started_in (plain.plain_item item.now) list.items) }
 {
-    let mut functions = Vec::new(alloc);
-    let mut lists = Vec::new(alloc);
-    for (at, item) in index.items().iter().enumerate() {
-        read_item(alloc, index, at, item, &mut functions, &mut lists)?;
+    let mut list = Vec::new(alloc);
+    if let Item::Function { function } = item {
+        all_started(&mut list, function.body.as_slice())?;
     }
-    Ok(Calls { functions, lists })
+    Ok(list)
+}
+
+fn read_calls(alloc: Global, index: &Index<'_>) -> Result<Calls, OutOfMemory>
+    ensures { IfOk result (λ calls. Read started_in (text_of index.now) calls.functions.items (callees calls.lists.items)) }
+{
+    let mut calls = Calls {
+        functions: Vec::new(alloc),
+        lists: Vec::new(alloc),
+    };
+    for (at, item) in index.items().iter().enumerate() {
+        let list = started_list(alloc, item)?;
+        add_function(alloc, index, at, item, list, &mut calls)?;
+    }
+    Ok(calls)
 }
 
 fn function_certain(index: &Index<'_>, called: &[bool], id: u32) -> bool
