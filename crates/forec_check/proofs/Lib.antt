@@ -7,3 +7,5 @@ pub mod Statements
 pub mod Frames
 pub mod Branching
 pub mod ItemRules
+pub mod Circling
+pub mod Started

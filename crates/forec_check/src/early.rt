@@ -167,6 +167,15 @@ fn main_place(names: &Labels, items: &[Item]) -> Place
     Place { line: 1, column: 1 }
 }
 
+fn is_absent(name: Option<u32>) -> bool
+    ensures { result ≡ rules.is_none name }
+{
+    match name {
+        None => true,
+        Some(_) => false,
+    }
+}
+
 /// Walks over all items once.
 pub fn judge_text<'p>(
     alloc: Global,
@@ -187,7 +196,7 @@ pub fn judge_text<'p>(
         },
         bodies: Vec::new(alloc),
     };
-    let absent = start_name(names, items).is_none();
+    let absent = is_absent(start_name(names, items));
     meet(&mut checking.found.least, absent, main_place(names, items), 3);
     judge_items(alloc, index, names, items, &mut checking)?;
     Ok(checking)

@@ -1,6 +1,7 @@
 //! The check of a program: its least fault, or that it has none.
 #![tactic(auto)]
 
+mod circles;
 mod counts;
 mod declaration;
 mod early;
@@ -9,8 +10,11 @@ mod found;
 mod items;
 mod least;
 mod look;
+mod rules;
 mod scope;
 mod stack;
 mod statement;
 mod term;
 mod uses;
+
+pub use rules::least_early;

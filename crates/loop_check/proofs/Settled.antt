@@ -12,7 +12,7 @@ use Rattle.loop_check.proofs.Ordered.{At, place_of, is_in_at}
 clash : {P : Type 0} (b : Bool) → b ≡ true → b ≡ false → P
 clash b t f = absurd (let q : true ≡ false = sym t ∙ f in cc)
 
-get_take : (xs : List ℕ) (k i : ℕ) → i < k → get_or (take k xs) i 0 ≡ get_or xs i 0
+pub get_take : (xs : List ℕ) (k i : ℕ) → i < k → get_or (take k xs) i 0 ≡ get_or xs i 0
 get_take [] zero i h = refl
 get_take [] (suc k) i h = refl
 get_take (x ∷ xs) zero i h = absurd (omega arith)
