@@ -34,7 +34,7 @@ use Rattle.forec_check.specs.Early.{event_calls, calls_in, Kept, CirclesIn, Earl
 
 -- ---- the calls of events
 
-event_calls-append : (xs ys : List Event) → event_calls (xs ++ ys) ≡ event_calls xs ++ event_calls ys
+pub event_calls-append : (xs ys : List Event) → event_calls (xs ++ ys) ≡ event_calls xs ++ event_calls ys
 event_calls-append [] ys = refl
 event_calls-append (event.Computes id ∷ xs) ys = ap (λ r. id ∷ r) (event_calls-append xs ys)
 event_calls-append (event.Places id ∷ xs) ys = ap (λ r. id ∷ r) (event_calls-append xs ys)
@@ -96,7 +96,7 @@ calls_is (f ∷ rest) =
 
 -- ---- the graph
 
-calls_at : (text : Text) (id : ℕ) → list_at (calls_in text) (find_function id text) ≡ calls_of text id
+pub calls_at : (text : Text) (id : ℕ) → list_at (calls_in text) (find_function id text) ≡ calls_of text id
 calls_at text id = elim (find_item id text) as (λ i. list_at (calls_in text) (elim i [ None ↦ None | Some (IsGlobal g) ↦ None | Some (IsFunction f) ↦ Some f ])
     ≡ elim i [ None ↦ [] | Some (IsGlobal g) ↦ [] | Some (IsFunction f) ↦ called_in (in_function text f) ]) [
   | None ↦ refl
@@ -215,7 +215,7 @@ member_snoc y [] x (later p) = elim p [ ]
 member_snoc y (z ∷ xs) x here = inl here
 member_snoc y (z ∷ xs) x (later p) = ⊎_elim (λ q. inl (later q)) (λ e. inr e) (member_snoc y xs x p)
 
-found_member : (id : ℕ) (xs : Text) (y : PlainItem) → find_item id xs ≡ Some y → Member y xs
+pub found_member : (id : ℕ) (xs : Text) (y : PlainItem) → find_item id xs ≡ Some y → Member y xs
 found_member id [] y h = absurd (let q : None ≡ Some y = h in cc)
 found_member id (x ∷ xs) y h =
     let rest = found_member id xs y in

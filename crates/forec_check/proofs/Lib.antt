@@ -9,3 +9,6 @@ pub mod Branching
 pub mod ItemRules
 pub mod Circling
 pub mod Started
+pub mod Acyclic
+pub mod Looping
+pub mod Namings

@@ -16,6 +16,10 @@ use Rattle.forec_tree.specs.Pauses.{started, all_started, perhaps_started, branc
 use Rattle.forec_tree.specs.Faults.{is_in, called_in}
 use Rattle.forec_tree.proofs.Least.{findings-append}
 use Rattle.loop_check.proofs.Indexed.{split}
+use Rattle.forec_check.specs.Walk.{events_of}
+use Rattle.forec_check.specs.Early.{event_calls}
+use Rattle.forec_check.proofs.Walked.{events-append}
+use Rattle.forec_check.proofs.Circling.{event_calls-append, calls_is}
 
 pub nil_left : {A : Type 0} (xs ys : List A) → xs ++ ys ≡ [] → xs ≡ []
 nil_left [] ys h = refl
@@ -26,16 +30,18 @@ nil_right [] ys h = h
 nil_right (x ∷ xs) ys h = absurd (let q : x ∷ (xs ++ ys) ≡ [] = h in cc)
 
 called_append : (xs ys : List Finding) → called_in (xs ++ ys) ≡ called_in xs ++ called_in ys
-called_append xs ys = ?
+called_append xs ys =
+    sym (calls_is (xs ++ ys)) ∙ ap event_calls (events-append xs ys) ∙ event_calls-append (events_of xs) (events_of ys)
+    ∙ ap (λ l. l ++ event_calls (events_of ys)) (calls_is xs) ∙ ap (λ l. called_in xs ++ l) (calls_is ys)
 
-in_left : (g : ℕ) (xs ys : List ℕ) → is_in g xs ≡ true → is_in g (xs ++ ys) ≡ true
+pub in_left : (g : ℕ) (xs ys : List ℕ) → is_in g xs ≡ true → is_in g (xs ++ ys) ≡ true
 in_left g [] ys h = absurd (let q : false ≡ true = h in cc)
 in_left g (x ∷ xs) ys h =
     let rest = in_left g xs ys in
     split (x == g) (λ e. ap (λ b. cond b true (is_in g (xs ++ ys))) e)
     (λ e. ap (λ b. cond b true (is_in g (xs ++ ys))) e ∙ rest (sym (ap (λ b. cond b true (is_in g xs)) e) ∙ h))
 
-in_right : (g : ℕ) (xs ys : List ℕ) → is_in g ys ≡ true → is_in g (xs ++ ys) ≡ true
+pub in_right : (g : ℕ) (xs ys : List ℕ) → is_in g ys ≡ true → is_in g (xs ++ ys) ≡ true
 in_right g [] ys h = h
 in_right g (x ∷ xs) ys h = let rest = in_right g xs ys h in elim (x == g) as (λ b. cond b true (is_in g (xs ++ ys)) ≡ true) [ true ↦ refl | false ↦ rest ]
 
@@ -48,10 +54,10 @@ either g (x ∷ xs) ys h =
     ⊎_elim (λ i. inl (ap (λ b. cond b true (is_in g xs)) e ∙ i)) (λ i. inr i) (rest (sym (ap (λ b. cond b true (is_in g (xs ++ ys))) e) ∙ h)))
 
 -- what some findings call, among more of them
-called_left : (g : ℕ) (xs ys : List Finding) → is_in g (called_in xs) ≡ true → is_in g (called_in (xs ++ ys)) ≡ true
+pub called_left : (g : ℕ) (xs ys : List Finding) → is_in g (called_in xs) ≡ true → is_in g (called_in (xs ++ ys)) ≡ true
 called_left g xs ys h = ap (is_in g) (called_append xs ys) ∙ in_left g (called_in xs) (called_in ys) h
 
-called_right : (g : ℕ) (xs ys : List Finding) → is_in g (called_in ys) ≡ true → is_in g (called_in (xs ++ ys)) ≡ true
+pub called_right : (g : ℕ) (xs ys : List Finding) → is_in g (called_in ys) ≡ true → is_in g (called_in (xs ++ ys)) ≡ true
 called_right g xs ys h = ap (is_in g) (called_append xs ys) ∙ in_right g (called_in xs) (called_in ys) h
 
 -- clean findings, part by part

@@ -3,3 +3,5 @@ pub mod Views
 pub mod Walk
 pub mod Items
 pub mod Early
+pub mod Late
+pub mod Threads

@@ -10,6 +10,8 @@ mod found;
 mod items;
 mod least;
 mod look;
+mod loops;
+mod naming;
 mod rules;
 mod scope;
 mod stack;

@@ -3,3 +3,4 @@ pub mod Index
 pub mod Views
 pub mod Graph
 pub mod Known
+pub mod Judges
