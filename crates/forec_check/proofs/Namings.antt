@@ -21,7 +21,7 @@ use Rattle.forec_check.specs.Early.{event_calls, calls_in}
 use Rattle.forec_check.specs.Walk.{events_of, finding_events}
 use Rattle.forec_check.proofs.Circling.{event_calls-append, calls_is, calls_at}
 use Rattle.forec_check.proofs.Started.{in_left, in_right}
-use Rattle.forec_check.specs.Threads.{capped, read_event, read_events, capped_step}
+use Rattle.forec_check.specs.Threads.{Alike, capped, read_event, read_events, capped_step}
 
 -- ---- the events tell the same
 
@@ -73,12 +73,6 @@ events_tell g c r (f ∷ rest) =
 
 -- ---- counts up to two
 
--- the same up to two
-pub record Alike (a b : Reading) : Type 0 where
-  pub own : a.own ≡ b.own
-  pub below : min a.below 2 ≡ min b.below 2
-  pub round : a.round ≡ b.round
-
 pub alike_capped : (a b : Reading) → Alike a b → capped (as_naming a) ≡ capped (as_naming b)
 alike_capped a b h =
     ap (λ o. let n : Naming = record { own = o; below = min a.below 2 } in n) h.own ∙ ap (λ m. let n : Naming = record { own = b.own; below = m } in n) h.below
@@ -98,7 +92,7 @@ counted a b h =
 sum_two : (a b x y : ℕ) → min a 2 ≡ min b 2 → min x 2 ≡ min y 2 → min (a + x) 2 ≡ min (b + y) 2
 sum_two a b x y h g = omega (arith, h, g)
 
-closes_alike : (a b : Reading) → Alike a b → (xs ys : List Bool) → xs ≡ ys → Alike (closed a xs) (closed b ys)
+pub closes_alike : (a b : Reading) → Alike a b → (xs ys : List Bool) → xs ≡ ys → Alike (closed a xs) (closed b ys)
 closes_alike a b h [] [] e = h
 closes_alike a b h [] (y ∷ ys) e = absurd (let q : [] ≡ y ∷ ys = e in cc)
 closes_alike a b h (x ∷ xs) [] e = absurd (let q : x ∷ xs ≡ [] = e in cc)
@@ -143,7 +137,7 @@ all_alike g c d (e ∷ es) a b n h =
     cons_calls : (e : Event) (es : List Event) → event_calls (e ∷ es) ≡ event_calls (e ∷ []) ++ event_calls es
     cons_calls e es = event_calls-append (e ∷ []) es
 
-alike_self : (a : Reading) → Alike a a
+pub alike_self : (a : Reading) → Alike a a
 alike_self a = record { own = refl; below = refl; round = refl }
 
 -- ---- the step of a function

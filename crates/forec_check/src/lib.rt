@@ -17,6 +17,7 @@ mod scope;
 mod stack;
 mod statement;
 mod term;
+mod threads;
 mod uses;
 
 pub use rules::least_early;

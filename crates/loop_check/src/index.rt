@@ -1,6 +1,6 @@
 // The items of a program by name.
 
-ghost use Rattle.std.specs.Prelude.{◌≡◌, ◌<◌, ◌≤◌, ◌-◌, ◌^◌, ℕ, map, take, option_map, length, slice_index_or, IfOk, OnOk};
+ghost use Rattle.std.specs.Prelude.{◌≡◌, ◌<◌, ◌≤◌, ◌-◌, ◌^◌, ℕ, map, take, option_map, length, slice_index_or, slice_get, None, MatchOption, IfOk, OnOk};
 ghost use Rattle.forec_tree.specs.Plain.{plain_item};
 ghost use Rattle.forec_tree.specs.Scopes.{name_of, find_item};
 ghost use Rattle.forec_tree.specs.Turns.{global_named};
@@ -113,6 +113,17 @@ impl<'p> Index<'p> {
             return None;
         }
         at(self.items, first - 1)
+    }
+
+    /// Where the first item of a name stands.
+    pub fn position(&self, id: u32) -> Option<usize>
+        ensures { MatchOption result (find_item id (text_of self.now) ≡ None) (λ at. find_item id (text_of self.now) ≡ slice_get (text_of self.now) at) }
+    {
+        let first = self.entry(id).first;
+        if first == 0 {
+            return None;
+        }
+        Some(first - 1)
     }
 
     /// Whether the first so many items have one of this name.
