@@ -83,9 +83,8 @@ module _ (text : Text) (names : List (List ℕ)) (none : (f : Fault) → IsEarly
   first_call {f} {g} (at_once e) = caller text f g e
   first_call {f} {g} (through {g = m} e r) = caller text f m e
 
-  pub no_circle : (f : ℕ) → Leads (starts text) f f → ⊥
-  no_circle f l =
-      let reach = leads_sub l in
+  pub no_reach : (f : ℕ) → Leads (calls_of text) f f → ⊥
+  no_reach f reach =
       let c = first_call reach in
       let id : c.function.name.id ≡ f = found_name f text (IsFunction c.function) c.found in
       none (record { place = c.function.name.place; rule = 6 }) (inr (record {
@@ -95,3 +94,6 @@ module _ (text : Text) (names : List (List ℕ)) (none : (f : Fault) → IsEarly
         reaches = subst (λ n. Leads (calls_of text) n n) (sym id) reach;
         is = refl;
       }))
+
+  pub no_circle : (f : ℕ) → Leads (starts text) f f → ⊥
+  no_circle f l = no_reach f (leads_sub l)

@@ -99,10 +99,10 @@ calls_is (f ∷ rest) =
 pub calls_at : (text : Text) (id : ℕ) → list_at (calls_in text) (find_function id text) ≡ calls_of text id
 calls_at text id = elim (find_item id text) as (λ i. list_at (calls_in text) (elim i [ None ↦ None | Some (IsGlobal g) ↦ None | Some (IsFunction f) ↦ Some f ])
     ≡ elim i [ None ↦ [] | Some (IsGlobal g) ↦ [] | Some (IsFunction f) ↦ called_in (in_function text f) ]) [
-  | None ↦ refl
-  | Some (IsGlobal g) ↦ refl
-  | Some (IsFunction f) ↦ refl
-]
+      | None ↦ refl
+      | Some (IsGlobal g) ↦ refl
+      | Some (IsFunction f) ↦ refl
+    ]
 
 pub graph_is : (text : Text) (functions : List ℕ) (calls : ℕ → List ℕ) → Read (calls_in text) text functions calls → (id : ℕ) → calls id ≡ calls_of text id
 graph_is text functions calls r id = r.lists id ∙ calls_at text id
@@ -315,8 +315,10 @@ module _ (text : Text) (names : List (List ℕ)) (at : ℕ) (x : PlainItem) (get
       ⊎_elim (λ a. inl a)
       (λ c.
       let same : c.0.function ≡ f = (let q : IsFunction c.0.function ≡ IsFunction f = c.1 ∙ is in cc) in
-      inr (back_ (subst (λ h. Reaches text h.name.id h.name.id) same c.0.reaches),
-      c.0.is ∙ ap (λ (h : PlainFunction). let r : Fault = record { place = h.name.place; rule = 6 } in r) same)) (shrinks g p)) step)
+      inr (
+        back_ (subst (λ h. Reaches text h.name.id h.name.id) same c.0.reaches),
+        c.0.is ∙ ap (λ (h : PlainFunction). let r : Fault = record { place = h.name.place; rule = 6 } in r) same,
+      )) (shrinks g p)) step)
 
 -- all items
 pub all_early : (text : Text) (names : List (List ℕ)) (n : ℕ) (k : Option Fault) → length text ≤ n → Kept k (EarlyTo text names (take n text)) → Kept k (IsEarly text names)

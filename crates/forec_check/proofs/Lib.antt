@@ -12,3 +12,5 @@ pub mod Started
 pub mod Acyclic
 pub mod Looping
 pub mod Namings
+pub mod Tabled
+pub mod Lately

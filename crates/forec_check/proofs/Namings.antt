@@ -83,7 +83,7 @@ below_of a b h = ap (λ n. n.below) h
 own_of : (a b : Naming) → capped a ≡ capped b → a.own ≡ b.own
 own_of a b h = ap (λ n. n.own) h
 
-counted : (a b : Naming) → capped a ≡ capped b → min (instances_naming a) 2 ≡ min (instances_naming b) 2
+pub counted : (a b : Naming) → capped a ≡ capped b → min (instances_naming a) 2 ≡ min (instances_naming b) 2
 counted a b h =
     let m = below_of a b h in
     ap (λ o. min (cond o (suc a.below) a.below) 2) (own_of a b h)
@@ -159,7 +159,7 @@ step_alike text g f c d n = pick (find_function f text) (λ h i. n h (ap (is_in 
 pub capped_local : (text : Text) (g : ℕ) → IsLocal (calls_of text) (capped_step text g)
 capped_local text g = record { agrees = λ f a b h. step_alike text g f a b (λ x i. ap capped (h x i)) }
 
-capped_twice : (n : Naming) → capped (capped n) ≡ capped n
+pub capped_twice : (n : Naming) → capped (capped n) ≡ capped n
 capped_twice n = let e : min (min n.below 2) 2 ≡ min n.below 2 = omega arith in ap (λ m. let q : Naming = record { own = n.own; below = m } in q) e
 
 pub capped_within : (text : Text) (g d f : ℕ) → within no_naming (capped_step text g) d f ≡ capped (within no_naming (naming_step text g) d f)

@@ -173,8 +173,8 @@ found_at id b es h l =
     elim (last_is id b (last_of id (take b es)) None (drop b es)) [
       | none_here p q r ↦ absurd (omega (arith, e, p, l, f))
       | one_here k p s q r ↦
-        let n : b + k ≡ last_of id es - 1 = omega (arith, e, p) in
-        q ∙ ap (λ x. Some (seen x)) (get_drop b k es ∙ ap (λ m. get_or es m blank) n)
+          let n : b + k ≡ last_of id es - 1 = omega (arith, e, p) in
+          q ∙ ap (λ x. Some (seen x)) (get_drop b k es ∙ ap (λ m. get_or es m blank) n)
     ]
 
 pub here_is : (id b : ℕ) (es : List Entry) → b ≤ length es → nat_lt b (last_of id es) ≡ is_among id (map seen (drop b es))

@@ -5,3 +5,5 @@ pub mod Items
 pub mod Early
 pub mod Late
 pub mod Threads
+pub mod Checks
+pub mod Checked

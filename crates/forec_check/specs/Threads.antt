@@ -1,5 +1,5 @@
 -- Thread instances that name a global, counted up to two.
-use Rattle.std.specs.Prelude.{ℕ, ◌+◌, ◌==◌, ◌≡◌, Bool, true, false, cond, ◌||◌, ◌&&◌, nat_lt, min, Option, Some, None, List, [], ◌∷◌, ◌++◌, reverse, length, take, slice_index_or}
+use Rattle.std.specs.Prelude.{ℕ, ◌+◌, ◌<◌, ◌==◌, ◌≡◌, Bool, true, false, cond, ◌||◌, ◌&&◌, nat_lt, min, Option, Some, None, List, [], ◌∷◌, ◌++◌, reverse, length, take, slice_index_or}
 use Rattle.forec_tree.specs.Threads.{Naming, Reading, no_naming, closed, instances_naming, as_naming, naming_step}
 use Rattle.forec_tree.specs.Findings.{in_function}
 use Rattle.forec_tree.specs.Pauses.{within}
@@ -86,3 +86,9 @@ global_fault text names (IsFunction f) = []
 abbrev pub globals_faults : Text → List (List ℕ) → List PlainItem → List Fault
 globals_faults text names [] = []
 globals_faults text names (i ∷ rest) = global_fault text names i ++ globals_faults text names rest
+
+-- an order in which each function's naming follows from those before it
+pub record Settles (text : Text) (order : List ℕ) : Type 0 where
+  pub next : (g k : ℕ) (a : ℕ → Naming) → k < length order → Agrees (value_of text g) order k a →
+      capped_step text g a (slice_index_or order k 0) ≡ value_of text g (slice_index_or order k 0)
+  pub rest : (g h : ℕ) → is_in h order ≡ false → value_of text g h ≡ no_naming

@@ -118,7 +118,15 @@ fn judge_items<'p>(
         functions: 0,
     };
     for (at, item) in items.iter().enumerate() {
-        judge_item(index, names, at, counts, item, &mut scope, &mut checking.found)?;
+        judge_item(
+            index,
+            names,
+            at,
+            counts,
+            item,
+            &mut scope,
+            &mut checking.found,
+        )?;
         let events = mem::replace(&mut checking.found.events, Vec::new(alloc));
         checking.bodies.push(events)?;
         counts = after(counts, item);
@@ -197,7 +205,12 @@ pub fn judge_text<'p>(
         bodies: Vec::new(alloc),
     };
     let absent = is_absent(start_name(names, items));
-    meet(&mut checking.found.least, absent, main_place(names, items), 3);
+    meet(
+        &mut checking.found.least,
+        absent,
+        main_place(names, items),
+        3,
+    );
     judge_items(alloc, index, names, items, &mut checking)?;
     Ok(checking)
 }

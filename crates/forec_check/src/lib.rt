@@ -1,12 +1,15 @@
 //! The check of a program: its least fault, or that it has none.
 #![tactic(auto)]
 
+mod check_fault;
+mod checked;
 mod circles;
 mod counts;
 mod declaration;
 mod early;
 mod entry;
 mod found;
+mod front;
 mod items;
 mod least;
 mod look;
@@ -20,4 +23,6 @@ mod term;
 mod threads;
 mod uses;
 
-pub use rules::least_early;
+pub use check_fault::CheckFault;
+pub use checked::Checked;
+pub use front::check;

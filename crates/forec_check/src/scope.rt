@@ -77,7 +77,10 @@ impl Scope {
         ensures inside { (self.new.base ≡ self.old.base) × (self.new.start ≡ length self.old.stack.entries.items) }
         ensures entries { self.new.stack.entries.items ≡ self.old.stack.entries.items }
     {
-        let frame = Frame { base: self.base, start: self.start };
+        let frame = Frame {
+            base: self.base,
+            start: self.start,
+        };
         self.start = self.stack.entries.len();
         frame
     }
@@ -89,7 +92,10 @@ impl Scope {
         ensures inside { (self.new.base ≡ length self.old.stack.entries.items) × (self.new.start ≡ length self.old.stack.entries.items) }
         ensures entries { self.new.stack.entries.items ≡ self.old.stack.entries.items }
     {
-        let frame = Frame { base: self.base, start: self.start };
+        let frame = Frame {
+            base: self.base,
+            start: self.start,
+        };
         let len = self.stack.entries.len();
         self.base = len;
         self.start = len;

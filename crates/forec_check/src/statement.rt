@@ -95,7 +95,12 @@ fn bounded(names: &Labels, gives: bool, bound: Option<Number>, found: &mut Found
     judge_bound(names, gives, bound, &mut found.least);
 }
 
-fn note_loop<'p>(names: &Labels, gives: bool, s: &'p Stmt, found: &mut Found<'p>) -> Result<(), OutOfMemory>
+fn note_loop<'p>(
+    names: &Labels,
+    gives: bool,
+    s: &'p Stmt,
+    found: &mut Found<'p>,
+) -> Result<(), OutOfMemory>
     ensures { OnOk result (found_of found.new ≡ walked (judging names.now gives) (Loop (plain.statement s.now) ∷ []) (found_of found.old)) }
 {
     found.loops.push(s)?;
@@ -129,7 +134,15 @@ fn local(
     ensures frame { OnOk result (Framed scope.old scope.new) }
 {
     let again = scope.is_here(l.name.id);
-    judge_declared(names, gives, l.name, again, l.length, l.values.len(), &mut found.least);
+    judge_declared(
+        names,
+        gives,
+        l.name,
+        again,
+        l.length,
+        l.values.len(),
+        &mut found.least,
+    );
     terms(index, names, gives, scope, l.values.as_slice(), found)?;
     scope.declare(l.name.id, l.length.is_some())?;
     Ok(())
@@ -176,13 +189,25 @@ fn statement<'p>(
             locals(index, names, gives, scope, list.as_slice(), found)?;
             Ok(())
         }
-        StmtKind::Assign { target: to, value, .. } => {
+        StmtKind::Assign {
+            target: to,
+            value,
+            ..
+        } => {
             target(index, names, gives, scope, to, found)?;
             term(index, names, gives, scope, value, found)?;
             Ok(())
         }
         StmtKind::Call { name, args } => {
-            use_name(index, names, gives, scope, How::Runs { args: args.len() }, *name, found)?;
+            use_name(
+                index,
+                names,
+                gives,
+                scope,
+                How::Runs { args: args.len() },
+                *name,
+                found,
+            )?;
             terms(index, names, gives, scope, args.as_slice(), found)?;
             Ok(())
         }
@@ -199,7 +224,13 @@ fn statement<'p>(
             inner(index, names, gives, scope, body, found)?;
             Ok(())
         }
-        StmtKind::For { start, test, step, bound, body } => {
+        StmtKind::For {
+            start,
+            test,
+            step,
+            bound,
+            body,
+        } => {
             note_loop(names, gives, s, found)?;
             bounded(names, gives, *bound, found);
             let frame = scope.enter();
@@ -367,7 +398,15 @@ fn branch<'p>(
 {
     match one {
         Branch::Call { name, args } => {
-            use_name(index, names, gives, scope, How::Starts { args: args.len() }, *name, found)?;
+            use_name(
+                index,
+                names,
+                gives,
+                scope,
+                How::Starts { args: args.len() },
+                *name,
+                found,
+            )?;
             terms(index, names, gives, scope, args.as_slice(), found)?;
             Ok(())
         }

@@ -37,10 +37,11 @@ branches-loop-one-preserved t c =
     let j = judging c.args.names.now c.args.gives in
     let text = text_of c.args.index.now in
     let s = scope_of c.args.scope.now in
-    let k = found_of c.args.found.now in
-    (branches_step j text s c.args.all.now c.loop-one.one-index c.one-item.result (scope_of c.loop-one.scope) (found_of c.loop-one.found) _ _ c.loop-one-test.true (sym c.one-item.is)
-    (same_scope c.args.scope.now c.loop-one.scope c.loop-one.invariant.1) c.in_ok-branch.ensures.found c.loop-one.invariant.0,
-    same_on c.args.scope.now c.loop-one.scope _ c.loop-one.invariant.1 c.in_ok-branch.ensures.same)
+    let k = found_of c.args.found.now in (
+      branches_step j text s c.args.all.now c.loop-one.one-index c.one-item.result (scope_of c.loop-one.scope) (found_of c.loop-one.found) _ _ c.loop-one-test.true (sym c.one-item.is)
+          (same_scope c.args.scope.now c.loop-one.scope c.loop-one.invariant.1) c.in_ok-branch.ensures.found c.loop-one.invariant.0,
+      same_on c.args.scope.now c.loop-one.scope _ c.loop-one.invariant.1 c.in_ok-branch.ensures.same,
+    )
 
 pub branches-returns-clause-found : goal.branches-returns-clause-found
 branches-returns-clause-found t c =
@@ -56,10 +57,11 @@ list-loop-s-preserved t c =
     let text = text_of c.args.index.now in
     let s = scope_of c.args.scope.now in
     let k = found_of c.args.found.now in
-    let r = scope_of c.loop-s.scope in
-    (statements_step j text r c.args.body.now c.loop-s.s-index c.s-item.result _ (found_of c.loop-s.found) (found_of c.statement.new.found) _ c.loop-s-test.true (sym c.s-item.is)
-    c.in_ok-statement.ensures.scope c.in_ok-statement.ensures.found c.loop-s.invariant.0,
-    framed_on c.args.scope.now c.loop-s.scope c.statement.new.scope c.loop-s.invariant.1 c.in_ok-statement.ensures.frame)
+    let r = scope_of c.loop-s.scope in (
+      statements_step j text r c.args.body.now c.loop-s.s-index c.s-item.result _ (found_of c.loop-s.found) (found_of c.statement.new.found) _ c.loop-s-test.true (sym c.s-item.is)
+          c.in_ok-statement.ensures.scope c.in_ok-statement.ensures.found c.loop-s.invariant.0,
+      framed_on c.args.scope.now c.loop-s.scope c.statement.new.scope c.loop-s.invariant.1 c.in_ok-statement.ensures.frame,
+    )
 
 pub list-returns-clause-found : goal.list-returns-clause-found
 list-returns-clause-found t c =
