@@ -102,6 +102,7 @@ nothing_yet functions calls f waiting h =
     none : (g : ℕ) → get_or [] g false ≡ false
     none zero = refl
     none (suc g) = refl
+
     and_yes : (a : Bool) → (a && true) ≡ a
     and_yes true = refl
     and_yes false = refl

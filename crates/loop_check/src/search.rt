@@ -85,7 +85,12 @@ fn look_round(
 
 /// Whether a function reaches itself through calls. Looks at each call for each step of the longest
 /// chain that leads to the function.
-pub fn reaches_itself(alloc: Global, functions: &[u32], calls: &[Vec<u32>], f: u32) -> Result<bool, OutOfMemory>
+pub fn reaches_itself(
+    alloc: Global,
+    functions: &[u32],
+    calls: &[Vec<u32>],
+    f: u32,
+) -> Result<bool, OutOfMemory>
     requires { FunctionsCall functions.now (callees calls.now) }
     ensures reaches { IfOk result (λ answer. answer ≡ true → Leads (callees calls.now) f f) }
     ensures found { IfOk result (λ answer. Leads (callees calls.now) f f → answer ≡ true) }
