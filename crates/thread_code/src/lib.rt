@@ -1,8 +1,11 @@
-//! The code of a kernel's threads and int functions: instructions, blocks, and codes that are valid.
+//! The code of a kernel's threads and int functions: instructions, blocks, codes that are valid, and
+//! the listing of a code.
 #![tactic(auto)]
 
 mod code;
 mod instruction;
+mod printing;
 
 pub use code::Code;
 pub use instruction::{Block, CodeParts, Instruction};
+pub use printing::listing;
