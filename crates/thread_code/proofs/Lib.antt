@@ -1,0 +1,4 @@
+pub mod KernelShape
+pub mod AllFine
+pub mod WorkedCodes
+mod WorkedRuns

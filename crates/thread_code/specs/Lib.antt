@@ -1,3 +1,5 @@
 pub mod Plain
 pub mod Valid
 pub mod Listing
+pub mod Machine
+pub mod Alone
