@@ -2,3 +2,6 @@ pub mod KernelShape
 pub mod AllFine
 pub mod WorkedCodes
 mod WorkedRuns
+pub mod CanBeValid
+mod NotValid
+pub mod Steady

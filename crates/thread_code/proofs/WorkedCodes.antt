@@ -12,24 +12,15 @@ abbrev pub bare : List Instruction → PlainBlock
 bare steps = record { steps = steps; params = 0; words = 0; counters = 0; flags = 0 }
 
 -- while (1) { o = o + 1; pause; }
+abbrev pub counter_steps : List Instruction
+counter_steps =
+    Push (pos 1) ∷ Zero 9 ∷ Get 0 ∷ Push (pos 1) ∷ Binary binary.Add None ∷ Put 0 ∷ Count 1 ∷ Pause 8 ∷ Jump 0 ∷ End ∷ []
+
 abbrev pub counter_code : PlainCode
 counter_code =
     record {
       shape = counter.shape;
-      threads =
-          bare
-          (Push (pos 1)
-          ∷ Zero 9
-          ∷ Get 0
-          ∷ Push (pos 1)
-          ∷ Binary binary.Add None
-          ∷ Put 0
-          ∷ Count 1
-          ∷ Pause 8
-          ∷ Jump 0
-          ∷ End
-          ∷ [])
-          ∷ [];
+      threads = bare counter_steps ∷ [];
       functions = [];
     }
 
