@@ -1,5 +1,5 @@
 -- The condition of `Code::of` can be met: a code with a par that wakes its branches, a combine function, a loop and a pause.
-use Rattle.std.proofs.Common.{ℕ, zero, suc, ◌+◌, ◌<◌, ◌≡◌, ℤ, pos, true, false, Some, None, List, [], ◌∷◌, length, refl, ap, subst, arith}
+use Rattle.std.proofs.Common.{ℕ, zero, suc, ◌<◌, ◌≡◌, ℤ, pos, true, Some, [], ◌∷◌, refl, subst, arith}
 use Rattle.std.specs.Prelude.{slice_get}
 use Rattle.std.proofs.lemmas.Bool.Decides.{nat_tests}
 use Rattle.forec_base.specs.declared.Policy.TheVariants as policy
@@ -10,7 +10,7 @@ use Rattle.forec_kernel.specs.WellFormed.{thread_of}
 use Rattle.forec_kernel.proofs.Worked.{joined_sum}
 use Rattle.forec_kernel.proofs.CanBeMet.{joined_sum_fine}
 use Rattle.thread_code.specs.Plain.{PlainBlock, PlainCode}
-use Rattle.thread_code.specs.Valid.{Scope, of_shape, IsParOf, IsSound, IsBlock, function_arguments, thread_scope, function_scope, deep_within, IsValidCode}
+use Rattle.thread_code.specs.Valid.{of_shape, IsParOf, IsSound, IsBlock, function_arguments, thread_scope, function_scope, deep_within, IsValidCode}
 use Rattle.thread_code.proofs.KernelShape.{shape_is_fine}
 use Rattle.thread_code.proofs.AllFine.{valid_all}
 use Rattle.thread_code.proofs.WorkedCodes.{counter_code, counter_steps, joined_code, bare, adding, plus, par_steps}

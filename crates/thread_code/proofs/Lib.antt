@@ -5,3 +5,4 @@ mod WorkedRuns
 pub mod CanBeValid
 mod NotValid
 pub mod Steady
+pub mod SmallCode

@@ -1,5 +1,5 @@
 -- What makes a block or a code invalid, one for each rule.
-use Rattle.std.proofs.Common.{ℕ, ◌≡◌, length, ℤ, pos, true, false, Some, None, List, [], ◌∷◌, refl, arith}
+use Rattle.std.proofs.Common.{◌≡◌, pos, true, false, Some, None, List, [], ◌∷◌, refl, arith}
 use Rattle.std.proofs.lemmas.Option.{slice_get_within}
 use Rattle.forec_base.specs.declared.Place.{Place}
 use Rattle.forec_base.specs.declared.Policy.TheVariants as policy
@@ -7,8 +7,8 @@ use Rattle.forec_base.specs.declared.operators.Binary.TheVariants as binary
 use Rattle.thread_code.specs.declared.instruction.Instruction.{Instruction}
 use Rattle.thread_code.specs.declared.instruction.Instruction.TheVariants.{Push, Load, LoadAt, Clear, Table, Get, Binary, Jump, Unit as Count, Turn, Flag, Flagged, Fork, Again, Pause, End, Call, Return}
 use Rattle.thread_code.specs.Plain.{PlainBlock, PlainCode}
-use Rattle.thread_code.specs.Valid.{Scope, IsSound, thread_scope, function_scope, deep_within}
-use Rattle.thread_code.proofs.WorkedCodes.{joined_code, plus}
+use Rattle.thread_code.specs.Valid.{IsSound, thread_scope, function_scope, deep_within}
+use Rattle.thread_code.proofs.WorkedCodes.{joined_code}
 
 abbrev code : PlainCode
 code = joined_code policy.All

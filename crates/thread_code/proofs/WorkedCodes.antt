@@ -1,6 +1,5 @@
 -- Codes of worked programs.
-use Rattle.std.proofs.Common.{ℕ, ℤ, pos, Some, None, List, [], ◌∷◌}
-use Rattle.forec_base.specs.declared.Place.{Place}
+use Rattle.std.proofs.Common.{ℤ, pos, None, List, [], ◌∷◌}
 use Rattle.forec_base.specs.declared.Policy.{Policy}
 use Rattle.forec_base.specs.declared.operators.Binary.TheVariants as binary
 use Rattle.forec_kernel.proofs.Worked.{counter, joined_sum}

@@ -3,3 +3,4 @@ pub mod Valid
 pub mod Listing
 pub mod Machine
 pub mod Alone
+pub mod Worked

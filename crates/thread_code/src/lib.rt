@@ -5,6 +5,8 @@
 mod code;
 mod instruction;
 mod printing;
+#[cfg(test)]
+mod tests;
 
 pub use code::Code;
 pub use instruction::{Block, CodeParts, Instruction};
