@@ -6,3 +6,4 @@ pub mod CanBeValid
 mod NotValid
 pub mod Steady
 pub mod SmallCode
+pub mod Unstuck

@@ -4,3 +4,4 @@ pub mod Listing
 pub mod Machine
 pub mod Alone
 pub mod Worked
+pub mod Laws

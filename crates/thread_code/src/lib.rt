@@ -4,10 +4,12 @@
 
 mod code;
 mod instruction;
+mod laws;
 mod printing;
 #[cfg(test)]
 mod tests;
 
 pub use code::Code;
 pub use instruction::{Block, CodeParts, Instruction};
+pub use laws::valid_code_is_never_stuck;
 pub use printing::listing;
