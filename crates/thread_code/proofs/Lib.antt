@@ -7,3 +7,5 @@ mod NotValid
 pub mod Steady
 pub mod SmallCode
 pub mod Unstuck
+pub mod Sized
+pub mod Answers

@@ -11,5 +11,5 @@ mod tests;
 
 pub use code::Code;
 pub use instruction::{Block, CodeParts, Instruction};
-pub use laws::valid_code_is_never_stuck;
+pub use laws::{code_answers_as_its_kernel, jobs_and_replies_fit, valid_code_is_never_stuck};
 pub use printing::listing;
