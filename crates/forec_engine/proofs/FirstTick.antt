@@ -12,7 +12,6 @@ use Rattle.thread_code.specs.declared.instruction.CodeParts.{CodeParts}
 use Rattle.thread_code.specs.declared.instruction.Instruction.{Instruction}
 use Rattle.thread_code.specs.declared.instruction.Instruction.TheVariants as instruction
 use Rattle.thread_code.specs.Plain.{PlainBlock, plain_block, plain_code}
-use Rattle.thread_code.specs.Valid.{IsValidCode}
 use Rattle.forec_engine.specs.declared.machine.Machine.{Machine}
 use Rattle.forec_engine.specs.declared.machine.Stop.TheVariants as stop
 use Rattle.forec_engine.specs.FirstProgram.{Operand, The_output, A_number, Value, Alone, Sum, Difference, Action, Assigns, Pauses, EndlessLoop, operand_expr, value_expr, action_stmt, stmts_of, sequence_of, loop_stmts}
@@ -22,6 +21,7 @@ use Rattle.forec_engine.specs.Reading.{Reads}
 use Rattle.forec_engine.specs.Machine.{IsAt, core_of, Follows, Shows, first_start}
 use Rattle.forec_engine.proofs.Stretch.{has_front, has_back, has_all, comes_on, one}
 use Rattle.forec_engine.proofs.Texts.{text_at}
+use Rattle.forec_engine.proofs.FirstValid.{first_block}
 use Rattle.forec_engine.proofs.Ticking.{no_row, Last, last_reached, over_tick, paused_tick, ended_tick}
 
 -- ---- the terms of a first program
@@ -106,19 +106,17 @@ first_reads k f =
       ends = (has_back (thread_steps body) 0 code end all).0;
     }
 
-pub load_follows : (k : PlainKernel) (c : CodeParts) (x : Block) (m : Machine) → IsCodeOf k c → IsValidCode (plain_code c) →
+pub load_follows : (k : PlainKernel) (c : CodeParts) (x : Block) (m : Machine) → IsCodeOf k c →
     x ≡ get_or c.threads.items 0 x → m.at ≡ 0 → m.output ≡ first_start c.shape.variables.items → m.stack.list ≡ [] → m.stack.room ≡ length x.steps.items →
     Follows k Fresh c m
-load_follows k c x m code valid read at output empty room =
+load_follows k c x m code read at output empty room =
     let b = thread_block (body_of k 0) in
-    let here : slice_get (plain_code c).threads 0 ≡ Some b = ap (λ (bs : List PlainBlock). slice_get bs 0) code.threads in
-    let sound = valid.each_thread 0 b here in
+    let sound = first_block (body_of k 0) (first_body k code.first) in
     let start = output ∙ ap (λ (s : PlainShape). first_start s.variables) code.shape in
     let r = first_reads k code.first in
     record {
       code = code;
       place = record {
-        scope = _;
         depths = sound.depths;
         valid = sound.valid;
         here = subst (λ p. slice_get sound.depths p ≡ Some (length m.stack.list)) (sym at) (subst (λ (l : List ℤ). slice_get sound.depths 0 ≡ Some (length l)) (sym empty) sound.valid.start);
@@ -139,7 +137,7 @@ restarted m = record m { units = 0 }
 pub restarted_at : (k : PlainKernel) (s : State) (c : CodeParts) (x : Block) (m : Machine) → Follows k s c m → x ≡ get_or c.threads.items 0 x → IsAt (plain_block x) (restarted m)
 restarted_at k s c x m f read =
     subst (λ b. IsAt b (restarted m)) (sym (code_block k c x f.code read))
-    (record { scope = f.place.scope; depths = f.place.depths; valid = f.place.valid; here = f.place.here; room = f.place.room })
+    (record { depths = f.place.depths; valid = f.place.valid; here = f.place.here; room = f.place.room })
 
 module _ (k : PlainKernel) (s : State) (c : CodeParts) (x : Block) (m : Machine) (budget : ℕ) (f : Follows k s c m) (read : x ≡ get_or c.threads.items 0 x) where
   abbrev body : Stmt

@@ -1,12 +1,14 @@
 -- The code of a first program is valid: its stack has one depth at each place.
-use Rattle.std.proofs.Common.{◌≡◌, ℕ, zero, suc, ◌+◌, ◌-◌, ◌≤◌, false, Some, None, List, [], ◌∷◌, ◌++◌, length, refl, ap, subst, arith, length-append}
-use Rattle.std.specs.Prelude.{slice_get}
+use Rattle.std.proofs.Common.{◌≡◌, ◌∙◌, sym, ℕ, zero, suc, ◌+◌, ◌-◌, ◌≤◌, false, Some, None, List, [], ◌∷◌, ◌++◌, length, refl, ap, subst, arith, length-append}
+use Rattle.std.specs.Prelude.{slice_get, is_some}
 use Rattle.forec_kernel.specs.declared.terms.Spot.TheVariants as spot
 use Rattle.forec_kernel.specs.Terms.{Expr, Num, Var, Bin, Stmt, Stmts, Nop, Set, Seq, While, Pause, no_stmts, more_stmts}
 use Rattle.thread_code.specs.declared.instruction.Instruction.{Instruction}
 use Rattle.thread_code.specs.declared.instruction.Instruction.TheVariants as instruction
 use Rattle.thread_code.specs.Plain.{PlainBlock}
-use Rattle.thread_code.specs.Valid.{Scope, costs, Leads, IsFine, IsSound}
+use Rattle.thread_code.specs.Valid.{Scope, uses_for, costs, Leads, IsFine, IsSound}
+use Rattle.forec_kernel.specs.Combining.{contains}
+use Rattle.forec_engine.specs.FirstBlock.{IsFirstFine, IsFirstBlock}
 use Rattle.forec_engine.specs.FirstCode.{IsFirstExpr, IsFirstStmt, IsFirstList, expr_code, stmt_code, list_code, thread_block}
 use Rattle.forec_engine.specs.Reading.{HasAt}
 use Rattle.forec_engine.proofs.Stretch.{has_front, has_back, has_all}
@@ -115,15 +117,12 @@ mutual
 
 -- ---- each instruction is fine at its depth
 
-abbrev first_scope : Scope
-first_scope = record { function = false; uses = 0 ∷ [] }
-
 module _ (b : PlainBlock) (depths : List ℕ) where
   abbrev AllFine : ℕ → List Instruction → List ℕ → Type 0
   AllFine p [] [] = Unit {0}
   AllFine p [] (d ∷ ds) = ⊥
   AllFine p (i ∷ is) [] = ⊥
-  AllFine p (i ∷ is) (d ∷ ds) = IsFine first_scope b depths p d i × AllFine (p + 1) is ds
+  AllFine p (i ∷ is) (d ∷ ds) = IsFirstFine b depths p d i × AllFine (p + 1) is ds
 
   fine_join : (p : ℕ) (is js : List Instruction) (ds es : List ℕ) → AllFine p is ds → AllFine (p + length is) js es → AllFine p (is ++ js) (ds ++ es)
   fine_join p [] js [] es h g = let e : p + 0 ≡ p = omega arith in subst (λ n. AllFine n js es) e g
@@ -134,7 +133,7 @@ module _ (b : PlainBlock) (depths : List ℕ) where
       (h.0, fine_join (p + 1) is js ds es h.1 (subst (λ n. AllFine n js es) e g))
 
   each_of : (is : List Instruction) (ds : List ℕ) (q : ℕ) → AllFine q is ds → (k d : ℕ) (i : Instruction) → slice_get is k ≡ Some i → slice_get ds k ≡ Some d →
-      IsFine first_scope b depths (q + k) d i
+      IsFirstFine b depths (q + k) d i
   each_of [] ds q all zero d i hi hd = cc
   each_of [] ds q all (suc k) d i hi hd = cc
   each_of (x ∷ is) [] q all k d i hi hd = absurd all
@@ -142,10 +141,10 @@ module _ (b : PlainBlock) (depths : List ℕ) where
       let z : q ≡ q + 0 = omega arith in
       let a : x ≡ i = cc in
       let c : e ≡ d = cc in
-      subst (λ n. IsFine first_scope b depths n d i) z (subst (λ j. IsFine first_scope b depths q d j) a (subst (λ n. IsFine first_scope b depths q n x) c all.0))
+      subst (λ n. IsFirstFine b depths n d i) z (subst (λ j. IsFirstFine b depths q d j) a (subst (λ n. IsFirstFine b depths q n x) c all.0))
   each_of (x ∷ is) (e ∷ ds) q all (suc k) d i hi hd =
       let n : q + 1 + k ≡ q + suc k = omega arith in
-      subst (λ n. IsFine first_scope b depths n d i) n (each_of is ds (q + 1) all.1 k d i hi hd)
+      subst (λ n. IsFirstFine b depths n d i) n (each_of is ds (q + 1) all.1 k d i hi hd)
 
   lead_at : (p q d : ℕ) → p ≡ q → Leads depths p d → Leads depths q d
   lead_at p q d e h = subst (λ n. Leads depths n d) e h
@@ -223,7 +222,7 @@ module _ (b : PlainBlock) (depths : List ℕ) where
         (h.1.0, ((omega arith, stmt_starts body q f.1 front h1.0, lead_at _ _ 0 len end), fine_join q cb tail db (0 ∷ []) inner ((h.0, λ le. ap costs code.0), tt)))
     stmt_fine Pause p f code h end =
         let len : p + 2 ≡ p + 1 + 1 = omega arith in
-        (h.1.0, ((refl, refl, lead_at _ _ 0 len end), tt))
+        (h.1.0, ((refl, lead_at _ _ 0 len end), tt))
     stmt_fine _ p f code h end = absurd f
 
     list_fine : (list : Stmts) (p : ℕ) → IsFirstList list → HasAt b.steps p (list_code p list) → HasAt depths p (list_depths list) →
@@ -240,8 +239,12 @@ module _ (b : PlainBlock) (depths : List ℕ) where
         (stmt_fine s p f.0 (has_front b.steps p cs cr code) (has_front depths p (stmt_depths s) (list_depths rest) h) (list_starts rest q f.1 more end'))
         (list_fine rest q f.1 (has_back b.steps p cs cr code) more end')
 
-pub sound_block : (body : Stmt) → IsFirstStmt body → IsSound first_scope (thread_block body)
-sound_block body f =
+pub record FirstDepths (b : PlainBlock) : Type 0 where
+  pub depths : List ℕ
+  pub valid : IsFirstBlock b depths
+
+pub first_block : (body : Stmt) → IsFirstStmt body → FirstDepths (thread_block body)
+first_block body f =
     let b = thread_block body in
     let code = stmt_code 0 body in
     let tail = instruction.End ∷ [] in
@@ -252,7 +255,7 @@ sound_block body f =
     let front = has_front depths 0 ds (0 ∷ []) deep in
     let end = (behind b depths 0 ds (0 ∷ []) (length code) (stmt_length body 0 f) deep).0 in
     let long : length depths ≡ length (code ++ tail) = omega (arith, length-append ds (0 ∷ []), length-append code tail, stmt_length body 0 f) in
-    let all = fine_join b depths 0 code tail ds (0 ∷ []) (stmt_fine b depths body 0 f (has_front b.steps 0 code tail has) front end) (refl, tt) in
+    let all = fine_join b depths 0 code tail ds (0 ∷ []) (stmt_fine b depths body 0 f (has_front b.steps 0 code tail has) front end) (tt, tt) in
     let low = low_append (length (code ++ tail)) ds (0 ∷ []) (stmt_low body 0 (length (code ++ tail)) f (omega (arith, length-append code tail))) (omega arith, tt) in
     record {
       depths = depths;
@@ -260,6 +263,26 @@ sound_block body f =
         long = long;
         start = stmt_starts b depths body 0 f front end;
         room = λ p d h. low_get (length (code ++ tail)) depths p d low h;
-        each = λ p d i hi hd. let n : 0 + p ≡ p = omega arith in subst (λ q. IsFine first_scope b depths q d i) n (each_of b depths (code ++ tail) depths 0 all p d i hi hd);
+        each = λ p d i hi hd. let n : 0 + p ≡ p = omega arith in subst (λ q. IsFirstFine b depths q d i) n (each_of b depths (code ++ tail) depths 0 all p d i hi hd);
       };
     }
+
+-- such a block is sound for a thread that uses the first variable
+pub sound_block : (s : Scope) (thread : ℕ) → s.thread ≡ Some thread → uses_for s.code s.thread ≡ 0 ∷ [] → (b : PlainBlock) → FirstDepths b → IsSound s b
+sound_block s thread is uses b f =
+    record {
+      depths = f.depths;
+      valid = record { long = f.valid.long; start = f.valid.start; each = λ p d i at here. fine_too p d i (f.valid.each p d i at here) };
+    }
+  where
+    fine_too : (p d : ℕ) (i : Instruction) → IsFirstFine b f.depths p d i → IsFine s b f.depths p d i
+    fine_too p d (instruction.Push n) h = h
+    fine_too p d (instruction.Get v) h = (ap (contains v) uses ∙ h.0, h.1)
+    fine_too p d (instruction.Put v) h = (ap (contains v) uses ∙ h.0, h.1, h.2)
+    fine_too p d (instruction.Binary op place) h = (h.1 ∙ sym h.0, h.2, h.3)
+    fine_too p d (instruction.Zero to) h = h
+    fine_too p d (instruction.Jump to) h = h
+    fine_too p d (instruction.Unit n) h = h
+    fine_too p d (instruction.Pause to) h = (ap is_some is, subst (Leads f.depths to) (sym h.0) h.1)
+    fine_too p d instruction.End h = ap is_some is
+    fine_too p d _ h = absurd h

@@ -1,56 +1,84 @@
 -- The parts that the generator puts together are a valid code, and the code of its kernel.
-use Rattle.std.proofs.Common.{◌≡◌, ◌∙◌, ℕ, zero, suc, Some, List, [], ◌∷◌, ◌++◌, map, length, refl, sym, ap, subst, arith}
-use Rattle.std.specs.Prelude.{slice_get, IsTrue}
+use Rattle.std.proofs.Common.{◌≡◌, ◌∙◌, ℕ, zero, suc, ◌<◌, Option, None, Some, List, [], ◌∷◌, ◌++◌, map, length, refl, sym, ap, subst, arith}
+use Rattle.std.specs.Prelude.{slice_get}
 use Rattle.forec_kernel.specs.Terms.{Stmt}
 use Rattle.forec_kernel.specs.Shapes.{PlainShape, PlainKernel}
-use Rattle.forec_kernel.specs.Texts.{body_of, uses_in}
-use Rattle.forec_kernel.specs.WellFormed.{ascends, all_below}
+use Rattle.forec_kernel.specs.declared.shape.Variable.{Variable}
+use Rattle.forec_kernel.specs.Values.{function_words}
+use Rattle.forec_kernel.specs.Texts.{body_of, params_in, words_in}
 use Rattle.thread_code.specs.declared.instruction.CodeParts.{CodeParts}
 use Rattle.thread_code.specs.declared.instruction.Instruction.{Instruction}
 use Rattle.thread_code.specs.declared.instruction.Instruction.TheVariants as instruction
 use Rattle.thread_code.specs.declared.instruction.Block.{Block}
 use Rattle.thread_code.specs.Plain.{PlainBlock, PlainCode, plain_block, plain_code}
-use Rattle.thread_code.specs.Valid.{FineShape, IsSound, thread_scope, function_scope, IsValidCode}
+use Rattle.thread_code.specs.Valid.{FineShape, FineThreadShape, FineCombine, IsBlock, function_arguments, thread_scope, function_scope, IsValidCode}
 use Rattle.forec_engine.specs.FirstProgram.{FirstProgram, first_kernel}
 use Rattle.forec_engine.specs.FirstCode.{IsFirstStmt, thread_steps, thread_block, stmt_code, IsFirstKernel, IsCodeOf}
 use Rattle.forec_engine.proofs.FirstTick.{first_body}
-use Rattle.forec_engine.proofs.FirstValid.{sound_block}
+use Rattle.forec_engine.proofs.FirstValid.{first_block, sound_block}
+
+abbrev combine_of : Option Variable → Option ℕ
+combine_of None = None
+combine_of (Some v) = v.combine
 
 fine_shape : (p : FirstProgram) → FineShape (first_kernel p).shape
 fine_shape p =
     record {
       some = omega arith;
-      root_uses = refl;
-      uses_ascend = ascend;
-      uses_named = named;
+      root = record { parent = refl; par = refl; params = refl; uses = refl };
+      each_thread = threads;
+      each_child = λ t some lt. absurd (omega arith);
+      each_function = λ f lt. absurd (omega arith);
+      each_variable = variables;
+      in_order = refl;
       inputs_named = refl;
       inputs_once = refl;
       outputs_named = refl;
       outputs_once = refl;
       names = refl;
+      few_threads = omega arith;
+      few_variables = omega arith;
+      few_functions = omega arith;
+      few_inputs = omega arith;
+      few_outputs = omega arith;
+      few_table_words = omega arith;
     }
   where
-    ascend : (t : ℕ) → IsTrue (ascends (uses_in (first_kernel p).shape.threads t))
-    ascend zero = refl
-    ascend (suc t) = refl
+    threads : (t : ℕ) → t < 1 → FineThreadShape (first_kernel p).shape t
+    threads zero lt = record { params = omega arith; words = omega arith; uses = refl }
+    threads (suc t) lt = absurd (omega arith)
 
-    named : (t : ℕ) → IsTrue (all_below (length (first_kernel p).shape.variables) (uses_in (first_kernel p).shape.threads t))
-    named zero = refl
-    named (suc t) = refl
+    variables : (v : ℕ) (x : Variable) → slice_get (first_kernel p).shape.variables v ≡ Some x → FineCombine (first_kernel p).shape x
+    variables zero x e =
+        let none : None ≡ x.combine = ap combine_of e in record { combine = λ f is. let no = none ∙ is in cc }
+    variables (suc v) x e = cc
 
 abbrev first_code : FirstProgram → Stmt → PlainCode
 first_code p body = record { shape = (first_kernel p).shape; threads = thread_block body ∷ []; functions = [] }
 
 valid_first : (p : FirstProgram) (body : Stmt) → IsFirstStmt body → IsValidCode (first_code p body)
 valid_first p body f =
-    record { shape = fine_shape p; threads = refl; functions = refl; each_thread = each; each_function = none }
+    record {
+      shape = fine_shape p;
+      threads = refl;
+      functions = refl;
+      each_thread = each;
+      each_function = none;
+      ends = λ f lt. absurd (omega arith);
+    }
   where
-    each : (t : ℕ) (b : PlainBlock) → slice_get (thread_block body ∷ []) t ≡ Some b → IsSound (thread_scope (first_kernel p).shape t) b
-    each zero b e = let same : thread_block body ≡ b = cc in subst (λ b. IsSound (thread_scope (first_kernel p).shape 0) b) same (sound_block body f)
+    block : IsBlock (thread_scope (first_code p body) 0) 0 0 (thread_block body)
+    block =
+        record { same = refl; enough = omega arith; sound = sound_block (thread_scope (first_code p body) 0) 0 refl refl (thread_block body) (first_block body f) }
+
+    each : (t : ℕ) (b : PlainBlock) → slice_get (thread_block body ∷ []) t ≡ Some b →
+        IsBlock (thread_scope (first_code p body) t) (params_in (first_kernel p).shape.threads t) (words_in (first_kernel p).shape.threads t) b
+    each zero b e = let same : thread_block body ≡ b = cc in subst (IsBlock (thread_scope (first_code p body) 0) 0 0) same block
     each (suc zero) b e = cc
     each (suc (suc t)) b e = cc
 
-    none : (t : ℕ) (b : PlainBlock) → slice_get [] t ≡ Some b → IsSound function_scope b
+    none : (t : ℕ) (b : PlainBlock) → slice_get [] t ≡ Some b →
+        IsBlock (function_scope (first_code p body)) (function_arguments (first_code p body) t) (function_words (first_kernel p).shape.functions t) b
     none zero b e = cc
     none (suc t) b e = cc
 

@@ -1,17 +1,20 @@
 -- What each instruction does to the machine.
-use Rattle.std.proofs.Common.{◌≡◌, ℕ, zero, suc, ◌+◌, ◌-◌, ◌*◌, ◌<◌, ◌≤◌, List, [], ◌∷◌, length, Some, Bool, true, false, refl, sym, ap, ◌∙◌, subst, ⊎_elim, arith}
+use Rattle.std.proofs.Common.{◌≡◌, ℕ, zero, suc, ◌+◌, ◌-◌, ◌*◌, ◌<◌, ◌≤◌, List, [], ◌∷◌, length, Option, Some, Bool, true, false, refl, sym, ap, ◌∙◌, subst, ⊎_elim, arith}
 use Rattle.std.specs.Prelude.{ℤ, pos, negsuc, slice_get}
 use Rattle.std.proofs.lemmas.Bool.{cases_lt}
 use Rattle.std.proofs.lemmas.Option.{slice_get_past}
 use Rattle.std.proofs.Math.Nat.{mul-le-mul_left}
 use Rattle.forec_base.specs.Numbers.{binary_of}
+use Rattle.forec_base.specs.declared.Place.{Place}
+use Rattle.forec_base.specs.declared.operators.Binary.{Binary}
 use Rattle.thread_code.specs.declared.instruction.Instruction.{Instruction}
 use Rattle.thread_code.specs.declared.instruction.Instruction.TheVariants as instruction
 use Rattle.thread_code.specs.Plain.{PlainBlock}
-use Rattle.thread_code.specs.Valid.{costs, Leads, IsFine}
+use Rattle.thread_code.specs.Valid.{costs, Leads}
 use Rattle.forec_engine.specs.declared.machine.Machine.{Machine}
 use Rattle.forec_engine.specs.Numbers.{Numbers, top_of, rest_of, pushed, popped, pushed_some, operated}
 use Rattle.forec_engine.specs.Core.{Core, On, act, with_top, with_value, zero_to}
+use Rattle.forec_engine.specs.FirstBlock.{IsFirstFine}
 use Rattle.forec_engine.specs.Machine.{IsAt, core_of, left_at, Goes}
 use Rattle.forec_engine.proofs.Stretch.{one, comes_at}
 use Rattle.forec_engine.proofs.Texts.{has_value}
@@ -57,7 +60,7 @@ abbrev pub machine : ℕ → ℕ → ℤ → Numbers → Machine
 machine p u out c = record { at = p; units = u; output = out; stack = c }
 
 module _ (b : PlainBlock) (budget : ℕ) (h : Machine) (at : IsAt b h) where
-  pub fine : (i : Instruction) → slice_get b.steps h.at ≡ Some i → IsFine at.scope b at.depths h.at (length h.stack.list) i
+  pub fine : (i : Instruction) → slice_get b.steps h.at ≡ Some i → IsFirstFine b at.depths h.at (length h.stack.list) i
   fine i is = at.valid.each h.at (length h.stack.list) i is at.here
 
   pub in_block : h.at < length b.steps
@@ -73,7 +76,6 @@ module _ (b : PlainBlock) (budget : ℕ) (h : Machine) (at : IsAt b h) where
   moved_at : (p u d : ℕ) (out : ℤ) (c : Numbers) → Leads at.depths p d → length c.list ≡ d → c.room ≡ h.stack.room → IsAt b (machine p u out c)
   moved_at p u d out c leads n room =
       record {
-        scope = at.scope;
         depths = at.depths;
         valid = at.valid;
         here = subst (λ k. Leads at.depths p k) (sym n) leads;
@@ -175,7 +177,7 @@ module _ (b : PlainBlock) (budget : ℕ) (h : Machine) (at : IsAt b h) where
   pub pause_shows : (to : ℕ) → slice_get b.steps h.at ≡ Some (instruction.Pause to) → IsAt b (record h { at = to }) × (h.stack.list ≡ [])
   pause_shows to is =
       let f = fine (instruction.Pause to) is in
-      (moved_at to h.units 0 h.output h.stack f.2 f.1 refl, empty_list h.stack.list f.1)
+      (moved_at to h.units 0 h.output h.stack f.1 f.0 refl, empty_list h.stack.list f.0)
 
 pub zero_here : (v : ℤ) (to next : ℕ) → v ≡ pos 0 → zero_to v to next ≡ to
 zero_here v to next h = ap (λ n. zero_to n to next) h
@@ -184,3 +186,20 @@ pub zero_other : (v : ℤ) (to next : ℕ) → (v ≡ pos 0 → ⊥) → zero_to
 zero_other (pos zero) to next h = absurd (h refl)
 zero_other (pos (suc n)) to next h = refl
 zero_other (negsuc n) to next h = refl
+
+-- no other instruction stands in the block of a first program
+pub no_other : (b : PlainBlock) (depths : List ℕ) (p d : ℕ) (i : Instruction) → IsFirstFine b depths p d i →
+    ((n : ℤ) → i ≡ instruction.Push n → ⊥) → ((v : ℕ) → i ≡ instruction.Get v → ⊥) → ((v : ℕ) → i ≡ instruction.Put v → ⊥) →
+    ((op : Binary) (place : Option Place) → i ≡ instruction.Binary op place → ⊥) → ((to : ℕ) → i ≡ instruction.Zero to → ⊥) →
+    ((to : ℕ) → i ≡ instruction.Jump to → ⊥) → ((n : ℕ) → i ≡ instruction.Unit n → ⊥) → ((to : ℕ) → i ≡ instruction.Pause to → ⊥) →
+    (i ≡ instruction.End → ⊥) → ⊥
+no_other b depths p d (instruction.Push n) h push get put binary nil jump unit pause end = push n refl
+no_other b depths p d (instruction.Get v) h push get put binary nil jump unit pause end = get v refl
+no_other b depths p d (instruction.Put v) h push get put binary nil jump unit pause end = put v refl
+no_other b depths p d (instruction.Binary op place) h push get put binary nil jump unit pause end = binary op place refl
+no_other b depths p d (instruction.Zero to) h push get put binary nil jump unit pause end = nil to refl
+no_other b depths p d (instruction.Jump to) h push get put binary nil jump unit pause end = jump to refl
+no_other b depths p d (instruction.Unit n) h push get put binary nil jump unit pause end = unit n refl
+no_other b depths p d (instruction.Pause to) h push get put binary nil jump unit pause end = pause to refl
+no_other b depths p d instruction.End h push get put binary nil jump unit pause end = end refl
+no_other b depths p d _ h push get put binary nil jump unit pause end = absurd h

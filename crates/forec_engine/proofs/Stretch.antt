@@ -72,7 +72,7 @@ act_rises (Some (instruction.Jump to)) p st out u = omega arith
 act_rises (Some (instruction.Unit n)) p st out u = omega arith
 act_rises (Some (instruction.Pause to)) p st out u = omega arith
 act_rises (Some instruction.End) p st out u = omega arith
-act_rises None p st out u = omega arith
+act_rises _ p st out u = omega arith
 
 step_rises : (s : List Instruction) (m : Core) → units_in m ≤ units_in (step s m)
 step_rises s (On p st out u) = act_rises (slice_get s p) p st out u

@@ -44,7 +44,7 @@ act (Some (instruction.Jump to)) p st out u = On to st out u
 act (Some (instruction.Unit n)) p st out u = On (p + 1) st out (u + n)
 act (Some (instruction.Pause to)) p st out u = Paused to out u
 act (Some instruction.End) p st out u = Ended out u
-act None p st out u = Stuck u
+act _ p st out u = Stuck u
 
 abbrev pub step : List Instruction → Core → Core
 step s (On p st out u) = act (slice_get s p) p st out u

@@ -4,6 +4,7 @@ pub mod Ends
 pub mod FirstForm
 pub mod FirstProgram
 pub mod FirstCode
+pub mod FirstBlock
 pub mod Numbers
 pub mod Core
 pub mod Reading

@@ -9,20 +9,20 @@ use Rattle.forec_kernel.specs.Ticks.{State, begin}
 use Rattle.thread_code.specs.declared.instruction.CodeParts.{CodeParts}
 use Rattle.thread_code.specs.declared.instruction.Instruction.TheVariants as instruction
 use Rattle.thread_code.specs.Plain.{PlainBlock}
-use Rattle.thread_code.specs.Valid.{Scope, costs, Leads, IsValid}
+use Rattle.thread_code.specs.Valid.{costs, Leads}
 use Rattle.forec_engine.specs.declared.machine.Machine.{Machine}
 use Rattle.forec_engine.specs.declared.machine.Stop.{Stop}
 use Rattle.forec_engine.specs.declared.machine.Stop.TheVariants as stop
 pub use Rattle.forec_engine.specs.FirstCode.{IsFirstKernel, IsCodeOf}
 use Rattle.forec_engine.specs.FirstCode.{thread_block, thread_steps}
+use Rattle.forec_engine.specs.FirstBlock.{IsFirstBlock}
 use Rattle.forec_engine.specs.Core.{Core, On, Comes}
 use Rattle.forec_engine.specs.Reading.{Reads}
 
 -- a valid block, at a place of which the machine is, with room on the stack
 pub record IsAt (b : PlainBlock) (m : Machine) : Type 0 where
-  pub scope : Scope
   pub depths : List ℕ
-  pub valid : IsValid scope b depths
+  pub valid : IsFirstBlock b depths
   pub here : Leads depths m.at (length m.stack.list)
   pub room : m.stack.room ≡ length b.steps
 

@@ -140,6 +140,7 @@ impl Machine {
             }
             Instruction::Pause { to } => Some(Stop::Paused { wake: to }),
             Instruction::End => Some(Stop::Ended),
+            _ => unreachable!(),
         }
     }
 

@@ -1,8 +1,15 @@
-//! The code of a kernel's threads and int functions: instructions, blocks, and codes that are valid.
+//! The code of a kernel's threads and int functions: instructions, blocks, codes that are valid, and
+//! the listing of a code.
 #![tactic(auto)]
 
 mod code;
 mod instruction;
+mod laws;
+mod printing;
+#[cfg(test)]
+mod tests;
 
 pub use code::Code;
 pub use instruction::{Block, CodeParts, Instruction};
+pub use laws::{code_answers_as_its_kernel, jobs_and_replies_fit, valid_code_is_never_stuck};
+pub use printing::listing;

@@ -2,7 +2,7 @@ use Rattle.std.proofs.Common.{rules, w32, to_z, of_z, ◌≡◌, ◌+◌, arith,
 use Rattle.std.specs.Prelude.{slice_get}
 use Rattle.thread_code.specs.Plain.{plain_block}
 use Rattle.thread_code.specs.declared.instruction.Instruction.TheVariants as instruction
-use Rattle.forec_engine.proofs.Steps.{fine, next_in, grows, push_goes, get_goes, put_goes, operate_goes, zero_goes, jump_goes, count_goes, pause_shows, zero_here, zero_other}
+use Rattle.forec_engine.proofs.Steps.{fine, next_in, grows, push_goes, get_goes, put_goes, operate_goes, zero_goes, jump_goes, count_goes, pause_shows, no_other, zero_here, zero_other}
 use Rattle.forec_engine.specs.Numbers.{top_of}
 use Rattle.forec_engine.proofs.machine.Machine.advance.Goals as goal
 
@@ -218,3 +218,12 @@ returns-in-Pause-clause-stops c =
     let is : slice_get b.steps h.at ≡ Some (instruction.Pause c.in-Pause.to) = c.fetch.ensures ∙ ap Some c.in-Pause.is in
     let p = pause_shows b c.args.budget h at c.in-Pause.to is in
     (is, c.requires.within, p.0, p.1)
+
+pub unreachable-requires : goal.unreachable-requires
+unreachable-requires c =
+    let b = plain_block c.args.block.now in
+    let h = c.args.self.now in
+    let at = c.requires.at in
+    let o = c.in_default in
+    no_other b at.depths h.at _ c.fetch.result.now (fine b c.args.budget h at _ c.fetch.ensures) o.not-Push o.not-Get o.not-Put o.not-Binary o.not-Zero o.not-Jump o.not-Unit o.not-Pause
+    o.not-End

@@ -15,4 +15,4 @@ returns c =
     let start : m.output ≡ first_start c.args.code.now.shape.variables.items =
     value ∙ c.start_of.ensures ∙ ap (λ (p : CodeParts). first_start p.shape.variables.items) c.parts-parts.ensures.same in
     let room : c.in_ok-stack.stack.room ≡ length x.steps.items = omega (arith, c.in_ok-stack.ensures.1 ∙ c.len.ensures, x.steps.ok.0) in
-    λ k code. load_follows k c.args.code.now x m code c.parts-parts.ensures.valid read refl start c.in_ok-stack.ensures.0 room
+    λ k code. load_follows k c.args.code.now x m code read refl start c.in_ok-stack.ensures.0 room

@@ -1,0 +1,16 @@
+pub mod Stacked
+pub mod UseRules
+pub mod Texts
+pub mod Walked
+pub mod Parts
+pub mod Statements
+pub mod Frames
+pub mod Branching
+pub mod ItemRules
+pub mod Circling
+pub mod Started
+pub mod Acyclic
+pub mod Looping
+pub mod Namings
+pub mod Tabled
+pub mod Lately

@@ -1,0 +1,14 @@
+use Rattle.std.proofs.Common.{◌≡◌, ◌≤◌, ◌∙◌, sym, ap, length, map, arith}
+use Rattle.std.proofs.lemmas.List.{length-map}
+use Rattle.forec_tree.specs.Plain.{plain_item}
+use Rattle.loop_check.specs.Views.{text_of}
+use Rattle.forec_check.proofs.Circling.{all_early}
+use Rattle.forec_check.proofs.circles.judge_circles.Goals as goal
+
+pub returns : goal.returns
+returns c =
+    let text = text_of c.args.index.now in
+    let e = ap length (sym c.requires.items) in
+    let m = length-map c.args.items.now plain_item in
+    let t = c.loop-at-test.false in
+    all_early text c.args.names.now c.loop-at.at c.loop-at.least (omega (arith, e, m, t)) c.loop-at.invariant

@@ -1,0 +1,33 @@
+use Rattle.std.proofs.Common.{◌≡◌, ◌∙◌, sym, ap, subst, map, Bor}
+use Rattle.forec_tree.specs.declared.tree.Stmt.{Stmt}
+use Rattle.forec_tree.specs.Plain as plain
+use Rattle.forec_tree.specs.Pauses.{starts}
+use Rattle.forec_tree.specs.Faults.{Leads}
+use Rattle.loop_check.specs.Graph.{callees, IsOrder}
+use Rattle.loop_check.specs.Judges.{judge_text}
+use Rattle.loop_check.specs.Views.{text_of}
+use Rattle.forec_check.specs.Threads.{Settles}
+use Rattle.forec_check.proofs.Acyclic.{no_circle, no_reach}
+use Rattle.forec_check.proofs.Tabled.{settles_is}
+use Rattle.forec_check.proofs.Lately.{both_late}
+use Rattle.forec_check.proofs.rules.least_late.Goals as goal
+
+pub judge_globals-requires-clause-order : goal.judge_globals-requires-clause-order
+judge_globals-requires-clause-order c =
+    let text = text_of c.args.index.now in
+    let functions = c.args.calls.now.functions.items in
+    let lists = c.args.calls.now.lists.items in
+    let order = c.in_ok-order.order.items in
+    let ordered : IsOrder functions (callees lists) order =
+    subst (λ l. IsOrder functions (callees l) order) c.deref-2.ensures.value (subst (λ f. IsOrder f (callees c.deref-2.result.now) order) c.deref.ensures.value c.in_ok-order.ensures) in
+    subst (λ o. Settles text o) (sym c.deref-4.ensures.value) (settles_is text functions order (callees lists) c.requires.read ordered (no_reach text c.args.names.now c.requires.early))
+
+pub of-requires : goal.of-requires
+of-requires c = λ f l. no_circle (text_of c.args.index.now) c.args.names.now c.requires.early f (subst (λ t. Leads (starts t) f f) c.requires.items l)
+
+pub returns : goal.returns
+returns c =
+    let text = text_of c.args.index.now in
+    let shown = λ (r : Bor Stmt). plain.statement r.now in
+    both_late text c.args.names.now (judge_text c.in_ok-pauses.pauses) (map shown c.deref-5.result.now) c.judge_globals.new.least c.judge_loops.new.least c.in_ok-judge_globals.ensures
+    (c.in_ok-pauses.ensures ∙ c.requires.items) (ap (map shown) c.deref-5.ensures.value ∙ c.requires.loops) c.judge_loops.ensures

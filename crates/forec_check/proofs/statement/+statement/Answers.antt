@@ -1,0 +1,198 @@
+use Rattle.std.proofs.Common.{◌≡◌, ◌∙◌, sym, ap, refl}
+use Rattle.forec_tree.specs.Plain as plain
+use Rattle.forec_tree.specs.Terms.{Statement}
+use Rattle.forec_tree.specs.Scopes.{entered, behind_perhaps}
+use Rattle.forec_tree.specs.Findings.{in_statement}
+use Rattle.forec_tree.proofs.Rows.{of_if, of_for, of_par, perhaps_of}
+use Rattle.loop_check.specs.Views.{text_of}
+use Rattle.forec_check.specs.Views.{judging, scope_of}
+use Rattle.forec_check.specs.Walk.{found_of, walked}
+use Rattle.forec_check.proofs.Walked.{walked-none}
+use Rattle.forec_check.proofs.Parts.{two, three, then}
+use Rattle.forec_check.proofs.Statements.{of_statement, group_is, run_is, inside, abort_is, while_is, statements_step, statements_end}
+use Rattle.forec_check.proofs.Branching.{no_statement, perhaps_in, optional_in, body_in, loop_as, for_is, branch_call, branch_block, branches_step, branches_end}
+use Rattle.forec_check.proofs.Frames.{framed_on, framed_none, same_on, same_scope}
+use Rattle.forec_check.proofs.statement.+statement.Goals as goal
+
+pub branch-returns-in_ok-terms-in-Call-clause-found : goal.branch-returns-in_ok-terms-in-Call-clause-found
+branch-returns-in_ok-terms-in-Call-clause-found t c =
+    let j = judging c.args.names.now c.args.gives in
+    let text = text_of c.args.index.now in
+    let s = scope_of c.args.scope.now in
+    let k = found_of c.args.found.now in
+    branch_call j text s k (found_of c.use_name.new.found) (found_of c.terms.new.found) c.args.one.now c.in-Call.name c.in-Call.args c.as_slice.result.now c.len.result
+    c.in-Call.is c.len.ensures c.as_slice.ensures c.in_ok-use_name-in-Call.ensures c.in_ok-terms-in-Call.ensures
+
+pub branch-returns-in_ok-closes-in-Group-clause-found : goal.branch-returns-in_ok-closes-in-Group-clause-found
+branch-returns-in_ok-closes-in-Group-clause-found t c =
+    let j = judging c.args.names.now c.args.gives in
+    let text = text_of c.args.index.now in
+    let s = scope_of c.args.scope.now in
+    let k = found_of c.args.found.now in
+    branch_block j text s k (found_of c.opens.new.found) (found_of c.hidden.new.found) (found_of c.closes.new.found) c.args.one.now c.in-Group.place c.in-Group.body
+    c.as_slice-in-Group.result.now c.in-Group.is c.as_slice-in-Group.ensures c.in_ok-opens-in-Group.ensures c.in_ok-hidden-in-Group.ensures.found c.in_ok-closes-in-Group.ensures
+
+pub branches-loop-one-preserved : goal.branches-loop-one-preserved
+branches-loop-one-preserved t c =
+    let j = judging c.args.names.now c.args.gives in
+    let text = text_of c.args.index.now in
+    let s = scope_of c.args.scope.now in
+    let k = found_of c.args.found.now in (
+      branches_step j text s c.args.all.now c.loop-one.one-index c.one-item.result (scope_of c.loop-one.scope) (found_of c.loop-one.found) _ _ c.loop-one-test.true (sym c.one-item.is)
+          (same_scope c.args.scope.now c.loop-one.scope c.loop-one.invariant.1) c.in_ok-branch.ensures.found c.loop-one.invariant.0,
+      same_on c.args.scope.now c.loop-one.scope _ c.loop-one.invariant.1 c.in_ok-branch.ensures.same,
+    )
+
+pub branches-returns-clause-found : goal.branches-returns-clause-found
+branches-returns-clause-found t c =
+    let j = judging c.args.names.now c.args.gives in
+    let text = text_of c.args.index.now in
+    let s = scope_of c.args.scope.now in
+    let k = found_of c.args.found.now in
+    branches_end j text s c.args.all.now c.loop-one.one-index (found_of c.loop-one.found) _ c.loop-one-test.false c.loop-one.invariant.0
+
+pub list-loop-s-preserved : goal.list-loop-s-preserved
+list-loop-s-preserved t c =
+    let j = judging c.args.names.now c.args.gives in
+    let text = text_of c.args.index.now in
+    let s = scope_of c.args.scope.now in
+    let k = found_of c.args.found.now in
+    let r = scope_of c.loop-s.scope in (
+      statements_step j text r c.args.body.now c.loop-s.s-index c.s-item.result _ (found_of c.loop-s.found) (found_of c.statement.new.found) _ c.loop-s-test.true (sym c.s-item.is)
+          c.in_ok-statement.ensures.scope c.in_ok-statement.ensures.found c.loop-s.invariant.0,
+      framed_on c.args.scope.now c.loop-s.scope c.statement.new.scope c.loop-s.invariant.1 c.in_ok-statement.ensures.frame,
+    )
+
+pub list-returns-clause-found : goal.list-returns-clause-found
+list-returns-clause-found t c =
+    let j = judging c.args.names.now c.args.gives in
+    let text = text_of c.args.index.now in
+    let s = scope_of c.args.scope.now in
+    let k = found_of c.args.found.now in
+    statements_end j text (scope_of c.loop-s.scope) c.args.body.now c.loop-s.s-index (found_of c.loop-s.found) _ c.loop-s-test.false c.loop-s.invariant.0
+
+pub optional_inner-returns-in-None-clause-found : goal.optional_inner-returns-in-None-clause-found
+optional_inner-returns-in-None-clause-found t c =
+    let j = judging c.args.names.now c.args.gives in
+    let text = text_of c.args.index.now in
+    let s = scope_of c.args.scope.now in
+    let k = found_of c.args.found.now in
+    no_statement j text (entered s) k c.args.s.now c.in-None.is
+
+pub optional_statement-returns-in-None-clause-found : goal.optional_statement-returns-in-None-clause-found
+optional_statement-returns-in-None-clause-found t c =
+    let j = judging c.args.names.now c.args.gives in
+    let text = text_of c.args.index.now in
+    let s = scope_of c.args.scope.now in
+    let k = found_of c.args.found.now in
+    no_statement j text s k c.args.s.now c.in-None.is
+
+pub statement-returns-in-Nothing-clause-found : goal.statement-returns-in-Nothing-clause-found
+statement-returns-in-Nothing-clause-found t c =
+    let j = judging c.args.names.now c.args.gives in
+    let text = text_of c.args.index.now in
+    let s = scope_of c.args.scope.now in
+    let k = found_of c.args.found.now in
+    of_statement j text s k _ c.args.s.now _ c.in-Nothing.is
+    (sym (walked-none j k))
+
+pub statement-returns-in_ok-block-in-Group-clause-found : goal.statement-returns-in_ok-block-in-Group-clause-found
+statement-returns-in_ok-block-in-Group-clause-found t c =
+    let j = judging c.args.names.now c.args.gives in
+    let text = text_of c.args.index.now in
+    let s = scope_of c.args.scope.now in
+    let k = found_of c.args.found.now in
+    of_statement j text s k _ c.args.s.now _ c.in-Group.is
+    (group_is j text s k (found_of c.block.new.found) c.args.s.now.place c.in-Group.body c.as_slice.result.now c.as_slice.ensures c.in_ok-block-in-Group.ensures.found)
+
+pub statement-returns-in_ok-term-in-Assign-clause-found : goal.statement-returns-in_ok-term-in-Assign-clause-found
+statement-returns-in_ok-term-in-Assign-clause-found t c =
+    let j = judging c.args.names.now c.args.gives in
+    let text = text_of c.args.index.now in
+    let s = scope_of c.args.scope.now in
+    let k = found_of c.args.found.now in
+    of_statement j text s k _ c.args.s.now _ c.in-Assign.is
+    (two j _ _ k (found_of c.target.new.found) (found_of c.term.new.found) c.in_ok-target-in-Assign.ensures c.in_ok-term-in-Assign.ensures)
+
+pub statement-returns-in_ok-terms-in-Call-clause-found : goal.statement-returns-in_ok-terms-in-Call-clause-found
+statement-returns-in_ok-terms-in-Call-clause-found t c =
+    let j = judging c.args.names.now c.args.gives in
+    let text = text_of c.args.index.now in
+    let s = scope_of c.args.scope.now in
+    let k = found_of c.args.found.now in
+    of_statement j text s k _ c.args.s.now _ c.in-Call.is
+    (run_is j text s k (found_of c.use_name.new.found) (found_of c.terms.new.found) c.in-Call.name c.in-Call.args c.as_slice-in-Call.result.now c.len.result c.len.ensures c.as_slice-in-Call.ensures
+    c.in_ok-use_name-in-Call.ensures c.in_ok-terms-in-Call.ensures)
+
+pub statement-returns-in_ok-optional_inner-in-If-clause-found : goal.statement-returns-in_ok-optional_inner-in-If-clause-found
+statement-returns-in_ok-optional_inner-in-If-clause-found t c =
+    let j = judging c.args.names.now c.args.gives in
+    let text = text_of c.args.index.now in
+    let s = scope_of c.args.scope.now in
+    let k = found_of c.args.found.now in
+    three j _ _ _ k (found_of c.term-in-If.new.found) (found_of c.inner.new.found) (found_of c.optional_inner.new.found) c.in_ok-term-in-If.ensures
+    (body_in j text (entered s) (entered s) _ _ _ _ refl c.deref.ensures c.in_ok-inner-in-If.ensures.found)
+    (perhaps_in j text (entered s) (entered (scope_of c.inner.new.scope)) _ _ (perhaps_of c.in-If.no)
+    (ap entered (same_scope c.args.scope.now c.inner.new.scope c.in_ok-inner-in-If.ensures.same)) c.in_ok-optional_inner-in-If.ensures.found)
+    ∙ of_if (λ x. walked j (in_statement text s x) k) c.args.s.now c.in-If.test c.in-If.yes c.in-If.no c.in-If.is
+
+pub statement-returns-in_ok-inner-in-While-clause-found : goal.statement-returns-in_ok-inner-in-While-clause-found
+statement-returns-in_ok-inner-in-While-clause-found t c =
+    let j = judging c.args.names.now c.args.gives in
+    let text = text_of c.args.index.now in
+    let s = scope_of c.args.scope.now in
+    let k = found_of c.args.found.now in
+    of_statement j text s k _ c.args.s.now _ c.in-While.is
+    (while_is j text s k (found_of c.note_loop.new.found) (found_of c.bounded.new.found) (found_of c.term-in-While.new.found) (found_of c.inner-in-While.new.found) _ c.in-While.bound _ _
+    (loop_as j text s k (found_of c.note_loop.new.found) (plain.statement c.args.s.now) _ (ap (λ w. plain.statement_at w c.args.s.now.place) c.in-While.is) c.in_ok-note_loop-in-While.ensures)
+    c.bounded.ensures c.in_ok-term-in-While.ensures
+    (body_in j text (entered s) (entered s) _ _ _ _ refl c.deref-in-While.ensures c.in_ok-inner-in-While.ensures.found))
+
+pub statement-returns-in_ok-inner-in-For-clause-found : goal.statement-returns-in_ok-inner-in-For-clause-found
+statement-returns-in_ok-inner-in-For-clause-found t c =
+    let j = judging c.args.names.now c.args.gives in
+    let text = text_of c.args.index.now in
+    let s = scope_of c.args.scope.now in
+    let k = found_of c.args.found.now in
+    let F = λ (x : Statement). walked j (in_statement text s x) k in
+    let is = of_for (λ (x : Statement). x) c.args.s.now c.in-For.start c.in-For.step c.in-For.test c.in-For.bound c.in-For.body c.in-For.is in
+    let s1 = c.enter-frame.ensures.scope in
+    let s2 = c.in_ok-optional_statement-in-For.ensures.scope ∙ ap (λ x. behind_perhaps x (perhaps_of c.in-For.start)) s1 in
+    let s3 = c.in_ok-optional_statement-in-For-2.ensures.scope ∙ ap (λ x. behind_perhaps x (perhaps_of c.in-For.step)) s2 in
+    for_is j text s k (found_of c.note_loop-in-For.new.found) (found_of c.bounded-in-For.new.found) (found_of c.optional_statement.new.found) (found_of c.optional_term.new.found)
+    (found_of c.optional_statement-in-For.new.found) (found_of c.inner-in-For.new.found) _ c.in-For.bound _ _ _ _
+    (loop_as j text s k (found_of c.note_loop-in-For.new.found) (plain.statement c.args.s.now) _ (sym is) c.in_ok-note_loop-in-For.ensures)
+    c.bounded-in-For.ensures
+    (perhaps_in j text (entered s) _ _ _ (perhaps_of c.in-For.start) s1 c.in_ok-optional_statement-in-For.ensures.found)
+    (optional_in j text _ _ _ _ (plain.optional_term c.in-For.test) s2 c.in_ok-optional_term-in-For.ensures)
+    (perhaps_in j text _ _ _ _ (perhaps_of c.in-For.step) s2 c.in_ok-optional_statement-in-For-2.ensures.found)
+    (body_in j text _ _ _ _ _ _ (ap entered s3) c.deref-in-For.ensures c.in_ok-inner-in-For.ensures.found)
+    ∙ of_for F c.args.s.now c.in-For.start c.in-For.step c.in-For.test c.in-For.bound c.in-For.body c.in-For.is
+
+pub statement-returns-in_ok-branches-in-Par-clause-found : goal.statement-returns-in_ok-branches-in-Par-clause-found
+statement-returns-in_ok-branches-in-Par-clause-found t c =
+    let j = judging c.args.names.now c.args.gives in
+    let text = text_of c.args.index.now in
+    let s = scope_of c.args.scope.now in
+    let k = found_of c.args.found.now in
+    then j _ _ k (found_of c.synchronous-in-Par.new.found) (found_of c.branches.new.found) c.synchronous-in-Par.ensures c.in_ok-branches-in-Par.ensures.found
+    ∙ of_par (λ x. walked j (in_statement text s x) k) c.args.s.now c.in-Par.list c.as_slice-in-Par.result.now c.in-Par.is c.as_slice-in-Par.ensures
+
+pub statement-returns-in_ok-block-in-Abort-clause-found : goal.statement-returns-in_ok-block-in-Abort-clause-found
+statement-returns-in_ok-block-in-Abort-clause-found t c =
+    let j = judging c.args.names.now c.args.gives in
+    let text = text_of c.args.index.now in
+    let s = scope_of c.args.scope.now in
+    let k = found_of c.args.found.now in
+    of_statement j text s k _ c.args.s.now _ c.in-Abort.is
+    (abort_is j text s k (found_of c.synchronous-in-Abort.new.found) (found_of c.term-in-Abort.new.found) (found_of c.block-in-Abort.new.found) c.in-Abort.weak c.in-Abort.immediate c.in-Abort.test c.in-Abort.body
+    c.as_slice-in-Abort.result.now c.args.s.now.place c.as_slice-in-Abort.ensures c.synchronous-in-Abort.ensures c.in_ok-term-in-Abort.ensures c.in_ok-block-in-Abort.ensures.found)
+
+pub statement-returns-in_ok-term-in-Return-clause-found : goal.statement-returns-in_ok-term-in-Return-clause-found
+statement-returns-in_ok-term-in-Return-clause-found t c =
+    let j = judging c.args.names.now c.args.gives in
+    let text = text_of c.args.index.now in
+    let s = scope_of c.args.scope.now in
+    let k = found_of c.args.found.now in
+    of_statement j text s k _ c.args.s.now _ c.in-Return.is
+    (then j _ _ k (found_of c.returning.new.found) (found_of c.term-in-Return.new.found) c.returning.ensures c.in_ok-term-in-Return.ensures)

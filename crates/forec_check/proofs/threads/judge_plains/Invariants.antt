@@ -1,0 +1,11 @@
+use Rattle.std.proofs.Common.{◌≡◌, map, drop}
+use Rattle.forec_tree.specs.Plain as plain
+use Rattle.forec_tree.specs.Faults.{least_from}
+use Rattle.loop_check.specs.Views.{text_of}
+use Rattle.forec_check.specs.Threads.{globals_faults}
+use Rattle.forec_check.proofs.threads.judge_plains.Given as goal
+
+abbrev pub invariant-loop-item : goal.invariant-loop-item
+invariant-loop-item l =
+    least_from l.least (globals_faults (text_of l.index) l.names (map plain.plain_item (drop l.item-index l.items)))
+    ≡ least_from l.fn.least (globals_faults (text_of l.index) l.names (text_of l.index))

@@ -1,0 +1,6 @@
+use Rattle.loop_check.specs.Views.{text_of}
+use Rattle.forec_check.specs.Threads.{few_called, value_of, Agrees}
+use Rattle.forec_check.proofs.threads.two_name.Given as goal
+
+abbrev pub invariant-loop-f : goal.invariant-loop-f
+invariant-loop-f l = Agrees (value_of (text_of l.index) l.g) l.order l.f-index (few_called l.table.items)

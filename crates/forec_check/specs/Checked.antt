@@ -1,0 +1,21 @@
+-- What a checked program shows.
+use Rattle.std.specs.Prelude.{◌≡◌, ℕ, List, Result, Ok, Err}
+use Rattle.forec_tree.specs.Terms.{Text}
+use Rattle.forec_tree.specs.Plain.{program}
+use Rattle.forec_tree.specs.declared.fault.Fault.{Fault}
+use Rattle.forec_tree.specs.Faults.{IsFault, IsLeast}
+use Rattle.forec_check.specs.declared.checked.Checked.{Checked}
+use Rattle.forec_check.specs.declared.check_fault.CheckFault.{CheckFault}
+use Rattle.forec_check.specs.declared.check_fault.CheckFault.TheVariants as fault
+
+-- the text of a checked program, and the names that it keeps
+abbrev pub text_of : Checked → Text
+text_of c = program c.program
+
+abbrev pub names_of : Checked → List (List ℕ)
+names_of c = c.names.now
+
+-- a refusal tells the least fault; want of memory is free
+abbrev pub Causes : CheckFault → Text → List (List ℕ) → Type 0
+Causes (fault.Broken place rule) text names = IsLeast (record { place = place; rule = rule }) (IsFault text names)
+Causes fault.OutOfMemory text names = Unit {0}

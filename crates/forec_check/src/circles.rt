@@ -1,0 +1,116 @@
+// Functions that reach themselves.
+
+ghost use Rattle.std.specs.Prelude.{◌≡◌, ◌+◌, ℕ, true, false, map, take, slice_get, slice_index_or, Some, IfOk, OnOk};
+ghost use Rattle.forec_tree.specs.Plain as plain;
+ghost use Rattle.forec_tree.specs.Faults.{Leads, Member, IsEarly, text_faults};
+ghost use Rattle.loop_check.specs.Views.{text_of};
+ghost use Rattle.loop_check.specs.Graph.{callees, FunctionsCall};
+ghost use Rattle.loop_check.specs.Known.{Read};
+ghost use Rattle.forec_check.specs.Walk.{item_events, events_lists};
+ghost use Rattle.forec_check.specs.Early.{event_calls, calls_in, Kept, EarlyTo};
+
+use crate::found::Event;
+use crate::least::meet;
+use forec_base::{Labels, OutOfMemory};
+use forec_tree::{Fault, Item};
+use loop_check::{Calls, Index, add_function, is_waiting, marked, order, reaches_itself};
+use std::alloc::Global;
+
+fn called(alloc: Global, events: &[Event]) -> Result<Vec<u32>, OutOfMemory>
+    ensures { IfOk result (λ list. list.items ≡ event_calls events.now) }
+{
+    let mut list = Vec::new(alloc);
+    for event in events {
+        match *event {
+            Event::Computes { id } | Event::Places { id } | Event::Starts { id } => list.push(id)?,
+            _ => {}
+        }
+    }
+    Ok(list)
+}
+
+/// The functions of a program, and those that each calls or starts, from the events of each item.
+pub fn read_bodies(
+    alloc: Global,
+    index: &Index<'_>,
+    items: &[Item],
+    bodies: &[Vec<Event>],
+) -> Result<Calls, OutOfMemory>
+    requires items { map plain.plain_item items.now ≡ text_of index.now }
+    requires bodies { events_lists bodies.now ≡ map (item_events (text_of index.now)) (text_of index.now) }
+    ensures { IfOk result (λ calls. Read (calls_in (text_of index.now)) (text_of index.now) calls.functions.items (callees calls.lists.items)) }
+{
+    let mut calls = Calls {
+        functions: Vec::new(alloc),
+        lists: Vec::new(alloc),
+    };
+    for (at, item) in items.iter().enumerate() {
+        let list = called(alloc, &bodies[at])?;
+        add_function(alloc, index, at, item, list, &mut calls)?;
+    }
+    Ok(calls)
+}
+
+fn judge_circle(
+    alloc: Global,
+    index: &Index<'_>,
+    names: &Labels,
+    at: usize,
+    item: &Item,
+    calls: &Calls,
+    ordered: &[bool],
+    least: &mut Option<Fault>,
+) -> Result<(), OutOfMemory>
+    requires item { slice_get (text_of index.now) at ≡ Some (plain.plain_item item.now) }
+    requires read { Read (calls_in (text_of index.now)) (text_of index.now) calls.now.functions.items (callees calls.now.lists.items) }
+    requires ordered { (g : ℕ) → slice_index_or ordered.now g false ≡ true → Leads (callees calls.now.lists.items) g g → ⊥ }
+    requires kept { Kept least.old (EarlyTo (text_of index.now) names.now (take at (text_of index.now))) }
+    ensures { OnOk result (Kept least.new (EarlyTo (text_of index.now) names.now (take (at + 1) (text_of index.now)))) }
+{
+    match item {
+        Item::Global { .. } => Ok(()),
+        Item::Function { function } => {
+            let id = function.name.id;
+            if index.named_before(id, at) {
+                return Ok(());
+            }
+            if is_waiting(ordered, id) {
+                return Ok(());
+            }
+            let reaches = reaches_itself(alloc, &calls.functions, &calls.lists, id)?;
+            meet(least, reaches, function.name.place, 6);
+            Ok(())
+        }
+    }
+}
+
+/// The functions that stand in an order behind those that they call reach themselves not.
+fn in_order(alloc: Global, calls: &Calls) -> Result<Vec<bool>, OutOfMemory>
+    requires { FunctionsCall calls.now.functions.items (callees calls.now.lists.items) }
+    ensures { IfOk result (λ marks. (g : ℕ) → slice_index_or marks.items g false ≡ true → Leads (callees calls.now.lists.items) g g → ⊥) }
+{
+    let order = order(alloc, &calls.functions, &calls.lists)?;
+    let marks = marked(alloc, &order)?;
+    Ok(marks)
+}
+
+/// Keeps the least fault where functions reach themselves.
+pub fn judge_circles(
+    alloc: Global,
+    index: &Index<'_>,
+    names: &Labels,
+    items: &[Item],
+    calls: &Calls,
+    least: &mut Option<Fault>,
+) -> Result<(), OutOfMemory>
+    requires items { map plain.plain_item items.now ≡ text_of index.now }
+    requires read { Read (calls_in (text_of index.now)) (text_of index.now) calls.now.functions.items (callees calls.now.lists.items) }
+    requires kept { Kept least.old (λ f. Member f (text_faults (text_of index.now) names.now)) }
+    ensures { OnOk result (Kept least.new (IsEarly (text_of index.now) names.now)) }
+{
+    let ordered = in_order(alloc, calls)?;
+    for (at, item) in items.iter().enumerate() {
+        judge_circle(alloc, index, names, at, item, calls, &ordered, least)?;
+    }
+    Ok(())
+}

@@ -1,0 +1,28 @@
+// What a walk through the body of a function finds.
+
+use forec_tree::{Fault, Stmt};
+
+/// What a body does that matters beyond its own statements. Names are by their numbers.
+#[derive(Clone, Copy, Debug, PartialEq, Eq)]
+pub enum Event {
+    /// A global is named.
+    Names { id: u32 },
+    /// A function is called in an expression.
+    Computes { id: u32 },
+    /// A function is called as a statement.
+    Places { id: u32 },
+    /// A function is a branch.
+    Starts { id: u32 },
+    /// A block that is a branch begins.
+    Opens,
+    /// A block that is a branch ends.
+    Closes,
+}
+
+/// The least fault so far, and the events and loops of the bodies so far, in order.
+#[derive(Drop)]
+pub struct Found<'p> {
+    pub least: Option<Fault>,
+    pub events: Vec<Event>,
+    pub loops: Vec<&'p Stmt>,
+}

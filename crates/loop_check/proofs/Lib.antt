@@ -1,0 +1,7 @@
+pub mod Branches
+pub mod Arithmetic
+pub mod Indexed
+pub mod Ordered
+pub mod Settled
+pub mod Reading
+pub mod Searched

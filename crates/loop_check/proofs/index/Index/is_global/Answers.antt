@@ -1,0 +1,8 @@
+use Rattle.std.proofs.Common.{◌∙◌, ap}
+use Rattle.loop_check.specs.Index.{blank}
+use Rattle.loop_check.specs.Views.{text_of}
+use Rattle.loop_check.proofs.Indexed.{global_is}
+use Rattle.loop_check.proofs.index.Index.is_global.Goals as goal
+
+pub returns : goal.returns
+returns c = ap (λ e. e.global) c.entry.ensures ∙ global_is c.args.id 0 blank (text_of c.args.self.now)

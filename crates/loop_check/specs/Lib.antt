@@ -1,0 +1,6 @@
+pub mod Forms
+pub mod Index
+pub mod Views
+pub mod Graph
+pub mod Known
+pub mod Judges

@@ -1,0 +1,20 @@
+//! Statements that are certain to pause, and loops whose number of turns their form tells.
+#![tactic(auto)]
+
+mod entry;
+mod graph;
+mod index;
+mod parts;
+mod pauses;
+mod reads;
+mod runs;
+mod search;
+mod starts;
+mod table;
+mod touch;
+
+pub use graph::{is_waiting, marked, order};
+pub use index::{Index, item_name};
+pub use runs::turns;
+pub use search::reaches_itself;
+pub use table::{Calls, Pauses, add_function, certain};

@@ -1,0 +1,91 @@
+// The functions that a statement calls or starts.
+
+ghost use Rattle.std.specs.Prelude.{◌≡◌, ◌++◌, OnOk};
+ghost use Rattle.forec_tree.specs.Plain as plain;
+ghost use Rattle.forec_tree.specs.Pauses as pauses;
+ghost use Rattle.forec_tree.proofs.Rows.{perhaps_of};
+
+use forec_base::OutOfMemory;
+use forec_tree::{Branch, Stmt, StmtKind};
+
+#[cycle(start)]
+fn started(list: &mut Vec<u32>, s: &Stmt) -> Result<(), OutOfMemory>
+    ensures { OnOk result (list.new.items ≡ list.old.items ++ pauses.started (plain.statement s.now)) }
+{
+    match &s.what {
+        StmtKind::Group { body } => {
+            all_started(list, body.as_slice())?;
+            Ok(())
+        }
+        StmtKind::Call { name, .. } => {
+            list.push(name.id)?;
+            Ok(())
+        }
+        StmtKind::If { yes, no, .. } => {
+            started(list, yes)?;
+            optional_started(list, no)?;
+            Ok(())
+        }
+        StmtKind::While { body, .. } => {
+            started(list, body)?;
+            Ok(())
+        }
+        StmtKind::For {
+            start,
+            step,
+            body,
+            ..
+        } => {
+            optional_started(list, start)?;
+            optional_started(list, step)?;
+            started(list, body)?;
+            Ok(())
+        }
+        StmtKind::Par { branches } => {
+            branches_started(list, branches.as_slice())?;
+            Ok(())
+        }
+        StmtKind::Abort { body, .. } => {
+            all_started(list, body.as_slice())?;
+            Ok(())
+        }
+        _ => Ok(()),
+    }
+}
+
+#[cycle(start)]
+fn optional_started(list: &mut Vec<u32>, s: &Option<Box<Stmt>>) -> Result<(), OutOfMemory>
+    ensures { OnOk result (list.new.items ≡ list.old.items ++ pauses.perhaps_started (perhaps_of s.now)) }
+{
+    match s {
+        None => Ok(()),
+        Some(inner) => {
+            started(list, inner)?;
+            Ok(())
+        }
+    }
+}
+
+/// Adds the functions that some statements call or start, in order.
+#[cycle(start)]
+pub fn all_started(list: &mut Vec<u32>, body: &[Stmt]) -> Result<(), OutOfMemory>
+    ensures { OnOk result (list.new.items ≡ list.old.items ++ pauses.all_started (plain.statements body.now)) }
+{
+    for s in body {
+        started(list, s)?;
+    }
+    Ok(())
+}
+
+#[cycle(start)]
+fn branches_started(list: &mut Vec<u32>, branches: &[Branch]) -> Result<(), OutOfMemory>
+    ensures { OnOk result (list.new.items ≡ list.old.items ++ pauses.branches_started (plain.branches branches.now)) }
+{
+    for branch in branches {
+        match branch {
+            Branch::Call { name, .. } => list.push(name.id)?,
+            Branch::Group { body, .. } => all_started(list, body.as_slice())?,
+        }
+    }
+    Ok(())
+}
