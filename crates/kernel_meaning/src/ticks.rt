@@ -395,3 +395,6 @@ pub fn rewrite_tick(
         }
     }
 }
+
+#[cfg(test)]
+mod tests;
