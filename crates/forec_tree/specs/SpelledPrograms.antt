@@ -14,7 +14,7 @@ use Rattle.forec_tree.specs.declared.tree.Number.{Number}
 use Rattle.forec_tree.specs.declared.tree.Combine.{Combine}
 use Rattle.forec_tree.specs.declared.tree.GlobalKind.{GlobalKind}
 use Rattle.forec_tree.specs.declared.tree.GlobalKind.TheVariants as sort
-use Rattle.forec_tree.specs.Terms.{Statement, PlainGlobal, PlainFunction, PlainItem, IsGlobal, IsFunction, Text}
+use Rattle.forec_tree.specs.Terms.{Statement, PlainGlobal, PlainItem, IsGlobal, IsFunction, Text}
 use Rattle.forec_tree.specs.Spelling.{Spelt, at, IsMark, IsWord, IsName, IsNumber, name_at, tokens, IsWithin}
 use Rattle.forec_tree.specs.Parts.{number_at, in_order, global_of}
 use Rattle.forec_tree.specs.SpelledStatements.{Separated, Lengths, Block}

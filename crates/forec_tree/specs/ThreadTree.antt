@@ -1,0 +1,125 @@
+-- The tree of thread instances. A void function that is called as a statement is put in place, and each branch of each `par` in the text
+-- so expanded is one instance. Instances are numbered in preorder from `main`, which is 0.
+use Rattle.std.specs.Prelude.{ℕ, zero, suc, ◌+◌, cond, Option, Some, None, List, [], ◌∷◌, ◌++◌, length, slice_get}
+use Rattle.forec_tree.specs.declared.uses.Meaning.TheVariants as means
+use Rattle.forec_tree.specs.Terms.{Statement, Declare, Nothing, Group, Assign, Invoke, If, While, For, Pause, Par, Abort, Return, Statements, no_statements, more_statements, Perhaps, absent, present, Branches, no_branches, by_call, by_group, Text, IsGlobal, IsFunction, PlainFunction}
+use Rattle.forec_tree.specs.Scopes.{Scope, no_scope, entered, behind, behind_perhaps, with_params, is_constant}
+use Rattle.forec_tree.specs.Findings.{Finding, Use, in_term, in_terms, in_optional, in_target, in_locals}
+use Rattle.forec_tree.specs.Pauses.{within, find_function}
+use Rattle.forec_tree.specs.Faults.{is_in}
+
+-- Instances side by side: each with the globals that its own text names, the instances that start in it, and those that follow it.
+pub data Threads : Type 0 where
+  no_threads : Threads
+  thread : (named : List ℕ) → (below : Threads) → (rest : Threads) → Threads
+
+abbrev pub followed_by : Threads → Threads → Threads
+followed_by no_threads us = us
+followed_by (thread named below rest) us = thread named below (followed_by rest us)
+
+-- what a text brings to the thread in which it stands: the globals that it names, and the instances that start in it
+pub record Placed : Type 0 where
+  pub named : List ℕ
+  pub below : Threads
+
+abbrev pub nothing : Placed
+nothing = record { named = []; below = no_threads }
+
+-- one text, then another
+abbrev pub joined : Placed → Placed → Placed
+joined a b = record { named = a.named ++ b.named; below = followed_by a.below b.below }
+
+-- the text of a branch is an instance of its own
+abbrev pub started : Placed → Placed
+started a = record { named = []; below = thread a.named a.below no_threads }
+
+-- the globals that some uses of names mean
+abbrev pub globals_in : List Finding → List ℕ
+globals_in [] = []
+globals_in (Use how name (means.Global kind array) ∷ rest) = name.id ∷ globals_in rest
+globals_in (_ ∷ rest) = globals_in rest
+
+abbrev pub naming : List Finding → Placed
+naming uses = record { named = globals_in uses; below = no_threads }
+
+-- with what each function's body brings
+module _ (text : Text) (called : ℕ → Placed) where
+  abbrev mutual
+    pub placed : Scope → Statement → Placed
+    placed s (Nothing at) = nothing
+    placed s (Group at body) = all_placed (entered s) body
+    placed s (Declare at locals) = naming (in_locals text s locals)
+    placed s (Assign at target op value) = naming (in_target text s target ++ in_term text s value)
+    placed s (Invoke at name args) = joined (naming (in_terms text s args)) (called name.id)
+    placed s (If at test a b) = joined (naming (in_term text s test)) (joined (placed (entered s) a) (perhaps_placed (entered s) b))
+    placed s (While at test bound body) = joined (naming (in_term text s test)) (placed (entered s) body)
+    placed s (For at start test step bound body) =
+        let inside = behind_perhaps (entered s) start in
+        joined (perhaps_placed (entered s) start)
+        (joined (naming (in_optional text inside test)) (joined (perhaps_placed inside step) (placed (entered (behind_perhaps inside step)) body)))
+    placed s (Pause at) = nothing
+    placed s (Par at bs) = branches_placed s bs
+    placed s (Abort at weak immediate test body) = joined (naming (in_term text s test)) (all_placed (entered s) body)
+    placed s (Return at value) = naming (in_term text s value)
+
+    pub all_placed : Scope → Statements → Placed
+    all_placed s no_statements = nothing
+    all_placed s (more_statements a rest) = joined (placed s a) (all_placed (behind s a) rest)
+
+    pub perhaps_placed : Scope → Perhaps → Placed
+    perhaps_placed s absent = nothing
+    perhaps_placed s (present a) = placed s a
+
+    -- the arguments of a branch stand in the thread round it, and a block sees global names alone
+    pub branches_placed : Scope → Branches → Placed
+    branches_placed s no_branches = nothing
+    branches_placed s (by_call name args rest) = joined (naming (in_terms text s args)) (joined (started (called name.id)) (branches_placed s rest))
+    branches_placed s (by_group at body rest) = joined (started (all_placed no_scope body)) (branches_placed s rest)
+
+abbrev pub body_placed : Text → (ℕ → Placed) → Option PlainFunction → Placed
+body_placed text called None = nothing
+body_placed text called (Some f) = all_placed text called (with_params no_scope f.params) f.body
+
+abbrev pub placed_step : Text → (ℕ → Placed) → ℕ → Placed
+placed_step text called id = body_placed text called (find_function id text)
+
+-- the tree of a program, where `first` is the name of `main`
+abbrev pub thread_tree : Text → ℕ → Threads
+thread_tree text first = (started (within nothing (placed_step text) (length text) first)).below
+
+-- ---- what is read off a tree
+
+-- how many instances there are
+abbrev pub count_threads : Threads → ℕ
+count_threads no_threads = 0
+count_threads (thread named below rest) = suc (count_threads below) + count_threads rest
+
+-- how many of them name the global g
+abbrev pub count_naming : ℕ → Threads → ℕ
+count_naming g no_threads = 0
+count_naming g (thread named below rest) = cond (is_in g named) (suc (count_naming g below)) (count_naming g below) + count_naming g rest
+
+-- the globals that some instances, or those below them, name
+abbrev pub all_named : Threads → List ℕ
+all_named no_threads = []
+all_named (thread named below rest) = (named ++ all_named below) ++ all_named rest
+
+-- the same of each instance, by its number
+abbrev pub in_preorder : Threads → List (List ℕ)
+in_preorder no_threads = []
+in_preorder (thread named below rest) = (named ++ all_named below) ∷ in_preorder below ++ in_preorder rest
+
+-- the inputs, outputs, plain globals and shared variables in order of declaration
+abbrev pub variables : Text → List ℕ
+variables [] = []
+variables (IsGlobal g ∷ rest) = cond (is_constant g.kind) (variables rest) (g.name.id ∷ variables rest)
+variables (IsFunction f ∷ rest) = variables rest
+
+abbrev pub those_in : List ℕ → List ℕ → List ℕ
+those_in named [] = []
+those_in named (v ∷ rest) = cond (is_in v named) (v ∷ those_in named rest) (those_in named rest)
+
+-- The variables that occur in the text of thread t or of a thread below it, in order of declaration; `main` has all of them.
+abbrev pub uses : Text → ℕ → ℕ → List ℕ
+uses text first zero = variables text
+uses text first (suc t) = elim (slice_get (in_preorder (thread_tree text first)) (suc t)) [ None ↦ [] | Some named ↦ those_in named (variables text) ]
