@@ -17,4 +17,4 @@ pub use graph::{is_waiting, marked, order};
 pub use index::{Index, item_name};
 pub use runs::turns;
 pub use search::reaches_itself;
-pub use table::{Calls, Pauses, add_function, certain};
+pub use table::{Calls, Pauses, add_function, certain, find_function, read_calls};
