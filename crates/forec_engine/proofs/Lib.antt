@@ -25,5 +25,4 @@ pub mod FirstLists
 mod Lexing
 mod NamesBelow
 mod LeastFault
-mod Counted
 mod Verdicts

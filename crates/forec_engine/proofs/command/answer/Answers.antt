@@ -18,7 +18,7 @@ returns-in-Run-clause-own g c = λ own r x.
     run_told c.args.accepted.counts k left (λ r. Given r c.start.result h0 h2) (c.start.ensures.own own) r ran
 
 pub returns-in-Run-clause-read : goal.returns-in-Run-clause-read
-returns-in-Run-clause-read g c = λ is. (c.in-Run.is, c.start.ensures.read is)
+returns-in-Run-clause-read g c = λ is. let r = c.start.ensures.read is in (c.in-Run.is, r.0, r.1)
 
 pub returns-in-Run-clause-write : goal.returns-in-Run-clause-write
 returns-in-Run-clause-write g c = λ is.
