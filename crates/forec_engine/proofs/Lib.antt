@@ -26,3 +26,4 @@ mod Lexing
 mod NamesBelow
 mod LeastFault
 mod Verdicts
+mod WorkedLines

@@ -144,7 +144,14 @@ mod tests {
             assert_eq!(rt; end.held.as_slice(), want);
             assert_eq!(rt; end.status, status);
         }
-        let end = run(&rt, alloc, &["check", "P"], COUNTER, b"", single(alloc, 0, 4)?)?;
+        let end = run(
+            &rt,
+            alloc,
+            &["check", "P"],
+            COUNTER,
+            b"",
+            single(alloc, 0, 4)?,
+        )?;
         assert_eq!(rt; end.held.as_slice(), b"ok ".as_slice());
         assert_eq!(rt; end.status, Status::WriteFault);
         Ok(())

@@ -1,6 +1,9 @@
+use Rattle.std.proofs.Common.{subst}
 use Rattle.forec_kernel.specs.Shapes.{plain_kernel}
 use Rattle.forec_engine.specs.Calls.{AppendsFront}
+use Rattle.forec_engine.specs.Commands.{refused}
 use Rattle.forec_engine.specs.Ends.{Given}
+use Rattle.forec_engine.specs.declared.refusal.Refusal.{Refusal}
 use Rattle.forec_engine.proofs.Reports.{text_accepted, text_refused}
 use Rattle.forec_engine.proofs.Verdicts.{accepts_first}
 use Rattle.forec_engine.proofs.command.run_text.Goals as goal
@@ -37,7 +40,8 @@ returns-in-Err-Refused-clause-own g c = λ own.
     let h0 = g.K.Sink.held c.args.out.now in
     let h2 = g.K.Sink.held c.refuse.new.out in
     let j = rw c.in-Err-Refused.field-0-is at c.in-Err-Refused.ensures in
-    text_refused c.one_verdict.ensures c.args.command c.args.text.now c.in-Err-Refused.why j (g.S.Source.left c.args.trace.now) (λ r. Given r c.refuse.result h0 h2) (c.refuse.ensures.own own)
+    let given = subst (λ (w : Refusal). Given (refused w) c.refuse.result h0 h2) c.in-Err-Refused.why-is (c.refuse.ensures.own own) in
+    text_refused c.one_verdict.ensures c.args.command c.args.text.now c.in-Err-Refused.why j (g.S.Source.left c.args.trace.now) (λ r. Given r c.refuse.result h0 h2) given
 
 pub returns-in-Err-Refused-clause-write : goal.returns-in-Err-Refused-clause-write
 returns-in-Err-Refused-clause-write g c = λ is.
@@ -45,4 +49,5 @@ returns-in-Err-Refused-clause-write g c = λ is.
     let h2 = g.K.Sink.held c.refuse.new.out in
     let j = rw c.in-Err-Refused.field-0-is at c.in-Err-Refused.ensures in
     let w = c.refuse.ensures.write is in
-    (w.0, text_refused c.one_verdict.ensures c.args.command c.args.text.now c.in-Err-Refused.why j (g.S.Source.left c.args.trace.now) (λ r. AppendsFront h0 h2 r.bytes) w.1)
+    let front = subst (λ (x : Refusal). AppendsFront h0 h2 (refused x).bytes) c.in-Err-Refused.why-is w.1 in
+    (w.0, text_refused c.one_verdict.ensures c.args.command c.args.text.now c.in-Err-Refused.why j (g.S.Source.left c.args.trace.now) (λ r. AppendsFront h0 h2 r.bytes) front)
