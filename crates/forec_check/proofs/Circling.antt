@@ -30,7 +30,7 @@ use Rattle.forec_check.specs.declared.found.Event.{Event}
 use Rattle.forec_check.specs.declared.found.Event.TheVariants as event
 use Rattle.forec_check.specs.Walk.{events_of, finding_events}
 use Rattle.forec_check.specs.Items.{in_item}
-use Rattle.forec_check.specs.Early.{event_calls, calls_in, Kept, CirclesIn, EarlyTo}
+use Rattle.forec_check.specs.Early.{event_calls, calls_in, improves, Kept, CirclesIn, EarlyTo}
 
 -- ---- the calls of events
 
@@ -118,41 +118,6 @@ functions_call text functions calls r g h e = r.stands g ∙ pick (find_function
 pub leads_from : (functions : List ℕ) (calls : ℕ → List ℕ) → FunctionsCall functions calls → {m g : ℕ} → Leads calls m g → is_in m functions ≡ true
 leads_from functions calls call {m} {g} (at_once e) = call m g e
 leads_from functions calls call {m} {g} (through {g = q} e r) = call m q e
-
-deeper : (order : List ℕ) (i k g : ℕ) → i < k → is_in g (take i order) ≡ true → is_in g (take k order) ≡ true
-deeper order i k g h e =
-    let a = front_at order i g e in
-    let low = a.1 in
-    let len = a.2 in
-    let n = length-take k order in
-    let j = is_in_at (take k order) a.0 (omega (arith, low, len, n, h)) in
-    subst (λ x. is_in x (take k order) ≡ true) (get_take order k a.0 (omega (arith, low, h)) ∙ a.3) j
-
--- what a function of an order leads to stands before it
-no_way : (functions : List ℕ) (calls : ℕ → List ℕ) (order : List ℕ) → IsOrder functions calls order → FunctionsCall functions calls →
-    (n k : ℕ) → k < n → k < length order → (g : ℕ) → Leads calls (get_or order k 0) g → is_in g functions ≡ true → is_in g (take k order) ≡ true
-no_way functions calls order o call zero k a b g l i = absurd (omega arith)
-no_way functions calls order o call (suc n) k a b g (at_once e) i = o.first k g b e i
-no_way functions calls order o call (suc n) k a b g (through {g = m} e r) i =
-    let rest = no_way functions calls order o call n in
-    let at = front_at order k m (o.first k m b e (leads_from functions calls call r)) in
-    let low = at.1 in
-    deeper order at.0 k g low (rest at.0 (omega (arith, low)) at.2 g (subst (λ x. Leads calls x g) (sym at.3) r) i)
-
-never : (functions : List ℕ) (calls : ℕ → List ℕ) (order : List ℕ) → IsOrder functions calls order → FunctionsCall functions calls →
-    (n k : ℕ) → k < n → k < length order → Leads calls (get_or order k 0) (get_or order k 0) → ⊥
-never functions calls order o call zero k a b l = absurd (omega arith)
-never functions calls order o call (suc n) k a b l =
-    let rest = never functions calls order o call n in
-    let at = front_at order k (get_or order k 0) (no_way functions calls order o call (suc k) k (omega arith) b (get_or order k 0) l (leads_from functions calls call l)) in
-    let low = at.1 in
-    rest at.0 (omega (arith, low)) at.2 (subst (λ x. Leads calls x x) (sym at.3) l)
-
-pub ordered_never : (functions : List ℕ) (calls : ℕ → List ℕ) (order : List ℕ) → IsOrder functions calls order → FunctionsCall functions calls →
-    (g : ℕ) → is_in g order ≡ true → Leads calls g g → ⊥
-ordered_never functions calls order o call g i l =
-    let at = place_of g order i in
-    never functions calls order o call (suc at.place) at.place (omega arith) at.low (subst (λ x. Leads calls x x) (sym at.is) l)
 
 -- ---- the least of a growing set
 
@@ -291,6 +256,21 @@ module _ (text : Text) (names : List (List ℕ)) (at : ℕ) (x : PlainItem) (get
         reaches = c.reaches;
         is = c.is;
       })
+
+  -- a fault that is not less than the one kept changes nothing
+  pub no_less : (k : Option Fault) (f : PlainFunction) → x ≡ IsFunction f → improves k (record { place = f.name.place; rule = 6 }) ≡ false →
+      Kept k (EarlyTo text names (take at text)) → Kept k (EarlyTo text names (take (at + 1) text))
+  no_less None f is i h = absurd (let q : true ≡ false = i in cc)
+  no_less (Some m) f is i h =
+      record {
+        among = grows m h.among;
+        least = λ g p.
+            ⊎_elim (λ a. h.least g a)
+            (λ c.
+            let same : c.0.function ≡ f = (let q : IsFunction c.0.function ≡ IsFunction f = c.1 ∙ is in cc) in
+            ap (λ e. is_before e m) (c.0.is ∙ ap (λ (h : PlainFunction). let r : Fault = record { place = h.name.place; rule = 6 } in r) same) ∙ i)
+            (shrinks g p);
+      }
 
   pub one_more : (k new : Option Fault) (f : PlainFunction) (b : Bool) → x ≡ IsFunction f → item_named (name_of x).id (take at text) ≡ false →
       (b ≡ true → Reaches text f.name.id f.name.id) → (Reaches text f.name.id f.name.id → b ≡ true) →

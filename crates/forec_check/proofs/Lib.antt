@@ -14,3 +14,5 @@ pub mod Looping
 pub mod Namings
 pub mod Tabled
 pub mod Lately
+pub mod Tables
+pub mod Counted

@@ -1,9 +1,9 @@
 -- The rules that ask for no thread, with the chains of calls.
-use Rattle.std.specs.Prelude.{◌≡◌, ◌⊎◌, ℕ, Option, Some, None, List, [], ◌∷◌}
+use Rattle.std.specs.Prelude.{◌≡◌, ◌⊎◌, ℕ, Bool, true, Option, Some, None, List, [], ◌∷◌}
 use Rattle.forec_tree.specs.declared.fault.Fault.{Fault}
 use Rattle.forec_tree.specs.Terms.{Text, PlainFunction, PlainItem, IsFunction}
 use Rattle.forec_tree.specs.Scopes.{find_item}
-use Rattle.forec_tree.specs.Faults.{Member, Reaches, IsLeast, text_faults, called_in, in_function}
+use Rattle.forec_tree.specs.Faults.{Member, Reaches, IsLeast, is_before, text_faults, called_in, in_function}
 use Rattle.forec_check.specs.declared.found.Event.{Event}
 use Rattle.forec_check.specs.declared.found.Event.TheVariants as event
 
@@ -19,6 +19,11 @@ event_calls (event.Closes ∷ rest) = event_calls rest
 
 abbrev pub calls_in : Text → PlainFunction → List ℕ
 calls_in text f = called_in (in_function text f)
+
+-- a fault is less than the one kept, if any
+abbrev pub improves : Option Fault → Fault → Bool
+improves None f = true
+improves (Some kept) f = is_before f kept
 
 -- none of a set, or its least
 abbrev pub Kept : Option Fault → (Fault → Type 0) → Type 0

@@ -4,6 +4,8 @@ pub mod Walk
 pub mod Items
 pub mod Early
 pub mod Late
+pub mod Table
 pub mod Threads
+pub mod Instances
 pub mod Checks
 pub mod Checked

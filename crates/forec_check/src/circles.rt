@@ -4,16 +4,16 @@ ghost use Rattle.std.specs.Prelude.{◌≡◌, ◌+◌, ℕ, true, false, map, t
 ghost use Rattle.forec_tree.specs.Plain as plain;
 ghost use Rattle.forec_tree.specs.Faults.{Leads, Member, IsEarly, text_faults};
 ghost use Rattle.loop_check.specs.Views.{text_of};
-ghost use Rattle.loop_check.specs.Graph.{callees, FunctionsCall};
+ghost use Rattle.loop_check.specs.Graph.{callees};
 ghost use Rattle.loop_check.specs.Known.{Read};
 ghost use Rattle.forec_check.specs.Walk.{item_events, events_lists};
 ghost use Rattle.forec_check.specs.Early.{event_calls, calls_in, Kept, EarlyTo};
 
 use crate::found::Event;
-use crate::least::meet;
+use crate::least::{is_less, meet};
 use forec_base::{Labels, OutOfMemory};
 use forec_tree::{Fault, Item};
-use loop_check::{Calls, Index, add_function, is_waiting, marked, order, reaches_itself};
+use loop_check::{Calls, Index, acyclic, add_function, is_waiting, reaches_itself};
 use std::alloc::Global;
 
 fn called(alloc: Global, events: &[Event]) -> Result<Vec<u32>, OutOfMemory>
@@ -58,12 +58,12 @@ fn judge_circle(
     at: usize,
     item: &Item,
     calls: &Calls,
-    ordered: &[bool],
+    free: &[bool],
     least: &mut Option<Fault>,
 ) -> Result<(), OutOfMemory>
     requires item { slice_get (text_of index.now) at ≡ Some (plain.plain_item item.now) }
     requires read { Read (calls_in (text_of index.now)) (text_of index.now) calls.now.functions.items (callees calls.now.lists.items) }
-    requires ordered { (g : ℕ) → slice_index_or ordered.now g false ≡ true → Leads (callees calls.now.lists.items) g g → ⊥ }
+    requires free { (g : ℕ) → slice_index_or free.now g false ≡ true → Leads (callees calls.now.lists.items) g g → ⊥ }
     requires kept { Kept least.old (EarlyTo (text_of index.now) names.now (take at (text_of index.now))) }
     ensures { OnOk result (Kept least.new (EarlyTo (text_of index.now) names.now (take (at + 1) (text_of index.now)))) }
 {
@@ -74,7 +74,10 @@ fn judge_circle(
             if index.named_before(id, at) {
                 return Ok(());
             }
-            if is_waiting(ordered, id) {
+            if is_waiting(free, id) {
+                return Ok(());
+            }
+            if !is_less(least, function.name.place, 6) {
                 return Ok(());
             }
             let reaches = reaches_itself(alloc, &calls.functions, &calls.lists, id)?;
@@ -84,17 +87,10 @@ fn judge_circle(
     }
 }
 
-/// The functions that stand in an order behind those that they call reach themselves not.
-fn in_order(alloc: Global, calls: &Calls) -> Result<Vec<bool>, OutOfMemory>
-    requires { FunctionsCall calls.now.functions.items (callees calls.now.lists.items) }
-    ensures { IfOk result (λ marks. (g : ℕ) → slice_index_or marks.items g false ≡ true → Leads (callees calls.now.lists.items) g g → ⊥) }
-{
-    let order = order(alloc, &calls.functions, &calls.lists)?;
-    let marks = marked(alloc, &order)?;
-    Ok(marks)
-}
-
-/// Keeps the least fault where functions reach themselves.
+/// Keeps the least fault where functions reach themselves. A walk through the components of the
+/// calls tells which functions are free of that; of the others only one whose fault is less than the
+/// one kept is searched from, which is one where the items stand in the order of the text. So each
+/// call is looked at a few times.
 pub fn judge_circles(
     alloc: Global,
     index: &Index<'_>,
@@ -108,9 +104,9 @@ pub fn judge_circles(
     requires kept { Kept least.old (λ f. Member f (text_faults (text_of index.now) names.now)) }
     ensures { OnOk result (Kept least.new (IsEarly (text_of index.now) names.now)) }
 {
-    let ordered = in_order(alloc, calls)?;
+    let free = acyclic(alloc, &calls.functions, &calls.lists)?;
     for (at, item) in items.iter().enumerate() {
-        judge_circle(alloc, index, names, at, item, calls, &ordered, least)?;
+        judge_circle(alloc, index, names, at, item, calls, &free, least)?;
     }
     Ok(())
 }

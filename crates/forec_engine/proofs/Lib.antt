@@ -23,4 +23,7 @@ pub mod FirstLowering
 pub mod FirstExact
 pub mod FirstLists
 mod Lexing
+mod NamesBelow
+mod LeastFault
 mod Verdicts
+mod WorkedLines

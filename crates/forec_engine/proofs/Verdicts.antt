@@ -1,22 +1,31 @@
 -- A text has one verdict, and it can't be that it has none.
 use Rattle.std.proofs.Common.{◌≡◌, Result, Ok, Err, ℕ, ◌<◌, ◌≤◌, Bool, true, false, nat_lt, ltb-true, ltb-false, List, length, refl, sym, ap, subst, arith}
-use Rattle.forec_kernel.specs.declared.kernel.Kernel.{Kernel}
+use Rattle.forec_base.specs.declared.Place.{Place}
 use Rattle.forec_kernel.specs.Shapes.{PlainKernel, plain_kernel}
+use Rattle.forec_tree.specs.declared.fault.Fault.{Fault}
 use Rattle.forec_tree.specs.declared.token.Token.{Token}
 use Rattle.forec_tree.specs.LexedText.{IsLexed}
 use Rattle.forec_tree.specs.SpelledPrograms.{IsSpelled}
 use Rattle.forec_tree.specs.Terms.{Text}
+use Rattle.forec_tree.specs.Faults.{IsFault, IsLeast}
+use Rattle.forec_check.specs.Checked.{Causes}
+use Rattle.forec_check.specs.declared.check_fault.CheckFault.{CheckFault}
+use Rattle.forec_check.specs.declared.check_fault.CheckFault.TheVariants as check
 use Rattle.forec_lexer.specs.Answers.{HasCause}
 use Rattle.forec_lexer.specs.declared.fault.LexFault.{LexFault}
 use Rattle.forec_lexer.specs.declared.fault.LexFault.TheVariants as lexer
 use Rattle.forec_lexer.proofs.OneWay.{one_lexed, lexed_not_bad, lexed_not_many, bad_not_many, one_bad, one_many}
 use Rattle.forec_engine.specs.FirstForm.{First}
 use Rattle.forec_engine.specs.FirstCode.{IsFirstKernel}
-use Rattle.forec_engine.specs.Judging.{most_bytes, most_levels, Verdict, Runs, Refuses, OnProgram, runs, another_form, OnTokens, spelled, unspelled, Judged, too_long, stops, too_many, lexed, Says, lexer_fault}
+use Rattle.forec_engine.specs.Judging.{most_bytes, most_levels, Verdict, Accepts, Refuses, OnUnbroken, accepted, another_form, OnProgram, broken, unbroken, OnTokens, spelled, unspelled, Judged, too_long, stops, too_many, lexed, Says, lexer_fault, check_fault}
+use Rattle.forec_engine.specs.Counting.{counts_of}
 use Rattle.forec_engine.specs.Laws.{OneVerdict}
+use Rattle.forec_engine.specs.declared.counts.Counts.{Counts}
+use Rattle.forec_engine.specs.declared.judging.Accepted.{Accepted}
 use Rattle.forec_engine.specs.declared.refusal.Refusal.TheVariants as why
 use Rattle.forec_engine.specs.declared.refusal.JudgeFault.{JudgeFault}
 use Rattle.forec_engine.specs.declared.refusal.JudgeFault.TheVariants as fault
+use Rattle.forec_engine.proofs.LeastFault.{one_least, no_fault}
 use Rattle.forec_engine.proofs.Lexing.{some_lexing}
 
 -- ---- one
@@ -27,12 +36,22 @@ OneProgram = (k l : ℕ) (a b : Text) (ts : List Token) → IsSpelled k a ts →
 abbrev pub OneKernel : Type 0
 OneKernel = (text : Text) (names : List (List ℕ)) (k l : PlainKernel) → First text names k → First text names l → k ≡ l
 
+abbrev fault_at : Place → ℕ → Fault
+fault_at place rule = record { place = place; rule = rule }
+
 module _ (one_program : OneProgram) (one_kernel : OneKernel) where
+  one_on_unbroken : (program : Text) (names : List (List ℕ)) (v w : Verdict) → OnUnbroken program names v → OnUnbroken program names w → v ≡ w
+  one_on_unbroken program names v w (accepted k f) (accepted l g) = ap (Accepts (counts_of program names)) (one_kernel program names k l f g)
+  one_on_unbroken program names v w (accepted k f) (another_form h) = absurd (h k f)
+  one_on_unbroken program names v w (another_form h) (accepted l g) = absurd (h l g)
+  one_on_unbroken program names v w (another_form h) (another_form i) = refl
+
   one_on_program : (program : Text) (names : List (List ℕ)) (v w : Verdict) → OnProgram program names v → OnProgram program names w → v ≡ w
-  one_on_program program names v w (runs k f) (runs l g) = ap Runs (one_kernel program names k l f g)
-  one_on_program program names v w (runs k f) (another_form h) = absurd (h k f)
-  one_on_program program names v w (another_form h) (runs l g) = absurd (h l g)
-  one_on_program program names v w (another_form h) (another_form i) = refl
+  one_on_program program names v w (broken p r x) (broken q s y) =
+      ap (λ (f : Fault). Refuses (why.Rule f.place f.rule)) (one_least (IsFault program names) (fault_at p r) (fault_at q s) x y)
+  one_on_program program names v w (broken p r x) (unbroken none y) = absurd (none (fault_at p r) x.among)
+  one_on_program program names v w (unbroken none x) (broken q s y) = absurd (none (fault_at q s) y.among)
+  one_on_program program names v w (unbroken none x) (unbroken also y) = one_on_unbroken program names v w x y
 
   one_on_tokens : (tokens : List Token) (names : List (List ℕ)) (v w : Verdict) → OnTokens tokens names v → OnTokens tokens names w → v ≡ w
   one_on_tokens tokens names v w (spelled p s x) (spelled q t y) =
@@ -74,8 +93,14 @@ only_long text v h (lexed us ms le y t) = absurd (omega arith)
 
 -- ---- not none
 
+some_on_unbroken : (program : Text) (names : List (List ℕ)) → ((v : Verdict) → OnUnbroken program names v → ⊥) → ⊥
+some_on_unbroken program names never = never (Refuses why.Form) (another_form (λ k f. never (Accepts (counts_of program names) k) (accepted k f)))
+
 some_on_program : (program : Text) (names : List (List ℕ)) → ((v : Verdict) → OnProgram program names v → ⊥) → ⊥
-some_on_program program names never = never (Refuses why.Form) (another_form (λ k f. never (Runs k) (runs k f)))
+some_on_program program names never = some_on_unbroken program names (λ v x. never v (unbroken none x))
+  where
+    none : (f : Fault) → IsFault program names f → ⊥
+    none = no_fault (IsFault program names) (λ f x. never (Refuses (why.Rule f.place f.rule)) (broken f.place f.rule x))
 
 some_on_tokens : (tokens : List Token) (names : List (List ℕ)) → ((v : Verdict) → OnTokens tokens names v → ⊥) → ⊥
 some_on_tokens tokens names never =
@@ -91,35 +116,39 @@ some_verdict text never = by (nat_lt most_bytes (length text)) refl
         some_lexing text (λ ts ns x. some_on_tokens ts ns (λ v t. never v (lexed ts ns short x t)))
         (λ p x. never (Refuses (why.Lex p)) (stops p short x)) (λ p x. never (Refuses (why.Many p)) (too_many p short x))
 
--- ---- what runs
+-- ---- what is accepted
 
-first_of_program : (program : Text) (names : List (List ℕ)) (v : Verdict) (k : PlainKernel) → OnProgram program names v → v ≡ Runs k → IsFirstKernel k
-first_of_program program names v k (runs l f) e =
+first_of_unbroken : (program : Text) (names : List (List ℕ)) (v : Verdict) (c : Counts) (k : PlainKernel) → OnUnbroken program names v → v ≡ Accepts c k → IsFirstKernel k
+first_of_unbroken program names v c k (accepted l f) e =
     let same : l ≡ k = cc in
     subst IsFirstKernel same (record { program = f.program; is = f.kernel })
-first_of_program program names v k (another_form h) e = absurd (cc)
+first_of_unbroken program names v c k (another_form h) e = absurd (cc)
 
-first_of_tokens : (tokens : List Token) (names : List (List ℕ)) (v : Verdict) (k : PlainKernel) → OnTokens tokens names v → v ≡ Runs k → IsFirstKernel k
-first_of_tokens tokens names v k (spelled p s x) e = first_of_program p names v k x e
-first_of_tokens tokens names v k (unspelled h) e = absurd (cc)
+first_of_program : (program : Text) (names : List (List ℕ)) (v : Verdict) (c : Counts) (k : PlainKernel) → OnProgram program names v → v ≡ Accepts c k → IsFirstKernel k
+first_of_program program names v c k (broken p r x) e = absurd (cc)
+first_of_program program names v c k (unbroken none x) e = first_of_unbroken program names v c k x e
 
-first_of_text : (text : List ℕ) (v : Verdict) (k : PlainKernel) → Judged text v → v ≡ Runs k → IsFirstKernel k
-first_of_text text v k (too_long i) e = absurd (cc)
-first_of_text text v k (stops q le y) e = absurd (cc)
-first_of_text text v k (too_many q le y) e = absurd (cc)
-first_of_text text v k (lexed us ms le y t) e = first_of_tokens us ms v k t e
+first_of_tokens : (tokens : List Token) (names : List (List ℕ)) (v : Verdict) (c : Counts) (k : PlainKernel) → OnTokens tokens names v → v ≡ Accepts c k → IsFirstKernel k
+first_of_tokens tokens names v c k (spelled p s x) e = first_of_program p names v c k x e
+first_of_tokens tokens names v c k (unspelled h) e = absurd (cc)
 
-pub runs_first : (text : List ℕ) (k : PlainKernel) → Judged text (Runs k) → IsFirstKernel k
-runs_first text k j = first_of_text text (Runs k) k j refl
+first_of_text : (text : List ℕ) (v : Verdict) (c : Counts) (k : PlainKernel) → Judged text v → v ≡ Accepts c k → IsFirstKernel k
+first_of_text text v c k (too_long i) e = absurd (cc)
+first_of_text text v c k (stops q le y) e = absurd (cc)
+first_of_text text v c k (too_many q le y) e = absurd (cc)
+first_of_text text v c k (lexed us ms le y t) e = first_of_tokens us ms v c k t e
+
+pub accepts_first : (text : List ℕ) (c : Counts) (k : PlainKernel) → Judged text (Accepts c k) → IsFirstKernel k
+accepts_first text c k j = first_of_text text (Accepts c k) c k j refl
 
 -- ---- what code says
 
-pub says_too : (P Q : Verdict → Type 0) → ((v : Verdict) → P v → Q v) → (r : Result Kernel JudgeFault) → Says P r → Says Q r
-says_too P Q f (Ok k) h = f (Runs (plain_kernel k)) h
+pub says_too : (P Q : Verdict → Type 0) → ((v : Verdict) → P v → Q v) → (r : Result Accepted JudgeFault) → Says P r → Says Q r
+says_too P Q f (Ok a) h = f (Accepts a.counts (plain_kernel a.kernel)) h
 says_too P Q f (Err (fault.Refused why)) h = f (Refuses why) h
 says_too P Q f (Err fault.OutOfMemory) h = tt
 
-abbrev given : JudgeFault → Result Kernel JudgeFault
+abbrev given : JudgeFault → Result Accepted JudgeFault
 given e = Err e
 
 told_exactly : (text : List ℕ) (f : LexFault) → length text ≤ most_bytes → HasCause text f → Says (Judged text) (given (lexer_fault f))
@@ -129,3 +158,10 @@ told_exactly text lexer.OutOfMemory le h = tt
 
 pub told : (text : List ℕ) (f : LexFault) (e : JudgeFault) → length text ≤ most_bytes → HasCause text f → e ≡ lexer_fault f → Says (Judged text) (given e)
 told text f e le h is = subst (λ x. Says (Judged text) (given x)) (sym is) (told_exactly text f le h)
+
+checked_exactly : (program : Text) (names : List (List ℕ)) (f : CheckFault) → Causes f program names → Says (OnProgram program names) (given (check_fault f))
+checked_exactly program names (check.Broken place rule) h = broken place rule h
+checked_exactly program names check.OutOfMemory h = tt
+
+pub told_by_check : (program : Text) (names : List (List ℕ)) (f : CheckFault) (e : JudgeFault) → Causes f program names → e ≡ check_fault f → Says (OnProgram program names) (given e)
+told_by_check program names f e h is = subst (λ x. Says (OnProgram program names) (given x)) (sym is) (checked_exactly program names f h)

@@ -3,12 +3,14 @@ use Rattle.std.specs.Prelude.{◌≡◌, ℕ, List, ◌++◌, Option, Some, IfSo
 use Rattle.std.specs.Io.KnownBytes.{Appends}
 use Rattle.forec_kernel.specs.Shapes.{PlainKernel}
 use Rattle.forec_engine.specs.Calls.{IfTold}
-use Rattle.forec_engine.specs.Commands.{program_of, budget}
-use Rattle.forec_engine.specs.Judging.{Runs, Judged}
+use Rattle.forec_engine.specs.Commands.{command_of, budget}
+use Rattle.forec_engine.specs.Judging.{Accepts, Judged}
 use Rattle.forec_engine.specs.Lines.{whole_lines}
 use Rattle.forec_engine.specs.Report.{Report, printed_for}
+use Rattle.forec_engine.specs.declared.counts.Counts.{Counts}
 use Rattle.forec_engine.specs.declared.status.Status.{Status}
 use Rattle.forec_engine.specs.declared.status.Status.TheVariants as status
+use Rattle.forec_engine.specs.declared.words.Command.TheVariants as command
 
 -- a status that a report ends with: neither a fault nor want of memory
 abbrev pub IsOwn : Status → Type 0
@@ -40,9 +42,9 @@ Wanted k budget left_old left_new held_old held_new =
 -- the same by a text, which is accepted
 abbrev pub WantedByText : List ℕ → Option (List ℕ) → Option (List ℕ) → Option (List ℕ) → Option (List ℕ) → Type 0
 WantedByText text left_old left_new held_old held_new =
-    (k : PlainKernel) × Judged text (Runs k) × Wanted k budget left_old left_new held_old held_new
+    (counts : Counts) × (k : PlainKernel) × Judged text (Accepts counts k) × Wanted k budget left_old left_new held_old held_new
 
--- the same by words, which are a command
+-- the same by words, which are the command `run`
 abbrev pub WantedByWords : List (List ℕ) → (List ℕ → Option (List ℕ)) → Option (List ℕ) → Option (List ℕ) → Option (List ℕ) → Option (List ℕ) → Type 0
 WantedByWords words content left_old left_new held_old held_new =
-    (name : List ℕ) × (program_of words ≡ Some name) × IfSome (content name) (λ text. WantedByText text left_old left_new held_old held_new)
+    (name : List ℕ) × (command_of words ≡ Some (command.Run, name)) × IfSome (content name) (λ text. WantedByText text left_old left_new held_old held_new)

@@ -1,15 +1,21 @@
 -- What becomes of a text.
 use Rattle.std.specs.Prelude.{◌≤◌, ◌<◌, ℕ, List, ◌++◌, length, codes, decimal, Result, Ok, Err}
 use Rattle.forec_base.specs.declared.Place.{Place}
-use Rattle.forec_kernel.specs.declared.kernel.Kernel.{Kernel}
 use Rattle.forec_kernel.specs.Shapes.{PlainKernel, plain_kernel}
+use Rattle.forec_tree.specs.declared.fault.Fault.{Fault}
 use Rattle.forec_tree.specs.declared.token.Token.{Token}
 use Rattle.forec_tree.specs.LexedText.{IsLexed, IsBad, IsMany}
 use Rattle.forec_tree.specs.SpelledPrograms.{IsSpelled}
 use Rattle.forec_tree.specs.Terms.{Text}
+use Rattle.forec_tree.specs.Faults.{IsFault, IsLeast}
+use Rattle.forec_check.specs.declared.check_fault.CheckFault.{CheckFault}
+use Rattle.forec_check.specs.declared.check_fault.CheckFault.TheVariants as check
 use Rattle.forec_lexer.specs.declared.fault.LexFault.{LexFault}
 use Rattle.forec_lexer.specs.declared.fault.LexFault.TheVariants as lexer
+use Rattle.forec_engine.specs.Counting.{counts_of}
 use Rattle.forec_engine.specs.FirstForm.{First}
+use Rattle.forec_engine.specs.declared.counts.Counts.{Counts}
+use Rattle.forec_engine.specs.declared.judging.Accepted.{Accepted}
 use Rattle.forec_engine.specs.declared.refusal.Refusal.{Refusal}
 use Rattle.forec_engine.specs.declared.refusal.Refusal.TheVariants as why
 use Rattle.forec_engine.specs.declared.refusal.JudgeFault.{JudgeFault}
@@ -33,19 +39,25 @@ refusal_line why.Long = codes "refused long\n"
 refusal_line (why.Lex place) = refused_at place (codes " lex\n")
 refusal_line (why.Many place) = refused_at place (codes " many\n")
 refusal_line why.Syntax = codes "refused syntax\n"
+refusal_line (why.Rule place rule) = refused_at place (codes " rule " ++ decimal rule ++ codes "\n")
 refusal_line why.Form = codes "refused form\n"
 
 -- ---- verdicts, in the order of the refusals
 
--- what becomes of a text: it runs as a kernel, or it is refused
+-- what becomes of a text: it is accepted, with what is counted of it and its kernel, or it is refused
 pub data Verdict : Type 0 where
-  Runs : PlainKernel → Verdict
+  Accepts : Counts → PlainKernel → Verdict
   Refuses : Refusal → Verdict
 
--- the verdict on a program
+-- the verdict on a program that breaks no rule
+pub data OnUnbroken (program : Text) (names : List (List ℕ)) : Verdict → Type 0 where
+  accepted : (k : PlainKernel) → First program names k → OnUnbroken program names (Accepts (counts_of program names) k)
+  another_form : ((k : PlainKernel) → First program names k → ⊥) → OnUnbroken program names (Refuses why.Form)
+
+-- the verdict on a program: the least of its faults is told
 pub data OnProgram (program : Text) (names : List (List ℕ)) : Verdict → Type 0 where
-  runs : (k : PlainKernel) → First program names k → OnProgram program names (Runs k)
-  another_form : ((k : PlainKernel) → First program names k → ⊥) → OnProgram program names (Refuses why.Form)
+  broken : (place : Place) (rule : ℕ) → IsLeast (record { place = place; rule = rule }) (IsFault program names) → OnProgram program names (Refuses (why.Rule place rule))
+  unbroken : {v : Verdict} → ((f : Fault) → IsFault program names f → ⊥) → OnUnbroken program names v → OnProgram program names v
 
 -- the verdict on tokens
 pub data OnTokens (tokens : List Token) (names : List (List ℕ)) : Verdict → Type 0 where
@@ -61,8 +73,8 @@ pub data Judged (text : List ℕ) : Verdict → Type 0 where
       → Judged text v
 
 -- what code that judges ensures: its verdict is one that holds, unless memory fails
-abbrev pub Says : (Verdict → Type 0) → Result Kernel JudgeFault → Type 0
-Says Holds (Ok k) = Holds (Runs (plain_kernel k))
+abbrev pub Says : (Verdict → Type 0) → Result Accepted JudgeFault → Type 0
+Says Holds (Ok a) = Holds (Accepts a.counts (plain_kernel a.kernel))
 Says Holds (Err (fault.Refused why)) = Holds (Refuses why)
 Says Holds (Err fault.OutOfMemory) = Unit {0}
 
@@ -71,3 +83,8 @@ abbrev pub lexer_fault : LexFault → JudgeFault
 lexer_fault (lexer.Bad place) = fault.Refused (why.Lex place)
 lexer_fault (lexer.Many place) = fault.Refused (why.Many place)
 lexer_fault lexer.OutOfMemory = fault.OutOfMemory
+
+-- what a fault of the check is for the text
+abbrev pub check_fault : CheckFault → JudgeFault
+check_fault (check.Broken place rule) = fault.Refused (why.Rule place rule)
+check_fault check.OutOfMemory = fault.OutOfMemory

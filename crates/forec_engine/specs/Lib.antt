@@ -1,5 +1,6 @@
 pub mod Calls
 pub mod Commands
+pub mod Counting
 pub mod Ends
 pub mod FirstForm
 pub mod FirstProgram

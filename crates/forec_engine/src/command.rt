@@ -4,14 +4,14 @@ ghost use Rattle.std.specs.Option.{option_copied};
 ghost use Rattle.forec_base.specs.Outside.{Fell, Rose};
 ghost use Rattle.forec_kernel.specs.Shapes.{PlainKernel, plain_kernel};
 ghost use Rattle.forec_engine.specs.Calls.{AppendsFront};
-ghost use Rattle.forec_engine.specs.Commands.{program_of, budget, refused, IsReport, TextReport};
+ghost use Rattle.forec_engine.specs.Commands.{program_of, command_of, budget, refused, counted, IsReport, TextReport, AcceptedReport};
 ghost use Rattle.forec_engine.specs.Ends.{IsOwn, Given, Wanted, WantedByText, WantedByWords};
-ghost use Rattle.forec_engine.specs.Judging.{Verdict, Judged, Runs, Refuses};
 ghost use Rattle.forec_engine.specs.FirstCode.{IsFirstKernel};
 ghost use Rattle.forec_engine.specs.Report.{Report, trace_report};
 
+use crate::counts::Counts;
 use crate::generator::generate;
-use crate::judging::{judge, one_verdict};
+use crate::judging::{Accepted, judge, one_verdict};
 use crate::lines::Lines;
 use crate::machine::Machine;
 use crate::refusal::{JudgeFault, Refusal};
@@ -19,6 +19,7 @@ use crate::sink::say;
 use crate::status::Status;
 use crate::ticks::{Program, output_name, run};
 use crate::waiting::Waiting;
+use crate::words::{Command, read_words};
 use forec_base::{Gate, Sink, Source, TextFault, Texts};
 use forec_kernel::Kernel;
 use std::alloc::Global;
@@ -30,22 +31,6 @@ const BUDGET: u64 = 10_000_000;
 
 const USAGE: &[u8] =
     b"usage: forec run|check|threads|code|explain|gen PROGRAM [--cores N] [--place LIST] [--budget B] [--order N]\n";
-
-// The program that the words name, where they are a command.
-fn program<'a>(words: &'a [String]) -> Option<&'a str>
-    ensures { option_copied result ≡ program_of (map string_bytes words.now) }
-{
-    match words {
-        [command, program] => {
-            if command.as_str() == "run" {
-                Some(program.as_str())
-            } else {
-                None
-            }
-        }
-        _ => None,
-    }
-}
 
 // Makes all that a run needs, and runs.
 fn start<S: Source, K: Sink>(alloc: Global, kernel: Kernel, trace: &mut S, out: &mut K) -> Status
@@ -95,21 +80,68 @@ fn refuse<K: Sink>(alloc: Global, why: Refusal, out: &mut K) -> Status
     waiting.finish(out, Status::Refused)
 }
 
-// Runs a text.
-fn run_text<S: Source, K: Sink>(alloc: Global, text: &[u8], trace: &mut S, out: &mut K) -> Status
+// Tells what is counted of a text that is accepted.
+fn tell<K: Sink>(alloc: Global, counts: Counts, out: &mut K) -> Status
+    ensures own { IsOwn result → Given (counted counts) result (K.held out.old) (K.held out.new) }
+    ensures read { result ≢ Status.ReadFault }
+    ensures write { result ≡ Status.WriteFault → Fell (K.faults out.old) (K.faults out.new) (K.down out.new)
+        × AppendsFront (K.held out.old) (K.held out.new) (counted counts).bytes }
+    ensures memory { result ≡ Status.NoMemory → K.held out.new ≡ K.held out.old }
+    ensures usage { result ≢ Status.Usage }
+{
+    let Ok(mut waiting) = Waiting::new(alloc, "") else {
+        return Status::NoMemory;
+    };
+    waiting.put_counts(counts);
+    waiting.finish(out, Status::Done)
+}
+
+// Does what a command asks of a text that is accepted.
+fn answer<S: Source, K: Sink>(
+    alloc: Global,
+    command: Command,
+    accepted: Accepted,
+    trace: &mut S,
+    out: &mut K,
+) -> Status
+    requires { IsFirstKernel (plain_kernel accepted.kernel) }
+    ensures own { IsOwn result → (r : Report) → AcceptedReport command accepted.counts (plain_kernel accepted.kernel) (S.left trace.old) r
+        → Given r result (K.held out.old) (K.held out.new) }
+    ensures read { result ≡ Status.ReadFault → (command ≡ Command.Run) × Fell (S.faults trace.old) (S.faults trace.new) (S.down trace.new)
+        × Wanted (plain_kernel accepted.kernel) budget (S.left trace.old) (S.left trace.new) (K.held out.old) (K.held out.new) }
+    ensures write { result ≡ Status.WriteFault → Fell (K.faults out.old) (K.faults out.new) (K.down out.new)
+        × ((r : Report) → AcceptedReport command accepted.counts (plain_kernel accepted.kernel) (S.left trace.old) r
+        → AppendsFront (K.held out.old) (K.held out.new) r.bytes) }
+    ensures memory { result ≡ Status.NoMemory → K.held out.new ≡ K.held out.old }
+    ensures usage { result ≢ Status.Usage }
+{
+    match command {
+        Command::Run => start(alloc, accepted.kernel, trace, out),
+        Command::Check => tell(alloc, accepted.counts, out),
+    }
+}
+
+// Does what a command asks of a text.
+fn run_text<S: Source, K: Sink>(
+    alloc: Global,
+    command: Command,
+    text: &[u8],
+    trace: &mut S,
+    out: &mut K,
+) -> Status
     requires { length text.now ≤ 1048576 }
-    ensures own { IsOwn result → (r : Report) → TextReport text.now (S.left trace.old) r → Given r result (K.held out.old) (K.held out.new) }
-    ensures read { result ≡ Status.ReadFault → Fell (S.faults trace.old) (S.faults trace.new) (S.down trace.new)
+    ensures own { IsOwn result → (r : Report) → TextReport command text.now (S.left trace.old) r → Given r result (K.held out.old) (K.held out.new) }
+    ensures read { result ≡ Status.ReadFault → (command ≡ Command.Run) × Fell (S.faults trace.old) (S.faults trace.new) (S.down trace.new)
         × WantedByText text.now (S.left trace.old) (S.left trace.new) (K.held out.old) (K.held out.new) }
     ensures write { result ≡ Status.WriteFault → Fell (K.faults out.old) (K.faults out.new) (K.down out.new)
-        × ((r : Report) → TextReport text.now (S.left trace.old) r → AppendsFront (K.held out.old) (K.held out.new) r.bytes) }
+        × ((r : Report) → TextReport command text.now (S.left trace.old) r → AppendsFront (K.held out.old) (K.held out.new) r.bytes) }
     ensures memory { result ≡ Status.NoMemory → K.held out.new ≡ K.held out.old }
     ensures usage { result ≢ Status.Usage }
 {
     // A text has one verdict at most, so that the report of this one is its report.
     one_verdict();
     match judge(alloc, text) {
-        Ok(kernel) => start(alloc, kernel, trace, out),
+        Ok(accepted) => answer(alloc, command, accepted, trace, out),
         Err(JudgeFault::Refused { why }) => refuse(alloc, why, out),
         Err(JudgeFault::OutOfMemory) => Status::NoMemory,
     }
@@ -146,14 +178,14 @@ fn run_command<T: Texts, S: Source, K: Sink, G: Gate>(
     ensures memory { result ≡ Status.NoMemory → K.held out.new ≡ K.held out.old }
 
     // The usage line comes only where the words are no command.
-    ensures usage { result ≡ Status.Usage → program_of (map string_bytes words.now) ≡ None }
+    ensures usage { result ≡ Status.Usage → command_of (map string_bytes words.now) ≡ None }
 {
     let _ = gate;
-    let Some(name) = program(words) else {
+    let Some((command, name)) = read_words(words) else {
         return say(out, USAGE, Status::Usage);
     };
     match texts.read(alloc, name, MOST_BYTES) {
-        Ok(text) => run_text(alloc, &text, trace, out),
+        Ok(text) => run_text(alloc, command, &text, trace, out),
         Err(TextFault::Failed) => Status::ReadFault,
         Err(TextFault::OutOfMemory) => Status::NoMemory,
         Err(TextFault::Long) => refuse(alloc, Refusal::Long, out),
@@ -191,7 +223,7 @@ pub fn forec<T: Texts, S: Source, K: Sink, G: Gate>(
     ensures memory { result ≡ Status.NoMemory → K.held out.new ≡ K.held out.old }
 
     // The usage line comes only where the words are no command.
-    ensures usage { result ≡ Status.Usage → program_of (map string_bytes words.now) ≡ None }
+    ensures usage { result ≡ Status.Usage → command_of (map string_bytes words.now) ≡ None }
 
     // Where no count of faults rises, the report is given whole, or memory was wanting.
     ensures complete { (Rose (T.faults texts.old) (T.faults texts.new) → ⊥) → (Rose (S.faults trace.old) (S.faults trace.new) → ⊥)

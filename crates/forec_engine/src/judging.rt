@@ -1,34 +1,75 @@
 // From a text to its kernel, or to the first cause for which it is refused.
 ghost use Rattle.std.specs.Prelude.{◌≡◌, ◌≤◌, length};
+ghost use Rattle.std.specs.List.{All};
+ghost use Rattle.forec_tree.specs.LexedText.{IsNumbered, AreDistinct};
 ghost use Rattle.forec_tree.specs.Plain as tree;
-ghost use Rattle.forec_engine.specs.Judging.{Judged, OnTokens, OnProgram, Says, lexer_fault};
+ghost use Rattle.forec_check.specs.Checked.{text_of, names_of};
+ghost use Rattle.forec_check.specs.Checks.{Distinct, IdsBelow};
+ghost use Rattle.forec_engine.specs.Judging.{Judged, OnTokens, OnProgram, OnUnbroken, Says, lexer_fault, check_fault};
 ghost use Rattle.forec_engine.specs.Laws.{OneVerdict};
 
+use crate::counts::{Counts, count};
 use crate::first_form::{FormFault, first_kernel, one_kernel};
 use crate::refusal::{JudgeFault, Refusal};
 use forec_base::Labels;
+use forec_check::{CheckFault, Checked, check};
 use forec_kernel::Kernel;
 use forec_lexer::{LexFault, lex, one_lexing};
 use forec_parser::{ParseFault, one_program, parse};
 use forec_tree::{Program, Token};
 use std::alloc::Global;
 
-fn judge_program(alloc: Global, program: &Program, names: &Labels) -> Result<Kernel, JudgeFault>
-    ensures { Says (OnProgram (tree.program program.now) names.now) result }
+/// A text that is accepted: what is counted of its program, and its kernel.
+#[derive(Drop)]
+pub struct Accepted {
+    pub counts: Counts,
+    pub kernel: Kernel,
+}
+
+fn accept(alloc: Global, checked: &Checked<'_>) -> Result<Accepted, JudgeFault>
+    ensures { Says (OnUnbroken (text_of checked.now) (names_of checked.now)) result }
 {
-    match first_kernel(alloc, program, names) {
-        Ok(kernel) => Ok(kernel),
+    match first_kernel(alloc, checked.program(), checked.names()) {
+        Ok(kernel) => match count(alloc, checked) {
+            Ok(counts) => Ok(Accepted { counts, kernel }),
+            Err(_) => Err(JudgeFault::OutOfMemory),
+        },
         Err(FormFault::Form) => Err(JudgeFault::Refused { why: Refusal::Form }),
         Err(FormFault::OutOfMemory) => Err(JudgeFault::OutOfMemory),
     }
 }
 
-fn judge_tokens(alloc: Global, tokens: &[Token], names: &Labels) -> Result<Kernel, JudgeFault>
-    requires { length tokens.now ≤ 200000 }
+// What a fault of the check is for the text.
+fn of_check(fault: CheckFault) -> JudgeFault
+    ensures { result ≡ check_fault fault }
+{
+    match fault {
+        CheckFault::Broken { place, rule } => JudgeFault::Refused {
+            why: Refusal::Rule { place, rule },
+        },
+        CheckFault::OutOfMemory => JudgeFault::OutOfMemory,
+    }
+}
+
+fn judge_program(alloc: Global, program: Program, names: &Labels) -> Result<Accepted, JudgeFault>
+    requires distinct { Distinct names.now }
+    requires below { IdsBelow (tree.program program) (length names.now) }
+    ensures { Says (OnProgram (tree.program program) names.now) result }
+{
+    match check(alloc, program, names) {
+        Ok(checked) => accept(alloc, &checked),
+        Err(fault) => Err(of_check(fault)),
+    }
+}
+
+fn judge_tokens(alloc: Global, tokens: &[Token], names: &Labels) -> Result<Accepted, JudgeFault>
+    requires few { length tokens.now ≤ 200000 }
+    requires distinct { AreDistinct names.now }
+    requires numbered { All (IsNumbered names.now) tokens.now }
     ensures { Says (OnTokens tokens.now names.now) result }
 {
     match parse(alloc, tokens) {
-        Ok(program) => judge_program(alloc, &program, names),
+        Ok(program) => judge_program(alloc, program, names),
         Err(ParseFault::Unfit) => Err(JudgeFault::Refused {
             why: Refusal::Syntax,
         }),
@@ -51,8 +92,8 @@ fn of_lexer(fault: LexFault) -> JudgeFault
     }
 }
 
-/// The kernel of a text of at most 1,048,576 bytes, or why it has none.
-pub fn judge(alloc: Global, text: &[u8]) -> Result<Kernel, JudgeFault>
+/// The kernel of a text of at most 1,048,576 bytes and what is counted of it, or why it is refused.
+pub fn judge(alloc: Global, text: &[u8]) -> Result<Accepted, JudgeFault>
     requires { length text.now ≤ 1048576 }
     ensures { Says (Judged text.now) result }
 {
@@ -62,8 +103,8 @@ pub fn judge(alloc: Global, text: &[u8]) -> Result<Kernel, JudgeFault>
     }
 }
 
-/// A text has one verdict at most: it is lexed in one way, its tokens spell one program, and a
-/// program has one kernel.
+/// A text has one verdict at most: it is lexed in one way, its tokens spell one program, which has
+/// one least fault and one kernel.
 pub fn one_verdict()
     ensures { OneVerdict }
 {

@@ -14,7 +14,10 @@ fn why(alloc: Global, text: &[u8]) -> Option<JudgeFault> {
     if text.len() > 1_048_576 {
         return Some(JudgeFault::Refused { why: Refusal::Long });
     }
-    judge(alloc, text).err()
+    match judge(alloc, text) {
+        Ok(_) => None,
+        Err(fault) => Some(fault),
+    }
 }
 
 fn refused(why: Refusal) -> Option<JudgeFault> {
@@ -40,27 +43,16 @@ fn first_programs(rt: HostRuntime) {
 #[test]
 fn programs_of_another_form(rt: HostRuntime) {
     for text in [
-        b"".as_slice(),
-        b"output int main = 0; void main(void) { }",
-        b"output int x234567890123456789012345678901234567890123456789012345678901234 = 0; void main(void) { }",
-        b"output int o; void main(void) { }",
+        b"output int o; void main(void) { }".as_slice(),
         b"output int o = 0, p = 0; void main(void) { }",
         b"int o = 0; void main(void) { }",
-        b"output int o = 0; void man(void) { }",
-        b"output int o = 0; int main(void) { }",
-        b"output int o = 0; void main(int a) { }",
         b"void main(void) { } output int o = 0;",
-        b"output int o = 0; void main(void) { p = 1; }",
         b"output int o = 0; void main(void) { o += 1; }",
         b"output int o = 0; void main(void) { o++; }",
-        b"output int o = 0; void main(void) { o[0] = 1; }",
-        b"output int o = 0; void main(void) { o = p; }",
         b"output int o = 0; void main(void) { o = -1; }",
         b"output int o = 0; void main(void) { o = 1 + 2 + 3; }",
         b"output int o = 0; void main(void) { o = 1 * 2; }",
         b"output int o = 0; void main(void) { { pause; } }",
-        b"output int o = 0; void main(void) { while (1) { o = 1; } }",
-        b"output int o = 0; void main(void) { while (1) { } }",
         b"output int o = 0; void main(void) { while (2) { pause; } }",
         b"output int o = 0; void main(void) { while (1) #5 { pause; } }",
         b"output int o = 0; void main(void) { while (1) pause; }",
@@ -69,6 +61,44 @@ fn programs_of_another_form(rt: HostRuntime) {
         b"output int o = 0; void main(void) { while (1) { while (1) { pause; } } }",
     ] {
         assert_eq!(rt; why(rt.alloc(), text), refused(Refusal::Form));
+    }
+}
+
+fn broken(line: u32, column: u32, rule: u8) -> Refusal {
+    Refusal::Rule {
+        place: Place { line, column },
+        rule,
+    }
+}
+
+#[test]
+fn broken_rules(rt: HostRuntime) {
+    for (text, want) in [
+        (b"".as_slice(), broken(1, 1, 3)),
+        (
+            b"output int main = 0; void main(void) { }",
+            broken(1, 27, 2),
+        ),
+        (
+            b"output int x234567890123456789012345678901234567890123456789012345678901234 = 0; void main(void) { }",
+            broken(1, 12, 21),
+        ),
+        (b"output int o = 0; void man(void) { }", broken(1, 1, 3)),
+        (b"output int o = 0; int main(void) { }", broken(1, 23, 3)),
+        (
+            b"output int o = 0; void main(void) { p = 1; }",
+            broken(1, 37, 1),
+        ),
+        (
+            b"output int o = 0;\nvoid main(void) {\n  while (1) { } o[0] = 1;\n}",
+            broken(3, 17, 4),
+        ),
+        (
+            b"output int o = 0; void main(void) { while (1) { o = 1; } }",
+            broken(1, 37, 20),
+        ),
+    ] {
+        assert_eq!(rt; why(rt.alloc(), text), refused(want));
     }
 }
 
@@ -100,7 +130,8 @@ fn the_earliest_cause(rt: HostRuntime) {
             },
         ),
         (b"int o", Refusal::Syntax),
-        (b"int o;", Refusal::Form),
+        (b"int o;", broken(1, 1, 3)),
+        (b"int o; void main(void) { }", Refusal::Form),
     ] {
         assert_eq!(rt; why(rt.alloc(), text), refused(want));
     }
@@ -117,9 +148,9 @@ fn loop_place(kernel: &Kernel) -> Option<Place> {
 #[test]
 fn place_of_the_loop(rt: HostRuntime) -> Result<(), Fail> {
     let lines = b"output int o = 0;\nvoid main(void) {\n\t while (1) { pause; }\n}\n";
-    let kernel = judge(rt.alloc(), lines).or(Err("refused"))?;
+    let accepted = judge(rt.alloc(), lines).or(Err("refused"))?;
     let third = Place { line: 3, column: 3 };
-    assert_eq!(rt; loop_place(&kernel), Some(third));
+    assert_eq!(rt; loop_place(&accepted.kernel), Some(third));
     Ok(())
 }
 

@@ -2,6 +2,7 @@
 #![tactic(auto)]
 
 mod command;
+mod counts;
 mod first_form;
 mod found;
 mod generator;
@@ -21,6 +22,7 @@ mod status;
 mod tests;
 mod ticks;
 mod waiting;
+mod words;
 
 pub use command::forec;
 pub use laws::{each_command_has_a_report, reports_are_unique};

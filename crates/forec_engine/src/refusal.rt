@@ -13,11 +13,13 @@ pub enum Refusal {
     Many { place: Place },
     /// No program within the greatest level has its tokens.
     Syntax,
+    /// Its program breaks this rule, from 1 to 24, at this place, and none before it.
+    Rule { place: Place, rule: u8 },
     /// Its program is no first program.
     Form,
 }
 
-/// Why no kernel is given.
+/// Why a text is not accepted.
 #[derive(Clone, Copy, Debug, PartialEq, Eq)]
 pub enum JudgeFault {
     Refused { why: Refusal },

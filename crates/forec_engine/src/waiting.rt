@@ -5,8 +5,10 @@ ghost use Rattle.forec_base.specs.Outside.{Fell};
 ghost use Rattle.forec_engine.specs.Calls.{AppendsFront, Faults};
 ghost use Rattle.forec_engine.specs.Machine.{HasOutput};
 ghost use Rattle.forec_engine.specs.ReportLines.{tick_line, end_line, trap_word, trap_line, over_line, rows_line, fault_word, row_line, outcome_lines};
+ghost use Rattle.forec_engine.specs.Counting.{counts_line};
 ghost use Rattle.forec_engine.specs.Judging.{refused_at, refusal_line};
 
+use crate::counts::Counts;
 use crate::found::RowFault;
 use crate::refusal::Refusal;
 use crate::sink::write_all;
@@ -38,6 +40,7 @@ impl Waiting {
     pub fn new(alloc: Global, name: &str) -> Result<Waiting, OutOfMemory>
         ensures empty { IfOk result (λ w. w.bytes.items ≡ []) }
         ensures room { IfOk result (λ w. w.room ≡ length name.now + 64) }
+        ensures ample { IfOk result (λ w. HasRoom w 128) }
     {
         let room = name.len() + TICK_ROOM;
         let bytes = Vec::with_capacity(alloc, PIECE + room)?;
@@ -142,13 +145,24 @@ impl Waiting {
     fn put_refused_at(&mut self, place: Place, word: &[u8])
         requires room { HasRoom self.old 64 }
         requires short { length word.now ≤ 8 }
-        ensures { Gains self.old self.new (refused_at place word.now) }
+        ensures line { Gains self.old self.new (refused_at place word.now) }
+        ensures short { length (refused_at place word.now) ≤ 37 }
     {
         self.put(b"refused ");
         self.put(Buffer::new().format(place.line).as_bytes());
         self.put(b":");
         self.put(Buffer::new().format(place.column).as_bytes());
         self.put(word);
+    }
+
+    // Adds the line of a program that breaks this rule first.
+    fn put_broken(&mut self, place: Place, rule: u8)
+        requires { HasRoom self.old 64 }
+        ensures { Gains self.old self.new (refusal_line (Refusal.Rule place rule)) }
+    {
+        self.put_refused_at(place, b" rule ");
+        self.put(Buffer::new().format(rule).as_bytes());
+        self.put(b"\n");
     }
 
     /// Adds the line of a text that is refused.
@@ -161,8 +175,24 @@ impl Waiting {
             Refusal::Lex { place } => self.put_refused_at(place, b" lex\n"),
             Refusal::Many { place } => self.put_refused_at(place, b" many\n"),
             Refusal::Syntax => self.put(b"refused syntax\n"),
+            Refusal::Rule { place, rule } => self.put_broken(place, rule),
             Refusal::Form => self.put(b"refused form\n"),
         }
+    }
+
+    /// Adds the line of what is counted of a program.
+    #[tactic(auto, unfolding(crate::specs::Counting::counts_line))]
+    pub fn put_counts(&mut self, counts: Counts)
+        requires { HasRoom self.old 128 }
+        ensures { Gains self.old self.new (counts_line counts) }
+    {
+        self.put(b"ok threads ");
+        self.put_number(counts.threads);
+        self.put(b" inputs ");
+        self.put_number(counts.inputs as u64);
+        self.put(b" outputs ");
+        self.put_number(counts.outputs as u64);
+        self.put(b"\n");
     }
 
     /// Adds the lines of a tick that went so, whose one output has this name and value.

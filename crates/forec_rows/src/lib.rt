@@ -104,7 +104,7 @@ mod tests {
                 Status::Done,
             ),
             (HEXADECIMAL, b"\n\n", b"tick 1 o=1\nrows 1\n", Status::Done),
-            (b"", b"", b"refused form\n", Status::Refused),
+            (b"", b"", b"refused 1:1 rule 3\n", Status::Refused),
             (
                 b"output int o = 0; void main(void) { o = ; }",
                 b"",
@@ -121,6 +121,39 @@ mod tests {
             assert_eq!(rt; end.held.as_slice(), want);
             assert_eq!(rt; end.status, status);
         }
+        Ok(())
+    }
+
+    // `check` asks for no trace: this one fails at its first read.
+    #[test]
+    fn checks(rt: HostRuntime) -> Result<(), Fail> {
+        let alloc = rt.alloc();
+        for (text, want, status) in [
+            (
+                COUNTER,
+                b"ok threads 1 inputs 0 outputs 1\n".as_slice(),
+                Status::Done,
+            ),
+            (
+                b"output int o = 0; void main(void) { while (1) { o = 1; } }",
+                b"refused 1:37 rule 20\n",
+                Status::Refused,
+            ),
+        ] {
+            let end = run(&rt, alloc, &["check", "P"], text, b"", single(alloc, 1, 0)?)?;
+            assert_eq!(rt; end.held.as_slice(), want);
+            assert_eq!(rt; end.status, status);
+        }
+        let end = run(
+            &rt,
+            alloc,
+            &["check", "P"],
+            COUNTER,
+            b"",
+            single(alloc, 0, 4)?,
+        )?;
+        assert_eq!(rt; end.held.as_slice(), b"ok ".as_slice());
+        assert_eq!(rt; end.status, Status::WriteFault);
         Ok(())
     }
 
@@ -151,7 +184,7 @@ mod tests {
         let alloc = rt.alloc();
         let text = vec![in alloc; b' '; 1_048_576]?;
         let end = run(&rt, alloc, &["run", "P"], &text, b"", whole(alloc))?;
-        assert_eq!(rt; end.held.as_slice(), b"refused form\n".as_slice());
+        assert_eq!(rt; end.held.as_slice(), b"refused 1:1 rule 3\n".as_slice());
         let text = vec![in alloc; b' '; 1_048_577]?;
         let end = run(&rt, alloc, &["run", "P"], &text, b"", whole(alloc))?;
         assert_eq!(rt; end.held.as_slice(), b"refused long\n".as_slice());

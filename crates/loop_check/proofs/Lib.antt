@@ -5,3 +5,4 @@ pub mod Ordered
 pub mod Settled
 pub mod Reading
 pub mod Searched
+pub mod Ranked

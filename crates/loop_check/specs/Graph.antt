@@ -53,22 +53,15 @@ Held functions calls marks n =
 abbrev pub set_at : ℕ → ℕ → Bool → Bool
 set_at f g before = cond (f == g) true before
 
--- ---- which functions lead to one
-
--- one of a list is the function, or leads to it
-abbrev pub hits : List Bool → ℕ → List ℕ → Bool
-hits reach f [] = false
-hits reach f (g ∷ gs) = (g == f) || (slice_index_or reach g false || hits reach f gs)
-
-pub record Backs (functions : List ℕ) (calls : ℕ → List ℕ) (f : ℕ) (waiting reach : List Bool) : Type 0 where
-  pub right : (g : ℕ) → slice_index_or waiting g false ≡ (is_in g functions && not (slice_index_or reach g false))
-  pub sound : (g : ℕ) → slice_index_or reach g false ≡ true → Leads calls g f
-
--- none of the first functions that wait calls one that leads on
-abbrev pub Quiet : List ℕ → (ℕ → List ℕ) → ℕ → List Bool → List Bool → ℕ → Type 0
-Quiet functions calls f waiting reach n =
-    (k : ℕ) → k < n → slice_index_or waiting (slice_index_or functions k 0) false ≡ true → hits reach f (calls (slice_index_or functions k 0)) ≡ false
-
 -- functions alone call others
 abbrev pub FunctionsCall : List ℕ → (ℕ → List ℕ) → Type 0
 FunctionsCall functions calls = (g h : ℕ) → is_in h (calls g) ≡ true → is_in g functions ≡ true
+
+-- ---- ranks
+
+abbrev pub rank_at : List ℕ → ℕ → ℕ
+rank_at ranks f = slice_index_or ranks f 0
+
+-- no call leads to a function of a higher rank
+abbrev pub NeverUp : (ℕ → List ℕ) → List ℕ → Type 0
+NeverUp calls ranks = (f g : ℕ) → is_in g (calls f) ≡ true → rank_at ranks g ≤ rank_at ranks f

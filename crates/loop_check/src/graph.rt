@@ -5,6 +5,7 @@ ghost use Rattle.forec_tree.specs.Faults.{is_in};
 ghost use Rattle.loop_check.specs.Graph.{callees, trues, any_waits, Waits, Held, IsOrder};
 ghost use Rattle.loop_check.specs.Graph as plain;
 
+use crate::components::find_components;
 use forec_base::OutOfMemory;
 use std::alloc::Global;
 
@@ -29,6 +30,16 @@ fn any_waits(marks: &[bool], list: &[u32]) -> bool
     false
 }
 
+/// The functions that one calls.
+pub fn called<'c>(calls: &'c [Vec<u32>], f: u32) -> &'c [u32]
+    ensures { result.now ≡ callees calls.now f }
+{
+    match calls.get(f as usize) {
+        None => &[],
+        Some(list) => list,
+    }
+}
+
 fn any_callee_waits(marks: &[bool], calls: &[Vec<u32>], f: u32) -> bool
     ensures { result ≡ plain.any_waits marks.now (callees calls.now f) }
 {
@@ -46,8 +57,7 @@ fn visit(
     marks: &mut Vec<bool>,
     order: &mut Vec<u32>,
 ) -> Result<bool, OutOfMemory>
-    requires among { is_in f functions.now ≡ true }
-    requires waits { Waits functions.now (callees calls.now) marks.old.items order.old.items }
+    requires { Waits functions.now (callees calls.now) marks.old.items order.old.items }
     ensures waits { OnOk result (Waits functions.now (callees calls.now) marks.new.items order.new.items) }
     ensures moved { IfOk result (λ moved. moved ≡ true → trues marks.new.items < trues marks.old.items) }
     ensures marks { IfOk result (λ moved. moved ≡ false → marks.new.items ≡ marks.old.items) }
@@ -113,13 +123,18 @@ pub fn mark(marks: &mut Vec<bool>, f: u32) -> Result<(), OutOfMemory>
 }
 
 /// The functions of a list, each behind those of the list that it calls, as far as there is such an
-/// order: one that is left over calls one that is left over. Takes a look at each call for each
-/// step of the longest chain of calls that stands against the order of the list.
+/// order: one that is left over calls one that is left over. The walk through the components gives
+/// them in such an order, so that each call is looked at twice; the rounds behind it make sure that
+/// none is left over that could stand in the order, and there they move none.
 pub fn order(alloc: Global, functions: &[u32], calls: &[Vec<u32>]) -> Result<Vec<u32>, OutOfMemory>
     ensures { IfOk result (λ order. IsOrder functions.now (callees calls.now) order.items) }
 {
     let mut marks = marked(alloc, functions)?;
     let mut order = Vec::new(alloc);
+    let found = find_components(alloc, functions, calls)?;
+    for f in &found.functions {
+        visit(functions, calls, *f, &mut marks, &mut order)?;
+    }
     let mut moved = true;
     while moved {
         moved = round(functions, calls, &mut marks, &mut order)?;

@@ -84,7 +84,8 @@ fn started_list(alloc: Global, item: &Item) -> Result<Vec<u32>, OutOfMemory>
     Ok(list)
 }
 
-fn read_calls(alloc: Global, index: &Index<'_>) -> Result<Calls, OutOfMemory>
+/// The functions of a program, and those that the statements of each one call or start.
+pub fn read_calls(alloc: Global, index: &Index<'_>) -> Result<Calls, OutOfMemory>
     ensures { IfOk result (λ calls. Read started_in (text_of index.now) calls.functions.items (callees calls.lists.items)) }
 {
     let mut calls = Calls {

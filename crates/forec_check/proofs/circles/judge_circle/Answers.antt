@@ -6,7 +6,7 @@ use Rattle.forec_tree.specs.Faults.{item_named, Leads, calls_of}
 use Rattle.loop_check.specs.Graph.{callees, FunctionsCall}
 use Rattle.loop_check.specs.Views.{text_of}
 use Rattle.loop_check.proofs.Reading.{leads_same}
-use Rattle.forec_check.proofs.Circling.{nothing_new, named_old, one_more, graph_is, functions_call}
+use Rattle.forec_check.proofs.Circling.{nothing_new, named_old, one_more, no_less, graph_is, functions_call}
 use Rattle.forec_check.proofs.circles.judge_circle.Goals as goal
 
 pub returns-in-Global : goal.returns-in-Global
@@ -36,7 +36,7 @@ returns-then-is_waiting c =
     (λ f k e.
     let same : k.function ≡ plain_function c.in-Function.function = (let q : IsFunction k.function ≡ IsFunction (plain_function c.in-Function.function) = e ∙ is in cc) in
     let leads : Leads (calls_of text) c.in-Function.function.name.id c.in-Function.function.name.id = subst (λ (h : PlainFunction). Leads (calls_of text) h.name.id h.name.id) same k.reaches in
-    absurd (c.requires.ordered c.in-Function.function.name.id (sym c.is_waiting.ensures ∙ c.if-is_waiting.true)
+    absurd (c.requires.free c.in-Function.function.name.id (sym c.is_waiting.ensures ∙ c.if-is_waiting.true)
     (leads_same (calls_of text) calls (λ g. sym (graph_is text functions calls c.requires.read g)) leads))) c.requires.kept
 
 pub returns-in_ok-reaches-in-Function : goal.returns-in_ok-reaches-in-Function
@@ -55,3 +55,10 @@ returns-in_ok-reaches-in-Function c =
     (λ e. leads_same calls (calls_of text) (graph_is text functions calls c.requires.read) (same (c.in_ok-reaches-in-Function.ensures.reaches e)))
     (λ l. c.in_ok-reaches-in-Function.ensures.found (back (leads_same (calls_of text) calls (λ g. sym (graph_is text functions calls c.requires.read g)) l)))
     c.meet.ensures c.requires.kept
+
+pub returns-then-not-is_less : goal.returns-then-not-is_less
+returns-then-not-is_less c =
+    let text = text_of c.args.index.now in
+    let x = plain_item c.args.item.now in
+    no_less text c.args.names.now c.args.at x c.requires.item c.args.least.now (plain_function c.in-Function.function) (ap plain_item c.in-Function.is)
+    (sym c.is_less.ensures ∙ c.if-not-is_less.true) c.requires.kept

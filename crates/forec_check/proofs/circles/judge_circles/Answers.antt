@@ -1,8 +1,9 @@
-use Rattle.std.proofs.Common.{◌≡◌, ◌≤◌, ◌∙◌, sym, ap, length, map, arith}
+use Rattle.std.proofs.Common.{◌≡◌, ◌≤◌, ◌∙◌, sym, ap, subst, length, map, arith}
 use Rattle.std.proofs.lemmas.List.{length-map}
 use Rattle.forec_tree.specs.Plain.{plain_item}
 use Rattle.loop_check.specs.Views.{text_of}
-use Rattle.forec_check.proofs.Circling.{all_early}
+use Rattle.loop_check.specs.Graph.{callees, FunctionsCall}
+use Rattle.forec_check.proofs.Circling.{all_early, functions_call}
 use Rattle.forec_check.proofs.circles.judge_circles.Goals as goal
 
 pub returns : goal.returns
@@ -12,3 +13,9 @@ returns c =
     let m = length-map c.args.items.now plain_item in
     let t = c.loop-at-test.false in
     all_early text c.args.names.now c.loop-at.at c.loop-at.least (omega (arith, e, m, t)) c.loop-at.invariant
+
+pub acyclic-requires : goal.acyclic-requires
+acyclic-requires c =
+    subst (λ f. FunctionsCall f (callees c.deref-2.result.now)) (sym c.deref.ensures.value)
+    (subst (λ l. FunctionsCall c.args.calls.now.functions.items (callees l)) (sym c.deref-2.ensures.value)
+    (functions_call (text_of c.args.index.now) c.args.calls.now.functions.items (callees c.args.calls.now.lists.items) c.requires.read))

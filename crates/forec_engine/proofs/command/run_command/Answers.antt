@@ -1,8 +1,10 @@
-use Rattle.std.proofs.Common.{map, string_bytes, sym, subst, List, ℕ, ◌≡◌, ◌∙◌, inr}
+use Rattle.std.proofs.Common.{map, string_bytes, sym, ap, subst, List, ℕ, ◌≡◌, ◌∙◌, Some, Option, inr}
+use Rattle.std.specs.Option.{option_map}
 use Rattle.forec_engine.specs.Calls.{AppendsFront}
 use Rattle.forec_engine.specs.Commands.{TextReport}
 use Rattle.forec_engine.specs.Ends.{Given, WantedByText}
 use Rattle.forec_engine.specs.Report.{Report}
+use Rattle.forec_engine.specs.declared.words.Command.{Command}
 use Rattle.forec_engine.proofs.Running.{own_not}
 use Rattle.forec_engine.proofs.Reports.{some_map, words_usage, words_told, words_long}
 use Rattle.forec_engine.proofs.command.run_command.Goals as goal
@@ -28,19 +30,19 @@ returns-in-Ok-clause-own g c = λ own.
     let h0 = g.K.Sink.held c.args.out.now in
     let h2 = g.K.Sink.held c.run_text.new.out in
     let P : Report → Type 0 = λ r. Given r c.run_text.result h0 h2 in
-    words_told (map string_bytes c.args.words.now) (g.T.Texts.content c.args.texts.now) (g.S.Source.left c.args.trace.now) P c.in-Some.name.now c.in-Ok.text.items c.in-Some.ensures c.in-Ok.ensures.bytes.1
-    (subst (λ (t : List ℕ). (r : Report) → TextReport t (g.S.Source.left c.args.trace.now) r → P r) c.deref.ensures.value (c.run_text.ensures.own own))
+    words_told (map string_bytes c.args.words.now) (g.T.Texts.content c.args.texts.now) (g.S.Source.left c.args.trace.now) P c.in-Some.command c.in-Some.name.now c.in-Ok.text.items c.in-Some.ensures c.in-Ok.ensures.bytes.1
+    (subst (λ (t : List ℕ). (r : Report) → TextReport c.in-Some.command t (g.S.Source.left c.args.trace.now) r → P r) c.deref.ensures.value (c.run_text.ensures.own own))
 
 pub returns-in-Ok-clause-read : goal.returns-in-Ok-clause-read
 returns-in-Ok-clause-read g c = λ is.
     let w = c.run_text.ensures.read is in
     let W : List ℕ → Type 0 = λ t. WantedByText t (g.S.Source.left c.args.trace.now) (g.S.Source.left c.run_text.new.trace) (g.K.Sink.held c.args.out.now) (g.K.Sink.held c.run_text.new.out) in
     inr (
-      w.0,
+      w.1,
       (
         c.in-Some.name.now,
-        sym c.in-Some.ensures,
-        some_map (g.T.Texts.content c.args.texts.now c.in-Some.name.now) (λ x. c.in-Ok.text.items ≡ x) W c.in-Ok.ensures.bytes.1 (λ x e. subst W (c.deref.ensures.value ∙ e) w.1),
+        sym c.in-Some.ensures ∙ ap (λ (x : Command). Some (x, c.in-Some.name.now)) w.0,
+        some_map (g.T.Texts.content c.args.texts.now c.in-Some.name.now) (λ x. c.in-Ok.text.items ≡ x) W c.in-Ok.ensures.bytes.1 (λ x e. subst W (c.deref.ensures.value ∙ e) w.2),
       ),
     )
 
@@ -51,15 +53,15 @@ returns-in-Ok-clause-write g c = λ is.
     let w = c.run_text.ensures.write is in
     let P : Report → Type 0 = λ r. AppendsFront h0 h2 r.bytes in (
       w.0,
-      words_told (map string_bytes c.args.words.now) (g.T.Texts.content c.args.texts.now) (g.S.Source.left c.args.trace.now) P c.in-Some.name.now c.in-Ok.text.items c.in-Some.ensures c.in-Ok.ensures.bytes.1
-          (subst (λ (t : List ℕ). (r : Report) → TextReport t (g.S.Source.left c.args.trace.now) r → P r) c.deref.ensures.value w.1),
+      words_told (map string_bytes c.args.words.now) (g.T.Texts.content c.args.texts.now) (g.S.Source.left c.args.trace.now) P c.in-Some.command c.in-Some.name.now c.in-Ok.text.items c.in-Some.ensures c.in-Ok.ensures.bytes.1
+          (subst (λ (t : List ℕ). (r : Report) → TextReport c.in-Some.command t (g.S.Source.left c.args.trace.now) r → P r) c.deref.ensures.value w.1),
     )
 
 pub returns-in-Err-Long-clause-own : goal.returns-in-Err-Long-clause-own
 returns-in-Err-Long-clause-own g c = λ own.
     let h0 = g.K.Sink.held c.args.out.now in
     let h2 = g.K.Sink.held c.refuse.new.out in
-    words_long (map string_bytes c.args.words.now) (g.T.Texts.content c.args.texts.now) (g.S.Source.left c.args.trace.now) (λ r. Given r c.refuse.result h0 h2) c.in-Some.name.now c.in-Some.ensures (rw c.in-Err-Long.field-0-is at c.in-Err-Long.ensures.bytes)
+    words_long (map string_bytes c.args.words.now) (g.T.Texts.content c.args.texts.now) (g.S.Source.left c.args.trace.now) (λ r. Given r c.refuse.result h0 h2) c.in-Some.command c.in-Some.name.now c.in-Some.ensures (rw c.in-Err-Long.field-0-is at c.in-Err-Long.ensures.bytes)
     (c.refuse.ensures.own own)
 
 pub returns-in-Err-Long-clause-write : goal.returns-in-Err-Long-clause-write
@@ -68,5 +70,5 @@ returns-in-Err-Long-clause-write g c = λ is.
     let h2 = g.K.Sink.held c.refuse.new.out in
     let w = c.refuse.ensures.write is in (
       w.0,
-      words_long (map string_bytes c.args.words.now) (g.T.Texts.content c.args.texts.now) (g.S.Source.left c.args.trace.now) (λ r. AppendsFront h0 h2 r.bytes) c.in-Some.name.now c.in-Some.ensures (rw c.in-Err-Long.field-0-is at c.in-Err-Long.ensures.bytes) w.1,
+      words_long (map string_bytes c.args.words.now) (g.T.Texts.content c.args.texts.now) (g.S.Source.left c.args.trace.now) (λ r. AppendsFront h0 h2 r.bytes) c.in-Some.command c.in-Some.name.now c.in-Some.ensures (rw c.in-Err-Long.field-0-is at c.in-Err-Long.ensures.bytes) w.1,
     )

@@ -13,6 +13,6 @@ returns-clause-waits c =
     let marks = c.args.marks.now.items in
     let m : get_or marks c.args.f false ≡ true =
     ap (λ xs. get_or xs c.args.f false) (sym c.deref.ensures.value) ∙ sym c.is_waiting.ensures ∙ c.if-not-is_waiting.false in
-    let next = visited c.args.functions.now calls marks c.args.order.now.items c.args.f c.requires.waits m
+    let next = visited c.args.functions.now calls marks c.args.order.now.items c.args.f c.requires m
     (ap (λ xs. any_waits xs (calls c.args.f)) (sym c.deref-2.ensures.value) ∙ sym c.any_callee_waits.ensures ∙ c.if-any_callee_waits.false) in
     subst (λ o. Waits c.args.functions.now calls (set marks c.args.f false) o) (sym c.in_ok-push.ensures.items) next

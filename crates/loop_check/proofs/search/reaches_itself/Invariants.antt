@@ -1,11 +1,10 @@
-use Rattle.std.proofs.Common.{◌≡◌, ◌+◌, ◌*◌, cond, false, length}
-use Rattle.loop_check.specs.Graph.{callees, trues, Backs, Quiet}
+use Rattle.std.proofs.Common.{◌+◌, ◌*◌, length}
+use Rattle.loop_check.specs.Graph.{callees, trues}
+use Rattle.loop_check.proofs.Searched.{Searching}
 use Rattle.loop_check.proofs.search.reaches_itself.Given as goal
 
-abbrev pub invariant-loop-moved : goal.invariant-loop-moved
-invariant-loop-moved l =
-    Backs l.functions (callees l.calls) l.f l.waiting.items l.reach.items
-    × (l.moved ≡ false → Quiet l.functions (callees l.calls) l.f l.waiting.items l.reach.items (length l.functions))
+abbrev pub invariant-loop-g : goal.invariant-loop-g
+invariant-loop-g l = Searching l.functions (callees l.calls) l.f l.waiting.items l.rest.items
 
-abbrev pub decreases-loop-moved : goal.decreases-loop-moved
-decreases-loop-moved l = 2 * trues l.waiting.items + cond l.moved 1 0
+abbrev pub decreases-loop-g : goal.decreases-loop-g
+decreases-loop-g l = 2 * trues l.waiting.items + length l.rest.items

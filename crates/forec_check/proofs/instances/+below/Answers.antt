@@ -1,0 +1,53 @@
+use Rattle.std.proofs.Common.{◌≡◌, ◌∙◌, ◌+◌, ◌-◌, ◌^◌, ◌<◌, ◌≤◌, ℕ, suc, min, sym, ap, arith}
+use Rattle.forec_tree.specs.Threads as threads
+use Rattle.forec_tree.proofs.Rows.{of_group, of_abort, of_par}
+use Rattle.loop_check.proofs.Branches.{call_first, group_first}
+use Rattle.forec_check.specs.Instances.{count_at}
+use Rattle.forec_check.proofs.instances.+below.Goals as goal
+use Rattle.forec_check.proofs.instances.+below.Goals.{branches_below-in-Call, branches_below-in-Group}
+
+pub below-returns-in-Group : goal.below-returns-in-Group
+below-returns-in-Group t c =
+    c.all_below.ensures
+    ∙ of_group (λ s. min (threads.below (count_at c.args.table.now) s) (2 ^ 64 - 1)) c.args.s.now c.in-Group.body c.as_slice.result.now c.in-Group.is c.as_slice.ensures
+
+pub below-returns-in-Par : goal.below-returns-in-Par
+below-returns-in-Par t c =
+    c.branches_below.ensures
+    ∙ of_par (λ s. min (threads.below (count_at c.args.table.now) s) (2 ^ 64 - 1)) c.args.s.now c.in-Par.branches c.as_slice-in-Par.result.now c.in-Par.is c.as_slice-in-Par.ensures
+
+pub below-returns-in-Abort : goal.below-returns-in-Abort
+below-returns-in-Abort t c =
+    c.all_below-in-Abort.ensures
+    ∙ of_abort (λ s. min (threads.below (count_at c.args.table.now) s) (2 ^ 64 - 1)) c.args.s.now c.in-Abort.weak c.in-Abort.immediate c.in-Abort.test c.in-Abort.body
+    c.as_slice-in-Abort.result.now c.in-Abort.is c.as_slice-in-Abort.ensures
+
+-- one more branch
+one_more : (total one next inside part rest all : ℕ) → one ≡ min (1 + inside) (2 ^ 64 - 1) → next ≡ min (total + one) (2 ^ 64 - 1) → min inside (2 ^ 64 - 1) ≡ min part (2 ^ 64 - 1) → all ≡ suc part + rest →
+    min (next + rest) (2 ^ 64 - 1) ≡ min (total + all) (2 ^ 64 - 1)
+one_more total one next inside part rest all a b d e = omega arith
+
+pub branches_below-loop-branch-preserved : goal.branches_below-loop-branch-preserved
+branches_below-loop-branch-preserved t c =
+    elim c.match-branch.branch [
+      | branches_below-in-Call w ↦
+          let F = threads.below_branches (count_at c.args.table.now) in
+          let e = call_first F c.args.list.now c.loop-branch.branch-index c.branch-item.result w.in-Call.name w.in-Call.args c.loop-branch-test.true (sym c.branch-item.is) w.in-Call.is in
+          record {
+            small = let k = c.sum-total.ensures in omega (arith, k);
+            told = one_more c.loop-branch.total c.sum.result c.sum-total.result c.match-branch.inside _ _ _ c.sum.ensures c.sum-total.ensures
+                (ap (λ n. min n (2 ^ 64 - 1)) (w.inside-is ∙ w.count-inside.ensures)) e ∙ c.loop-branch.invariant.told;
+          }
+      | branches_below-in-Group w ↦
+          let F = threads.below_branches (count_at c.args.table.now) in
+          let e = group_first F c.args.list.now c.loop-branch.branch-index c.branch-item.result w.in-Group.place w.in-Group.body w.as_slice.result.now c.loop-branch-test.true (sym c.branch-item.is)
+          w.in-Group.is w.as_slice.ensures in
+          record {
+            small = let k = c.sum-total.ensures in omega (arith, k);
+            told = one_more c.loop-branch.total c.sum.result c.sum-total.result c.match-branch.inside _ _ _ c.sum.ensures c.sum-total.ensures
+                (again c.match-branch.inside _ (w.inside-is ∙ w.all_below-inside.ensures)) e ∙ c.loop-branch.invariant.told;
+          }
+    ]
+  where
+    again : (a b : ℕ) → a ≡ min b (2 ^ 64 - 1) → min a (2 ^ 64 - 1) ≡ min b (2 ^ 64 - 1)
+    again a b h = omega arith

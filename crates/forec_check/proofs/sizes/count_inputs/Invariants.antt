@@ -1,0 +1,11 @@
+use Rattle.std.proofs.Common.{◌≡◌, ◌+◌, ◌≤◌, map, drop}
+use Rattle.forec_tree.specs.Plain as plain
+use Rattle.forec_check.specs.Checked as checked
+use Rattle.forec_check.proofs.sizes.count_inputs.Given as goal
+
+abbrev pub invariant-loop-item : goal.invariant-loop-item
+invariant-loop-item l =
+    record {
+      few : l.count ≤ l.item-index;
+      told : l.count + checked.inputs_of (map plain.plain_item (drop l.item-index l.items)) ≡ checked.inputs_of (map plain.plain_item l.fn.items);
+    }

@@ -1,0 +1,138 @@
+// How many thread instances a program has, up to the greatest `u64`.
+
+ghost use Rattle.std.specs.Prelude.{◌≡◌, ◌+◌, ◌-◌, ◌^◌, ℕ, min, map, IfOk, OnOk};
+ghost use Rattle.forec_tree.specs.Plain as plain;
+ghost use Rattle.forec_tree.proofs.Rows.{perhaps_of};
+ghost use Rattle.forec_tree.specs.Pauses.{starts};
+ghost use Rattle.forec_tree.specs.Faults.{Leads};
+ghost use Rattle.forec_tree.specs.Threads as threads;
+ghost use Rattle.loop_check.specs.Views.{text_of};
+ghost use Rattle.forec_check.specs.Table.{put_at, Settles};
+ghost use Rattle.forec_check.specs.Instances.{count_at, capped_below, count_of};
+
+use forec_base::OutOfMemory;
+use forec_tree::{Branch, Item, Stmt, StmtKind};
+use loop_check::{Index, find_function, order, read_calls};
+use std::alloc::Global;
+
+fn count(table: &[u64], id: u32) -> u64
+    ensures { result ≡ count_at table.now id }
+{
+    match table.get(id as usize) {
+        None => 0,
+        Some(count) => *count,
+    }
+}
+
+fn sum(a: u64, b: u64) -> u64
+    ensures { result ≡ min (a + b) (2 ^ 64 - 1) }
+{
+    a.saturating_add(b)
+}
+
+/// The instances that start in a statement, where a table tells how many start in each function.
+#[cycle(below)]
+fn below(table: &[u64], s: &Stmt) -> u64
+    ensures { result ≡ min (threads.below (count_at table.now) (plain.statement s.now)) (2 ^ 64 - 1) }
+{
+    match &s.what {
+        StmtKind::Group { body } => all_below(table, body.as_slice()),
+        StmtKind::Call { name, .. } => count(table, name.id),
+        StmtKind::If { yes, no, .. } => sum(below(table, yes), optional_below(table, no)),
+        StmtKind::While { body, .. } => below(table, body),
+        StmtKind::For {
+            start,
+            step,
+            body,
+            ..
+        } => {
+            let head = optional_below(table, start);
+            sum(head, sum(optional_below(table, step), below(table, body)))
+        }
+        StmtKind::Par { branches } => branches_below(table, branches.as_slice()),
+        StmtKind::Abort { body, .. } => all_below(table, body.as_slice()),
+        _ => 0,
+    }
+}
+
+#[cycle(below)]
+fn optional_below(table: &[u64], s: &Option<Box<Stmt>>) -> u64
+    ensures { result ≡ min (threads.below_perhaps (count_at table.now) (perhaps_of s.now)) (2 ^ 64 - 1) }
+{
+    match s {
+        None => 0,
+        Some(there) => below(table, there),
+    }
+}
+
+#[cycle(below)]
+fn all_below(table: &[u64], list: &[Stmt]) -> u64
+    ensures { result ≡ min (threads.below_all (count_at table.now) (plain.statements list.now)) (2 ^ 64 - 1) }
+{
+    let mut total = 0;
+    for s in list {
+        total = sum(total, below(table, s));
+    }
+    total
+}
+
+#[cycle(below)]
+fn branches_below(table: &[u64], list: &[Branch]) -> u64
+    ensures { result ≡ min (threads.below_branches (count_at table.now) (plain.branches list.now)) (2 ^ 64 - 1) }
+{
+    let mut total = 0;
+    for branch in list {
+        let inside = match branch {
+            Branch::Call { name, .. } => count(table, name.id),
+            Branch::Group { body, .. } => all_below(table, body.as_slice()),
+        };
+        total = sum(total, sum(1, inside));
+    }
+    total
+}
+
+fn function_below(index: &Index<'_>, table: &[u64], id: u32) -> u64
+    ensures { result ≡ capped_below (text_of index.now) (count_at table.now) id }
+{
+    match find_function(index, id) {
+        None => 0,
+        Some(function) => all_below(table, function.body.as_slice()),
+    }
+}
+
+fn put(table: &mut Vec<u64>, id: u32, value: u64) -> Result<(), OutOfMemory>
+    ensures { OnOk result ((h : ℕ) → count_at table.new.items h ≡ put_at id h value (count_at table.old.items h)) }
+{
+    let place = id as usize;
+    'room: while table.len() <= place {
+        table.push(0)?;
+    }
+    table[place] = value;
+    Ok(())
+}
+
+/// How many instances start in each function, each after those that it calls or starts.
+fn counts(alloc: Global, index: &Index<'_>, order: &[u32]) -> Result<Vec<u64>, OutOfMemory>
+    requires { Settles 0 (capped_below (text_of index.now)) (count_of (text_of index.now)) order.now }
+    ensures { IfOk result (λ table. (id : ℕ) → count_at table.items id ≡ count_of (text_of index.now) id) }
+{
+    let mut table = Vec::new(alloc);
+    for f in order {
+        let value = function_below(index, &table, *f);
+        put(&mut table, *f, value)?;
+    }
+    Ok(table)
+}
+
+/// The thread instances of a program that begins with the function of this name, at most the greatest
+/// `u64`. Each function is counted once, after those that it calls or starts, so nothing is put in place.
+pub fn instances(alloc: Global, items: &[Item], first: u32) -> Result<u64, OutOfMemory>
+    requires { (f : ℕ) → Leads (starts (map plain.plain_item items.now)) f f → ⊥ }
+    ensures { IfOk result (λ n. n ≡ min (threads.instances (map plain.plain_item items.now) first) (2 ^ 64 - 1)) }
+{
+    let index = Index::of(alloc, items)?;
+    let calls = read_calls(alloc, &index)?;
+    let order = order(alloc, &calls.functions, &calls.lists)?;
+    let table = counts(alloc, &index, &order)?;
+    Ok(sum(1, count(&table, first)))
+}

@@ -1,0 +1,81 @@
+// How large a checked program is: its thread instances, inputs and outputs.
+
+ghost use Rattle.std.specs.Prelude.{◌≡◌, map, IfOk};
+ghost use Rattle.forec_tree.specs.Plain as plain;
+ghost use Rattle.forec_check.specs.Checked as checked;
+ghost use Rattle.forec_check.specs.Checked.{text_of, names_of};
+ghost use Rattle.forec_check.specs.Instances as count;
+
+use crate::checked::Checked;
+use crate::early::start_name;
+use crate::instances::instances;
+use crate::items::{is_input, is_output};
+use forec_base::{Labels, OutOfMemory};
+use forec_tree::Item;
+use std::alloc::Global;
+
+impl<'n> Checked<'n> {
+    /// The thread instances of the program, at most the greatest `u64`: `main`, and each branch of each
+    /// `par` where void functions that are called as statements are put in place. Each function is
+    /// counted once, so it takes time in proportion to the program however many instances there are.
+    pub fn threads(&self, alloc: Global) -> Result<u64, OutOfMemory>
+        ensures { IfOk result (λ n. n ≡ count.threads_of (text_of self.now) (names_of self.now)) }
+    {
+        let items = self.program().items.as_slice();
+        let first = start_of(self.names(), items);
+        let threads = instances(alloc, items, first)?;
+        Ok(threads)
+    }
+
+    /// How many inputs the program has.
+    pub fn inputs(&self) -> usize
+        ensures { result ≡ checked.inputs_of (text_of self.now) }
+    {
+        count_inputs(self.program().items.as_slice())
+    }
+
+    /// How many outputs the program has, plain and shared.
+    pub fn outputs(&self) -> usize
+        ensures { result ≡ checked.outputs_of (text_of self.now) }
+    {
+        count_outputs(self.program().items.as_slice())
+    }
+}
+
+/// The number of the name `main`.
+fn start_of(names: &Labels, items: &[Item]) -> u32
+    ensures { result ≡ count.start_of names.now (map plain.plain_item items.now) }
+{
+    match start_name(names, items) {
+        None => 0,
+        Some(first) => first,
+    }
+}
+
+fn count_inputs(items: &[Item]) -> usize
+    ensures { result ≡ checked.inputs_of (map plain.plain_item items.now) }
+{
+    let mut count = 0;
+    for item in items {
+        if let Item::Global { global } = item {
+            if is_input(global.kind) {
+                count += 1;
+            }
+        }
+    }
+    count
+}
+
+fn count_outputs(items: &[Item]) -> usize
+    ensures { result ≡ checked.outputs_of (map plain.plain_item items.now) }
+{
+    let mut count = 0;
+    for item in items {
+        if let Item::Global { global } = item {
+            if is_output(global.kind) {
+                count += 1;
+            }
+        }
+    }
+    count
+}
