@@ -16,3 +16,4 @@ pub mod Tabled
 pub mod Lately
 pub mod Tables
 pub mod Counted
+pub mod Single

@@ -6,6 +6,7 @@ pub mod Early
 pub mod Late
 pub mod Table
 pub mod Threads
+pub mod Sites
 pub mod Instances
 pub mod Checks
 pub mod Checked
