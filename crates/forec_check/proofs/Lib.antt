@@ -17,3 +17,4 @@ pub mod Lately
 pub mod Tables
 pub mod Counted
 pub mod Single
+pub mod Spreading

@@ -7,6 +7,7 @@ pub mod Late
 pub mod Table
 pub mod Threads
 pub mod Sites
+pub mod Named
 pub mod Instances
 pub mod Checks
 pub mod Checked

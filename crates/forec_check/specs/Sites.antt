@@ -2,7 +2,6 @@
 use Rattle.std.specs.Prelude.{ℕ, suc, ◌≡◌, ◌==◌, ◌<◌, ◌≢◌, Bool, true, false, ◌&&◌, nat_lt, Option, Some, None, List, [], ◌∷◌, reverse, length, slice_index_or}
 use Rattle.forec_tree.specs.Terms.{Text}
 use Rattle.forec_tree.specs.Pauses.{find_function}
-use Rattle.forec_tree.specs.Threads.{instances_of}
 use Rattle.forec_check.specs.declared.found.Event.{Event}
 use Rattle.forec_check.specs.declared.found.Event.TheVariants as event
 use Rattle.forec_check.specs.declared.sites.Site.{Site}
@@ -27,6 +26,9 @@ is_within sites.Many sites.Many = true
 
 abbrev pub sites_at : List Sites → ℕ → Sites
 sites_at table id = slice_index_or table id sites.None
+
+abbrev pub none : Sites
+none = sites.None
 
 -- the instances that start at a site, in a function that is called from some sites
 abbrev pub opened : Sites → Site → Sites
@@ -85,8 +87,12 @@ Settled t f n r (e ∷ rest) =
     Holds t e (opened (t.calls f) (record { function = f; event = n })) r
     × Settled t f (suc n) (inside_after e (opened (t.calls f) (record { function = f; event = n })) r) rest
 
+-- the text of a function outside of its blocks
+abbrev pub outermost : Known → ℕ → Inside
+outermost t f = record { here = t.texts f; round = [] }
+
 abbrev pub body_settled : Text → Known → ℕ → Type 0
-body_settled text t f = Settled t f 1 (record { here = t.texts f; round = [] }) (events_in text (find_function f text))
+body_settled text t f = Settled t f 1 (outermost t f) (events_in text (find_function f text))
 
 -- where a program starts
 abbrev pub start_site : ℕ → Sites
@@ -97,7 +103,3 @@ pub record AllSettled (text : Text) (first : ℕ) (functions : List ℕ) (t : Kn
   pub calls : is_within (start_site first) (t.calls first) ≡ true
   pub texts : is_within (start_site first) (t.texts first) ≡ true
   pub bodies : (k : ℕ) → k < length functions → t.calls (slice_index_or functions k 0) ≢ sites.None → body_settled text t (slice_index_or functions k 0)
-
--- at most one instance names each global of which not many are known
-abbrev pub Told : Text → ℕ → List Sites → Type 0
-Told text first globals = (g : ℕ) → sites_at globals g ≢ sites.Many → nat_lt 1 (instances_of text g first) ≡ false

@@ -1,14 +1,12 @@
 // From where each function is called, and which thread instance each text stands in, callers first.
 
-ghost use Rattle.std.specs.Prelude.{◌≡◌, ◌+◌, ◌<◌, ℕ, ◌∷◌, List, false, true, map, nat_lt, length, slice_index_or, IfOk};
+ghost use Rattle.std.specs.Prelude.{◌≡◌, ◌≢◌, false, true, map, IfOk};
 ghost use Rattle.forec_tree.specs.Pauses.{find_function};
-ghost use Rattle.forec_tree.specs.Threads.{instances_of};
 ghost use Rattle.loop_check.specs.Views.{text_of};
-ghost use Rattle.forec_check.specs.declared.found.Event.{Event};
 ghost use Rattle.forec_check.specs.Walk.{item_events, events_lists};
 ghost use Rattle.forec_check.specs.Threads.{events_in};
 ghost use Rattle.forec_check.specs.Sites as plain;
-ghost use Rattle.forec_check.specs.Sites.{sites_at, tables_of, region_of, SameTables, Settled, Rests, Told};
+ghost use Rattle.forec_check.specs.Sites.{tables_of, region_of, outermost, SameTables, Settled, Rests, body_settled, AllSettled};
 
 use crate::found::Event;
 use crate::sites::{Site, Sites, at, join};
@@ -88,4 +86,103 @@ fn spread_event(
             Ok(false)
         }
     }
+}
+
+fn spread_events(
+    alloc: Global,
+    f: u32,
+    events: &[Event],
+    tables: &mut Tables,
+) -> Result<bool, OutOfMemory>
+    ensures same { IfOk result (λ moved. moved ≡ false → SameTables tables.old tables.new) }
+    ensures settled { IfOk result (λ moved. moved ≡ false → Settled (tables_of tables.old) f 1 (outermost (tables_of tables.old) f) events.now) }
+{
+    let calls = at(&tables.calls, f);
+    let mut region = Region {
+        here: at(&tables.texts, f),
+        round: Vec::new(alloc),
+    };
+    let mut moved = false;
+    for (number, event) in events.iter().enumerate() {
+        let site = opened(
+            calls,
+            Site {
+                function: f,
+                event: number + 1,
+            },
+        );
+        if spread_event(*event, site, &mut region, tables)? {
+            moved = true;
+        }
+    }
+    Ok(moved || !region.round.is_empty())
+}
+
+fn is_none(sites: Sites) -> bool
+    ensures some { result ≡ false → sites ≢ plain.none }
+    ensures none { result ≡ true → sites ≡ plain.none }
+{
+    match sites {
+        Sites::None => true,
+        _ => false,
+    }
+}
+
+/// The events of the body of a function.
+pub fn events_of<'b>(index: &Index<'_>, bodies: &'b [Vec<Event>], f: u32) -> &'b [Event]
+    requires { events_lists bodies.now ≡ map (item_events (text_of index.now)) (text_of index.now) }
+    ensures { result.now ≡ events_in (text_of index.now) (find_function f (text_of index.now)) }
+{
+    match index.position(f) {
+        None => &[],
+        Some(place) => match sqlite_items::at(bodies, place) {
+            None => &[],
+            Some(events) => events,
+        },
+    }
+}
+
+fn spread_function(
+    alloc: Global,
+    index: &Index<'_>,
+    bodies: &[Vec<Event>],
+    f: u32,
+    tables: &mut Tables,
+) -> Result<bool, OutOfMemory>
+    requires { events_lists bodies.now ≡ map (item_events (text_of index.now)) (text_of index.now) }
+    ensures same { IfOk result (λ moved. moved ≡ false → SameTables tables.old tables.new) }
+    ensures settled { IfOk result (λ moved. moved ≡ false → (tables_of tables.old).calls f ≢ plain.none → body_settled (text_of index.now) (tables_of tables.old) f) }
+{
+    if is_none(at(&tables.calls, f)) {
+        return Ok(false);
+    }
+    let moved = spread_events(alloc, f, events_of(index, bodies, f), tables)?;
+    Ok(moved)
+}
+
+/// Adds what the bodies of some functions tell to the tables, and tells whether any was new.
+pub fn spread(
+    alloc: Global,
+    index: &Index<'_>,
+    bodies: &[Vec<Event>],
+    functions: &[u32],
+    first: u32,
+    tables: &mut Tables,
+) -> Result<bool, OutOfMemory>
+    requires { events_lists bodies.now ≡ map (item_events (text_of index.now)) (text_of index.now) }
+    ensures { IfOk result (λ moved. moved ≡ false → AllSettled (text_of index.now) first functions.now (tables_of tables.new)) }
+{
+    let start = Sites::One {
+        site: Site {
+            function: first,
+            event: 0,
+        },
+    };
+    let mut moved = spread_call(tables, first, start, start)?;
+    for f in functions {
+        if spread_function(alloc, index, bodies, *f, tables)? {
+            moved = true;
+        }
+    }
+    Ok(moved)
 }
