@@ -11,6 +11,7 @@ pub mod Circling
 pub mod Started
 pub mod Acyclic
 pub mod Looping
+pub mod LoopsFound
 pub mod Namings
 pub mod Tabled
 pub mod Lately

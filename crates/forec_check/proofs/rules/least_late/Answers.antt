@@ -7,6 +7,7 @@ use Rattle.loop_check.specs.Graph.{callees, IsOrder}
 use Rattle.loop_check.specs.Judges.{judge_text}
 use Rattle.loop_check.specs.Views.{text_of}
 use Rattle.forec_check.specs.Threads.{Orders}
+use Rattle.forec_check.specs.Late.{all_loops}
 use Rattle.forec_check.proofs.Acyclic.{no_circle, no_reach}
 use Rattle.forec_check.proofs.Tabled.{orders_is}
 use Rattle.forec_check.proofs.Lately.{both_late}
@@ -28,6 +29,5 @@ of-requires c = λ f l. no_circle (text_of c.args.index.now) c.args.names.now c.
 pub returns : goal.returns
 returns c =
     let text = text_of c.args.index.now in
-    let shown = λ (r : Bor Stmt). plain.statement r.now in
-    both_late text c.args.names.now (judge_text c.in_ok-pauses.pauses) (map shown c.deref-5.result.now) c.judge_globals.new.least c.judge_loops.new.least c.in_ok-judge_globals.ensures
-    (c.in_ok-pauses.ensures ∙ c.requires.items) (ap (map shown) c.deref-5.ensures.value ∙ c.requires.loops) c.judge_loops.ensures
+    both_late text c.args.names.now (judge_text c.in_ok-pauses.pauses) (all_loops (map plain.plain_item c.args.items.now)) c.judge_globals.new.least c.judge_loops.new.least c.in_ok-judge_globals.ensures
+    (c.in_ok-pauses.ensures ∙ c.requires.items) (ap all_loops c.requires.items) c.judge_loops.ensures
