@@ -21,7 +21,7 @@ use Rattle.forec_tree.specs.Findings.{Finding, Loop, Opens, Closes, use_at, in_b
 use Rattle.forec_tree.specs.Rules.{Judging}
 use Rattle.forec_tree.proofs.Rows.{perhaps_of, branch-group}
 use Rattle.forec_check.specs.Walk.{Gathered, walked}
-use Rattle.forec_check.proofs.Walked.{walked-append, walked-none}
+use Rattle.forec_check.proofs.Walked.{walked-append, walked-none, passed_loop}
 use Rattle.forec_check.proofs.Parts.{two, three, then, count_is}
 
 module _ (j : Judging) (text : Text) (s : Scope) where
@@ -39,15 +39,11 @@ module _ (j : Judging) (text : Text) (s : Scope) where
       new ≡ walked j (in_statement text s (statement b)) kept
   body_in r kept new a b h e g = g ∙ ap (λ x. walked j (in_statement text x (statement a)) kept) h ∙ ap (λ x. walked j (in_statement text s (statement x)) kept) e
 
-  -- a loop of another spelling
-  pub loop_as : (kept new : Gathered) (a b : plain.Statement) → a ≡ b → new ≡ walked j (Loop a ∷ []) kept → new ≡ walked j (Loop b ∷ []) kept
-  loop_as kept new a b h g = g ∙ ap (λ x. walked j (Loop x ∷ []) kept) h
-
-  pub for_is : (k0 k1 k2 k3 k4 k5 k6 : Gathered) (loop : plain.Statement) (bound : Option Number) (a b d e : List Finding) →
-      k1 ≡ walked j (Loop loop ∷ []) k0 → k2 ≡ walked j (in_bound bound) k1 → k3 ≡ walked j a k2 → k4 ≡ walked j b k3 → k5 ≡ walked j d k4 → k6 ≡ walked j e k5 →
-      k6 ≡ walked j (Loop loop ∷ in_bound bound ++ (a ++ (b ++ (d ++ e)))) k0
-  for_is k0 k1 k2 k3 k4 k5 k6 loop bound a b d e h1 h2 h3 h4 h5 h6 =
-      then j (Loop loop) (in_bound bound ++ (a ++ (b ++ (d ++ e)))) k0 k1 k6 h1
+  pub for_is : (k1 k2 k3 k4 k5 k6 : Gathered) (loop : plain.Statement) (bound : Option Number) (a b d e : List Finding) →
+      k2 ≡ walked j (in_bound bound) k1 → k3 ≡ walked j a k2 → k4 ≡ walked j b k3 → k5 ≡ walked j d k4 → k6 ≡ walked j e k5 →
+      k6 ≡ walked j (Loop loop ∷ in_bound bound ++ (a ++ (b ++ (d ++ e)))) k1
+  for_is k1 k2 k3 k4 k5 k6 loop bound a b d e h2 h3 h4 h5 h6 =
+      then j (Loop loop) (in_bound bound ++ (a ++ (b ++ (d ++ e)))) k1 k1 k6 (passed_loop j loop k1)
       (three j (in_bound bound) a (b ++ (d ++ e)) k1 k2 k3 k6 h2 h3 (three j b d e k3 k4 k5 k6 h4 h5 h6))
 
   -- ---- branches

@@ -20,7 +20,7 @@ use Rattle.forec_tree.specs.Rules.{Judging, fault_if, length_faults, too_many, i
 use Rattle.forec_tree.specs.Faults.{Before, item_named, combine_faults, global_faults, function_faults, in_function, item_faults, items_faults, text_faults, main_faults, start_name, main_place, none_before, after_item, one_if, least_from, judged}
 use Rattle.forec_tree.proofs.Least.{least-append}
 use Rattle.forec_check.specs.declared.counts.Counts.{Counts}
-use Rattle.forec_check.specs.Walk.{Gathered, walked, events_of, loops_of, items_loops, events_lists}
+use Rattle.forec_check.specs.Walk.{Gathered, walked, events_of, events_lists}
 use Rattle.forec_check.specs.Items.{is_extra, before_of, head_faults, in_item, counts_after, Few}
 use Rattle.forec_check.specs.Views.{judging}
 use Rattle.forec_check.proofs.Walked.{walked-append, walked-none}
@@ -70,10 +70,6 @@ function_is text names b f k0 k1 s new h e w =
 pub walked_events : (j : Judging) (fs : List Finding) (s new : Gathered) → new ≡ walked j fs s → s.events ≡ [] → new.events ≡ events_of fs
 unfolding walked
 walked_events j fs s new h e = ap (λ g. g.events) h ∙ ap (λ x. x ++ events_of fs) e
-
-pub walked_loops : (j : Judging) (fs : List Finding) (s new : Gathered) → new ≡ walked j fs s → new.loops ≡ s.loops ++ loops_of fs
-unfolding walked
-walked_loops j fs s new h = ap (λ g. g.loops) h
 
 -- ---- parameters
 
@@ -132,12 +128,6 @@ pub least_end : (text : Text) (names : List (List ℕ)) (b : Before) (rest : Lis
     least_from kept (items_faults text names b rest) ≡ whole → kept ≡ whole
 unfolding least_from
 least_end text names b rest kept whole h w = sym (ap (λ l. least_from kept (items_faults text names b l)) h) ∙ w
-
-pub loops_step : (text : Text) (rest behind : List PlainItem) (x : PlainItem) (old new whole : List Statement) → rest ≡ x ∷ behind → new ≡ old ++ loops_of (in_item text x) →
-    old ++ items_loops text rest ≡ whole → new ++ items_loops text behind ≡ whole
-loops_step text rest behind x old new whole r n w =
-    ap (λ l. l ++ items_loops text behind) n ∙ append_assoc old (loops_of (in_item text x)) (items_loops text behind)
-    ∙ sym (ap (λ l. old ++ items_loops text l) r) ∙ w
 
 pub bodies_step : (text : Text) (at : ℕ) (x : PlainItem) (old new : List (Vec Event Global)) (v : Vec Event Global) (f : PlainItem → List Event) → slice_get text at ≡ Some x →
     new ≡ old ++ v ∷ [] → v.items ≡ f x → events_lists old ≡ map f (take at text) → events_lists new ≡ map f (take (at + 1) text)

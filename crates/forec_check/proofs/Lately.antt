@@ -6,37 +6,22 @@ use Rattle.forec_tree.specs.Terms.{Text, Statement, PlainItem, IsGlobal, IsFunct
 use Rattle.forec_tree.specs.Findings.{in_function}
 use Rattle.forec_tree.specs.Faults.{Member, here, later, IsLeast, IsEarly, IsFault, late_faults, late_item_faults, least_from}
 use Rattle.forec_tree.proofs.Least.{least-append}
-use Rattle.forec_check.specs.Walk.{loops_of, items_loops}
-use Rattle.forec_check.specs.Items.{in_item}
-use Rattle.forec_check.specs.Late.{loops_faults}
+use Rattle.forec_check.specs.Late.{item_loops, all_loops, loops_faults}
 use Rattle.forec_check.specs.Early.{Kept}
 use Rattle.forec_check.specs.Threads.{global_fault, globals_faults}
-use Rattle.forec_check.proofs.Looping.{findings_loops, loops_append}
+use Rattle.forec_check.proofs.Looping.{loops_append}
+use Rattle.forec_check.proofs.LoopsFound.{either_of, on_left, on_right, function_loops}
 use Rattle.forec_check.proofs.Circling.{kept_list, same_kept}
-
-either_of : (x : Fault) (xs ys : List Fault) → Member x (xs ++ ys) → Member x xs ⊎ Member x ys
-either_of x [] ys p = inr p
-either_of x (y ∷ xs) ys here = inl here
-either_of x (y ∷ xs) ys (later p) = ⊎_elim (λ a. inl (later a)) (λ b. inr b) (either_of x xs ys p)
-
-on_left : (x : Fault) (xs ys : List Fault) → Member x xs → Member x (xs ++ ys)
-on_left x [] ys p = elim p [ ]
-on_left x (y ∷ xs) ys here = here
-on_left x (y ∷ xs) ys (later p) = later (on_left x xs ys p)
-
-on_right : (x : Fault) (xs ys : List Fault) → Member x ys → Member x (xs ++ ys)
-on_right x [] ys p = p
-on_right x (y ∷ xs) ys p = later (on_right x xs ys p)
 
 along : (x : Fault) (xs ys : List Fault) → xs ≡ ys → Member x xs → Member x ys
 along x xs ys e p = subst (λ l. Member x l) e p
 
 module _ (text : Text) (names : List (List ℕ)) where
   abbrev loops : List PlainItem → List Fault
-  loops xs = loops_faults text (items_loops text xs)
+  loops xs = loops_faults text (all_loops xs)
 
-  item_split : (i : PlainItem) (rest : List PlainItem) → loops (i ∷ rest) ≡ loops_faults text (loops_of (in_item text i)) ++ loops rest
-  item_split i rest = loops_append text (loops_of (in_item text i)) (items_loops text rest)
+  item_split : (i : PlainItem) (rest : List PlainItem) → loops (i ∷ rest) ≡ loops_faults text (item_loops i) ++ loops rest
+  item_split i rest = loops_append text (item_loops i) (all_loops rest)
 
   -- the faults of one item, by its sort
   pub to_late : (xs : List PlainItem) (f : Fault) → Member f (globals_faults text names xs) ⊎ Member f (loops xs) → Member f (late_faults text names xs)
@@ -53,9 +38,9 @@ module _ (text : Text) (names : List (List ℕ)) where
       let item = late_item_faults text names (IsFunction h) in
       ⊎_elim (λ a. on_right f item (late_faults text names rest) (more (inl a)))
       (λ b.
-      ⊎_elim (λ q. on_left f item (late_faults text names rest) (along f _ item (sym (findings_loops text (in_function text h))) q))
+      ⊎_elim (λ q. on_left f item (late_faults text names rest) ((function_loops text h).back f q))
       (λ q. on_right f item (late_faults text names rest) (more (inr q)))
-      (either_of f (loops_faults text (loops_of (in_function text h))) (loops rest) (along f _ _ (item_split (IsFunction h) rest) b))) p
+      (either_of f (loops_faults text (item_loops (IsFunction h))) (loops rest) (along f _ _ (item_split (IsFunction h) rest) b))) p
 
   pub from_late : (xs : List PlainItem) (f : Fault) → Member f (late_faults text names xs) → Member f (globals_faults text names xs) ⊎ Member f (loops xs)
   from_late [] f p = elim p [ ]
@@ -67,9 +52,9 @@ module _ (text : Text) (names : List (List ℕ)) where
       (either_of f item (late_faults text names rest) p)
   from_late (IsFunction h ∷ rest) f p =
       let item = late_item_faults text names (IsFunction h) in
-      let own = loops_faults text (loops_of (in_function text h)) in
+      let own = loops_faults text (item_loops (IsFunction h)) in
       let more = from_late rest f in
-      ⊎_elim (λ q. inr (along f _ _ (sym (item_split (IsFunction h) rest)) (on_left f own (loops rest) (along f item own (findings_loops text (in_function text h)) q))))
+      ⊎_elim (λ q. inr (along f _ _ (sym (item_split (IsFunction h) rest)) (on_left f own (loops rest) ((function_loops text h).to f q))))
       (λ q. ⊎_elim (λ a. inl a) (λ b. inr (along f _ _ (sym (item_split (IsFunction h) rest)) (on_right f own (loops rest) b))) (more q))
       (either_of f item (late_faults text names rest) p)
 
@@ -96,7 +81,7 @@ module _ (text : Text) (names : List (List ℕ)) where
   none_early None s h = h
   none_early (Some m) s h = absurd (let q : true ≡ false = s in cc)
 
-  pub both_late : (loops_text : Text) (all : List Statement) (k1 k2 : Option Fault) → k1 ≡ least_from None (globals_faults text names text) → loops_text ≡ text → all ≡ items_loops text text →
+  pub both_late : (loops_text : Text) (all : List Statement) (k1 k2 : Option Fault) → k1 ≡ least_from None (globals_faults text names text) → loops_text ≡ text → all ≡ all_loops text →
       k2 ≡ least_from k1 (loops_faults loops_text all) → k2 ≡ least_from None (globals_faults text names text ++ loops text)
   both_late loops_text all k1 k2 a t l b =
       b ∙ ap (λ x. least_from k1 (loops_faults x all)) t ∙ ap (λ x. least_from k1 (loops_faults text x)) l ∙ ap (λ k. least_from k (loops text)) a

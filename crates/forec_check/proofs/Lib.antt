@@ -11,8 +11,11 @@ pub mod Circling
 pub mod Started
 pub mod Acyclic
 pub mod Looping
+pub mod LoopsFound
 pub mod Namings
 pub mod Tabled
 pub mod Lately
 pub mod Tables
 pub mod Counted
+pub mod Single
+pub mod Spreading

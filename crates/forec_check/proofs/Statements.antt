@@ -18,7 +18,7 @@ use Rattle.forec_tree.specs.Plain.{term, terms, written, optional_term, declared
 use Rattle.forec_tree.specs.Findings.{Finding, Declares, Loop, Synchronous, use_at, in_term, in_terms, in_target, in_bound, in_local, in_locals, in_statement, in_statements}
 use Rattle.forec_tree.specs.Rules.{Judging}
 use Rattle.forec_check.specs.Walk.{Gathered, walked}
-use Rattle.forec_check.proofs.Walked.{walked-append, walked-none}
+use Rattle.forec_check.proofs.Walked.{walked-append, walked-none, passed_loop}
 use Rattle.forec_tree.proofs.Rows.{statement-group, statement-abort}
 use Rattle.std.proofs.Math.Seq.{drop-cons}
 use Rattle.std.proofs.lemmas.List.{drop_all}
@@ -95,11 +95,11 @@ module _ (j : Judging) (text : Text) (s : Scope) where
       (e ∙ ap (λ x. walked j (in_statements text (entered s) (statements x)) next) h))
       ∙ ap (λ x. walked j (in_statement text s x) kept) (sym (statement-abort weak immediate test body at))
 
-  pub while_is : (kept noted one next new : Gathered) (loop : plain.Statement) (bound : Option Number) (a b : List Finding) →
-      noted ≡ walked j (Loop loop ∷ []) kept → one ≡ walked j (in_bound bound) noted → next ≡ walked j a one → new ≡ walked j b next →
+  pub while_is : (kept one next new : Gathered) (loop : plain.Statement) (bound : Option Number) (a b : List Finding) →
+      one ≡ walked j (in_bound bound) kept → next ≡ walked j a one → new ≡ walked j b next →
       new ≡ walked j (Loop loop ∷ in_bound bound ++ (a ++ b)) kept
-  while_is kept noted one next new loop bound a b n g f e =
-      then j (Loop loop) (in_bound bound ++ (a ++ b)) kept noted new n (three j (in_bound bound) a b noted one next new g f e)
+  while_is kept one next new loop bound a b g f e =
+      then j (Loop loop) (in_bound bound ++ (a ++ b)) kept kept new (passed_loop j loop kept) (three j (in_bound bound) a b kept one next new g f e)
 
   pub statements_step : (items : List Stmt) (i : ℕ) (x : Stmt) (r : Scope) (kept new whole : Gathered) → i < length items → get_or items i x ≡ x →
       r ≡ behind s (statement x) → new ≡ walked j (in_statement text s (statement x)) kept →

@@ -22,10 +22,9 @@ use Rattle.forec_check.specs.declared.found.Found.{Found}
 pub record Gathered : Type 0 where
   pub least : Option Fault
   pub events : List Event
-  pub loops : List Statement
 
 abbrev pub found_of : Found → Gathered
-found_of f = record { least = f.least; events = f.events.items; loops = map (λ r. statement r.now) f.loops.items }
+found_of f = record { least = f.least; events = f.events.items }
 
 -- what a use of a name is, where it means that
 abbrev pub event_of : How → ℕ → Meaning → Option Event
@@ -49,25 +48,13 @@ abbrev pub events_of : List Finding → List Event
 events_of [] = []
 events_of (f ∷ rest) = finding_events f ++ events_of rest
 
-abbrev pub finding_loops : Finding → List Statement
-finding_loops (finding.Loop loop) = loop ∷ []
-finding_loops _ = []
-
-abbrev pub loops_of : List Finding → List Statement
-loops_of [] = []
-loops_of (f ∷ rest) = finding_loops f ++ loops_of rest
-
 -- what is kept after some findings
 unfoldable pub walked : Judging → List Finding → Gathered → Gathered
-walked j fs s = record { least = judged j fs s.least; events = s.events ++ events_of fs; loops = s.loops ++ loops_of fs }
+walked j fs s = record { least = judged j fs s.least; events = s.events ++ events_of fs }
 
--- the events of an item, and the loops of some items
+-- the events of an item
 abbrev pub item_events : Text → PlainItem → List Event
 item_events text i = events_of (in_item text i)
-
-abbrev pub items_loops : Text → List PlainItem → List Statement
-items_loops text [] = []
-items_loops text (i ∷ rest) = loops_of (in_item text i) ++ items_loops text rest
 
 abbrev pub events_lists : List (Vec Event Global) → List (List Event)
 events_lists vs = map (λ v. v.items) vs

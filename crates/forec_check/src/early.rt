@@ -6,7 +6,7 @@ ghost use Rattle.forec_tree.specs.Rules as rules;
 ghost use Rattle.forec_tree.specs.Faults as faults;
 ghost use Rattle.forec_tree.specs.Faults.{least_from};
 ghost use Rattle.loop_check.specs.Views.{text_of};
-ghost use Rattle.forec_check.specs.Walk.{found_of, events_of, loops_of, items_loops, item_events, events_lists};
+ghost use Rattle.forec_check.specs.Walk.{events_of, item_events, events_lists};
 ghost use Rattle.forec_check.specs.Items.{before_of, in_item, counts_after, Few};
 
 use crate::counts::Counts;
@@ -21,10 +21,10 @@ use loop_check::{Index, item_name};
 use std::alloc::Global;
 use std::mem;
 
-/// What the walk over all items found: the least fault, the loops, and the events of each item.
+/// What the walk over all items found: the least fault, and the events of each item.
 #[derive(Drop)]
-pub struct Checking<'p> {
-    pub found: Found<'p>,
+pub struct Checking {
+    pub found: Found,
     pub bodies: Vec<Vec<Event>>,
 }
 
@@ -52,38 +52,36 @@ fn after(counts: Counts, item: &Item) -> Counts
     }
 }
 
-fn judge_function<'p>(
+fn judge_function(
     index: &Index<'_>,
     names: &Labels,
     at: usize,
     counts: Counts,
-    f: &'p Function,
+    f: &Function,
     scope: &mut Scope,
-    found: &mut Found<'p>,
+    found: &mut Found,
 ) -> Result<(), OutOfMemory>
     requires { found.old.events.items ≡ [] }
     ensures least { OnOk result (found.new.least ≡ least_from found.old.least (faults.function_faults (text_of index.now) names.now (before_of (text_of index.now) at counts) (plain.plain_function f.now))) }
     ensures events { OnOk result (found.new.events.items ≡ events_of (faults.in_function (text_of index.now) (plain.plain_function f.now))) }
-    ensures loops { OnOk result ((found_of found.new).loops ≡ (found_of found.old).loops ++ loops_of (faults.in_function (text_of index.now) (plain.plain_function f.now))) }
 {
     judge_head(index, names, at, counts, f, &mut found.least);
     body(index, names, scope, f, found)?;
     Ok(())
 }
 
-fn judge_item<'p>(
+fn judge_item(
     index: &Index<'_>,
     names: &Labels,
     at: usize,
     counts: Counts,
-    item: &'p Item,
+    item: &Item,
     scope: &mut Scope,
-    found: &mut Found<'p>,
+    found: &mut Found,
 ) -> Result<(), OutOfMemory>
     requires { found.old.events.items ≡ [] }
     ensures least { OnOk result (found.new.least ≡ least_from found.old.least (faults.item_faults (text_of index.now) names.now (before_of (text_of index.now) at counts) (plain.plain_item item.now))) }
     ensures events { OnOk result (found.new.events.items ≡ events_of (in_item (text_of index.now) (plain.plain_item item.now))) }
-    ensures loops { OnOk result ((found_of found.new).loops ≡ (found_of found.old).loops ++ loops_of (in_item (text_of index.now) (plain.plain_item item.now))) }
 {
     match item {
         Item::Global { global } => {
@@ -97,19 +95,18 @@ fn judge_item<'p>(
     }
 }
 
-fn judge_items<'p>(
+fn judge_items(
     alloc: Global,
     index: &Index<'_>,
     names: &Labels,
-    items: &'p [Item],
-    checking: &mut Checking<'p>,
+    items: &[Item],
+    checking: &mut Checking,
 ) -> Result<(), OutOfMemory>
     requires items { map plain.plain_item items.now ≡ text_of index.now }
     requires none { checking.old.found.events.items ≡ [] }
     requires bodies { checking.old.bodies.items ≡ [] }
     ensures least { OnOk result (checking.new.found.least ≡ least_from checking.old.found.least (faults.items_faults (text_of index.now) names.now faults.none_before (text_of index.now))) }
     ensures bodies { OnOk result (events_lists checking.new.bodies.items ≡ map (item_events (text_of index.now)) (text_of index.now)) }
-    ensures loops { OnOk result ((found_of checking.new.found).loops ≡ (found_of checking.old.found).loops ++ items_loops (text_of index.now) (text_of index.now)) }
 {
     let mut scope = Scope::new(alloc);
     let mut counts = Counts {
@@ -185,22 +182,20 @@ fn is_absent(name: Option<u32>) -> bool
 }
 
 /// Walks over all items once.
-pub fn judge_text<'p>(
+pub fn judge_text(
     alloc: Global,
     index: &Index<'_>,
     names: &Labels,
-    items: &'p [Item],
-) -> Result<Checking<'p>, OutOfMemory>
+    items: &[Item],
+) -> Result<Checking, OutOfMemory>
     requires { map plain.plain_item items.now ≡ text_of index.now }
     ensures least { IfOk result (λ c. c.found.least ≡ least_from None (faults.text_faults (text_of index.now) names.now)) }
     ensures bodies { IfOk result (λ c. events_lists c.bodies.items ≡ map (item_events (text_of index.now)) (text_of index.now)) }
-    ensures loops { IfOk result (λ c. (found_of c.found).loops ≡ items_loops (text_of index.now) (text_of index.now)) }
 {
     let mut checking = Checking {
         found: Found {
             least: None,
             events: Vec::new(alloc),
-            loops: Vec::new(alloc),
         },
         bodies: Vec::new(alloc),
     };

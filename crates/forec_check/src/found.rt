@@ -1,6 +1,6 @@
 // What a walk through the body of a function finds.
 
-use forec_tree::{Fault, Stmt};
+use forec_tree::Fault;
 
 /// What a body does that matters beyond its own statements. Names are by their numbers.
 #[derive(Clone, Copy, Debug, PartialEq, Eq)]
@@ -19,10 +19,9 @@ pub enum Event {
     Closes,
 }
 
-/// The least fault so far, and the events and loops of the bodies so far, in order.
+/// The least fault so far, and the events of the body so far, in order.
 #[derive(Drop)]
-pub struct Found<'p> {
+pub struct Found {
     pub least: Option<Fault>,
     pub events: Vec<Event>,
-    pub loops: Vec<&'p Stmt>,
 }

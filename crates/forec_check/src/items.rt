@@ -28,7 +28,7 @@ fn params(
     gives: bool,
     scope: &mut Scope,
     all: &[Name],
-    found: &mut Found<'_>,
+    found: &mut Found,
 ) -> Result<(), OutOfMemory>
     ensures found { OnOk result (found_of found.new ≡ walked (judging names.now gives) (in_params (text_of index.now) (scope_of scope.old) all.now) (found_of found.old)) }
     ensures scope { OnOk result (scope_of scope.new ≡ with_params (scope_of scope.old) all.now) }
@@ -43,12 +43,12 @@ fn params(
 }
 
 /// The faults of a function's parameters and body.
-pub fn body<'p>(
+pub fn body(
     index: &Index<'_>,
     names: &Labels,
     scope: &mut Scope,
-    f: &'p Function,
-    found: &mut Found<'p>,
+    f: &Function,
+    found: &mut Found,
 ) -> Result<(), OutOfMemory>
     ensures found { OnOk result (found_of found.new ≡ walked (judging names.now f.now.gives) (faults.in_function (text_of index.now) (plain.plain_function f.now)) (found_of found.old)) }
     ensures same { OnOk result (Same scope.old scope.new) }

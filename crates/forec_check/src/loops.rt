@@ -2,55 +2,137 @@
 
 ghost use Rattle.std.specs.Prelude.{◌≡◌, ◌&&◌, not, map};
 ghost use Rattle.forec_tree.specs.Plain as plain;
+ghost use Rattle.forec_tree.proofs.Rows.{perhaps_of};
 ghost use Rattle.forec_tree.specs.Rules as rules;
-ghost use Rattle.forec_tree.specs.Turns.{inferred};
-ghost use Rattle.forec_tree.specs.Pauses.{certain};
+ghost use Rattle.forec_tree.specs.Pauses.{certain, certain_function, certain_perhaps, some_certain, branch_certain};
 ghost use Rattle.forec_tree.specs.Faults.{least_from};
 ghost use Rattle.loop_check.specs.Judges.{judge_text};
-ghost use Rattle.forec_check.specs.Late.{loops_faults};
+ghost use Rattle.forec_check.specs.Late.{loops_in, loops_in_perhaps, loops_in_all, loops_in_branches, all_loops, loops_faults};
 
 use crate::least::meet;
-use forec_base::Place;
-use forec_tree::{Fault, Number, Stmt, StmtKind};
-use loop_check::Pauses;
+use forec_tree::{Branch, Fault, Item, Number, Stmt, StmtKind};
+use loop_check::{Pauses, always, at_least_one, is_nonzero};
 
-fn may_run_on(pauses: &Pauses<'_>, s: &Stmt, bound: Option<Number>, body: &Stmt) -> bool
-    ensures { result ≡ (rules.is_none bound && (rules.is_none (inferred (judge_text pauses.now) (plain.statement s.now)) && not (certain (judge_text pauses.now) (plain.statement body.now)))) }
+fn is_endless(bound: Option<Number>, turns: Option<u32>, pausing: bool) -> bool
+    ensures { result ≡ (rules.is_none bound && (rules.is_none turns && not pausing)) }
 {
     if bound.is_some() {
         return false;
     }
-    if pauses.turns(s).is_some() {
+    if turns.is_some() {
         return false;
     }
-    !pauses.certain(body)
+    !pausing
 }
 
-fn endless(pauses: &Pauses<'_>, s: &Stmt) -> bool
-    ensures { result ≡ rules.endless (judge_text pauses.now) (plain.statement s.now) }
+/// Keeps the least fault of the loops in a statement, those inside first, and tells whether the
+/// statement is certain to pause.
+#[cycle(loops)]
+fn judge(pauses: &Pauses<'_>, s: &Stmt, least: &mut Option<Fault>) -> bool
+    ensures certain { result ≡ certain (judge_text pauses.now) (plain.statement s.now) }
+    ensures least { least.new ≡ least_from least.old (loops_faults (judge_text pauses.now) (loops_in (plain.statement s.now))) }
 {
     match &s.what {
-        StmtKind::While { bound, body, .. } => may_run_on(pauses, s, *bound, body),
-        StmtKind::For { bound, body, .. } => may_run_on(pauses, s, *bound, body),
-        _ => false,
+        StmtKind::Nothing => false,
+        StmtKind::Group { body } => judge_all(pauses, body.as_slice(), least),
+        StmtKind::Declare { .. } => false,
+        StmtKind::Assign { .. } => false,
+        StmtKind::Call { name, .. } => pauses.function(name.id),
+        StmtKind::If { yes, no, .. } => {
+            let first = judge(pauses, yes, least);
+            let second = judge_optional(pauses, no, least);
+            first && second
+        }
+        StmtKind::While { test, bound, body } => {
+            let inside = judge(pauses, body, least);
+            let turns = pauses.turns(s);
+            meet(least, is_endless(*bound, turns, inside), s.place, 20);
+            is_nonzero(test) && inside
+        }
+        StmtKind::For {
+            start,
+            test,
+            step,
+            bound,
+            body,
+        } => {
+            let _ = judge_optional(pauses, start, least);
+            let _ = judge_optional(pauses, step, least);
+            let inside = judge(pauses, body, least);
+            let turns = pauses.turns(s);
+            meet(least, is_endless(*bound, turns, inside), s.place, 20);
+            let runs = always(test) || at_least_one(turns);
+            runs && inside
+        }
+        StmtKind::Pause => true,
+        StmtKind::Par { branches } => judge_branches(pauses, branches.as_slice(), least),
+        StmtKind::Abort {
+            immediate,
+            body,
+            ..
+        } => {
+            let inside = judge_all(pauses, body.as_slice(), least);
+            !*immediate && inside
+        }
+        StmtKind::Return { .. } => false,
     }
 }
 
-fn loop_place(s: &Stmt) -> Place
-    ensures { result ≡ rules.loop_place (plain.statement s.now) }
+#[cycle(loops)]
+fn judge_optional(pauses: &Pauses<'_>, s: &Option<Box<Stmt>>, least: &mut Option<Fault>) -> bool
+    ensures certain { result ≡ certain_perhaps (judge_text pauses.now) (certain_function (judge_text pauses.now)) (perhaps_of s.now) }
+    ensures least { least.new ≡ least_from least.old (loops_faults (judge_text pauses.now) (loops_in_perhaps (perhaps_of s.now))) }
 {
-    match &s.what {
-        StmtKind::While { .. } => s.place,
-        StmtKind::For { .. } => s.place,
-        _ => Place { line: 1, column: 1 },
+    match s {
+        None => false,
+        Some(there) => judge(pauses, there, least),
     }
+}
+
+#[cycle(loops)]
+fn judge_all(pauses: &Pauses<'_>, list: &[Stmt], least: &mut Option<Fault>) -> bool
+    ensures certain { result ≡ some_certain (judge_text pauses.now) (certain_function (judge_text pauses.now)) (plain.statements list.now) }
+    ensures least { least.new ≡ least_from least.old (loops_faults (judge_text pauses.now) (loops_in_all (plain.statements list.now))) }
+{
+    let mut found = false;
+    for s in list {
+        if judge(pauses, s, least) {
+            found = true;
+        }
+    }
+    found
+}
+
+#[cycle(loops)]
+fn judge_branches(pauses: &Pauses<'_>, list: &[Branch], least: &mut Option<Fault>) -> bool
+    ensures certain { result ≡ branch_certain (judge_text pauses.now) (certain_function (judge_text pauses.now)) (plain.branches list.now) }
+    ensures least { least.new ≡ least_from least.old (loops_faults (judge_text pauses.now) (loops_in_branches (plain.branches list.now))) }
+{
+    let mut found = false;
+    for branch in list {
+        let one = match branch {
+            Branch::Call { name, .. } => pauses.function(name.id),
+            Branch::Group { body, .. } => judge_all(pauses, body.as_slice(), least),
+        };
+        if one {
+            found = true;
+        }
+    }
+    found
 }
 
 /// Keeps the least fault of loops that have no bound, no turns by their form, and no certain pause.
-pub fn judge_loops(pauses: &Pauses<'_>, loops: &[&Stmt], least: &mut Option<Fault>)
-    ensures { least.new ≡ least_from least.old (loops_faults (judge_text pauses.now) (map (λ r. plain.statement r.now) loops.now)) }
+/// One walk over the text judges each statement once; the form of a `for` is looked for in its body,
+/// which costs a look at it for each `for` round it.
+pub fn judge_loops(pauses: &Pauses<'_>, items: &[Item], least: &mut Option<Fault>)
+    ensures { least.new ≡ least_from least.old (loops_faults (judge_text pauses.now) (all_loops (map plain.plain_item items.now))) }
 {
-    for s in loops {
-        meet(least, endless(pauses, s), loop_place(s), 20);
+    for item in items {
+        match item {
+            Item::Global { .. } => {}
+            Item::Function { function } => {
+                let _ = judge_all(pauses, function.body.as_slice(), least);
+            }
+        }
     }
 }

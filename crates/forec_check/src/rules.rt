@@ -6,16 +6,16 @@ ghost use Rattle.forec_tree.specs.Faults.{IsEarly, IsFault, start_name, least_fr
 ghost use Rattle.loop_check.specs.Views.{text_of};
 ghost use Rattle.loop_check.specs.Graph.{callees};
 ghost use Rattle.loop_check.specs.Known.{Read};
-ghost use Rattle.forec_check.specs.Walk.{found_of, item_events, items_loops, events_lists};
+ghost use Rattle.forec_check.specs.Walk.{item_events, events_lists};
 ghost use Rattle.forec_check.specs.Early.{Kept, calls_in};
-ghost use Rattle.forec_check.specs.Late.{loops_faults};
-ghost use Rattle.forec_check.specs.Threads.{globals_faults, Settles};
+ghost use Rattle.forec_check.specs.Late.{all_loops, loops_faults};
+ghost use Rattle.forec_check.specs.Threads.{globals_faults, Orders};
 
 use crate::circles::{judge_circles, read_bodies};
 use crate::early::{Checking, judge_text, start_name};
 use crate::found::Event;
 use crate::loops::judge_loops;
-use crate::threads::judge_plains;
+use crate::plains::judge_plains;
 use forec_base::{Labels, OutOfMemory};
 use forec_tree::{Fault, Item, Program};
 use loop_check::{Calls, Index, Pauses, order};
@@ -32,7 +32,7 @@ fn judge_globals(
 ) -> Result<(), OutOfMemory>
     requires items { map plain.plain_item items.now ≡ text_of index.now }
     requires bodies { events_lists bodies.now ≡ map (item_events (text_of index.now)) (text_of index.now) }
-    requires order { Settles (text_of index.now) order.now }
+    requires order { Orders (text_of index.now) order.now }
     ensures { OnOk result (least.new ≡ least_from least.old (globals_faults (text_of index.now) names.now (text_of index.now))) }
 {
     match start_name(names, items) {
@@ -50,16 +50,15 @@ fn least_late(
     index: &Index<'_>,
     names: &Labels,
     items: &[Item],
-    checking: &Checking<'_>,
+    checking: &Checking,
     calls: &Calls,
 ) -> Result<Option<Fault>, OutOfMemory>
     requires items { map plain.plain_item items.now ≡ text_of index.now }
     requires early { Kept None (IsEarly (text_of index.now) names.now) }
     requires bodies { events_lists checking.now.bodies.items ≡ map (item_events (text_of index.now)) (text_of index.now) }
-    requires loops { (found_of checking.now.found).loops ≡ items_loops (text_of index.now) (text_of index.now) }
     requires read { Read (calls_in (text_of index.now)) (text_of index.now) calls.now.functions.items (callees calls.now.lists.items) }
     ensures { IfOk result (λ least. least ≡ least_from None (globals_faults (text_of index.now) names.now (text_of index.now)
-        ++ loops_faults (text_of index.now) (items_loops (text_of index.now) (text_of index.now)))) }
+        ++ loops_faults (text_of index.now) (all_loops (text_of index.now)))) }
 {
     let mut least = None;
     let order = order(alloc, &calls.functions, &calls.lists)?;
@@ -73,7 +72,7 @@ fn least_late(
         &mut least,
     )?;
     let pauses = Pauses::of(alloc, items)?;
-    judge_loops(&pauses, &checking.found.loops, &mut least);
+    judge_loops(&pauses, items, &mut least);
     Ok(least)
 }
 

@@ -4,7 +4,7 @@ ghost use Rattle.std.specs.Prelude.{◌≡◌, [], ◌∷◌, ◌++◌, map, OnO
 ghost use Rattle.forec_tree.specs.Plain as plain;
 ghost use Rattle.forec_tree.proofs.Rows.{perhaps_of};
 ghost use Rattle.forec_tree.specs.Scopes.{behind, behind_perhaps, with_locals, with_name, is_array};
-ghost use Rattle.forec_tree.specs.Findings.{in_terms, in_target, in_local, in_locals, in_statement, in_statements, in_optional, in_perhaps, in_branches, in_bound, Synchronous, Gives, Loop, Opens, Closes};
+ghost use Rattle.forec_tree.specs.Findings.{in_terms, in_target, in_local, in_locals, in_statement, in_statements, in_optional, in_perhaps, in_branches, in_bound, Synchronous, Gives, Opens, Closes};
 ghost use Rattle.forec_tree.specs.Scopes as scopes;
 ghost use Rattle.loop_check.specs.Views.{text_of};
 ghost use Rattle.forec_check.specs.Views.{judging, scope_of, Framed, Same};
@@ -25,7 +25,7 @@ fn terms(
     gives: bool,
     scope: &Scope,
     list: &[Expr],
-    found: &mut Found<'_>,
+    found: &mut Found,
 ) -> Result<(), OutOfMemory>
     ensures { OnOk result (found_of found.new ≡ walked (judging names.now gives) (in_terms (text_of index.now) (scope_of scope.now) (plain.terms list.now)) (found_of found.old)) }
 {
@@ -41,7 +41,7 @@ fn optional_term(
     gives: bool,
     scope: &Scope,
     e: &Option<Expr>,
-    found: &mut Found<'_>,
+    found: &mut Found,
 ) -> Result<(), OutOfMemory>
     ensures { OnOk result (found_of found.new ≡ walked (judging names.now gives) (in_optional (text_of index.now) (scope_of scope.now) (plain.optional_term e.now)) (found_of found.old)) }
 {
@@ -60,7 +60,7 @@ fn target(
     gives: bool,
     scope: &Scope,
     to: &Target,
-    found: &mut Found<'_>,
+    found: &mut Found,
 ) -> Result<(), OutOfMemory>
     ensures { OnOk result (found_of found.new ≡ walked (judging names.now gives) (in_target (text_of index.now) (scope_of scope.now) (plain.written to.now)) (found_of found.old)) }
 {
@@ -77,44 +77,32 @@ fn target(
     }
 }
 
-fn synchronous(names: &Labels, gives: bool, place: Place, found: &mut Found<'_>)
+fn synchronous(names: &Labels, gives: bool, place: Place, found: &mut Found)
     ensures { found_of found.new ≡ walked (judging names.now gives) (Synchronous place ∷ []) (found_of found.old) }
 {
     meet(&mut found.least, gives, place, 12);
 }
 
-fn returning(names: &Labels, gives: bool, place: Place, found: &mut Found<'_>)
+fn returning(names: &Labels, gives: bool, place: Place, found: &mut Found)
     ensures { found_of found.new ≡ walked (judging names.now gives) (Gives place ∷ []) (found_of found.old) }
 {
     meet(&mut found.least, !gives, place, 14);
 }
 
-fn bounded(names: &Labels, gives: bool, bound: Option<Number>, found: &mut Found<'_>)
+fn bounded(names: &Labels, gives: bool, bound: Option<Number>, found: &mut Found)
     ensures { found_of found.new ≡ walked (judging names.now gives) (in_bound bound) (found_of found.old) }
 {
     judge_bound(names, gives, bound, &mut found.least);
 }
 
-fn note_loop<'p>(
-    names: &Labels,
-    gives: bool,
-    s: &'p Stmt,
-    found: &mut Found<'p>,
-) -> Result<(), OutOfMemory>
-    ensures { OnOk result (found_of found.new ≡ walked (judging names.now gives) (Loop (plain.statement s.now) ∷ []) (found_of found.old)) }
-{
-    found.loops.push(s)?;
-    Ok(())
-}
-
-fn opens(names: &Labels, gives: bool, found: &mut Found<'_>) -> Result<(), OutOfMemory>
+fn opens(names: &Labels, gives: bool, found: &mut Found) -> Result<(), OutOfMemory>
     ensures { OnOk result (found_of found.new ≡ walked (judging names.now gives) (Opens ∷ []) (found_of found.old)) }
 {
     found.events.push(Event::Opens)?;
     Ok(())
 }
 
-fn closes(names: &Labels, gives: bool, found: &mut Found<'_>) -> Result<(), OutOfMemory>
+fn closes(names: &Labels, gives: bool, found: &mut Found) -> Result<(), OutOfMemory>
     ensures { OnOk result (found_of found.new ≡ walked (judging names.now gives) (Closes ∷ []) (found_of found.old)) }
 {
     found.events.push(Event::Closes)?;
@@ -127,7 +115,7 @@ fn local(
     gives: bool,
     scope: &mut Scope,
     l: &Local,
-    found: &mut Found<'_>,
+    found: &mut Found,
 ) -> Result<(), OutOfMemory>
     ensures found { OnOk result (found_of found.new ≡ walked (judging names.now gives) (in_local (text_of index.now) (scope_of scope.old) (plain.declared l.now)) (found_of found.old)) }
     ensures scope { OnOk result (scope_of scope.new ≡ with_name (scope_of scope.old) l.now.name.id (is_array l.now.length)) }
@@ -154,7 +142,7 @@ fn locals(
     gives: bool,
     scope: &mut Scope,
     list: &[Local],
-    found: &mut Found<'_>,
+    found: &mut Found,
 ) -> Result<(), OutOfMemory>
     ensures found { OnOk result (found_of found.new ≡ walked (judging names.now gives) (in_locals (text_of index.now) (scope_of scope.old) (map plain.declared list.now)) (found_of found.old)) }
     ensures scope { OnOk result (scope_of scope.new ≡ with_locals (scope_of scope.old) (map plain.declared list.now)) }
@@ -167,13 +155,13 @@ fn locals(
 }
 
 #[cycle(statement)]
-fn statement<'p>(
+fn statement(
     index: &Index<'_>,
     names: &Labels,
     gives: bool,
     scope: &mut Scope,
-    s: &'p Stmt,
-    found: &mut Found<'p>,
+    s: &Stmt,
+    found: &mut Found,
 ) -> Result<(), OutOfMemory>
     ensures found { OnOk result (found_of found.new ≡ walked (judging names.now gives) (in_statement (text_of index.now) (scope_of scope.old) (plain.statement s.now)) (found_of found.old)) }
     ensures scope { OnOk result (scope_of scope.new ≡ behind (scope_of scope.old) (plain.statement s.now)) }
@@ -218,7 +206,6 @@ fn statement<'p>(
             Ok(())
         }
         StmtKind::While { test, bound, body } => {
-            note_loop(names, gives, s, found)?;
             bounded(names, gives, *bound, found);
             term(index, names, gives, scope, test, found)?;
             inner(index, names, gives, scope, body, found)?;
@@ -231,7 +218,6 @@ fn statement<'p>(
             bound,
             body,
         } => {
-            note_loop(names, gives, s, found)?;
             bounded(names, gives, *bound, found);
             let frame = scope.enter();
             optional_statement(index, names, gives, scope, start, found)?;
@@ -265,13 +251,13 @@ fn statement<'p>(
 }
 
 #[cycle(statement)]
-fn optional_statement<'p>(
+fn optional_statement(
     index: &Index<'_>,
     names: &Labels,
     gives: bool,
     scope: &mut Scope,
-    s: &'p Option<Box<Stmt>>,
-    found: &mut Found<'p>,
+    s: &Option<Box<Stmt>>,
+    found: &mut Found,
 ) -> Result<(), OutOfMemory>
     ensures found { OnOk result (found_of found.new ≡ walked (judging names.now gives) (in_perhaps (text_of index.now) (scope_of scope.old) (perhaps_of s.now)) (found_of found.old)) }
     ensures scope { OnOk result (scope_of scope.new ≡ behind_perhaps (scope_of scope.old) (perhaps_of s.now)) }
@@ -288,13 +274,13 @@ fn optional_statement<'p>(
 
 /// An optional statement in a scope of its own.
 #[cycle(statement)]
-fn optional_inner<'p>(
+fn optional_inner(
     index: &Index<'_>,
     names: &Labels,
     gives: bool,
     scope: &mut Scope,
-    s: &'p Option<Box<Stmt>>,
-    found: &mut Found<'p>,
+    s: &Option<Box<Stmt>>,
+    found: &mut Found,
 ) -> Result<(), OutOfMemory>
     ensures found { OnOk result (found_of found.new ≡ walked (judging names.now gives) (in_perhaps (text_of index.now) (scopes.entered (scope_of scope.old)) (perhaps_of s.now)) (found_of found.old)) }
     ensures same { OnOk result (Same scope.old scope.new) }
@@ -310,13 +296,13 @@ fn optional_inner<'p>(
 
 /// A statement in a scope of its own.
 #[cycle(statement)]
-fn inner<'p>(
+fn inner(
     index: &Index<'_>,
     names: &Labels,
     gives: bool,
     scope: &mut Scope,
-    s: &'p Stmt,
-    found: &mut Found<'p>,
+    s: &Stmt,
+    found: &mut Found,
 ) -> Result<(), OutOfMemory>
     ensures found { OnOk result (found_of found.new ≡ walked (judging names.now gives) (in_statement (text_of index.now) (scopes.entered (scope_of scope.old)) (plain.statement s.now)) (found_of found.old)) }
     ensures same { OnOk result (Same scope.old scope.new) }
@@ -329,13 +315,13 @@ fn inner<'p>(
 
 /// Statements in the scope that stands.
 #[cycle(statement)]
-pub fn list<'p>(
+pub fn list(
     index: &Index<'_>,
     names: &Labels,
     gives: bool,
     scope: &mut Scope,
-    body: &'p [Stmt],
-    found: &mut Found<'p>,
+    body: &[Stmt],
+    found: &mut Found,
 ) -> Result<(), OutOfMemory>
     ensures found { OnOk result (found_of found.new ≡ walked (judging names.now gives) (in_statements (text_of index.now) (scope_of scope.old) (plain.statements body.now)) (found_of found.old)) }
     ensures frame { OnOk result (Framed scope.old scope.new) }
@@ -348,13 +334,13 @@ pub fn list<'p>(
 
 /// Statements in a scope of their own.
 #[cycle(statement)]
-fn block<'p>(
+fn block(
     index: &Index<'_>,
     names: &Labels,
     gives: bool,
     scope: &mut Scope,
-    body: &'p [Stmt],
-    found: &mut Found<'p>,
+    body: &[Stmt],
+    found: &mut Found,
 ) -> Result<(), OutOfMemory>
     ensures found { OnOk result (found_of found.new ≡ walked (judging names.now gives) (in_statements (text_of index.now) (scopes.entered (scope_of scope.old)) (plain.statements body.now)) (found_of found.old)) }
     ensures same { OnOk result (Same scope.old scope.new) }
@@ -367,13 +353,13 @@ fn block<'p>(
 
 /// Statements in a scope that sees global names alone.
 #[cycle(statement)]
-fn hidden<'p>(
+fn hidden(
     index: &Index<'_>,
     names: &Labels,
     gives: bool,
     scope: &mut Scope,
-    body: &'p [Stmt],
-    found: &mut Found<'p>,
+    body: &[Stmt],
+    found: &mut Found,
 ) -> Result<(), OutOfMemory>
     ensures found { OnOk result (found_of found.new ≡ walked (judging names.now gives) (in_statements (text_of index.now) scopes.no_scope (plain.statements body.now)) (found_of found.old)) }
     ensures same { OnOk result (Same scope.old scope.new) }
@@ -385,13 +371,13 @@ fn hidden<'p>(
 }
 
 #[cycle(statement)]
-fn branch<'p>(
+fn branch(
     index: &Index<'_>,
     names: &Labels,
     gives: bool,
     scope: &mut Scope,
-    one: &'p Branch,
-    found: &mut Found<'p>,
+    one: &Branch,
+    found: &mut Found,
 ) -> Result<(), OutOfMemory>
     ensures found { OnOk result (found_of found.new ≡ walked (judging names.now gives) (in_branches (text_of index.now) (scope_of scope.old) (plain.branches (one.now ∷ []))) (found_of found.old)) }
     ensures same { OnOk result (Same scope.old scope.new) }
@@ -420,13 +406,13 @@ fn branch<'p>(
 }
 
 #[cycle(statement)]
-fn branches<'p>(
+fn branches(
     index: &Index<'_>,
     names: &Labels,
     gives: bool,
     scope: &mut Scope,
-    all: &'p [Branch],
-    found: &mut Found<'p>,
+    all: &[Branch],
+    found: &mut Found,
 ) -> Result<(), OutOfMemory>
     ensures found { OnOk result (found_of found.new ≡ walked (judging names.now gives) (in_branches (text_of index.now) (scope_of scope.old) (plain.branches all.now)) (found_of found.old)) }
     ensures same { OnOk result (Same scope.old scope.new) }

@@ -38,7 +38,7 @@ pub fn use_name(
     scope: &Scope,
     how: How,
     name: Name,
-    found: &mut Found<'_>,
+    found: &mut Found,
 ) -> Result<(), OutOfMemory>
     ensures { OnOk result (found_of found.new ≡ walked (judging names.now gives) (use_at (text_of index.now) (scope_of scope.now) how name ∷ []) (found_of found.old)) }
 {
@@ -57,7 +57,7 @@ pub fn term(
     gives: bool,
     scope: &Scope,
     e: &Expr,
-    found: &mut Found<'_>,
+    found: &mut Found,
 ) -> Result<(), OutOfMemory>
     ensures { OnOk result (found_of found.new ≡ walked (judging names.now gives) (in_term (text_of index.now) (scope_of scope.now) (plain.term e.now)) (found_of found.old)) }
 {

@@ -17,6 +17,7 @@ mod touch;
 
 pub use graph::{is_waiting, marked, order};
 pub use index::{Index, item_name};
+pub use pauses::{always, at_least_one, is_nonzero};
 pub use ranks::acyclic;
 pub use runs::turns;
 pub use search::reaches_itself;

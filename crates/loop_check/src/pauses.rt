@@ -27,7 +27,8 @@ pub fn turns_of(index: &Index<'_>, s: &Stmt) -> Option<u32>
     }
 }
 
-fn is_nonzero(e: &Expr) -> bool
+/// A number other than 0.
+pub fn is_nonzero(e: &Expr) -> bool
     ensures { result ≡ pauses.is_nonzero (plain.term e.now) }
 {
     match &e.what {
@@ -36,7 +37,8 @@ fn is_nonzero(e: &Expr) -> bool
     }
 }
 
-fn always(test: &Option<Expr>) -> bool
+/// A test that always holds: none, or a number other than 0.
+pub fn always(test: &Option<Expr>) -> bool
     ensures { result ≡ pauses.always (plain.optional_term test.now) }
 {
     match test {
@@ -45,7 +47,8 @@ fn always(test: &Option<Expr>) -> bool
     }
 }
 
-fn at_least_one(turns: Option<u32>) -> bool
+/// One turn or more.
+pub fn at_least_one(turns: Option<u32>) -> bool
     ensures { result ≡ pauses.at_least_one turns }
 {
     match turns {
@@ -54,7 +57,8 @@ fn at_least_one(turns: Option<u32>) -> bool
     }
 }
 
-fn is_known(called: &[bool], id: u32) -> bool
+/// What a table says of a function; false where it says nothing.
+pub fn is_known(called: &[bool], id: u32) -> bool
     ensures { result ≡ known called.now id }
 {
     match called.get(id as usize) {

@@ -12,7 +12,7 @@ ghost use Rattle.loop_check.specs.Known as table;
 
 use crate::graph::{mark, order};
 use crate::index::{Index, item_name};
-use crate::pauses::{any_certain, is_certain, turns_of};
+use crate::pauses::{any_certain, is_certain, is_known, turns_of};
 use crate::starts::all_started;
 use forec_base::OutOfMemory;
 use forec_tree::{Function, Item, Program, Stmt};
@@ -146,6 +146,13 @@ impl<'p> Pauses<'p> {
         let order = order(alloc, &calls.functions, &calls.lists)?;
         let called = judged(alloc, &index, &order)?;
         Ok(Pauses { index, called })
+    }
+
+    /// Whether the body of the void function of a name is certain to pause.
+    pub fn function(&self, id: u32) -> bool
+        ensures { result ≡ pauses.certain_function (text_of self.now.index) id }
+    {
+        is_known(&self.called, id)
     }
 
     /// Whether a statement is certain to pause.

@@ -5,7 +5,7 @@ use Rattle.loop_check.specs.Views.{text_of}
 use Rattle.forec_check.specs.Views.{judging}
 use Rattle.forec_check.specs.Walk.{found_of}
 use Rattle.forec_check.specs.Items.{before_of}
-use Rattle.forec_check.proofs.ItemRules.{function_is, walked_events, walked_loops}
+use Rattle.forec_check.proofs.ItemRules.{function_is, walked_events}
 use Rattle.forec_check.proofs.early.judge_function.Goals as goal
 
 pub returns-clause-least : goal.returns-clause-least
@@ -18,8 +18,3 @@ pub returns-clause-events : goal.returns-clause-events
 returns-clause-events c =
     let f = plain_function c.args.f.now in
     walked_events (judging c.args.names.now f.gives) (in_function (text_of c.args.index.now) f) _ (found_of c.body.new.found) c.in_ok-body.ensures.found c.requires
-
-pub returns-clause-loops : goal.returns-clause-loops
-returns-clause-loops c =
-    let f = plain_function c.args.f.now in
-    walked_loops (judging c.args.names.now f.gives) (in_function (text_of c.args.index.now) f) _ (found_of c.body.new.found) c.in_ok-body.ensures.found

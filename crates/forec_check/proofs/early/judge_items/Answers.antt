@@ -3,9 +3,9 @@ use Rattle.std.specs.Prelude.{slice_get}
 use Rattle.std.proofs.lemmas.List.{drop_all, take_all}
 use Rattle.forec_tree.specs.Plain as plain
 use Rattle.loop_check.specs.Views.{text_of}
-use Rattle.forec_check.specs.Walk.{found_of, items_loops, item_events, events_lists}
+use Rattle.forec_check.specs.Walk.{item_events, events_lists}
 use Rattle.forec_check.specs.Items.{before_of}
-use Rattle.forec_check.proofs.ItemRules.{items_at, item_get, least_step, least_end, loops_step, bodies_step, few_more}
+use Rattle.forec_check.proofs.ItemRules.{items_at, item_get, least_step, least_end, bodies_step, few_more}
 use Rattle.forec_check.proofs.early.judge_items.Goals as goal
 
 pub loop-at-preserved : goal.loop-at-preserved
@@ -18,11 +18,10 @@ loop-at-preserved c =
     let get : slice_get text at ≡ Some x = ap (λ t. slice_get t at) (sym c.requires.items) ∙ item_get items at c.index-items-at.result c.loop-at-test.true (sym c.index-items-at.is) in (
       least_step text c.args.names.now _ _ at c.loop-at.counts c.after-counts.result x c.loop-at.checking.found.least c.judge_item.new.found.least _ get c.after-counts.ensures rest
           c.in_ok-judge_item.ensures.least c.loop-at.invariant.0,
-      loops_step text _ _ x _ _ _ rest c.in_ok-judge_item.ensures.loops c.loop-at.invariant.1,
       bodies_step text at x c.loop-at.checking.bodies.items _ c.replace-events.result (item_events text) get c.in_ok-push.ensures.items
-          (ap (λ v. v.items) c.replace-events.ensures.value ∙ c.in_ok-judge_item.ensures.events) c.loop-at.invariant.2,
+          (ap (λ v. v.items) c.replace-events.ensures.value ∙ c.in_ok-judge_item.ensures.events) c.loop-at.invariant.1,
       ap (λ v. v.items) c.replace-events.ensures.after ∙ c.new.ensures.items,
-      few_more c.loop-at.counts c.after-counts.result x at c.after-counts.ensures c.loop-at.invariant.4,
+      few_more c.loop-at.counts c.after-counts.result x at c.after-counts.ensures c.loop-at.invariant.3,
     )
 
 pub returns-clause-least : goal.returns-clause-least

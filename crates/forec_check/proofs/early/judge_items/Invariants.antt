@@ -3,7 +3,7 @@ use Rattle.forec_tree.specs.Plain as plain
 use Rattle.forec_tree.specs.Faults as faults
 use Rattle.forec_tree.specs.Faults.{least_from}
 use Rattle.loop_check.specs.Views.{text_of}
-use Rattle.forec_check.specs.Walk.{found_of, items_loops, item_events, events_lists}
+use Rattle.forec_check.specs.Walk.{item_events, events_lists}
 use Rattle.forec_check.specs.Items.{before_of, Few}
 use Rattle.forec_check.proofs.early.judge_items.Given as goal
 
@@ -11,8 +11,6 @@ abbrev pub invariant-loop-at : goal.invariant-loop-at
 invariant-loop-at l =
     (least_from l.checking.found.least (faults.items_faults (text_of l.index) l.names (before_of (text_of l.index) l.at l.counts) (map plain.plain_item (drop l.at l.items)))
     ≡ least_from l.fn.checking.found.least (faults.items_faults (text_of l.index) l.names faults.none_before (text_of l.index)))
-    × ((found_of l.checking.found).loops ++ items_loops (text_of l.index) (map plain.plain_item (drop l.at l.items))
-    ≡ (found_of l.fn.checking.found).loops ++ items_loops (text_of l.index) (text_of l.index))
     × (events_lists l.checking.bodies.items ≡ map (item_events (text_of l.index)) (take l.at (text_of l.index)))
     × (l.checking.found.events.items ≡ [])
     × Few l.counts (l.at + 1)

@@ -16,7 +16,7 @@ loop-name-preserved c =
     let step : Framed c.loop-name.scope c.declare.new.self =
     record { base = c.in_ok-declare.ensures.frame.0; start = c.in_ok-declare.ensures.frame.1; front = c.in_ok-declare.ensures.front } in (
       params_step j text s c.args.all.now c.loop-name.name-index (scope_of c.declare.new.self) c.is_here-again.result (found_of c.loop-name.found) _ _ _ c.loop-name-test.true
-          c.is_here-again.ensures c.in_ok-declare.ensures.scope (walked_early j (Declares _ _ None 0 ∷ []) (found_of c.loop-name.found) _ refl refl c.judge_declared.ensures refl refl)
+          c.is_here-again.ensures c.in_ok-declare.ensures.scope (walked_early j (Declares _ _ None 0 ∷ []) (found_of c.loop-name.found) _ refl c.judge_declared.ensures refl)
           c.loop-name.invariant.0,
       params_scope j text s c.args.all.now c.loop-name.name-index (scope_of c.declare.new.self) _ _ c.loop-name-test.true c.in_ok-declare.ensures.scope c.loop-name.invariant.1,
       framed_on c.args.scope.now c.loop-name.scope c.declare.new.self c.loop-name.invariant.2 step,

@@ -10,7 +10,7 @@ use Rattle.forec_check.specs.Walk.{found_of, walked}
 use Rattle.forec_check.proofs.Walked.{walked-none}
 use Rattle.forec_check.proofs.Parts.{two, three, then}
 use Rattle.forec_check.proofs.Statements.{of_statement, group_is, run_is, inside, abort_is, while_is, statements_step, statements_end}
-use Rattle.forec_check.proofs.Branching.{no_statement, perhaps_in, optional_in, body_in, loop_as, for_is, branch_call, branch_block, branches_step, branches_end}
+use Rattle.forec_check.proofs.Branching.{no_statement, perhaps_in, optional_in, body_in, for_is, branch_call, branch_block, branches_step, branches_end}
 use Rattle.forec_check.proofs.Frames.{framed_on, framed_none, same_on, same_scope}
 use Rattle.forec_check.proofs.statement.+statement.Goals as goal
 
@@ -143,8 +143,7 @@ statement-returns-in_ok-inner-in-While-clause-found t c =
     let s = scope_of c.args.scope.now in
     let k = found_of c.args.found.now in
     of_statement j text s k _ c.args.s.now _ c.in-While.is
-    (while_is j text s k (found_of c.note_loop.new.found) (found_of c.bounded.new.found) (found_of c.term-in-While.new.found) (found_of c.inner-in-While.new.found) _ c.in-While.bound _ _
-    (loop_as j text s k (found_of c.note_loop.new.found) (plain.statement c.args.s.now) _ (ap (λ w. plain.statement_at w c.args.s.now.place) c.in-While.is) c.in_ok-note_loop-in-While.ensures)
+    (while_is j text s k (found_of c.bounded.new.found) (found_of c.term-in-While.new.found) (found_of c.inner-in-While.new.found) _ c.in-While.bound _ _
     c.bounded.ensures c.in_ok-term-in-While.ensures
     (body_in j text (entered s) (entered s) _ _ _ _ refl c.deref-in-While.ensures c.in_ok-inner-in-While.ensures.found))
 
@@ -155,13 +154,11 @@ statement-returns-in_ok-inner-in-For-clause-found t c =
     let s = scope_of c.args.scope.now in
     let k = found_of c.args.found.now in
     let F = λ (x : Statement). walked j (in_statement text s x) k in
-    let is = of_for (λ (x : Statement). x) c.args.s.now c.in-For.start c.in-For.step c.in-For.test c.in-For.bound c.in-For.body c.in-For.is in
     let s1 = c.enter-frame.ensures.scope in
     let s2 = c.in_ok-optional_statement-in-For.ensures.scope ∙ ap (λ x. behind_perhaps x (perhaps_of c.in-For.start)) s1 in
     let s3 = c.in_ok-optional_statement-in-For-2.ensures.scope ∙ ap (λ x. behind_perhaps x (perhaps_of c.in-For.step)) s2 in
-    for_is j text s k (found_of c.note_loop-in-For.new.found) (found_of c.bounded-in-For.new.found) (found_of c.optional_statement.new.found) (found_of c.optional_term.new.found)
+    for_is j text s k (found_of c.bounded-in-For.new.found) (found_of c.optional_statement.new.found) (found_of c.optional_term.new.found)
     (found_of c.optional_statement-in-For.new.found) (found_of c.inner-in-For.new.found) _ c.in-For.bound _ _ _ _
-    (loop_as j text s k (found_of c.note_loop-in-For.new.found) (plain.statement c.args.s.now) _ (sym is) c.in_ok-note_loop-in-For.ensures)
     c.bounded-in-For.ensures
     (perhaps_in j text (entered s) _ _ _ (perhaps_of c.in-For.start) s1 c.in_ok-optional_statement-in-For.ensures.found)
     (optional_in j text _ _ _ _ (plain.optional_term c.in-For.test) s2 c.in_ok-optional_term-in-For.ensures)

@@ -17,4 +17,4 @@ returns-clause-found c =
     let k = found_of c.args.found.now in
     let declares = Declares c.args.l.now.name c.is_here-again.result c.args.l.now.length c.len.result in
     local_is j text s k _ (found_of c.terms.new.found) c.args.l.now c.is_here-again.result c.len.result c.as_slice.result.now
-    c.is_here-again.ensures c.len.ensures c.as_slice.ensures (walked_early j (declares ∷ []) k _ refl refl c.judge_declared.ensures refl refl) c.in_ok-terms.ensures
+    c.is_here-again.ensures c.len.ensures c.as_slice.ensures (walked_early j (declares ∷ []) k _ refl c.judge_declared.ensures refl) c.in_ok-terms.ensures

@@ -5,11 +5,11 @@ use Rattle.forec_tree.specs.Findings.{Gives, Synchronous, Opens, Closes, Loop, i
 use Rattle.forec_check.specs.Views.{judging}
 use Rattle.forec_check.specs.Walk.{found_of}
 use Rattle.forec_check.proofs.UseRules.{single}
-use Rattle.forec_check.proofs.Walked.{walked_one, walked_early, bound_events, bound_loops, quiet}
+use Rattle.forec_check.proofs.Walked.{walked_one, walked_early, bound_events, quiet}
 use Rattle.forec_check.proofs.statement.opens.Goals as goal
 
 pub returns : goal.returns
 returns c =
     let j = judging c.args.names.now c.args.gives in
     let old = c.args.found.now in
-    walked_one j Opens (found_of old) _ (quiet j Opens old.least refl) c.in_ok-push.ensures.items (sym (append-nil _))
+    walked_one j Opens (found_of old) _ (quiet j Opens old.least refl) c.in_ok-push.ensures.items

@@ -5,11 +5,11 @@ use Rattle.forec_tree.specs.Findings.{Gives, Synchronous, Opens, Closes, Loop, i
 use Rattle.forec_check.specs.Views.{judging}
 use Rattle.forec_check.specs.Walk.{found_of}
 use Rattle.forec_check.proofs.UseRules.{single}
-use Rattle.forec_check.proofs.Walked.{walked_one, walked_early, bound_events, bound_loops, quiet}
+use Rattle.forec_check.proofs.Walked.{walked_one, walked_early, bound_events, quiet}
 use Rattle.forec_check.proofs.statement.returning.Goals as goal
 
 pub returns : goal.returns
 returns c =
     let j = judging c.args.names.now c.args.gives in
     let old = c.args.found.now in
-    walked_one j (Gives c.args.place) (found_of old) _ (single j (Gives c.args.place) old.least _ c.meet.ensures) (sym (append-nil _)) (sym (append-nil _))
+    walked_one j (Gives c.args.place) (found_of old) _ (single j (Gives c.args.place) old.least _ c.meet.ensures) (sym (append-nil _))

@@ -13,7 +13,7 @@ returns-in_ok-push c =
     walked_one (judging c.args.names.now c.args.gives) (use_at (text_of c.args.index.now) (scope_of c.args.scope.now) c.args.how c.args.name) (found_of old) _
     (use_least (judging c.args.names.now c.args.gives) c.args.how c.args.name _ _ old.least _ c.meaning-means.ensures c.judge_use.ensures)
     (c.in_ok-push.ensures.items
-    ∙ ap (λ o. old.events.items ++ as_list o) (sym c.in-Some.is ∙ e ∙ ap (event_of c.args.how c.args.name.id) c.meaning-means.ensures)) (sym (append-nil _))
+    ∙ ap (λ o. old.events.items ++ as_list o) (sym c.in-Some.is ∙ e ∙ ap (event_of c.args.how c.args.name.id) c.meaning-means.ensures))
 
 pub returns-in_default : goal.returns-in_default
 returns-in_default c =
@@ -22,4 +22,4 @@ returns-in_default c =
     walked_one (judging c.args.names.now c.args.gives) (use_at (text_of c.args.index.now) (scope_of c.args.scope.now) c.args.how c.args.name) (found_of old) _
     (use_least (judging c.args.names.now c.args.gives) c.args.how c.args.name _ _ old.least _ c.meaning-means.ensures c.judge_use.ensures)
     (sym (append-nil old.events.items)
-    ∙ ap (λ o. old.events.items ++ as_list o) (sym c.in_default.is ∙ e ∙ ap (event_of c.args.how c.args.name.id) c.meaning-means.ensures)) (sym (append-nil _))
+    ∙ ap (λ o. old.events.items ++ as_list o) (sym c.in_default.is ∙ e ∙ ap (event_of c.args.how c.args.name.id) c.meaning-means.ensures))
