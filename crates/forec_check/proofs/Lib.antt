@@ -16,3 +16,5 @@ pub mod Tabled
 pub mod Lately
 pub mod Tables
 pub mod Counted
+pub mod Single
+pub mod Spreading

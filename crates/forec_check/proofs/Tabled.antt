@@ -23,13 +23,15 @@ use Rattle.loop_check.specs.Graph.{IsOrder}
 use Rattle.loop_check.specs.Known.{Read, is_function}
 use Rattle.loop_check.proofs.Indexed.{split}
 use Rattle.loop_check.proofs.Ordered.{is_in_snoc, other_id}
-use Rattle.loop_check.proofs.Settled.{settle, out, all_ordered}
+use Rattle.loop_check.proofs.Settled.{all_ordered}
+use Rattle.forec_check.specs.Table.{put_at}
+use Rattle.forec_check.proofs.Tables.{settles_by}
 use Rattle.loop_check.proofs.Reading.{leads_same}
 use Rattle.forec_check.specs.declared.found.Event.{Event}
 use Rattle.forec_check.specs.declared.naming.Few.{Few}
 use Rattle.forec_check.specs.Walk.{events_of, item_events}
-use Rattle.forec_check.specs.Early.{calls_in}
-use Rattle.forec_check.specs.Threads.{capped, naming_of, none_few, few_at, few_called, put_few, read_events, capped_step, value_of, Agrees, Settles, global_fault, globals_faults}
+use Rattle.forec_check.specs.Early.{calls_in, improves}
+use Rattle.forec_check.specs.Threads.{capped, naming_of, none_few, few_at, few_called, events_in, read_events, capped_step, value_of, Orders, global_fault, globals_faults}
 use Rattle.forec_check.proofs.Circling.{graph_is}
 use Rattle.forec_check.proofs.Namings.{events_tell, capped_local, capped_within, two_instances, counted, capped_twice}
 
@@ -39,7 +41,7 @@ few_push [] (suc k) = refl
 few_push (x ∷ xs) zero = refl
 few_push (x ∷ xs) (suc k) = few_push xs k
 
-pub few_set : (xs : List Few) (id h : ℕ) (v : Few) → id < length xs → few_at (set xs id v) h ≡ put_few id h (naming_of v) (few_at xs h)
+pub few_set : (xs : List Few) (id h : ℕ) (v : Few) → id < length xs → few_at (set xs id v) h ≡ put_at id h (naming_of v) (few_at xs h)
 few_set xs id h v l =
     split (id == h)
     (λ e.
@@ -50,18 +52,20 @@ few_set xs id h v l =
 
 -- ---- the step of a function
 
-pub step_none : (text : Text) (g id : ℕ) (c : ℕ → Naming) → find_item id text ≡ None → capped no_naming ≡ capped_step text g c id
-step_none text g id c h =
-    sym (ap (λ i. capped (body_naming text g c (elim i [ None ↦ None | Some (IsGlobal x) ↦ None | Some (IsFunction f) ↦ Some f ]))) h)
-
-pub step_item : (text : Text) (g id : ℕ) (c : ℕ → Naming) (x : PlainItem) → find_item id text ≡ Some x → capped (as_naming (read_events g c start (item_events text x))) ≡ capped_step text g c id
-step_item text g id c x h =
-    pick x ∙ sym (ap (λ i. capped (body_naming text g c (elim i [ None ↦ None | Some (IsGlobal x) ↦ None | Some (IsFunction f) ↦ Some f ]))) h)
+pub step_events : (text : Text) (g id : ℕ) (c : ℕ → Naming) → capped (as_naming (read_events g c start (events_in text (find_function id text)))) ≡ capped_step text g c id
+step_events text g id c = pick (find_function id text)
   where
-    pick : (x : PlainItem) → capped (as_naming (read_events g c start (item_events text x)))
-        ≡ capped (body_naming text g c (elim (Some x) [ None ↦ None | Some (IsGlobal x) ↦ None | Some (IsFunction f) ↦ Some f ]))
+    pick : (f : Option PlainFunction) → capped (as_naming (read_events g c start (events_in text f))) ≡ capped (body_naming text g c f)
+    pick None = refl
+    pick (Some f) = ap (λ r. capped (as_naming r)) (events_tell g c start (in_function text f))
+
+-- the events of the function of a name
+pub found_events : (text : Text) (id : ℕ) (x : PlainItem) → find_item id text ≡ Some x → item_events text x ≡ events_in text (find_function id text)
+found_events text id x h = pick x ∙ sym (ap (λ i. events_in text (elim i [ None ↦ None | Some (IsGlobal x) ↦ None | Some (IsFunction f) ↦ Some f ])) h)
+  where
+    pick : (x : PlainItem) → item_events text x ≡ events_in text (elim (Some x) [ None ↦ None | Some (IsGlobal x) ↦ None | Some (IsFunction f) ↦ Some f ])
     pick (IsGlobal x) = refl
-    pick (IsFunction f) = ap (λ r. capped (as_naming r)) (events_tell g c start (in_function text f))
+    pick (IsFunction f) = refl
 
 -- the item of a body
 pub record Bodied (xs : Text) (f : PlainItem → List Event) (at : ℕ) (events : List Event) : Type 0 where
@@ -88,81 +92,38 @@ no_body (u ∷ us) (y ∷ ys) f (suc at) e s = let p : map (λ w. w.items) us �
 
 -- ---- the table
 
-clash : {P : Type 0} (b : Bool) → b ≡ true → b ≡ false → P
-clash b t f = absurd (let q : true ≡ false = sym t ∙ f in cc)
+pub put_capped : (f h : ℕ) (v : Few) (before after : Naming) → after ≡ put_at f h (naming_of v) before → capped after ≡ put_at f h (capped (naming_of v)) (capped before)
+put_capped f h v before after e = ap capped e ∙ (elim (f == h) as (λ b. capped (cond b (naming_of v) before) ≡ cond b (capped (naming_of v)) (capped before)) [ true ↦ refl | false ↦ refl ])
 
-pub agrees_next : (text : Text) (g : ℕ) (order : List ℕ) (n : ℕ) (table next : List Few) (v : Few) → Settles text order → n < length order →
-    Agrees (value_of text g) order n (few_called table) → capped (naming_of v) ≡ capped_step text g (few_called table) (get_or order n 0) →
-    ((h : ℕ) → few_at next h ≡ put_few (get_or order n 0) h (naming_of v) (few_at table h)) → Agrees (value_of text g) order (n + 1) (few_called next)
-agrees_next text g order n table next v settles h a is put =
-    let f = get_or order n 0 in
-    let t : take (n + 1) order ≡ take n order ++ f ∷ [] = let e : n + 1 ≡ suc n = omega arith in ap (λ m. take m order) e ∙ take-suc order n 0 h in
-    let step = settles.next g n (few_called table) h a in
-    let snoc = λ (x : ℕ). ap (is_in x) t ∙ is_in_snoc x f (take n order) in
-    record {
-      inside = λ x i.
-          ap capped (put x) ∙
-          split (f == x)
-          (λ e. ap (λ b. capped (cond b (naming_of v) (few_at table x))) e ∙ is ∙ step ∙ ap (value_of text g) (eqb-true f x e))
-          (λ e.
-          ap (λ b. capped (cond b (naming_of v) (few_at table x))) e
-          ∙ a.inside x (sym (snoc x ∙ ap (λ b. is_in x (take n order) || b) e ∙ or_no (is_in x (take n order))) ∙ i));
-      outside = λ x i.
-          ap capped (put x) ∙
-          split (f == x) (λ e. clash (is_in x (take (n + 1) order)) (snoc x ∙ ap (λ b. is_in x (take n order) || b) e ∙ or_yes (is_in x (take n order))) i)
-          (λ e.
-          ap (λ b. capped (cond b (naming_of v) (few_at table x))) e
-          ∙ a.outside x (sym (snoc x ∙ ap (λ b. is_in x (take n order) || b) e ∙ or_no (is_in x (take n order))) ∙ i));
-    }
-  where
-    or_no : (b : Bool) → (b || false) ≡ b
-    or_no true = refl
-    or_no false = refl
-
-    or_yes : (b : Bool) → (b || true) ≡ true
-    or_yes true = refl
-    or_yes false = refl
-
-pub none_agree : (text : Text) (g : ℕ) (order : List ℕ) → Agrees (value_of text g) order 0 (few_called [])
-none_agree text g order =
-    record { inside = λ h i. absurd (let q : false ≡ true = i in cc); outside = λ h i. nothing h }
-  where
-    nothing : (h : ℕ) → few_called [] h ≡ no_naming
-    nothing zero = refl
-    nothing (suc h) = refl
+pub nothing_called : (h : ℕ) → few_called [] h ≡ no_naming
+nothing_called zero = refl
+nothing_called (suc h) = refl
 
 -- two instances, by a whole table
-pub two_is : (text : Text) (g first : ℕ) (order : List ℕ) (n : ℕ) (table : List Few) (v : Few) (count : ℕ) → Settles text order → length order ≤ n → Agrees (value_of text g) order n (few_called table) →
-    naming_of v ≡ few_called table first → min count 2 ≡ min (instances_naming (naming_of v)) 2 → nat_lt 1 count ≡ nat_lt 1 (instances_of text g first)
-two_is text g first order n table v count settles l a is c =
+pub two_is : (text : Text) (g first : ℕ) (table : List Few) (v : Few) (count : ℕ) → naming_of v ≡ few_called table first → few_called table first ≡ value_of text g first →
+    min count 2 ≡ min (instances_naming (naming_of v)) 2 → nat_lt 1 count ≡ nat_lt 1 (instances_of text g first)
+two_is text g first table v count is value c =
     let exact = within no_naming (naming_step text g) (length text) first in
-    let whole : take n order ≡ order = take_all n order l in
-    let value : few_called table first ≡ capped exact =
-    split (is_in first order) (λ i. a.inside first (ap (is_in first) whole ∙ i))
-    (λ i. a.outside first (ap (is_in first) whole ∙ i) ∙ sym (settles.rest g first i)) ∙ capped_within text g (length text) first in
-    let same : capped (naming_of v) ≡ capped exact = ap capped (is ∙ value) ∙ capped_twice exact in
-    let m = c ∙ counted (naming_of v) exact same in
-    less_two count (instances_naming exact) m
+    let same : capped (naming_of v) ≡ capped exact = ap capped (is ∙ value ∙ capped_within text g (length text) first) ∙ capped_twice exact in
+    less_two count (instances_naming exact) (c ∙ counted (naming_of v) exact same)
   where
     less_two : (a b : ℕ) → min a 2 ≡ min b 2 → nat_lt 1 a ≡ nat_lt 1 b
     less_two a b m = grind (arith, nat_tests)
 
--- an order of functions settles
-pub settles_is : (text : Text) (functions order : List ℕ) (calls : ℕ → List ℕ) → Read (calls_in text) text functions calls → IsOrder functions calls order →
-    ((f : ℕ) → Reaches text f f → ⊥) → Settles text order
-settles_is text functions order calls r o free =
-    let loc = λ (g : ℕ).
-    let l : IsLocal calls (capped_step text g) =
-    record { agrees = λ f a b h. (capped_local text g).agrees f a b (λ x e. h x (ap (is_in x) (graph_is text functions calls r f) ∙ e)) } in l in
-    let outside = λ (g h : ℕ) (i : is_in h functions ≡ false) (a : ℕ → Naming). nothing g h a (sym (r.stands h) ∙ i) in
+-- an order of all functions
+pub orders_is : (text : Text) (functions order : List ℕ) (calls : ℕ → List ℕ) → Read (calls_in text) text functions calls → IsOrder functions calls order →
+    ((f : ℕ) → Reaches text f f → ⊥) → Orders text order
+orders_is text functions order calls r o free =
+    let round = λ (f : ℕ) (l : Leads calls f f). free f (leads_same calls (calls_of text) (graph_is text functions calls r) l) in
     let short = o.short in
     let few = r.few in
     record {
-      next = λ g k a l agree.
-          settle no_naming (capped_step text g) functions calls order o (loc g) (outside g) (length text) k a l (omega (arith, l, short, few)) agree.inside agree.outside;
-      rest = λ g h i.
-          out no_naming (capped_step text g) functions calls order o (loc g) (outside g) (length text) h
-          (split (is_in h functions) (λ f. clash (is_in h order) (all_ordered functions calls order o (λ x l. free x (leads_same calls (calls_of text) (graph_is text functions calls r) l)) h f) i) (λ f. f));
+      settles = λ g.
+          settles_by no_naming (capped_step text g) (length text) functions order calls o
+          (record { agrees = λ f a b h. (capped_local text g).agrees f a b (λ x e. h x (ap (is_in x) (graph_is text functions calls r f) ∙ e)) })
+          (λ h i a. nothing g h a (sym (r.stands h) ∙ i)) round (omega (arith, short, few));
+      whole = λ f i. all_ordered functions calls order o round f (r.stands f ∙ i);
+      free = free;
     }
   where
     nothing : (g h : ℕ) (a : ℕ → Naming) → is_function text h ≡ false → capped_step text g a h ≡ no_naming
@@ -190,6 +151,32 @@ plain_yes text names x g first two kept new h p s t n =
     n ∙ ap (λ b. least_from kept (fault_if b g.name.place 10)) (t
     ∙ sym (ap (λ o. nat_lt 1 (elim o [ None ↦ 0 | Some start ↦ instances_of text g.name.id start ])) s))
     ∙ sym (ap (λ y. least_from kept (global_fault text names y)) h ∙ ap (λ b. least_from kept (fault_if (b && nat_lt 1 (namings text names g.name.id)) g.name.place 10)) p)
+
+-- a global that one instance names at most
+pub plain_single : (text : Text) (names : List (List ℕ)) (x : PlainItem) (g : PlainGlobal) (first : ℕ) (kept : Option Fault) → x ≡ IsGlobal g → start_name names text ≡ Some first →
+    nat_lt 1 (instances_of text g.name.id first) ≡ false → kept ≡ least_from kept (global_fault text names x)
+unfolding least_from
+plain_single text names x g first kept h s t =
+    plain_yes_or_no (is_plain g.kind) refl
+  where
+    none : kept ≡ least_from kept (fault_if false g.name.place 10)
+    none = refl
+
+    plain_yes_or_no : (b : Bool) → is_plain g.kind ≡ b → kept ≡ least_from kept (global_fault text names x)
+    plain_yes_or_no true p = plain_yes text names x g first false kept kept h p s (sym t) none
+    plain_yes_or_no false p = plain_no text names x g kept h p
+
+-- a fault that is not less than the one kept
+pub plain_more : (text : Text) (names : List (List ℕ)) (x : PlainItem) (g : PlainGlobal) (kept : Option Fault) → x ≡ IsGlobal g →
+    improves kept (record { place = g.name.place; rule = 10 }) ≡ false → kept ≡ least_from kept (global_fault text names x)
+unfolding least_from
+plain_more text names x g None h i = absurd (let q : true ≡ false = i in cc)
+plain_more text names x g (Some k) h i =
+    sym (ap (λ y. least_from (Some k) (global_fault text names y)) h ∙ by (is_plain g.kind && nat_lt 1 (namings text names g.name.id)))
+  where
+    by : (b : Bool) → least_from (Some k) (fault_if b g.name.place 10) ≡ Some k
+    by true = ap (λ c. let r : Option Fault = Some (cond c (record { place = g.name.place; rule = 10 }) k) in r) i
+    by false = refl
 
 pub plains_step : (text : Text) (names : List (List ℕ)) (items : List Item) (i : ℕ) (x : Item) (kept new whole : Option Fault) → i < length items → get_or items i x ≡ x →
     new ≡ least_from kept (global_fault text names (plain_item x)) → least_from kept (globals_faults text names (map plain_item (drop i items))) ≡ whole →

@@ -6,6 +6,8 @@ pub mod Early
 pub mod Late
 pub mod Table
 pub mod Threads
+pub mod Sites
+pub mod Named
 pub mod Instances
 pub mod Checks
 pub mod Checked

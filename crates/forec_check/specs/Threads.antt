@@ -4,8 +4,10 @@ use Rattle.forec_tree.specs.Threads.{Naming, Reading, no_naming, closed, instanc
 use Rattle.forec_tree.specs.Findings.{in_function}
 use Rattle.forec_tree.specs.Pauses.{within}
 use Rattle.forec_tree.specs.Rules.{fault_if, is_plain}
-use Rattle.forec_tree.specs.Faults.{is_in, namings}
+use Rattle.forec_tree.specs.Faults.{is_in, namings, Reaches}
 use Rattle.forec_tree.specs.declared.fault.Fault.{Fault}
+use Rattle.loop_check.specs.Known.{is_function}
+use Rattle.forec_check.specs.Table.{Settles}
 use Rattle.forec_check.specs.Walk.{events_of}
 use Rattle.forec_check.specs.declared.naming.Tally.{Tally}
 use Rattle.forec_tree.specs.Terms.{Text, PlainItem, IsGlobal, IsFunction, PlainFunction}
@@ -65,18 +67,9 @@ abbrev pub events_in : Text → Option PlainFunction → List Event
 events_in text None = []
 events_in text (Some f) = events_of (in_function text f)
 
--- right at the first so many of an order, and nothing elsewhere
-pub record Agrees (value : ℕ → Naming) (order : List ℕ) (n : ℕ) (table : ℕ → Naming) : Type 0 where
-  pub inside : (g : ℕ) → is_in g (take n order) ≡ true → table g ≡ value g
-  pub outside : (g : ℕ) → is_in g (take n order) ≡ false → table g ≡ no_naming
-
 -- the naming of each function, up to two
 abbrev pub value_of : Text → ℕ → ℕ → Naming
 value_of text g = within no_naming (capped_step text g) (length text)
-
--- a table was written at a number
-abbrev pub put_few : ℕ → ℕ → Naming → Naming → Naming
-put_few id g value before = cond (id == g) value before
 
 -- the faults of plain globals that two instances name
 abbrev pub global_fault : Text → List (List ℕ) → PlainItem → List Fault
@@ -87,8 +80,8 @@ abbrev pub globals_faults : Text → List (List ℕ) → List PlainItem → List
 globals_faults text names [] = []
 globals_faults text names (i ∷ rest) = global_fault text names i ++ globals_faults text names rest
 
--- an order in which each function's naming follows from those before it
-pub record Settles (text : Text) (order : List ℕ) : Type 0 where
-  pub next : (g k : ℕ) (a : ℕ → Naming) → k < length order → Agrees (value_of text g) order k a →
-      capped_step text g a (slice_index_or order k 0) ≡ value_of text g (slice_index_or order k 0)
-  pub rest : (g h : ℕ) → is_in h order ≡ false → value_of text g h ≡ no_naming
+-- all functions, in an order in which each one's naming follows from those before it
+pub record Orders (text : Text) (order : List ℕ) : Type 0 where
+  pub settles : (g : ℕ) → Settles no_naming (capped_step text g) (value_of text g) order
+  pub whole : (f : ℕ) → is_function text f ≡ true → is_in f order ≡ true
+  pub free : (f : ℕ) → Reaches text f f → ⊥

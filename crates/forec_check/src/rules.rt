@@ -9,13 +9,13 @@ ghost use Rattle.loop_check.specs.Known.{Read};
 ghost use Rattle.forec_check.specs.Walk.{found_of, item_events, items_loops, events_lists};
 ghost use Rattle.forec_check.specs.Early.{Kept, calls_in};
 ghost use Rattle.forec_check.specs.Late.{loops_faults};
-ghost use Rattle.forec_check.specs.Threads.{globals_faults, Settles};
+ghost use Rattle.forec_check.specs.Threads.{globals_faults, Orders};
 
 use crate::circles::{judge_circles, read_bodies};
 use crate::early::{Checking, judge_text, start_name};
 use crate::found::Event;
 use crate::loops::judge_loops;
-use crate::threads::judge_plains;
+use crate::plains::judge_plains;
 use forec_base::{Labels, OutOfMemory};
 use forec_tree::{Fault, Item, Program};
 use loop_check::{Calls, Index, Pauses, order};
@@ -32,7 +32,7 @@ fn judge_globals(
 ) -> Result<(), OutOfMemory>
     requires items { map plain.plain_item items.now ≡ text_of index.now }
     requires bodies { events_lists bodies.now ≡ map (item_events (text_of index.now)) (text_of index.now) }
-    requires order { Settles (text_of index.now) order.now }
+    requires order { Orders (text_of index.now) order.now }
     ensures { OnOk result (least.new ≡ least_from least.old (globals_faults (text_of index.now) names.now (text_of index.now))) }
 {
     match start_name(names, items) {

@@ -4,19 +4,16 @@ ghost use Rattle.std.specs.Prelude.{◌≡◌, ◌+◌, ◌||◌, ◌&&◌, ◌=
 ghost use Rattle.forec_tree.specs.Plain as plain;
 ghost use Rattle.forec_tree.specs.Pauses.{find_function};
 ghost use Rattle.forec_tree.specs.Threads.{start, as_naming, instances_naming, instances_of};
-ghost use Rattle.forec_tree.specs.Rules as rules;
-ghost use Rattle.forec_tree.specs.Faults.{start_name, least_from};
 ghost use Rattle.loop_check.specs.Views.{text_of};
 ghost use Rattle.forec_check.specs.Walk.{item_events, events_lists};
-ghost use Rattle.forec_check.specs.Threads.{capped, few_at, few_called, naming_of, read_events, Tallies, events_in, put_few, capped_step, global_fault, globals_faults, Settles};
+ghost use Rattle.forec_check.specs.Table.{put_at};
+ghost use Rattle.forec_check.specs.Threads.{capped, few_at, few_called, naming_of, read_events, Tallies, capped_step, Orders};
 
 use crate::found::Event;
-use crate::least::meet;
 use crate::naming::{Few, Tally};
-use forec_base::{Labels, OutOfMemory};
-use forec_tree::{Fault, GlobalKind, Item};
+use crate::spread::events_of;
+use forec_base::OutOfMemory;
 use loop_check::Index;
-use sqlite_items::at;
 use std::alloc::Global;
 
 fn few(table: &[Few], id: u32) -> Few
@@ -100,26 +97,12 @@ fn function_naming(
     requires { events_lists bodies.now ≡ map (item_events (text_of index.now)) (text_of index.now) }
     ensures { IfOk result (λ n. capped (naming_of n) ≡ capped_step (text_of index.now) g (few_called table.now) id) }
 {
-    match index.position(id) {
-        None => Ok(Few {
-            own: false,
-            below: 0,
-        }),
-        Some(place) => match at(bodies, place) {
-            None => Ok(Few {
-                own: false,
-                below: 0,
-            }),
-            Some(events) => {
-                let n = naming(alloc, events, g, table)?;
-                Ok(n)
-            }
-        },
-    }
+    let n = naming(alloc, events_of(index, bodies, id), g, table)?;
+    Ok(n)
 }
 
 fn put(table: &mut Vec<Few>, id: u32, value: Few) -> Result<(), OutOfMemory>
-    ensures { OnOk result ((h : ℕ) → few_at table.new.items h ≡ put_few id h (naming_of value) (few_at table.old.items h)) }
+    ensures { OnOk result ((h : ℕ) → few_at table.new.items h ≡ put_at id h (naming_of value) (few_at table.old.items h)) }
 {
     let place = id as usize;
     'room: while table.len() <= place {
@@ -132,8 +115,8 @@ fn put(table: &mut Vec<Few>, id: u32, value: Few) -> Result<(), OutOfMemory>
     Ok(())
 }
 
-/// Whether two thread instances name a global.
-fn two_name(
+/// Whether two thread instances name a global. Looks at each event of the bodies once.
+pub fn two_name(
     alloc: Global,
     index: &Index<'_>,
     bodies: &[Vec<Event>],
@@ -142,7 +125,7 @@ fn two_name(
     first: u32,
 ) -> Result<bool, OutOfMemory>
     requires bodies { events_lists bodies.now ≡ map (item_events (text_of index.now)) (text_of index.now) }
-    requires order { Settles (text_of index.now) order.now }
+    requires order { Orders (text_of index.now) order.now }
     ensures { IfOk result (λ two. two ≡ nat_lt 1 (instances_of (text_of index.now) g first)) }
 {
     let mut table = Vec::new(alloc);
@@ -151,64 +134,4 @@ fn two_name(
         put(&mut table, *f, value)?;
     }
     Ok(1 < instances(few(&table, first)))
-}
-
-fn is_plain(kind: GlobalKind) -> bool
-    ensures { result ≡ rules.is_plain kind }
-{
-    match kind {
-        GlobalKind::Plain | GlobalKind::Output => true,
-        _ => false,
-    }
-}
-
-fn judge_plain(
-    alloc: Global,
-    index: &Index<'_>,
-    names: &Labels,
-    bodies: &[Vec<Event>],
-    order: &[u32],
-    first: u32,
-    item: &Item,
-    least: &mut Option<Fault>,
-) -> Result<(), OutOfMemory>
-    requires bodies { events_lists bodies.now ≡ map (item_events (text_of index.now)) (text_of index.now) }
-    requires order { Settles (text_of index.now) order.now }
-    requires first { start_name names.now (text_of index.now) ≡ Some first }
-    ensures { OnOk result (least.new ≡ least_from least.old (global_fault (text_of index.now) names.now (plain.plain_item item.now))) }
-{
-    match item {
-        Item::Function { .. } => Ok(()),
-        Item::Global { global } => {
-            if !is_plain(global.kind) {
-                return Ok(());
-            }
-            let two = two_name(alloc, index, bodies, order, global.name.id, first)?;
-            meet(least, two, global.name.place, 10);
-            Ok(())
-        }
-    }
-}
-
-/// Keeps the least fault of plain globals and outputs that two thread instances name.
-pub fn judge_plains(
-    alloc: Global,
-    index: &Index<'_>,
-    names: &Labels,
-    items: &[Item],
-    bodies: &[Vec<Event>],
-    order: &[u32],
-    first: u32,
-    least: &mut Option<Fault>,
-) -> Result<(), OutOfMemory>
-    requires items { map plain.plain_item items.now ≡ text_of index.now }
-    requires bodies { events_lists bodies.now ≡ map (item_events (text_of index.now)) (text_of index.now) }
-    requires order { Settles (text_of index.now) order.now }
-    requires first { start_name names.now (text_of index.now) ≡ Some first }
-    ensures { OnOk result (least.new ≡ least_from least.old (globals_faults (text_of index.now) names.now (text_of index.now))) }
-{
-    for item in items {
-        judge_plain(alloc, index, names, bodies, order, first, item, least)?;
-    }
-    Ok(())
 }

@@ -6,9 +6,9 @@ use Rattle.forec_tree.specs.Faults.{Leads}
 use Rattle.loop_check.specs.Graph.{callees, IsOrder}
 use Rattle.loop_check.specs.Judges.{judge_text}
 use Rattle.loop_check.specs.Views.{text_of}
-use Rattle.forec_check.specs.Threads.{Settles}
+use Rattle.forec_check.specs.Threads.{Orders}
 use Rattle.forec_check.proofs.Acyclic.{no_circle, no_reach}
-use Rattle.forec_check.proofs.Tabled.{settles_is}
+use Rattle.forec_check.proofs.Tabled.{orders_is}
 use Rattle.forec_check.proofs.Lately.{both_late}
 use Rattle.forec_check.proofs.rules.least_late.Goals as goal
 
@@ -20,7 +20,7 @@ judge_globals-requires-clause-order c =
     let order = c.in_ok-order.order.items in
     let ordered : IsOrder functions (callees lists) order =
     subst (λ l. IsOrder functions (callees l) order) c.deref-2.ensures.value (subst (λ f. IsOrder f (callees c.deref-2.result.now) order) c.deref.ensures.value c.in_ok-order.ensures) in
-    subst (λ o. Settles text o) (sym c.deref-4.ensures.value) (settles_is text functions order (callees lists) c.requires.read ordered (no_reach text c.args.names.now c.requires.early))
+    subst (λ o. Orders text o) (sym c.deref-4.ensures.value) (orders_is text functions order (callees lists) c.requires.read ordered (no_reach text c.args.names.now c.requires.early))
 
 pub of-requires : goal.of-requires
 of-requires c = λ f l. no_circle (text_of c.args.index.now) c.args.names.now c.requires.early f (subst (λ t. Leads (starts t) f f) c.requires.items l)

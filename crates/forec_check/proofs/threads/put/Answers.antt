@@ -1,5 +1,6 @@
 use Rattle.std.proofs.Common.{◌≡◌, ◌∙◌, ap, arith}
-use Rattle.forec_check.specs.Threads.{few_at, naming_of, put_few}
+use Rattle.forec_check.specs.Table.{put_at}
+use Rattle.forec_check.specs.Threads.{few_at, naming_of}
 use Rattle.forec_check.proofs.Tabled.{few_push, few_set}
 use Rattle.forec_check.proofs.threads.put.Goals as goal
 
@@ -9,4 +10,4 @@ room-preserved c = λ k. ap (λ xs. few_at xs k) c.in_ok-push.ensures.items ∙ 
 pub returns : goal.returns
 returns c =
     λ h. few_set c.room.table.items c.args.id h c.args.value (let t = c.room-test.false in let n = c.len.ensures in omega (arith, t, n))
-    ∙ ap (put_few c.args.id h (naming_of c.args.value)) (c.room.invariant h)
+    ∙ ap (put_at c.args.id h (naming_of c.args.value)) (c.room.invariant h)

@@ -3,7 +3,7 @@ use Rattle.forec_tree.specs.Plain as plain
 use Rattle.forec_tree.specs.Faults.{least_from}
 use Rattle.loop_check.specs.Views.{text_of}
 use Rattle.forec_check.specs.Threads.{globals_faults}
-use Rattle.forec_check.proofs.threads.judge_plains.Given as goal
+use Rattle.forec_check.proofs.plains.judge_plains.Given as goal
 
 abbrev pub invariant-loop-item : goal.invariant-loop-item
 invariant-loop-item l =

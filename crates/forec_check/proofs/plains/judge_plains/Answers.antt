@@ -1,7 +1,7 @@
 use Rattle.std.proofs.Common.{sym}
 use Rattle.loop_check.specs.Views.{text_of}
 use Rattle.forec_check.proofs.Tabled.{plains_step, plains_end}
-use Rattle.forec_check.proofs.threads.judge_plains.Goals as goal
+use Rattle.forec_check.proofs.plains.judge_plains.Goals as goal
 
 pub loop-item-preserved : goal.loop-item-preserved
 loop-item-preserved c =

@@ -1,0 +1,17 @@
+use Rattle.std.proofs.Common.{◌≡◌, ◌∙◌, sym, ap, refl, Some, None, List}
+use Rattle.std.specs.Prelude.{slice_get}
+use Rattle.std.specs.Option.{option_copied}
+use Rattle.forec_tree.specs.Terms.{Text, PlainItem, IsGlobal, IsFunction, PlainFunction}
+use Rattle.forec_tree.specs.Scopes.{find_item}
+use Rattle.loop_check.specs.Views.{text_of}
+use Rattle.forec_check.specs.Walk.{item_events}
+use Rattle.forec_check.specs.Threads.{events_in}
+use Rattle.forec_check.proofs.Tabled.{bodied, found_events}
+use Rattle.forec_check.proofs.spread.events_of.Goals as goal
+
+pub returns-in-Some-at : goal.returns-in-Some-at
+returns-in-Some-at c =
+    let text = text_of c.args.index.now in
+    let v : slice_get c.args.bodies.now c.in-Some.place ≡ Some c.in-Some-at.events.now = sym c.at.ensures ∙ ap option_copied c.in-Some-at.is in
+    let b = bodied c.args.bodies.now text (item_events text) c.in-Some.place c.in-Some-at.events.now c.requires v in
+    c.deref.ensures.value ∙ (b.is ∙ found_events text c.args.f b.item (c.in-Some.ensures ∙ b.stands))
