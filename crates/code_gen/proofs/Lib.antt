@@ -1,0 +1,3 @@
+pub mod Stretch
+pub mod Fits
+pub mod Exprs

@@ -1,0 +1,5 @@
+//! The code of a kernel.
+#![tactic(auto)]
+
+/// Nothing yet.
+pub fn nothing() {}
