@@ -4,3 +4,7 @@ pub mod Exprs
 pub mod Cells
 pub mod Lengths
 pub mod Functions
+pub mod Each
+pub mod Blocks
+pub mod Deep
+pub mod Calls
