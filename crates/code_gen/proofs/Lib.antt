@@ -8,3 +8,6 @@ pub mod Each
 pub mod Blocks
 pub mod Deep
 pub mod Calls
+pub mod Places
+pub mod Forks
+pub mod Steps
