@@ -11,3 +11,4 @@ pub mod Calls
 pub mod Places
 pub mod Forks
 pub mod Steps
+pub mod Waking

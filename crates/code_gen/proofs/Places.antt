@@ -217,9 +217,9 @@ module _ (k : PlainKernel) (t : ℕ) (s : List Instruction) where
     pub held : HeldAt a j w q
 
   -- children that have jobs
-  pub record Works (cs : Threads) (f : Marks) : Type 0 where
+  pub record Works (cs : Threads) (live : List Bool) : Type 0 where
     pub some : some_running cs ≡ true
-    pub awaits : Awaits f.live cs
+    pub awaits : Awaits live cs
 
   -- the pause of a held fork
   pub record HoldAt (a : Around) (bs : List ℕ) (p q : ℕ) : Type 0 where
@@ -230,9 +230,9 @@ module _ (k : PlainKernel) (t : ℕ) (s : List Instruction) where
     pub pause : HasAt s p (checks a ++ instruction.Pause w ∷ [])
     pub held : HeldAt a j w q
 
-  pub record Rests (cs : Threads) (f : Marks) : Type 0 where
+  pub record Rests (cs : Threads) (live : List Bool) : Type 0 where
     pub some : some_paused cs ≡ true
-    pub sleeps : Sleeps f.live cs
+    pub sleeps : Sleeps live cs
 
   -- a pause that was reached at p
   pub record RestAt (a : Around) (p q : ℕ) : Type 0 where
@@ -253,23 +253,23 @@ module _ (k : PlainKernel) (t : ℕ) (s : List Instruction) where
   At a Resting (Here p) q c f = RestAt a p q
   At a Resting (At_fork d g) q c f = ⊥
   At a (Fork cs) (Here p) q c f = ⊥
-  At a (Fork cs) (At_fork d g) q c f = ForkAt a (numbers cs) d g q × Works cs f
-  At a (Held cs) (Here p) q c f = HoldAt a (numbers cs) p q × Rests cs f
+  At a (Fork cs) (At_fork d g) q c f = ForkAt a (numbers cs) d g q × Works cs f.live
+  At a (Held cs) (Here p) q c f = HoldAt a (numbers cs) p q × Rests cs f.live
   At a (Held cs) (At_fork d g) q c f = ⊥
   At a (Watch weak e R) pl q c f = (x : ℕ) × At (InAbort weak e x a) R pl x c f × Ends x q × Fits (kernel_code k) (ok k) e × Unset weak (weaks a) f
   At a (Last R) pl q c f = (e : Expr) × (x : ℕ) × At (InAbort true e x a) R pl x c f × Ends x q × (get_or f.flags (weaks a) false ≡ true)
 
   -- A halted text, whose wake address is w.
-  abbrev pub WakeAt : Around → Text → ℕ → ℕ → Marks → Type 0
-  WakeAt a Done w q f = ⊥
-  WakeAt a (Run x) w q f = ⊥
-  WakeAt a (Then R b) w q f = (m : ℕ) × WakeAt (inside a b) R w m f × BehindAt a b m q
-  WakeAt a (Turning loop) w q f = ⊥
-  WakeAt a Resting w q f = HasAt s w (prologue w a) × Ends (w + length (prologue w a)) q
-  WakeAt a (Fork cs) w q f = ⊥
-  WakeAt a (Held cs) w q f = (j : ℕ) × (branches_in k.shape j ≡ numbers cs) × (distinct (numbers cs) ≡ true) × HeldAt a j w q × Rests cs f
-  WakeAt a (Watch weak e R) w q f = (x : ℕ) × WakeAt (InAbort weak e x a) R w x f × Ends x q × Fits (kernel_code k) (ok k) e
-  WakeAt a (Last R) w q f = ⊥
+  abbrev pub WakeAt : Around → Text → ℕ → ℕ → List Bool → Type 0
+  WakeAt a Done w q live = ⊥
+  WakeAt a (Run x) w q live = ⊥
+  WakeAt a (Then R b) w q live = (m : ℕ) × WakeAt (inside a b) R w m live × BehindAt a b m q
+  WakeAt a (Turning loop) w q live = ⊥
+  WakeAt a Resting w q live = HasAt s w (prologue w a) × Ends (w + length (prologue w a)) q
+  WakeAt a (Fork cs) w q live = ⊥
+  WakeAt a (Held cs) w q live = (j : ℕ) × (branches_in k.shape j ≡ numbers cs) × (distinct (numbers cs) ≡ true) × HeldAt a j w q × Rests cs live
+  WakeAt a (Watch weak e R) w q live = (x : ℕ) × WakeAt (InAbort weak e x a) R w x live × Ends x q × Fits (kernel_code k) (ok k) e
+  WakeAt a (Last R) w q live = ⊥
 
   -- ---- a statement read as a text
 

@@ -42,7 +42,7 @@ module _ (k : PlainKernel) (t : ℕ) (run : CallsRun (kernel_code k) t (ok k) (c
   abbrev pub Follows : Around → Text → ℕ → Store → List ℕ → Marks → Machine → ℕ → Move → Type 0
   Follows a R q st c f m u Finished = Comes (kernel_code k) t m (on k t s q st c f u)
   Follows a R q st c f m u Halts =
-      (p : ℕ) × (w : ℕ) × Comes (kernel_code k) t m (on k t s p st c f u) × HasAt s p (checks a ++ instruction.Pause w ∷ []) × WakeAt k t s a R w q f
+      (p : ℕ) × (w : ℕ) × Comes (kernel_code k) t m (on k t s p st c f u) × HasAt s p (checks a ++ instruction.Pause w ∷ []) × WakeAt k t s a R w q f.live
   Follows a R q st c f m u (Moves R' words copies v) = GoesOn k t s false a R' q (record { words = words; copies = copies }) c f m (u + v)
   Follows a R q st c f m u (Traps place trap v) = Comes (kernel_code k) t m (Trapped place trap (u + v))
 
