@@ -12,3 +12,7 @@ pub mod Places
 pub mod Forks
 pub mod Steps
 pub mod Waking
+pub mod Columns
+
+pub mod Branchwise
+
