@@ -16,3 +16,4 @@ pub mod Columns
 
 pub mod Branchwise
 
+pub mod Merging
