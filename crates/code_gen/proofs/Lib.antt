@@ -17,3 +17,4 @@ pub mod Columns
 pub mod Branchwise
 
 pub mod Merging
+pub mod Joining
