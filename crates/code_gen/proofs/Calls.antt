@@ -27,7 +27,7 @@ module _ (k : PlainKernel) (same : length k.functions ≡ length k.shape.functio
   abbrev Ok : ℕ → Type 0
   Ok g = deep k n g ≡ true
 
-  fits_call : (f m : ℕ) → f < length k.functions → m ≡ function_params k f → deep k n f ≡ true → FitsCall (kernel_code k) (deep k n) f m
+  pub fits_call : (f m : ℕ) → f < length k.functions → m ≡ function_params k f → deep k n f ≡ true → FitsCall (kernel_code k) (deep k n) f m
   fits_call f m lt e d = record {
     allowed = d;
     block = function_block k (0 + f) (get_or k.functions f Nop);

@@ -18,3 +18,5 @@ pub mod Branchwise
 
 pub mod Merging
 pub mod Joining
+pub mod Kernels
+pub mod Stands
