@@ -20,3 +20,5 @@ pub mod Merging
 pub mod Joining
 pub mod Kernels
 pub mod Stands
+pub mod Depths
+pub mod FineExpressions
