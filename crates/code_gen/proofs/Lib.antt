@@ -22,3 +22,4 @@ pub mod Kernels
 pub mod Stands
 pub mod Depths
 pub mod FineExpressions
+pub mod FineStatements
