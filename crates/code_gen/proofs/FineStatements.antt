@@ -51,7 +51,7 @@ mutual
   expressions_begin (more_exprs x xs) d rest = begins_append d (expressions_depths d (more_exprs x xs)) _ (begins_append d (expression_depths d x) _ (expression_begins x d))
 
 -- the first depth is 0, if there is one
-abbrev First : List ℕ → Type 0
+abbrev pub First : List ℕ → Type 0
 First [] = Unit {0}
 First (d ∷ ds) = d ≡ 0
 
@@ -91,7 +91,7 @@ arguments_begin (b ∷ bs) d rest = pick b.args (arguments_begin bs (d + count_e
     pick (more_exprs x xs) h = begins_append d (expressions_depths d (more_exprs x xs) ++ arguments_depths (d + count_exprs (more_exprs x xs)) bs) _ (begins_append d (expressions_depths d (more_exprs x xs)) _ (begins_append d (expression_depths d x) _ (expression_begins x d)))
 
 mutual
-  statement_first : (x : Stmt) (cs ps : List ℕ) → First (statement_depths cs ps x)
+  pub statement_first : (x : Stmt) (cs ps : List ℕ) → First (statement_depths cs ps x)
   statement_first Nop cs ps = tt
   statement_first (Set to e) cs ps = test_first e (1 ∷ [])
   statement_first (SetAt x n i e place) cs ps = test_first i _
@@ -119,7 +119,7 @@ fill_first None = tt
 fill_first (Some n) = refl
 
 -- where a stretch begins the depth is 0, if it is behind it
-lead_first : (depths : List ℕ) (p n : ℕ) (ds : List ℕ) → First ds → length ds ≡ n → HasAt depths p ds → Leads depths (p + n) 0 → Leads depths p 0
+pub lead_first : (depths : List ℕ) (p n : ℕ) (ds : List ℕ) → First ds → length ds ≡ n → HasAt depths p ds → Leads depths (p + n) 0 → Leads depths p 0
 lead_first depths p n [] f e h g = let z : p + n ≡ p = omega (arith, e) in subst (λ i. Leads depths i 0) z g
 lead_first depths p n (d ∷ ds) f e h g = subst (Leads depths p) f h.0
 

@@ -128,7 +128,7 @@ module _ (k : PlainKernel) (fine : WellFormed k) where
           (statement_fits x h.0 (each_front Ok (stmt_calls x) (stmts_calls rest) d) (each_front (FinePar k t) (pars_of x) (pars_in rest) p),
           statements_fit rest h.1 (each_back Ok (stmt_calls x) (stmts_calls rest) d) (each_back (FinePar k t) (pars_of x) (pars_in rest) p))
 
-  each_par : (t : ℕ) (pars : List (List ℕ)) → ((bs : List ℕ) (i : ℕ) → i < length pars → bs ≡ get_or pars i [] → FinePar k t bs) → Each (FinePar k t) pars
+  pub each_par : (t : ℕ) (pars : List (List ℕ)) → ((bs : List ℕ) (i : ℕ) → i < length pars → bs ≡ get_or pars i [] → FinePar k t bs) → Each (FinePar k t) pars
   each_par t [] h = tt
   each_par t (bs ∷ pars) h = (h bs 0 (omega arith) refl, each_par t pars (λ cs i lt e. h cs (suc i) (omega (arith, lt)) e))
 

@@ -23,3 +23,5 @@ pub mod Stands
 pub mod Depths
 pub mod FineExpressions
 pub mod FineStatements
+pub mod Called
+pub mod Valid
