@@ -1,5 +1,5 @@
 //! The code of a kernel.
 #![tactic(auto)]
 
-/// Nothing yet.
-pub fn nothing() {}
+mod expressions;
+mod writing;
