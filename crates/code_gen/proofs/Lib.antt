@@ -25,3 +25,4 @@ pub mod FineExpressions
 pub mod FineStatements
 pub mod Called
 pub mod Valid
+pub mod Patch
