@@ -26,3 +26,4 @@ pub mod FineStatements
 pub mod Called
 pub mod Valid
 pub mod Patch
+pub mod Copies

@@ -2,4 +2,6 @@
 #![tactic(auto)]
 
 mod expressions;
+mod shapes;
+mod statements;
 mod writing;
