@@ -27,3 +27,4 @@ pub mod Called
 pub mod Valid
 pub mod Patch
 pub mod Copies
+pub mod Numbers

@@ -1,12 +1,14 @@
 -- A jump's address is written when what it skips stands.
-use Rattle.std.proofs.Common.{◌≡◌, ℕ, ◌+◌, List, [], ◌∷◌, ◌++◌, length, ap, sym, ◌∙◌, arith, append_assoc, length-append}
+use Rattle.std.proofs.Common.{◌≡◌, ℕ, ◌+◌, Bool, List, [], ◌∷◌, ◌++◌, length, refl, ap, sym, ◌∙◌, arith, append_assoc, length-append}
 use Rattle.std.specs.Prelude.{ℤ, slice_set}
 use Rattle.std.proofs.Math.Seq.{set-append_seam}
-use Rattle.forec_kernel.specs.Terms.{Expr}
+use Rattle.forec_kernel.specs.Terms.{Expr, Stmt, Enter}
+use Rattle.forec_kernel.specs.Shapes.{PlainThread}
 use Rattle.thread_code.specs.declared.instruction.Instruction.{Instruction}
 use Rattle.thread_code.specs.declared.instruction.Instruction.TheVariants as instruction
 use Rattle.code_gen.specs.Expressions.{expression_code}
-use Rattle.code_gen.specs.Statements.{if_code, loop_code}
+use Rattle.code_gen.specs.Statements.{Around, InAbort, weaks, checks, prologue, if_code, loop_code, fork_code, enter_code, statement_code}
+use Rattle.code_gen.proofs.Lengths.{enter_length, alike_self, alike_length}
 
 -- another element at a seam
 pub set_at : (c pre post : List Instruction) (x y : Instruction) (n : ℕ) → c ≡ pre ++ x ∷ post → n ≡ length pre → slice_set c n y ≡ pre ++ y ∷ post
@@ -100,3 +102,73 @@ patch_loop c0 c1 c2 c3 c4 c5 test turn body x h n end e0 e1 hn e2 e3 e4 e5 he =
     ∙ ap (λ i. c0 ++ (test ++ instruction.Zero i ∷ (turn ++ (f ++ tail h)))) exit
     ∙ ap (λ i. c0 ++ (test ++ instruction.Zero (b + length (body b) + 1) ∷ (turn ++ (body i ++ tail h)))) here
     ∙ ap (λ i. c0 ++ (test ++ instruction.Zero (b + length (body b) + 1) ∷ (turn ++ (body b ++ tail i)))) e0
+
+-- a fork
+pub patch_fork : (base c1 c2 c3 c4 c5 c6 c7 c8 c9 : List Instruction) (a : Around) (j p f w g first second end : ℕ) (x1 x2 : Instruction) → f ≡ length base → c1 ≡ base ++ instruction.Fork j (f + 2) ∷ [] → first ≡ length c1 → c2 ≡ c1 ++ x1 ∷ [] → c3 ≡ c2 ++ checks a →
+    p ≡ length c3 → w ≡ p + 1 → c4 ≡ c3 ++ instruction.Pause w ∷ [] → c5 ≡ c4 ++ prologue (length c4) a → g ≡ length c5 → c6 ≡ c5 ++ instruction.Again j (g + 2) ∷ [] → second ≡ length c6 → c7 ≡ c6 ++ x2 ∷ [] → c8 ≡ c7 ++ checks a → c9 ≡ c8 ++ instruction.Pause w ∷ [] → end ≡ length c9 →
+    slice_set (slice_set c9 first (instruction.Jump end)) second (instruction.Jump end) ≡ base ++ fork_code j (length base) a
+patch_fork base c1 c2 c3 c4 c5 c6 c7 c8 c9 a j p f w g first second end x1 x2 hf e1 h1 e2 e3 hp hw e4 e5 hg e6 h2 e7 e8 e9 he =
+    let q = length base in
+    let ch = checks a in
+    let c = length ch in
+    let wake = q + 1 + 1 + c + 1 in
+    let pr = prologue (length c4) a in
+    let l1 = ap (λ l. length l) e1 ∙ length-append base (instruction.Fork j (f + 2) ∷ []) in
+    let l2 = ap (λ l. length l) e2 ∙ length-append c1 (x1 ∷ []) in
+    let l3 = ap (λ l. length l) e3 ∙ length-append c2 ch in
+    let l4 = ap (λ l. length l) e4 ∙ length-append c3 (instruction.Pause w ∷ []) in
+    let l5 = ap (λ l. length l) e5 ∙ length-append c4 pr in
+    let l6 = ap (λ l. length l) e6 ∙ length-append c5 (instruction.Again j (g + 2) ∷ []) in
+    let l7 = ap (λ l. length l) e7 ∙ length-append c6 (x2 ∷ []) in
+    let l8 = ap (λ l. length l) e8 ∙ length-append c7 ch in
+    let l9 = ap (λ l. length l) e9 ∙ length-append c8 (instruction.Pause w ∷ []) in
+    let here : length c4 ≡ wake = omega (arith, l1, l2, l3, l4) in
+    let lp : length pr ≡ length (prologue wake a) = ap (λ i. length (prologue i a)) here in
+    let to1 : f + 2 ≡ q + 1 + 1 = omega (arith, hf) in
+    let w' : w ≡ wake = omega (arith, hw, hp, l1, l2, l3) in
+    let g' : g ≡ wake + length (prologue wake a) = omega (arith, hg, l5, here, lp) in
+    let to2 : g + 2 ≡ wake + length (prologue wake a) + 1 + 1 = omega (arith, g') in
+    let out : end ≡ wake + length (prologue wake a) + 1 + 1 + c + 1 = omega (arith, he, l9, l8, l7, l6, l5, here, lp) in
+    let pause = instruction.Pause w ∷ [] in
+    let fork = instruction.Fork j (f + 2) in
+    let again = instruction.Again j (g + 2) in
+    let jump = instruction.Jump end in
+    let all : c9 ≡ (((((((c1 ++ x1 ∷ []) ++ ch) ++ pause) ++ pr) ++ again ∷ []) ++ x2 ∷ []) ++ ch) ++ pause =
+    e9 ∙ ap (λ l. l ++ pause) (e8 ∙ ap (λ l. l ++ ch) (e7 ∙ ap (λ l. l ++ x2 ∷ []) (e6 ∙ ap (λ l. l ++ again ∷ []) (e5 ∙ ap (λ l. l ++ pr) (e4 ∙ ap (λ l. l ++ pause) (e3 ∙ ap (λ l. l ++ ch) e2)))))) in
+    let before = ch ++ instruction.Pause w ∷ (pr ++ again ∷ []) in
+    let flat : (((((((c1 ++ x1 ∷ []) ++ ch) ++ pause) ++ pr) ++ again ∷ []) ++ x2 ∷ []) ++ ch) ++ pause ≡ c1 ++ x1 ∷ (before ++ x2 ∷ (ch ++ pause)) = simp append_assoc in
+    let once = set_at c9 c1 (before ++ x2 ∷ (ch ++ pause)) x1 jump first (all ∙ flat) h1 in
+    let apart : c1 ++ jump ∷ (before ++ x2 ∷ (ch ++ pause)) ≡ (c1 ++ jump ∷ before) ++ x2 ∷ (ch ++ pause) = sym (append_assoc c1 (jump ∷ before) (x2 ∷ (ch ++ pause))) in
+    let lb : length before ≡ c + 1 + length pr + 1 = omega (arith, length-append ch (instruction.Pause w ∷ (pr ++ again ∷ [])), length-append pr (again ∷ [])) in
+    let long : second ≡ length (c1 ++ jump ∷ before) = omega (arith, h2, l6, l5, l4, l3, l2, lb, length-append c1 (jump ∷ before)) in
+    let whole = λ (to1 to2 w end : ℕ) (pr : List Instruction). instruction.Fork j to1 ∷ instruction.Jump end ∷ (ch ++ instruction.Pause w ∷ (pr ++ instruction.Again j to2 ∷ instruction.Jump end ∷ (ch ++ instruction.Pause w ∷ []))) in
+    let together : (((base ++ fork ∷ []) ++ jump ∷ before) ++ jump ∷ (ch ++ pause)) ≡ base ++ whole (f + 2) (g + 2) w end pr = simp append_assoc in
+    set_at (slice_set c9 first jump) (c1 ++ jump ∷ before) (ch ++ pause) x2 jump second (once ∙ apart) long
+    ∙ ap (λ l. (l ++ jump ∷ before) ++ jump ∷ (ch ++ pause)) e1
+    ∙ together
+    ∙ ap (λ i. base ++ whole i (g + 2) w end pr) to1
+    ∙ ap (λ i. base ++ whole (q + 1 + 1) i w end pr) to2
+    ∙ ap (λ i. base ++ whole (q + 1 + 1) (wake + length (prologue wake a) + 1 + 1) i end pr) w'
+    ∙ ap (λ i. base ++ whole (q + 1 + 1) (wake + length (prologue wake a) + 1 + 1) wake i pr) out
+    ∙ ap (λ i. base ++ whole (q + 1 + 1) (wake + length (prologue wake a) + 1 + 1) wake (wake + length (prologue wake a) + 1 + 1 + c + 1) (prologue i a)) here
+
+-- an abort whose exit was counted beforehand
+pub abort_written : (ts : List PlainThread) (base c1 c2 : List Instruction) (weak immediate : Bool) (e : Expr) (x : Stmt) (a : Around) (flag exit : ℕ) → flag ≡ weaks a → c1 ≡ base ++ enter_code weak immediate flag exit (expression_code (length base) e) → c2 ≡ c1 ++ statement_code ts (InAbort weak e exit a) (length c1) x → exit ≡ length c2 →
+    c2 ≡ base ++ statement_code ts a (length base) (Enter weak immediate e x)
+abort_written ts base c1 c2 weak immediate e x a flag exit hf e1 e2 he =
+    let p = length base in
+    let test = expression_code p e in
+    let plain = enter_code weak immediate (weaks a) 0 test in
+    let pre = enter_code weak immediate flag exit test in
+    let q = p + length plain in
+    let body = statement_code ts (InAbort weak e exit a) (length c1) x in
+    let l1 = ap (λ l. length l) e1 ∙ length-append base pre in
+    let l2 = ap (λ l. length l) e2 ∙ length-append c1 body in
+    let same : length pre ≡ length plain = enter_length weak immediate flag (weaks a) exit 0 test in
+    let here : length c1 ≡ q = omega (arith, l1, same) in
+    let long : length body ≡ length (statement_code ts (InAbort weak e 0 a) q x) = alike_length ts x (InAbort weak e exit a) (InAbort weak e 0 a) (length c1) q here (refl, refl, alike_self a) in
+    let out : exit ≡ q + length (statement_code ts (InAbort weak e 0 a) q x) = omega (arith, he, l2, here, long) in
+    e2 ∙ ap (λ l. l ++ body) e1 ∙ append_assoc base pre body
+    ∙ ap (λ i. base ++ (enter_code weak immediate i exit test ++ body)) hf
+    ∙ ap (λ i. base ++ (enter_code weak immediate (weaks a) exit test ++ statement_code ts (InAbort weak e exit a) i x)) here
+    ∙ ap (λ i. base ++ (enter_code weak immediate (weaks a) i test ++ statement_code ts (InAbort weak e i a) q x)) out

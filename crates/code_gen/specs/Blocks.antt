@@ -56,6 +56,10 @@ abbrev mutual
   flags_of no_stmts = 0
   flags_of (more_stmts s rest) = max (flags_in s) (flags_of rest)
 
+-- a block of these parts
+abbrev pub body_block : List Instruction → ℕ → ℕ → ℕ → ℕ → PlainBlock
+body_block steps params words counters flags = record { steps = steps; params = params; words = words; counters = counters; flags = flags }
+
 -- a thread's body, and an end
 abbrev pub thread_block : PlainKernel → ℕ → Stmt → PlainBlock
 thread_block k t body =

@@ -190,12 +190,14 @@ fn emit_fork(
 fn number_of(threads: &[ThreadShape], branches: &[Launch]) -> u32
     ensures { result ≡ par_number (map plain_thread threads.now) (map branch branches.now) }
 {
-    match branches.first() {
-        Some(launch) => match threads.get(launch.thread as usize) {
-            Some(thread) => thread.par.unwrap_or(0),
-            None => 0,
-        },
-        None => 0,
+    let Some(launch) = branches.first() else {
+        return 0;
+    };
+    let first = launch.thread as usize;
+    if first < threads.len() {
+        threads[first].par.unwrap_or(0)
+    } else {
+        0
     }
 }
 

@@ -6,7 +6,7 @@ use forec_base::OutOfMemory;
 use thread_code::Instruction;
 
 /// How many instructions a code has at most: where a kernel's code would have more, there is no memory for it.
-pub const MOST_INSTRUCTIONS: usize = 8_388_608;
+pub const MOST_INSTRUCTIONS: u32 = 8_388_608;
 
 /// Writes one more instruction.
 pub fn put(steps: &mut Vec<Instruction>, instruction: Instruction) -> Result<(), OutOfMemory>
@@ -22,7 +22,7 @@ pub fn address(steps: &Vec<Instruction>) -> Result<u32, OutOfMemory>
     ensures small { IfOk result (λ p. p ≤ 8388608) }
 {
     let next = steps.len();
-    if next > MOST_INSTRUCTIONS {
+    if next > MOST_INSTRUCTIONS as usize {
         return Err(OutOfMemory);
     }
     Ok(next as u32)
