@@ -28,3 +28,5 @@ pub mod Valid
 pub mod Patch
 pub mod Copies
 pub mod Numbers
+pub mod Whole
+pub mod Written
