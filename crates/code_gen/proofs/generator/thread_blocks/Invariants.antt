@@ -1,0 +1,9 @@
+use Rattle.std.proofs.Common.{◌≡◌, map, take}
+use Rattle.forec_kernel.specs.Plain.{stmt}
+use Rattle.forec_kernel.specs.Shapes.{plain_kernel}
+use Rattle.thread_code.specs.Plain.{plain_block}
+use Rattle.code_gen.specs.Blocks.{thread_block, blocks_from}
+use Rattle.code_gen.proofs.generator.thread_blocks.Given as goal
+
+abbrev pub invariant-loop-t : goal.invariant-loop-t
+invariant-loop-t l = map plain_block l.blocks.items ≡ blocks_from (thread_block (plain_kernel l.parts)) 0 (map stmt (take l.t l.parts.threads.items))

@@ -1,0 +1,215 @@
+//! From a kernel to its code.
+
+ghost use Rattle.std.specs.Prelude.{◌≡◌, ◌≤◌, pos, ◌+◌, ◌++◌, ◌∷◌, [], length, map, take, drop, OnOk, IfOk};
+ghost use Rattle.forec_kernel.specs.Plain.{stmt, stmts};
+ghost use Rattle.forec_kernel.specs.Shapes.{plain_kernel, plain_shape, plain_thread};
+ghost use Rattle.thread_code.specs.Plain.{plain_block, plain_code};
+ghost use Rattle.thread_code.specs.Alone.{Stands};
+ghost use Rattle.code_gen.specs.Statements.{Outside, statement_code};
+ghost use Rattle.thread_code.specs.declared.instruction.Instruction.TheVariants.{End, Quiet, Return};
+ghost use Rattle.code_gen.specs.Blocks.{body_block, thread_block, function_block, blocks_from, counters_in, counters_of, flags_in, flags_of};
+
+use crate::shapes::copy_shape;
+use crate::sizes::statement_size;
+use crate::statements::{emit_statement, Around};
+use crate::writing::{put, MOST_INSTRUCTIONS};
+use forec_base::OutOfMemory;
+use forec_kernel::{FunctionShape, Kernel, KernelParts, Statement, ThreadShape};
+use std::alloc::Global;
+use thread_code::{Block, Code, CodeParts, Instruction};
+
+// A body's code, with room for an end or a return. `room` is how many more instructions the code may have.
+fn body_steps(
+    alloc: Global,
+    body: &Statement,
+    threads: &[ThreadShape],
+    room: &mut u32,
+) -> Result<Vec<Instruction>, OutOfMemory>
+    ensures { IfOk result (λ steps. steps.items ≡ statement_code (map plain_thread threads.now) Outside 0 (stmt body.now)) }
+{
+    let mut sizes = Vec::new(alloc);
+    let size = statement_size(&mut sizes, body, 0, 0)?.saturating_add(2);
+    *room = room.checked_sub(size).ok_or(OutOfMemory)?;
+    sizes.reverse();
+    let mut steps = Vec::with_capacity(alloc, size as usize)?;
+    emit_statement(&mut steps, body, &Around::Outside, 0, 0, threads, &mut sizes)?;
+    Ok(steps)
+}
+
+// How deep loops with a bound stand in one another.
+#[cycle(counters)]
+fn counters(statement: &Statement) -> Result<u32, OutOfMemory>
+    ensures { IfOk result (λ n. n ≡ counters_in (stmt statement.now)) }
+{
+    match statement {
+        Statement::Sequence { list } => counters_within(list),
+        Statement::If { yes, no, .. } => {
+            let first = counters(yes)?;
+            let second = counters(no)?;
+            Ok(first.max(second))
+        }
+        Statement::While {
+            bound: None, body, ..
+        }
+        | Statement::Enter { body, .. } => counters(body),
+        Statement::While {
+            bound: Some(_),
+            body,
+            ..
+        } => {
+            let inside = counters(body)?;
+            inside.checked_add(1).ok_or(OutOfMemory)
+        }
+        _ => Ok(0),
+    }
+}
+
+#[cycle(counters)]
+fn counters_within(list: &[Statement]) -> Result<u32, OutOfMemory>
+    ensures { IfOk result (λ n. n ≡ counters_of (stmts list.now)) }
+{
+    let mut most = 0;
+    for statement in list {
+        most = most.max(counters(statement)?);
+    }
+    Ok(most)
+}
+
+// How deep weak aborts stand in one another.
+#[cycle(flags)]
+fn flags(statement: &Statement) -> Result<u32, OutOfMemory>
+    ensures { IfOk result (λ n. n ≡ flags_in (stmt statement.now)) }
+{
+    match statement {
+        Statement::Sequence { list } => flags_within(list),
+        Statement::If { yes, no, .. } => {
+            let first = flags(yes)?;
+            let second = flags(no)?;
+            Ok(first.max(second))
+        }
+        Statement::While { body, .. }
+        | Statement::Enter {
+            weak: false, body, ..
+        } => flags(body),
+        Statement::Enter {
+            weak: true, body, ..
+        } => {
+            let inside = flags(body)?;
+            inside.checked_add(1).ok_or(OutOfMemory)
+        }
+        _ => Ok(0),
+    }
+}
+
+#[cycle(flags)]
+fn flags_within(list: &[Statement]) -> Result<u32, OutOfMemory>
+    ensures { IfOk result (λ n. n ≡ flags_of (stmts list.now)) }
+{
+    let mut most = 0;
+    for statement in list {
+        most = most.max(flags(statement)?);
+    }
+    Ok(most)
+}
+
+fn block_of_thread(
+    alloc: Global,
+    body: &Statement,
+    shape: &ThreadShape,
+    threads: &[ThreadShape],
+    room: &mut u32,
+) -> Result<Block, OutOfMemory>
+    ensures { IfOk result (λ b. plain_block b ≡ body_block (statement_code (map plain_thread threads.now) Outside 0 (stmt body.now) ++ End ∷ []) shape.now.params shape.now.words (counters_in (stmt body.now)) (flags_in (stmt body.now))) }
+{
+    let mut steps = body_steps(alloc, body, threads, room)?;
+    put(&mut steps, Instruction::End)?;
+    Ok(Block {
+        steps,
+        params: shape.params,
+        words: shape.words,
+        counters: counters(body)?,
+        flags: flags(body)?,
+    })
+}
+
+fn block_of_function(
+    alloc: Global,
+    body: &Statement,
+    shape: &FunctionShape,
+    threads: &[ThreadShape],
+    room: &mut u32,
+) -> Result<Block, OutOfMemory>
+    ensures { IfOk result (λ b. plain_block b ≡ body_block (statement_code (map plain_thread threads.now) Outside 0 (stmt body.now) ++ Quiet (pos 0) ∷ Return ∷ []) shape.now.params shape.now.words (counters_in (stmt body.now)) 0) }
+{
+    let mut steps = body_steps(alloc, body, threads, room)?;
+    put(&mut steps, Instruction::Quiet { value: 0 })?;
+    put(&mut steps, Instruction::Return)?;
+    Ok(Block {
+        steps,
+        params: shape.params,
+        words: shape.words,
+        counters: counters(body)?,
+        flags: 0,
+    })
+}
+
+fn thread_blocks(
+    alloc: Global,
+    parts: &KernelParts,
+    room: &mut u32,
+) -> Result<Vec<Block>, OutOfMemory>
+    requires { length parts.now.threads.items ≡ length parts.now.shape.threads.items }
+    ensures { IfOk result (λ bs. map plain_block bs.items ≡ blocks_from (thread_block (plain_kernel parts.now)) 0 (map stmt parts.now.threads.items)) }
+{
+    let mut blocks = Vec::new(alloc);
+    let shapes = &parts.shape.threads;
+    for t in 0..parts.threads.len() {
+        let block = block_of_thread(alloc, &parts.threads[t], &shapes[t], shapes, room)?;
+        blocks.push(block)?;
+    }
+    Ok(blocks)
+}
+
+fn function_blocks(
+    alloc: Global,
+    parts: &KernelParts,
+    room: &mut u32,
+) -> Result<Vec<Block>, OutOfMemory>
+    requires { length parts.now.functions.items ≡ length parts.now.shape.functions.items }
+    ensures { IfOk result (λ bs. map plain_block bs.items ≡ blocks_from (function_block (plain_kernel parts.now)) 0 (map stmt parts.now.functions.items)) }
+{
+    let mut blocks = Vec::new(alloc);
+    let shapes = &parts.shape.functions;
+    for f in 0..parts.functions.len() {
+        let block = block_of_function(
+            alloc,
+            &parts.functions[f],
+            &shapes[f],
+            &parts.shape.threads,
+            room,
+        )?;
+        blocks.push(block)?;
+    }
+    Ok(blocks)
+}
+
+/// The code of a kernel: it has the kernel's shape, and each thread by itself does the same with every
+/// list of jobs and replies: the same forks, jobs and replies, units included. A code that would have
+/// more than 8,388,608 instructions is answered as want of memory, which is the only other answer.
+///
+/// A pause has the tests of all aborts round it behind it, which are made at each wake: so code can be
+/// far larger than its kernel.
+pub fn generate(alloc: Global, kernel: &Kernel) -> Result<Code, OutOfMemory>
+    ensures { IfOk result (λ code. Stands (plain_code code) (plain_kernel kernel.now)) }
+{
+    let parts = kernel.parts();
+    let mut room = MOST_INSTRUCTIONS;
+    let threads = thread_blocks(alloc, parts, &mut room)?;
+    let functions = function_blocks(alloc, parts, &mut room)?;
+    let shape = copy_shape(alloc, &parts.shape)?;
+    Ok(Code::of(CodeParts {
+        shape,
+        threads,
+        functions,
+    }))
+}
