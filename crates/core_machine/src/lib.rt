@@ -1,0 +1,4 @@
+//! The machine that runs one thread of a code.
+#![tactic(auto)]
+
+mod stack;
