@@ -1,4 +1,6 @@
 //! The machine that runs one thread of a code.
 #![tactic(auto)]
 
+mod acts;
+mod own;
 mod stack;
