@@ -1,3 +1,4 @@
 pub mod Frames
 pub mod Kept
 pub mod Acts
+pub mod Stretch

@@ -4,3 +4,4 @@
 mod acts;
 mod own;
 mod stack;
+mod stretch;
