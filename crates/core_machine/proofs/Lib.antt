@@ -1,2 +1,4 @@
 pub mod FrameLemmas
 pub mod Steps
+pub mod Advance
+pub mod Living
