@@ -1,4 +1,7 @@
 pub mod FrameLemmas
 pub mod Steps
+pub mod Outer
+pub mod Calls
+pub mod Moving
 pub mod Advance
 pub mod Living

@@ -2,3 +2,4 @@ pub mod Frames
 pub mod Kept
 pub mod Acts
 pub mod Stretch
+pub mod Held

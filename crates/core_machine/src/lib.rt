@@ -5,3 +5,4 @@ mod acts;
 mod own;
 mod stack;
 mod stretch;
+mod thread;
