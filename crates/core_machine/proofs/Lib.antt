@@ -1,6 +1,7 @@
 pub mod FrameLemmas
 pub mod Steps
 pub mod Outer
+pub mod Deep
 pub mod Calls
 pub mod Moving
 pub mod Jobs

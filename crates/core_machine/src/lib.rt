@@ -3,6 +3,7 @@
 
 mod acts;
 mod own;
+mod room;
 mod stack;
 mod stretch;
 mod thread;
