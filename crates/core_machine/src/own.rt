@@ -1,7 +1,7 @@
 //! What a thread has beside its frames: copies of variables, flags, and its living branches.
 
-ghost use Rattle.std.specs.Prelude.{◌≡◌, ◌<◌, ◌≤◌, length, get_or, true, false};
-ghost use Rattle.core_machine.specs.Kept.{Kept, place_in, no_copy, with_copy, with_flag, begun, with_copies};
+ghost use Rattle.std.specs.Prelude.{◌≡◌, ◌<◌, ◌≤◌, length, get_or, true, false, IfOk};
+ghost use Rattle.core_machine.specs.Kept.{Kept, AreIndexed, place_in, no_copy, with_copy, with_flag, begun, with_copies};
 
 use forec_base::OutOfMemory;
 use forec_kernel::VarCopy;
@@ -27,7 +27,45 @@ impl Model for Own {
     ghost view = { λ k. kept_of k.copies.items k.places.items k.flags.items k.live.items };
 }
 
+/// Where the copies of these variables stand, for variable numbers from 0 on.
+fn places_of(alloc: Global, uses: &[u32]) -> Result<Vec<u32>, OutOfMemory>
+    ensures { IfOk result (λ places. AreIndexed uses.now places.items) }
+{
+    let most = uses.iter().copied().max().map_or(0, |v| v as usize + 1);
+    let count = u32::try_from(uses.len()).map_err(|_| OutOfMemory)?;
+    let mut places = vec![in alloc; 0; most]?;
+    let mut i = count;
+    while i > 0 {
+        i -= 1;
+        places[uses[i as usize] as usize] = i;
+    }
+    Ok(places)
+}
+
 impl Own {
+    /// A copy for each of these variables, so many flags, and a note for so many threads.
+    ///
+    /// # Errors
+    ///
+    /// Want of memory.
+    pub fn new(alloc: Global, uses: &[u32], flags: u32, threads: usize) -> Result<Own, OutOfMemory>
+        ensures copies { IfOk result (λ k. length k.copies ≡ length uses.now) }
+        ensures places { IfOk result (λ k. AreIndexed uses.now k.places) }
+        ensures flags { IfOk result (λ k. length k.flags ≡ flags) }
+        ensures live { IfOk result (λ k. length k.live ≡ threads) }
+    {
+        let unset = VarCopy {
+            value: 0,
+            modified: false,
+        };
+        Ok(Own {
+            copies: vec![in alloc; unset; uses.len()]?,
+            places: places_of(alloc, uses)?,
+            flags: vec![in alloc; false; flags as usize]?,
+            live: vec![in alloc; false; threads]?,
+        })
+    }
+
     /// The thread's own copy of a variable that it uses.
     pub fn copy(&self, variable: u32) -> i32
         requires known { variable < length self.now.places }
