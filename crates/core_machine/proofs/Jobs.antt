@@ -7,8 +7,10 @@ use Rattle.std.proofs.lemmas.Option.{slice_get-get_or}
 use Rattle.forec_base.specs.declared.Place.{Place}
 use Rattle.forec_base.specs.declared.Trap.{Trap}
 use Rattle.forec_kernel.specs.declared.shape.VarCopy.{VarCopy}
+use Rattle.forec_kernel.specs.declared.shape.ThreadShape.{ThreadShape}
+use Rattle.forec_kernel.specs.Shapes.{plain_thread}
 use Rattle.forec_kernel.specs.Values.{fresh_words}
-use Rattle.forec_kernel.specs.Texts.{params_in, words_in}
+use Rattle.forec_kernel.specs.Texts.{params_in, words_in, uses_in}
 use Rattle.forec_kernel.specs.Packets.{PlainPacket}
 use Rattle.forec_kernel.specs.Packed.{HasRoom, IsJob, IsReply}
 use Rattle.forec_kernel.specs.Solo.{unmarked_copies}
@@ -115,7 +117,14 @@ module _ (c : PlainCode) (valid : IsValidCode c) (h : Thread) (l : Loaded c h) (
   pub start_begun : p.allowance ≤ 2 ^ 62 → Begun c h started_thread (started_anew c h p) p.allowance
   start_begun small = record {
     loaded = record {
-      thread = l.thread; short = l.short; needs = l.needs; each = l.each; need = l.need; own = l.own; room = l.room; most = l.most;
+      thread = l.thread;
+      short = l.short;
+      needs = l.needs;
+      each = l.each;
+      need = l.need;
+      own = l.own;
+      room = l.room;
+      most = l.most;
       serves = serves;
       small = small;
       units = omega arith;
@@ -144,10 +153,23 @@ module _ (c : PlainCode) (h : Thread) (l : Loaded c h) (asleep : HasPaused h) (p
       let w = placed_here.0 in
       record {
         at = record {
-          sound = w.at.sound; here = w.at.here; deep = w.at.deep; bound = w.at.bound; room = w.at.room; counted = w.at.counted; words = w.at.words; counters = w.at.counters;
+          sound = w.at.sound;
+          here = w.at.here;
+          deep = w.at.deep;
+          bound = w.at.bound;
+          room = w.at.room;
+          counted = w.at.counted;
+          words = w.at.words;
+          counters = w.at.counters;
           serves = woken_serves;
         };
-        base = w.base; ends = w.ends; need = w.need; enough = w.enough; fits = w.fits; chained = w.chained; below = w.below;
+        base = w.base;
+        ends = w.ends;
+        need = w.need;
+        enough = w.enough;
+        fits = w.fits;
+        chained = w.chained;
+        below = w.below;
       }
 
   pub wake_begun : p.allowance ≤ 2 ^ 62 → Begun c h woken_thread (woken_up c h p) p.allowance
@@ -157,7 +179,14 @@ module _ (c : PlainCode) (h : Thread) (l : Loaded c h) (asleep : HasPaused h) (p
       let o : Own = record { copies = p.copies.items; flags = h.own.flags; live = h.own.live } in
       record {
         loaded = record {
-          thread = l.thread; short = l.short; needs = l.needs; each = l.each; need = l.need; own = l.own; room = l.room; most = l.most;
+          thread = l.thread;
+          short = l.short;
+          needs = l.needs;
+          each = l.each;
+          need = l.need;
+          own = l.own;
+          room = l.room;
+          most = l.most;
           serves = woken_serves;
           small = small;
           units = omega arith;
@@ -167,7 +196,7 @@ module _ (c : PlainCode) (h : Thread) (l : Loaded c h) (asleep : HasPaused h) (p
         number = refl;
         allowance = refl;
         machine = ap (λ g. On (point_of (block_for c h.number g) h.at h.stack) (callers c h.number h.stack.below) o 0) own
-        ∙ ap (λ ws. On (point_of (block_of c h.number) h.at h.stack) (callers c h.number ws) o 0) nothing;
+            ∙ ap (λ ws. On (point_of (block_of c h.number) h.at h.stack) (callers c h.number ws) o 0) nothing;
       }
 
 -- ---- where a thread stands
@@ -233,7 +262,7 @@ module _ (c : PlainCode) (valid : IsValidCode c) (h : Thread) (l : Loaded c h) w
       (λ le. record {
         rest = rest_in c h h.phase;
         reached = answered ys job before (machine_of c h) (reply_in h h.phase) (rest_in c h h.phase) reached (omega (arith, le, al, units_are c h l))
-        (closes_in c h h.phase (not_fresh c valid h l ys job before reached) rests le);
+            (closes_in c h h.phase (not_fresh c valid h l ys job before reached) rests le);
         asleep = λ a. ap (rest_in c h) a.phase ∙ ap Asleep (sym (ap (machine_in c h) a.phase));
       })
       (cases_lt h.allowance h.units)
@@ -252,7 +281,7 @@ module _ (c : PlainCode) (h : Thread) (l : Loaded c h) where
         record {
           outputs = t.0 ++ o ∷ [];
           runs = alone_of Machine e (ys ++ record { job = job; replies = before } ∷ []) Nothing (rest_in c h h.phase) (t.0 ++ o ∷ [])
-          (alone_snoc Machine e ys (record { job = job; replies = before }) Nothing t.1 (rest_in c h h.phase) t.0 t.2 o t.4 t.5 serves);
+              (alone_snoc Machine e ys (record { job = job; replies = before }) Nothing t.1 (rest_in c h h.phase) t.0 t.2 o t.4 t.5 serves);
           reply = reply_in h h.phase;
           last = last_of t.0 o;
           is = is;
@@ -268,7 +297,7 @@ module _ (c : PlainCode) (h : Thread) (l : Loaded c h) where
         record {
           outputs = t.0 ++ o ∷ [];
           runs = alone_of Machine e (ys ++ record { job = job; replies = before } ∷ []) Nothing Nothing (t.0 ++ o ∷ [])
-          (alone_snoc Machine e ys (record { job = job; replies = before }) Nothing t.1 Nothing t.0 t.2 o t.4 t.5 serves);
+              (alone_snoc Machine e ys (record { job = job; replies = before }) Nothing t.1 Nothing t.0 t.2 o t.4 t.5 serves);
           reply = WasOver;
           last = last_of t.0 o;
           is = is;
@@ -403,3 +432,10 @@ not_fresh_after c h l r (comes s le v) fresh = let w = sym v ∙ ap (λ q. event
 
 pub run_left : (c : PlainCode) (h h' : Thread) (r : Event) → Comes_to c h h' r → Left_by h' r
 run_left c h h' r k = left_shown c h' k.moved.loaded (not_fresh_after c h' k.moved.loaded r k.shown) r k.shown
+
+-- ---- a thread that was never started
+
+pub read_uses : (xs : List ThreadShape) (t : ℕ) (x : ThreadShape) → t < length xs → x ≡ get_or xs t x → uses_in (map plain_thread xs) t ≡ x.uses.items
+read_uses [] t x lt e = absurd (omega arith)
+read_uses (y ∷ ys) zero x lt e = ap (λ (s : ThreadShape). s.uses.items) (sym e)
+read_uses (y ∷ ys) (suc t) x lt e = read_uses ys t x (omega arith) e

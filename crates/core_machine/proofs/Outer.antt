@@ -115,9 +115,23 @@ fork_own c t g a w at within i is (is_again j to some e) = let f = fine c t g a 
 pub works_at : (c : PlainCode) (t : ℕ) (needs : List ℕ) (g : Option ℕ) (w : Work) → Works c t needs g w → (q : ℕ) → Comes c (block_for c t g) q (length w.frames.stack) → Works c t needs g (work q w.frames w.kept w.units)
 works_at c t needs g w r q here = record {
   at = record {
-    sound = r.at.sound; here = here; deep = r.at.deep; bound = r.at.bound; room = r.at.room; counted = r.at.counted; words = r.at.words; counters = r.at.counters; serves = r.at.serves;
+    sound = r.at.sound;
+    here = here;
+    deep = r.at.deep;
+    bound = r.at.bound;
+    room = r.at.room;
+    counted = r.at.counted;
+    words = r.at.words;
+    counters = r.at.counters;
+    serves = r.at.serves;
   };
-  base = r.base; ends = r.ends; need = r.need; enough = r.enough; fits = r.fits; chained = r.chained; below = r.below;
+  base = r.base;
+  ends = r.ends;
+  need = r.need;
+  enough = r.enough;
+  fits = r.fits;
+  chained = r.chained;
+  below = r.below;
 }
 
 module _ (c : PlainCode) (h : Thread) (l : Loaded c h) (run : h.phase ≡ phase.Running) where
@@ -135,7 +149,16 @@ module _ (c : PlainCode) (h : Thread) (l : Loaded c h) (run : h.phase ≡ phase.
     pub trap_moved : Moved c h trapped
     trap_moved = record {
       loaded = record {
-        thread = l.thread; short = l.short; needs = l.needs; each = l.each; need = l.need; own = l.own; room = l.room; most = l.most; serves = l.serves; small = l.small;
+        thread = l.thread;
+        short = l.short;
+        needs = l.needs;
+        each = l.each;
+        need = l.need;
+        own = l.own;
+        room = l.room;
+        most = l.most;
+        serves = l.serves;
+        small = l.small;
         units = omega (arith, s.0.small, s.1);
         placed = tt;
       };
@@ -153,7 +176,16 @@ module _ (c : PlainCode) (h : Thread) (l : Loaded c h) (run : h.phase ≡ phase.
     pub end_moved : Moved c h ended
     end_moved = record {
       loaded = record {
-        thread = l.thread; short = l.short; needs = l.needs; each = l.each; need = l.need; own = l.own; room = l.room; most = l.most; serves = l.serves; small = l.small;
+        thread = l.thread;
+        short = l.short;
+        needs = l.needs;
+        each = l.each;
+        need = l.need;
+        own = l.own;
+        room = l.room;
+        most = l.most;
+        serves = l.serves;
+        small = l.small;
         units = l.units;
         placed = tt;
       };
@@ -161,7 +193,7 @@ module _ (c : PlainCode) (h : Thread) (l : Loaded c h) (run : h.phase ≡ phase.
       allowance = refl;
       count = 1;
       lands = ap (step c h.number) machine_runs
-      ∙ ap (λ i. act c h.number i (point_of (block_for c h.number h.function) h.at h.stack) (callers c h.number h.stack.below) (own_of h.own) h.units) s.is;
+          ∙ ap (λ i. act c h.number i (point_of (block_for c h.number h.function) h.at h.stack) (callers c h.number h.stack.below) (own_of h.own) h.units) s.is;
       rises = omega arith;
     }
 
@@ -177,7 +209,16 @@ module _ (c : PlainCode) (h : Thread) (l : Loaded c h) (run : h.phase ≡ phase.
         let w = works_at c h.number l.needs h.function (work_of h) works to (next h.at (length h.stack.stack) (instruction.Pause to) to works.at.here s.is refl) in
         record {
           loaded = record {
-            thread = l.thread; short = l.short; needs = l.needs; each = l.each; need = l.need; own = l.own; room = l.room; most = l.most; serves = l.serves; small = l.small;
+            thread = l.thread;
+            short = l.short;
+            needs = l.needs;
+            each = l.each;
+            need = l.need;
+            own = l.own;
+            room = l.room;
+            most = l.most;
+            serves = l.serves;
+            small = l.small;
             units = l.units;
             placed = (subst (λ g. Works c h.number l.needs g (work to h.stack h.own h.units)) pause_own w, pause_own);
           };
@@ -185,8 +226,8 @@ module _ (c : PlainCode) (h : Thread) (l : Loaded c h) (run : h.phase ≡ phase.
           allowance = refl;
           count = 1;
           lands = ap (step c h.number) machine_runs
-          ∙ ap (λ i. act c h.number i (point_of (block_for c h.number h.function) h.at h.stack) (callers c h.number h.stack.below) (own_of h.own) h.units) s.is
-          ∙ ap (λ g. Paused (point_of (block_for c h.number g) to h.stack) (own_of h.own) h.units) pause_own;
+              ∙ ap (λ i. act c h.number i (point_of (block_for c h.number h.function) h.at h.stack) (callers c h.number h.stack.below) (own_of h.own) h.units) s.is
+              ∙ ap (λ g. Paused (point_of (block_for c h.number g) to h.stack) (own_of h.own) h.units) pause_own;
           rises = omega arith;
         }
 
@@ -221,7 +262,16 @@ module _ (c : PlainCode) (h : Thread) (l : Loaded c h) (run : h.phase ≡ phase.
         let none = empty_of h.stack.below works_own.chained in
         record {
           loaded = record {
-            thread = l.thread; short = l.short; needs = l.needs; each = l.each; need = l.need; own = l.own; room = l.room; most = l.most; serves = l.serves; small = l.small;
+            thread = l.thread;
+            short = l.short;
+            needs = l.needs;
+            each = l.each;
+            need = l.need;
+            own = l.own;
+            room = l.room;
+            most = l.most;
+            serves = l.serves;
+            small = l.small;
             units = omega (arith, s.3, s.1.within, small_cost s.0 kind);
             placed = record {
               works = works_own;
@@ -238,8 +288,8 @@ module _ (c : PlainCode) (h : Thread) (l : Loaded c h) (run : h.phase ≡ phase.
           allowance = refl;
           count = 1;
           lands = ap (step c h.number)
-          (machine_runs ∙ ap (λ g. machine_at (block_for c h.number g) (callers c h.number h.stack.below) (work_of h)) fork_is_own
-          ∙ ap (λ ws. machine_at (block_of c h.number) (callers c h.number ws) (work_of h)) none);
+              (machine_runs ∙ ap (λ g. machine_at (block_for c h.number g) (callers c h.number h.stack.below) (work_of h)) fork_is_own
+              ∙ ap (λ ws. machine_at (block_of c h.number) (callers c h.number ws) (work_of h)) none);
           rises = omega (arith, s.3);
         }
 
@@ -273,7 +323,12 @@ module _ (c : PlainCode) (h : Thread) (l : Loaded c h) (run : h.phase ≡ phase.
     run_stretches s shows = record {
       moved = record {
         loaded = record {
-          thread = l.thread; short = l.short; needs = l.needs; each = l.each; need = l.need; own = l.own;
+          thread = l.thread;
+          short = l.short;
+          needs = l.needs;
+          each = l.each;
+          need = l.need;
+          own = l.own;
           room = omega (arith, l.room, r.keeps.room);
           most = omega (arith, l.most, r.keeps.most);
           serves = r.at.serves;
@@ -285,7 +340,7 @@ module _ (c : PlainCode) (h : Thread) (l : Loaded c h) (run : h.phase ≡ phase.
         allowance = refl;
         count = r.count;
         lands = ap (run_for (step c h.number) r.count) machine_runs ∙ r.lands (callers c h.number h.stack.below)
-        ∙ ap (λ ws. machine_at (block_for c h.number h.function) (callers c h.number ws) w) (sym r.keeps.below) ∙ sym (ap (machine_in c went) run);
+            ∙ ap (λ ws. machine_at (block_for c h.number h.function) (callers c h.number ws) w) (sym r.keeps.below) ∙ sym (ap (machine_in c went) run);
         rises = r.rises;
       };
       running = run;

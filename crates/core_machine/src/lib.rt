@@ -7,3 +7,5 @@ mod room;
 mod stack;
 mod stretch;
 mod thread;
+
+pub use thread::{Event, Thread};

@@ -1,10 +1,10 @@
 //! How many numbers the frames of a thread can hold together.
 
-ghost use Rattle.std.specs.Prelude.{◌≡◌, ◌<◌, ◌≤◌, ◌^◌, ℕ, length, get_or, slice_get, true, Some, IfSome, IfOk, IfSome};
+ghost use Rattle.std.specs.Prelude.{◌≡◌, ◌<◌, ◌≤◌, ◌^◌, ℕ, Option, length, get_or, slice_get, true, Some, IfSome, IfOk, IfSome};
 ghost use Rattle.thread_code.specs.Plain.{plain_code, plain_block};
 ghost use Rattle.thread_code.specs.Valid.{IsValidCode};
 ghost use Rattle.thread_code.specs.declared.instruction.Instruction.TheVariants as instruction;
-ghost use Rattle.core_machine.specs.Stretch.{block_for, IsDeep};
+ghost use Rattle.core_machine.specs.Stretch.{no_block, block_for, IsDeep};
 ghost use Rattle.core_machine.specs.Room.{Enough, IsIn};
 
 use crate::stretch::{Site, block_at};
@@ -20,6 +20,33 @@ fn deepest(site: &Site<'_>) -> u64
     ensures { IsDeep (plain_code site.now.code.now) (block_for (plain_code site.now.code.now) site.now.thread site.now.function) result }
 {
     site.block.steps.len() as u64
+}
+
+fn is_short(block: &Block) -> bool
+    ensures { result ≡ true → length (plain_block block.now).steps < 2 ^ 32 }
+{
+    block.steps.len() <= u32::MAX as usize
+}
+
+/// Whether each address of each function fits 32 bits.
+fn are_short(code: &CodeParts) -> bool
+    ensures { result ≡ true → (f : ℕ) → f < length (plain_code code.now).functions → length (get_or (plain_code code.now).functions f no_block).steps < 2 ^ 32 }
+{
+    for function in 0..code.functions.len() {
+        if !is_short(&code.functions[function]) {
+            return false;
+        }
+    }
+    true
+}
+
+/// Whether each address of each function and of the thread fits 32 bits.
+pub fn has_addresses(code: &CodeParts, thread: u32) -> bool
+    requires { thread < length (plain_code code.now).threads }
+    ensures { result ≡ true → (g : Option ℕ) → length (block_for (plain_code code.now) thread g).steps < 2 ^ 32 }
+{
+    let short = is_short(block_at(code, thread, None));
+    short && are_short(code)
 }
 
 /// What a function needs, by a table of it; 0 where the table ends before.
@@ -54,7 +81,8 @@ pub fn frame_need(site: &Site<'_>, needs: &[u64]) -> Option<u64>
     ensures { IfSome result (λ n. Enough (plain_code site.now.code.now) (block_for (plain_code site.now.code.now) site.now.thread site.now.function) needs.now n) }
 {
     let own = site.block.words as u64 + site.block.counters as u64;
-    own.checked_add(deepest(site))?.checked_add(most_called(site.block, needs))
+    own.checked_add(deepest(site))?
+        .checked_add(most_called(site.block, needs))
 }
 
 /// Fills the table at a function, after those that it calls, `fuel` calls deep at most.
