@@ -1,0 +1,10 @@
+pub mod FrameLemmas
+pub mod Steps
+pub mod Indexed
+pub mod Outer
+pub mod Deep
+pub mod Calls
+pub mod Moving
+pub mod Jobs
+pub mod Advance
+pub mod Living

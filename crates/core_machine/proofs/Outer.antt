@@ -1,0 +1,350 @@
+-- The events of a thread's run.
+use Rattle.std.proofs.Common.{◌≡◌, ◌≢◌, ℕ, zero, suc, ◌+◌, ◌-◌, ◌*◌, ◌<◌, ◌≤◌, ◌^◌, List, [], ◌∷◌, length, Option, Some, None, Bool, true, false, refl, sym, ap, ◌∙◌, subst, arith}
+use Rattle.std.specs.Prelude.{ℤ, slice_get, get_or, IsSome}
+use Rattle.forec_base.specs.declared.Place.{Place}
+use Rattle.forec_base.specs.declared.Trap.{Trap}
+use Rattle.forec_kernel.specs.Engine.{run_for}
+use Rattle.thread_code.specs.declared.instruction.Instruction.{Instruction}
+use Rattle.thread_code.specs.declared.instruction.Instruction.TheVariants as instruction
+use Rattle.thread_code.specs.Plain.{PlainBlock, PlainCode}
+use Rattle.thread_code.specs.Valid.{cost, IsFine, branches_in, arguments_of}
+use Rattle.thread_code.specs.Machine.{Point, Frame, Own, Awaited, Machine, On, Waits, Paused, Ended, Trapped, with_arguments, awaited, starts, wakes, waking, living, uses_of, act, step}
+use Rattle.thread_code.specs.Alone.{block_of, view_of, units_of}
+use Rattle.core_machine.specs.Frames.{Waiting, Frames, arguments, without}
+use Rattle.core_machine.specs.Kept.{Kept, own_of}
+use Rattle.core_machine.specs.Stretch.{block_for, owner, scope_for, Comes, next, Work, work, point_of, machine_at, IsAt, Keeps, Stands_before, Forks, Traps, Shows, Runs}
+use Rattle.core_machine.specs.declared.stretch.Stop.{Stop}
+use Rattle.core_machine.specs.declared.stretch.Stop.TheVariants as stop
+use Rattle.core_machine.specs.declared.thread.Thread.{Thread}
+use Rattle.core_machine.specs.declared.thread.Phase.TheVariants as phase
+use Rattle.core_machine.specs.declared.thread.Event.TheVariants as event
+use Rattle.core_machine.specs.Held.{work_of, callers, machine_in, machine_of, Chained, Below, Works, Waits_at, Placed, Loaded, Moved, Stretches, event_of}
+use Rattle.core_machine.proofs.Steps.{fine}
+
+-- ---- lists
+
+pub empty_of : {A : Type 0} → (xs : List A) → length xs ≡ 0 → xs ≡ []
+empty_of [] h = refl
+empty_of (x ∷ xs) h = absurd (omega arith)
+
+pub args_act : (n : ℕ) (stack args : List ℤ) (u : ℕ) (go : List ℤ → List ℤ → Machine) → n ≤ length stack → with_arguments n stack args u go ≡ go (arguments n stack args) (without n stack)
+args_act zero stack args u go le = refl
+args_act (suc n) [] args u go le = absurd (omega arith)
+args_act (suc n) (x ∷ rest) args u go le = args_act n rest (x ∷ args) u go (omega arith)
+
+-- the block of a thread
+pub own_block : (t : ℕ) (g : Option ℕ) → IsSome (owner t g) → g ≡ None
+own_block t None h = refl
+own_block t (Some f) h = cc
+
+pub is_owned : (t : ℕ) (g : Option ℕ) (n : ℕ) → owner t g ≡ Some n → g ≡ None
+is_owned t None n h = refl
+is_owned t (Some f) n h = cc
+
+-- ---- the instructions at which branches wait
+
+data Fork_kind (c : PlainCode) (k : Kept) (i : Instruction) : Type 0 where
+  is_fork : (j to : ℕ) → i ≡ instruction.Fork j to → Fork_kind c k i
+  is_again : (j to : ℕ) → living k.live (branches_in c.shape j) ≢ [] → i ≡ instruction.Again j to → Fork_kind c k i
+
+module _ (c : PlainCode) (k : Kept) where
+  fork_kind : (i : Instruction) → Forks c i k → Fork_kind c k i
+  fork_kind (instruction.Push n) h = absurd h
+  fork_kind (instruction.Quiet n) h = absurd h
+  fork_kind (instruction.Load x) h = absurd h
+  fork_kind (instruction.Store x) h = absurd h
+  fork_kind (instruction.LoadAt x n place) h = absurd h
+  fork_kind (instruction.StoreAt x n place) h = absurd h
+  fork_kind (instruction.Clear x n) h = absurd h
+  fork_kind (instruction.Table n place) h = absurd h
+  fork_kind (instruction.Get v) h = absurd h
+  fork_kind (instruction.Put v) h = absurd h
+  fork_kind (instruction.Unary op) h = absurd h
+  fork_kind (instruction.Binary op place) h = absurd h
+  fork_kind instruction.Truth h = absurd h
+  fork_kind (instruction.Zero to) h = absurd h
+  fork_kind (instruction.NonZero to) h = absurd h
+  fork_kind (instruction.Jump to) h = absurd h
+  fork_kind (instruction.Unit n) h = absurd h
+  fork_kind (instruction.Fill x n) h = absurd h
+  fork_kind (instruction.Turn x place) h = absurd h
+  fork_kind (instruction.Flag f n) h = absurd h
+  fork_kind (instruction.Keep f) h = absurd h
+  fork_kind (instruction.Flagged f to) h = absurd h
+  fork_kind (instruction.Fork j to) h = is_fork j to refl
+  fork_kind (instruction.Again j to) h = is_again j to h refl
+  fork_kind (instruction.Pause to) h = absurd h
+  fork_kind instruction.End h = absurd h
+  fork_kind (instruction.Call f) h = absurd h
+  fork_kind instruction.Return h = absurd h
+
+-- ---- a machine that waits for branches
+
+record Waits_for (c : PlainCode) (t : ℕ) (i : Instruction) (w : Work) : Type 0 where
+  for : Awaited
+  steps : act c t (Some i) (point_of (block_of c t) w.at w.frames) [] (own_of w.kept) w.units ≡ Waits for (own_of w.kept) (w.units + cost i)
+
+wakes_some : (c : PlainCode) (t : ℕ) (bs : List ℕ) → bs ≢ [] → (to : ℕ) (p : Point) (o : Own) (u : ℕ) → (for : Awaited) × (waking c t bs to p [] o u ≡ Waits for o u)
+wakes_some c t [] h to p o u = absurd (h refl)
+wakes_some c t (b ∷ bs) h to p o u = (awaited (b ∷ bs) (wakes c t o.copies (b ∷ bs)) p to p.stack, refl)
+
+module _ (c : PlainCode) (t : ℕ) (a : ℕ) (w : Work) (at : IsAt c t None w) (within : w.units ≤ a) where
+  waits_for : (i : Instruction) → slice_get (block_of c t).steps w.at ≡ Some i → Fork_kind c w.kept i → Waits_for c t i w
+  waits_for i is (is_fork j to e) =
+      let f = fine c t None a w at within (instruction.Fork j to) (is ∙ ap Some e) in
+      let p = point_of (block_of c t) w.at w.frames in
+      let bs = branches_in c.shape j in
+      let go : List ℤ → List ℤ → Machine = λ args rest. Waits (awaited bs (starts c t w.kept.copies bs args) p to rest) (own_of w.kept) (w.units + 1) in
+      subst (λ i. Waits_for c t i w) (sym e)
+      (record {
+        for = awaited bs (starts c t w.kept.copies bs (arguments (arguments_of c.shape bs) w.frames.stack [])) p to (without (arguments_of c.shape bs) w.frames.stack);
+        steps = args_act (arguments_of c.shape bs) w.frames.stack [] w.units go f.1;
+      })
+  waits_for i is (is_again j to some e) =
+      let h = wakes_some c t (living w.kept.live (branches_in c.shape j)) some to (point_of (block_of c t) w.at w.frames) (own_of w.kept) w.units in
+      let z : w.units ≡ w.units + 0 = omega arith in
+      subst (λ i. Waits_for c t i w) (sym e) (record { for = h.0; steps = h.1 ∙ ap (Waits h.0 (own_of w.kept)) z })
+
+-- whose block it is
+fork_own : (c : PlainCode) (t : ℕ) (g : Option ℕ) (a : ℕ) (w : Work) (at : IsAt c t g w) (within : w.units ≤ a) (i : Instruction) → slice_get (block_for c t g).steps w.at ≡ Some i → Fork_kind c w.kept i → g ≡ None
+fork_own c t g a w at within i is (is_fork j to e) = let f = fine c t g a w at within (instruction.Fork j to) (is ∙ ap Some e) in is_owned t g f.0.owner f.0.is
+fork_own c t g a w at within i is (is_again j to some e) = let f = fine c t g a w at within (instruction.Again j to) (is ∙ ap Some e) in is_owned t g f.0.owner f.0.is
+
+-- ---- the thread goes on
+
+pub works_at : (c : PlainCode) (t : ℕ) (needs : List ℕ) (g : Option ℕ) (w : Work) → Works c t needs g w → (q : ℕ) → Comes c (block_for c t g) q (length w.frames.stack) → Works c t needs g (work q w.frames w.kept w.units)
+works_at c t needs g w r q here = record {
+  at = record {
+    sound = r.at.sound;
+    here = here;
+    deep = r.at.deep;
+    bound = r.at.bound;
+    room = r.at.room;
+    counted = r.at.counted;
+    words = r.at.words;
+    counters = r.at.counters;
+    serves = r.at.serves;
+  };
+  base = r.base;
+  ends = r.ends;
+  need = r.need;
+  enough = r.enough;
+  fits = r.fits;
+  chained = r.chained;
+  below = r.below;
+}
+
+module _ (c : PlainCode) (h : Thread) (l : Loaded c h) (run : h.phase ≡ phase.Running) where
+  pub works : Works c h.number l.needs h.function (work_of h)
+  works = subst (Placed c l.needs h) run l.placed
+
+  pub machine_runs : machine_of c h ≡ machine_at (block_for c h.number h.function) (callers c h.number h.stack.below) (work_of h)
+  machine_runs = ap (machine_in c h) run
+
+  -- a trap
+  module _ (place : Place) (trap : Trap) (units : ℕ) (s : Shows c h.number h.function h.allowance (work_of h) (stop.Traps place trap units)) where
+    abbrev trapped : Thread
+    trapped = record { number = h.number; phase = phase.Trapped place trap; function = h.function; at = h.at; stack = h.stack; own = h.own; units = units; allowance = h.allowance }
+
+    pub trap_moved : Moved c h trapped
+    trap_moved = record {
+      loaded = record {
+        thread = l.thread;
+        short = l.short;
+        needs = l.needs;
+        each = l.each;
+        need = l.need;
+        own = l.own;
+        room = l.room;
+        most = l.most;
+        serves = l.serves;
+        small = l.small;
+        units = omega (arith, s.0.small, s.1);
+        placed = tt;
+      };
+      number = refl;
+      allowance = refl;
+      count = 1;
+      lands = ap (step c h.number) machine_runs ∙ s.0.steps (callers c h.number h.stack.below);
+      rises = s.0.rises;
+    }
+
+  module _ (s : Stands_before (block_for c h.number h.function) h.allowance (work_of h) instruction.End) where
+    abbrev ended : Thread
+    ended = record { number = h.number; phase = phase.Ended; function = h.function; at = h.at; stack = h.stack; own = h.own; units = h.units; allowance = h.allowance }
+
+    pub end_moved : Moved c h ended
+    end_moved = record {
+      loaded = record {
+        thread = l.thread;
+        short = l.short;
+        needs = l.needs;
+        each = l.each;
+        need = l.need;
+        own = l.own;
+        room = l.room;
+        most = l.most;
+        serves = l.serves;
+        small = l.small;
+        units = l.units;
+        placed = tt;
+      };
+      number = refl;
+      allowance = refl;
+      count = 1;
+      lands = ap (step c h.number) machine_runs
+          ∙ ap (λ i. act c h.number i (point_of (block_for c h.number h.function) h.at h.stack) (callers c h.number h.stack.below) (own_of h.own) h.units) s.is;
+      rises = omega arith;
+    }
+
+  module _ (to : ℕ) (s : Stands_before (block_for c h.number h.function) h.allowance (work_of h) (instruction.Pause to)) where
+    abbrev paused : Thread
+    paused = record { number = h.number; phase = phase.Paused; function = h.function; at = to; stack = h.stack; own = h.own; units = h.units; allowance = h.allowance }
+
+    pause_own : h.function ≡ None
+    pause_own = own_block h.number h.function (fine c h.number h.function h.allowance (work_of h) works.at s.within (instruction.Pause to) s.is).0
+
+    pub pause_moved : Moved c h paused
+    pause_moved =
+        let w = works_at c h.number l.needs h.function (work_of h) works to (next h.at (length h.stack.stack) (instruction.Pause to) to works.at.here s.is refl) in
+        record {
+          loaded = record {
+            thread = l.thread;
+            short = l.short;
+            needs = l.needs;
+            each = l.each;
+            need = l.need;
+            own = l.own;
+            room = l.room;
+            most = l.most;
+            serves = l.serves;
+            small = l.small;
+            units = l.units;
+            placed = (subst (λ g. Works c h.number l.needs g (work to h.stack h.own h.units)) pause_own w, pause_own);
+          };
+          number = refl;
+          allowance = refl;
+          count = 1;
+          lands = ap (step c h.number) machine_runs
+              ∙ ap (λ i. act c h.number i (point_of (block_for c h.number h.function) h.at h.stack) (callers c h.number h.stack.below) (own_of h.own) h.units) s.is
+              ∙ ap (λ g. Paused (point_of (block_for c h.number g) to h.stack) (own_of h.own) h.units) pause_own;
+          rises = omega arith;
+        }
+
+  module _ (units : ℕ) (s : Shows c h.number h.function h.allowance (work_of h) (stop.Forks units)) where
+    abbrev forked : Thread
+    forked = record { number = h.number; phase = phase.Forked h.units; function = h.function; at = h.at; stack = h.stack; own = h.own; units = units; allowance = h.allowance }
+
+    kind : Fork_kind c h.own s.0
+    kind = fork_kind c h.own s.0 s.2
+
+    fork_is_own : h.function ≡ None
+    fork_is_own = fork_own c h.number h.function h.allowance (work_of h) works.at s.1.within s.0 s.1.is kind
+
+    works_own : Works c h.number l.needs None (work_of h)
+    works_own = subst (λ g. Works c h.number l.needs g (work_of h)) fork_is_own works
+
+    is_own : slice_get (block_of c h.number).steps h.at ≡ Some s.0
+    is_own = ap (λ g. slice_get (block_for c h.number g).steps h.at) (sym fork_is_own) ∙ s.1.is
+
+    waits : Waits_for c h.number s.0 (work_of h)
+    waits = waits_for c h.number h.allowance (work_of h) works_own.at s.1.within s.0 is_own kind
+
+    stepped : step c h.number (machine_at (block_of c h.number) [] (work_of h)) ≡ Waits waits.for (own_of h.own) (h.units + cost s.0)
+    stepped = ap (λ i. act c h.number i (point_of (block_of c h.number) h.at h.stack) [] (own_of h.own) h.units) is_own ∙ waits.steps
+
+    small_cost : (i : Instruction) → Fork_kind c h.own i → cost i ≤ 1
+    small_cost i (is_fork j to e) = let n = ap cost e in omega (arith, n)
+    small_cost i (is_again j to some e) = let n = ap cost e in omega (arith, n)
+
+    pub fork_moved : Moved c h forked
+    fork_moved =
+        let none = empty_of h.stack.below works_own.chained in
+        record {
+          loaded = record {
+            thread = l.thread;
+            short = l.short;
+            needs = l.needs;
+            each = l.each;
+            need = l.need;
+            own = l.own;
+            room = l.room;
+            most = l.most;
+            serves = l.serves;
+            small = l.small;
+            units = omega (arith, s.3, s.1.within, small_cost s.0 kind);
+            placed = record {
+              works = works_own;
+              own = fork_is_own;
+              instruction = s.0;
+              is = is_own;
+              forks = s.2;
+              units = ap units_of stepped ∙ sym s.3;
+              seeds = waits.for.seeds;
+              view = ap view_of stepped;
+            };
+          };
+          number = refl;
+          allowance = refl;
+          count = 1;
+          lands = ap (step c h.number)
+              (machine_runs ∙ ap (λ g. machine_at (block_for c h.number g) (callers c h.number h.stack.below) (work_of h)) fork_is_own
+              ∙ ap (λ ws. machine_at (block_of c h.number) (callers c h.number ws) (work_of h)) none);
+          rises = omega (arith, s.3);
+        }
+
+    pub fork_view : event_of (view_of (machine_of c forked)) ≡ Some event.Fork
+    fork_view = ap (λ m. event_of (view_of m)) stepped
+
+  -- ---- a frame's run
+
+  module _ (w : Work) (r : Runs c h.number h.function (work_of h) w) (small : w.units < h.allowance + 2 ^ 32) where
+    abbrev went : Thread
+    went = record { number = h.number; phase = h.phase; function = h.function; at = w.at; stack = w.frames; own = w.kept; units = w.units; allowance = h.allowance }
+
+    still_below : Below c h.number l.needs w.frames.room w.frames.below works.base
+    still_below =
+        subst (λ n. Below c h.number l.needs n w.frames.below works.base) (sym r.keeps.room)
+        (subst (λ ws. Below c h.number l.needs h.stack.room ws works.base) (sym r.keeps.below) works.below)
+
+    works_on : Works c h.number l.needs h.function w
+    works_on = record {
+      at = r.at;
+      base = works.base;
+      ends = omega (arith, works.ends, r.keeps.base, r.keeps.words, r.keeps.counters);
+      need = works.need;
+      enough = works.enough;
+      fits = omega (arith, works.fits, r.keeps.room);
+      chained = subst (λ ws. Chained c h.function (length ws)) (sym r.keeps.below) works.chained;
+      below = still_below;
+    }
+
+    pub run_stretches : (s : Stop) → Shows c h.number h.function h.allowance w s → Stretches c h went s
+    run_stretches s shows = record {
+      moved = record {
+        loaded = record {
+          thread = l.thread;
+          short = l.short;
+          needs = l.needs;
+          each = l.each;
+          need = l.need;
+          own = l.own;
+          room = omega (arith, l.room, r.keeps.room);
+          most = omega (arith, l.most, r.keeps.most);
+          serves = r.at.serves;
+          small = l.small;
+          units = small;
+          placed = subst (Placed c l.needs went) (sym run) works_on;
+        };
+        number = refl;
+        allowance = refl;
+        count = r.count;
+        lands = ap (run_for (step c h.number) r.count) machine_runs ∙ r.lands (callers c h.number h.stack.below)
+            ∙ ap (λ ws. machine_at (block_for c h.number h.function) (callers c h.number ws) w) (sym r.keeps.below) ∙ sym (ap (machine_in c went) run);
+        rises = r.rises;
+      };
+      running = run;
+      function = refl;
+      below = r.keeps.below;
+      shows = shows;
+    }

@@ -1,0 +1,12 @@
+use Rattle.std.proofs.Common.{refl}
+use Rattle.thread_code.specs.Plain.{plain_code}
+use Rattle.core_machine.specs.declared.thread.Event.TheVariants as event
+use Rattle.core_machine.specs.Held.{comes}
+use Rattle.core_machine.proofs.Outer.{pause_moved}
+use Rattle.core_machine.proofs.thread.Thread.pause.Goals as goal
+
+pub returns : goal.returns
+returns c = record {
+  moved = pause_moved (plain_code c.args.code.now) c.args.self.now c.requires.loaded c.requires.running c.args.to c.requires.before;
+  shown = comes event.Paused c.requires.before.within refl;
+}

@@ -1,0 +1,11 @@
+//! The machine that runs one thread of a code.
+#![tactic(auto)]
+
+mod acts;
+mod own;
+mod room;
+mod stack;
+mod stretch;
+mod thread;
+
+pub use thread::{Event, Thread};

@@ -1,0 +1,135 @@
+//! What a thread has beside its frames: copies of variables, flags, and its living branches.
+
+ghost use Rattle.std.specs.Prelude.{◌≡◌, ◌<◌, ◌≤◌, length, get_or, true, false, IfOk};
+ghost use Rattle.core_machine.specs.Kept.{Kept, AreIndexed, place_in, no_copy, with_copy, with_flag, begun, with_copies};
+
+use forec_base::OutOfMemory;
+use forec_kernel::VarCopy;
+use std::alloc::Global;
+use std::marker::Model;
+
+/// The copies stand in the order of the variables that the thread uses, and `places` has, for variable
+/// numbers from 0 on, where a copy stands. `live` tells of each thread whether it is a branch of this
+/// one that was forked since the last start and has not ended.
+#[derive(Drop)]
+pub struct Own {
+    copies: Vec<VarCopy>,
+    places: Vec<u32>,
+    flags: Vec<bool>,
+    live: Vec<bool>,
+}
+
+impl Model for Own {
+    ghost use Rattle.core_machine.specs.Kept.{Kept, kept_of};
+
+    ghost Value = { Kept };
+
+    ghost view = { λ k. kept_of k.copies.items k.places.items k.flags.items k.live.items };
+}
+
+/// Where the copies of these variables stand, for variable numbers from 0 on.
+fn places_of(alloc: Global, uses: &[u32]) -> Result<Vec<u32>, OutOfMemory>
+    ensures { IfOk result (λ places. AreIndexed uses.now places.items) }
+{
+    let most = uses.iter().copied().max().map_or(0, |v| v as usize + 1);
+    let count = u32::try_from(uses.len()).map_err(|_| OutOfMemory)?;
+    let mut places = vec![in alloc; 0; most]?;
+    let mut i = count;
+    while i > 0 {
+        i -= 1;
+        places[uses[i as usize] as usize] = i;
+    }
+    Ok(places)
+}
+
+impl Own {
+    /// A copy for each of these variables, so many flags, and a note for so many threads.
+    ///
+    /// # Errors
+    ///
+    /// Want of memory.
+    pub fn new(alloc: Global, uses: &[u32], flags: u32, threads: usize) -> Result<Own, OutOfMemory>
+        ensures copies { IfOk result (λ k. length k.copies ≡ length uses.now) }
+        ensures places { IfOk result (λ k. AreIndexed uses.now k.places) }
+        ensures flags { IfOk result (λ k. length k.flags ≡ flags) }
+        ensures live { IfOk result (λ k. length k.live ≡ threads) }
+    {
+        let unset = VarCopy {
+            value: 0,
+            modified: false,
+        };
+        Ok(Own {
+            copies: vec![in alloc; unset; uses.len()]?,
+            places: places_of(alloc, uses)?,
+            flags: vec![in alloc; false; flags as usize]?,
+            live: vec![in alloc; false; threads]?,
+        })
+    }
+
+    /// The thread's own copy of a variable that it uses.
+    pub fn copy(&self, variable: u32) -> i32
+        requires known { variable < length self.now.places }
+        requires inside { place_in self.now variable < length self.now.copies }
+        ensures { result ≡ (get_or self.now.copies (place_in self.now variable) no_copy).value }
+    {
+        self.copies[self.places[variable as usize] as usize].value
+    }
+
+    /// Assigns the copy of a variable, and marks it.
+    pub fn assign(&mut self, variable: u32, value: i32)
+        requires known { variable < length self.old.places }
+        requires inside { place_in self.old variable < length self.old.copies }
+        ensures { self.new ≡ with_copy variable (record { value = value; modified = true }) self.old }
+    {
+        self.copies[self.places[variable as usize] as usize] = VarCopy {
+            value,
+            modified: true,
+        };
+    }
+
+    pub fn is_set(&self, flag: u32) -> bool
+        requires { flag < length self.now.flags }
+        ensures { result ≡ get_or self.now.flags flag false }
+    {
+        self.flags[flag as usize]
+    }
+
+    pub fn set_flag(&mut self, flag: u32, value: bool)
+        requires { flag < length self.old.flags }
+        ensures { self.new ≡ with_flag flag value self.old }
+    {
+        self.flags[flag as usize] = value;
+    }
+
+    pub fn is_live(&self, thread: usize) -> bool
+        requires { thread < length self.now.live }
+        ensures { result ≡ get_or self.now.live thread false }
+    {
+        self.live[thread]
+    }
+
+    /// The thread's copies, in the order of the variables that it uses.
+    pub fn copies(&self) -> &[VarCopy]
+        ensures { result.now ≡ self.now.copies }
+    {
+        &self.copies
+    }
+
+    /// Takes these copies.
+    pub fn receive(&mut self, copies: &[VarCopy])
+        requires { length copies.now ≡ length self.old.copies }
+        ensures { self.new ≡ with_copies copies.now self.old }
+    {
+        self.copies.copy_from_slice(copies);
+    }
+
+    /// Takes these copies, sets no flag, and has no branch.
+    pub fn restart(&mut self, copies: &[VarCopy])
+        requires { length copies.now ≡ length self.old.copies }
+        ensures { self.new ≡ begun copies.now self.old }
+    {
+        self.copies.copy_from_slice(copies);
+        self.flags.fill(false);
+        self.live.fill(false);
+    }
+}
