@@ -1,5 +1,5 @@
 -- The calls at a join, in the order of the branches: those of each branch in the order of its own variables are those in the order of the thread's.
-use Rattle.std.proofs.Common.{◌≡◌, ℕ, zero, suc, ◌+◌, ◌<◌, ◌≤◌, ◌==◌, nat_lt, List, [], ◌∷◌, ◌++◌, map, length, Option, Some, None, Bool, true, false, cond, not, ◌&&◌, ◌||◌, refl, sym, ap, ◌∙◌, subst, arith, append-nil, append_assoc, ⊎_elim}
+use Rattle.std.proofs.Common.{◌≡◌, ℕ, zero, suc, ◌<◌, ◌≤◌, ◌==◌, List, [], ◌∷◌, ◌++◌, map, Option, Some, None, Bool, true, false, cond, ◌&&◌, ◌||◌, refl, sym, ap, ◌∙◌, subst, arith, ⊎_elim}
 use Rattle.std.specs.Prelude.{ℤ, pos}
 use Rattle.std.proofs.lemmas.Bool.{cases_lt}
 use Rattle.std.proofs.lemmas.Bool.Decides.{nat_tests}
@@ -8,9 +8,8 @@ use Rattle.forec_kernel.specs.declared.shape.VarCopy.{VarCopy}
 use Rattle.forec_kernel.specs.Shapes.{PlainKernel}
 use Rattle.forec_kernel.specs.Values.{Value, copy_of}
 use Rattle.forec_kernel.specs.Texts.{Status, Text, Threads, no_threads, child, is_active, uses_of}
-use Rattle.forec_kernel.specs.Combining as combining
-use Rattle.forec_kernel.specs.Combining.{contains, shares, taking_part, some_marked, Joint, variable_calls, combined_value, variable_of, combine_of, part_of, joined_copy, joined_copies, calls_of, calls_from, calls_at, in_order}
-use Rattle.thread_code.specs.Machine.{Share, Total, total_of, no_total, no_totals, settled, shares_of}
+use Rattle.forec_kernel.specs.Combining.{contains, shares, taking_part, some_marked, Joint, variable_calls, variable_of, combine_of, joined_copy, joined_copies, calls_of, calls_from, calls_at, in_order}
+use Rattle.thread_code.specs.Machine.{Share, Total, total_of, settled, shares_of}
 use Rattle.code_gen.proofs.Each.{Each, each_map}
 use Rattle.code_gen.proofs.Columns.{Ascends, not_above, kept, Sized, rest_calls, total_in, total_combined, with_share}
 
@@ -202,10 +201,11 @@ pub bases : (uses : List ℕ) (copies : List VarCopy) → Ascends uses → Bases
 bases [] copies a = tt
 bases (x ∷ uses) [] a = tt
 bases (x ∷ uses) (c ∷ copies) a =
-    let itself : (x == x) ≡ true = grind (arith, nat_tests) in
-    (ap (λ b. (cond b c (copy_of uses copies x)).value) itself,
-    bases_same (λ v. cond (x == v) c.value (copy_of uses copies v).value) (λ v. (copy_of (x ∷ uses) (c ∷ copies) v).value) uses copies (λ v. pick (x == v) v)
-    (bases_lift x c.value (λ v. (copy_of uses copies v).value) uses copies a.0 (bases uses copies a.1)))
+    let itself : (x == x) ≡ true = grind (arith, nat_tests) in (
+      ap (λ b. (cond b c (copy_of uses copies x)).value) itself,
+      bases_same (λ v. cond (x == v) c.value (copy_of uses copies v).value) (λ v. (copy_of (x ∷ uses) (c ∷ copies) v).value) uses copies (λ v. pick (x == v) v)
+          (bases_lift x c.value (λ v. (copy_of uses copies v).value) uses copies a.0 (bases uses copies a.1)),
+    )
   where
     pick : (b : Bool) (v : ℕ) → cond b c.value (copy_of uses copies v).value ≡ (cond b c (copy_of uses copies v)).value
     pick true v = refl

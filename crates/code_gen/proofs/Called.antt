@@ -1,5 +1,5 @@
 -- The functions that code calls are those that its term calls.
-use Rattle.std.proofs.Common.{◌≡◌, ℕ, zero, suc, ◌+◌, ◌<◌, List, [], ◌∷◌, ◌++◌, length, get_or, Option, Some, None, Bool, true, false, refl, sym, ap, ◌∙◌, subst, arith}
+use Rattle.std.proofs.Common.{◌≡◌, ℕ, zero, suc, ◌+◌, ◌<◌, List, [], ◌∷◌, ◌++◌, length, Option, Some, None, true, false, ap, ◌∙◌, arith}
 use Rattle.std.specs.Prelude.{pos}
 use Rattle.std.specs.List.{list_all}
 use Rattle.std.proofs.lemmas.Option.{get_or_from_slice_get}
@@ -13,8 +13,8 @@ use Rattle.thread_code.specs.declared.instruction.Instruction.TheVariants as ins
 use Rattle.thread_code.specs.Plain.{PlainBlock}
 use Rattle.thread_code.specs.Valid.{called, steps_of, deep_within}
 use Rattle.code_gen.specs.Expressions.{expression_code, expressions_code}
-use Rattle.code_gen.specs.Statements.{Around, Outside, loops, inner, fill_code, turn_code, loop_code, if_code, statement_code, statements_code}
-use Rattle.code_gen.specs.Blocks.{function_block, blocks_from, kernel_code}
+use Rattle.code_gen.specs.Statements.{Around, Outside, loops, inner, fill_code, turn_code, statement_code, statements_code}
+use Rattle.code_gen.specs.Blocks.{function_block, kernel_code}
 use Rattle.code_gen.proofs.Blocks.{block_at}
 use Rattle.code_gen.proofs.Each.{Each, each_front, each_back, each_map, each_test, test_each}
 use Rattle.code_gen.proofs.Deep.{deep, statement_named}

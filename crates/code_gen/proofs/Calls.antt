@@ -1,14 +1,14 @@
 -- The blocks of a kernel's int functions give what the functions give, to any depth.
-use Rattle.std.proofs.Common.{◌≡◌, ℕ, zero, suc, ◌+◌, ◌<◌, Bool, true, false, Option, Some, None, List, [], ◌∷◌, ◌++◌, length, get_or, refl, sym, ap, ◌∙◌, subst, arith}
-use Rattle.std.specs.Prelude.{ℤ, pos, slice_get, replicate}
+use Rattle.std.proofs.Common.{◌≡◌, ℕ, zero, suc, ◌+◌, ◌<◌, true, false, Option, Some, None, List, [], ◌∷◌, ◌++◌, length, get_or, refl, sym, ap, ◌∙◌, subst, arith}
+use Rattle.std.specs.Prelude.{ℤ, pos, replicate}
 use Rattle.std.proofs.lemmas.Option.{slice_get_within}
 use Rattle.forec_kernel.specs.declared.terms.Spot.TheVariants as spot
 use Rattle.forec_kernel.specs.Terms.{Expr, Num, Local, LocalAt, Var, TableAt, Un, Bin, And, Or, Choose, Call, Exprs, no_exprs, more_exprs, Stmt, Nop, Set, SetAt, Clear, Seq, If, While, Pause, Par, Enter, Return, Stmts, no_stmts, more_stmts}
 use Rattle.forec_kernel.specs.Shapes.{PlainKernel}
-use Rattle.forec_kernel.specs.Values.{Value, flow, call_within, fresh_words, function_words, returned}
-use Rattle.forec_kernel.specs.WellFormed.{Scope, FineExpr, FineExprs, FineStmt, FineStmts, FineFunction, calls_of, calls_in, stmt_calls, stmts_calls, function_body, function_params, WellFormed}
+use Rattle.forec_kernel.specs.Values.{call_within, fresh_words, function_words}
+use Rattle.forec_kernel.specs.WellFormed.{Scope, FineExpr, FineExprs, FineStmt, FineStmts, calls_of, calls_in, stmt_calls, stmts_calls, function_body, function_params, WellFormed}
 use Rattle.thread_code.specs.declared.instruction.Instruction.TheVariants as instruction
-use Rattle.thread_code.specs.Plain.{PlainBlock, PlainCode}
+use Rattle.thread_code.specs.Plain.{PlainBlock}
 use Rattle.thread_code.specs.Machine as machine
 use Rattle.thread_code.specs.Machine.{Frame, Own, On}
 use Rattle.code_gen.specs.Statements.{Outside, statement_code}

@@ -1,5 +1,5 @@
 -- Cells of a list that is written past its end: what was written, and what is beside it.
-use Rattle.std.proofs.Common.{◌≡◌, ℕ, zero, suc, List, [], ◌∷◌, get_or, refl, ap, arith}
+use Rattle.std.proofs.Common.{◌≡◌, ℕ, zero, suc, List, [], ◌∷◌, get_or, refl, ap}
 use Rattle.thread_code.specs.Machine.{put_at}
 
 pub put_same : {A : Type 0} → (d : A) (xs : List A) (k : ℕ) (x : A) → get_or (put_at d xs k x) k d ≡ x

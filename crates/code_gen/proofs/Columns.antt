@@ -1,20 +1,17 @@
 -- The calls of combine functions, variable by variable and branch by branch.
-use Rattle.std.proofs.Common.{◌≡◌, ℕ, zero, suc, ◌+◌, ◌<◌, ◌≤◌, ◌==◌, nat_lt, List, [], ◌∷◌, ◌++◌, map, length, Option, Some, None, Bool, true, false, cond, not, ◌&&◌, ◌||◌, refl, sym, ap, ◌∙◌, subst, arith, append-nil, append_assoc, length-append, get_or, ⊎_elim, inl, inr}
-use Rattle.std.specs.Prelude.{ℤ, pos, ◌⊎◌}
-use Rattle.std.proofs.lemmas.Bool.{cases_lt}
+use Rattle.std.proofs.Common.{◌≡◌, ℕ, suc, ◌+◌, ◌<◌, ◌==◌, nat_lt, List, [], ◌∷◌, ◌++◌, Option, Some, None, Bool, true, false, cond, ◌&&◌, refl, sym, ap, ◌∙◌, subst, arith}
+use Rattle.std.specs.Prelude.{ℤ}
 use Rattle.std.proofs.lemmas.Bool.Decides.{nat_tests}
-use Rattle.forec_base.specs.declared.Place.{Place}
 use Rattle.forec_base.specs.declared.Policy.{Policy}
-use Rattle.forec_base.specs.declared.Trap.{Trap}
 use Rattle.forec_kernel.specs.declared.shape.VarCopy.{VarCopy}
 use Rattle.forec_kernel.specs.Shapes.{PlainKernel}
 use Rattle.forec_kernel.specs.Values.{Value, Gives, Stops, copy_of}
-use Rattle.forec_kernel.specs.Texts.{Running, Paused, Ended, Gone, Trapped, Threads, no_threads, child, is_active, uses_of}
+use Rattle.forec_kernel.specs.Texts.{Threads, no_threads, child, is_active, uses_of}
 use Rattle.forec_kernel.specs.WellFormed.{ascends}
 use Rattle.forec_kernel.specs.Combining as combining
 use Rattle.forec_kernel.specs.Combining.{contains, shares, takes_part, taking_part, some_marked, Joint, fold_calls, last_value, variable_calls, combined_value, variable_of, combine_of, part_of, joined_copy, joined_copies, calls_of, calls_from, calls_at, count_threads, in_order, Cost, Costs, Fails, more_cost, cost_of, join_cost}
-use Rattle.thread_code.specs.Machine.{Share, Total, total_of, put_total, no_total, no_totals, settled}
-use Rattle.code_gen.proofs.Each.{Each, each_map}
+use Rattle.thread_code.specs.Machine.{Total, total_of, put_total, no_total, no_totals}
+use Rattle.code_gen.proofs.Each.{Each}
 
 -- ---- ascending lists
 

@@ -1,15 +1,14 @@
 -- No chain of calls of a kernel is longer than the list of its int functions.
-use Rattle.std.proofs.Common.{◌≡◌, ℕ, zero, suc, ◌+◌, ◌<◌, ◌≤◌, ◌==◌, ◌||◌, Bool, true, false, cond, Option, Some, None, List, [], ◌∷◌, ◌++◌, length, get_or, refl, ap, sym, ◌∙◌, subst, ⊎_elim, arith}
+use Rattle.std.proofs.Common.{◌≡◌, ℕ, zero, suc, ◌+◌, ◌<◌, ◌≤◌, ◌==◌, ◌||◌, Bool, true, false, cond, List, [], ◌∷◌, ◌++◌, length, refl, ap, arith}
 use Rattle.std.specs.List.{list_all, list_any, IsDistinct, AllByRecursion}
 use Rattle.std.proofs.Math.Dec.{eqb}
-use Rattle.std.proofs.lemmas.Bool.{cases_Bool}
 use Rattle.std.proofs.lemmas.Bool.Decides.{nat_tests}
 use Rattle.std.proofs.lemmas.Map.Steps.{length-le_from_distinct_below}
 use Rattle.std.proofs.lemmas.Map.Keys.{IsDistinct-cons}
 use Rattle.forec_kernel.specs.Terms.{Expr, Num, Local, LocalAt, Var, TableAt, Un, Bin, And, Or, Choose, Call, Exprs, no_exprs, more_exprs, Branch, Stmt, Nop, Set, SetAt, Clear, Seq, If, While, Pause, Par, Enter, Return, Stmts, no_stmts, more_stmts}
 use Rattle.forec_kernel.specs.Shapes.{PlainKernel}
 use Rattle.forec_kernel.specs.Combining.{contains}
-use Rattle.forec_kernel.specs.WellFormed.{Scope, FineExpr, FineExprs, FineStmt, FineStmts, FineBranches, calls_of, calls_in, branch_calls, stmt_calls, stmts_calls, function_body, Ranked, FineFunction}
+use Rattle.forec_kernel.specs.WellFormed.{Scope, FineExpr, FineExprs, FineStmt, FineStmts, FineBranches, calls_of, calls_in, branch_calls, stmt_calls, stmts_calls, function_body, Ranked}
 use Rattle.code_gen.proofs.Each.{Each, each_join, each_map, test_each}
 
 -- a chain of calls that begins with function f has at most n functions

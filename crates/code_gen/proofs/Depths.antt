@@ -1,13 +1,12 @@
 -- The depth of the stack before each instruction of a term's code.
-use Rattle.std.proofs.Common.{◌≡◌, ℕ, zero, suc, ◌+◌, List, [], ◌∷◌, ◌++◌, length, Option, Some, None, Bool, true, false, refl, sym, ap, ◌∙◌, subst, arith, length-append}
+use Rattle.std.proofs.Common.{◌≡◌, ℕ, suc, ◌+◌, List, [], ◌∷◌, ◌++◌, length, Option, Some, None, Bool, true, false, refl, ap, ◌∙◌, arith, length-append}
 use Rattle.std.specs.Prelude.{pos}
 use Rattle.forec_kernel.specs.Terms.{Expr, Num, Local, LocalAt, Var, TableAt, Un, Bin, And, Or, Choose, Call, Exprs, no_exprs, more_exprs, count_exprs, Branch, Stmt, Nop, Set, SetAt, Clear, Seq, If, While, Pause, Par, Enter, Return, Stmts, no_stmts, more_stmts}
 use Rattle.forec_kernel.specs.Shapes.{PlainThread}
-use Rattle.thread_code.specs.declared.instruction.Instruction.{Instruction}
 use Rattle.thread_code.specs.declared.instruction.Instruction.TheVariants as instruction
 use Rattle.code_gen.specs.Expressions.{expression_code, expressions_code}
-use Rattle.code_gen.specs.Statements.{Around, Outside, InLoop, InAbort, loops, weaks, checks, guard, prologue, pause_code, fork_code, set_code, inner, fill_code, turn_code, loop_code, enter_code, par_number, arguments_code, statement_code, statements_code}
-use Rattle.code_gen.proofs.Lengths.{loop_length, if_length, enter_length, fork_length}
+use Rattle.code_gen.specs.Statements.{Around, Outside, InLoop, InAbort, loops, weaks, checks, guard, prologue, fork_code, set_code, inner, fill_code, turn_code, loop_code, enter_code, par_number, arguments_code, statement_code, statements_code}
+use Rattle.code_gen.proofs.Lengths.{loop_length, if_length, fork_length}
 
 abbrev mutual
   pub expression_depths : ℕ → Expr → List ℕ

@@ -4,14 +4,13 @@ use Rattle.std.specs.Prelude.{ℤ, pos, slice_get, replicate}
 use Rattle.forec_base.specs.Numbers.{is_zero, truth, unary_of, binary_of}
 use Rattle.forec_base.specs.declared.Place.{Place}
 use Rattle.forec_base.specs.declared.Trap.TheVariants.{Divide, Index}
-use Rattle.forec_kernel.specs.declared.shape.VarCopy.{VarCopy}
 use Rattle.forec_kernel.specs.Terms.{Expr, Num, Local, LocalAt, Var, TableAt, Un, Bin, And, Or, Choose, Call, Exprs, no_exprs, more_exprs, count_exprs}
-use Rattle.forec_kernel.specs.Values.{word, copy_of, index_in, Value, Gives, Stops, Values, AllGive, OneStops, more_units, value_then, first_then, values_then, Setting, Sight, place_or, divided, at_index, val, vals, fresh_words}
+use Rattle.forec_kernel.specs.Values.{word, index_in, Value, Gives, Stops, Values, AllGive, OneStops, more_units, value_then, first_then, Setting, Sight, place_or, divided, at_index, val, vals, fresh_words}
 use Rattle.thread_code.specs.declared.instruction.Instruction.{Instruction}
 use Rattle.thread_code.specs.declared.instruction.Instruction.TheVariants as instruction
-use Rattle.thread_code.specs.Plain.{PlainBlock, PlainCode}
+use Rattle.thread_code.specs.Plain.{PlainCode}
 use Rattle.thread_code.specs.Valid.{function_arguments}
-use Rattle.thread_code.specs.Machine.{Point, Frame, Caller, Own, Machine, On, Trapped, onward, goes_to, act, with_arguments, unless_none, entered, uses_of, returned}
+use Rattle.thread_code.specs.Machine.{Frame, Caller, Own, Machine, On, act, with_arguments, unless_none, entered, uses_of}
 use Rattle.code_gen.specs.Expressions.{expression_code, expressions_code}
 use Rattle.code_gen.proofs.Fits.{FitsCall, Fits, AllFit, CallsRun}
 use Rattle.code_gen.proofs.Stretch.{HasAt, has_front, has_back, SameCount, point, Comes, stays, comes_on, comes_at, one, Yields, YieldsAll, yields_from, yields_to, yields_after, yields_value, yields_then, yields_all_then, yields_both}

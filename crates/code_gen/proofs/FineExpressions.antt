@@ -1,5 +1,5 @@
 -- Each instruction of an expression's code is fine.
-use Rattle.std.proofs.Common.{◌≡◌, ℕ, zero, suc, ◌+◌, ◌-◌, ◌<◌, ◌≤◌, List, [], ◌∷◌, ◌++◌, length, Option, Some, None, Bool, true, false, refl, sym, ap, ◌∙◌, subst, arith, length-append}
+use Rattle.std.proofs.Common.{◌≡◌, ℕ, ◌+◌, ◌-◌, ◌<◌, List, [], ◌∷◌, ◌++◌, length, Option, Some, true, refl, sym, ap, ◌∙◌, subst, arith, length-append}
 use Rattle.std.specs.Prelude.{pos, slice_get}
 use Rattle.forec_kernel.specs.Terms.{Expr, Num, Local, LocalAt, Var, TableAt, Un, Bin, And, Or, Choose, Call, Exprs, no_exprs, more_exprs, count_exprs}
 use Rattle.forec_kernel.specs.Shapes.{PlainKernel}
@@ -11,7 +11,7 @@ use Rattle.thread_code.specs.Plain.{PlainBlock}
 use Rattle.thread_code.specs.Valid.{Scope, Leads, IsFine, uses_for, costs}
 use Rattle.thread_code.proofs.AllFine.{AllFine, fine_join}
 use Rattle.code_gen.specs.Expressions.{expression_code, expressions_code}
-use Rattle.code_gen.specs.Blocks.{function_block, blocks_from, kernel_code}
+use Rattle.code_gen.specs.Blocks.{function_block, kernel_code}
 use Rattle.code_gen.proofs.Blocks.{blocks_length}
 use Rattle.code_gen.proofs.Depths.{expression_depths, expressions_depths, same_length, same_lengths}
 use Rattle.code_gen.proofs.Stretch.{HasAt, has_front, has_back}
@@ -102,12 +102,13 @@ module _ (k : PlainKernel) (thread : Option ℕ) (b : PlainBlock) (depths : List
       let h2 : HasAt depths q (dy ++ tail) = subst (λ n. HasAt depths n (dy ++ tail)) (sym eq) h1.1 in
       let h3 : HasAt depths r tail = subst (λ n. HasAt depths n tail) (sym er) (back_at depths q dy tail (length cy) (same_length y d q) h2) in
       let start = starts depths y d q (has_front depths q dy tail h2) in
-      fine_join scope b depths p cx (jump (r + 1 + 1) ∷ (cy ++ code)) dx ((d + 1) ∷ (dy ++ tail)) (hx (has_front depths p dx _ h) h1.0)
-      (fine_jump j (r + 1 + 1) (lead_to depths q (j + 1) d d eq refl start) h3.1.1.0,
-      subst (λ n. Fine n (cy ++ code) (dy ++ tail)) eq
-      (fine_join scope b depths q cy code dy tail (hy q (has_front depths q dy tail h2) (lead_to depths _ _ _ _ er refl h3.0))
-      (subst (λ n. Fine n code tail) er
-      ((omega arith, h3.1.0), ((end, λ le. absurd (omega (arith, le))), (fine_last (r + 1 + 1) end, tt))))))
+      fine_join scope b depths p cx (jump (r + 1 + 1) ∷ (cy ++ code)) dx ((d + 1) ∷ (dy ++ tail)) (hx (has_front depths p dx _ h) h1.0) (
+        fine_jump j (r + 1 + 1) (lead_to depths q (j + 1) d d eq refl start) h3.1.1.0,
+        subst (λ n. Fine n (cy ++ code) (dy ++ tail)) eq
+            (fine_join scope b depths q cy code dy tail (hy q (has_front depths q dy tail h2) (lead_to depths _ _ _ _ er refl h3.0))
+            (subst (λ n. Fine n code tail) er
+            ((omega arith, h3.1.0), ((end, λ le. absurd (omega (arith, le))), (fine_last (r + 1 + 1) end, tt))))),
+      )
 
   mutual
     pub expression_fine : (x : Expr) (d p : ℕ) → FineExpr z x → HasAt depths p (expression_depths d x) → Leads depths (p + length (expression_code p x)) (d + 1) → Fine p (expression_code p x) (expression_depths d x)
@@ -167,10 +168,11 @@ module _ (k : PlainKernel) (thread : Option ℕ) (b : PlainBlock) (depths : List
         let len : p + length (expression_code p (Choose t x y)) ≡ r + length cy = omega (arith, length-append ct (instruction.Zero r ∷ (cx ++ jump ∷ cy)), length-append cx (jump ∷ cy)) in
         let less : d ≡ d + 1 - 1 = omega arith in
         let end' : Leads depths (r + length cy) (d + 1) = lead_to depths _ _ _ _ len refl end in
-        fine_join scope b depths p ct (instruction.Zero r ∷ (cx ++ jump ∷ cy)) dt ((d + 1) ∷ (dx ++ (d + 1) ∷ dy)) (expression_fine t d p ok.0 (has_front depths p dt _ h) h1.0)
-        ((omega arith, lead_to depths _ _ _ _ refl less (starts depths x d q (has_front depths q dx _ h1.1)), lead_to depths _ _ _ _ refl less (starts depths y d r h2.1)),
-        fine_join scope b depths q cx (jump ∷ cy) dx ((d + 1) ∷ dy) (expression_fine x d q ok.1 (has_front depths q dx _ h1.1) h2.0)
-        ((end', λ le. absurd (omega (arith, le))), expression_fine y d r ok.2 h2.1 end'))
+        fine_join scope b depths p ct (instruction.Zero r ∷ (cx ++ jump ∷ cy)) dt ((d + 1) ∷ (dx ++ (d + 1) ∷ dy)) (expression_fine t d p ok.0 (has_front depths p dt _ h) h1.0) (
+          (omega arith, lead_to depths _ _ _ _ refl less (starts depths x d q (has_front depths q dx _ h1.1)), lead_to depths _ _ _ _ refl less (starts depths y d r h2.1)),
+          fine_join scope b depths q cx (jump ∷ cy) dx ((d + 1) ∷ dy) (expression_fine x d q ok.1 (has_front depths q dx _ h1.1) h2.0)
+              ((end', λ le. absurd (omega (arith, le))), expression_fine y d r ok.2 h2.1 end'),
+        )
     expression_fine (Call f args) d p ok h end =
         let ca = expressions_code p args in
         let q = p + length ca in

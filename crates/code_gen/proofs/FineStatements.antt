@@ -1,22 +1,21 @@
 -- Each instruction of a statement's code is fine.
-use Rattle.std.proofs.Common.{◌≡◌, ℕ, zero, suc, ◌+◌, ◌-◌, ◌<◌, ◌≤◌, max, List, [], ◌∷◌, ◌++◌, length, Option, Some, None, Bool, true, false, cond, refl, sym, ap, ◌∙◌, subst, arith, length-append}
-use Rattle.std.specs.Prelude.{pos, slice_get, IsTrue, IsSome, IsNone, ◌≢◌}
+use Rattle.std.proofs.Common.{◌≡◌, ℕ, suc, ◌+◌, ◌-◌, ◌<◌, ◌≤◌, List, [], ◌∷◌, ◌++◌, length, Option, Some, None, Bool, true, false, cond, refl, sym, ap, ◌∙◌, subst, arith, length-append}
+use Rattle.std.specs.Prelude.{IsTrue, IsSome, IsNone}
 use Rattle.forec_base.specs.declared.Place.{Place}
 use Rattle.forec_kernel.specs.declared.terms.Spot as spot_type
 use Rattle.forec_kernel.specs.declared.terms.Spot.TheVariants as spot
 use Rattle.forec_kernel.specs.Terms.{Expr, Num, Local, LocalAt, Var, TableAt, Un, Bin, And, Or, Choose, Call, Exprs, no_exprs, more_exprs, count_exprs, Branch, Stmt, Nop, Set, SetAt, Clear, Seq, If, While, Pause, Par, Enter, Return, Stmts, no_stmts, more_stmts}
 use Rattle.forec_kernel.specs.Shapes.{PlainKernel}
-use Rattle.forec_kernel.specs.Combining.{contains}
 use Rattle.forec_kernel.specs.WellFormed as kernel
 use Rattle.forec_kernel.specs.WellFormed.{FineExpr, FineExprs, FineStmt, FineStmts, FineBranches, threads_in, thread_of}
 use Rattle.thread_code.specs.declared.instruction.Instruction.{Instruction}
 use Rattle.thread_code.specs.declared.instruction.Instruction.TheVariants as instruction
 use Rattle.thread_code.specs.Plain.{PlainBlock}
 use Rattle.thread_code.specs.Valid.{Leads, IsParOf, branches_in, arguments_of}
-use Rattle.thread_code.proofs.AllFine.{AllFine, fine_join}
+use Rattle.thread_code.proofs.AllFine.{fine_join}
 use Rattle.code_gen.specs.Expressions.{expression_code, expressions_code}
-use Rattle.code_gen.specs.Statements.{Around, Outside, InLoop, InAbort, loops, weaks, checks, guard, prologue, pause_code, fork_code, set_code, inner, fill_code, turn_code, loop_code, if_code, enter_code, par_number, arguments_code, statement_code, statements_code}
-use Rattle.code_gen.specs.Blocks.{kernel_code, counted, counters_in, counters_of, flagged, flags_in, flags_of}
+use Rattle.code_gen.specs.Statements.{Around, Outside, InLoop, InAbort, loops, weaks, checks, guard, prologue, pause_code, fork_code, set_code, inner, fill_code, turn_code, loop_code, enter_code, par_number, arguments_code, statement_code, statements_code}
+use Rattle.code_gen.specs.Blocks.{counted, counters_in, counters_of, flagged, flags_in, flags_of}
 use Rattle.code_gen.proofs.Lengths.{loop_length, if_length, enter_length, fork_length, alike_self, alike_length}
 use Rattle.code_gen.proofs.Stretch.{HasAt, has_front, has_back}
 use Rattle.code_gen.proofs.Depths.{expression_depths, expressions_depths, arguments_depths, count_all, flag_depths, checks_depths, prologue_depths, turn_depths, fill_depths, enter_depths, pause_depths, fork_depths, statement_depths, statements_depths, same_length, same_lengths, arguments_length, checks_length, checks_inner, prologue_inner, prologue_length, fill_length, turn_length, enter_depths_length, statement_length, statements_length}
@@ -243,10 +242,12 @@ module _ (k : PlainKernel) (thread : Option ℕ) (b : PlainBlock) (depths : List
       let n : p + length (pause_code p a) ≡ w + length pr = omega (arith, length-append c (instruction.Pause w ∷ pr)) in
       let end' = lead _ _ 0 0 n refl end in
       let wake = lead_first depths w (length pr) (prologue_depths a) (prologue_first a) (prologue_length w a) here.1 end' in
-      let first = lead_first depths (p + 1) (length c) ds (checks_first a) (checks_length a) (has_front depths (p + 1) ds _ has.1) here.0 in
-      (first, fine_join (scope k thread b depths) b depths (p + 1) c (instruction.Pause w ∷ pr) ds (0 ∷ prologue_depths a)
-      (checks_fine a (p + 1) (p + length (pause_code p a)) h (omega (arith, n)) fl (has_front depths (p + 1) ds _ has.1) here.0)
-      ((some, wake), prologue_fine a w (p + length (pause_code p a)) h lo fl here.1 end'))
+      let first = lead_first depths (p + 1) (length c) ds (checks_first a) (checks_length a) (has_front depths (p + 1) ds _ has.1) here.0 in (
+        first,
+        fine_join (scope k thread b depths) b depths (p + 1) c (instruction.Pause w ∷ pr) ds (0 ∷ prologue_depths a)
+            (checks_fine a (p + 1) (p + length (pause_code p a)) h (omega (arith, n)) fl (has_front depths (p + 1) ds _ has.1) here.0)
+            ((some, wake), prologue_fine a w (p + length (pause_code p a)) h lo fl here.1 end'),
+      )
 
   -- ---- a fork
 
@@ -273,18 +274,25 @@ module _ (k : PlainKernel) (thread : Option ℕ) (b : PlainBlock) (depths : List
       let first = lead_first depths cp (length c) ds (checks_first a) (checks_length a) (has_front depths cp ds _ has.1.1) h1.0 in
       let wake = lead_first depths w (length pr) ps (prologue_first a) (prologue_length w a) (has_front depths w ps _ h1.1) h2.0 in
       let second = lead_first depths (g + 1 + 1) (length c) ds (checks_first a) (checks_length a) (has_front depths (g + 1 + 1) ds _ h2.1.1) h3.0 in
-      let less : 0 ≡ n - arguments_of k.shape (branches_in k.shape j) = omega (arith, arity) in
-      ((par, omega (arith, arity), (lead _ _ _ _ refl less has.1.0, lead _ _ _ _ refl less first, omega arith)),
-      ((end', λ le. absurd (omega (arith, le))),
-      fine_join (scope k thread b depths) b depths cp c (instruction.Pause w ∷ (pr ++ tail)) ds (0 ∷ (ps ++ tail_ds))
-      (checks_fine a cp e h (omega (arith, len)) fl (has_front depths cp ds _ has.1.1) h1.0)
-      ((some, wake),
-      fine_join (scope k thread b depths) b depths w pr tail ps tail_ds (prologue_fine a w e h lo fl (has_front depths w ps _ h1.1) h2.0)
-      ((par, (h2.1.0, second, omega arith)),
-      ((end', λ le. absurd (omega (arith, le))),
-      fine_join (scope k thread b depths) b depths (g + 1 + 1) c (instruction.Pause w ∷ []) ds (0 ∷ [])
-      (checks_fine a (g + 1 + 1) e h (omega (arith, len)) fl (has_front depths (g + 1 + 1) ds _ h2.1.1) h3.0)
-      ((some, wake), tt))))))
+      let less : 0 ≡ n - arguments_of k.shape (branches_in k.shape j) = omega (arith, arity) in (
+        (par, omega (arith, arity), (lead _ _ _ _ refl less has.1.0, lead _ _ _ _ refl less first, omega arith)),
+        (
+          (end', λ le. absurd (omega (arith, le))),
+          fine_join (scope k thread b depths) b depths cp c (instruction.Pause w ∷ (pr ++ tail)) ds (0 ∷ (ps ++ tail_ds))
+              (checks_fine a cp e h (omega (arith, len)) fl (has_front depths cp ds _ has.1.1) h1.0) (
+                (some, wake),
+                fine_join (scope k thread b depths) b depths w pr tail ps tail_ds (prologue_fine a w e h lo fl (has_front depths w ps _ h1.1) h2.0) (
+                  (par, (h2.1.0, second, omega arith)),
+                  (
+                    (end', λ le. absurd (omega (arith, le))),
+                    fine_join (scope k thread b depths) b depths (g + 1 + 1) c (instruction.Pause w ∷ []) ds (0 ∷ [])
+                        (checks_fine a (g + 1 + 1) e h (omega (arith, len)) fl (has_front depths (g + 1 + 1) ds _ h2.1.1) h3.0)
+                        ((some, wake), tt),
+                  ),
+                ),
+              ),
+        ),
+      )
 
   -- ---- statements
 
@@ -449,12 +457,14 @@ module _ (k : PlainKernel) (thread : Option ℕ) (b : PlainBlock) (depths : List
         let less : 0 ≡ 1 - 1 = omega arith in
         let first_x = lead_first depths q (length cx) dx (statement_first x cs ps) (statement_length ts x a q cs ps hc hp) (has_front depths q dx _ h1.1) h2.0 in
         let first_y = lead_first depths r (length cy) dy (statement_first y cs ps) (statement_length ts y a r cs ps hc hp) h2.1 end' in
-        test_fine e 1 p (instruction.Zero r) (cx ++ instruction.Jump out ∷ cy) (dx ++ 0 ∷ dy) ok.0 has refl
-        ((omega arith, lead _ _ _ _ refl less first_x, lead _ _ _ _ refl less first_y),
-        fine_join (scope k thread b depths) b depths q cx (instruction.Jump out ∷ cy) dx (0 ∷ dy)
-        (statement_fine x a q kind cs ps is ok.1 par.0 (enclosed a (q + length cx) whole (omega (arith, len)) round) (omega (arith, lo)) (omega (arith, fl)) hc hp (has_front b.steps q cx _ s1.1) (has_front depths q dx _ h1.1) h2.0)
-        ((end', λ le. absurd (omega (arith, le))),
-        statement_fine y a r kind cs ps is ok.2 par.1 (enclosed a out whole (omega (arith, len)) round) (omega (arith, lo)) (omega (arith, fl)) hc hp s2.1 h2.1 end'))
+        test_fine e 1 p (instruction.Zero r) (cx ++ instruction.Jump out ∷ cy) (dx ++ 0 ∷ dy) ok.0 has refl (
+          (omega arith, lead _ _ _ _ refl less first_x, lead _ _ _ _ refl less first_y),
+          fine_join (scope k thread b depths) b depths q cx (instruction.Jump out ∷ cy) dx (0 ∷ dy)
+              (statement_fine x a q kind cs ps is ok.1 par.0 (enclosed a (q + length cx) whole (omega (arith, len)) round) (omega (arith, lo)) (omega (arith, fl)) hc hp (has_front b.steps q cx _ s1.1) (has_front depths q dx _ h1.1) h2.0) (
+                (end', λ le. absurd (omega (arith, le))),
+                statement_fine y a r kind cs ps is ok.2 par.1 (enclosed a out whole (omega (arith, len)) round) (omega (arith, lo)) (omega (arith, fl)) hc hp s2.1 h2.1 end',
+              ),
+        )
     statement_fine (While e n x place) a p kind cs ps is ok par round lo fl hc hp code has end =
         let ts = k.shape.threads in
         let fill = fill_code n (loops a) in
@@ -491,12 +501,13 @@ module _ (k : PlainKernel) (thread : Option ℕ) (b : PlainBlock) (depths : List
         let begin_body = lead_first depths q (length cx) dx (statement_first x cs ps') long (has_front depths q dx _ h3) h4.0 in
         let turn_end : Leads depths t 0 = lead_first depths t (length turn) fd (fill_first n) (turn_length n (loops a) place) (has_front depths t fd _ h2.1) begin_body in
         fine_join (scope k thread b depths) b depths p fill (loop_code h test turn (λ b. statement_code ts (inner n a) b x)) fd (expression_depths 0 e ++ (1 ∷ body_ds)) (fill_fine n (loops a) p here begin_test)
-        (test_fine e 1 h (instruction.Zero out) (turn ++ (cx ++ back ∷ [])) body_ds ok.1 h1 refl
-        ((omega arith, lead _ _ _ _ refl less turn_end, lead _ _ _ _ refl less end'),
-        fine_join (scope k thread b depths) b depths t turn (cx ++ back ∷ []) fd (dx ++ 0 ∷ []) (turn_fine n (loops a) t place here begin_body)
-        (then_one q cx back dx 0
-        (statement_fine x (inner n a) q kind cs ps' is ok.2 par (encloses_inner n a l (enclosed a l whole (omega (arith, len)) round)) (counted_inside n a (counters_in x) lo) (omega (arith, fl, weaks_inner n a)) hc' hp' (has_front b.steps q cx _ s3) (has_front depths q dx _ h3) h4.0)
-        ((begin_test, λ le. first_costs b.steps e h (has_front b.steps h test _ s1)), tt))))
+        (test_fine e 1 h (instruction.Zero out) (turn ++ (cx ++ back ∷ [])) body_ds ok.1 h1 refl (
+          (omega arith, lead _ _ _ _ refl less turn_end, lead _ _ _ _ refl less end'),
+          fine_join (scope k thread b depths) b depths t turn (cx ++ back ∷ []) fd (dx ++ 0 ∷ []) (turn_fine n (loops a) t place here begin_body)
+              (then_one q cx back dx 0
+              (statement_fine x (inner n a) q kind cs ps' is ok.2 par (encloses_inner n a l (enclosed a l whole (omega (arith, len)) round)) (counted_inside n a (counters_in x) lo) (omega (arith, fl, weaks_inner n a)) hc' hp' (has_front b.steps q cx _ s3) (has_front depths q dx _ h3) h4.0)
+              ((begin_test, λ le. first_costs b.steps e h (has_front b.steps h test _ s1)), tt)),
+        ))
     statement_fine Pause a p kind cs ps is ok par round lo fl hc hp code has end =
         let has' = subst (λ l. HasAt depths p (pause_depths (checks_depths a) l)) hp (subst (λ l. HasAt depths p (pause_depths l ps)) hc has) in
         subst (λ l. Fine k thread b depths p (pause_code p a) (pause_depths l ps)) (sym hc)

@@ -1,12 +1,12 @@
 -- What is asked of the calls in a term: each is of an allowed function, with as many arguments as it has parameters.
-use Rattle.std.specs.Prelude.{ℕ, ◌≡◌, ◌<◌, ℤ, Bool, true, false, IsTrue, Option, Some, None, List, [], length, slice_get, replicate}
+use Rattle.std.specs.Prelude.{ℕ, ◌≡◌, ℤ, Bool, true, Some, None, List, [], slice_get, replicate}
 use Rattle.forec_kernel.specs.declared.terms.Spot.TheVariants as spot
 use Rattle.forec_kernel.specs.Terms.{Expr, Num, Local, LocalAt, Var, TableAt, Un, Bin, And, Or, Choose, Call, Exprs, no_exprs, more_exprs, count_exprs, Stmt, Nop, Set, SetAt, Clear, Seq, If, While, Pause, Par, Enter, Return, Stmts, no_stmts, more_stmts}
 use Rattle.forec_kernel.specs.WellFormed.{Scope, FineExpr}
 use Rattle.forec_kernel.specs.Values.{Value, fresh_words}
 use Rattle.thread_code.specs.Plain.{PlainBlock, PlainCode}
 use Rattle.thread_code.specs.Valid.{function_arguments}
-use Rattle.thread_code.specs.Machine.{Frame, Own, Machine, On, returned}
+use Rattle.thread_code.specs.Machine.{Frame, Own, On, returned}
 use Rattle.code_gen.proofs.Stretch.{point, Yields}
 
 module _ (c : PlainCode) (ok : ℕ → Bool) where

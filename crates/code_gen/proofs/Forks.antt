@@ -1,24 +1,21 @@
 -- The arguments of a par, and the jobs that a fork starts.
-use Rattle.std.proofs.Common.{◌≡◌, ℕ, zero, suc, ◌+◌, ◌-◌, List, [], ◌∷◌, ◌++◌, length, Option, Some, None, Bool, true, false, refl, sym, ap, ◌∙◌, subst, arith, append-nil, append_assoc, length-append, take, drop}
-use Rattle.std.specs.Prelude.{ℤ, pos, slice_get, replicate}
-use Rattle.forec_base.specs.declared.Place.{Place}
-use Rattle.forec_base.specs.declared.Trap.{Trap}
+use Rattle.std.proofs.Common.{◌≡◌, ℕ, zero, suc, ◌+◌, ◌-◌, List, [], ◌∷◌, ◌++◌, length, Bool, true, false, refl, sym, ap, ◌∙◌, subst, arith, append-nil, length-append, take, drop}
+use Rattle.std.specs.Prelude.{ℤ, pos, replicate}
 use Rattle.forec_kernel.specs.declared.shape.VarCopy.{VarCopy}
-use Rattle.forec_kernel.specs.Terms.{Branch, count_exprs}
-use Rattle.forec_kernel.specs.Shapes.{PlainKernel, PlainThread}
-use Rattle.forec_kernel.specs.Values.{Value, Gives, Stops, Values, AllGive, OneStops, Setting, setting, Sight, vals, fresh_words, call}
-use Rattle.forec_kernel.specs.Texts.{Running, Text, Threads, no_threads, child, some_running, text_of, uses_of, words_of, params_of, body_of, handed_down}
-use Rattle.forec_kernel.specs.Steps.{Owner, Arguments, Ready, Refused, one_more_list, arguments_then, arguments, started}
+use Rattle.forec_kernel.specs.Terms.{Branch}
+use Rattle.forec_kernel.specs.Shapes.{PlainKernel}
+use Rattle.forec_kernel.specs.Values.{Values, AllGive, OneStops, Setting, setting, Sight, vals, fresh_words, call}
+use Rattle.forec_kernel.specs.Texts.{some_running, uses_of, words_of, params_of}
+use Rattle.forec_kernel.specs.Steps.{Owner, Arguments, Ready, Refused, arguments_then, arguments, started}
 use Rattle.forec_kernel.specs.WellFormed.{threads_in}
-use Rattle.forec_kernel.specs.Solo.{values_in, seeds_for}
+use Rattle.forec_kernel.specs.Solo.{seeds_for}
 use Rattle.thread_code.specs.declared.instruction.Instruction.{Instruction}
-use Rattle.thread_code.specs.Plain.{PlainCode}
 use Rattle.thread_code.specs.Valid.{arguments_of}
 use Rattle.thread_code.specs.Machine.{Own, Machine, On, Trapped, starts}
 use Rattle.code_gen.specs.Expressions.{expressions_code}
 use Rattle.code_gen.specs.Statements.{arguments_code}
 use Rattle.code_gen.specs.Blocks.{kernel_code}
-use Rattle.code_gen.proofs.Fits.{AllFit, CallsRun}
+use Rattle.code_gen.proofs.Fits.{CallsRun}
 use Rattle.code_gen.proofs.Stretch.{HasAt, has_front, has_back, SameCount, point, Comes, stays, comes_on, comes_at, YieldsAll}
 use Rattle.code_gen.proofs.Exprs.{push_all, same_count, expressions_run}
 use Rattle.code_gen.proofs.Places.{ok, BranchesFit, numbers, running_in, Awaits}

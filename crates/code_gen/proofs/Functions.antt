@@ -1,24 +1,24 @@
 -- The code of an int function gives what the function gives.
-use Rattle.std.proofs.Common.{◌≡◌, ℕ, zero, suc, ◌+◌, ◌<◌, ◌≤◌, List, [], ◌∷◌, ◌++◌, length, Option, Some, None, Bool, true, false, cond, not, refl, sym, ap, ◌∙◌, subst, arith, length-append, get_or}
-use Rattle.std.specs.Prelude.{ℤ, pos, slice_get, slice_set, replicate}
+use Rattle.std.proofs.Common.{◌≡◌, ℕ, zero, suc, ◌+◌, ◌<◌, ◌≤◌, List, [], ◌∷◌, ◌++◌, length, Option, Some, None, Bool, true, false, cond, not, refl, ap, ◌∙◌, subst, arith, length-append, get_or}
+use Rattle.std.specs.Prelude.{ℤ, pos, slice_get, slice_set}
 use Rattle.forec_base.specs.Numbers.{is_zero, truth, unary_of, binary_of}
 use Rattle.forec_base.specs.declared.Place.{Place}
-use Rattle.forec_base.specs.declared.Trap.TheVariants.{Divide, Index, Turns}
+use Rattle.forec_base.specs.declared.Trap.TheVariants.{Index, Turns}
 use Rattle.forec_kernel.specs.declared.terms.Spot.TheVariants as spot
 use Rattle.forec_kernel.specs.Terms.{Expr, Num, Local, LocalAt, Var, TableAt, Un, Bin, And, Or, Choose, Call, Exprs, no_exprs, more_exprs, Stmt, Nop, Set, SetAt, Clear, Seq, If, While, Pause, Par, Enter, Return, Stmts, no_stmts, more_stmts}
 use Rattle.forec_kernel.specs.Shapes.{PlainKernel, PlainThread}
-use Rattle.forec_kernel.specs.Values.{word, index_in, Value, Gives, Stops, Values, more_units, value_then, first_then, values_then, Setting, Sight, divided, at_index, val, vals, Flow, Goes, Returns, Breaks, more_flow, flow_with, flow_then, words_alone, cleared, stored_at, turns, flow, flows, returned}
+use Rattle.forec_kernel.specs.Values.{word, index_in, Value, Gives, Stops, more_units, value_then, first_then, values_then, Setting, Sight, divided, at_index, val, vals, Flow, Goes, Returns, Breaks, more_flow, flow_with, flow_then, words_alone, cleared, stored_at, turns, flow, flows, returned}
 use Rattle.forec_kernel.specs.WellFormed.{Scope, FineExpr, FineExprs}
 use Rattle.thread_code.specs.declared.instruction.Instruction.{Instruction}
 use Rattle.thread_code.specs.declared.instruction.Instruction.TheVariants as instruction
-use Rattle.thread_code.specs.Plain.{PlainBlock, PlainCode}
+use Rattle.thread_code.specs.Plain.{PlainCode}
 use Rattle.thread_code.specs.Machine as machine
 use Rattle.thread_code.specs.Machine.{Frame, Own, Machine, On, Trapped, unless_none, turn_taken, put_at, onward, uses_of}
 use Rattle.code_gen.specs.Expressions.{expression_code}
-use Rattle.code_gen.specs.Statements.{Around, Outside, InLoop, loops, loop_code, if_code, statement_code, statements_code}
+use Rattle.code_gen.specs.Statements.{Around, Outside, InLoop, loops, loop_code, statement_code, statements_code}
 use Rattle.code_gen.proofs.Cells.{put_same, put_other}
 use Rattle.code_gen.proofs.Lengths.{loop_length, if_length}
-use Rattle.code_gen.proofs.Fits.{Fits, Own_expression, BodyFits, BodiesFit, CallsRun}
+use Rattle.code_gen.proofs.Fits.{Own_expression, BodyFits, BodiesFit, CallsRun}
 use Rattle.code_gen.proofs.Stretch.{HasAt, has_front, has_back, point, Comes, stays, comes_on, comes_at, one, Yields}
 use Rattle.code_gen.proofs.Exprs.{expression_runs}
 

@@ -1,31 +1,29 @@
 -- The branches of a fork have replied: what the thread does next, and what the machine does.
-use Rattle.std.proofs.Common.{◌≡◌, ℕ, zero, suc, ◌+◌, ◌<◌, ◌==◌, List, [], ◌∷◌, ◌++◌, length, Option, Some, None, Bool, true, false, cond, not, ◌&&◌, ◌||◌, refl, sym, ap, ◌∙◌, subst, arith, get_or}
-use Rattle.std.specs.Prelude.{ℤ}
+use Rattle.std.proofs.Common.{◌≡◌, ℕ, ◌+◌, ◌==◌, List, [], ◌∷◌, length, Option, Some, None, Bool, true, false, cond, not, refl, sym, ap, ◌∙◌, subst, arith, get_or}
 use Rattle.std.proofs.lemmas.Bool.Decides.{nat_tests}
 use Rattle.forec_base.specs.declared.Place.{Place}
 use Rattle.forec_base.specs.declared.Trap.{Trap}
-use Rattle.forec_kernel.specs.declared.shape.VarCopy.{VarCopy}
 use Rattle.forec_kernel.specs.Shapes.{PlainKernel}
 use Rattle.forec_kernel.specs.Values.{call}
-use Rattle.forec_kernel.specs.Texts.{After, Running, Paused, Ended, Gone, Trapped, Text, Done, Run, Then, Turning, Resting, Fork, Held, Watch, Last, Threads, no_threads, child, some_running, all_over, first_trap, first_some, ended_are_gone, uses_of}
+use Rattle.forec_kernel.specs.Texts.{Running, Paused, Ended, Gone, Trapped, Text, Done, Run, Then, Turning, Resting, Fork, Held, Watch, Last, Threads, no_threads, child, some_running, all_over, first_trap, ended_are_gone, uses_of}
 use Rattle.forec_kernel.specs.WellFormed.{distinct}
 use Rattle.forec_kernel.specs.Combining.{contains, variable_of, joined_copies, Cost, Costs, Fails, join_cost}
-use Rattle.forec_kernel.specs.Steps.{Move, Moves, Traps, Owner, combined, joined, text_move}
+use Rattle.forec_kernel.specs.Steps.{Owner, combined, joined, text_move}
 use Rattle.forec_kernel.specs.Engine.{Seed, Reply, WasPaused, WasEnded, WasTrapped, WasOver}
 use Rattle.forec_kernel.specs.Solo.{fork_of, with_fork, seeds_for, all_replied, some_reply_over}
 use Rattle.forec_kernel.proofs.Commute.{fork_quiet}
 use Rattle.thread_code.specs.declared.instruction.Instruction.{Instruction}
 use Rattle.thread_code.specs.Machine as machine
 use Rattle.thread_code.specs.Machine.{Point, Own, Awaited, Machine, On, Merges, Share, put_at, no_totals, is_ended, all_shares, live_after, back_to, replied}
-use Rattle.code_gen.specs.Statements.{Around, InAbort, loops, weaks}
+use Rattle.code_gen.specs.Statements.{Around, InAbort}
 use Rattle.code_gen.specs.Blocks.{kernel_code}
 use Rattle.code_gen.proofs.Cells.{put_same, put_other}
 use Rattle.code_gen.proofs.Fits.{FitsCall, CallsRun}
-use Rattle.code_gen.proofs.Stretch.{point, Comes, comes_at, comes_on, stays}
+use Rattle.code_gen.proofs.Stretch.{point, Comes, comes_at}
 use Rattle.code_gen.proofs.Columns.{Ascends}
 use Rattle.code_gen.proofs.Branchwise.{child_shares}
 use Rattle.code_gen.proofs.Merging.{Joined, join_runs}
-use Rattle.code_gen.proofs.Places.{Store, Marks, own, numbers, running_in, Awaits, Sleeps, some_paused, leaf, ok, SameBelow, inside, Here, At_fork, on, Ends, ForkAt, HoldAt, Works, Rests, At, GoesOn}
+use Rattle.code_gen.proofs.Places.{Store, Marks, own, numbers, running_in, Awaits, Sleeps, some_paused, leaf, ok, inside, Here, At_fork, ForkAt, Works, At, GoesOn}
 use Rattle.code_gen.proofs.Steps.{Follows, then_runs, watch_runs, last_runs}
 
 -- a reply for each child that runs
@@ -301,8 +299,8 @@ module _ (k : PlainKernel) (t : ℕ) (run : CallsRun (kernel_code k) t (ok k) (c
               f' = f1;
               comes = comes_at (kernel_code k) t (ap (λ p. On p [] (record { copies = joined_copies k (all_replied cs rs) (uses_of k t) st.copies; flags = f.flags; live = live_after (running_in cs) rs f.live }) (u + v)) back) j;
               here = (
-                  record { j = fork.j; named = fork.named ∙ sym same; apart = subst (λ l. distinct l ≡ true) (sym same) fork.apart; w = fork.w; pause = fork.pause; held = fork.held },
-                  record { some = some_left k f.live cs rs works.awaits fits silent e; sleeps = sleeps_after f.live cs rs fork.apart works.awaits fits silent }
+                record { j = fork.j; named = fork.named ∙ sym same; apart = subst (λ l. distinct l ≡ true) (sym same) fork.apart; w = fork.w; pause = fork.pause; held = fork.held },
+                record { some = some_left k f.live cs rs works.awaits fits silent e; sleeps = sleeps_after f.live cs rs fork.apart works.awaits fits silent },
               );
               below = record { counters = λ n lt. refl; flags = λ n lt. refl };
             })

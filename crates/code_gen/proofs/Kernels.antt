@@ -1,23 +1,23 @@
 -- What a kernel's condition says of its threads: their statements fit their code.
 use Rattle.std.proofs.Common.{◌≡◌, ℕ, zero, suc, ◌+◌, ◌<◌, ◌≤◌, ◌==◌, List, [], ◌∷◌, ◌++◌, length, Option, Some, None, Bool, true, false, cond, refl, sym, ap, ◌∙◌, subst, arith, get_or, ⊎_elim}
-use Rattle.std.specs.Prelude.{◌≢◌, IsTrue}
+use Rattle.std.specs.Prelude.{◌≢◌}
 use Rattle.std.proofs.lemmas.Bool.{cases_lt}
 use Rattle.std.proofs.lemmas.Bool.Decides.{nat_tests}
-use Rattle.forec_kernel.specs.Terms.{Expr, count_exprs, Branch, Stmt, Nop, Set, SetAt, Clear, Seq, If, While, Pause, Par, Enter, Return, Stmts, no_stmts, more_stmts}
+use Rattle.forec_kernel.specs.Terms.{Expr, Branch, Stmt, Nop, Set, SetAt, Clear, Seq, If, While, Pause, Par, Enter, Return, Stmts, no_stmts, more_stmts}
 use Rattle.forec_kernel.specs.Shapes.{PlainKernel, PlainThread}
-use Rattle.forec_kernel.specs.Texts.{uses_in, params_in, uses_of, params_of, words_of, body_of}
+use Rattle.forec_kernel.specs.Texts.{uses_in, params_in, uses_of, words_of, body_of}
 use Rattle.forec_kernel.specs.Combining.{contains, variable_of}
-use Rattle.forec_kernel.specs.WellFormed.{Scope, FineExpr, FineStmt, FineStmts, FineBranch, FineBranches, FinePar, WellFormed, FineThread, FineVariable, distinct, threads_in, pars_of, pars_in, is_par, branches_of, blank_thread, thread_of, calls_of, calls_in, branch_calls, stmt_calls, stmts_calls}
+use Rattle.forec_kernel.specs.WellFormed.{Scope, FineExpr, FineStmt, FineStmts, FineBranches, FinePar, WellFormed, distinct, threads_in, pars_of, pars_in, is_par, branches_of, blank_thread, calls_of, calls_in, branch_calls, stmt_calls, stmts_calls}
 use Rattle.forec_kernel.specs.declared.shape.Variable.{Variable}
 use Rattle.thread_code.specs.Valid.{branches_in}
 use Rattle.code_gen.specs.Statements.{par_in, number_or, par_number}
 use Rattle.code_gen.specs.Blocks.{kernel_code}
 use Rattle.code_gen.proofs.Each.{Each, each_front, each_back, each_map}
 use Rattle.code_gen.proofs.Deep.{deep, statement_named}
-use Rattle.code_gen.proofs.Fits.{FitsCall, Fits, AllFit}
+use Rattle.code_gen.proofs.Fits.{FitsCall, Fits}
 use Rattle.code_gen.proofs.Calls.{fits, all_fit, fits_call, each_deep}
 use Rattle.code_gen.proofs.Columns.{Ascends, ascending, not_above}
-use Rattle.code_gen.proofs.Places.{ok, BranchesFit, ParFits, StatementFits, StatementsFit}
+use Rattle.code_gen.proofs.Places.{ok, BranchesFit, StatementFits, StatementsFit}
 
 -- ---- the branches of a par
 
@@ -105,10 +105,11 @@ module _ (k : PlainKernel) (fine : WellFormed k) where
       statement_fits (Clear x n) h d p = tt
       statement_fits (Seq list) h d p = statements_fit list h d p
       statement_fits (If e a b) h d p =
-          let first = each_front Ok (calls_of e ++ stmt_calls a) (stmt_calls b) d in
-          (fits_of e h.0 (each_front Ok (calls_of e) (stmt_calls a) first),
-          statement_fits a h.1 (each_back Ok (calls_of e) (stmt_calls a) first) (each_front (FinePar k t) (pars_of a) (pars_of b) p),
-          statement_fits b h.2 (each_back Ok (calls_of e ++ stmt_calls a) (stmt_calls b) d) (each_back (FinePar k t) (pars_of a) (pars_of b) p))
+          let first = each_front Ok (calls_of e ++ stmt_calls a) (stmt_calls b) d in (
+            fits_of e h.0 (each_front Ok (calls_of e) (stmt_calls a) first),
+            statement_fits a h.1 (each_back Ok (calls_of e) (stmt_calls a) first) (each_front (FinePar k t) (pars_of a) (pars_of b) p),
+            statement_fits b h.2 (each_back Ok (calls_of e ++ stmt_calls a) (stmt_calls b) d) (each_back (FinePar k t) (pars_of a) (pars_of b) p),
+          )
       statement_fits (While e bound body place) h d p = (fits_of e h.1 (each_front Ok (calls_of e) (stmt_calls body) d), statement_fits body h.2 (each_back Ok (calls_of e) (stmt_calls body) d) p)
       statement_fits Pause h d p = tt
       statement_fits (Par bs) h d p =
@@ -124,9 +125,10 @@ module _ (k : PlainKernel) (fine : WellFormed k) where
 
       pub statements_fit : (list : Stmts) → FineStmts false z list → Each Ok (stmts_calls list) → Each (FinePar k t) (pars_in list) → StatementsFit k list
       statements_fit no_stmts h d p = tt
-      statements_fit (more_stmts x rest) h d p =
-          (statement_fits x h.0 (each_front Ok (stmt_calls x) (stmts_calls rest) d) (each_front (FinePar k t) (pars_of x) (pars_in rest) p),
-          statements_fit rest h.1 (each_back Ok (stmt_calls x) (stmts_calls rest) d) (each_back (FinePar k t) (pars_of x) (pars_in rest) p))
+      statements_fit (more_stmts x rest) h d p = (
+        statement_fits x h.0 (each_front Ok (stmt_calls x) (stmts_calls rest) d) (each_front (FinePar k t) (pars_of x) (pars_in rest) p),
+        statements_fit rest h.1 (each_back Ok (stmt_calls x) (stmts_calls rest) d) (each_back (FinePar k t) (pars_of x) (pars_in rest) p),
+      )
 
   pub each_par : (t : ℕ) (pars : List (List ℕ)) → ((bs : List ℕ) (i : ℕ) → i < length pars → bs ≡ get_or pars i [] → FinePar k t bs) → Each (FinePar k t) pars
   each_par t [] h = tt

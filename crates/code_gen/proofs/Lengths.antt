@@ -1,12 +1,11 @@
 -- How long code is: it doesn't depend on where the aborts round it end.
-use Rattle.std.proofs.Common.{◌≡◌, ℕ, zero, suc, ◌+◌, List, [], ◌∷◌, ◌++◌, length, Option, Some, None, Bool, true, false, refl, sym, ap, ◌∙◌, subst, length-append, arith}
-use Rattle.forec_base.specs.declared.Place.{Place}
-use Rattle.forec_kernel.specs.Terms.{Expr, Branch, Stmt, Nop, Set, SetAt, Clear, Seq, If, While, Pause, Par, Enter, Return, Stmts, no_stmts, more_stmts}
+use Rattle.std.proofs.Common.{◌≡◌, ℕ, suc, ◌+◌, List, [], ◌∷◌, ◌++◌, length, Option, Some, None, Bool, true, false, refl, ap, ◌∙◌, length-append, arith}
+use Rattle.forec_kernel.specs.Terms.{Expr, Stmt, Nop, Set, SetAt, Clear, Seq, If, While, Pause, Par, Enter, Return, Stmts, no_stmts, more_stmts}
 use Rattle.forec_kernel.specs.Shapes.{PlainThread}
 use Rattle.thread_code.specs.declared.instruction.Instruction.{Instruction}
 use Rattle.thread_code.specs.declared.instruction.Instruction.TheVariants as instruction
-use Rattle.code_gen.specs.Expressions.{expression_code, expressions_code}
-use Rattle.code_gen.specs.Statements.{Around, Outside, InLoop, InAbort, loops, weaks, checks, guard, prologue, pause_code, fork_code, set_code, if_code, inner, fill_code, turn_code, loop_code, enter_code, par_number, arguments_code, statement_code, statements_code}
+use Rattle.code_gen.specs.Expressions.{expression_code}
+use Rattle.code_gen.specs.Statements.{Around, Outside, InLoop, InAbort, loops, weaks, checks, guard, prologue, fork_code, if_code, inner, fill_code, turn_code, loop_code, enter_code, par_number, arguments_code, statement_code, statements_code}
 
 -- the length of a loop's code
 pub loop_length : (h : ℕ) (test turn : List Instruction) (body : ℕ → List Instruction) → length (loop_code h test turn body) ≡ length test + 1 + length turn + length (body (h + length test + 1 + length turn)) + 1

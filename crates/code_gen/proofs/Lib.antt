@@ -13,9 +13,7 @@ pub mod Forks
 pub mod Steps
 pub mod Waking
 pub mod Columns
-
 pub mod Branchwise
-
 pub mod Merging
 pub mod Joining
 pub mod Kernels

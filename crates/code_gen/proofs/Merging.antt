@@ -1,26 +1,20 @@
 -- The machine combines the branches' copies as the kernel does.
-use Rattle.std.proofs.Common.{◌≡◌, ℕ, zero, suc, ◌+◌, ◌<◌, ◌≤◌, ◌==◌, List, [], ◌∷◌, ◌++◌, map, length, Option, Some, None, Bool, true, false, cond, ◌&&◌, ◌||◌, refl, sym, ap, ◌∙◌, subst, arith, append-nil, append_assoc, get_or}
-use Rattle.std.specs.Prelude.{ℤ, pos, slice_get, replicate}
+use Rattle.std.proofs.Common.{◌≡◌, ℕ, suc, ◌+◌, ◌<◌, ◌==◌, List, [], ◌∷◌, ◌++◌, map, Option, Some, None, Bool, true, false, cond, ◌||◌, refl, sym, ap, ◌∙◌, subst, arith}
+use Rattle.std.specs.Prelude.{ℤ, slice_get, replicate}
 use Rattle.std.proofs.lemmas.Bool.Decides.{nat_tests}
-use Rattle.forec_base.specs.declared.Policy.{Policy}
-use Rattle.forec_base.specs.declared.Place.{Place}
-use Rattle.forec_base.specs.declared.Trap.{Trap}
 use Rattle.forec_kernel.specs.declared.shape.VarCopy.{VarCopy}
-use Rattle.forec_kernel.specs.declared.shape.Variable.{Variable}
 use Rattle.forec_kernel.specs.Shapes.{PlainKernel}
 use Rattle.forec_kernel.specs.Values.{Value, Gives, Stops, more_units, copy_of, call, fresh_words}
 use Rattle.forec_kernel.specs.Texts.{Status, Text, Threads, no_threads, child, uses_of}
 use Rattle.forec_kernel.specs.Combining as combining
 use Rattle.forec_kernel.specs.Combining.{contains, shares, takes_part, taking_part, some_marked, Joint, variable_of, combine_of, joined_copies, calls_of, calls_from, calls_at, count_threads, in_order, Cost, Costs, Fails, more_cost, cost_of, join_cost}
-use Rattle.thread_code.specs.Plain.{PlainBlock}
-use Rattle.thread_code.specs.Machine as machine
-use Rattle.thread_code.specs.Machine.{Point, Share, Total, Merge, Frame, Folding, Own, Machine, On, Merges, Trapped, total_of, put_total, no_totals, totalled, noted, settled, folded, entered, step}
+use Rattle.thread_code.specs.Machine.{Point, Share, Total, Folding, Own, Machine, On, Merges, Trapped, total_of, put_total, no_totals, folded, entered, step}
 use Rattle.code_gen.specs.Blocks.{kernel_code}
 use Rattle.code_gen.proofs.Each.{Each, each_front, each_back}
 use Rattle.code_gen.proofs.Fits.{FitsCall, CallsRun}
 use Rattle.code_gen.proofs.Stretch.{point, Comes, stays, comes_on, comes_at, Yields}
 use Rattle.code_gen.proofs.Places.{ok}
-use Rattle.code_gen.proofs.Columns.{Ascends, kept, kept_ascends, Sized, none_sized, none_total, put_sized, total_same, total_other, total_outside, called, total_after, given_or, cost_then, cost_append, Given, all_given, rest_calls, total_in, Later, shares_later, with_share, share_calls, share_total, calls_now, calls_later, total_now}
+use Rattle.code_gen.proofs.Columns.{Ascends, kept, kept_ascends, Sized, none_sized, none_total, put_sized, total_same, total_other, total_outside, called, total_after, given_or, cost_then, cost_append, Given, all_given, rest_calls, total_in, shares_later, with_share, share_calls, share_total, calls_now, calls_later, total_now}
 use Rattle.code_gen.proofs.Branchwise.{flat, flat_at, flat_same, each_in, in_order_same, variables_of, share_in, from_share, list_calls, Silent, cross, branch_shares, child_shares, branch_ascends, first_share, bases, placed, joins, policy, calls_are, final_total, settled_is}
 
 module _ (k : PlainKernel) (t : ℕ) (run : CallsRun (kernel_code k) t (ok k) (call k)) (combines : (v f : ℕ) → (variable_of k v).combine ≡ Some f → FitsCall (kernel_code k) (ok k) f 2) (asc : (n : ℕ) → Ascends (uses_of k n)) (o : Own) (back : Point) where
@@ -266,8 +260,8 @@ module _ (k : PlainKernel) (t : ℕ) (run : CallsRun (kernel_code k) t (ok k) (c
   silent : (totals : List Total) → Sized (uses_of k t) o.copies totals → (left : List Share) → Silent (now totals) K left
   silent totals h [] = tt
   silent totals h (s ∷ left) = (
-      (λ e. no_call (joins k s.variable) (takes_part (policy k s.variable) (base s.variable) s.copy) (total_of (uses_of k t) totals s.variable).value s.copy.value (ap (λ (y : Total). y.value) (total_outside (uses_of k t) o.copies totals s.variable h e))),
-      silent totals h left
+    (λ e. no_call (joins k s.variable) (takes_part (policy k s.variable) (base s.variable) s.copy) (total_of (uses_of k t) totals s.variable).value s.copy.value (ap (λ (y : Total). y.value) (total_outside (uses_of k t) o.copies totals s.variable h e))),
+    silent totals h left,
   )
 
   flat_each : (g : ℕ → List Value) (vs : List ℕ) → Each Given (flat g vs) → Each (λ v. Each Given (g v)) vs

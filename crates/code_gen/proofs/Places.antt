@@ -1,20 +1,18 @@
 -- Where a machine is when a text is before it.
-use Rattle.std.proofs.Common.{◌≡◌, ℕ, zero, suc, ◌+◌, ◌<◌, List, [], ◌∷◌, ◌++◌, map, length, Option, Some, None, Bool, true, false, cond, not, refl, sym, ap, ◌∙◌, subst, arith, append-nil, length-append, get_or}
+use Rattle.std.proofs.Common.{◌≡◌, ℕ, ◌+◌, ◌<◌, List, [], ◌∷◌, ◌++◌, length, Option, Some, None, Bool, true, false, cond, refl, ap, ◌∙◌, subst, arith, length-append, get_or}
 use Rattle.std.specs.Prelude.{ℤ, ◌≢◌, slice_get}
-use Rattle.forec_base.specs.declared.Place.{Place}
 use Rattle.forec_kernel.specs.declared.shape.VarCopy.{VarCopy}
 use Rattle.forec_kernel.specs.Terms.{Expr, count_exprs, Branch, Stmt, Nop, Set, SetAt, Clear, Seq, If, While, Pause, Par, Enter, Return, Stmts, no_stmts, more_stmts}
 use Rattle.forec_kernel.specs.Shapes.{PlainKernel}
-use Rattle.forec_kernel.specs.Texts.{Loop, After, Go_on, Again, Status, Running, Paused, Ended, Gone, Trapped, Text, Done, Run, Then, Turning, Resting, Fork, Held, Watch, Last, Threads, no_threads, child, text_of, texts_of, after_text, is_running, some_running, params_of}
+use Rattle.forec_kernel.specs.Texts.{Loop, After, Go_on, Again, Running, Paused, Ended, Gone, Trapped, Text, Done, Run, Then, Turning, Resting, Fork, Held, Watch, Last, Threads, no_threads, child, text_of, texts_of, is_running, some_running, params_of}
 use Rattle.forec_kernel.specs.WellFormed.{distinct, threads_in}
 use Rattle.forec_kernel.specs.Solo.{seeds_for}
 use Rattle.thread_code.specs.declared.instruction.Instruction.{Instruction}
 use Rattle.thread_code.specs.declared.instruction.Instruction.TheVariants as instruction
-use Rattle.thread_code.specs.Plain.{PlainCode}
 use Rattle.thread_code.specs.Valid.{branches_in}
 use Rattle.thread_code.specs.Machine.{Own, Machine, On, Waits}
 use Rattle.code_gen.specs.Expressions.{expression_code}
-use Rattle.code_gen.specs.Statements.{Around, InLoop, InAbort, loops, weaks, checks, prologue, inner, turn_code, loop_code, par_number, statement_code, statements_code}
+use Rattle.code_gen.specs.Statements.{Around, InAbort, loops, weaks, checks, prologue, inner, turn_code, loop_code, par_number, statement_code, statements_code}
 use Rattle.code_gen.specs.Blocks.{kernel_code}
 use Rattle.code_gen.proofs.Deep.{deep}
 use Rattle.code_gen.proofs.Fits.{Fits, AllFit}
@@ -298,9 +296,12 @@ module _ (k : PlainKernel) (t : ℕ) (s : List Instruction) where
         let m = p + length code in
         let more = statements_code k.shape.threads a m (more_stmts y rest) in
         let len : m + length more ≡ p + length (code ++ more) = omega (arith, length-append code more) in
-        let g = h.fits in
-        (m, text_at x a p m c f (record { has = has_front s p code more h.has; ends = ends_here m m refl; fits = g.0 }),
-        record { has = has_back s p code more h.has; ends = ends_on (ends_here _ _ len) h.ends; fits = g.1 }, tt)
+        let g = h.fits in (
+          m,
+          text_at x a p m c f (record { has = has_front s p code more h.has; ends = ends_here m m refl; fits = g.0 }),
+          record { has = has_back s p code more h.has; ends = ends_on (ends_here _ _ len) h.ends; fits = g.1 },
+          tt,
+        )
 
   -- ---- what a step or a waking of a text leads to
 

@@ -1,19 +1,16 @@
 -- The code of a kernel stands for it.
-use Rattle.std.proofs.Common.{◌≡◌, ℕ, zero, suc, ◌+◌, ◌<◌, List, [], ◌∷◌, ◌++◌, length, Option, Some, None, Bool, true, false, cond, not, ◌||◌, is_some, refl, sym, ap, ◌∙◌, subst, arith, get_or}
+use Rattle.std.proofs.Common.{◌≡◌, ℕ, ◌+◌, ◌<◌, List, [], ◌∷◌, ◌++◌, length, Option, Some, None, Bool, true, false, not, ◌||◌, is_some, refl, sym, ap, ◌∙◌, subst, arith}
 use Rattle.std.specs.Prelude.{ℤ, slice_get, replicate}
 use Rattle.std.proofs.lemmas.Option.{get_or_from_slice_get}
-use Rattle.forec_base.specs.declared.Place.{Place}
-use Rattle.forec_base.specs.declared.Trap.{Trap}
 use Rattle.forec_kernel.specs.declared.shape.VarCopy.{VarCopy}
 use Rattle.forec_kernel.specs.Shapes.{PlainKernel}
-use Rattle.forec_kernel.specs.Values.{call, fresh_words}
-use Rattle.forec_kernel.specs.Texts.{Status, Running, Paused, Ended, Gone, Trapped, Text, Threads, Thread, is_running, text_of, uses_of, words_of, body_of}
-use Rattle.forec_kernel.specs.Combining.{variable_of}
+use Rattle.forec_kernel.specs.Values.{call}
+use Rattle.forec_kernel.specs.Texts.{Status, Running, Paused, Ended, Gone, Trapped, Threads, Thread, is_running, uses_of, body_of}
 use Rattle.forec_kernel.specs.Steps.{Move, Finished, Halts, Moves, Traps, units_of, thread_after, thread_move, text_move, Woken, Wakes, Stays, text_if, status_of, waking_units}
 use Rattle.forec_kernel.specs.Steps as steps_of
 use Rattle.forec_kernel.specs.WellFormed.{WellFormed}
 use Rattle.forec_kernel.specs.Erased.{erased}
-use Rattle.forec_kernel.specs.Engine.{Seed, Reply, WasPaused, WasEnded, WasTrapped, WasOver, View, Going, AtFork, Pausing, Ending, Trapping, Exceeding, Engine, run_for, Exchange, Output}
+use Rattle.forec_kernel.specs.Engine.{Seed, Reply, WasPaused, WasEnded, WasTrapped, WasOver, View, Going, AtFork, Pausing, Ending, Trapping, Exceeding}
 use Rattle.forec_kernel.specs.Solo.{fork_of, with_fork, Solo, At, TooLong, unmarked_copies, started_thread, woken_thread, own_text, waking, wake_own, solo_wake, seeds_for, view_at, solo_view, solo_units, rests, solo_step, all_replied, all_units, some_reply_over, joined_own, solo_join, kernel_engine}
 use Rattle.forec_kernel.proofs.Keeps.{free_moves}
 use Rattle.forec_kernel.proofs.Same.{Behind, Simulates, gone, alone_like, alone_back}
@@ -30,9 +27,8 @@ use Rattle.code_gen.specs.Statements.{Outside, statement_code}
 use Rattle.code_gen.specs.Blocks.{thread_block, kernel_code}
 use Rattle.code_gen.proofs.Stretch.{HasAt, has_front, has_back, has_all, point, Comes, comes_on, comes_at, one}
 use Rattle.code_gen.proofs.Blocks.{block_at}
-use Rattle.code_gen.proofs.Fits.{FitsCall, CallsRun}
+use Rattle.code_gen.proofs.Fits.{CallsRun}
 use Rattle.code_gen.proofs.Calls.{calls_run}
-use Rattle.code_gen.proofs.Columns.{Ascends}
 use Rattle.code_gen.proofs.Kernels.{body_fits, uses_ascend, combines}
 use Rattle.code_gen.proofs.Places as places
 use Rattle.code_gen.proofs.Places.{Store, Marks, own, numbers, running_in, leaf, ok, Where, Here, At_fork, on, machine_at, Ends, ends_here, WakeAt, text_at, GoesOn}
@@ -268,8 +264,11 @@ module _ (k : PlainKernel) (t : ℕ) (fine : WellFormed k) (lt : t < length k.th
                 count = 0;
                 t' = m1;
                 lands = refl;
-                like = (h.0, subst (LikeStatus (record th { text = with_fork ds th.text }) n false m1) (sym status)
-                (has_replies c f free (replied_goes (kernel_code k) t w replies (own (store th) f) n replies) (replied_units (kernel_code k) t w replies (own (store th) f) n replies) follows));
+                like = (
+                  h.0,
+                  subst (LikeStatus (record th { text = with_fork ds th.text }) n false m1) (sym status)
+                      (has_replies c f free (replied_goes (kernel_code k) t w replies (own (store th) f) n replies) (replied_units (kernel_code k) t w replies (own (store th) f) n replies) follows),
+                );
               }
 
       by_running : LikeRunning th u woke m → th.status ≡ Running → view_at k woke th.copies Running (fork_of th.text) ≡ AtFork seeds → After (joined_own th u woke replies (fork_of th.text)) (join (kernel_code k) t replies m)
@@ -327,7 +326,7 @@ pub kernel_code_stands : (k : PlainKernel) → WellFormed k → Stands (kernel_c
 kernel_code_stands k fine = record {
   shape = refl;
   each = λ t lt xs os. (
-      alone_like Solo Machine (kernel_engine k t) (code_engine (kernel_code k) t) (Like k t fine lt) (simulates k t fine lt) (solo_steady k t) (code_steady (kernel_code k) t) xs _ _ os gone,
-      alone_back Solo Machine (kernel_engine k t) (code_engine (kernel_code k) t) (Like k t fine lt) (simulates k t fine lt) (solo_steady k t) (code_steady (kernel_code k) t) (solo_total k t) xs _ _ os gone
+    alone_like Solo Machine (kernel_engine k t) (code_engine (kernel_code k) t) (Like k t fine lt) (simulates k t fine lt) (solo_steady k t) (code_steady (kernel_code k) t) xs _ _ os gone,
+    alone_back Solo Machine (kernel_engine k t) (code_engine (kernel_code k) t) (Like k t fine lt) (simulates k t fine lt) (solo_steady k t) (code_steady (kernel_code k) t) (solo_total k t) xs _ _ os gone,
   );
 }

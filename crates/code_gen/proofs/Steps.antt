@@ -1,35 +1,33 @@
 -- The machine does each step of a thread's text.
-use Rattle.std.proofs.Common.{◌≡◌, ℕ, zero, suc, ◌+◌, ◌<◌, List, [], ◌∷◌, ◌++◌, length, Option, Some, None, Bool, true, false, cond, not, refl, sym, ap, ◌∙◌, subst, arith, append-nil, length-append, get_or}
-use Rattle.std.specs.Prelude.{ℤ, slice_get, slice_set}
+use Rattle.std.proofs.Common.{◌≡◌, ℕ, zero, suc, ◌+◌, List, [], ◌∷◌, ◌++◌, length, Option, Some, None, Bool, true, false, cond, not, refl, sym, ap, ◌∙◌, subst, arith, length-append, get_or}
+use Rattle.std.specs.Prelude.{ℤ, slice_set}
 use Rattle.forec_base.specs.Numbers.{is_zero}
 use Rattle.forec_base.specs.declared.Place.{Place}
 use Rattle.forec_base.specs.declared.Trap.TheVariants.{Index}
 use Rattle.forec_kernel.specs.declared.shape.VarCopy.{VarCopy}
 use Rattle.forec_kernel.specs.declared.terms.Spot.{Spot}
 use Rattle.forec_kernel.specs.declared.terms.Spot.TheVariants as spot
-use Rattle.forec_kernel.specs.Terms.{Expr, Branch, Stmt, Nop, Set, SetAt, Clear, Seq, If, While, Pause, Par, Enter, Return, Stmts, no_stmts, more_stmts}
+use Rattle.forec_kernel.specs.Terms.{Expr, Branch, Stmt, Nop, Set, SetAt, Clear, Seq, If, While, Pause, Par, Enter, Return}
 use Rattle.forec_kernel.specs.Shapes.{PlainKernel}
-use Rattle.forec_kernel.specs.Values.{Value, Gives, Stops, setting, Sight, val, call, cleared, index_in}
-use Rattle.forec_kernel.specs.Texts.{Loop, After, Go_on, Again, Text, Done, Run, Then, Turning, Resting, Fork, Held, Watch, Last, Threads, text_of, texts_of, after_text, uses_of, put_copy}
+use Rattle.forec_kernel.specs.Values.{Value, Gives, Stops, setting, Sight, call, cleared, index_in}
+use Rattle.forec_kernel.specs.Texts.{Loop, After, Go_on, Again, Text, Done, Run, Then, Turning, Resting, Fork, Held, Watch, Last, text_of, texts_of, after_text, uses_of, put_copy}
 use Rattle.forec_kernel.specs.WellFormed.{distinct, threads_in}
 use Rattle.forec_kernel.specs.Steps.{Move, Finished, Halts, Moves, Traps, more_move, move_with, Owner, evaluated, assigned, assigned_at, turned, entered, Arguments, Ready, Refused, arguments, started, forked, statement_move, loop_move, move_before, move_watched, move_last, text_move}
 use Rattle.forec_kernel.specs.Solo.{seeds_for}
 use Rattle.thread_code.specs.declared.instruction.Instruction.{Instruction}
 use Rattle.thread_code.specs.declared.instruction.Instruction.TheVariants as instruction
-use Rattle.thread_code.specs.Plain.{PlainCode}
 use Rattle.thread_code.specs.Valid.{branches_in, arguments_of}
-use Rattle.thread_code.specs.Machine as machine
-use Rattle.thread_code.specs.Machine.{Own, Machine, On, Waits, Trapped, Awaited, act, awaited, starts, with_arguments, unless_none, turn_taken, put_at}
+use Rattle.thread_code.specs.Machine.{Machine, On, Waits, Trapped, act, awaited, starts, with_arguments, unless_none, turn_taken, put_at}
 use Rattle.code_gen.specs.Expressions.{expression_code}
-use Rattle.code_gen.specs.Statements.{Around, InLoop, InAbort, loops, weaks, checks, guard, prologue, pause_code, fork_code, inner, turn_code, loop_code, if_code, enter_code, par_number, arguments_code, statement_code, statements_code}
+use Rattle.code_gen.specs.Statements.{Around, InLoop, InAbort, loops, weaks, checks, guard, prologue, pause_code, fork_code, inner, turn_code, loop_code, enter_code, par_number, arguments_code, statement_code}
 use Rattle.code_gen.specs.Blocks.{kernel_code}
 use Rattle.code_gen.proofs.Cells.{put_same, put_other}
 use Rattle.code_gen.proofs.Lengths.{loop_length, if_length, enter_length, fork_length, alike_self, alike_length}
 use Rattle.code_gen.proofs.Fits.{Fits, CallsRun}
 use Rattle.code_gen.proofs.Stretch.{HasAt, has_front, has_back, has_join, point, Comes, stays, comes_on, comes_at, one, Yields}
 use Rattle.code_gen.proofs.Exprs.{push_all, all_arguments, expression_runs}
-use Rattle.code_gen.proofs.Forks.{joined, ListsFit, Fitting, numbers_started, running_started, awaits_started, some_started, starts_are, arguments_count, arguments_fit, YieldsLists, arguments_run}
-use Rattle.code_gen.proofs.Places.{Store, Marks, own, numbers, running_in, leaf, ok, StatementFits, ParFits, SameBelow, same_below, Left, Unset, inside, Turns_left, Where, Here, At_fork, on, machine_at, Ends, ends_here, ends_on, ends_jump, StatementAt, StatementsAt, LoopAt, BehindAt, HeldAt, ForkAt, Works, HoldAt, Rests, RestAt, At, WakeAt, text_at, texts_at, GoesOn, goes, goes_from, goes_under, goes_at, none_more, goes_then, goes_watch, goes_last}
+use Rattle.code_gen.proofs.Forks.{joined, Fitting, numbers_started, running_started, awaits_started, some_started, starts_are, arguments_count, arguments_fit, YieldsLists, arguments_run}
+use Rattle.code_gen.proofs.Places.{Store, Marks, own, numbers, ok, ParFits, same_below, Left, Unset, inside, Turns_left, Here, At_fork, on, machine_at, Ends, ends_here, ends_on, ends_jump, StatementAt, LoopAt, BehindAt, ForkAt, At, WakeAt, text_at, texts_at, GoesOn, goes, goes_from, goes_at, none_more, goes_then, goes_watch, goes_last}
 
 module _ (k : PlainKernel) (t : ℕ) (run : CallsRun (kernel_code k) t (ok k) (call k)) (s : List Instruction) where
   abbrev o : Owner
@@ -179,13 +177,15 @@ module _ (k : PlainKernel) (t : ℕ) (run : CallsRun (kernel_code k) t (ok k) (c
       let len : p + 0 + length (expression_code (p + 0) e) + 1 + 0 + length (code (p + 0 + length (expression_code (p + 0) e) + 1 + 0)) + 1 ≡ p + length (statement_code k.shape.threads a p (While e None x place)) =
       omega (arith, loop_length (p + 0) (expression_code (p + 0) e) [] code) in
       let fit = h.fits in
-      goes k t s false a _ (p + 0) q st c f _ (u + 0)
-      (record {
-        has = subst (λ n. HasAt s n (loop_code (p + 0) (expression_code (p + 0) e) [] code)) z h.has;
-        ends = λ y is. ends_on k t s (ends_here k t s y _ (is ∙ len)) h.ends;
-        fits = fit.0;
-        body = fit.1;
-      }, tt)
+      goes k t s false a _ (p + 0) q st c f _ (u + 0) (
+        record {
+          has = subst (λ n. HasAt s n (loop_code (p + 0) (expression_code (p + 0) e) [] code)) z h.has;
+          ends = λ y is. ends_on k t s (ends_here k t s y _ (is ∙ len)) h.ends;
+          fits = fit.0;
+          body = fit.1;
+        },
+        tt,
+      )
       (none_more k t s (p + 0) st c f _ u ((ends_here k t s p (p + 0) z).by st c f u))
   while_runs (Some n) e x place a p q st c f u h =
       let w = loops a in

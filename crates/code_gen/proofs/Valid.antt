@@ -1,31 +1,30 @@
 -- The code of a kernel is valid.
-use Rattle.std.proofs.Common.{◌≡◌, ℕ, zero, suc, ◌+◌, ◌<◌, ◌≤◌, max, List, [], ◌∷◌, ◌++◌, length, get_or, Option, Some, None, Bool, true, false, refl, sym, ap, ◌∙◌, subst, arith, length-append}
-use Rattle.std.specs.Prelude.{pos, slice_get, IsTrue, ◌≢◌}
+use Rattle.std.proofs.Common.{◌≡◌, ℕ, ◌+◌, ◌<◌, ◌≤◌, List, [], ◌∷◌, ◌++◌, length, Option, Some, None, true, false, refl, sym, ap, ◌∙◌, subst, arith, length-append}
+use Rattle.std.specs.Prelude.{pos, slice_get}
 use Rattle.std.proofs.lemmas.Option.{slice_get_within}
-use Rattle.forec_kernel.specs.Terms.{Branch, count_exprs, Stmt, Nop, Set, SetAt, Clear, Seq, If, While, Pause, Par, Enter, Return, Stmts, no_stmts, more_stmts}
+use Rattle.forec_kernel.specs.Terms.{Branch, Stmt, Nop, Set, SetAt, Clear, Seq, If, While, Pause, Par, Enter, Return, Stmts, no_stmts, more_stmts}
 use Rattle.forec_kernel.specs.Shapes.{PlainKernel}
 use Rattle.forec_kernel.specs.Values.{function_words}
-use Rattle.forec_kernel.specs.Texts.{params_in, words_in, body_of, words_of, uses_of}
+use Rattle.forec_kernel.specs.Texts.{params_in, words_in, body_of}
 use Rattle.forec_kernel.specs.Combining.{contains}
-use Rattle.forec_kernel.specs.WellFormed.{Scope, FineStmt, FineStmts, FinePar, threads_in, thread_of, pars_of, pars_in, function_body, WellFormed}
-use Rattle.thread_code.specs.declared.instruction.Instruction.{Instruction}
+use Rattle.forec_kernel.specs.WellFormed.{Scope, FineStmt, FineStmts, FinePar, threads_in, pars_of, pars_in, function_body, WellFormed}
 use Rattle.thread_code.specs.declared.instruction.Instruction.TheVariants as instruction
-use Rattle.thread_code.specs.Plain.{PlainBlock, PlainCode}
-use Rattle.thread_code.specs.Valid.{Leads, branches_in, arguments_of, function_arguments, IsBlock, IsSound, IsValid, thread_scope, function_scope, deep_within, IsValidCode}
+use Rattle.thread_code.specs.Plain.{PlainBlock}
+use Rattle.thread_code.specs.Valid.{Leads, arguments_of, function_arguments, IsBlock, IsSound, thread_scope, function_scope, deep_within, IsValidCode}
 use Rattle.thread_code.proofs.AllFine.{valid_all, fine_join}
 use Rattle.thread_code.proofs.KernelShape.{shape_is_fine}
 use Rattle.code_gen.specs.Statements.{Outside, statement_code}
-use Rattle.code_gen.specs.Blocks.{thread_block, function_block, blocks_from, kernel_code, counted, counters_in, flags_in, flags_of}
+use Rattle.code_gen.specs.Blocks.{thread_block, function_block, kernel_code, counters_in, flags_in, flags_of}
 use Rattle.code_gen.proofs.Stretch.{HasAt, has_front, has_all}
 use Rattle.code_gen.proofs.Blocks.{blocks_length, block_at}
 use Rattle.code_gen.proofs.Each.{Each, each_front, each_back}
 use Rattle.code_gen.proofs.Calls.{each_deep}
 use Rattle.code_gen.proofs.Called.{within}
 use Rattle.code_gen.proofs.Kernels.{body_fits, each_par}
-use Rattle.code_gen.proofs.Places.{BranchesFit, ParFits, StatementFits, StatementsFit}
+use Rattle.code_gen.proofs.Places.{BranchesFit, StatementFits, StatementsFit}
 use Rattle.code_gen.proofs.Depths.{count_all, statement_depths, statement_length}
-use Rattle.code_gen.proofs.FineExpressions.{back_at, scope, Fine}
-use Rattle.code_gen.proofs.FineStatements.{First, statement_first, lead_first, ParFine, ParsFine, AllParsFine, statement_fine}
+use Rattle.code_gen.proofs.FineExpressions.{back_at}
+use Rattle.code_gen.proofs.FineStatements.{First, statement_first, ParsFine, AllParsFine, statement_fine}
 
 -- ---- pars
 

@@ -1,6 +1,6 @@
 -- The machine does the waking of a thread's text.
-use Rattle.std.proofs.Common.{◌≡◌, ℕ, zero, suc, ◌+◌, ◌<◌, List, [], ◌∷◌, ◌++◌, length, Option, Some, None, Bool, true, false, cond, not, refl, sym, ap, ◌∙◌, subst, arith, append-nil, length-append, get_or}
-use Rattle.std.specs.Prelude.{ℤ, slice_get}
+use Rattle.std.proofs.Common.{◌≡◌, ℕ, ◌+◌, List, [], ◌∷◌, ◌++◌, length, Option, Some, None, Bool, true, false, cond, not, refl, sym, ap, ◌∙◌, subst, arith, length-append}
+use Rattle.std.specs.Prelude.{ℤ}
 use Rattle.forec_base.specs.Numbers.{is_zero}
 use Rattle.forec_base.specs.declared.Place.{Place}
 use Rattle.forec_kernel.specs.declared.shape.VarCopy.{VarCopy}
@@ -15,7 +15,6 @@ use Rattle.forec_kernel.specs.Solo.{seeds_for}
 use Rattle.thread_code.specs.declared.instruction.Instruction.TheVariants as instruction
 use Rattle.thread_code.specs.declared.instruction.Instruction.{Instruction}
 use Rattle.thread_code.specs.Valid.{branches_in}
-use Rattle.thread_code.specs.Machine as machine
 use Rattle.thread_code.specs.Machine.{Point, Frame, Own, Machine, On, Waits, Trapped, awaited, living, wakes, waking, put_at}
 use Rattle.code_gen.specs.Expressions.{expression_code}
 use Rattle.code_gen.specs.Statements.{Around, InLoop, InAbort, loops, weaks, guard, prologue, inner}
@@ -24,7 +23,7 @@ use Rattle.code_gen.proofs.Cells.{put_same, put_other}
 use Rattle.code_gen.proofs.Fits.{Fits, CallsRun}
 use Rattle.code_gen.proofs.Stretch.{HasAt, has_front, has_back, point, Comes, stays, comes_on, comes_at, one, Yields}
 use Rattle.code_gen.proofs.Exprs.{expression_runs}
-use Rattle.code_gen.proofs.Places.{Store, Marks, own, numbers, running_in, Awaits, Sleeps, some_paused, ok, SameBelow, same_below, then_below, Left, inside, Turns_left, Here, At_fork, on, machine_at, Ends, ends_here, LoopAt, BehindAt, HeldAt, ForkAt, Works, Rests, WakeAt, GoesOn, goes, goes_from, goes_under, goes_at, none_more, goes_then, goes_watch, goes_last}
+use Rattle.code_gen.proofs.Places.{Store, Marks, own, numbers, running_in, Awaits, Sleeps, some_paused, ok, SameBelow, same_below, inside, Turns_left, At_fork, on, machine_at, Ends, ends_here, BehindAt, HeldAt, Rests, WakeAt, GoesOn, goes, goes_from, goes_under, goes_at, none_more, goes_then, goes_watch, goes_last}
 
 -- ---- the children of a held fork
 
@@ -207,8 +206,8 @@ module _ (k : PlainKernel) (t : ℕ) (run : CallsRun (kernel_code k) t (ok k) (c
         f' = f;
         comes = comes_at (kernel_code k) t (comes ∙ ap (machine_at k t s true new.children (At_fork (g + 1) held.to) st c f) free) (one (kernel_code k) t (instruction.Again j held.to) p [] (own st f) u held.again);
         here = (
-            record { j = j; named = named ∙ sym same; apart = subst (λ l. distinct l ≡ true) (sym same) apart; w = w; ends = held.ends; pause = held.pause; held = held },
-            record { some = some; awaits = woken_awaits k t st.copies f.live cs rests.sleeps }
+          record { j = j; named = named ∙ sym same; apart = subst (λ l. distinct l ≡ true) (sym same) apart; w = w; ends = held.ends; pause = held.pause; held = held },
+          record { some = some; awaits = woken_awaits k t st.copies f.live cs rests.sleeps },
         );
         below = same_below (loops a) (weaks a) c f;
       }

@@ -1,11 +1,9 @@
 -- The parts that are written are those of the kernel's code.
-use Rattle.std.proofs.Common.{◌≡◌, map, ap, sym, ◌∙◌, subst, Vec, Global}
+use Rattle.std.proofs.Common.{◌≡◌, map, ap, sym, ◌∙◌, subst}
 use Rattle.forec_kernel.specs.Plain.{stmt}
 use Rattle.forec_kernel.specs.Shapes.{PlainShape, plain_kernel, plain_shape}
 use Rattle.forec_kernel.specs.WellFormed.{WellFormed}
 use Rattle.forec_kernel.specs.declared.shape.KernelParts.{KernelParts}
-use Rattle.forec_kernel.specs.declared.shape.Shape.{Shape}
-use Rattle.thread_code.specs.declared.instruction.Block.{Block}
 use Rattle.thread_code.specs.declared.instruction.CodeParts.{CodeParts}
 use Rattle.thread_code.specs.Plain.{PlainCode, plain_block, plain_code}
 use Rattle.thread_code.specs.Valid.{IsValidCode}

@@ -1,9 +1,9 @@
 -- The blocks that are written, one after the other.
-use Rattle.std.proofs.Common.{◌≡◌, ℕ, zero, suc, ◌+◌, ◌<◌, ◌≤◌, List, [], ◌∷◌, ◌++◌, length, map, take, get_or, refl, ap, sym, ◌∙◌, subst, arith, pos}
+use Rattle.std.proofs.Common.{◌≡◌, ℕ, zero, suc, ◌+◌, ◌<◌, List, [], ◌∷◌, ◌++◌, length, map, take, get_or, refl, ap, sym, ◌∙◌, arith, pos}
 use Rattle.std.proofs.lemmas.List.{take_more, length-map, length-take}
 use Rattle.forec_kernel.specs.Terms.{Stmt}
 use Rattle.forec_kernel.specs.Plain.{stmt}
-use Rattle.forec_kernel.specs.Shapes.{PlainKernel, plain_kernel, plain_thread}
+use Rattle.forec_kernel.specs.Shapes.{plain_kernel, plain_thread}
 use Rattle.forec_kernel.specs.Values.{function_words}
 use Rattle.forec_kernel.specs.Texts.{params_in, words_in}
 use Rattle.forec_kernel.specs.declared.shape.KernelParts.{KernelParts}

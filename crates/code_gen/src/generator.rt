@@ -11,8 +11,8 @@ ghost use Rattle.code_gen.specs.Blocks.{body_block, thread_block, function_block
 
 use crate::shapes::copy_shape;
 use crate::sizes::statement_size;
-use crate::statements::{emit_statement, Around};
-use crate::writing::{put, MOST_INSTRUCTIONS};
+use crate::statements::{Around, emit_statement};
+use crate::writing::{MOST_INSTRUCTIONS, put};
 use forec_base::OutOfMemory;
 use forec_kernel::{FunctionShape, Kernel, KernelParts, Statement, ThreadShape};
 use std::alloc::Global;
@@ -32,7 +32,15 @@ fn body_steps(
     *room = room.checked_sub(size).ok_or(OutOfMemory)?;
     sizes.reverse();
     let mut steps = Vec::with_capacity(alloc, size as usize)?;
-    emit_statement(&mut steps, body, &Around::Outside, 0, 0, threads, &mut sizes)?;
+    emit_statement(
+        &mut steps,
+        body,
+        &Around::Outside,
+        0,
+        0,
+        threads,
+        &mut sizes,
+    )?;
     Ok(steps)
 }
 
@@ -49,7 +57,9 @@ fn counters(statement: &Statement) -> Result<u32, OutOfMemory>
             Ok(first.max(second))
         }
         Statement::While {
-            bound: None, body, ..
+            bound: None,
+            body,
+            ..
         }
         | Statement::Enter { body, .. } => counters(body),
         Statement::While {
@@ -89,10 +99,14 @@ fn flags(statement: &Statement) -> Result<u32, OutOfMemory>
         }
         Statement::While { body, .. }
         | Statement::Enter {
-            weak: false, body, ..
+            weak: false,
+            body,
+            ..
         } => flags(body),
         Statement::Enter {
-            weak: true, body, ..
+            weak: true,
+            body,
+            ..
         } => {
             let inside = flags(body)?;
             inside.checked_add(1).ok_or(OutOfMemory)

@@ -80,7 +80,12 @@ pub fn statement_size(
             let second = statement_size(sizes, no, checks, prologue)?;
             add(add(expression_size(test), add(first, second)), 2)
         }
-        Statement::While { test, bound, body, .. } => {
+        Statement::While {
+            test,
+            bound,
+            body,
+            ..
+        } => {
             let counted = bound.is_some() as u32;
             let inside = statement_size(sizes, body, checks, add(prologue, counted))?;
             add(add(expression_size(test), inside), 2 + 2 * counted)

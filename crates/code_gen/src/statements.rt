@@ -155,13 +155,7 @@ fn emit_fork(
     ensures { OnOk result (steps.new.items ≡ steps.old.items ++ fork_code par (length steps.old.items) (plain_around around.now)) }
 {
     let fork = address(steps)?;
-    put(
-        steps,
-        Instruction::Fork {
-            par,
-            to: fork + 2,
-        },
-    )?;
+    put(steps, Instruction::Fork { par, to: fork + 2 })?;
     let first = steps.len();
     put(steps, Instruction::Jump { to: 0 })?;
     emit_checks(steps, around, flags)?;
@@ -169,13 +163,7 @@ fn emit_fork(
     put(steps, Instruction::Pause { to: pause + 1 })?;
     emit_prologue(steps, around, counters, flags)?;
     let again = address(steps)?;
-    put(
-        steps,
-        Instruction::Again {
-            par,
-            to: again + 2,
-        },
-    )?;
+    put(steps, Instruction::Again { par, to: again + 2 })?;
     let second = steps.len();
     put(steps, Instruction::Jump { to: 0 })?;
     emit_checks(steps, around, flags)?;
@@ -235,13 +223,7 @@ fn emit_entry(
         };
         put(steps, guard)?;
     } else if weak {
-        put(
-            steps,
-            Instruction::Flag {
-                flag,
-                value: false,
-            },
-        )?;
+        put(steps, Instruction::Flag { flag, value: false })?;
     }
     Ok(exit)
 }
@@ -294,7 +276,9 @@ fn emit_while(
     ensures { OnOk result (steps.new.items ≡ steps.old.items ++ statement_code (map plain_thread threads.now) (plain_around around.now) (length steps.old.items) (While (expr test.now) bound (stmt body.now) place)) }
 {
     let Some(turns) = bound else {
-        return emit_loop(steps, body, test, None, around, counters, flags, threads, sizes);
+        return emit_loop(
+            steps, body, test, None, around, counters, flags, threads, sizes,
+        );
     };
     let more = counters.checked_add(1).ok_or(OutOfMemory)?;
     put(
@@ -312,7 +296,17 @@ fn emit_while(
         counter: counters,
         place,
     };
-    emit_loop(steps, body, test, Some(turn), &inner, more, flags, threads, sizes)
+    emit_loop(
+        steps,
+        body,
+        test,
+        Some(turn),
+        &inner,
+        more,
+        flags,
+        threads,
+        sizes,
+    )
 }
 
 // An abort. How long its body is was counted beforehand, and is compared with what was written.
@@ -397,13 +391,7 @@ pub fn emit_statement(
             put(steps, clear)
         }
         Statement::Sequence { list } => emit_list(
-            steps,
-            list,
-            around,
-            counters,
-            flags,
-            threads,
-            sizes,
+            steps, list, around, counters, flags, threads, sizes,
         ),
         Statement::If { test, yes, no } => {
             emit_expression(steps, test)?;
@@ -425,16 +413,7 @@ pub fn emit_statement(
             body,
             place,
         } => emit_while(
-            steps,
-            body,
-            test,
-            *bound,
-            *place,
-            around,
-            counters,
-            flags,
-            threads,
-            sizes,
+            steps, body, test, *bound, *place, around, counters, flags, threads, sizes,
         ),
         Statement::Pause => emit_pause(steps, around, counters, flags),
         Statement::Par { branches } => {
@@ -448,16 +427,7 @@ pub fn emit_statement(
             test,
             body,
         } => emit_abort(
-            steps,
-            body,
-            *weak,
-            *immediate,
-            test,
-            around,
-            counters,
-            flags,
-            threads,
-            sizes,
+            steps, body, *weak, *immediate, test, around, counters, flags, threads, sizes,
         ),
         Statement::Return { value } => {
             emit_expression(steps, value)?;

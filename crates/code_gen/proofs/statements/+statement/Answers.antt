@@ -1,4 +1,4 @@
-use Rattle.std.proofs.Common.{◌≡◌, ◌++◌, [], ◌∷◌, length, map, ap, sym, ◌∙◌, subst, append_assoc, OnOk}
+use Rattle.std.proofs.Common.{◌≡◌, ◌++◌, length, map, ap, sym, ◌∙◌, subst, OnOk}
 use Rattle.forec_kernel.specs.Plain.{expr, stmt, stmts}
 use Rattle.forec_kernel.specs.Shapes.{plain_thread}
 use Rattle.forec_kernel.specs.Terms as plain
