@@ -192,7 +192,9 @@ fn run_command<T: Texts, S: Source, K: Sink, G: Gate>(
     }
 }
 
-/// Runs the command that the words are, and gives its status.
+/// Does what the words ask, and gives the status. `run P` runs the program whose text `texts` has under
+/// the name P, a tick for each row of `trace`; `check P` judges it and tells its counts, and reads no
+/// trace. The report goes to `out`. All other words give the usage line.
 pub fn forec<T: Texts, S: Source, K: Sink, G: Gate>(
     alloc: Global,
     words: &[String],

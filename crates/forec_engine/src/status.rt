@@ -5,11 +5,11 @@ ghost use Rattle.forec_engine.specs.StatusNumbers.{number_of};
 /// How a command ended.
 #[derive(Clone, Copy, Debug, PartialEq, Eq)]
 pub enum Status {
-    /// It did its work: the program ended, or the trace did.
+    /// It did its work: the program ended, or the trace did, or it was accepted.
     Done,
     /// The words aren't a command.
     Usage,
-    /// The text is too long, or of no form that is accepted.
+    /// The text is too long, or isn't accepted.
     Refused,
     /// The header or a row of the trace is none.
     Trace,
