@@ -28,3 +28,4 @@ pub mod Copies
 pub mod Numbers
 pub mod Whole
 pub mod Written
+pub mod WorkedFine

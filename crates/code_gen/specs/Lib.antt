@@ -2,3 +2,4 @@ pub mod Expressions
 pub mod Statements
 pub mod Blocks
 pub mod Arounds
+pub mod Worked

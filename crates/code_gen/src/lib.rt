@@ -14,3 +14,6 @@ mod statements;
 mod writing;
 
 pub use generator::generate;
+
+#[cfg(test)]
+mod tests;

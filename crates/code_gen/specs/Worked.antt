@@ -1,0 +1,56 @@
+-- A worked kernel: an abort round a loop with a bound and a par, whose branch is an abort round a pause.
+use Rattle.std.specs.Prelude.{ℕ, ℤ, pos, Bool, true, false, Some, None, List, [], ◌∷◌, codes}
+use Rattle.forec_base.specs.declared.Place.{Place}
+use Rattle.forec_base.specs.declared.Policy.TheVariants as policy
+use Rattle.forec_base.specs.declared.operators.Binary.TheVariants as binary
+use Rattle.forec_kernel.specs.declared.shape.Variable.{Variable}
+use Rattle.forec_kernel.specs.declared.terms.Spot.TheVariants as spot
+use Rattle.forec_kernel.specs.Terms.{Num, Var, Bin, no_exprs, Stmt, Set, Seq, While, Pause, Par, Enter, no_stmts, more_stmts}
+use Rattle.forec_kernel.specs.Shapes.{PlainKernel, PlainShape}
+
+abbrev pub at : Place
+at = record { line = 1; column = 2 }
+
+-- `o = o + 1;`
+abbrev pub adds_one : Stmt
+adds_one = Set (spot.Variable 1) (Bin binary.Add (Var 1) (Num (pos 1)) None)
+
+abbrev pub two : Stmt → Stmt → Stmt
+two a b = Seq (more_stmts a (more_stmts b no_stmts))
+
+-- `while (1) #5 { o = o + 1; pause; }`
+abbrev pub five_turns : Stmt
+five_turns = While (Num (pos 1)) (Some 5) (two adds_one Pause) at
+
+-- `par(branch);`
+abbrev pub one_branch : Stmt
+one_branch = Par (record { thread = 1; args = no_exprs } ∷ [])
+
+-- `weak abort { .. } when immediate (r);`
+abbrev pub main_body : Stmt
+main_body = Enter true true (Var 0) (two five_turns one_branch)
+
+-- `abort { pause; } when (r);`
+abbrev pub branch_body : Stmt
+branch_body = Enter false false (Var 0) Pause
+
+abbrev pub surrounded_shape : PlainShape
+surrounded_shape =
+    record {
+      threads =
+          record { parent = None; par = None; name = None; params = 0; words = 0; uses = 0 ∷ 1 ∷ [] }
+          ∷ record { parent = Some 0; par = Some 0; name = None; params = 0; words = 0; uses = 0 ∷ [] }
+          ∷ [];
+      variables =
+          record { policy = policy.All; combine = None; start = pos 0; input = true }
+          ∷ record { policy = policy.All; combine = None; start = pos 0; input = false }
+          ∷ [];
+      functions = [];
+      tables = [];
+      inputs = 0 ∷ [];
+      outputs = 1 ∷ [];
+      names = codes "r" ∷ codes "o" ∷ [];
+    }
+
+abbrev pub surrounded : PlainKernel
+surrounded = record { shape = surrounded_shape; threads = main_body ∷ branch_body ∷ []; functions = [] }
