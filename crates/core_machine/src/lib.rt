@@ -6,6 +6,8 @@ mod own;
 mod room;
 mod stack;
 mod stretch;
+#[cfg(test)]
+mod tests;
 mod thread;
 
 pub use thread::{Event, Thread};
