@@ -26,6 +26,8 @@ mod spread;
 mod stack;
 mod statement;
 mod term;
+#[cfg(test)]
+mod tests;
 mod threads;
 mod uses;
 
