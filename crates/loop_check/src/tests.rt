@@ -1,10 +1,7 @@
 // Worked loops.
 
-<<<<<<< HEAD
-=======
 ghost use Rattle.std.specs.Prelude.{◌≡◌, []};
 
->>>>>>> 6249be9a5646697d11dd5fb0a799ad0eca55c37d
 use crate::{certain, turns};
 use forec_base::{Binary, Place};
 use forec_tree::{Expr, ExprKind, Local, Name, Number, OpAt, Program, Stmt, StmtKind, Target};
@@ -35,13 +32,9 @@ fn statement(what: StmtKind) -> Stmt {
     Stmt { place: AT, what }
 }
 
-<<<<<<< HEAD
-fn nothing(alloc: Global) -> Program {
-=======
 fn nothing(alloc: Global) -> Program
     ensures { result.items ≡ [] }
 {
->>>>>>> 6249be9a5646697d11dd5fb0a799ad0eca55c37d
     Program {
         items: Items::new(alloc),
     }
