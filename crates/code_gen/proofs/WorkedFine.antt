@@ -6,7 +6,7 @@ use Rattle.forec_kernel.specs.Combining.{contains, variable_of}
 use Rattle.forec_kernel.specs.declared.shape.KernelParts.{KernelParts}
 use Rattle.forec_kernel.specs.declared.terms.Statement.{Statement}
 use Rattle.forec_kernel.specs.Plain.{stmt}
-use Rattle.forec_kernel.specs.Shapes.{PlainKernel, PlainShape, plain_kernel, plain_shape}
+use Rattle.forec_kernel.specs.Shapes.{PlainShape, plain_kernel, plain_shape}
 use Rattle.forec_kernel.specs.Terms.{Stmt}
 use Rattle.code_gen.specs.Worked.{main_body, branch_body, surrounded_shape, surrounded}
 
@@ -99,7 +99,7 @@ pub parts_are : (parts : KernelParts) (a b : Statement) → plain_shape parts.sh
     stmt a ≡ main_body → stmt b ≡ branch_body → parts.functions.items ≡ [] → plain_kernel parts ≡ surrounded
 parts_are parts a b shape threads first second functions =
     let bodies : map stmt parts.threads.items ≡ main_body ∷ branch_body ∷ [] =
-        ap (map stmt) threads ∙ ap (λ s. s ∷ stmt b ∷ []) first ∙ ap (λ s. main_body ∷ s ∷ []) second
+    ap (map stmt) threads ∙ ap (λ s. s ∷ stmt b ∷ []) first ∙ ap (λ s. main_body ∷ s ∷ []) second
     in
     ap (λ (s : PlainShape). record { shape = s; threads = map stmt parts.threads.items; functions = map stmt parts.functions.items }) shape
     ∙ ap (λ (ts : List Stmt). record { shape = surrounded_shape; threads = ts; functions = map stmt parts.functions.items }) bodies
