@@ -6,7 +6,7 @@ use Rattle.forec_kernel.specs.Combining.{contains, variable_of}
 use Rattle.forec_kernel.specs.declared.shape.KernelParts.{KernelParts}
 use Rattle.forec_kernel.specs.declared.terms.Statement.{Statement}
 use Rattle.forec_kernel.specs.Plain.{stmt}
-use Rattle.forec_kernel.specs.Shapes.{PlainKernel, PlainShape, plain_kernel, plain_shape}
+use Rattle.forec_kernel.specs.Shapes.{PlainShape, plain_kernel, plain_shape}
 use Rattle.forec_kernel.specs.Terms.{Stmt}
 use Rattle.code_gen.specs.Worked.{main_body, branch_body, surrounded_shape, surrounded}
 

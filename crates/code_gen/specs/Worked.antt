@@ -1,9 +1,8 @@
 -- A worked kernel: an abort round a loop with a bound and a par, whose branch is an abort round a pause.
-use Rattle.std.specs.Prelude.{ℕ, ℤ, pos, Bool, true, false, Some, None, List, [], ◌∷◌, codes}
+use Rattle.std.specs.Prelude.{pos, true, false, Some, None, [], ◌∷◌, codes}
 use Rattle.forec_base.specs.declared.Place.{Place}
 use Rattle.forec_base.specs.declared.Policy.TheVariants as policy
 use Rattle.forec_base.specs.declared.operators.Binary.TheVariants as binary
-use Rattle.forec_kernel.specs.declared.shape.Variable.{Variable}
 use Rattle.forec_kernel.specs.declared.terms.Spot.TheVariants as spot
 use Rattle.forec_kernel.specs.Terms.{Num, Var, Bin, no_exprs, Stmt, Set, Seq, While, Pause, Par, Enter, no_stmts, more_stmts}
 use Rattle.forec_kernel.specs.Shapes.{PlainKernel, PlainShape}
