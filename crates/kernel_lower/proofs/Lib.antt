@@ -1,0 +1,26 @@
+pub mod Counted
+pub mod Grown
+pub mod Forks
+pub mod Owned
+pub mod Placed
+pub mod Covered
+pub mod Fields
+pub mod Fine
+pub mod Unbroken
+pub mod Faultless
+pub mod FineStatements
+pub mod Rises
+pub mod Locals
+pub mod Counting
+pub mod Weakened
+pub mod Within
+pub mod Bounds
+pub mod Known
+pub mod FineBodies
+pub mod Certain
+pub mod Runs
+pub mod Below
+pub mod Main
+pub mod Returned
+pub mod Functions
+mod Worked

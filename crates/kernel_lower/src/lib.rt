@@ -1,0 +1,5 @@
+//! From the tree of a program to its kernel.
+#![tactic(auto)]
+
+mod limits;
+mod names;
