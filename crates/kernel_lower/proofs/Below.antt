@@ -1,15 +1,14 @@
 -- The body of each thread below is in range, with the words of that thread.
-use Rattle.std.proofs.Common.{ℕ, zero, suc, ◌+◌, ◌<◌, ◌≤◌, ◌≡◌, ◌∙◌, sym, ap, refl, Bool, false, Option, Some, None, List, [], ◌∷◌, ◌++◌, length, subst, arith}
+use Rattle.std.proofs.Common.{ℕ, zero, suc, ◌+◌, ◌<◌, ◌≤◌, ◌≡◌, sym, refl, false, Option, Some, None, List, [], ◌∷◌, ◌++◌, length, subst, arith}
 use Rattle.forec_tree.specs.declared.tree.Name.{Name}
 use Rattle.forec_tree.specs.declared.uses.How.TheVariants.{Runs, Starts}
 use Rattle.forec_tree.specs.Terms.{count_terms, Statement, Declare, Nothing, Group, Assign, Invoke, If, While, For, Pause, Par, Abort, Return, Statements, no_statements, more_statements, Perhaps, absent, present, Branches, no_branches, by_call, by_group, Text, PlainFunction}
 use Rattle.forec_tree.specs.Scopes.{Scope, no_scope, entered, behind, behind_perhaps, with_params, find_item, find_last, meaning}
 use Rattle.forec_tree.specs.Findings.{Closes, in_bound, in_term, in_terms, in_optional, in_statement, in_statements, in_perhaps, in_branches, in_params}
 use Rattle.forec_tree.specs.Faults.{in_function}
-use Rattle.forec_tree.specs.Rules.{Judging, fault_if, use_faults, findings_faults}
+use Rattle.forec_tree.specs.Rules.{Judging, use_faults, findings_faults}
 use Rattle.forec_tree.specs.Pauses.{within, find_function}
 use Rattle.forec_kernel.specs.Shapes.{PlainKernel}
-use Rattle.forec_kernel.specs.WellFormed as wf
 use Rattle.forec_kernel.specs.WellFormed.{FineStmt}
 use Rattle.kernel_lower.specs.declared.names.Slot.{Slot}
 use Rattle.kernel_lower.specs.Bindings.{params_at}

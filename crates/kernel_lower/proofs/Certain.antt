@@ -1,12 +1,12 @@
 -- In an int function that breaks no rule nothing is certain to pause, so each of its loops has a bound.
-use Rattle.std.proofs.Common.{ℕ, ◌≤◌, ◌≡◌, ◌∙◌, sym, ap, refl, IsTrue, Bool, true, false, cond, not, ◌&&◌, ◌||◌, Option, Some, None, List, [], ◌∷◌, ◌++◌}
+use Rattle.std.proofs.Common.{ℕ, ◌≡◌, ◌∙◌, sym, ap, refl, IsTrue, Bool, true, false, cond, not, ◌&&◌, ◌||◌, Option, Some, None, List, [], ◌∷◌, ◌++◌}
 use Rattle.forec_base.specs.declared.Place.{Place}
 use Rattle.forec_tree.specs.declared.tree.Name.{Name}
 use Rattle.forec_tree.specs.declared.tree.Number.{Number}
 use Rattle.forec_tree.specs.declared.uses.Meaning.{Meaning}
 use Rattle.forec_tree.specs.declared.uses.Meaning.TheVariants as means
 use Rattle.forec_tree.specs.declared.uses.How.TheVariants.{Runs}
-use Rattle.forec_tree.specs.Terms.{Term, count_terms, Statement, Declare, Nothing, Group, Assign, Invoke, If, While, For, Pause, Par, Abort, Return, Statements, no_statements, more_statements, Perhaps, absent, present, Text}
+use Rattle.forec_tree.specs.Terms.{Term, count_terms, Statement, Declare, Nothing, Group, Assign, Invoke, If, While, For, Pause, Par, Abort, Return, Statements, no_statements, more_statements, Perhaps, Text}
 use Rattle.forec_tree.specs.Scopes.{Scope, entered, behind, behind_perhaps, meaning}
 use Rattle.forec_tree.specs.Findings.{Finding, Loop, Synchronous, in_bound, in_term, in_terms, in_optional, in_statement, in_statements, in_perhaps, in_branches}
 use Rattle.forec_tree.specs.Turns.{inferred}

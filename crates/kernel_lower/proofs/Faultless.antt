@@ -1,18 +1,17 @@
 -- What a program that breaks no rule shows of its items: no list of faults has one, no function reaches itself, each name means its own item, and thread 0 has a function to run.
-use Rattle.std.proofs.Common.{ℕ, zero, suc, ◌+◌, ◌<◌, ◌≤◌, ◌≡◌, ◌∙◌, sym, ap, refl, subst, inl, inr, Bool, true, false, cond, not, ◌==◌, ◌&&◌, nat_lt, nat_le, Option, Some, None, List, [], ◌∷◌, ◌++◌, append_assoc, length, get_or, arith}
+use Rattle.std.proofs.Common.{ℕ, ◌≤◌, ◌≡◌, ◌∙◌, sym, ap, refl, subst, inl, inr, Bool, true, false, cond, not, ◌==◌, ◌&&◌, nat_lt, nat_le, Option, Some, None, List, [], ◌∷◌, ◌++◌, append_assoc, length, arith}
 use Rattle.std.proofs.lemmas.Bool.{and_parts}
 use Rattle.std.proofs.lemmas.Bool.Decides.{nat_tests}
 use Rattle.forec_tree.specs.declared.fault.Fault.{Fault}
-use Rattle.forec_tree.specs.declared.tree.Combine.{Combine}
-use Rattle.forec_tree.specs.Terms.{Text, PlainItem, PlainGlobal, PlainFunction, IsGlobal, IsFunction}
+use Rattle.forec_tree.specs.Terms.{Text, PlainItem, PlainFunction, IsGlobal, IsFunction}
 use Rattle.forec_tree.specs.Scopes.{name_of, find_item}
 use Rattle.forec_tree.specs.Pauses.{find_function}
-use Rattle.forec_tree.specs.Rules.{Judging, fault_if, is_none, is_input, is_output, is_long, length_faults, too_many, some_returns, findings_faults, loop_faults}
-use Rattle.forec_tree.specs.Faults.{in_function, calls_of, Leads, Before, none_before, after_item, item_named, is_start, start_name, main_place, main_faults, combine_faults, global_faults, function_faults, item_faults, items_faults, text_faults, late_item_faults, late_faults, Member, here, later}
+use Rattle.forec_tree.specs.Rules.{fault_if, is_none, is_long, some_returns, findings_faults, loop_faults}
+use Rattle.forec_tree.specs.Faults.{in_function, calls_of, Leads, Before, none_before, after_item, item_named, is_start, start_name, main_place, main_faults, function_faults, item_faults, items_faults, text_faults, late_item_faults, late_faults, Member, here, later}
 use Rattle.forec_check.specs.Checks.{Faultless}
 use Rattle.forec_check.proofs.Acyclic.{no_reach}
 use Rattle.kernel_lower.specs.Kernels.{main_id}
-use Rattle.kernel_lower.proofs.Fine.{none_left, none_right, not_broken, not_not}
+use Rattle.kernel_lower.proofs.Fine.{none_left, none_right, not_broken}
 
 -- the program breaks none of the rules
 pub record Clean (text : Text) (names : List (List ℕ)) : Type 0 where
@@ -186,12 +185,14 @@ module _ (text : Text) (names : List (List ℕ)) (clean : Clean text names) wher
       let parts = and_parts _ (not s.function.gives && (length s.function.params == 0)) s.starts in
       let last = and_parts (not s.function.gives) (length s.function.params == 0) parts.1 in
       let zero_ : (length s.function.params == 0) ≡ true = last.1 in
-      let is : main_id text names ≡ s.function.name.id = ap (λ o. elim o [ None ↦ 0 | Some n ↦ n ]) e ∙ s.named in
-      (s.function, record {
-        found = ap (λ n. find_item n text) is ∙ own_item (IsFunction s.function) s.member;
-        void = turned s.function.gives last.0;
-        params = grind (arith, nat_tests);
-      })
+      let is : main_id text names ≡ s.function.name.id = ap (λ o. elim o [ None ↦ 0 | Some n ↦ n ]) e ∙ s.named in (
+        s.function,
+        record {
+          found = ap (λ n. find_item n text) is ∙ own_item (IsFunction s.function) s.member;
+          void = turned s.function.gives last.0;
+          params = grind (arith, nat_tests);
+        },
+      )
 
   pub start_found : (s : PlainFunction) × Started text names s
   start_found = some_start (start_name names text) refl

@@ -5,7 +5,7 @@ use Rattle.forec_base.specs.declared.Place.{Place}
 use Rattle.forec_tree.specs.declared.tree.Name.{Name}
 use Rattle.forec_tree.specs.declared.tree.Number.{Number}
 use Rattle.forec_tree.specs.declared.uses.How.TheVariants.{Runs, Starts}
-use Rattle.forec_tree.specs.Terms.{Term, Terms, no_terms, more_terms, count_terms, Declared, Statement, Declare, Nothing, Group, Assign, Invoke, If, While, For, Pause, Par, Abort, Return, Statements, no_statements, more_statements, Perhaps, absent, present, Branches, no_branches, by_call, by_group, Text, PlainItem, PlainFunction, IsGlobal, IsFunction}
+use Rattle.forec_tree.specs.Terms.{Term, Terms, no_terms, more_terms, count_terms, Declared, Statement, Declare, Nothing, Group, Assign, Invoke, If, While, For, Pause, Par, Abort, Return, Statements, no_statements, more_statements, Perhaps, absent, present, Branches, no_branches, by_call, by_group, Text, PlainItem, IsGlobal, IsFunction}
 use Rattle.forec_tree.specs.Scopes as tree
 use Rattle.forec_tree.specs.Scopes.{Scope, no_scope, entered, behind, behind_perhaps, find_item, local_meaning, item_meaning, meaning}
 use Rattle.forec_tree.specs.Findings.{Finding, Loop, Synchronous, Gives, Closes, in_bound, in_term, in_terms, in_optional, in_locals, in_target, in_statement, in_statements, in_perhaps, in_branches}

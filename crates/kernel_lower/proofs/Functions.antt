@@ -1,5 +1,5 @@
 -- Each int function of a text that breaks no rule is in range, and each combine function is one.
-use Rattle.std.proofs.Common.{ℕ, zero, suc, ◌+◌, ◌<◌, ◌≤◌, ◌≡◌, ◌∙◌, sym, ap, refl, Bool, true, false, cond, not, ◌==◌, ◌&&◌, IsTrue, Option, Some, None, List, [], ◌∷◌, ◌++◌, length, map, get_or, subst, arith}
+use Rattle.std.proofs.Common.{ℕ, zero, suc, ◌<◌, ◌≡◌, ◌∙◌, sym, ap, refl, Bool, true, false, cond, not, ◌==◌, ◌&&◌, Option, Some, None, List, [], ◌∷◌, ◌++◌, length, map, get_or, subst, arith}
 use Rattle.std.proofs.lemmas.Bool.{and_parts}
 use Rattle.std.proofs.lemmas.Bool.Decides.{nat_tests}
 use Rattle.std.proofs.lemmas.List.{length-map, get_or-map}
@@ -9,34 +9,31 @@ use Rattle.forec_tree.specs.declared.tree.GlobalKind.TheVariants.{Plain}
 use Rattle.forec_tree.specs.Terms.{Text, PlainItem, PlainGlobal, PlainFunction, IsGlobal, IsFunction}
 use Rattle.forec_tree.specs.Scopes.{no_scope, with_params, find_item, is_constant}
 use Rattle.forec_tree.specs.Findings.{in_params, in_statements}
-use Rattle.forec_tree.specs.Rules.{Judging, fault_if, is_input, is_output, is_long, length_faults, too_many, findings_faults, loop_faults}
+use Rattle.forec_tree.specs.Rules.{Judging, fault_if, is_long, length_faults, too_many, findings_faults}
 use Rattle.forec_tree.specs.Faults.{Member, here, later, in_function, item_named, combine_faults, global_faults, Before, none_before}
-use Rattle.forec_kernel.specs.declared.shape.FunctionShape.{FunctionShape}
 use Rattle.forec_kernel.specs.declared.shape.Variable.{Variable}
 use Rattle.forec_kernel.specs.Terms as kernel
 use Rattle.forec_kernel.specs.Terms.{Stmt, no_stmts}
-use Rattle.forec_kernel.specs.Shapes.{PlainKernel}
 use Rattle.forec_kernel.specs.Values.{function_words}
 use Rattle.forec_kernel.specs.Combining.{variable_of}
 use Rattle.forec_kernel.specs.WellFormed as wf
 use Rattle.forec_kernel.specs.WellFormed.{FineStmt, FineFunction, FineVariable, function_params, function_body}
-use Rattle.kernel_lower.specs.declared.names.Slot.{Slot}
-use Rattle.kernel_lower.specs.Bindings.{params_at, number_among, is_int_function, first_value}
-use Rattle.kernel_lower.specs.Lowering.{Next, Lowered, Listed, InPlace, lowered, sequence, lower_list}
+use Rattle.kernel_lower.specs.Bindings.{params_at, number_among, is_int_function}
+use Rattle.kernel_lower.specs.Lowering.{Next, InPlace, lowered, sequence}
 use Rattle.kernel_lower.specs.Kernels as kernels
 use Rattle.kernel_lower.specs.Kernels.{kernel_of, int_functions, variable_items, variable_shape, combine_of}
 use Rattle.kernel_lower.specs.Limits.{WithinLimits}
-use Rattle.kernel_lower.proofs.Fine.{none_left, none_right, not_broken, not_not, parts_left, parts_right, Matches}
+use Rattle.kernel_lower.proofs.Fine.{none_left, none_right, not_broken, not_not, parts_left, Matches}
 use Rattle.kernel_lower.proofs.FineStatements.{sequence_fine}
 use Rattle.kernel_lower.proofs.Unbroken.{Unbroken, unbroken_right}
-use Rattle.kernel_lower.proofs.Faultless.{Clean, FunctionClean, function_of, loops_of, item_clean, found_member, own_item}
+use Rattle.kernel_lower.proofs.Faultless.{Clean, function_of, loops_of, item_clean}
 use Rattle.kernel_lower.proofs.Locals.{locals_fine}
 use Rattle.kernel_lower.proofs.Grown.{still}
 use Rattle.kernel_lower.proofs.Rises.{list_rises}
 use Rattle.kernel_lower.proofs.FineBodies.{list_fine}
 use Rattle.kernel_lower.proofs.Certain.{while_bounded, for_bounded}
 use Rattle.kernel_lower.proofs.Runs.{params_match}
-use Rattle.kernel_lower.proofs.Known.{First, first_of, number_below, functions_counted, known_function, blank_function, functions_long, shape_params, right_params}
+use Rattle.kernel_lower.proofs.Known.{first_of, number_below, known_function, blank_function, functions_long, shape_params, right_params}
 use Rattle.kernel_lower.proofs.Returned.{list_returns, sequence_returns}
 use Rattle.kernel_lower.proofs.Within.{functions_depth}
 

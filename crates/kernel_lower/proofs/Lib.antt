@@ -23,4 +23,9 @@ pub mod Below
 pub mod Main
 pub mod Returned
 pub mod Functions
+pub mod Ranks
+pub mod Once
+pub mod Called
+pub mod Few
+pub mod Whole
 mod Worked

@@ -9,7 +9,7 @@ use Rattle.forec_kernel.specs.WellFormed.{count_up}
 use Rattle.forec_tree.specs.declared.tree.Combine.{Combine}
 use Rattle.forec_tree.specs.declared.tree.Number.{Number}
 use Rattle.forec_tree.specs.declared.tree.GlobalKind.{GlobalKind}
-use Rattle.forec_tree.specs.Terms.{Text, PlainGlobal, PlainFunction, PlainItem, IsGlobal, IsFunction}
+use Rattle.forec_tree.specs.Terms.{Text, PlainGlobal, PlainFunction, IsGlobal, IsFunction}
 use Rattle.forec_tree.specs.Rules.{bytes_of, is_constant, is_input, is_output}
 use Rattle.forec_tree.specs.Faults.{start_name, is_in}
 use Rattle.kernel_lower.specs.Bindings.{params_at, number_of, number_among, is_int_function, first_value}
