@@ -28,4 +28,6 @@ pub mod Once
 pub mod Called
 pub mod Few
 pub mod Whole
+pub mod Trailed
+pub mod Looked
 mod Worked

@@ -3,3 +3,5 @@
 
 mod limits;
 mod names;
+mod scope;
+mod trail;
