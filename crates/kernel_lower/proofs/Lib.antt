@@ -30,4 +30,5 @@ pub mod Few
 pub mod Whole
 pub mod Trailed
 pub mod Looked
+pub mod Numbered
 mod Worked
