@@ -30,5 +30,6 @@ pub mod Few
 pub mod Whole
 pub mod Trailed
 pub mod Looked
+pub mod Lists
 pub mod Numbered
 mod Worked

@@ -84,3 +84,92 @@ pub fn element_as(
         },
     })
 }
+
+/// The expression of the kernel, where these locals are seen.
+#[cycle(term)]
+pub fn lower_term(
+    alloc: Global,
+    globals: &Globals<'_>,
+    scope: &Scope,
+    e: &Expr,
+) -> Result<Expression, OutOfMemory>
+    ensures { IfOk result (λ k. kernel.expr k ≡ lowering.lower_term (text_of globals.now.index) (seen scope.now) (plain.term e.now)) }
+{
+    match &e.what {
+        ExprKind::Number { value } => Ok(Expression::Number { value: *value }),
+        ExprKind::Read { name } => Ok(read_as(stands(globals, scope, name.id))),
+        ExprKind::Element { name, index } => {
+            let index = lower_term(alloc, globals, scope, index)?;
+            let to = stands(globals, scope, name.id);
+            element_as(alloc, to, index, name.place)
+        }
+        ExprKind::Unary { op, of } => {
+            let of = lower_term(alloc, globals, scope, of)?;
+            Ok(Expression::Unary {
+                op: *op,
+                of: boxed(alloc, of)?,
+            })
+        }
+        ExprKind::Binary { op, left, right } => {
+            let left = lower_term(alloc, globals, scope, left)?;
+            let right = lower_term(alloc, globals, scope, right)?;
+            let place = place_if(*op, e.place);
+            Ok(Expression::Binary {
+                op: *op,
+                left: boxed(alloc, left)?,
+                right: boxed(alloc, right)?,
+                place,
+            })
+        }
+        ExprKind::And { left, right } => {
+            let left = lower_term(alloc, globals, scope, left)?;
+            let right = lower_term(alloc, globals, scope, right)?;
+            Ok(Expression::And {
+                left: boxed(alloc, left)?,
+                right: boxed(alloc, right)?,
+            })
+        }
+        ExprKind::Or { left, right } => {
+            let left = lower_term(alloc, globals, scope, left)?;
+            let right = lower_term(alloc, globals, scope, right)?;
+            Ok(Expression::Or {
+                left: boxed(alloc, left)?,
+                right: boxed(alloc, right)?,
+            })
+        }
+        ExprKind::Choose { test, yes, no } => {
+            let test = lower_term(alloc, globals, scope, test)?;
+            let yes = lower_term(alloc, globals, scope, yes)?;
+            let no = lower_term(alloc, globals, scope, no)?;
+            Ok(Expression::Choose {
+                test: boxed(alloc, test)?,
+                yes: boxed(alloc, yes)?,
+                no: boxed(alloc, no)?,
+            })
+        }
+        ExprKind::Call { name, args } => {
+            let args = lower_terms(alloc, globals, scope, args.as_slice())?;
+            Ok(Expression::Call {
+                function: globals.function(name.id),
+                args,
+            })
+        }
+    }
+}
+
+/// The expressions of a list, in order.
+#[cycle(term)]
+pub fn lower_terms(
+    alloc: Global,
+    globals: &Globals<'_>,
+    scope: &Scope,
+    list: &[Expr],
+) -> Result<Vec<Expression>, OutOfMemory>
+    ensures { IfOk result (λ k. kernel.exprs k.items ≡ lowering.lower_terms (text_of globals.now.index) (seen scope.now) (plain.terms list.now)) }
+{
+    let mut terms = Vec::new(alloc);
+    for e in list {
+        terms.push(lower_term(alloc, globals, scope, e)?)?;
+    }
+    Ok(terms)
+}
