@@ -99,10 +99,10 @@ module _ (text : Text) (k : PlainKernel) (uses : List â„•) (names : List (List â
           let sc1 = entered sc in
           let sc2 = behind_perhaps sc1 start in
           let sc3 = behind_perhaps sc2 step in
-          let s2 = scope_behind_perhaps text called s n.slot start in
+          let s2 = scope_behind_perhaps text s n.slot start in
           let i = lower_perhaps text called t s n start in
           let d = lower_perhaps text called t s2 i.next step in
-          let s3 = scope_behind_perhaps text called s2 i.next.slot step in
+          let s3 = scope_behind_perhaps text s2 i.next.slot step in
           let last = lower_statement text called t s3 d.next body in
           let r4 = in_perhaps text sc2 step ++ in_statement text (entered sc3) body in
           let r3 = in_optional text sc2 test ++ r4 in
@@ -128,7 +128,7 @@ module _ (text : Text) (k : PlainKernel) (uses : List â„•) (names : List (List â
       list_made t s n sc no_statements h z = none_fine k uses
       list_made t s n sc (more_statements a rest) h z =
           let one = lower_statement text called t s n a in
-          let s2 = scope_behind text called s n.slot a in
+          let s2 = scope_behind text s n.slot a in
           let two = lower_list text called t s2 one.next rest in
           let long = threads_grow (grows text called (in_place_grows text deep) t s n a).grown in
           all_append k uses one.made two.made

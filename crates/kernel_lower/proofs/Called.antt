@@ -234,7 +234,7 @@ module _ (text : Text) where
 
     target_named : (sc : Scope) (s : List Slot) (name : Name) (index : Option Term) (op : Option OpAt) (value : Term) →
         findings_faults j (in_target text sc (record { name = name; index = index }) ++ in_term text sc value) ≡ [] →
-        AllNamed text (in_target text sc (record { name = name; index = index }) ++ in_term text sc value) (stmt_calls (lower_target text nothing s (record { name = name; index = index }) op (lower_term text s value)))
+        AllNamed text (in_target text sc (record { name = name; index = index }) ++ in_term text sc value) (stmt_calls (lower_target text s (record { name = name; index = index }) op (lower_term text s value)))
     target_named sc s name None op value h =
         let own = use_at text sc Writes name ∷ [] in
         to_named (own ++ in_term text sc value) (stands text s name.id) op (lower_term text s value)
@@ -248,37 +248,37 @@ module _ (text : Text) where
         (right_named index (in_term text sc value) _ (term_named sc s value (parts_right j index (in_term text sc value) h)))
 
     values_named : (sc : Scope) (s : List Slot) (slot size n : ℕ) (es : Terms) (place : Place) → findings_faults j (in_terms text sc es) ≡ [] →
-        AllNamed text (in_terms text sc es) (stmts_calls (array_values text nothing s slot size n es place))
+        AllNamed text (in_terms text sc es) (stmts_calls (array_values text s slot size n es place))
     values_named sc s slot size n no_terms place h = none_named []
     values_named sc s slot size n (more_terms e rest) place h =
         parts_named (in_term text sc e) (in_terms text sc rest) (wf.calls_of (lower_term text s e)) _ (term_named sc s e (parts_left j (in_term text sc e) (in_terms text sc rest) h))
         (values_named sc s slot size (suc n) rest place (parts_right j (in_term text sc e) (in_terms text sc rest) h))
 
     local_named : (sc : Scope) (s : List Slot) (slot : ℕ) (name : Name) (size : Option Number) (es : Terms) → findings_faults j (in_terms text sc es) ≡ [] →
-        AllNamed text (in_terms text sc es) (stmt_calls (lower_local text nothing s slot (record { name = name; length = size; values = es })))
+        AllNamed text (in_terms text sc es) (stmt_calls (lower_local text s slot (record { name = name; length = size; values = es })))
     local_named sc s slot name None no_terms h = none_named []
     local_named sc s slot name None (more_terms e rest) h = left_named (in_term text sc e) (in_terms text sc rest) _ (term_named sc s e (parts_left j (in_term text sc e) (in_terms text sc rest) h))
     local_named sc s slot name (Some n) es h =
-        moved_named (in_terms text sc es) _ _ (sequence_calls (more_stmts (kernel.Clear slot (number_of n)) (array_values text nothing s slot (number_of n) 0 es name.place)))
+        moved_named (in_terms text sc es) _ _ (sequence_calls (more_stmts (kernel.Clear slot (number_of n)) (array_values text s slot (number_of n) 0 es name.place)))
         (values_named sc s slot (number_of n) 0 es name.place h)
 
-    locals_named : (sc : Scope) (s : List Slot) (slot : ℕ) (ls : List Declared) → findings_faults j (in_locals text sc ls) ≡ [] → AllNamed text (in_locals text sc ls) (stmts_calls (lower_locals text nothing s slot ls))
+    locals_named : (sc : Scope) (s : List Slot) (slot : ℕ) (ls : List Declared) → findings_faults j (in_locals text sc ls) ≡ [] → AllNamed text (in_locals text sc ls) (stmts_calls (lower_locals text s slot ls))
     locals_named sc s slot [] h = none_named []
     locals_named sc s slot (d ∷ rest) h =
         let own = Declares d.name (is_among d.name.id sc.here) d.length (count_terms d.values) ∷ [] in
         let first = own ++ in_terms text sc d.values in
         let more = in_locals text (with_name sc d.name.id (is_array d.length)) rest in
-        parts_named first more (stmt_calls (lower_local text nothing s slot d)) (stmts_calls (lower_locals text nothing (with_locals s slot (d ∷ [])) (slot + slots_of d.length) rest))
+        parts_named first more (stmt_calls (lower_local text s slot d)) (stmts_calls (lower_locals text (with_locals s slot (d ∷ [])) (slot + slots_of d.length) rest))
         (right_named own (in_terms text sc d.values) _ (local_named sc s slot d.name d.length d.values (parts_right j own (in_terms text sc d.values) (parts_left j first more h))))
         (locals_named (with_name sc d.name.id (is_array d.length)) (with_locals s slot (d ∷ [])) (slot + slots_of d.length) rest (parts_right j first more h))
 
-    sets_named : (sc : Scope) (s : List Slot) (slot : ℕ) (es : Terms) → findings_faults j (in_terms text sc es) ≡ [] → AllNamed text (in_terms text sc es) (stmts_calls (set_params text nothing s slot es))
+    sets_named : (sc : Scope) (s : List Slot) (slot : ℕ) (es : Terms) → findings_faults j (in_terms text sc es) ≡ [] → AllNamed text (in_terms text sc es) (stmts_calls (set_params text s slot es))
     sets_named sc s slot no_terms h = none_named []
     sets_named sc s slot (more_terms e rest) h =
         parts_named (in_term text sc e) (in_terms text sc rest) (wf.calls_of (lower_term text s e)) _ (term_named sc s e (parts_left j (in_term text sc e) (in_terms text sc rest) h))
         (sets_named sc s (suc slot) rest (parts_right j (in_term text sc e) (in_terms text sc rest) h))
 
-    optional_named : (sc : Scope) (s : List Slot) (e : Option Term) → findings_faults j (in_optional text sc e) ≡ [] → AllNamed text (in_optional text sc e) (wf.calls_of (optional_test text nothing s e))
+    optional_named : (sc : Scope) (s : List Slot) (e : Option Term) → findings_faults j (in_optional text sc e) ≡ [] → AllNamed text (in_optional text sc e) (wf.calls_of (optional_test text s e))
     optional_named sc s None h = none_named []
     optional_named sc s (Some e) h = term_named sc s e h
 
@@ -302,11 +302,11 @@ module _ (text : Text) where
       statement_named t s n sc (Group at body) h =
           moved_named (in_statements text (entered sc) body) _ _ (sequence_calls (lower_list text nothing t s n body).list) (list_named t s n (entered sc) body h)
       statement_named t s n sc (Declare at locals) h =
-          moved_named (in_locals text sc locals) _ _ (sequence_calls (lower_locals text nothing s n.slot locals)) (locals_named sc s n.slot locals h)
+          moved_named (in_locals text sc locals) _ _ (sequence_calls (lower_locals text s n.slot locals)) (locals_named sc s n.slot locals h)
       statement_named t s n sc (Assign at target op value) h = target_named sc s target.name target.index op value h
       statement_named t s n sc (Invoke at name args) h =
           let own = use_at text sc (Runs (count_terms args)) name ∷ [] in
-          let sets = set_params text nothing s n.slot args in
+          let sets = set_params text s n.slot args in
           moved_named (own ++ in_terms text sc args) (stmts_calls sets) _ (sequence_calls (ends_with sets (sequence no_stmts)) ∙ ends_calls sets)
           (right_named own (in_terms text sc args) (stmts_calls sets) (sets_named sc s n.slot args (parts_right j own (in_terms text sc args) h)))
       statement_named t s n sc (If at test a b) h =
@@ -331,10 +331,10 @@ module _ (text : Text) where
           let sc1 = entered sc in
           let sc2 = behind_perhaps sc1 start in
           let sc3 = behind_perhaps sc2 step in
-          let s2 = scope_behind_perhaps text nothing s n.slot start in
+          let s2 = scope_behind_perhaps text s n.slot start in
           let i = lower_perhaps text nothing t s n start in
           let d = lower_perhaps text nothing t s2 i.next step in
-          let s3 = scope_behind_perhaps text nothing s2 i.next.slot step in
+          let s3 = scope_behind_perhaps text s2 i.next.slot step in
           let last = lower_statement text nothing t s3 d.next body in
           let f1 = in_perhaps text sc1 start in
           let f2 = in_optional text sc2 test in
@@ -343,7 +343,7 @@ module _ (text : Text) where
           let h1 = parts_right j (in_bound bound) (f1 ++ (f2 ++ (f3 ++ f4))) h in
           let h2 = parts_right j f1 (f2 ++ (f3 ++ f4)) h1 in
           let h3 = parts_right j f2 (f3 ++ f4) h2 in
-          let test_calls = wf.calls_of (optional_test text nothing s2 test) in
+          let test_calls = wf.calls_of (optional_test text s2 test) in
           right_named (Loop (For at start test step bound body) ∷ []) (in_bound bound ++ (f1 ++ (f2 ++ (f3 ++ f4)))) _
           (right_named (in_bound bound) (f1 ++ (f2 ++ (f3 ++ f4))) _
           (moved_named (f1 ++ (f2 ++ (f3 ++ f4))) (stmt_calls i.stmt ++ (test_calls ++ (stmt_calls last.stmt ++ stmt_calls d.stmt))) _
@@ -366,7 +366,7 @@ module _ (text : Text) where
           let fa = in_statement text sc a in
           let fr = in_statements text (behind sc a) rest in
           parts_named fa fr _ _ (statement_named t s n sc a (parts_left j fa fr h))
-          (list_named t (scope_behind text nothing s n.slot a) (lower_statement text nothing t s n a).next (behind sc a) rest (parts_right j fa fr h))
+          (list_named t (scope_behind text s n.slot a) (lower_statement text nothing t s n a).next (behind sc a) rest (parts_right j fa fr h))
 
       perhaps_named : (t : ℕ) (s : List Slot) (n : Next) (sc : Scope) (a : Perhaps) → findings_faults j (in_perhaps text sc a) ≡ [] →
           AllNamed text (in_perhaps text sc a) (stmt_calls (lower_perhaps text nothing t s n a).stmt)
@@ -399,7 +399,7 @@ module _ (text : Text) (names : List (List ℕ)) (clean : Clean text names) wher
       let rules : findings_faults j (params ++ body) ≡ [] = subst (λ b. findings_faults (record { names = names; gives = b }) (in_function text f) ≡ []) g c.findings in
       right_named text params body _
       (moved_named text body _ _ (sequence_calls text j refl (kernels.function_body text names f).list)
-      (list_named text j refl 0 (params_at 0 f.params) (record { slot = length f.params; thread = 0; par = 0 }) inside f.body (parts_right j params body rules)))
+      (list_named text j refl 0 (params_at 0 f.params) (record { slot = length f.params; thread = 1; par = 0 }) inside f.body (parts_right j params body rules)))
 
   abbrev number_rank : ℕ → ℕ
   number_rank n = rank (calls_of text) clean.free (function_ids text) (int_function text names n).name.id

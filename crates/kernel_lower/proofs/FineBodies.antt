@@ -72,13 +72,13 @@ module _
     (while_ok : (sc : Scope) (at : Place) (test : Term) (bound : Option Number) (body : Statement) → Unbroken text j (in_statement text sc (While at test bound body)) → FineBound j.gives (bound_of bound))
     (for_ok : (sc : Scope) (at : Place) (start : Perhaps) (test : Option Term) (step : Perhaps) (bound : Option Number) (body : Statement) →
     Unbroken text j (in_statement text sc (For at start test step bound body)) → FineBound j.gives (or_inferred (bound_of bound) (inferred text (For at start test step bound body))))
-    (locals_ok : (sc : Scope) (s : List Slot) (slot : ℕ) (ls : List Declared) → Matches words sc s → findings_faults j (in_locals text sc ls) ≡ [] → slots_behind text called slot ls ≤ words →
-    FineStmts j.gives (record { kernel = k; words = words; uses = uses }) (lower_locals text called s slot ls) × Matches words (tree.with_locals sc ls) (binds.with_locals s slot ls)) where
+    (locals_ok : (sc : Scope) (s : List Slot) (slot : ℕ) (ls : List Declared) → Matches words sc s → findings_faults j (in_locals text sc ls) ≡ [] → slots_behind text slot ls ≤ words →
+    FineStmts j.gives (record { kernel = k; words = words; uses = uses }) (lower_locals text s slot ls) × Matches words (tree.with_locals sc ls) (binds.with_locals s slot ls)) where
   abbrev inside_of : wf.Scope
   inside_of = record { kernel = k; words = words; uses = uses }
 
   sets_fine : (sc : Scope) (s : List Slot) (slot : ℕ) (es : Terms) → Matches words sc s → findings_faults j (in_terms text sc es) ≡ [] → slot + count_terms es ≤ words →
-      FineStmts j.gives inside_of (set_params text called s slot es)
+      FineStmts j.gives inside_of (set_params text s slot es)
   sets_fine sc s slot no_terms m h l = tt
   sets_fine sc s slot (more_terms e rest) m h l =
       let first : slot < words = omega arith in
@@ -89,7 +89,7 @@ module _
   entered_matches sc s m = record { same = m.same ∙ sym (Rattle.std.proofs.Common.append-nil (sc.outer ++ sc.here)); good = m.good }
 
   behind_matches : (sc : Scope) (s : List Slot) (n : Next) (t : ℕ) (a : Statement) → Matches words sc s → findings_faults j (in_statement text sc a) ≡ [] →
-      (lower_statement text called t s n a).next.slot ≤ words → Matches words (behind sc a) (scope_behind text called s n.slot a)
+      (lower_statement text called t s n a).next.slot ≤ words → Matches words (behind sc a) (scope_behind text s n.slot a)
   behind_matches sc s n t (Declare at locals) m h l = (locals_ok sc s n.slot locals m h l).1
   behind_matches sc s n t (Nothing at) m h l = m
   behind_matches sc s n t (Group at body) m h l = m
@@ -104,7 +104,7 @@ module _
   behind_matches sc s n t (Return at value) m h l = m
 
   perhaps_matches : (sc : Scope) (s : List Slot) (n : Next) (t : ℕ) (a : Perhaps) → Matches words sc s → findings_faults j (in_perhaps text sc a) ≡ [] →
-      (lower_perhaps text called t s n a).next.slot ≤ words → Matches words (behind_perhaps sc a) (scope_behind_perhaps text called s n.slot a)
+      (lower_perhaps text called t s n a).next.slot ≤ words → Matches words (behind_perhaps sc a) (scope_behind_perhaps text s n.slot a)
   perhaps_matches sc s n t absent m h l = m
   perhaps_matches sc s n t (present a) m h l = behind_matches sc s n t a m h l
 
@@ -118,7 +118,7 @@ module _
   giving : (place : Place) (fs : List Finding) → findings_faults j (Gives place ∷ fs) ≡ [] → j.gives ≡ true
   giving place fs h = not_not j.gives (not_broken (not j.gives) place 14 (none_left (fault_if (not j.gives) place 14) (findings_faults j fs) h))
 
-  optional_fine : (sc : Scope) (s : List Slot) (e : Option Term) → Matches words sc s → findings_faults j (in_optional text sc e) ≡ [] → FineExpr inside_of (optional_test text called s e)
+  optional_fine : (sc : Scope) (s : List Slot) (e : Option Term) → Matches words sc s → findings_faults j (in_optional text sc e) ≡ [] → FineExpr inside_of (optional_test text s e)
   optional_fine sc s None m h = tt
   optional_fine sc s (Some e) m h = fine_term text k words uses j knows sc s m e h
 
@@ -194,7 +194,7 @@ module _
     fine t s n sc (Nothing at) m h l z = tt
     fine t s n sc (Group at body) m h l z =
         sequence_fine j.gives inside_of (lower_list text called t s n body).list (list_fine t s n (entered sc) body (entered_matches sc s m) h l z)
-    fine t s n sc (Declare at locals) m h l z = sequence_fine j.gives inside_of (lower_locals text called s n.slot locals) (locals_ok sc s n.slot locals m h.rules l).0
+    fine t s n sc (Declare at locals) m h l z = sequence_fine j.gives inside_of (lower_locals text s n.slot locals) (locals_ok sc s n.slot locals m h.rules l).0
     fine t s n sc (Assign at target op value) m h l z =
         target_fine text k words uses j knows called sc s m target.name target.index op (lower_term text s value)
         (fine_term text k words uses j knows sc s m value (parts_right j (in_target text sc target) (in_term text sc value) h.rules)) (parts_left j (in_target text sc target) (in_term text sc value) h.rules)
@@ -203,8 +203,8 @@ module _
         let from : Next = record { slot = n.slot + count_terms args; thread = n.thread; par = n.par } in
         let b = runs t (count_terms args) n.slot sc name from (none_left (use_faults j how name (meaning text sc name.id)) (findings_faults j (in_terms text sc args)) h.rules) (omega arith) l z in
         let g = up name.id n.slot t from in
-        sequence_fine j.gives inside_of (ends_with (set_params text called s n.slot args) (called name.id n.slot t from).stmt)
-        (ends_fine j.gives inside_of (set_params text called s n.slot args) (called name.id n.slot t from).stmt
+        sequence_fine j.gives inside_of (ends_with (set_params text s n.slot args) (called name.id n.slot t from).stmt)
+        (ends_fine j.gives inside_of (set_params text s n.slot args) (called name.id n.slot t from).stmt
         (sets_fine sc s n.slot args m (none_right (use_faults j how name (meaning text sc name.id)) (findings_faults j (in_terms text sc args)) h.rules) (omega (arith, g, l))) b)
     fine t s n sc (If at test a b) m h l z =
         let r = unbroken_right text j (in_term text sc test) (in_statement text (entered sc) a ++ in_perhaps text (entered sc) b) h in
@@ -227,10 +227,10 @@ module _
         let sc1 = entered sc in
         let sc2 = behind_perhaps sc1 start in
         let sc3 = behind_perhaps sc2 step in
-        let s2 = scope_behind_perhaps text called s n.slot start in
+        let s2 = scope_behind_perhaps text s n.slot start in
         let i = lower_perhaps text called t s n start in
         let d = lower_perhaps text called t s2 i.next step in
-        let s3 = scope_behind_perhaps text called s2 i.next.slot step in
+        let s3 = scope_behind_perhaps text s2 i.next.slot step in
         let r4 = in_perhaps text sc2 step ++ in_statement text (entered sc3) body in
         let r3 = in_optional text sc2 test ++ r4 in
         let r2 = in_perhaps text sc1 start ++ r3 in
@@ -277,12 +277,12 @@ module _
     list_fine t s n sc (more_statements a rest) m h l z =
         let one = lower_statement text called t s n a in
         let here_ = unbroken_left text j (in_statement text sc a) (in_statements text (behind sc a) rest) h in
-        let two = list_rises text called up t (scope_behind text called s n.slot a) one.next rest in
+        let two = list_rises text called up t (scope_behind text s n.slot a) one.next rest in
         let long = threads_grow (grows text called right t s n a).grown in
-        let rest_made = (lower_list text called t (scope_behind text called s n.slot a) one.next rest).made in
+        let rest_made = (lower_list text called t (scope_behind text s n.slot a) one.next rest).made in
         let low_ : one.next.slot ≤ words = omega (arith, two, l) in (
           fine t s n sc a m here_ low_ (left_if j.gives k n.thread one.made rest_made z),
-          list_fine t (scope_behind text called s n.slot a) one.next (behind sc a) rest (behind_matches sc s n t a m here_.rules low_) (unbroken_right text j (in_statement text sc a) (in_statements text (behind sc a) rest) h) l (right_if j.gives k n.thread one.next.thread one.made rest_made long z),
+          list_fine t (scope_behind text s n.slot a) one.next (behind sc a) rest (behind_matches sc s n t a m here_.rules low_) (unbroken_right text j (in_statement text sc a) (in_statements text (behind sc a) rest) h) l (right_if j.gives k n.thread one.next.thread one.made rest_made long z),
         )
 
     perhaps_fine : (t : ℕ) (s : List Slot) (n : Next) (sc : Scope) (a : Perhaps) → Matches words sc s → Unbroken text j (in_perhaps text sc a) →

@@ -109,7 +109,7 @@ module _ (text : Text) (names : List (List ℕ)) where
         let c = function_of text names clean f m in
         let j : Judging = record { names = names; gives = true } in
         let words = (kernels.function_body text names f).next.slot in
-        let from : Next = record { slot = length f.params; thread = 0; par = 0 } in
+        let from : Next = record { slot = length f.params; thread = 1; par = 0 } in
         let inside = with_params no_scope f.params in
         let params = in_params text no_scope f.params in
         let body = in_statements text inside f.body in
@@ -128,7 +128,7 @@ module _ (text : Text) (names : List (List ℕ)) where
     returns_fine f m g =
         let c = function_of text names clean f m in
         sequence_returns (kernels.function_body text names f).list
-        ∙ list_returns text nothing 0 (params_at 0 f.params) (record { slot = length f.params; thread = 0; par = 0 }) f.body (c.returns g)
+        ∙ list_returns text nothing 0 (params_at 0 f.params) (record { slot = length f.params; thread = 1; par = 0 }) f.body (c.returns g)
 
     pub function_fine : WithinLimits (kernel_of text names) → (n : ℕ) → n < length (kernel_of text names).functions → FineFunction (kernel_of text names) n
     function_fine within n l =
@@ -140,7 +140,7 @@ module _ (text : Text) (names : List (List ℕ)) where
         let words = words_of_function n low in
         let body = body_of_function n low in
         let params = shape_params text names n low in
-        let from : Next = record { slot = length f.params; thread = 0; par = 0 } in
+        let from : Next = record { slot = length f.params; thread = 1; par = 0 } in
         let up = list_rises text nothing (λ id first t n. omega arith) 0 (params_at 0 f.params) from f.body in
         let few = c.few in
         record {

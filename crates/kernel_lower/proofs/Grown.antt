@@ -91,7 +91,7 @@ par_pars b bs = refl
 
 abbrev pub made_of : ℕ → ℕ → Option ℕ → ℕ → Lowered → Made
 made_of t q name params l =
-    record { parent = t; par = q; name = name; params = params; words = l.next.slot; body = l.stmt; named = vars_of l.stmt ++ vars_made l.made }
+    record { parent = t; par = q; name = name; params = params; words = l.next.slot; behind = l.next.thread; body = l.stmt; named = vars_of l.stmt ++ vars_made l.made }
 
 start_pars : (text : Text) (called : ℕ → InPlace) (t : ℕ) (s : List Slot) (n : Next) (start : Perhaps) (loop : Stmt) →
     let i = lower_perhaps text called t s n start in pars_of (after_start start i.stmt loop) ≡ pars_of i.stmt ++ pars_of loop
@@ -104,33 +104,33 @@ step_pars text called t s n absent body = sym (append-nil (pars_of body))
 step_pars text called t s n (present a) body = ap (λ x. pars_of body ++ x) (append-nil (pars_of (lower_statement text called t s n a).stmt))
 
 module _ (text : Text) (called : ℕ → InPlace) (right : (id first t : ℕ) (n : Next) → IsGrown t n (pars_of (called id first t n).stmt) (called id first t n).made (called id first t n).next) where
-  values_pars : (s : List Slot) (slot size k : ℕ) (es : Terms) (place : Place) → pars_in (array_values text called s slot size k es place) ≡ []
+  values_pars : (s : List Slot) (slot size k : ℕ) (es : Terms) (place : Place) → pars_in (array_values text s slot size k es place) ≡ []
   values_pars s slot size k no_terms place = refl
   values_pars s slot size k (more_terms e rest) place = values_pars s slot size (suc k) rest place
 
-  local_pars : (s : List Slot) (slot : ℕ) (l : Declared) → pars_of (lower_local text called s slot l) ≡ []
+  local_pars : (s : List Slot) (slot : ℕ) (l : Declared) → pars_of (lower_local text s slot l) ≡ []
   local_pars s slot l = pick l.length l.values refl refl
     where
-      pick : (size : Option Number) (es : Terms) → l.length ≡ size → l.values ≡ es → pars_of (lower_local text called s slot l) ≡ []
+      pick : (size : Option Number) (es : Terms) → l.length ≡ size → l.values ≡ es → pars_of (lower_local text s slot l) ≡ []
       pick None no_terms e d = rw (e, d) refl
       pick None (more_terms x rest) e d = rw (e, d) refl
       pick (Some n) es e d =
           rw e
-          (sequence_pars (more_stmts (kernel.Clear slot (number_of n)) (array_values text called s slot (number_of n) 0 l.values l.name.place))
+          (sequence_pars (more_stmts (kernel.Clear slot (number_of n)) (array_values text s slot (number_of n) 0 l.values l.name.place))
           ∙ values_pars s slot (number_of n) 0 l.values l.name.place)
 
-  locals_pars : (s : List Slot) (slot : ℕ) (ls : List Declared) → pars_in (lower_locals text called s slot ls) ≡ []
+  locals_pars : (s : List Slot) (slot : ℕ) (ls : List Declared) → pars_in (lower_locals text s slot ls) ≡ []
   locals_pars s slot [] = refl
-  locals_pars s slot (l ∷ rest) = ap (λ x. x ++ pars_in (lower_locals text called (with_locals s slot (l ∷ [])) (slot + slots_of l.length) rest)) (local_pars s slot l) ∙ locals_pars (with_locals s slot (l ∷ [])) (slot + slots_of l.length) rest
+  locals_pars s slot (l ∷ rest) = ap (λ x. x ++ pars_in (lower_locals text (with_locals s slot (l ∷ [])) (slot + slots_of l.length) rest)) (local_pars s slot l) ∙ locals_pars (with_locals s slot (l ∷ [])) (slot + slots_of l.length) rest
 
-  sets_pars : (s : List Slot) (slot : ℕ) (es : Terms) → pars_in (set_params text called s slot es) ≡ []
+  sets_pars : (s : List Slot) (slot : ℕ) (es : Terms) → pars_in (set_params text s slot es) ≡ []
   sets_pars s slot no_terms = refl
   sets_pars s slot (more_terms e rest) = sets_pars s (suc slot) rest
 
-  target_pars : (s : List Slot) (target : Written) (op : Option OpAt) (value : Expr) → pars_of (lower_target text called s target op value) ≡ []
+  target_pars : (s : List Slot) (target : Written) (op : Option OpAt) (value : Expr) → pars_of (lower_target text s target op value) ≡ []
   target_pars s target op value = pick target.index refl
     where
-      pick : (i : Option Term) → target.index ≡ i → pars_of (lower_target text called s target op value) ≡ []
+      pick : (i : Option Term) → target.index ≡ i → pars_of (lower_target text s target op value) ≡ []
       pick None e = rw e (to_pars (stands text s target.name.id) op value)
       pick (Some i) e = rw e (at_pars (stands text s target.name.id) op (lower_term text s i) value target.name.place)
 
@@ -153,13 +153,13 @@ module _ (text : Text) (called : ℕ → InPlace) (right : (id first t : ℕ) (n
         IsGrown t n (pars_of (lower_statement text called t s n a).stmt) (lower_statement text called t s n a).made (lower_statement text called t s n a).next
     grows t s n (Nothing at) = still t n n [] refl refl refl
     grows t s n (Group at body) = let l = lower_list text called t s n body in renamed t n l.next _ _ l.made (sequence_pars l.list) (list_grows t s n body)
-    grows t s n (Declare at locals) = still t n _ _ (sequence_pars (lower_locals text called s n.slot locals) ∙ locals_pars s n.slot locals) refl refl
+    grows t s n (Declare at locals) = still t n _ _ (sequence_pars (lower_locals text s n.slot locals) ∙ locals_pars s n.slot locals) refl refl
     grows t s n (Assign at target op value) = still t n n _ (target_pars s target op (lower_term text s value)) refl refl
     grows t s n (Invoke at name args) =
         let from : Next = record { slot = n.slot + count_terms args; thread = n.thread; par = n.par } in
         let l = called name.id n.slot t from in
         let g = right name.id n.slot t from in
-        let sets = set_params text called s n.slot args in
+        let sets = set_params text s n.slot args in
         record { forks = g.forks; are = g.are ∙ sym (sequence_pars (ends_with sets l.stmt) ∙ ends_pars sets l.stmt ∙ ap (λ x. x ++ pars_of l.stmt) (sets_pars s n.slot args)); grown = g.grown }
     grows t s n (If at test a b) =
         let l = lower_statement text called t s n a in
@@ -167,10 +167,10 @@ module _ (text : Text) (called : ℕ → InPlace) (right : (id first t : ℕ) (n
         joins t n l.next m.next _ (pars_of l.stmt) (pars_of m.stmt) l.made m.made refl (grows t s n a) (perhaps_grows t s l.next b)
     grows t s n (While at test bound body) = grows t s n body
     grows t s n (For at start test step bound body) =
-        let inside = scope_behind_perhaps text called s n.slot start in
+        let inside = scope_behind_perhaps text s n.slot start in
         let i = lower_perhaps text called t s n start in
         let j = lower_perhaps text called t inside i.next step in
-        let inner = scope_behind_perhaps text called inside i.next.slot step in
+        let inner = scope_behind_perhaps text inside i.next.slot step in
         let l = lower_statement text called t inner j.next body in
         let g = perhaps_grows t s n start in
         let gj = perhaps_grows t inside i.next step in
@@ -215,7 +215,7 @@ module _ (text : Text) (called : ℕ → InPlace) (right : (id first t : ℕ) (n
     list_grows t s n no_statements = still t n n [] refl refl refl
     list_grows t s n (more_statements a rest) =
         let l = lower_statement text called t s n a in
-        let inner = scope_behind text called s n.slot a in
+        let inner = scope_behind text s n.slot a in
         let m = lower_list text called t inner l.next rest in
         joins t n l.next m.next _ (pars_of l.stmt) (pars_in m.list) l.made m.made refl (grows t s n a) (list_grows t inner l.next rest)
 

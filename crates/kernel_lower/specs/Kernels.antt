@@ -61,7 +61,7 @@ module _ (text : Text) (names : List (List ℕ)) where
   abbrev pub function_body : PlainFunction → Listed
   function_body f =
       lower_list text (λ id first t n. lowered (sequence (Rattle.forec_kernel.specs.Terms.no_stmts)) n) 0 (params_at 0 f.params)
-      (record { slot = length f.params; thread = 0; par = 0 }) f.body
+      (record { slot = length f.params; thread = 1; par = 0 }) f.body
 
   abbrev pub int_functions : Text → List PlainFunction
   int_functions [] = []

@@ -76,13 +76,14 @@ pub record Next : Type 0 where
   pub thread : ℕ
   pub par : ℕ
 
--- a thread below: its parent, the par whose branch it is, the function that it is by name, its parameters, its words, its body, and the variables that it or a thread below it names
+-- a thread below: its parent, the par whose branch it is, the function that it is by name, its parameters, its words, the number of the thread behind it and those below it, its body, and the variables that it or a thread below it names
 pub record Made : Type 0 where
   pub parent : ℕ
   pub par : ℕ
   pub name : Option ℕ
   pub params : ℕ
   pub words : ℕ
+  pub behind : ℕ
   pub body : Stmt
   pub named : List ℕ
 
@@ -160,7 +161,7 @@ vars_made (m ∷ rest) = vars_of m.body ++ vars_made rest
 -- a thread, before those below it
 abbrev pub thread_of : ℕ → ℕ → Option ℕ → ℕ → Lowered → List Made
 thread_of parent par name params l =
-    record { parent = parent; par = par; name = name; params = params; words = l.next.slot; body = l.stmt; named = vars_of l.stmt ++ vars_made l.made } ∷ l.made
+    record { parent = parent; par = par; name = name; params = params; words = l.next.slot; behind = l.next.thread; body = l.stmt; named = vars_of l.stmt ++ vars_made l.made } ∷ l.made
 
 abbrev pub operated : Option OpAt → Expr → Expr → Expr
 operated None old value = value
@@ -208,11 +209,7 @@ abbrev pub params_of : Option PlainFunction → List Name
 params_of None = []
 params_of (Some f) = f.params
 
--- a call of a void function that is put in place, in a thread: the slots of its parameters, which the caller has taken, and what is free behind them
-abbrev pub InPlace : Type 0
-InPlace = (first owner : ℕ) → Next → Lowered
-
-module _ (text : Text) (called : ℕ → InPlace) where
+module _ (text : Text) where
   abbrev pub array_values : List Slot → ℕ → ℕ → ℕ → Terms → Place → Stmts
   array_values s slot size k no_terms place = no_stmts
   array_values s slot size k (more_terms e rest) place =
@@ -256,16 +253,21 @@ module _ (text : Text) (called : ℕ → InPlace) where
     | Some i ↦ assign_at (stands text s t.name.id) op (lower_term text s i) value t.name.place
   ]
 
+-- a call of a void function that is put in place, in a thread: the slots of its parameters, which the caller has taken, and what is free behind them
+abbrev pub InPlace : Type 0
+InPlace = (first owner : ℕ) → Next → Lowered
+
+module _ (text : Text) (called : ℕ → InPlace) where
   abbrev mutual
     pub lower_statement : ℕ → List Slot → Next → Statement → Lowered
     lower_statement t s n (Nothing at) = lowered kernel.Nop n
     lower_statement t s n (Group at body) =
         let l = lower_list t s n body in record { stmt = sequence l.list; next = l.next; made = l.made }
-    lower_statement t s n (Declare at locals) = lowered (sequence (lower_locals s n.slot locals)) (from_slot n (slots_behind n.slot locals))
-    lower_statement t s n (Assign at target op value) = lowered (lower_target s target op (lower_term text s value)) n
+    lower_statement t s n (Declare at locals) = lowered (sequence (lower_locals text s n.slot locals)) (from_slot n (slots_behind text n.slot locals))
+    lower_statement t s n (Assign at target op value) = lowered (lower_target text s target op (lower_term text s value)) n
     lower_statement t s n (Invoke at name args) =
         let l = called name.id n.slot t (from_slot n (n.slot + count_terms args)) in
-        record { stmt = sequence (ends_with (set_params s n.slot args) l.stmt); next = l.next; made = l.made }
+        record { stmt = sequence (ends_with (set_params text s n.slot args) l.stmt); next = l.next; made = l.made }
     lower_statement t s n (If at test a b) =
         let l = lower_statement t s n a in
         let m = lower_perhaps t s l.next b in
@@ -274,14 +276,14 @@ module _ (text : Text) (called : ℕ → InPlace) where
         let l = lower_statement t s n body in
         record { stmt = kernel.While (lower_term text s test) (bound_of bound) l.stmt at; next = l.next; made = l.made }
     lower_statement t s n (For at start test step bound body) =
-        let inside = scope_behind_perhaps s n.slot start in
+        let inside = scope_behind_perhaps text s n.slot start in
         let i = lower_perhaps t s n start in
         let j = lower_perhaps t inside i.next step in
-        let l = lower_statement t (scope_behind_perhaps inside i.next.slot step) j.next body in
+        let l = lower_statement t (scope_behind_perhaps text inside i.next.slot step) j.next body in
         record {
           stmt =
               after_start start i.stmt
-              (kernel.While (optional_test inside test) (or_inferred (bound_of bound) (inferred text (For at start test step bound body)))
+              (kernel.While (optional_test text inside test) (or_inferred (bound_of bound) (inferred text (For at start test step bound body)))
               (then_step step l.stmt j.stmt) at);
           next = l.next;
           made = i.made ++ (j.made ++ l.made);
@@ -299,7 +301,7 @@ module _ (text : Text) (called : ℕ → InPlace) where
     lower_list t s n no_statements = record { list = no_stmts; next = n; made = [] }
     lower_list t s n (more_statements a rest) =
         let l = lower_statement t s n a in
-        let m = lower_list t (scope_behind s n.slot a) l.next rest in
+        let m = lower_list t (scope_behind text s n.slot a) l.next rest in
         record { list = more_stmts l.stmt m.list; next = m.next; made = l.made ++ m.made }
 
     pub lower_perhaps : ℕ → List Slot → Next → Perhaps → Lowered
