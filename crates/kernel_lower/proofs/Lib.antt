@@ -1,4 +1,5 @@
 pub mod Counted
+pub mod Sized
 pub mod Grown
 pub mod Forks
 pub mod Owned
@@ -31,5 +32,7 @@ pub mod Whole
 pub mod Trailed
 pub mod Looked
 pub mod Lists
+pub mod Statements
+pub mod Doing
 pub mod Numbered
 mod Worked

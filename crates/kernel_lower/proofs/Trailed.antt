@@ -80,4 +80,3 @@ pub latest_push : (es : List Step) (id : ℕ) (place : ℕ) (old new : ℕ → �
 latest_push es id place old new p h n g =
     let e : place ≡ suc (length es) = omega (arith, p) in
     n g ∙ ap (λ m. put_at id g m (old g)) e ∙ ap (put_at id g (suc (length es))) (h g) ∙ sym (last_snoc g es (record { id = id; before = last_of id es }))
-

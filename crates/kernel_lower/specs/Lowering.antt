@@ -68,6 +68,11 @@ abbrev pub ends_with : Stmts → Stmt → Stmts
 ends_with no_stmts a = more_stmts a no_stmts
 ends_with (more_stmts b rest) a = more_stmts b (ends_with rest a)
 
+-- one list behind another
+abbrev pub joined : Stmts → Stmts → Stmts
+joined no_stmts b = b
+joined (more_stmts a rest) b = more_stmts a (joined rest b)
+
 -- ---- statements
 
 -- the next free slot of the thread, the number of the next thread, and that of the next par
@@ -102,6 +107,10 @@ pub record Started : Type 0 where
   pub launches : List Branch
   pub next : Next
   pub made : List Made
+
+-- a list as one statement
+abbrev pub as_one : Listed → Lowered
+as_one l = record { stmt = sequence l.list; next = l.next; made = l.made }
 
 abbrev pub lowered : Stmt → Next → Lowered
 lowered s n = record { stmt = s; next = n; made = [] }
@@ -185,15 +194,19 @@ abbrev pub or_inferred : Option ℕ → Option ℕ → Option ℕ
 or_inferred None n = n
 or_inferred (Some b) n = Some b
 
+-- one statement behind another
+abbrev pub pair : Stmt → Stmt → Stmt
+pair a b = kernel.Seq (more_stmts a (more_stmts b no_stmts))
+
 -- I; while(..), or the loop alone
 abbrev pub after_start : Perhaps → Stmt → Stmt → Stmt
 after_start absent start loop = loop
-after_start (present a) start loop = kernel.Seq (more_stmts start (more_stmts loop no_stmts))
+after_start (present a) start loop = pair start loop
 
 -- B;S, or B alone
 abbrev pub then_step : Perhaps → Stmt → Stmt → Stmt
 then_step absent body step = body
-then_step (present a) body step = kernel.Seq (more_stmts body (more_stmts step no_stmts))
+then_step (present a) body step = pair body step
 
 -- A tree can have a `par` without a branch, which no text spells: it is `nop`, and takes no number.
 abbrev pub par_of : List Branch → Stmt
@@ -262,7 +275,7 @@ module _ (text : Text) (called : ℕ → InPlace) where
     pub lower_statement : ℕ → List Slot → Next → Statement → Lowered
     lower_statement t s n (Nothing at) = lowered kernel.Nop n
     lower_statement t s n (Group at body) =
-        let l = lower_list t s n body in record { stmt = sequence l.list; next = l.next; made = l.made }
+        as_one (lower_list t s n body)
     lower_statement t s n (Declare at locals) = lowered (sequence (lower_locals text s n.slot locals)) (from_slot n (slots_behind text n.slot locals))
     lower_statement t s n (Assign at target op value) = lowered (lower_target text s target op (lower_term text s value)) n
     lower_statement t s n (Invoke at name args) =
@@ -325,14 +338,13 @@ module _ (text : Text) (called : ℕ → InPlace) where
         record {
           launches = record { thread = n.thread; args = no_exprs } ∷ m.launches;
           next = m.next;
-          made = thread_of t p None 0 (record { stmt = sequence l.list; next = l.next; made = l.made }) ++ m.made;
+          made = thread_of t p None 0 (as_one l) ++ m.made;
         }
 
 abbrev pub body_in_place : Text → (ℕ → InPlace) → Option PlainFunction → InPlace
 body_in_place text called None first t n = lowered kernel.Nop n
 body_in_place text called (Some f) first t n =
-    let l = lower_list text called t (params_at first f.params) n f.body in
-    record { stmt = sequence l.list; next = l.next; made = l.made }
+    as_one (lower_list text called t (params_at first f.params) n f.body)
 
 abbrev pub in_place_step : Text → (ℕ → InPlace) → ℕ → InPlace
 in_place_step text called id = body_in_place text called (find_function id text)

@@ -1,9 +1,13 @@
 //! From the tree of a program to its kernel.
 #![tactic(auto)]
 
+mod assign;
 mod globals;
 mod limits;
 mod names;
+mod parts;
 mod scope;
+mod source;
+mod state;
 mod term;
 mod trail;

@@ -1,0 +1,106 @@
+-- How the translation of a statement is put together from those of its parts, from state to state.
+use Rattle.std.proofs.Common.{ℕ, zero, suc, ◌+◌, ◌-◌, ◌<◌, ◌≤◌, ◌≡◌, ◌∙◌, sym, ap, refl, Bool, Option, Some, None, List, [], ◌∷◌, ◌++◌, append-nil, append_assoc, length, length-append, map, take, drop, set, subst, arith}
+use Rattle.std.proofs.lemmas.List.{map-append, length-map}
+use Rattle.forec_base.specs.declared.Place.{Place}
+use Rattle.forec_tree.specs.declared.tree.Number.{Number}
+use Rattle.forec_tree.specs.declared.tree.Name.{Name}
+use Rattle.forec_tree.specs.declared.tree.Expr.{Expr}
+use Rattle.forec_tree.specs.declared.tree.Branch.{Branch, Call, Group'}
+use Rattle.forec_tree.specs.Plain.{terms, branches, branch_with, statement_row}
+use Rattle.forec_tree.specs.Terms as tree
+use Rattle.forec_tree.specs.Terms.{Term, Terms, count_terms, Statement, Statements, no_statements, more_statements, Perhaps, Branches, no_branches, by_call, by_group, Text}
+use Rattle.forec_tree.specs.Pauses.{find_function}
+use Rattle.forec_tree.specs.Turns.{inferred}
+use Rattle.forec_kernel.specs.Terms as kernel
+use Rattle.forec_kernel.specs.Terms.{Stmt, Stmts, no_stmts, more_stmts, no_exprs}
+use Rattle.forec_kernel.specs.Plain.{stmt, stmts}
+use Rattle.forec_kernel.specs.declared.terms.Statement as rust
+use Rattle.kernel_lower.specs.declared.names.Slot.{Slot}
+use Rattle.kernel_lower.specs.declared.scope.Scope.{Scope}
+use Rattle.kernel_lower.specs.declared.state.State.{State}
+use Rattle.kernel_lower.specs.Lowering.{Next, Made, Lowered, Listed, Started, InPlace, as_one, params_of, lower_term, lower_terms, sequence, ends_with, bound_of, or_inferred, optional_test, after_start, then_step, set_params, scope_behind, scope_behind_perhaps, par_of, par_behind, thread_of, lower_statement, lower_list, lower_perhaps, lower_branches}
+use Rattle.kernel_lower.specs.Views.{seen, Kept, Same, next_of, threads_of, of_thread, Bare, bare, blank, Does, DoesList, DoesBranches, Begins, Finishes}
+
+pub does_as : (l m : Lowered) (k : Stmt) (old new : State) → l ≡ m → Does l k old new → Does m k old new
+does_as l m k old new e d = subst (λ x. Does x k old new) e d
+
+-- the threads of two parts
+pub threads_two : (xs ys zs : List Bare) (a b : List Made) → ys ≡ xs ++ map bare a → zs ≡ ys ++ map bare b → zs ≡ xs ++ map bare (a ++ b)
+threads_two xs ys zs a b h g =
+    g ∙ (ap (λ l. l ++ map bare b) h ∙ (append_assoc xs (map bare a) (map bare b) ∙ ap (λ l. xs ++ l) (sym (map-append bare a b))))
+
+pub threads_three : (xs ys zs ws : List Bare) (a b c : List Made) → ys ≡ xs ++ map bare a → zs ≡ ys ++ map bare b → ws ≡ zs ++ map bare c → ws ≡ xs ++ map bare (a ++ (b ++ c))
+threads_three xs ys zs ws a b c h g f = threads_two xs ys ws a (b ++ c) h (threads_two ys zs ws b c g f)
+
+-- a state whose scope alone is another
+pub record Rest (old new : State) : Type 0 where
+  pub next : next_of new ≡ next_of old
+  pub threads : threads_of new ≡ threads_of old
+
+pub does_rest : (l : Lowered) (k : Stmt) (old mid new : State) → Rest mid new → Does l k old mid → Does l k old new
+does_rest l k old mid new r d = record { is = d.is; next = r.next ∙ d.next; threads = r.threads ∙ d.threads }
+
+module _ (text : Text) (called : ℕ → InPlace) (t : ℕ) where
+  -- ---- a list
+
+  pub list_step : (s s1 : List Slot) (n n1 : Next) (a : Statement) (rest : Statements) → s1 ≡ scope_behind text s n.slot a → n1 ≡ (lower_statement text called t s n a).next →
+      lower_list text called t s n (more_statements a rest)
+      ≡ (let l = lower_statement text called t s n a in
+      let m = lower_list text called t s1 n1 rest in
+      record { list = more_stmts l.stmt m.list; next = m.next; made = l.made ++ m.made })
+  list_step s s1 n n1 a rest e d = rw (e, d) refl
+
+  -- ---- a loop with its head
+
+  pub for_step : (s s1 s2 : List Slot) (n n1 n2 : Next) (at : Place) (start : Perhaps) (test : Option Term) (step : Perhaps) (bound : Option Number) (body : Statement) →
+      s1 ≡ scope_behind_perhaps text s n.slot start → n1 ≡ (lower_perhaps text called t s n start).next →
+      s2 ≡ scope_behind_perhaps text s1 n1.slot step → n2 ≡ (lower_perhaps text called t s1 n1 step).next →
+      lower_statement text called t s n (tree.For at start test step bound body)
+      ≡ (let i = lower_perhaps text called t s n start in
+      let j = lower_perhaps text called t s1 n1 step in
+      let l = lower_statement text called t s2 n2 body in
+      record {
+        stmt =
+            after_start start i.stmt
+            (kernel.While (optional_test text s1 test) (or_inferred (bound_of bound) (inferred text (tree.For at start test step bound body))) (then_step step l.stmt j.stmt) at);
+        next = l.next;
+        made = i.made ++ (j.made ++ l.made);
+      })
+  for_step s s1 s2 n n1 n2 at start test step bound body e d f g = rw (g, f, d, e) refl
+
+  -- ---- branches
+
+  pub branch_first : (s : List Slot) (p : ℕ) (n : Next) (b : Branch) (rest : Branches) →
+      lower_branches text called t s p n (branch_with b rest)
+      ≡ (let l = lower_branches text called t s p n (branch_with b no_branches) in
+      let m = lower_branches text called t s p l.next rest in
+      record { launches = l.launches ++ m.launches; next = m.next; made = l.made ++ m.made })
+  branch_first s p n (Call name args) rest =
+      let b = called name.id 0 n.thread (record { slot = count_terms (terms args); thread = suc n.thread; par = n.par }) in
+      let m = lower_branches text called t s p (record { slot = n.slot; thread = b.next.thread; par = b.next.par }) rest in
+      let one = thread_of t p (Some name.id) (length (params_of (find_function name.id text))) b in
+      ap (λ l. record { launches = record { thread = n.thread; args = lower_terms text s (terms args) } ∷ m.launches; next = m.next; made = l ++ m.made }) (sym (append-nil one))
+  branch_first s p n (Group' place shape body) rest =
+      let l = lower_list text called n.thread [] (record { slot = 0; thread = suc n.thread; par = n.par }) (statement_row body) in
+      let m = lower_branches text called t s p (record { slot = n.slot; thread = l.next.thread; par = l.next.par }) rest in
+      let one = thread_of t p None 0 (as_one l) in
+      ap (λ x. record { launches = record { thread = n.thread; args = no_exprs } ∷ m.launches; next = m.next; made = x ++ m.made }) (sym (append-nil one))
+
+  pub par_some : (s : List Slot) (p q : ℕ) (n : Next) (b : Branch) (rest : Branches) →
+      (par_of (lower_branches text called t s p n (branch_with b rest)).launches ≡ kernel.Par (lower_branches text called t s p n (branch_with b rest)).launches) × (par_behind (branch_with b rest) q ≡ suc q)
+  par_some s p q n (Call name args) rest = (refl, refl)
+  par_some s p q n (Group' place shape body) rest = (refl, refl)
+
+pub ends_pushed : (xs : List rust.Statement) (x : rust.Statement) → stmts (xs ++ x ∷ []) ≡ ends_with (stmts xs) (stmt x)
+ends_pushed [] x = refl
+ends_pushed (y ∷ xs) x = ap (more_stmts (stmt y)) (ends_pushed xs x)
+
+pub count_args : (es : List Expr) → length es ≡ count_terms (terms es)
+count_args [] = refl
+count_args (e ∷ es) = ap suc (count_args es)
+
+-- ---- a thread below
+
+set_behind : (xs ys : List Bare) (b x : Bare) → set (xs ++ b ∷ ys) (length xs) x ≡ xs ++ x ∷ ys
+set_behind [] ys b x = refl
+set_behind (z ∷ xs) ys b x = ap (λ l. z ∷ l) (set_behind xs ys b x)
