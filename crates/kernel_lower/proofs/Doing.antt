@@ -104,3 +104,8 @@ count_args (e ∷ es) = ap suc (count_args es)
 set_behind : (xs ys : List Bare) (b x : Bare) → set (xs ++ b ∷ ys) (length xs) x ≡ xs ++ x ∷ ys
 set_behind [] ys b x = refl
 set_behind (z ∷ xs) ys b x = ap (λ l. z ∷ l) (set_behind xs ys b x)
+
+pub set_map : {A B : Type 0} (f : A → B) (xs : List A) (i : ℕ) (x : A) → map f (set xs i x) ≡ set (map f xs) i (f x)
+set_map f [] i x = refl
+set_map f (y ∷ xs) zero x = refl
+set_map f (y ∷ xs) (suc i) x = ap (λ l. f y ∷ l) (set_map f xs i x)

@@ -4,10 +4,12 @@
 mod assign;
 mod globals;
 mod limits;
+mod loops;
 mod names;
 mod parts;
 mod scope;
 mod source;
 mod state;
 mod term;
+mod threads;
 mod trail;

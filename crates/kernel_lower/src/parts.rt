@@ -58,3 +58,13 @@ pub fn both(alloc: Global, first: Statement, second: Statement) -> Result<Statem
     list.push(second)?;
     Ok(Statement::Sequence { list })
 }
+
+/// A count of 32 bits: past them there is no memory for so many.
+pub fn count(n: usize) -> Result<u32, OutOfMemory>
+    ensures { IfOk result (λ m. m ≡ n) }
+{
+    match u32::try_from(n) {
+        Err(_) => Err(OutOfMemory),
+        Ok(m) => Ok(m),
+    }
+}
