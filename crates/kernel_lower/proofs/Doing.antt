@@ -91,6 +91,55 @@ module _ (text : Text) (called : ℕ → InPlace) (t : ℕ) where
   par_some s p q n (Call name args) rest = (refl, refl)
   par_some s p q n (Group' place shape body) rest = (refl, refl)
 
+  pub for_does : (s : List Slot) (n : Next) (at : Place) (start : Perhaps) (test : Option Term) (step : Perhaps) (bound : Option Number) (body : Statement) (old one two three new : State) (turns : Option ℕ) (kt : kernel.Expr) (k1 k2 k3 k : Stmt) →
+      Does (lower_perhaps text called t s n start) k1 old one → seen one.scope ≡ scope_behind_perhaps text s n.slot start → kt ≡ optional_test text (seen one.scope) test →
+      Does (lower_perhaps text called t (seen one.scope) (next_of one) step) k2 one two → seen two.scope ≡ scope_behind_perhaps text (seen one.scope) one.slot step →
+      Does (lower_statement text called t (seen two.scope) (next_of two) body) k3 two three → Rest three new → turns ≡ inferred text (tree.For at start test step bound body) →
+      k ≡ after_start start k1 (kernel.While kt (or_inferred (bound_of bound) turns) (then_step step k3 k2) at) →
+      Does (lower_statement text called t s n (tree.For at start test step bound body)) k old new
+  for_does s n at start test step bound body old one two three new turns kt k1 k2 k3 k d1 e1 v d2 e2 d3 r w g =
+      let i = lower_perhaps text called t s n start in
+      let j = lower_perhaps text called t (seen one.scope) (next_of one) step in
+      let l = lower_statement text called t (seen two.scope) (next_of two) body in
+      does_as _ _ k old new (sym (for_step s (seen one.scope) (seen two.scope) n (next_of one) (next_of two) at start test step bound body e1 d1.next e2 d2.next))
+      (record {
+        is =
+            g ∙ (ap (λ x. after_start start x (kernel.While kt (or_inferred (bound_of bound) turns) (then_step step k3 k2) at)) d1.is
+            ∙ (ap (λ x. after_start start i.stmt (kernel.While x (or_inferred (bound_of bound) turns) (then_step step k3 k2) at)) v
+            ∙ (ap (λ x. after_start start i.stmt (kernel.While (optional_test text (seen one.scope) test) (or_inferred (bound_of bound) x) (then_step step k3 k2) at)) w
+            ∙ (ap (λ x. after_start start i.stmt (kernel.While (optional_test text (seen one.scope) test) (or_inferred (bound_of bound) (inferred text (tree.For at start test step bound body))) (then_step step x k2) at)) d3.is
+            ∙ ap (λ x. after_start start i.stmt (kernel.While (optional_test text (seen one.scope) test) (or_inferred (bound_of bound) (inferred text (tree.For at start test step bound body))) (then_step step l.stmt x) at)) d2.is))));
+        next = r.next ∙ d3.next;
+        threads = r.threads ∙ threads_three (threads_of old) (threads_of one) (threads_of two) (threads_of three) i.made j.made l.made d1.threads d2.threads d3.threads;
+      })
+
+  pub call_does : (s : List Slot) (n : Next) (at : Place) (name : Name) (args : Terms) (old one new : State) (sets : Stmts) (kb k : Stmt) → sets ≡ set_params text s n.slot args →
+      next_of one ≡ (let from : Next = record { slot = n.slot + count_terms args; thread = n.thread; par = n.par } in from) → threads_of one ≡ threads_of old →
+      Does (called name.id n.slot t (next_of one)) kb one new → k ≡ sequence (ends_with sets kb) → Does (lower_statement text called t s n (tree.Invoke at name args)) k old new
+  call_does s n at name args old one new sets kb k p e h d g =
+      let from : Next = record { slot = n.slot + count_terms args; thread = n.thread; par = n.par } in
+      let q : Does (called name.id n.slot t from) kb one new = subst (λ m. Does (called name.id n.slot t m) kb one new) e d in
+      record {
+        is = g ∙ (ap (λ x. sequence (ends_with x kb)) p ∙ ap (λ x. sequence (ends_with (set_params text s n.slot args) x)) q.is);
+        next = q.next;
+        threads = q.threads ∙ ap (λ l. l ++ map bare (called name.id n.slot t from).made) h;
+      }
+
+  pub par_does : (s : List Slot) (n : Next) (at : Place) (b : Branch) (rest : Branches) (old one new : State) (ls : List kernel.Branch) →
+      next_of one ≡ (let from : Next = record { slot = n.slot; thread = n.thread; par = suc n.par } in from) → threads_of one ≡ threads_of old →
+      DoesBranches (lower_branches text called t s n.par (next_of one) (branch_with b rest)) ls one new → Does (lower_statement text called t s n (tree.Par at (branch_with b rest))) (kernel.Par ls) old new
+  par_does s n at b rest old one new ls e h d =
+      let some = par_some s n.par n.par (record { slot = n.slot; thread = n.thread; par = par_behind (branch_with b rest) n.par }) b rest in
+      let from : Next = record { slot = n.slot; thread = n.thread; par = suc n.par } in
+      let to : Next = record { slot = n.slot; thread = n.thread; par = par_behind (branch_with b rest) n.par } in
+      let same : next_of one ≡ to = e ∙ ap (λ p. (let m : Next = record { slot = n.slot; thread = n.thread; par = p } in m)) (sym some.1) in
+      let q : DoesBranches (lower_branches text called t s n.par to (branch_with b rest)) ls one new = subst (λ m. DoesBranches (lower_branches text called t s n.par m (branch_with b rest)) ls one new) same d in
+      record {
+        is = ap kernel.Par q.is ∙ sym some.0;
+        next = q.next;
+        threads = q.threads ∙ ap (λ l. l ++ map bare (lower_branches text called t s n.par to (branch_with b rest)).made) h;
+      }
+
 pub ends_pushed : (xs : List rust.Statement) (x : rust.Statement) → stmts (xs ++ x ∷ []) ≡ ends_with (stmts xs) (stmt x)
 ends_pushed [] x = refl
 ends_pushed (y ∷ xs) x = ap (more_stmts (stmt y)) (ends_pushed xs x)
@@ -109,3 +158,27 @@ pub set_map : {A B : Type 0} (f : A → B) (xs : List A) (i : ℕ) (x : A) → m
 set_map f [] i x = refl
 set_map f (y ∷ xs) zero x = refl
 set_map f (y ∷ xs) (suc i) x = ap (λ l. f y ∷ l) (set_map f xs i x)
+
+-- a thread below is translated between its begin and its end
+pub below_does : (t p : ℕ) (name : Option ℕ) (params : ℕ) (l : Lowered) (old one two three new : State) (k : Stmt) →
+    Begins old one → threads_of two ≡ threads_of one → Does l k two three →
+    Finishes (record { parent = t; par = p; name = name; params = params; words = three.slot; behind = (next_of three).thread; body = k }) (next_of old).thread old.slot three new →
+    threads_of new ≡ threads_of old ++ map bare (thread_of t p name params l)
+below_does t p name params l old one two three new k b h d f =
+    let thread : Bare = record { parent = t; par = p; name = name; params = params; words = three.slot; behind = (next_of three).thread; body = k } in
+    let with_words = λ (w : ℕ) (e : ℕ) (x : Stmt). let m : Bare = record { parent = t; par = p; name = name; params = params; words = w; behind = e; body = x } in m in
+    let is : thread ≡ with_words l.next.slot l.next.thread l.stmt =
+    ap (λ (n : Next). with_words n.slot n.thread k) d.next ∙ ap (λ x. with_words l.next.slot l.next.thread x) d.is in
+    let at : (next_of old).thread - 1 ≡ length (threads_of old) = (let e = length-map old.threads.items of_thread in omega (arith, e)) in
+    let all : threads_of three ≡ threads_of old ++ blank ∷ map bare l.made = d.threads ∙ (ap (λ x. x ++ map bare l.made) (h ∙ b.threads) ∙ append_assoc (threads_of old) (blank ∷ []) (map bare l.made)) in
+    f.threads ∙ (ap (λ x. set x ((next_of old).thread - 1) thread) all ∙ (ap (λ i. set (threads_of old ++ blank ∷ map bare l.made) i thread) at
+    ∙ (set_behind (threads_of old) (map bare l.made) blank thread ∙ ap (λ x. threads_of old ++ x ∷ map bare l.made) is)))
+
+-- where a thread that has begun goes on
+pub begun_thread : (old one : State) → Begins old one → (next_of one).thread ≡ suc (next_of old).thread
+begun_thread old one b =
+    let e = length-map old.threads.items of_thread in
+    let d = length-map one.threads.items of_thread in
+    let l = ap length b.threads in
+    let a = length-append (threads_of old) (blank ∷ []) in
+    omega (arith, e, d, l, a)

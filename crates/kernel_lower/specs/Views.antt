@@ -2,14 +2,14 @@
 use Rattle.std.specs.Prelude.{◌≡◌, ℕ, suc, ◌-◌, Option, None, List, [], ◌∷◌, ◌++◌, map, length, drop, take, slice_set}
 use Rattle.forec_kernel.specs.Terms.{Stmt, Stmts, Branch, Nop}
 use Rattle.forec_kernel.specs.Plain.{stmt}
-use Rattle.forec_tree.specs.Terms.{Text}
+use Rattle.forec_tree.specs.Terms.{Text, Statement, Statements, Perhaps, Branches}
 use Rattle.forec_tree.specs.Pauses.{within}
 use Rattle.loop_check.specs.Views.{text_of}
 use Rattle.loop_check.specs.Judges.{judge_text}
 use Rattle.kernel_lower.specs.declared.source.Source.{Source}
 use Rattle.kernel_lower.specs.declared.state.Thread.{Thread}
 use Rattle.kernel_lower.specs.declared.state.State.{State}
-use Rattle.kernel_lower.specs.Lowering.{Next, Made, Lowered, Listed, Started, InPlace, in_place_step, nothing_in_place}
+use Rattle.kernel_lower.specs.Lowering.{Next, Made, Lowered, Listed, Started, InPlace, in_place_step, nothing_in_place, as_one, lower_statement, lower_perhaps, lower_list, lower_branches}
 use Rattle.kernel_lower.specs.declared.names.Slot.{Slot}
 use Rattle.kernel_lower.specs.declared.scope.Scope.{Scope}
 
@@ -90,3 +90,25 @@ pub record Finishes (thread : Bare) (number at : ℕ) (old new : State) : Type 0
   pub slot : new.slot ≡ at
   pub par : new.par ≡ old.par
   pub threads : threads_of new ≡ slice_set (threads_of old) (number - 1) thread
+
+-- the same, for a source
+abbrev pub Done : Source → (deep owner : ℕ) → Statement → Stmt → State → State → Type 0
+Done source deep owner a k old new =
+    let text = text_of source.globals.index in Does (lower_statement text (called_within text deep) owner (seen old.scope) (next_of old) a) k old new
+
+abbrev pub DonePerhaps : Source → (deep owner : ℕ) → Perhaps → Stmt → State → State → Type 0
+DonePerhaps source deep owner a k old new =
+    let text = text_of source.globals.index in Does (lower_perhaps text (called_within text deep) owner (seen old.scope) (next_of old) a) k old new
+
+abbrev pub DoneList : Source → (deep owner : ℕ) → List Slot → Statements → Stmts → State → State → Type 0
+DoneList source deep owner s a k old new =
+    let text = text_of source.globals.index in DoesList (lower_list text (called_within text deep) owner s (next_of old) a) k old new
+
+-- a list as one statement
+abbrev pub DoneAsOne : Source → (deep owner : ℕ) → List Slot → Statements → Stmt → State → State → Type 0
+DoneAsOne source deep owner s a k old new =
+    let text = text_of source.globals.index in Does (as_one (lower_list text (called_within text deep) owner s (next_of old) a)) k old new
+
+abbrev pub DoneBranches : Source → (deep owner par : ℕ) → Branches → List Branch → State → State → Type 0
+DoneBranches source deep owner par bs k old new =
+    let text = text_of source.globals.index in DoesBranches (lower_branches text (called_within text deep) owner (seen old.scope) par (next_of old) bs) k old new
