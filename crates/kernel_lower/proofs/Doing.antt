@@ -1,6 +1,6 @@
 -- How the translation of a statement is put together from those of its parts, from state to state.
-use Rattle.std.proofs.Common.{ℕ, zero, suc, ◌+◌, ◌-◌, ◌<◌, ◌≤◌, ◌≡◌, ◌∙◌, sym, ap, refl, Bool, Option, Some, None, List, [], ◌∷◌, ◌++◌, append-nil, append_assoc, length, length-append, map, take, drop, set, subst, arith}
-use Rattle.std.proofs.lemmas.List.{map-append, length-map}
+use Rattle.std.proofs.Common.{ℕ, zero, suc, ◌+◌, ◌-◌, ◌<◌, ◌≤◌, ◌≡◌, ◌∙◌, sym, ap, refl, Bool, Option, Some, None, List, [], ◌∷◌, ◌++◌, append-nil, append_assoc, length, length-append, length-set, map, take, drop, set, subst, arith}
+use Rattle.std.proofs.lemmas.List.{map-append, length-map, take_all}
 use Rattle.forec_base.specs.declared.Place.{Place}
 use Rattle.forec_tree.specs.declared.tree.Number.{Number}
 use Rattle.forec_tree.specs.declared.tree.Name.{Name}
@@ -18,7 +18,8 @@ use Rattle.forec_kernel.specs.declared.terms.Statement as rust
 use Rattle.kernel_lower.specs.declared.names.Slot.{Slot}
 use Rattle.kernel_lower.specs.declared.scope.Scope.{Scope}
 use Rattle.kernel_lower.specs.declared.state.State.{State}
-use Rattle.kernel_lower.specs.Lowering.{Next, Made, Lowered, Listed, Started, InPlace, as_one, params_of, lower_term, lower_terms, sequence, ends_with, bound_of, or_inferred, optional_test, after_start, then_step, set_params, scope_behind, scope_behind_perhaps, par_of, par_behind, thread_of, lower_statement, lower_list, lower_perhaps, lower_branches}
+use Rattle.kernel_lower.specs.Lowering.{joined, Next, Made, Lowered, Listed, Started, InPlace, as_one, params_of, lower_term, lower_terms, sequence, ends_with, bound_of, or_inferred, optional_test, after_start, then_step, set_params, scope_behind, scope_behind_perhaps, par_of, par_behind, thread_of, lower_statement, lower_list, lower_perhaps, lower_branches}
+use Rattle.kernel_lower.proofs.Statements.{joined_none, joined_more}
 use Rattle.kernel_lower.specs.Views.{seen, Kept, Same, next_of, threads_of, of_thread, Bare, bare, blank, Does, DoesList, DoesBranches, Begins, Finishes}
 
 pub does_as : (l m : Lowered) (k : Stmt) (old new : State) → l ≡ m → Does l k old new → Does m k old new
@@ -182,3 +183,159 @@ begun_thread old one b =
     let l = ap length b.threads in
     let a = length-append (threads_of old) (blank ∷ []) in
     omega (arith, e, d, l, a)
+
+pub finished_next : (l : Lowered) (k : Stmt) (old two three new : State) (t p : ℕ) (name : Option ℕ) (params : ℕ) → Does l k two three →
+    Finishes (record { parent = t; par = p; name = name; params = params; words = three.slot; behind = (next_of three).thread; body = k }) (next_of old).thread old.slot three new →
+    next_of new ≡ (let n : Next = record { slot = old.slot; thread = l.next.thread; par = l.next.par } in n)
+finished_next l k old two three new t p name params d f =
+    let made = λ (a : ℕ) (b : ℕ) (c : ℕ). let n : Next = record { slot = a; thread = b; par = c } in n in
+    let e = length-map new.threads.items of_thread in
+    let g = length-map three.threads.items of_thread in
+    let h = ap length f.threads in
+    let q = length-set (threads_of three) ((next_of old).thread - 1) (record { parent = t; par = p; name = name; params = params; words = three.slot; behind = (next_of three).thread; body = k }) in
+    let long : (next_of new).thread ≡ (next_of three).thread = omega (arith, e, g, h, q) in
+    ap (λ a. made a (next_of new).thread new.par) f.slot
+    ∙ (ap (λ b. made old.slot b new.par) (long ∙ ap (λ (n : Next). n.thread) d.next) ∙ ap (λ c. made old.slot l.next.thread c) (f.par ∙ ap (λ (n : Next). n.par) d.next))
+
+-- ---- lists of statements and branches, one after the other
+
+-- what is left of a list, from a state on, behind what is done
+pub record ListLeft (rest whole : Listed) (done : Stmts) (old now : State) : Type 0 where
+  pub is : joined done rest.list ≡ whole.list
+  pub next : rest.next ≡ whole.next
+  pub threads : threads_of now ++ map bare rest.made ≡ threads_of old ++ map bare whole.made
+
+pub record BranchesLeft (rest whole : Started) (done : List kernel.Branch) (old now : State) : Type 0 where
+  pub is : done ++ rest.launches ≡ whole.launches
+  pub next : rest.next ≡ whole.next
+  pub threads : threads_of now ++ map bare rest.made ≡ threads_of old ++ map bare whole.made
+
+-- one statement, and the rest
+pub list_more : (l : Lowered) (m rest whole : Listed) (xs ys : List rust.Statement) (x : rust.Statement) (old now new : State) →
+    rest ≡ (let r : Listed = record { list = more_stmts l.stmt m.list; next = m.next; made = l.made ++ m.made } in r) → Does l (stmt x) now new → ys ≡ xs ++ x ∷ [] →
+    ListLeft rest whole (stmts xs) old now → ListLeft m whole (stmts ys) old new
+list_more l m rest whole xs ys x old now new e d p w =
+    let r : Listed = record { list = more_stmts l.stmt m.list; next = m.next; made = l.made ++ m.made } in
+    let q : ListLeft r whole (stmts xs) old now = subst (λ z. ListLeft z whole (stmts xs) old now) e w in
+    record {
+      is = joined_more xs ys x l.stmt (more_stmts l.stmt m.list) m.list whole.list refl d.is p q.is;
+      next = q.next;
+      threads =
+          ap (λ z. z ++ map bare m.made) d.threads
+          ∙ (append_assoc (threads_of now) (map bare l.made) (map bare m.made) ∙ (ap (λ z. threads_of now ++ z) (sym (map-append bare l.made m.made)) ∙ q.threads));
+    }
+
+pub list_finish : (text : Text) (called : ℕ → InPlace) (t : ℕ) (s : List Slot) (rest whole : Listed) (xs : List rust.Statement) (old now : State) →
+    rest ≡ (let r : Listed = record { list = no_stmts; next = next_of now; made = [] } in r) → ListLeft rest whole (stmts xs) old now → DoesList whole (stmts xs) old now
+list_finish text called t s rest whole xs old now e w =
+    let r : Listed = record { list = no_stmts; next = next_of now; made = [] } in
+    let q : ListLeft r whole (stmts xs) old now = subst (λ z. ListLeft z whole (stmts xs) old now) e w in
+    record { is = sym (joined_none (stmts xs)) ∙ q.is; next = q.next; threads = sym (append-nil (threads_of now)) ∙ q.threads }
+
+pub branches_more : (l m rest whole : Started) (xs ys : List kernel.Branch) (x : kernel.Branch) (old now new : State) →
+    rest ≡ (let r : Started = record { launches = l.launches ++ m.launches; next = m.next; made = l.made ++ m.made } in r) → DoesBranches l (x ∷ []) now new → ys ≡ xs ++ x ∷ [] →
+    BranchesLeft rest whole xs old now → BranchesLeft m whole ys old new
+branches_more l m rest whole xs ys x old now new e d p w =
+    let r : Started = record { launches = l.launches ++ m.launches; next = m.next; made = l.made ++ m.made } in
+    let q : BranchesLeft r whole xs old now = subst (λ z. BranchesLeft z whole xs old now) e w in
+    record {
+      is = ap (λ z. z ++ m.launches) p ∙ (append_assoc xs (x ∷ []) m.launches ∙ (ap (λ z. xs ++ (z ++ m.launches)) d.is ∙ q.is));
+      next = q.next;
+      threads =
+          ap (λ z. z ++ map bare m.made) d.threads
+          ∙ (append_assoc (threads_of now) (map bare l.made) (map bare m.made) ∙ (ap (λ z. threads_of now ++ z) (sym (map-append bare l.made m.made)) ∙ q.threads));
+    }
+
+pub branches_finish : (rest whole : Started) (xs : List kernel.Branch) (old now : State) → rest ≡ (let r : Started = record { launches = []; next = next_of now; made = [] } in r) →
+    BranchesLeft rest whole xs old now → DoesBranches whole xs old now
+branches_finish rest whole xs old now e w =
+    let r : Started = record { launches = []; next = next_of now; made = [] } in
+    let q : BranchesLeft r whole xs old now = subst (λ z. BranchesLeft z whole xs old now) e w in
+    record { is = sym (append-nil xs) ∙ q.is; next = q.next; threads = sym (append-nil (threads_of now)) ∙ q.threads }
+
+-- ---- a branch
+
+pub call_branch_does : (text : Text) (called : ℕ → InPlace) (t p : ℕ) (s : List Slot) (name : Name) (args : Terms) (old one two three new : State) (params : ℕ) (kb : Stmt) (ks : kernel.Exprs) →
+    ks ≡ lower_terms text s args → params ≡ length (params_of (find_function name.id text)) → Begins old one → threads_of two ≡ threads_of one →
+    next_of two ≡ (let n : Next = record { slot = count_terms args; thread = (next_of one).thread; par = (next_of one).par } in n) →
+    Does (called name.id 0 (next_of old).thread (next_of two)) kb two three →
+    Finishes (record { parent = t; par = p; name = Some name.id; params = params; words = three.slot; behind = (next_of three).thread; body = kb }) (next_of old).thread old.slot three new →
+    DoesBranches (lower_branches text called t s p (next_of old) (by_call name args no_branches)) (record { thread = (next_of old).thread; args = ks } ∷ []) old new
+call_branch_does text called t p s name args old one two three new params kb ks a q b h n d f =
+    let inside : Next = record { slot = count_terms args; thread = suc (next_of old).thread; par = (next_of old).par } in
+    let same : next_of two ≡ inside =
+    n ∙ (ap (λ m. (let x : Next = record { slot = count_terms args; thread = m; par = one.par } in x)) (begun_thread old one b) ∙ ap (λ m. (let x : Next = record { slot = count_terms args; thread = suc (next_of old).thread; par = m } in x)) b.par) in
+    let e : Does (called name.id 0 (next_of old).thread inside) kb two three = subst (λ m. Does (called name.id 0 (next_of old).thread m) kb two three) same d in
+    let l = called name.id 0 (next_of old).thread inside in
+    let real = length (params_of (find_function name.id text)) in
+    let g = below_does t p (Some name.id) params l old one two three new kb b h e f in
+    record {
+      is = ap (λ x. (let y : kernel.Branch = record { thread = (next_of old).thread; args = x } in y) ∷ []) a;
+      next = finished_next l kb old two three new t p (Some name.id) params e f;
+      threads = g ∙ (ap (λ m. threads_of old ++ map bare (thread_of t p (Some name.id) m l)) q ∙ ap (λ x. threads_of old ++ map bare x) (sym (append-nil (thread_of t p (Some name.id) real l))));
+    }
+
+pub group_branch_does : (text : Text) (called : ℕ → InPlace) (t p : ℕ) (s : List Slot) (place : Place) (body : Statements) (old one two three new : State) (kb : Stmt) →
+    Begins old one → threads_of two ≡ threads_of one → next_of two ≡ (let n : Next = record { slot = 0; thread = (next_of one).thread; par = (next_of one).par } in n) →
+    Does (as_one (lower_list text called (next_of old).thread [] (next_of two) body)) kb two three →
+    Finishes (record { parent = t; par = p; name = None; params = 0; words = three.slot; behind = (next_of three).thread; body = kb }) (next_of old).thread old.slot three new →
+    DoesBranches (lower_branches text called t s p (next_of old) (by_group place body no_branches)) (record { thread = (next_of old).thread; args = no_exprs } ∷ []) old new
+group_branch_does text called t p s place body old one two three new kb b h n d f =
+    let inside : Next = record { slot = 0; thread = suc (next_of old).thread; par = (next_of old).par } in
+    let same : next_of two ≡ inside =
+    n ∙ (ap (λ m. (let x : Next = record { slot = 0; thread = m; par = one.par } in x)) (begun_thread old one b) ∙ ap (λ m. (let x : Next = record { slot = 0; thread = suc (next_of old).thread; par = m } in x)) b.par) in
+    let e : Does (as_one (lower_list text called (next_of old).thread [] inside body)) kb two three = subst (λ m. Does (as_one (lower_list text called (next_of old).thread [] m body)) kb two three) same d in
+    let l = as_one (lower_list text called (next_of old).thread [] inside body) in
+    record {
+      is = refl;
+      next = finished_next l kb old two three new t p None 0 e f;
+      threads = below_does t p None 0 l old one two three new kb b h e f ∙ ap (λ x. threads_of old ++ map bare x) (sym (append-nil (thread_of t p None 0 l)));
+    }
+
+-- ---- scopes
+
+pub same_seen : (a b : Scope) → Same a b → seen b ≡ seen a
+same_seen a b h = ap (λ n. drop n b.slots.items) h.base ∙ ap (drop a.base) h.slots
+
+pub same_then : (a b c : Scope) → Same a b → Same b c → Same a c
+same_then a b c h g = record { base = g.base ∙ h.base; slots = g.slots ∙ h.slots }
+
+pub same_kept : (a b : Scope) → Same a b → Kept a b
+same_kept a b h = record { base = h.base; front = ap (take (length a.slots.items)) h.slots ∙ take_all (length a.slots.items) a.slots.items (omega arith) }
+
+-- what was kept and is cut off again
+pub kept_cut : (a b c : Scope) (n : ℕ) → Kept a b → n ≡ length a.slots.items → c.slots.items ≡ take n b.slots.items → c.base ≡ b.base → Same a c
+kept_cut a b c n h e s g = record { base = g ∙ h.base; slots = s ∙ (ap (λ m. take m b.slots.items) e ∙ h.front) }
+
+-- ---- a branch whose number is known by an equation
+
+pub branches_step : (text : Text) (called : ℕ → InPlace) (t : ℕ) (s s1 : List Slot) (p : ℕ) (n n1 : Next) (b : Branch) (rest : Branches) → s1 ≡ s →
+    n1 ≡ (lower_branches text called t s p n (branch_with b no_branches)).next →
+    lower_branches text called t s p n (branch_with b rest)
+    ≡ (let l = lower_branches text called t s p n (branch_with b no_branches) in
+    let m = lower_branches text called t s1 p n1 rest in
+    let r : Started = record { launches = l.launches ++ m.launches; next = m.next; made = l.made ++ m.made } in r)
+branches_step text called t s s1 p n n1 b rest e d = rw (e, d) (branch_first text called t s p n b rest)
+
+pub call_branch_at : (text : Text) (called : ℕ → InPlace) (t p m : ℕ) (s : List Slot) (name : Name) (args : Terms) (old one two three new : State) (params : ℕ) (kb : Stmt) (ks : kernel.Exprs) →
+    m ≡ (next_of old).thread → ks ≡ lower_terms text s args → params ≡ length (params_of (find_function name.id text)) → Begins old one → threads_of two ≡ threads_of one →
+    next_of two ≡ (let n : Next = record { slot = count_terms args; thread = (next_of one).thread; par = (next_of one).par } in n) →
+    Does (called name.id 0 m (next_of two)) kb two three →
+    Finishes (record { parent = t; par = p; name = Some name.id; params = params; words = three.slot; behind = (next_of three).thread; body = kb }) m old.slot three new →
+    DoesBranches (lower_branches text called t s p (next_of old) (by_call name args no_branches)) (record { thread = m; args = ks } ∷ []) old new
+call_branch_at text called t p m s name args old one two three new params kb ks e a q b h n =
+    subst (λ x. Does (called name.id 0 x (next_of two)) kb two three →
+    Finishes (record { parent = t; par = p; name = Some name.id; params = params; words = three.slot; behind = (next_of three).thread; body = kb }) x old.slot three new →
+    DoesBranches (lower_branches text called t s p (next_of old) (by_call name args no_branches)) (record { thread = x; args = ks } ∷ []) old new)
+    (sym e) (λ d f. call_branch_does text called t p s name args old one two three new params kb ks a q b h n d f)
+
+pub group_branch_at : (text : Text) (called : ℕ → InPlace) (t p m : ℕ) (s : List Slot) (place : Place) (body : Statements) (old one two three new : State) (kb : Stmt) →
+    m ≡ (next_of old).thread → Begins old one → threads_of two ≡ threads_of one → next_of two ≡ (let n : Next = record { slot = 0; thread = (next_of one).thread; par = (next_of one).par } in n) →
+    Does (as_one (lower_list text called m [] (next_of two) body)) kb two three →
+    Finishes (record { parent = t; par = p; name = None; params = 0; words = three.slot; behind = (next_of three).thread; body = kb }) m old.slot three new →
+    DoesBranches (lower_branches text called t s p (next_of old) (by_group place body no_branches)) (record { thread = m; args = no_exprs } ∷ []) old new
+group_branch_at text called t p m s place body old one two three new kb e b h n =
+    subst (λ x. Does (as_one (lower_list text called x [] (next_of two) body)) kb two three →
+    Finishes (record { parent = t; par = p; name = None; params = 0; words = three.slot; behind = (next_of three).thread; body = kb }) x old.slot three new →
+    DoesBranches (lower_branches text called t s p (next_of old) (by_group place body no_branches)) (record { thread = x; args = no_exprs } ∷ []) old new)
+    (sym e) (λ d f. group_branch_does text called t p s place body old one two three new kb b h n d f)

@@ -2,6 +2,7 @@
 #![tactic(auto)]
 
 mod assign;
+mod body;
 mod globals;
 mod limits;
 mod loops;
