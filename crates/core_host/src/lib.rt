@@ -2,5 +2,8 @@
 #![tactic(auto)]
 
 mod host;
+mod job;
+mod outcome;
+mod root;
 
 pub use host::Host;
