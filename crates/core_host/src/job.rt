@@ -7,7 +7,7 @@ ghost use Rattle.forec_kernel.specs.Ticks.{start_copies, unmarked, with_row};
 ghost use Rattle.forec_kernel.specs.WellFormed.{all_below, count_up};
 ghost use Rattle.combine_tree.specs.Plain.{plain_packet};
 ghost use Rattle.thread_code.specs.Valid.{FineShape, of_shape};
-ghost use Rattle.core_host.specs.Jobs.{IsBetween, job_of, kind_of};
+ghost use Rattle.core_host.specs.Jobs.{IsBetween, copies_before, job_of, kind_of};
 
 use combine_tree::{Packet, PacketKind};
 use forec_kernel::{Shape, VarCopy, Variable};
@@ -47,6 +47,27 @@ fn write_row(copies: &mut [VarCopy], inputs: &[u32], row: &[i32])
     }
 }
 
+/// Makes the packet a job: a `Start` with the start values where no tick was run, else a `Wake` with the
+/// copies of the last reply.
+fn write_before(packet: &mut Packet, shape: &Shape)
+    requires fine { FineShape (plain_shape shape.now) }
+    requires room { HasRoom (of_shape (plain_shape shape.now)) 0 (plain_packet packet.old) }
+    ensures kind { packet.new.kind ≡ kind_of packet.old.kind }
+    ensures args { packet.new.args.items ≡ packet.old.args.items }
+    ensures copies { packet.new.copies.items ≡ copies_before (plain_shape shape.now) packet.old.kind packet.old.copies.items }
+{
+    match packet.kind {
+        PacketKind::Blank => {
+            packet.kind = PacketKind::Start;
+            write_start(&mut packet.copies, &shape.variables);
+        }
+        _ => {
+            packet.kind = PacketKind::Wake;
+            clear_marks(&mut packet.copies);
+        }
+    }
+}
+
 /// Makes the packet the job of the next tick: a `Start` with the start values where no tick was run,
 /// else a `Wake` with the copies of the last reply; the inputs have the values of the row.
 pub fn write_job(packet: &mut Packet, shape: &Shape, row: &[i32], budget: u64)
@@ -59,16 +80,7 @@ pub fn write_job(packet: &mut Packet, shape: &Shape, row: &[i32], budget: u64)
     ensures kind { packet.new.kind ≡ kind_of packet.old.kind }
     ensures allowance { packet.new.allowance ≡ budget }
 {
-    match packet.kind {
-        PacketKind::Blank => {
-            packet.kind = PacketKind::Start;
-            write_start(&mut packet.copies, &shape.variables);
-        }
-        _ => {
-            packet.kind = PacketKind::Wake;
-            clear_marks(&mut packet.copies);
-        }
-    }
+    write_before(packet, shape);
     write_row(&mut packet.copies, &shape.inputs, row);
     packet.allowance = budget;
 }
