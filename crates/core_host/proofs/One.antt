@@ -1,5 +1,5 @@
 -- A thread that has no branch never waits for one.
-use Rattle.std.proofs.Common.{◌≡◌, ◌≢◌, ℕ, zero, suc, ◌<◌, Option, Some, None, List, [], ◌∷◌, map, length, get_or, refl, sym, ap, subst, arith}
+use Rattle.std.proofs.Common.{◌≡◌, ◌≢◌, ℕ, zero, suc, ◌<◌, Option, Some, None, List, [], ◌∷◌, map, length, get_or, refl, sym, ap, subst, ◌∙◌, arith}
 use Rattle.std.specs.Prelude.{slice_get, IsNone, false, cond}
 use Rattle.forec_kernel.specs.Shapes.{PlainThread, PlainShape}
 use Rattle.forec_kernel.specs.WellFormed.{branches_of, thread_of}

@@ -1,4 +1,5 @@
 use Rattle.core_host.proofs.One.{always_replies}
+use Rattle.core_host.proofs.Ticked.{told, now_done}
 use Rattle.core_host.proofs.root.Root.tick.Goals as goal
 
 pub reply-requires-clause-done : goal.reply-requires-clause-done
