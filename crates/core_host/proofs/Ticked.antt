@@ -123,7 +123,7 @@ told_by c k same turns turn p WasOver is tells kept =
       keeps = λ e. let f = sym q ∙ e in cc;
     }
 
-goes_on_paused : (q : PacketKind) → goes_on (outcome_in q) ≡ true → q ≡ kind.Paused
+pub goes_on_paused : (q : PacketKind) → goes_on (outcome_in q) ≡ true → q ≡ kind.Paused
 goes_on_paused kind.Paused e = refl
 goes_on_paused _ e = cc
 
