@@ -8,7 +8,7 @@ use Rattle.forec_kernel.specs.Shapes.{PlainShape, PlainKernel}
 use Rattle.forec_kernel.specs.Texts.{uses_in, params_in}
 use Rattle.forec_kernel.specs.WellFormed.{WellFormed}
 use Rattle.forec_kernel.specs.Ticks.{State, Fresh, After_tick, Tick, tick, goes_on, start_copies, unmarked, with_row, values_of}
-use Rattle.forec_kernel.specs.Packets.{PlainPacket, IsPaused, IsEnded, IsTrapped, IsOver}
+use Rattle.forec_kernel.specs.Packets.{PlainPacket, Blank, IsPaused, IsEnded, IsTrapped, IsOver}
 use Rattle.forec_kernel.specs.Packed.{HasRoom, IsJob, IsReply}
 use Rattle.forec_kernel.specs.Engine.{Job, Start, Wake, Reply, WasPaused, WasEnded, WasTrapped, WasOver, Exchange, Output, AllReply, last_reply, Answers}
 use Rattle.forec_kernel.specs.Solo.{values_in, KernelAlone}
@@ -188,3 +188,9 @@ module _ (r : Hosted) (valid : IsValidCode (plain_code r.code)) (room : HasRoom 
     complete = complete;
     keeps = λ e. subst (λ s. Keeps s p) (sym (state_then k turns turn Fresh)) (told.keeps (goes_on_paused p.kind (sym is ∙ e)));
   }
+
+-- ---- before the first tick
+
+pub blank_of : (q : PacketKind) → plain_kind q ≡ Blank → q ≡ kind.Blank
+blank_of kind.Blank e = refl
+blank_of _ e = cc

@@ -37,8 +37,8 @@ invariant_of-self c =
       resting = (always_replies code c.shape.ensures.valid c.self.invariant.one h c.run.ensures.loaded c.run.result c.run.ensures.left).resting;
       room = subst (λ t. HasRoom (of_shape code.shape) t (plain_packet p)) number c.reply.ensures.room;
       ready = λ e.
-      let paused = goes_on_paused p.kind (ap goes_on (sym c.write_outcome-outcome.ensures.outcome) ∙ sym live ∙ e) in
-      subst (IsReady h) (sym paused) (subst (Replies_by h) paused c.reply.ensures.kind);
+          let paused = goes_on_paused p.kind (ap goes_on (sym c.write_outcome-outcome.ensures.outcome) ∙ sym live ∙ e) in
+          subst (IsReady h) (sym paused) (subst (Replies_by h) paused c.reply.ensures.kind);
     }
 
 shape_is : (c : goal.After-self-1) → plain_shape c.shape.result.now ≡ (plain_code c.self.inside.code).shape
