@@ -4,3 +4,4 @@ pub mod One
 pub mod KeptCopies
 pub mod Replying
 pub mod Ticked
+pub mod SumCode

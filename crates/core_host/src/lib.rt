@@ -5,5 +5,7 @@ mod host;
 mod job;
 mod outcome;
 mod root;
+#[cfg(test)]
+mod tests;
 
 pub use host::Host;
