@@ -1,0 +1,7 @@
+pub mod Calls
+pub mod Lines
+pub mod Numbers
+pub mod Words
+pub mod Trace
+pub mod Report
+pub mod Reader

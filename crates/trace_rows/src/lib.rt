@@ -1,0 +1,10 @@
+//! The rows of a trace, out of bytes that come in any pieces, and the line of a tick.
+#![tactic(auto)]
+
+mod fault;
+mod printing;
+mod reader;
+
+pub use fault::{Next, RowFault};
+pub use printing::{line, line_room};
+pub use reader::Rows;
