@@ -1,23 +1,14 @@
--- The lines of a report.
+-- The lines of a report, but for the line of a tick with its outputs.
 use Rattle.std.specs.Prelude.{ℕ, List, [], ◌∷◌, ◌++◌, ℤ, map, get_or, codes, decimal}
-use Rattle.std.specs.Fmt.{signed_decimal}
 use Rattle.forec_base.specs.declared.Place.{Place}
 use Rattle.forec_base.specs.declared.Trap.{Trap}
 use Rattle.forec_base.specs.declared.Trap.TheVariants as trap
 use Rattle.forec_kernel.specs.declared.shape.Outcome.{Outcome}
 use Rattle.forec_kernel.specs.declared.shape.Outcome.TheVariants as outcome
 use Rattle.forec_kernel.specs.Shapes.{PlainKernel}
-use Rattle.forec_engine.specs.declared.found.RowFault.{RowFault}
-use Rattle.forec_engine.specs.declared.found.RowFault.TheVariants as fault
-
--- ` name=value` for each output
-abbrev pub pairs : List (List ℕ) → List ℤ → List ℕ
-pairs [] values = []
-pairs (name ∷ names) [] = []
-pairs (name ∷ names) (value ∷ values) = codes " " ++ name ++ codes "=" ++ signed_decimal value ++ pairs names values
-
-abbrev pub tick_line : ℕ → List (List ℕ) → List ℤ → List ℕ
-tick_line n names values = codes "tick " ++ decimal n ++ pairs names values ++ codes "\n"
+use Rattle.trace_rows.specs.Report.{tick_line}
+use Rattle.trace_rows.specs.declared.fault.RowFault.{RowFault}
+use Rattle.trace_rows.specs.declared.fault.RowFault.TheVariants as fault
 
 abbrev pub end_line : ℕ → List ℕ
 end_line n = codes "end " ++ decimal n ++ codes "\n"
@@ -38,17 +29,28 @@ over_line n budget = codes "over " ++ decimal n ++ codes " budget " ++ decimal b
 abbrev pub rows_line : ℕ → List ℕ
 rows_line rows = codes "rows " ++ decimal rows ++ codes "\n"
 
+-- why a line is no row. (No line of a trace is one of the last two.)
 abbrev pub fault_word : RowFault → List ℕ
 fault_word fault.Bad = codes " bad\n"
+fault_word fault.Long = codes " long\n"
 fault_word fault.Many = codes " many\n"
+fault_word fault.ReadFault = codes "\n"
+fault_word fault.OutOfMemory = codes "\n"
 
 -- line n of the trace is no row; the header is line 0
 abbrev pub row_line : ℕ → RowFault → List ℕ
 row_line n f = codes "row " ++ decimal n ++ fault_word f
 
--- the names of a kernel's outputs, in order of declaration
+-- the names of these variables
+abbrev pub names_at : List (List ℕ) → List ℕ → List (List ℕ)
+names_at names = map (λ v. get_or names v [])
+
+-- the names of a kernel's inputs, and of its outputs, in order of declaration
+abbrev pub input_names : PlainKernel → List (List ℕ)
+input_names k = names_at k.shape.names k.shape.inputs
+
 abbrev pub output_names : PlainKernel → List (List ℕ)
-output_names k = map (λ v. get_or k.shape.names v []) k.shape.outputs
+output_names k = names_at k.shape.names k.shape.outputs
 
 -- the lines of tick n, which went so and gave these outputs
 abbrev pub outcome_lines : List (List ℕ) → ℕ → ℕ → Outcome → List ℤ → List ℕ

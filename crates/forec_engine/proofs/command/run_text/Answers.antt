@@ -1,48 +1,33 @@
+use Rattle.std.proofs.Common.{refl}
 use Rattle.forec_kernel.specs.Shapes.{plain_kernel}
-use Rattle.forec_engine.specs.Calls.{AppendsFront}
-use Rattle.forec_engine.specs.Ends.{Given}
-use Rattle.forec_engine.proofs.Reports.{text_accepted, text_refused}
-use Rattle.forec_engine.proofs.Verdicts.{accepts_first}
+use Rattle.forec_engine.specs.Commands.{refused, Of_refusal, Of_accepted}
 use Rattle.forec_engine.proofs.command.run_text.Goals as goal
 
-pub answer-requires : goal.answer-requires
-answer-requires g c = accepts_first c.args.text.now c.in-Ok.accepted.counts (plain_kernel c.in-Ok.accepted.kernel) c.in-Ok.ensures
-
 pub returns-in-Ok-clause-own : goal.returns-in-Ok-clause-own
-returns-in-Ok-clause-own g c = λ own.
+returns-in-Ok-clause-own g c = λ own told.
     let a = c.in-Ok.accepted in
-    let h0 = g.K.Sink.held c.args.out.now in
-    let h2 = g.K.Sink.held c.answer.new.out in
-    text_accepted c.one_verdict.ensures c.args.command c.args.text.now a.counts (plain_kernel a.kernel) c.in-Ok.ensures (g.S.Source.left c.args.trace.now) (λ r. Given r c.answer.result h0 h2)
-    (c.answer.ensures.own own)
+    let r = c.answer.ensures.own own told in
+    (r.0, Of_accepted a.counts (plain_kernel a.kernel) c.in-Ok.ensures r.1, r.2)
 
 pub returns-in-Ok-clause-read : goal.returns-in-Ok-clause-read
 returns-in-Ok-clause-read g c = λ is.
     let a = c.in-Ok.accepted in
     let r = c.answer.ensures.read is in
-    (r.0, r.1, (a.counts, plain_kernel a.kernel, c.in-Ok.ensures, r.2))
+    (r.0, r.1, r.2, (a.counts, plain_kernel a.kernel, c.in-Ok.ensures, r.3))
 
 pub returns-in-Ok-clause-write : goal.returns-in-Ok-clause-write
 returns-in-Ok-clause-write g c = λ is.
     let a = c.in-Ok.accepted in
-    let h0 = g.K.Sink.held c.args.out.now in
-    let h2 = g.K.Sink.held c.answer.new.out in
-    let w = c.answer.ensures.write is in (
-      w.0,
-      text_accepted c.one_verdict.ensures c.args.command c.args.text.now a.counts (plain_kernel a.kernel) c.in-Ok.ensures (g.S.Source.left c.args.trace.now) (λ r. AppendsFront h0 h2 r.bytes) w.1,
-    )
+    let w = c.answer.ensures.write is in
+    (w.0, λ told. let r = w.1 told in (r.0, Of_accepted a.counts (plain_kernel a.kernel) c.in-Ok.ensures r.1, r.2))
 
 pub returns-in-Err-Refused-clause-own : goal.returns-in-Err-Refused-clause-own
-returns-in-Err-Refused-clause-own g c = λ own.
-    let h0 = g.K.Sink.held c.args.out.now in
-    let h2 = g.K.Sink.held c.refuse.new.out in
-    let j = rw c.in-Err-Refused.field-0-is at c.in-Err-Refused.ensures in
-    text_refused c.one_verdict.ensures c.args.command c.args.text.now c.in-Err-Refused.why j (g.S.Source.left c.args.trace.now) (λ r. Given r c.refuse.result h0 h2) (c.refuse.ensures.own own)
+returns-in-Err-Refused-clause-own g c = λ own told.
+    let why = c.in-Err-Refused.why in
+    (refused why, Of_refusal why (rw c.in-Err-Refused.field-0-is at c.in-Err-Refused.ensures) refl, c.refuse.ensures.own own)
 
 pub returns-in-Err-Refused-clause-write : goal.returns-in-Err-Refused-clause-write
 returns-in-Err-Refused-clause-write g c = λ is.
-    let h0 = g.K.Sink.held c.args.out.now in
-    let h2 = g.K.Sink.held c.refuse.new.out in
-    let j = rw c.in-Err-Refused.field-0-is at c.in-Err-Refused.ensures in
+    let why = c.in-Err-Refused.why in
     let w = c.refuse.ensures.write is in
-    (w.0, text_refused c.one_verdict.ensures c.args.command c.args.text.now c.in-Err-Refused.why j (g.S.Source.left c.args.trace.now) (λ r. AppendsFront h0 h2 r.bytes) w.1)
+    (w.0, λ told. (refused why, Of_refusal why (rw c.in-Err-Refused.field-0-is at c.in-Err-Refused.ensures) refl, w.1))
