@@ -1,4 +1,5 @@
 mod Advancing
+mod Digits
 mod Endings
 mod Heading
 mod Ranges

@@ -91,7 +91,7 @@ module _ (text : Text) (names : List (List ℕ)) where
   passes q p f = (q, record { passes = p; first = f; is = refl })
 
   before_threads : (p : Quantity) → Member p (earlier Threads) → Fits kernel p
-  before_threads p ()
+  before_threads p m = elim m [ ]
 
   before_words : Fits kernel Threads → (p : Quantity) → Member p (earlier Words) → Fits kernel p
   before_words f0 Threads here = f0

@@ -24,7 +24,7 @@ abbrev mutual
   forks (While at test bound body) = forks body
   forks (For at start test step bound body) = perhaps_forks start || (perhaps_forks step || forks body)
   forks (Pause at) = false
-  forks (Par at branches) = true
+  forks (Par at parts) = true
   forks (Abort at weak immediate test body) = true
   forks (Return at value) = false
 

@@ -40,13 +40,13 @@ most_levels = 128
 abbrev pub refused_at : Place → List ℕ → List ℕ
 refused_at place word = codes "refused " ++ decimal place.line ++ codes ":" ++ decimal place.column ++ word
 
-abbrev pub quantity_word : Quantity → List ℕ
-quantity_word Threads = codes "threads "
-quantity_word Words = codes "words "
-quantity_word Globals = codes "globals "
-quantity_word Tables = codes "tables "
-quantity_word Terms = codes "terms "
-quantity_word Depth = codes "depth "
+abbrev pub limit_words : Quantity → List ℕ
+limit_words Threads = codes "refused limit threads "
+limit_words Words = codes "refused limit words "
+limit_words Globals = codes "refused limit globals "
+limit_words Tables = codes "refused limit tables "
+limit_words Terms = codes "refused limit terms "
+limit_words Depth = codes "refused limit depth "
 
 abbrev pub refusal_line : Refusal → List ℕ
 refusal_line why.Long = codes "refused long\n"
@@ -55,7 +55,7 @@ refusal_line (why.Many place) = refused_at place (codes " many\n")
 refusal_line why.Syntax = codes "refused syntax\n"
 refusal_line (why.Rule place rule) = refused_at place (codes " rule " ++ decimal rule ++ codes "\n")
 refusal_line why.Form = codes "refused form\n"
-refusal_line (why.Limit what count) = codes "refused limit " ++ quantity_word what ++ decimal count ++ codes "\n"
+refusal_line (why.Limit what count) = limit_words what ++ decimal count ++ codes "\n"
 
 -- ---- verdicts, in the order of the refusals
 

@@ -8,7 +8,7 @@ ghost use Rattle.core_host.specs.Runs.{HasOutputs};
 ghost use Rattle.forec_engine.specs.Calls.{AppendsFront};
 ghost use Rattle.forec_engine.specs.ReportLines.{end_line, trap_word, trap_line, over_line, rows_line, fault_word, row_line, outcome_lines};
 ghost use Rattle.forec_engine.specs.Counting.{counts_line};
-ghost use Rattle.forec_engine.specs.Judging.{quantity_word, refused_at, refusal_line};
+ghost use Rattle.forec_engine.specs.Judging.{limit_words, refused_at, refusal_line};
 
 use crate::counts::Counts;
 use crate::refusal::Refusal;
@@ -189,8 +189,7 @@ impl Waiting {
         requires { HasRoom self.old 64 }
         ensures { Gains self.old self.new (refusal_line (Refusal.Limit what count)) }
     {
-        self.put(b"refused limit ");
-        self.put(quantity_text(what));
+        self.put(limit_text(what));
         self.put_number(count);
         self.put(b"\n");
     }
@@ -302,16 +301,16 @@ fn fault_text(fault: RowFault) -> &'static [u8]
     }
 }
 
-fn quantity_text(what: Quantity) -> &'static [u8]
-    ensures text { result.now ≡ quantity_word what }
-    ensures short { length result.now ≤ 8 }
+fn limit_text(what: Quantity) -> &'static [u8]
+    ensures text { result.now ≡ limit_words what }
+    ensures short { length result.now ≤ 22 }
 {
     match what {
-        Quantity::Threads => b"threads ",
-        Quantity::Words => b"words ",
-        Quantity::Globals => b"globals ",
-        Quantity::Tables => b"tables ",
-        Quantity::Terms => b"terms ",
-        Quantity::Depth => b"depth ",
+        Quantity::Threads => b"refused limit threads ",
+        Quantity::Words => b"refused limit words ",
+        Quantity::Globals => b"refused limit globals ",
+        Quantity::Tables => b"refused limit tables ",
+        Quantity::Terms => b"refused limit terms ",
+        Quantity::Depth => b"refused limit depth ",
     }
 }

@@ -36,7 +36,7 @@ returns-in-Ok-clause-write g c = λ is.
 
 pub returns-in-Err-Failed-clause-read : goal.returns-in-Err-Failed-clause-read
 returns-in-Err-Failed-clause-read g c = λ _. (
-  c.start_rows.ensures.fell (c.start_rows.is ∙ refl),
+  (rw c.in-Err-Failed.field-0-is at c.in-Err-Failed.ensures.fell) refl,
   head_failed (kernel_in c.args.runner.now) c.args.budget c.args.inputs.now (g.S.Source.left c.args.trace.now) (g.S.Source.left c.start_rows.new.trace) (g.K.Sink.held c.args.out.now)
       (rw c.in-Err-Failed.field-0-is at c.in-Err-Failed.ensures.err),
 )

@@ -1,4 +1,4 @@
-use Rattle.std.proofs.Common.{◌≡◌, ◌-◌, List, ℕ, length, sym, ap, subst, ◌∙◌, refl, arith, length-map}
+use Rattle.std.proofs.Common.{◌≡◌, ◌-◌, List, ℕ, length, sym, ap, subst, ◌∙◌, refl, arith}
 use Rattle.forec_kernel.specs.Ticks.{State, tick, goes_on}
 use Rattle.core_host.specs.Runs.{code_of}
 use Rattle.forec_engine.specs.Following.{Follows, kernel_in}
@@ -39,7 +39,7 @@ pub put_outcome-requires-clause-values : goal.put_outcome-requires-clause-values
 put_outcome-requires-clause-values g c =
     let i = c.ticks.invariant in
     let shape = i.reached.follows.stands.shape in
-    c.tick-outcome.new.self.given ∙ ap (λ x. length x.shape.outputs) (c.tick-outcome.ensures.code ∙ c.next_row.ensures.code) ∙ ap (λ s. length s.outputs) shape
+    ap length c.deref.ensures.value ∙ c.tick-outcome.new.self.given ∙ ap (λ x. length x.shape.outputs) (c.tick-outcome.ensures.code ∙ c.next_row.ensures.code) ∙ ap (λ s. length s.outputs) shape
     ∙ ap (λ k. length k.shape.outputs) i.kernel ∙ sym (names_each (kernel_in c.args.runner.now)) ∙ ap length (sym (c.send_due.ensures.names ∙ i.names ∙ c.requires.names))
 
 pub returns-in-Err-clause-write : goal.returns-in-Err-clause-write
@@ -178,9 +178,9 @@ ticks-preserved g c =
     let follows : Follows r.state c.next_row.new.self = c.next_row.ensures.follows r.state r.follows in
     let how : o ≡ t.outcome = c.tick-outcome.ensures.outcome r.state follows ∙ ap (λ x. (tick x run.budget r.state values).outcome) k in
     let put : Gains c.send_due.new.waiting c.put_outcome.new.self (tick_lines run.kernel run.budget row t) =
-    put_tick_lines run.kernel run.budget row t o c.send_due.new.waiting.names c.tick-outcome.new.self.outputs.items c.send_due.new.waiting c.put_outcome.new.self
+    put_tick_lines run.kernel run.budget row t o c.send_due.new.waiting.names c.deref.result.now c.send_due.new.waiting c.put_outcome.new.self
     (c.send_due.ensures.names ∙ i.names ∙ c.requires.names) how
-    (λ has. c.tick-outcome.ensures.outputs r.state follows has ∙ ap (λ x. (tick x run.budget r.state values).outputs) k) c.put_outcome.ensures in
+    (λ has. c.deref.ensures.value ∙ c.tick-outcome.ensures.outputs r.state follows has ∙ ap (λ x. (tick x run.budget r.state values).outputs) k) c.put_outcome.ensures in
     let gave = c.in-Row.ensures.next in
     record {
       reached = reached_more run F (λ s. Follows s c.tick-outcome.new.self) now new l0 l l' h0 h unsent c.put_outcome.new.self.bytes.items row values r gave
@@ -219,9 +219,9 @@ returns-in-Ended-clause-own g c = λ own.
     let follows : Follows r.state c.next_row.new.self = c.next_row.ensures.follows r.state r.follows in
     let how : o ≡ t.outcome = c.tick-outcome.ensures.outcome r.state follows ∙ ap (λ x. (tick x run.budget r.state values).outcome) k in
     let put : Gains c.send_due.new.waiting c.put_outcome.new.self (tick_lines run.kernel run.budget row t) =
-    put_tick_lines run.kernel run.budget row t o c.send_due.new.waiting.names c.tick-outcome.new.self.outputs.items c.send_due.new.waiting c.put_outcome.new.self
+    put_tick_lines run.kernel run.budget row t o c.send_due.new.waiting.names c.deref.result.now c.send_due.new.waiting c.put_outcome.new.self
     (c.send_due.ensures.names ∙ i.names ∙ c.requires.names) how
-    (λ has. c.tick-outcome.ensures.outputs r.state follows has ∙ ap (λ x. (tick x run.budget r.state values).outputs) k) c.put_outcome.ensures in
+    (λ has. c.deref.ensures.value ∙ c.tick-outcome.ensures.outputs r.state follows has ∙ ap (λ x. (tick x run.budget r.state values).outputs) k) c.put_outcome.ensures in
     stop_own run F now new l0 l l' h0 h (g.K.Sink.held c.finish-in-Ended.new.out) unsent c.put_outcome.new.self.bytes.items row values r c.in-Row.ensures.next o status.Done c.finish-in-Ended.result how
     (ap goes_on c.in-Ended.is) (ap stop_status c.in-Ended.is) put.bytes_are c.finish-in-Ended.ensures.said c.finish-in-Ended.ensures.all own
 
@@ -247,9 +247,9 @@ returns-in-Ended-clause-write g c = λ is.
     let follows : Follows r.state c.next_row.new.self = c.next_row.ensures.follows r.state r.follows in
     let how : o ≡ t.outcome = c.tick-outcome.ensures.outcome r.state follows ∙ ap (λ x. (tick x run.budget r.state values).outcome) k in
     let put : Gains c.send_due.new.waiting c.put_outcome.new.self (tick_lines run.kernel run.budget row t) =
-    put_tick_lines run.kernel run.budget row t o c.send_due.new.waiting.names c.tick-outcome.new.self.outputs.items c.send_due.new.waiting c.put_outcome.new.self
+    put_tick_lines run.kernel run.budget row t o c.send_due.new.waiting.names c.deref.result.now c.send_due.new.waiting c.put_outcome.new.self
     (c.send_due.ensures.names ∙ i.names ∙ c.requires.names) how
-    (λ has. c.tick-outcome.ensures.outputs r.state follows has ∙ ap (λ x. (tick x run.budget r.state values).outputs) k) c.put_outcome.ensures in (
+    (λ has. c.deref.ensures.value ∙ c.tick-outcome.ensures.outputs r.state follows has ∙ ap (λ x. (tick x run.budget r.state values).outputs) k) c.put_outcome.ensures in (
       fell_since _ (g.K.Sink.faults c.send_due.new.out) _ _ (omega (arith, i.written, c.in_default.ensures.cause.later)) (c.finish-in-Ended.ensures.fault is),
       stop_front run F now new l0 l l' h0 h (g.K.Sink.held c.finish-in-Ended.new.out) unsent c.put_outcome.new.self.bytes.items row values r c.in-Row.ensures.next o how
           (ap goes_on c.in-Ended.is) put.bytes_are (c.finish-in-Ended.ensures.front is),
@@ -277,9 +277,9 @@ returns-in-Trapped-clause-own g c = λ own.
     let follows : Follows r.state c.next_row.new.self = c.next_row.ensures.follows r.state r.follows in
     let how : o ≡ t.outcome = c.tick-outcome.ensures.outcome r.state follows ∙ ap (λ x. (tick x run.budget r.state values).outcome) k in
     let put : Gains c.send_due.new.waiting c.put_outcome.new.self (tick_lines run.kernel run.budget row t) =
-    put_tick_lines run.kernel run.budget row t o c.send_due.new.waiting.names c.tick-outcome.new.self.outputs.items c.send_due.new.waiting c.put_outcome.new.self
+    put_tick_lines run.kernel run.budget row t o c.send_due.new.waiting.names c.deref.result.now c.send_due.new.waiting c.put_outcome.new.self
     (c.send_due.ensures.names ∙ i.names ∙ c.requires.names) how
-    (λ has. c.tick-outcome.ensures.outputs r.state follows has ∙ ap (λ x. (tick x run.budget r.state values).outputs) k) c.put_outcome.ensures in
+    (λ has. c.deref.ensures.value ∙ c.tick-outcome.ensures.outputs r.state follows has ∙ ap (λ x. (tick x run.budget r.state values).outputs) k) c.put_outcome.ensures in
     stop_own run F now new l0 l l' h0 h (g.K.Sink.held c.finish-in-Trapped.new.out) unsent c.put_outcome.new.self.bytes.items row values r c.in-Row.ensures.next o status.Trapped c.finish-in-Trapped.result how
     (ap goes_on c.in-Trapped.is) (ap stop_status c.in-Trapped.is) put.bytes_are c.finish-in-Trapped.ensures.said c.finish-in-Trapped.ensures.all own
 
@@ -305,9 +305,9 @@ returns-in-Trapped-clause-write g c = λ is.
     let follows : Follows r.state c.next_row.new.self = c.next_row.ensures.follows r.state r.follows in
     let how : o ≡ t.outcome = c.tick-outcome.ensures.outcome r.state follows ∙ ap (λ x. (tick x run.budget r.state values).outcome) k in
     let put : Gains c.send_due.new.waiting c.put_outcome.new.self (tick_lines run.kernel run.budget row t) =
-    put_tick_lines run.kernel run.budget row t o c.send_due.new.waiting.names c.tick-outcome.new.self.outputs.items c.send_due.new.waiting c.put_outcome.new.self
+    put_tick_lines run.kernel run.budget row t o c.send_due.new.waiting.names c.deref.result.now c.send_due.new.waiting c.put_outcome.new.self
     (c.send_due.ensures.names ∙ i.names ∙ c.requires.names) how
-    (λ has. c.tick-outcome.ensures.outputs r.state follows has ∙ ap (λ x. (tick x run.budget r.state values).outputs) k) c.put_outcome.ensures in (
+    (λ has. c.deref.ensures.value ∙ c.tick-outcome.ensures.outputs r.state follows has ∙ ap (λ x. (tick x run.budget r.state values).outputs) k) c.put_outcome.ensures in (
       fell_since _ (g.K.Sink.faults c.send_due.new.out) _ _ (omega (arith, i.written, c.in_default.ensures.cause.later)) (c.finish-in-Trapped.ensures.fault is),
       stop_front run F now new l0 l l' h0 h (g.K.Sink.held c.finish-in-Trapped.new.out) unsent c.put_outcome.new.self.bytes.items row values r c.in-Row.ensures.next o how
           (ap goes_on c.in-Trapped.is) put.bytes_are (c.finish-in-Trapped.ensures.front is),
@@ -335,9 +335,9 @@ returns-in-Over-clause-own g c = λ own.
     let follows : Follows r.state c.next_row.new.self = c.next_row.ensures.follows r.state r.follows in
     let how : o ≡ t.outcome = c.tick-outcome.ensures.outcome r.state follows ∙ ap (λ x. (tick x run.budget r.state values).outcome) k in
     let put : Gains c.send_due.new.waiting c.put_outcome.new.self (tick_lines run.kernel run.budget row t) =
-    put_tick_lines run.kernel run.budget row t o c.send_due.new.waiting.names c.tick-outcome.new.self.outputs.items c.send_due.new.waiting c.put_outcome.new.self
+    put_tick_lines run.kernel run.budget row t o c.send_due.new.waiting.names c.deref.result.now c.send_due.new.waiting c.put_outcome.new.self
     (c.send_due.ensures.names ∙ i.names ∙ c.requires.names) how
-    (λ has. c.tick-outcome.ensures.outputs r.state follows has ∙ ap (λ x. (tick x run.budget r.state values).outputs) k) c.put_outcome.ensures in
+    (λ has. c.deref.ensures.value ∙ c.tick-outcome.ensures.outputs r.state follows has ∙ ap (λ x. (tick x run.budget r.state values).outputs) k) c.put_outcome.ensures in
     stop_own run F now new l0 l l' h0 h (g.K.Sink.held c.finish-in-Over.new.out) unsent c.put_outcome.new.self.bytes.items row values r c.in-Row.ensures.next o status.Over c.finish-in-Over.result how
     (ap goes_on c.in-Over.is) (ap stop_status c.in-Over.is) put.bytes_are c.finish-in-Over.ensures.said c.finish-in-Over.ensures.all own
 
@@ -363,9 +363,9 @@ returns-in-Over-clause-write g c = λ is.
     let follows : Follows r.state c.next_row.new.self = c.next_row.ensures.follows r.state r.follows in
     let how : o ≡ t.outcome = c.tick-outcome.ensures.outcome r.state follows ∙ ap (λ x. (tick x run.budget r.state values).outcome) k in
     let put : Gains c.send_due.new.waiting c.put_outcome.new.self (tick_lines run.kernel run.budget row t) =
-    put_tick_lines run.kernel run.budget row t o c.send_due.new.waiting.names c.tick-outcome.new.self.outputs.items c.send_due.new.waiting c.put_outcome.new.self
+    put_tick_lines run.kernel run.budget row t o c.send_due.new.waiting.names c.deref.result.now c.send_due.new.waiting c.put_outcome.new.self
     (c.send_due.ensures.names ∙ i.names ∙ c.requires.names) how
-    (λ has. c.tick-outcome.ensures.outputs r.state follows has ∙ ap (λ x. (tick x run.budget r.state values).outputs) k) c.put_outcome.ensures in (
+    (λ has. c.deref.ensures.value ∙ c.tick-outcome.ensures.outputs r.state follows has ∙ ap (λ x. (tick x run.budget r.state values).outputs) k) c.put_outcome.ensures in (
       fell_since _ (g.K.Sink.faults c.send_due.new.out) _ _ (omega (arith, i.written, c.in_default.ensures.cause.later)) (c.finish-in-Over.ensures.fault is),
       stop_front run F now new l0 l l' h0 h (g.K.Sink.held c.finish-in-Over.new.out) unsent c.put_outcome.new.self.bytes.items row values r c.in-Row.ensures.next o how
           (ap goes_on c.in-Over.is) put.bytes_are (c.finish-in-Over.ensures.front is),
