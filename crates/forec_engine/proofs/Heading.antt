@@ -111,4 +111,4 @@ places_each inputs line ps e = by (nat_lt most_bytes (length line)) refl (names_
     by : (t : Bool) → nat_lt most_bytes (length line) ≡ t → (u : Bool) → names_each inputs (words_of line) ≡ u → length ps ≡ length inputs
     by true h u k = absurd (let x = rw h at e in cc)
     by false h false k = absurd (let x = rw (h, k) at e in cc)
-    by false h true k = let x = rw (h, k) at e in ap length (sym (ok_same _ ps x)) ∙ length-map _ inputs
+    by false h true k = let x = rw (h, k) at e in ap length (sym (ok_same _ ps x)) ∙ length-map inputs _

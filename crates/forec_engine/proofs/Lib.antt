@@ -9,6 +9,7 @@ mod TickLines
 mod Told
 mod Lexing
 mod NamesBelow
+mod Picking
 mod LeastFault
 mod Limits
 mod Verdicts

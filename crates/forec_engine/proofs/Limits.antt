@@ -1,5 +1,5 @@
 -- A program passes one limit first, or none.
-use Rattle.std.proofs.Common.{◌≡◌, ◌⊎◌, inl, inr, ℕ, ◌<◌, ◌≤◌, Bool, true, false, nat_lt, ltb-true, ltb-false, List, refl, sym, ap, subst, ◌∙◌, arith}
+use Rattle.std.proofs.Common.{◌≡◌, ◌⊎◌, inl, inr, ℕ, ◌<◌, ◌≤◌, Bool, true, false, nat_lt, ltb-true, ltb-false, List, [], ◌∷◌, refl, sym, ap, subst, ◌∙◌, arith}
 use Rattle.forec_kernel.specs.Shapes.{PlainKernel}
 use Rattle.forec_tree.specs.Terms.{Text}
 use Rattle.forec_tree.specs.Faults.{Member, here, later}
@@ -79,6 +79,14 @@ kept k q = by (nat_lt (limit_of q) (amount q k)) refl
     by true e = over (ltb-true (limit_of q) (amount q k) e)
     by false e = fits (ltb-false (limit_of q) (amount q k) e)
 
+no_member : {A : Type 0} (P : A → Type 0) (p : A) → Member p [] → P p
+no_member P p m = elim m [ ]
+
+-- what holds of an item and of the others holds of each
+one_member : {A : Type 0} (P : A → Type 0) (x : A) (xs : List A) → P x → ((p : A) → Member p xs → P p) → (p : A) → Member p (x ∷ xs) → P p
+one_member P x xs a f p here = a
+one_member P x xs a f p (later m) = f p m
+
 -- which of the first limits are kept, up to one that isn't
 module _ (text : Text) (names : List (List ℕ)) where
   abbrev kernel : PlainKernel
@@ -91,32 +99,22 @@ module _ (text : Text) (names : List (List ℕ)) where
   passes q p f = (q, record { passes = p; first = f; is = refl })
 
   before_threads : (p : Quantity) → Member p (earlier Threads) → Fits kernel p
-  before_threads p m = elim m [ ]
+  before_threads = no_member (Fits kernel)
 
   before_words : Fits kernel Threads → (p : Quantity) → Member p (earlier Words) → Fits kernel p
-  before_words f0 Threads here = f0
+  before_words f0 = one_member (Fits kernel) Threads _ f0 (no_member (Fits kernel))
 
   before_globals : Fits kernel Threads → Fits kernel Words → (p : Quantity) → Member p (earlier Globals) → Fits kernel p
-  before_globals f0 f1 Threads here = f0
-  before_globals f0 f1 Words (later here) = f1
+  before_globals f0 f1 = one_member (Fits kernel) Threads _ f0 (one_member (Fits kernel) Words _ f1 (no_member (Fits kernel)))
 
   before_tables : Fits kernel Threads → Fits kernel Words → Fits kernel Globals → (p : Quantity) → Member p (earlier Tables) → Fits kernel p
-  before_tables f0 f1 f2 Threads here = f0
-  before_tables f0 f1 f2 Words (later here) = f1
-  before_tables f0 f1 f2 Globals (later (later here)) = f2
+  before_tables f0 f1 f2 = one_member (Fits kernel) Threads _ f0 (one_member (Fits kernel) Words _ f1 (one_member (Fits kernel) Globals _ f2 (no_member (Fits kernel))))
 
   before_terms : Fits kernel Threads → Fits kernel Words → Fits kernel Globals → Fits kernel Tables → (p : Quantity) → Member p (earlier Terms) → Fits kernel p
-  before_terms f0 f1 f2 f3 Threads here = f0
-  before_terms f0 f1 f2 f3 Words (later here) = f1
-  before_terms f0 f1 f2 f3 Globals (later (later here)) = f2
-  before_terms f0 f1 f2 f3 Tables (later (later (later here))) = f3
+  before_terms f0 f1 f2 f3 = one_member (Fits kernel) Threads _ f0 (one_member (Fits kernel) Words _ f1 (one_member (Fits kernel) Globals _ f2 (one_member (Fits kernel) Tables _ f3 (no_member (Fits kernel)))))
 
   before_depth : Fits kernel Threads → Fits kernel Words → Fits kernel Globals → Fits kernel Tables → Fits kernel Terms → (p : Quantity) → Member p (earlier Depth) → Fits kernel p
-  before_depth f0 f1 f2 f3 f4 Threads here = f0
-  before_depth f0 f1 f2 f3 f4 Words (later here) = f1
-  before_depth f0 f1 f2 f3 f4 Globals (later (later here)) = f2
-  before_depth f0 f1 f2 f3 f4 Tables (later (later (later here))) = f3
-  before_depth f0 f1 f2 f3 f4 Terms (later (later (later (later here)))) = f4
+  before_depth f0 f1 f2 f3 f4 = one_member (Fits kernel) Threads _ f0 (one_member (Fits kernel) Words _ f1 (one_member (Fits kernel) Globals _ f2 (one_member (Fits kernel) Tables _ f3 (one_member (Fits kernel) Terms _ f4 (no_member (Fits kernel))))))
 
   within : Fits kernel Threads → Fits kernel Words → Fits kernel Globals → Fits kernel Tables → Fits kernel Terms → Fits kernel Depth → WithinLimits kernel
   within a b c d e f Threads = a

@@ -11,7 +11,7 @@ use Rattle.forec_engine.specs.declared.counts.Counts.{Counts}
 use Rattle.forec_engine.specs.declared.refusal.Refusal.{Refusal}
 use Rattle.forec_engine.specs.declared.refusal.Refusal.TheVariants as why
 use Rattle.forec_engine.specs.declared.words.Command.{Command}
-use Rattle.forec_engine.specs.declared.words.Command.TheVariants as command
+use Rattle.forec_engine.specs.declared.words.Command.TheVariants as kind
 use Rattle.forec_engine.proofs.Verdicts.{some_verdict}
 use Rattle.forec_engine.specs.Report.{Report, trace_report}
 
@@ -32,19 +32,19 @@ never_both : (why : Refusal) (c : Counts) (k : PlainKernel) → Refuses why ≡ 
 never_both why c k e = cc
 
 -- what a command other than `code` says of an accepted text
-one_accepted : (command : Command) (c d : Counts) (k l : PlainKernel) (trace : Option (List ℕ)) (r q : Report) → (command ≡ command.Code → ⊥) → Accepts c k ≡ Accepts d l →
+one_accepted : (command : Command) (c d : Counts) (k l : PlainKernel) (trace : Option (List ℕ)) (r q : Report) → (command ≡ kind.Code → ⊥) → Accepts c k ≡ Accepts d l →
     AcceptedReport command c k trace r → AcceptedReport command d l trace q → r ≡ q
-one_accepted (command.Run b) c d k l trace r q other e x y =
+one_accepted (kind.Run b) c d k l trace r q other e x y =
     x.2 ∙ ap (λ m. trace_report m b x.0) (kernel_same c d k l e) ∙ ap (trace_report l b) (some_same x.0 y.0 (sym x.1 ∙ y.1)) ∙ sym y.2
-one_accepted command.Check c d k l trace r q other e x y = x ∙ ap counted (counts_same c d k l e) ∙ sym y
-one_accepted command.Code c d k l trace r q other e x y = absurd (other refl)
+one_accepted kind.Check c d k l trace r q other e x y = x ∙ ap counted (counts_same c d k l e) ∙ sym y
+one_accepted kind.Code c d k l trace r q other e x y = absurd (other refl)
 
 -- what any command says of it
 alike_accepted : (command : Command) (c d : Counts) (k l : PlainKernel) (trace : Option (List ℕ)) (r q : Report) → Accepts c k ≡ Accepts d l →
     AcceptedReport command c k trace r → AcceptedReport command d l trace q → (r ≡ q) ⊎ ListOneKernel r q
-alike_accepted (command.Run b) c d k l trace r q e x y = inl (one_accepted (command.Run b) c d k l trace r q (λ n. cc) e x y)
-alike_accepted command.Check c d k l trace r q e x y = inl (one_accepted command.Check c d k l trace r q (λ n. cc) e x y)
-alike_accepted command.Code c d k l trace r q e x y =
+alike_accepted (kind.Run b) c d k l trace r q e x y = inl (one_accepted (kind.Run b) c d k l trace r q (λ n. cc) e x y)
+alike_accepted kind.Check c d k l trace r q e x y = inl (one_accepted kind.Check c d k l trace r q (λ n. cc) e x y)
+alike_accepted kind.Code c d k l trace r q e x y =
     inr (record {
       kernel = l;
       code = x.0;
@@ -91,13 +91,13 @@ pub alike_reports : OneVerdict → AlikeReports
 alike_reports one words content trace r q x y =
     two_reports one words content trace (λ a b. (a ≡ b) ⊎ ListOneKernel a b) (λ a b e. inl e) (λ command name is c d k l a b e t u. alike_accepted command c d k l trace a b e t u) r q x y
 
-some_of_accepted : (command : Command) (c : Counts) (k : PlainKernel) (trace : Option (List ℕ)) → (command ≡ command.Code → ⊥) → TellsTrace command trace →
+some_of_accepted : (command : Command) (c : Counts) (k : PlainKernel) (trace : Option (List ℕ)) → (command ≡ kind.Code → ⊥) → TellsTrace command trace →
     ((r : Report) → AcceptedReport command c k trace r → ⊥) → ⊥
-some_of_accepted (command.Run b) c k trace other told never = never (trace_report k b told.0) (told.0, told.1, refl)
-some_of_accepted command.Check c k trace other told never = never (counted c) refl
-some_of_accepted command.Code c k trace other told never = other refl
+some_of_accepted (kind.Run b) c k trace other told never = never (trace_report k b told.0) (told.0, told.1, refl)
+some_of_accepted kind.Check c k trace other told never = never (counted c) refl
+some_of_accepted kind.Code c k trace other told never = other refl
 
-some_of_text : (command : Command) (text : List ℕ) (trace : Option (List ℕ)) → (command ≡ command.Code → ⊥) → TellsTrace command trace → ((r : Report) → TextReport command text trace r → ⊥) → ⊥
+some_of_text : (command : Command) (text : List ℕ) (trace : Option (List ℕ)) → (command ≡ kind.Code → ⊥) → TellsTrace command trace → ((r : Report) → TextReport command text trace r → ⊥) → ⊥
 some_of_text command text trace other told never = some_verdict text by
   where
     by : (v : Verdict) → Judged text v → ⊥
@@ -142,15 +142,20 @@ words_long words content trace command name n Q long q told =
 
 -- ---- what a command says of an accepted text
 
-pub run_answers : (command : Command) (b : ℕ) (c : Counts) (k : PlainKernel) (trace : Option (List ℕ)) (Q : Report → Type 0) → command ≡ command.Run b → IfSome trace (λ x. Q (trace_report k b x)) →
+pub run_answers : (command : Command) (b : ℕ) (c : Counts) (k : PlainKernel) (trace : Option (List ℕ)) (Q : Report → Type 0) → command ≡ kind.Run b → IfSome trace (λ x. Q (trace_report k b x)) →
     TellsTrace command trace → (r : Report) × AcceptedReport command c k trace r × Q r
 run_answers command b c k trace Q e q told =
     subst (λ m. TellsTrace m trace → (r : Report) × AcceptedReport m c k trace r × Q r) (sym e) (λ t. (trace_report k b t.0, (t.0, t.1, refl), ran k b trace Q q t.0 t.1)) told
 
-pub check_answers : (command : Command) (c : Counts) (k : PlainKernel) (trace : Option (List ℕ)) (Q : Report → Type 0) → command ≡ command.Check → Q (counted c) →
+pub check_answers : (command : Command) (c : Counts) (k : PlainKernel) (trace : Option (List ℕ)) (Q : Report → Type 0) → command ≡ kind.Check → Q (counted c) →
     (r : Report) × AcceptedReport command c k trace r × Q r
 check_answers command c k trace Q e q = subst (λ m. (r : Report) × AcceptedReport m c k trace r × Q r) (sym e) (counted c, refl, q)
 
-pub code_answers : (command : Command) (c : Counts) (k : PlainKernel) (trace : Option (List ℕ)) (Q : Report → Type 0) → command ≡ command.Code →
+pub code_answers : (command : Command) (c : Counts) (k : PlainKernel) (trace : Option (List ℕ)) (Q : Report → Type 0) → command ≡ kind.Code →
     (code : PlainCode) × Stands code k × Q (listed code) → (r : Report) × AcceptedReport command c k trace r × Q r
 code_answers command c k trace Q e q = subst (λ m. (r : Report) × AcceptedReport m c k trace r × Q r) (sym e) (listed q.0, (q.0, q.1, refl), q.2)
+
+-- what a command says of a text that is refused
+pub refusal_answers : (command : Command) (text : List ℕ) (why : Refusal) (trace : Option (List ℕ)) (Q : Report → Type 0) → Judged text (Refuses why) → Q (refused why) →
+    (r : Report) × TextReport command text trace r × Q r
+refusal_answers command text why trace Q j q = (refused why, Of_refusal why j refl, q)

@@ -19,7 +19,7 @@ put_tick_lines k budget row t o names values old new are how outputs gains =
 
 -- as many names as outputs, and as inputs
 pub names_each : (k : PlainKernel) → length (output_names k) ≡ length k.shape.outputs
-names_each k = length-map _ k.shape.outputs
+names_each k = length-map k.shape.outputs _
 
 pub inputs_each : (k : PlainKernel) → length (input_names k) ≡ length k.shape.inputs
-inputs_each k = length-map _ k.shape.inputs
+inputs_each k = length-map k.shape.inputs _

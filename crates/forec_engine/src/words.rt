@@ -1,6 +1,6 @@
 // The words of a command.
 
-ghost use Rattle.std.specs.Prelude.{◌≡◌, ◌≤◌, ◌^◌, ◌+◌, ◌∷◌, [], map, length, min, string_bytes, IfSome};
+ghost use Rattle.std.specs.Prelude.{◌≡◌, ◌≤◌, ◌<◌, ◌^◌, ◌+◌, ◌∷◌, [], map, length, min, string_bytes, IfSome};
 ghost use Rattle.std.specs.Option.{option_map};
 ghost use Rattle.trace_rows.specs.Numbers.{magnitude_of};
 ghost use Rattle.forec_engine.specs.Commands.{command_named, command_of, in_range, budget_of, HasSmallBudget};
@@ -35,12 +35,10 @@ fn named(word: &str) -> Option<Command>
 }
 
 // The number that digits are, or `CAP` where it is greater.
-fn magnitude(word: &[u8]) -> Option<u128>
+fn digits(word: &[u8]) -> Option<u128>
+    requires { 0 < length word.now }
     ensures { result ≡ option_map (min 4611686018427387905) (magnitude_of word.now) }
 {
-    if word.is_empty() {
-        return None;
-    }
     let mut value = 0u128;
     for i in 0..word.len() {
         let b = word[i];
@@ -52,16 +50,25 @@ fn magnitude(word: &[u8]) -> Option<u128>
     Some(value)
 }
 
+fn magnitude(word: &[u8]) -> Option<u128>
+    ensures { result ≡ option_map (min 4611686018427387905) (magnitude_of word.now) }
+{
+    if word.is_empty() {
+        return None;
+    }
+    digits(word)
+}
+
 // The budget that a word is.
 fn read_budget(word: &str) -> Option<u64>
     ensures value { result ≡ budget_of word.now }
     ensures small { IfSome result (λ b. b ≤ 2 ^ 62) }
 {
-    let digits = word.as_bytes();
-    if digits.len() > 19 {
+    let bytes = word.as_bytes();
+    if bytes.len() > 19 {
         return None;
     }
-    let value = magnitude(digits)?;
+    let value = magnitude(bytes)?;
     if value == 0 || value == CAP {
         return None;
     }

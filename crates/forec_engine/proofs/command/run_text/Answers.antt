@@ -1,6 +1,8 @@
-use Rattle.std.proofs.Common.{refl}
 use Rattle.forec_kernel.specs.Shapes.{plain_kernel}
-use Rattle.forec_engine.specs.Commands.{refused, Of_refusal, Of_accepted}
+use Rattle.forec_engine.specs.Calls.{AppendsFront}
+use Rattle.forec_engine.specs.Commands.{Of_accepted}
+use Rattle.forec_engine.specs.Ends.{Given}
+use Rattle.forec_engine.proofs.Reports.{refusal_answers}
 use Rattle.forec_engine.proofs.command.run_text.Goals as goal
 
 pub returns-in-Ok-clause-own : goal.returns-in-Ok-clause-own
@@ -23,11 +25,15 @@ returns-in-Ok-clause-write g c = λ is.
 
 pub returns-in-Err-Refused-clause-own : goal.returns-in-Err-Refused-clause-own
 returns-in-Err-Refused-clause-own g c = λ own told.
-    let why = c.in-Err-Refused.why in
-    (refused why, Of_refusal why (rw c.in-Err-Refused.field-0-is at c.in-Err-Refused.ensures) refl, c.refuse.ensures.own own)
+    let h0 = g.K.Sink.held c.args.out.now in
+    let h2 = g.K.Sink.held c.refuse.new.out in
+    let j = rw c.in-Err-Refused.field-0-is at c.in-Err-Refused.ensures in
+    refusal_answers c.args.command c.args.text.now c.in-Err-Refused.why (g.S.Source.left c.args.trace.now) (λ r. Given r c.refuse.result h0 h2) j (c.refuse.ensures.own own)
 
 pub returns-in-Err-Refused-clause-write : goal.returns-in-Err-Refused-clause-write
 returns-in-Err-Refused-clause-write g c = λ is.
-    let why = c.in-Err-Refused.why in
+    let h0 = g.K.Sink.held c.args.out.now in
+    let h2 = g.K.Sink.held c.refuse.new.out in
+    let j = rw c.in-Err-Refused.field-0-is at c.in-Err-Refused.ensures in
     let w = c.refuse.ensures.write is in
-    (w.0, λ told. (refused why, Of_refusal why (rw c.in-Err-Refused.field-0-is at c.in-Err-Refused.ensures) refl, w.1))
+    (w.0, λ told. refusal_answers c.args.command c.args.text.now c.in-Err-Refused.why (g.S.Source.left c.args.trace.now) (λ r. AppendsFront h0 h2 r.bytes) j w.1)

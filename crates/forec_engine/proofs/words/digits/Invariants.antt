@@ -1,7 +1,7 @@
 use Rattle.std.proofs.Common.{◌≡◌, ℕ, ◌<◌, true, min, take, get_or}
 use Rattle.std.specs.Char.{is_ascii_digit}
 use Rattle.trace_rows.specs.Numbers.{digits_value}
-use Rattle.forec_engine.proofs.words.magnitude.Given as goal
+use Rattle.forec_engine.proofs.words.digits.Given as goal
 
 abbrev pub invariant-loop-i : goal.invariant-loop-i
 invariant-loop-i l = record {
