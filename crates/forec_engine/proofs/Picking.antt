@@ -7,11 +7,7 @@ use Rattle.forec_engine.specs.ReportLines.{names_at}
 
 right_too : (a b : Bool) → IsTrue (a && b) → IsTrue b
 right_too true b h = h
-right_too false b h = absurd h
-
-left_too : (a b : Bool) → IsTrue (a && b) → IsTrue a
-left_too true b h = tt
-left_too false b h = absurd h
+right_too false b h = absurd cc
 
 -- the first variable and those behind it
 pub below_more : (n : ℕ) (vs : List ℕ) (i : ℕ) → i < length vs → IsTrue (all_below n (drop i vs)) → IsTrue (all_below n (drop (i + 1) vs))

@@ -6,6 +6,8 @@ mod counts;
 mod form;
 mod found;
 mod judging;
+#[cfg(test)]
+mod judging_tests;
 mod laws;
 mod names;
 mod refusal;

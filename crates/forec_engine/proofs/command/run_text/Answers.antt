@@ -28,12 +28,12 @@ returns-in-Err-Refused-clause-own g c = λ own told.
     let h0 = g.K.Sink.held c.args.out.now in
     let h2 = g.K.Sink.held c.refuse.new.out in
     let j = rw c.in-Err-Refused.field-0-is at c.in-Err-Refused.ensures in
-    refusal_answers c.args.command c.args.text.now c.in-Err-Refused.why (g.S.Source.left c.args.trace.now) (λ r. Given r c.refuse.result h0 h2) j (c.refuse.ensures.own own)
+    refusal_answers c.args.command c.args.text.now c.in-Err-Refused.why (g.S.Source.left c.args.trace.now) (λ r. Given r c.refuse.result h0 h2) j ((rw c.in-Err-Refused.field-0-is at c.refuse.ensures.own) own)
 
 pub returns-in-Err-Refused-clause-write : goal.returns-in-Err-Refused-clause-write
 returns-in-Err-Refused-clause-write g c = λ is.
     let h0 = g.K.Sink.held c.args.out.now in
     let h2 = g.K.Sink.held c.refuse.new.out in
     let j = rw c.in-Err-Refused.field-0-is at c.in-Err-Refused.ensures in
-    let w = c.refuse.ensures.write is in
+    let w = (rw c.in-Err-Refused.field-0-is at c.refuse.ensures.write) is in
     (w.0, λ told. refusal_answers c.args.command c.args.text.now c.in-Err-Refused.why (g.S.Source.left c.args.trace.now) (λ r. AppendsFront h0 h2 r.bytes) j w.1)
