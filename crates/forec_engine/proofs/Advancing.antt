@@ -44,15 +44,13 @@ ticks_on k budget n t ts trace h =
     ap (λ (o : Outcome). behind_bytes (tick_lines k budget n t ++ lines_from k budget (n + 1) ts) (ending o trace.end)) (last_on t ts h)
     ∙ ap (λ (bs : List ℕ). record { bytes = bs; status = e.status }) (append_assoc (tick_lines k budget n t) (lines_from k budget (n + 1) ts) e.bytes)
 
-pub report_step : (k : PlainKernel) (budget : ℕ) (places : List ℕ) (s : State) (n : ℕ) (line : List ℕ) (lines : List (List ℕ)) (row : Row) → GoesOn k budget places s n line row →
-    report_from k budget s n (rows_from most_rows places n (line ∷ lines))
-    ≡ (let t = tick k budget s row in behind_bytes (tick_lines k budget n t) (report_from k budget t.state (n + 1) (rows_from most_rows places (n + 1) lines)))
-report_step k budget places s n line lines row h =
-    let rest = rows_from most_rows places (n + 1) lines in
+-- one tick more, of a row and those behind it
+pub report_step : (k : PlainKernel) (budget : ℕ) (s : State) (n m : ℕ) (row : Row) (rest : Trace) → goes_on (tick k budget s row).outcome ≡ true →
+    report_from k budget s n (onto (Ok row) m rest) ≡ (let t = tick k budget s row in behind_bytes (tick_lines k budget n t) (report_from k budget t.state (n + 1) rest))
+report_step k budget s n m row rest h =
     let t = tick k budget s row in
-    ap (λ r. report_from k budget s n (onto r n rest)) h.row_is
-    ∙ ap (λ ts. behind_bytes (lines_from k budget n ts) (ending (last_outcome ts) rest.end)) (run_on k budget s row rest.rows h.on)
-    ∙ ticks_on k budget n t (run_from k budget t.state rest.rows) rest h.on
+    ap (λ ts. behind_bytes (lines_from k budget n ts) (ending (last_outcome ts) rest.end)) (run_on k budget s row rest.rows h)
+    ∙ ticks_on k budget n t (run_from k budget t.state rest.rows) rest h
 
 pub advance_step : (k : PlainKernel) (budget : ℕ) (places : List ℕ) (s : State) (n : ℕ) (line : List ℕ) (lines : List (List ℕ)) (row : Row) → GoesOn k budget places s n line row →
     advance k budget places s n (line ∷ lines)
@@ -86,22 +84,8 @@ went_of k budget places s n line lines p e =
     let m = some_of _ _ p c.1 in
     record { row = r.0; goes = record { row_is = r.1; on = c.0 }; rest = m.0; rest_is = m.1; whole = m.2 }
 
-behind_twice : (a b : List ℕ) (r : Report) → behind_bytes a (behind_bytes b r) ≡ behind_bytes (a ++ b) r
+pub behind_twice : (a b : List ℕ) (r : Report) → behind_bytes a (behind_bytes b r) ≡ behind_bytes (a ++ b) r
 behind_twice a b r = ap (λ (bs : List ℕ). record { bytes = bs; status = r.status }) (sym (append_assoc a b r.bytes))
-
--- the report of all lines is what the first ones printed, and the report of the others from there on
-pub report_advance : (k : PlainKernel) (budget : ℕ) (places : List ℕ) (s : State) (n : ℕ) (lines rest : List (List ℕ)) (p : Pace) → advance k budget places s n lines ≡ Some p →
-    report_from k budget s n (rows_from most_rows places n (lines ++ rest)) ≡ behind_bytes p.bytes (report_from k budget p.state p.next (rows_from most_rows places p.next rest))
-report_advance k budget places s n [] rest p e =
-    let same : record { state = s; next = n; bytes = [] } ≡ p = cc in
-    subst (λ (q : Pace). report_from k budget s n (rows_from most_rows places n rest) ≡ behind_bytes q.bytes (report_from k budget q.state q.next (rows_from most_rows places q.next rest))) same refl
-report_advance k budget places s n (line ∷ lines) rest p e =
-    let w = went_of k budget places s n line lines p e in
-    let t = tick k budget s w.row in
-    subst (λ (q : Pace). report_from k budget s n (rows_from most_rows places n (line ∷ (lines ++ rest))) ≡ behind_bytes q.bytes (report_from k budget q.state q.next (rows_from most_rows places q.next rest))) (sym w.whole)
-    (report_step k budget places s n line (lines ++ rest) w.row w.goes
-    ∙ ap (behind_bytes (tick_lines k budget n t)) (report_advance k budget places t.state (n + 1) lines rest w.rest w.rest_is)
-    ∙ behind_twice (tick_lines k budget n t) w.rest.bytes (report_from k budget w.rest.state w.rest.next (rows_from most_rows places w.rest.next rest)))
 
 -- where the program stands after one more line
 abbrev pub pace_after : PlainKernel → ℕ → Pace → Row → Pace

@@ -3,8 +3,10 @@ mod Digits
 mod Endings
 mod Heading
 mod Ranges
+mod Reading
 mod Reports
 mod Running
+mod Splitting
 mod TickLines
 mod Told
 mod Lexing

@@ -7,7 +7,6 @@ ghost use Rattle.forec_kernel.specs.Ticks.{State, Fresh, tick, goes_on};
 ghost use Rattle.thread_code.specs.Alone.{Stands};
 ghost use Rattle.thread_code.specs.Plain.{plain_code};
 ghost use Rattle.core_host.specs.Runs.{code_of, is_live, HasOutputs};
-ghost use Rattle.trace_rows.specs.Reader as reader;
 
 use crate::found::Found;
 use core_host::Host;
@@ -56,16 +55,16 @@ impl Runner {
 
     /// Looks for the next row of the trace. Where there is one, the inputs get its values.
     pub fn next_row<S: Source>(&mut self, rows: &mut Rows, trace: &mut S) -> Found
-        requires live { reader.is_live rows.old ≡ true }
-        requires room { length (reader.places rows.old) ≡ length (code_of self.old.host).shape.inputs }
-        requires ended { reader.has_ended rows.old ≡ true → IsAtEnd (S.left trace.old) }
+        requires live { rows.old.live ≡ true }
+        requires room { length (rows.old.places) ≡ length (code_of self.old.host).shape.inputs }
+        requires ended { rows.old.ended ≡ true → IsAtEnd (S.left trace.old) }
         ensures kernel { kernel_in self.new ≡ kernel_in self.old }
         ensures code { code_of self.new.host ≡ code_of self.old.host }
         ensures follows { (s : State) → Follows s self.old → Follows s self.new }
         ensures live { is_live self.new.host ≡ is_live self.old.host }
         ensures next { FoundSays rows.old rows.new (S.left trace.old) (S.left trace.new) self.new.row.items result }
-        ensures reads { result ≡ Found.Row → reader.is_live rows.new ≡ true }
-        ensures ended { reader.has_ended rows.new ≡ true → IsAtEnd (S.left trace.new) }
+        ensures reads { result ≡ Found.Row → rows.new.live ≡ true }
+        ensures ended { rows.new.ended ≡ true → IsAtEnd (S.left trace.new) }
         ensures later { S.faults trace.old ≤ S.faults trace.new }
         ensures fell { result ≡ Found.Failed → Fell (S.faults trace.old) (S.faults trace.new) (S.down trace.new) }
     {

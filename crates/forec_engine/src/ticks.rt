@@ -4,13 +4,13 @@ ghost use Rattle.std.specs.Io.KnownBytes.{Appends, IsAtEnd};
 ghost use Rattle.forec_base.specs.Outside.{Fell};
 ghost use Rattle.forec_kernel.specs.Ticks.{Fresh};
 ghost use Rattle.trace_rows.specs.Calls.{IfTold, Faults};
-ghost use Rattle.trace_rows.specs.Reader as reader;
+ghost use Rattle.trace_rows.specs.Reader.{HasLine};
 ghost use Rattle.forec_engine.specs.Calls.{AppendsFront};
 ghost use Rattle.forec_engine.specs.Ends.{IsOwn, Given, Wanted};
 ghost use Rattle.forec_engine.specs.Following.{Follows, kernel_in};
 ghost use Rattle.forec_engine.specs.Report.{trace_report};
 ghost use Rattle.forec_engine.specs.ReportLines.{input_names, output_names};
-ghost use Rattle.forec_engine.specs.Progress.{Led, UnreadSays, report_rest};
+ghost use Rattle.forec_engine.specs.Progress.{Led, Started, UnreadSays, report_rest};
 ghost use Rattle.forec_engine.specs.WaitingRoom.{HasRoom, HasTickRoom};
 
 use crate::found::{Found, Unread};
@@ -28,7 +28,7 @@ const MOST_ROWS: u64 = 1_000_000_000;
 fn send_due<K: Sink>(rows: &Rows, waiting: &mut Waiting, out: &mut K) -> Result<(), Failed>
     ensures ok { OnOk result ((sent : List ℕ) × Appends (K.held out.old) (K.held out.new) sent
         × (waiting.old.bytes.items ≡ sent ++ waiting.new.bytes.items)) }
-    ensures all { OnOk result ((reader.HasLine (reader.held rows.now) → ⊥) → waiting.new.bytes.items ≡ []) }
+    ensures all { OnOk result ((HasLine rows.now.held → ⊥) → waiting.new.bytes.items ≡ []) }
     ensures fits { OnOk result (HasTickRoom waiting.new) }
     ensures names { waiting.new.names ≡ waiting.old.names }
     ensures err { OnErr result (AppendsFront (K.held out.old) (K.held out.new) waiting.old.bytes.items) }
@@ -54,19 +54,19 @@ pub fn run_rows<S: Source, K: Sink>(
     requires small { budget ≤ 2 ^ 62 }
     requires none { waiting.old.bytes.items ≡ [] }
     requires names { waiting.old.names ≡ output_names (kernel_in runner.old) }
-    requires limit { reader.limit rows.old ≡ 1000000000 }
-    requires number { reader.number rows.old ≡ 1 }
-    requires inputs { length (reader.places rows.old) ≡ length (kernel_in runner.old).shape.inputs }
-    requires live { reader.is_live rows.old ≡ true }
-    requires ended { reader.has_ended rows.old ≡ true → IsAtEnd (S.left trace.old) }
+    requires limit { rows.old.limit ≡ 1000000000 }
+    requires number { rows.old.given ≡ 0 }
+    requires inputs { length (rows.old.places) ≡ length (kernel_in runner.old).shape.inputs }
+    requires live { rows.old.live ≡ true }
+    requires ended { rows.old.ended ≡ true → IsAtEnd (S.left trace.old) }
     ensures own { IsOwn result → IfSome (S.left trace.old)
-        (λ x. Given (report_rest (kernel_in runner.old) budget (reader.places rows.old) (reader.held rows.old ++ x)) result (K.held out.old) (K.held out.new)) }
+        (λ x. Given (report_rest (kernel_in runner.old) budget rows.old x) result (K.held out.old) (K.held out.new)) }
     ensures read { result ≡ Status.ReadFault → Fell (S.faults trace.old) (S.faults trace.new) (S.down trace.new)
         × ((bytes : List ℕ) × Appends (K.held out.old) (K.held out.new) bytes
         × IfTold (S.left trace.old) (S.left trace.new) (Led (kernel_in runner.old) budget rows.old bytes)) }
     ensures write { result ≡ Status.WriteFault → Fell (K.faults out.old) (K.faults out.new) (K.down out.new)
         × IfSome (S.left trace.old) (λ x. AppendsFront (K.held out.old) (K.held out.new)
-        (report_rest (kernel_in runner.old) budget (reader.places rows.old) (reader.held rows.old ++ x)).bytes) }
+        (report_rest (kernel_in runner.old) budget rows.old x).bytes) }
     ensures memory { result ≢ Status.NoMemory }
     ensures usage { result ≢ Status.Usage }
 {
@@ -101,9 +101,9 @@ pub fn run_rows<S: Source, K: Sink>(
 // Reads the header, for inputs of these names.
 fn start_rows<S: Source>(alloc: Global, trace: &mut S, inputs: &Labels) -> Result<Rows, Unread>
     requires { length inputs.now ≤ 64 }
-    ensures ok { IfOk result (reader.Started inputs.now 1000000000 (S.left trace.old) (S.left trace.new)) }
+    ensures ok { IfOk result (Started inputs.now (S.left trace.old) (S.left trace.new)) }
     ensures err { IfErr result (UnreadSays inputs.now (S.left trace.old) (S.left trace.new)) }
-    ensures ended { IfOk result (λ r. reader.has_ended r ≡ true → IsAtEnd (S.left trace.new)) }
+    ensures ended { IfOk result (λ r. r.ended ≡ true → IsAtEnd (S.left trace.new)) }
     ensures later { S.faults trace.old ≤ S.faults trace.new }
     ensures fell { result ≡ Err Unread.Failed → Fell (S.faults trace.old) (S.faults trace.new) (S.down trace.new) }
 {

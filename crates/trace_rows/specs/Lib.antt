@@ -5,3 +5,4 @@ pub mod Words
 pub mod Trace
 pub mod Report
 pub mod Reader
+pub mod Shown

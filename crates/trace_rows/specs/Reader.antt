@@ -1,100 +1,103 @@
--- What a reader of rows holds, and what its calls say.
-use Rattle.std.specs.Prelude.{◌≡◌, ℕ, ◌+◌, ◌<◌, Bool, true, false, List, [], ◌∷◌, ◌++◌, length, ℤ, Option, Some, None, Result, Ok, Err}
-use Rattle.std.specs.List.{position_or_len}
-use Rattle.trace_rows.specs.Calls.{IfTold}
-use Rattle.trace_rows.specs.Lines.{is_newline, lines_of, whole_lines}
-use Rattle.trace_rows.specs.Trace.{Row, header_at, row_at}
+-- Where a reader of rows stands, and what its calls say.
+use Rattle.std.specs.Prelude.{◌≡◌, ℕ, ◌+◌, ◌<◌, Bool, true, false, List, [], ◌++◌, length, ℤ, Option, None, Some, Result, Ok, Err}
+use Rattle.std.specs.List.{before_first, after_first, position_or_len}
+use Rattle.std.specs.Io.KnownBytes.{Consumes}
 use Rattle.trace_rows.specs.declared.fault.Next.{Next}
 use Rattle.trace_rows.specs.declared.fault.Next.TheVariants as next
 use Rattle.trace_rows.specs.declared.fault.RowFault.{RowFault}
 use Rattle.trace_rows.specs.declared.fault.RowFault.TheVariants as fault
-use Rattle.trace_rows.specs.declared.reader.Rows.{Rows}
+use Rattle.trace_rows.specs.Lines.{is_newline, lines_of}
+use Rattle.trace_rows.specs.Trace.{Row, Trace, header_at, row_at, rows_from, stop, onto, trace_of}
 
--- where each input stands in the header
-abbrev pub places : Rows → List ℕ
-places r = r.columns.items
+pub record Reader : Type 0 where
+  -- the bytes that were read and aren't taken yet
+  pub held : List ℕ
+  -- the source has told its end
+  pub ended : Bool
+  -- the place of each input in the header
+  pub places : List ℕ
+  -- the most rows, and the rows so far
+  pub limit : ℕ
+  pub given : ℕ
+  -- a further row may be asked for
+  pub live : Bool
 
--- the most rows, and the number of the next line
-abbrev pub limit : Rows → ℕ
-limit r = r.most
+-- ---- bytes
 
-abbrev pub number : Rows → ℕ
-number r = r.next
-
--- the bytes that were read and aren't taken yet
-abbrev pub held : Rows → List ℕ
-held r = r.bytes.items
-
--- the source has told its end
-abbrev pub has_ended : Rows → Bool
-has_ended r = r.ended
-
--- there may be a further row
-abbrev pub is_live : Rows → Bool
-is_live r = r.live
-
--- a whole line stands there
+-- a whole line is there
 abbrev pub HasLine : List ℕ → Type 0
 HasLine bytes = position_or_len is_newline bytes < length bytes
 
--- these lines of the text are done, these bytes of it are held, and these are left
-pub record At (text left held : List ℕ) (ended : Bool) (done : List (List ℕ)) : Type 0 where
-  pub lines : lines_of text ≡ done ++ lines_of (held ++ left)
-  pub whole : ended ≡ false → (given : List ℕ) × (text ≡ given ++ left) × ((more : List ℕ) → whole_lines (given ++ more) ≡ done ++ whole_lines (held ++ more))
+-- the bytes of the first line, as far as they came
+abbrev pub first_line : List ℕ → List ℕ
+first_line bytes = before_first is_newline bytes
 
--- wherever the reader was in a text, it is behind these lines more now
-abbrev pub Passes : Rows → Rows → List (List ℕ) → List ℕ → List ℕ → Type 0
-Passes old new lines left_old left_new =
-    (text : List ℕ) (done : List (List ℕ)) → At text left_old (held old) (has_ended old) done → At text left_new (held new) (has_ended new) (done ++ lines)
+-- bytes came from a source, behind those that were held
+pub record Came (held_old held_new : List ℕ) (left_old left_new : Option (List ℕ)) : Type 0 where
+  pub bytes : List ℕ
+  pub held : held_new ≡ held_old ++ bytes
+  pub source : Consumes left_old left_new bytes
 
--- wherever the reader was in a text, no line more has come whole
-abbrev pub Stays : Rows → List ℕ → List ℕ → Type 0
-Stays old left_old left_new =
-    (text : List ℕ) (done : List (List ℕ)) → At text left_old (held old) (has_ended old) done → (given : List ℕ) × (text ≡ given ++ left_new) × (whole_lines given ≡ done)
+-- of what was held and came, the first line was taken; the source has told its end where byte 10 isn't behind it
+pub record Takes (line held_old held_new : List ℕ) (ended : Bool) (left_old left_new : Option (List ℕ)) : Type 0 where
+  pub bytes : List ℕ
+  pub came : Came held_old bytes left_old left_new
+  pub some : 0 < length bytes
+  pub line_is : line ≡ first_line bytes
+  pub rest : held_new ≡ after_first is_newline bytes
+  pub whole : ended ≡ false → HasLine bytes
 
--- the next line stops the reader
-abbrev pub StopsAt : RowFault → Rows → List ℕ → Type 0
-StopsAt f old left =
-    (line : List ℕ) × (lines : List (List ℕ)) × (lines_of (held old ++ left) ≡ line ∷ lines) × (row_at (limit old) (places old) (number old) line ≡ Err f)
+-- no whole line was held, and none came
+pub record Waits (held_old held_new : List ℕ) (ended_old ended_new : Bool) (left_old left_new : Option (List ℕ)) : Type 0 where
+  pub came : Came held_old held_new left_old left_new
+  pub none : HasLine held_new → ⊥
+  pub was : ended_old ≡ false
+  pub is : ended_new ≡ false
 
--- the header is read
-pub record Started (inputs : List (List ℕ)) (most : ℕ) (left_old left_new : Option (List ℕ)) (r : Rows) : Type 0 where
-  pub header : List ℕ
-  pub is : header_at inputs header ≡ Ok (places r)
-  pub limit : limit r ≡ most
-  pub number : number r ≡ 1
-  pub live : is_live r ≡ true
-  pub at : IfTold left_old left_new (λ x y. At x y (held r) (has_ended r) (header ∷ []))
+-- ---- the header
 
--- there is no header, or the first line is none
-abbrev pub HasNoHeader : List (List ℕ) → RowFault → List (List ℕ) → Type 0
-HasNoHeader inputs f [] = f ≡ fault.Bad
-HasNoHeader inputs f (line ∷ lines) = header_at inputs line ≡ Err f
+-- what the first call says of the bytes
+abbrev pub StartTakes : List (List ℕ) → Option (List ℕ) → Option (List ℕ) → Result Reader RowFault → Type 0
+StartTakes inputs left_old left_new (Ok r) =
+    (header : List ℕ) × (header_at inputs header ≡ Ok r.places) × Takes header [] r.held r.ended left_old left_new
+StartTakes inputs left_old left_new (Err fault.ReadFault) = (held : List ℕ) × Waits [] held false false left_old left_new
+StartTakes inputs left_old left_new (Err f) = Unit {0}
 
--- why no reader is made. Where the source failed, no line has come whole
-abbrev pub NotStarted : List (List ℕ) → Option (List ℕ) → Option (List ℕ) → RowFault → Type 0
-NotStarted inputs left_old left_new fault.Bad = IfTold left_old left_new (λ x y. HasNoHeader inputs fault.Bad (lines_of x))
-NotStarted inputs left_old left_new fault.Long = IfTold left_old left_new (λ x y. HasNoHeader inputs fault.Long (lines_of x))
-NotStarted inputs left_old left_new fault.Many = ⊥
-NotStarted inputs left_old left_new fault.ReadFault = IfTold left_old left_new (λ x y. (given : List ℕ) × (x ≡ given ++ y) × (whole_lines given ≡ []))
-NotStarted inputs left_old left_new fault.OutOfMemory = Unit {0}
+-- the trace from where a reader stands, of the bytes that are left
+abbrev pub ahead : Reader → List ℕ → Trace
+ahead r left = rows_from r.limit r.places (r.given + 1) (lines_of (r.held ++ left))
 
--- the next line was a row, and gave these values
-pub record Gave (old new : Rows) (left_old left_new : Option (List ℕ)) (row : Row) : Type 0 where
-  pub line : List ℕ
-  pub is : row_at (limit old) (places old) (number old) line ≡ Ok row
-  pub limit : limit new ≡ limit old
-  pub places : places new ≡ places old
-  pub number : number new ≡ number old + 1
-  pub passes : IfTold left_old left_new (Passes old new (line ∷ []))
+-- what the first call says of the trace
+abbrev pub StartSays : List (List ℕ) → ℕ → Result Reader RowFault → List ℕ → List ℕ → Type 0
+StartSays inputs limit (Ok r) before now = trace_of inputs limit before ≡ ahead r now
+StartSays inputs limit (Err fault.Bad) before now = trace_of inputs limit before ≡ stop (Some fault.Bad) 0
+StartSays inputs limit (Err fault.Long) before now = trace_of inputs limit before ≡ stop (Some fault.Long) 0
+StartSays inputs limit (Err fault.Many) before now = ⊥
+StartSays inputs limit (Err fault.ReadFault) before now = Unit {0}
+StartSays inputs limit (Err fault.OutOfMemory) before now = before ≡ now
 
--- what a call that asks for the next row says; it reads only where no whole line is held
-abbrev pub NextSays : Rows → Rows → Option (List ℕ) → Option (List ℕ) → Row → Row → Result Next RowFault → Type 0
-NextSays old new left_old left_new row_old row_new (Ok next.Row) = Gave old new left_old left_new row_new × (is_live new ≡ true)
-NextSays old new left_old left_new row_old row_new (Ok next.End) =
-    IfTold left_old left_new (λ x y. lines_of (held old ++ x) ≡ []) × (row_new ≡ row_old) × (is_live new ≡ false)
-NextSays old new left_old left_new row_old row_new (Err fault.ReadFault) =
-    (HasLine (held old) → ⊥) × IfTold left_old left_new (Stays old) × (row_new ≡ row_old) × (is_live new ≡ false)
-NextSays old new left_old left_new row_old row_new (Err fault.OutOfMemory) = ⊥
-NextSays old new left_old left_new row_old row_new (Err f) =
-    IfTold left_old left_new (λ x y. StopsAt f old x) × (row_new ≡ row_old) × (is_live new ≡ false)
+-- ---- rows
+
+-- what a call that asks for the next row says of the bytes
+abbrev pub NextTakes : Reader → Reader → Row → Option (List ℕ) → Option (List ℕ) → Result Next RowFault → Type 0
+NextTakes old new row left_old left_new (Ok next.Row) =
+    (line : List ℕ) × (row_at old.limit old.places (old.given + 1) line ≡ Ok row) × Takes line old.held new.held new.ended left_old left_new
+NextTakes old new row left_old left_new (Ok next.End) = Unit {0}
+NextTakes old new row left_old left_new (Err fault.ReadFault) = Waits old.held new.held old.ended new.ended left_old left_new
+NextTakes old new row left_old left_new (Err f) = Unit {0}
+
+-- what a call that asks for the next row says of the trace
+abbrev pub NextSays : Reader → Reader → Row → Result Next RowFault → List ℕ → List ℕ → Type 0
+NextSays old new row (Ok next.Row) before now = ahead old before ≡ onto (Ok row) (old.given + 1) (ahead new now)
+NextSays old new row (Ok next.End) before now = ahead old before ≡ stop None (old.given + 1)
+NextSays old new row (Err fault.Bad) before now = ahead old before ≡ stop (Some fault.Bad) (old.given + 1)
+NextSays old new row (Err fault.Long) before now = ahead old before ≡ stop (Some fault.Long) (old.given + 1)
+NextSays old new row (Err fault.Many) before now = ahead old before ≡ stop (Some fault.Many) (old.given + 1)
+NextSays old new row (Err fault.ReadFault) before now = Unit {0}
+NextSays old new row (Err fault.OutOfMemory) before now = ⊥
+
+-- a row more was given, or nothing is given any more
+abbrev pub Goes : Reader → Reader → Row → Row → Result Next RowFault → Type 0
+Goes old new row_old row_new (Ok next.Row) = (old.given < old.limit) × (new.given ≡ old.given + 1) × (new.live ≡ true)
+Goes old new row_old row_new (Ok next.End) = (row_new ≡ row_old) × (new.live ≡ false)
+Goes old new row_old row_new (Err f) = (row_new ≡ row_old) × (new.live ≡ false)

@@ -3,8 +3,8 @@
 
 mod fault;
 mod printing;
-mod reader;
+mod rows;
 
 pub use fault::{Next, RowFault};
 pub use printing::{line, line_room};
-pub use reader::Rows;
+pub use rows::Rows;

@@ -1,17 +1,16 @@
 use Rattle.std.proofs.Common.{List, ℕ, sym, ap, ◌∙◌, refl, length}
-use Rattle.trace_rows.specs.Reader as reader
 use Rattle.forec_engine.specs.Following.{kernel_in}
 use Rattle.forec_engine.specs.Report.{trace_report}
 use Rattle.forec_engine.specs.ReportLines.{row_line}
 use Rattle.forec_engine.specs.declared.status.Status.TheVariants as status
 use Rattle.forec_engine.proofs.Running.{fell_since}
 use Rattle.forec_engine.proofs.TickLines.{inputs_each}
-use Rattle.forec_engine.proofs.Heading.{head_failed, head_fault, head_own, head_front, head_wanted, line_own, line_front, places_each}
+use Rattle.forec_engine.proofs.Heading.{head_failed, head_fault, head_own, head_front, head_wanted, line_own, line_front}
 use Rattle.forec_engine.proofs.ticks.run.Goals as goal
 
 pub run_rows-requires-clause-inputs : goal.run_rows-requires-clause-inputs
 run_rows-requires-clause-inputs g c =
-    places_each c.args.inputs.now c.in-Ok.ensures.ok.header (reader.places c.in-Ok.rows) c.in-Ok.ensures.ok.is ∙ ap length c.requires.inputs ∙ inputs_each (kernel_in c.args.runner.now)
+    c.in-Ok.ensures.ok.each ∙ ap length c.requires.inputs ∙ inputs_each (kernel_in c.args.runner.now)
 
 pub returns-in-Ok-clause-own : goal.returns-in-Ok-clause-own
 returns-in-Ok-clause-own g c = λ own.

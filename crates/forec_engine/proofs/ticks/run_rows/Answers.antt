@@ -1,4 +1,4 @@
-use Rattle.std.proofs.Common.{◌≡◌, ◌-◌, List, ℕ, length, sym, ap, subst, ◌∙◌, refl, arith}
+use Rattle.std.proofs.Common.{◌≡◌, ◌+◌, ◌-◌, List, ℕ, length, sym, ap, subst, ◌∙◌, refl, arith}
 use Rattle.forec_kernel.specs.Ticks.{State, tick, goes_on}
 use Rattle.core_host.specs.Runs.{code_of}
 use Rattle.forec_engine.specs.Following.{Follows, kernel_in}
@@ -6,7 +6,7 @@ use Rattle.forec_engine.specs.Report.{Report, tick_lines}
 use Rattle.forec_engine.specs.ReportLines.{rows_line, row_line}
 use Rattle.forec_engine.specs.WaitingRoom.{Gains}
 use Rattle.forec_engine.specs.declared.status.Status.TheVariants as status
-use Rattle.forec_engine.proofs.Running.{Run, Stands_at, Reached, reached_start, reached_sent, reached_more, row_within, at_end, at_fault, own_all, front_all, front_now, stop_own, stop_front, failed, fell_since, stop_status}
+use Rattle.forec_engine.proofs.Running.{Run, Stands_at, Reached, reached_start, reached_sent, reached_more, row_within, waited, at_end, at_fault, own_all, front_all, front_now, stop_own, stop_front, failed, fell_since, stop_status}
 use Rattle.forec_engine.proofs.TickLines.{put_tick_lines, names_each}
 use Rattle.forec_engine.proofs.ticks.run_rows.Goals as goal
 
@@ -15,7 +15,7 @@ ticks-init g c =
     let run : Run = record { kernel = kernel_in c.args.runner.now; budget = c.args.budget; first = c.args.rows.now } in
     record {
       reached = reached_start run (λ s. Follows s c.args.runner.now) (g.S.Source.left c.args.trace.now) (g.K.Sink.held c.args.out.now) c.args.waiting.now.bytes.items c.requires.follows
-          (record { limit = c.requires.limit; places = refl; number = c.requires.number }) c.requires.none;
+          (record { limit = c.requires.limit; places = refl; number = ap (λ n. n + 1) c.requires.number }) c.requires.none;
       kernel = refl;
       live = c.requires.follows.live;
       reads = c.requires.live;
@@ -69,7 +69,7 @@ returns-in-Failed-clause-read g c = λ _.
     let values = c.next_row.new.self.row.items in
     (
       fell_since _ (g.S.Source.faults c.ticks.trace) _ _ i.read (c.in-Failed.ensures.fell refl),
-      failed run F now new l0 l l' h0 h unsent row values r c.in-Failed.ensures.next (c.in_default.ensures.all c.in-Failed.ensures.next.0),
+      failed run F now new l0 l l' h0 h unsent row r c.in-Failed.ensures.next (c.in_default.ensures.all (waited now.held new.held now.ended new.ended l l' c.in-Failed.ensures.next)),
     )
 
 pub returns-in-End-clause-own : goal.returns-in-End-clause-own
@@ -190,7 +190,7 @@ ticks-preserved g c =
       live = c.tick-outcome.ensures.live ∙ ap goes_on c.in-Paused.is;
       reads = c.in-Row.ensures.reads refl;
       low = omega arith;
-      high = (let w = row_within run row now _ _ r.stands gave.is in omega (arith, w));
+      high = (let w = row_within run row now r.stands gave.within in omega (arith, w));
       names = put.names ∙ c.send_due.ensures.names ∙ i.names;
       ended = c.next_row.ensures.ended;
       read = omega (arith, i.read, c.next_row.ensures.later);

@@ -1,7 +1,6 @@
 use Rattle.std.proofs.Common.{◌≡◌, ◌≤◌, ◌-◌, true}
 use Rattle.std.specs.Io.KnownBytes.{IsAtEnd}
 use Rattle.core_host.specs.Runs.{code_of, is_live}
-use Rattle.trace_rows.specs.Reader as reader
 use Rattle.forec_engine.specs.Following.{Follows, kernel_in}
 use Rattle.forec_engine.proofs.Running.{Reached}
 use Rattle.forec_engine.proofs.ticks.run_rows.Given as goal
@@ -16,11 +15,11 @@ invariant-ticks g l =
           (λ s. Follows s l.runner) l.rows (left l.fn.trace) (left l.trace) (held l.fn.out) (held l.out) l.waiting.bytes.items l.row;
       kernel : kernel_in l.runner ≡ kernel;
       live : is_live l.runner.host ≡ true;
-      reads : reader.is_live l.rows ≡ true;
+      reads : l.rows.live ≡ true;
       low : 1 ≤ l.row;
       high : l.row ≤ 1000000001;
       names : l.waiting.names ≡ l.fn.waiting.names;
-      ended : reader.has_ended l.rows ≡ true → IsAtEnd (left l.trace);
+      ended : l.rows.ended ≡ true → IsAtEnd (left l.trace);
       read : g.S.Source.faults l.fn.trace ≤ g.S.Source.faults l.trace;
       written : g.K.Sink.faults l.fn.out ≤ g.K.Sink.faults l.out;
     }
