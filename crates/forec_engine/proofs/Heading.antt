@@ -67,8 +67,7 @@ head_wanted k b inputs r l l' l2 h0 h2 e n led =
       led.0,
       led.1,
       told_both l l' l2 _ (Led k b r led.0) (PrintedFor k b led.0) (takes_told n.header [] r.held r.ended l l' n.takes) led.2 (λ x y u cut m.
-          let c = cut m.0 in
-          (
+          let c = cut m.0 in (
             n.header ++ 10 ∷ m.1,
             c.bytes ∙ ap (λ w. n.header ++ 10 ∷ w) m.2 ∙ sym (append_assoc n.header (10 ∷ m.1) u),
             ap (printed_for k b) (whole_lines-line n.header m.1 c.none) ∙ printed_rows k b n.header r.places (whole_lines m.1) m.3 is m.4 ∙ ap Some m.5,

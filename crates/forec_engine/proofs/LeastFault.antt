@@ -29,6 +29,7 @@ earlier g f h = on_line (nat_lt g.place.line f.place.line) refl
     on_column : (b : Bool) → nat_lt g.place.line f.place.line ≡ false → nat_lt g.place.column f.place.column ≡ b → Earlier g f
     on_column true d e = by_column (grind (arith, nat_tests)) (ltb-true g.place.column f.place.column e)
     on_column false d e = by_rule (grind (arith, nat_tests)) (grind (arith, nat_tests)) (grind (arith, nat_tests))
+
     on_line : (b : Bool) → nat_lt g.place.line f.place.line ≡ b → Earlier g f
     on_line true e = by_line (ltb-true g.place.line f.place.line e)
     on_line false e = on_column (nat_lt g.place.column f.place.column) e refl

@@ -3,7 +3,6 @@ mod Digits
 mod Endings
 mod Heading
 mod Ranges
-mod Reading
 mod Reports
 mod Running
 mod Splitting

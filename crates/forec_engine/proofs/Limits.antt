@@ -168,4 +168,3 @@ module _ (text : Text) (names : List (List ℕ)) where
       by : Kept kernel Threads → WithinLimits kernel ⊎ Passes
       by (fits x) = decide_1 x
       by (over x) = inr (passes Threads x (before_threads))
-

@@ -65,7 +65,15 @@ fn start<S: Source, K: Sink>(
     let Ok(mut runner) = Runner::load(alloc, kernel, code) else {
         return Status::NoMemory;
     };
-    run(alloc, &inputs, &mut runner, budget, &mut waiting, trace, out)
+    run(
+        alloc,
+        &inputs,
+        &mut runner,
+        budget,
+        &mut waiting,
+        trace,
+        out,
+    )
 }
 
 // Says why a text is refused.

@@ -74,11 +74,7 @@ fn of_check(fault: CheckFault) -> JudgeFault
     }
 }
 
-fn judge_program(
-    alloc: Global,
-    program: Program,
-    names: &Labels,
-) -> Result<Accepted, JudgeFault>
+fn judge_program(alloc: Global, program: Program, names: &Labels) -> Result<Accepted, JudgeFault>
     requires distinct { Distinct names.now }
     requires below { IdsBelow (tree.program program) (length names.now) }
     ensures { Says (OnProgram (tree.program program) names.now) result }
@@ -89,11 +85,7 @@ fn judge_program(
     }
 }
 
-fn judge_tokens(
-    alloc: Global,
-    tokens: &[Token],
-    names: &Labels,
-) -> Result<Accepted, JudgeFault>
+fn judge_tokens(alloc: Global, tokens: &[Token], names: &Labels) -> Result<Accepted, JudgeFault>
     requires few { length tokens.now ≤ 200000 }
     requires distinct { AreDistinct names.now }
     requires numbered { All (IsNumbered names.now) tokens.now }

@@ -75,7 +75,12 @@ fn read_budget(word: &str) -> Option<u64>
     Some(value as u64)
 }
 
-fn run_with<'a>(word: &str, program: &'a str, option: &str, value: &str) -> Option<(Command, &'a str)>
+fn run_with<'a>(
+    word: &str,
+    program: &'a str,
+    option: &str,
+    value: &str,
+) -> Option<(Command, &'a str)>
     ensures command { option_map (λ r. (r.0, r.1.now)) result ≡ command_of (word.now ∷ program.now ∷ option.now ∷ value.now ∷ []) }
     ensures small { IfSome result (λ r. HasSmallBudget r.0) }
 {

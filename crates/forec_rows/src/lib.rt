@@ -30,9 +30,11 @@ mod tests {
     const DIFFERENCE: &[u8] =
         b"input int a, b; output int o = 0; void main(void) { while (1) { o = a - b; pause; } }";
 
-    const NUMBERS: &[u8] = b"output int o = 0; void main(void) { o = -2147483648 / -1; pause; o = 1 << 33; pause; o = -7 / 2; pause; o = -7 % 2; }";
+    const NUMBERS: &[u8] =
+        b"output int o = 0; void main(void) { o = -2147483648 / -1; pause; o = 1 << 33; pause; o = -7 / 2; pause; o = -7 % 2; }";
 
-    const FACTORIAL: &[u8] = b"int f(int n) { int r = 1; for (int i = 2; i <= n; i++) #20 { r *= i; } return r; } output int o = 0; void main(void) { o = f(13); }";
+    const FACTORIAL: &[u8] =
+        b"int f(int n) { int r = 1; for (int i = 2; i <= n; i++) #20 { r *= i; } return r; } output int o = 0; void main(void) { o = f(13); }";
 
     // How streams behave: the most bytes of a read and of a write, and the numbers of the calls that fail.
     #[derive(Drop)]
@@ -110,12 +112,7 @@ mod tests {
             ),
             (COUNTER, b"", b"row 0 bad\n", Status::Trace),
             (COUNTER, b"\n", b"rows 0\n", Status::Done),
-            (
-                COUNTER,
-                b"\n \n",
-                b"tick 1 o=1\nrows 1\n",
-                Status::Done,
-            ),
+            (COUNTER, b"\n \n", b"tick 1 o=1\nrows 1\n", Status::Done),
             (
                 COUNTER,
                 b"\n\n ",
@@ -123,12 +120,7 @@ mod tests {
                 Status::Done,
             ),
             (COUNTER, b"a\n", b"row 0 bad\n", Status::Trace),
-            (
-                COUNTER,
-                b"\n\n1",
-                b"tick 1 o=1\nrow 2 bad\n",
-                Status::Trace,
-            ),
+            (COUNTER, b"\n\n1", b"tick 1 o=1\nrow 2 bad\n", Status::Trace),
             (TURNS, b"\n\n", b"trap 1 1:48 turns\n", Status::Trapped),
             (
                 DIFFERENCE,
@@ -236,12 +228,7 @@ mod tests {
                 Status::Done,
             ),
             (COUNTER, "6", b"over 1 budget 6\n", Status::Over),
-            (
-                GROWS,
-                "8",
-                b"tick 1 o=1\nover 2 budget 8\n",
-                Status::Over,
-            ),
+            (GROWS, "8", b"tick 1 o=1\nover 2 budget 8\n", Status::Over),
             (
                 COUNTER,
                 "4611686018427387904",
@@ -261,7 +248,14 @@ mod tests {
     #[test]
     fn lists_a_code(rt: HostRuntime) -> Result<(), Fail> {
         let alloc = rt.alloc();
-        let end = run(&rt, alloc, &["code", "P"], COUNTER, b"", single(alloc, 1, 0)?)?;
+        let end = run(
+            &rt,
+            alloc,
+            &["code", "P"],
+            COUNTER,
+            b"",
+            single(alloc, 1, 0)?,
+        )?;
         assert!(rt; end.held.starts_with(b"thread 0\n"));
         assert_eq!(rt; end.status, Status::Done);
         Ok(())
@@ -287,7 +281,14 @@ mod tests {
             assert_eq!(rt; end.held.as_slice(), want);
             assert_eq!(rt; end.status, status);
         }
-        let end = run(&rt, alloc, &["check", "P"], COUNTER, b"", single(alloc, 0, 4)?)?;
+        let end = run(
+            &rt,
+            alloc,
+            &["check", "P"],
+            COUNTER,
+            b"",
+            single(alloc, 0, 4)?,
+        )?;
         assert_eq!(rt; end.held.as_slice(), b"ok ".as_slice());
         assert_eq!(rt; end.status, Status::WriteFault);
         Ok(())
@@ -309,7 +310,14 @@ mod tests {
         shows_usage(&rt, alloc, &["run"])?;
         shows_usage(&rt, alloc, &["ran", "P"])?;
         shows_usage(&rt, alloc, &["run", "P", "P"])?;
-        for budget in ["0", "4611686018427387905", "00000000000000000007", "7 ", "-7", ""] {
+        for budget in [
+            "0",
+            "4611686018427387905",
+            "00000000000000000007",
+            "7 ",
+            "-7",
+            "",
+        ] {
             shows_usage(&rt, alloc, &["run", "P", "--budget", budget])?;
         }
         shows_usage(&rt, alloc, &["run", "P", "--budget"])?;

@@ -66,8 +66,7 @@ returns-in-Failed-clause-read g c = λ _.
     let r : Reached run F now l0 l h0 h unsent row = reached_sent run F now l0 l h0 (g.K.Sink.held c.ticks.out) h c.ticks.waiting.bytes.items unsent row i.reached c.in_default.ensures.ok in
     let new = c.next_row.new.rows in
     let l' = g.S.Source.left c.next_row.new.trace in
-    let values = c.next_row.new.self.row.items in
-    (
+    let values = c.next_row.new.self.row.items in (
       fell_since _ (g.S.Source.faults c.ticks.trace) _ _ i.read (c.in-Failed.ensures.fell refl),
       failed run F now new l0 l l' h0 h unsent row r c.in-Failed.ensures.next (c.in_default.ensures.all (waited now.held new.held now.ended new.ended l l' c.in-Failed.ensures.next)),
     )
