@@ -1,0 +1,3 @@
+mod Digits
+mod Splitting
+mod Worked

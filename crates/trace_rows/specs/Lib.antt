@@ -1,0 +1,7 @@
+pub mod Calls
+pub mod Lines
+pub mod Numbers
+pub mod Reader
+pub mod Report
+pub mod Trace
+pub mod Words

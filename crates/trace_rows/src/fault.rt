@@ -1,0 +1,43 @@
+use forec_base::OutOfMemory;
+use std::alloc::AllocError;
+use thiserror::Error;
+
+/// What a call that asks for the next row of a trace gives.
+#[derive(Clone, Copy, Debug, PartialEq, Eq)]
+pub enum Next {
+    /// The next row.
+    Row,
+    /// The trace has no further line.
+    End,
+}
+
+/// Why no row is given. Where several causes stand together, `Many` comes before `Long` and `Long` before `Bad`.
+#[derive(Clone, Copy, Debug, PartialEq, Eq, Error)]
+pub enum RowFault {
+    /// The next line is no header or no row, or there is no line for the header.
+    #[error("the line is no row")]
+    Bad,
+    /// The next line has more than 8,192 bytes.
+    #[error("the line is too long")]
+    Long,
+    /// As many rows as there may be were given, and a further line begins.
+    #[error("there are too many rows")]
+    Many,
+    /// The source failed.
+    #[error("the trace could not be read")]
+    ReadFault,
+    #[error("there is no memory left")]
+    OutOfMemory,
+}
+
+impl From<OutOfMemory> for RowFault {
+    fn from(_: OutOfMemory) -> Self {
+        RowFault::OutOfMemory
+    }
+}
+
+impl From<AllocError> for RowFault {
+    fn from(_: AllocError) -> Self {
+        RowFault::OutOfMemory
+    }
+}
