@@ -53,9 +53,13 @@ numbers_of (word ∷ words) = option_and_then (λ n. option_map (λ ns. n ∷ ns
 abbrev pub arranged : List ℕ → List ℤ → Row
 arranged places numbers = map (λ place. slice_index_or numbers place (pos 0)) places
 
+-- the same, where they are so many
+abbrev pub numbers_in : ℕ → List (List ℕ) → Option (List ℤ)
+numbers_in count words = if length words == count then numbers_of words else None
+
 -- the row that words are, where they are as many numbers as there are inputs
 abbrev pub row_of : List ℕ → List (List ℕ) → Option Row
-row_of places words = if length words == length places then option_map (arranged places) (numbers_of words) else None
+row_of places words = option_map (arranged places) (numbers_in (length places) words)
 
 abbrev pub or_bad : Option Row → Result Row RowFault
 or_bad (Some row) = Ok row

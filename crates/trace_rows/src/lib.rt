@@ -3,6 +3,7 @@
 
 mod fault;
 mod numbers;
+mod values;
 mod words;
 
 pub use fault::{Next, RowFault};
