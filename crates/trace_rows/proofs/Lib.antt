@@ -1,4 +1,5 @@
 mod Digits
 mod Splitting
+mod HeaderWords
 mod LineNumbers
 mod Worked

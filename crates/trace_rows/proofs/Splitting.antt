@@ -1,7 +1,7 @@
 -- Taking the first word off a line.
-use Rattle.std.proofs.Common.{◌≡◌, ◌⊎◌, inl, inr, ℕ, ◌+◌, ◌<◌, ◌≤◌, Bool, true, false, not, List, [], ◌∷◌, length, filter, take, drop, get_or, refl, sym, ap, subst, ◌∙◌, arith}
-use Rattle.std.specs.List.{slice_split, prefix_len, position_or_len, All}
-use Rattle.std.proofs.lemmas.Bool.{cases_lt, not-false}
+use Rattle.std.proofs.Common.{◌≡◌, ◌⊎◌, inl, inr, ℕ, ◌+◌, ◌<◌, ◌≤◌, Bool, true, false, cond, not, nat_lt, Option, Some, None, List, [], ◌∷◌, length, filter, take, drop, get_or, refl, sym, ap, subst, ◌∙◌, arith}
+use Rattle.std.specs.List.{slice_split, prefix_len, position, position_or_len, All}
+use Rattle.std.proofs.lemmas.Bool.{cases_lt, ltb-false}
 use Rattle.std.proofs.lemmas.List.{take_all, drop_all, drop_more, length-take}
 use Rattle.std.proofs.lemmas.List.Elements.{All-from_get_or}
 use Rattle.std.proofs.lemmas.List.Splits.{slice_split-cons_yes, slice_split_first, slice_split_none}
@@ -53,3 +53,24 @@ words_of-word line n some begins e =
           ∙ ap (λ ws. line ∷ ws) (sym words_of-none)
           ∙ sym (ap (λ w. w ∷ words_of (drop first line)) (take_all first line (omega arith)) ∙ ap (λ r. line ∷ words_of r) (drop_all first line (omega arith))))
     ])
+
+by_test : {P : Type 0} (n : ℕ) (b : Bool) → cond b (Some n) None ≡ None → (b ≡ false → P) → P
+by_test n true e f = absurd cc
+by_test n false e f = f refl
+
+by_test_some : {P : Type 0} (n m : ℕ) (b : Bool) → cond b (Some n) None ≡ Some m → (n ≡ m → P) → P
+by_test_some n m true e f = f cc
+by_test_some n m false e f = absurd cc
+
+-- where the first blank stands
+pub end_some : (line : List ℕ) (at : ℕ) → position is_blank line ≡ Some at → at ≡ position_or_len is_blank line
+end_some line at e =
+    let n = position_or_len is_blank line in
+    by_test_some n at (nat_lt n (length line)) e (λ h. sym h)
+
+-- no blank stands there
+pub end_none : (line : List ℕ) → position is_blank line ≡ None → length line ≡ position_or_len is_blank line
+end_none line e =
+    let n = position_or_len is_blank line in
+    let long : n ≤ length line = prefix_len-le-length (λ b. not (is_blank b)) line in
+    by_test n (nat_lt n (length line)) e (λ h. let past : length line ≤ n = ltb-false n (length line) h in omega arith)

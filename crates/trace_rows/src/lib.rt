@@ -2,6 +2,7 @@
 #![tactic(auto)]
 
 mod fault;
+mod header;
 mod numbers;
 mod values;
 mod words;
