@@ -2,4 +2,5 @@ mod Digits
 mod Splitting
 mod HeaderWords
 mod LineNumbers
+mod Ranges
 mod Worked

@@ -1,4 +1,5 @@
 pub mod Calls
+pub mod Held
 pub mod Lines
 pub mod Numbers
 pub mod Reader

@@ -1,8 +1,11 @@
 //! The rows of a trace, out of bytes that come in any pieces, and the line of a tick.
 #![tactic(auto)]
 
+mod buffer;
 mod fault;
+mod found;
 mod header;
+mod lines;
 mod numbers;
 mod values;
 mod words;
