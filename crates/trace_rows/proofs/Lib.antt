@@ -3,4 +3,5 @@ mod Splitting
 mod HeaderWords
 mod LineNumbers
 mod Ranges
+mod Refilling
 mod Worked

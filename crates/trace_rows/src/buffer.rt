@@ -29,8 +29,8 @@ pub fn move_to_front(bytes: &mut [u8], at: usize, count: usize)
     front[..count].copy_from_slice(&back[..count]);
 }
 
-/// Reads the next bytes of a source to the place `end`, and says how many. 0 is the source's end.
-pub fn fill<S: Source>(source: &mut S, bytes: &mut [u8], end: usize) -> Result<usize, Failed>
+// Reads the next bytes of a source to the place `end`, and says how many.
+fn fill_part<S: Source>(source: &mut S, bytes: &mut [u8], end: usize) -> Result<usize, Failed>
     requires { end < length bytes.old }
     ensures front { take end bytes.new ≡ take end bytes.old }
     ensures within { IfOk result (λ n. end + n ≤ length bytes.new) }
@@ -41,4 +41,18 @@ pub fn fill<S: Source>(source: &mut S, bytes: &mut [u8], end: usize) -> Result<u
 {
     let (_, free) = bytes.split_at_mut(end);
     source.read(free)
+}
+
+/// Reads the next bytes of a source to the place `end`, and says how many. 0 is the source's end.
+pub fn fill<S: Source>(source: &mut S, bytes: &mut Vec<u8>, end: usize) -> Result<usize, Failed>
+    requires { end < length bytes.old.items }
+    ensures front { take end bytes.new.items ≡ take end bytes.old.items }
+    ensures same { length bytes.new.items ≡ length bytes.old.items }
+    ensures within { IfOk result (λ n. end + n ≤ length bytes.old.items) }
+    ensures bytes { MatchResult result
+        (λ n. Consumes (S.left source.old) (S.left source.new) (slice_range bytes.new.items end (end + n)) × (n ≡ 0 → IsAtEnd (S.left source.new)))
+        (λ _. Keeps (S.left source.old) (S.left source.new)) }
+    ensures cause { HasCause (S.faults source.old) (S.faults source.new) (S.down source.new) result }
+{
+    fill_part(source, bytes, end)
 }

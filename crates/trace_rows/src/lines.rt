@@ -86,7 +86,10 @@ impl Lines {
         ensures cause { HasCause (S.faults source.old) (S.faults source.new) (S.down source.new) result }
     {
         self.make_room();
-        let count = fill(source, &mut self.bytes, self.end)?;
+        let count = match fill(source, &mut self.bytes, self.end) {
+            Ok(count) => count,
+            Err(failed) => return Err(failed),
+        };
         self.ended = count == 0;
         self.stop = self.end + line_end(&self.bytes[self.end..self.end + count]);
         self.end += count;
