@@ -1,5 +1,5 @@
 -- What is held when a piece has come.
-use Rattle.std.proofs.Common.{◌≡◌, ℕ, ◌+◌, ◌-◌, ◌<◌, ◌≤◌, not, List, [], ◌++◌, Option, Some, None, length, take, refl, sym, ap, ◌∙◌, arith, append-nil, append_assoc}
+use Rattle.std.proofs.Common.{◌≡◌, ℕ, ◌+◌, ◌-◌, ◌<◌, ◌≤◌, not, Bool, true, false, List, [], ◌∷◌, ◌++◌, Option, Some, None, length, take, refl, sym, ap, subst, ◌∙◌, arith, append-nil, append_assoc}
 use Rattle.std.specs.List.{slice_range, position_or_len}
 use Rattle.std.specs.Io.KnownBytes.{Consumes, Keeps}
 use Rattle.std.proofs.lemmas.List.Sums.{prefix_len-le-length}
@@ -56,3 +56,16 @@ stop_more B C from end count low short within front none =
     let piece : List ℕ = slice_range C end (end + count) in
     let whole = ap (position_or_len is_newline) (held_more B C from end count low within front) ∙ position_behind is_newline w piece (no_line w none) in
     omega (arith, whole, length-range B from end short)
+
+by_first : (x : ℕ) (xs ys : List ℕ) (b : Bool) → is_newline x ≡ b → HasLine (x ∷ xs) → (HasLine xs → HasLine (xs ++ ys)) → HasLine ((x ∷ xs) ++ ys)
+by_first x xs ys true e h rest = rw e (omega arith)
+by_first x xs ys false e h rest = let low : 1 + position_or_len is_newline xs < length (x ∷ xs) = rw e at h in let more = rest (omega (arith, low)) in rw e (omega (arith, more))
+
+-- a whole line that is held stays one
+pub has_line_more : (xs ys : List ℕ) → HasLine xs → HasLine (xs ++ ys)
+has_line_more [] ys h = absurd (omega (arith, h))
+has_line_more (x ∷ xs) ys h = by_first x xs ys (is_newline x) refl h (has_line_more xs ys)
+
+-- where no whole line is held none was before
+pub none_before : (w w' : List ℕ) (a b : Option (List ℕ)) → Came w w' a b → (HasLine w' → ⊥) → HasLine w → ⊥
+none_before w w' a b came none h = none (subst HasLine (sym came.held) (has_line_more w came.bytes h))
