@@ -4,7 +4,7 @@ use Rattle.std.specs.List.{slice_range, position_or_len}
 use Rattle.std.specs.Io.KnownBytes.{Consumes, Keeps}
 use Rattle.std.proofs.lemmas.List.Sums.{prefix_len-le-length}
 use Rattle.trace_rows.specs.Lines.{is_newline}
-use Rattle.trace_rows.specs.Held.{HasLine, Came}
+use Rattle.trace_rows.specs.Reader.{HasLine, Came}
 use Rattle.trace_rows.proofs.Ranges.{length-range, range_front, range_both, position_behind}
 
 -- what stayed lost nothing

@@ -5,6 +5,7 @@ use Rattle.std.specs.List.{before_first, position_or_len}
 use Rattle.std.specs.Io.KnownBytes.{Consumes, IsAtEnd}
 use Rattle.forec_base.specs.declared.outside.Failed.{Failed}
 use Rattle.trace_rows.specs.Lines.{is_newline}
+use Rattle.trace_rows.specs.Reader.{HasLine, first_line}
 use Rattle.trace_rows.specs.Trace.{most_bytes}
 use Rattle.trace_rows.specs.declared.found.Found.{Found}
 use Rattle.trace_rows.specs.declared.found.Found.TheVariants as found
@@ -14,23 +15,15 @@ use Rattle.trace_rows.specs.declared.lines.Lines.{Lines}
 abbrev pub held : Lines → List ℕ
 held l = slice_range l.bytes.items l.at l.end
 
--- the bytes of the first line, as far as they came
-abbrev pub first_line : List ℕ → List ℕ
-first_line bytes = before_first is_newline bytes
-
--- a whole line is there
-abbrev pub HasLine : List ℕ → Type 0
-HasLine bytes = position_or_len is_newline bytes < length bytes
-
--- bytes came from a source, behind those that were held
-pub record Came (held_old held_new : List ℕ) (left_old left_new : Option (List ℕ)) : Type 0 where
-  pub bytes : List ℕ
-  pub held : held_new ≡ held_old ++ bytes
-  pub source : Consumes left_old left_new bytes
-
 -- what a call says that looks for the first line: it came, or what came of it is too long, or there is none, or the source failed
 abbrev pub Finds : List ℕ → Bool → Result Found Failed → Type 0
 Finds bytes ended (Ok found.Line) = (length (first_line bytes) ≤ most_bytes) × (0 < length bytes) × MatchBool ended (Unit {0}) (HasLine bytes)
 Finds bytes ended (Ok found.Long) = most_bytes < length (first_line bytes)
 Finds bytes ended (Ok found.End) = (bytes ≡ []) × (ended ≡ true)
 Finds bytes ended (Err f) = (HasLine bytes → ⊥) × (ended ≡ false)
+
+-- what a call says that asks whether a further line begins
+abbrev pub Begins : List ℕ → Bool → Result Bool Failed → Type 0
+Begins bytes ended (Ok true) = 0 < length bytes
+Begins bytes ended (Ok false) = (bytes ≡ []) × (ended ≡ true)
+Begins bytes ended (Err f) = (HasLine bytes → ⊥) × (ended ≡ false)

@@ -5,6 +5,7 @@ ghost use Rattle.std.specs.Io.KnownBytes.{IsAtEnd};
 ghost use Rattle.forec_base.specs.Outside.{HasCause};
 ghost use Rattle.trace_rows.specs.Calls.{Faults};
 ghost use Rattle.trace_rows.specs.Lines.{is_newline};
+ghost use Rattle.trace_rows.specs.Reader.{first_line, HasLine, Came};
 
 use crate::buffer::{fill, line_end, move_to_front};
 use crate::found::Found;
@@ -34,7 +35,7 @@ pub struct Lines {
 }
 
 impl Lines {
-    ghost use Rattle.trace_rows.specs.Held.{held, first_line, HasLine, Came, Finds};
+    ghost use Rattle.trace_rows.specs.Held.{held, Finds, Begins};
 
     /// Nothing is read yet. It takes all the memory that it ever needs.
     pub fn new(alloc: Global) -> Result<Lines, OutOfMemory>
@@ -122,6 +123,28 @@ impl Lines {
             if let Err(failed) = self.refill(source) {
                 return Err(failed);
             }
+        }
+    }
+
+    /// Whether a further line begins. A read is made only where nothing is held.
+    pub fn begins<S: Source>(&mut self, source: &mut S) -> Result<bool, Failed>
+        requires { self.old.ended ≡ true → IsAtEnd (S.left source.old) }
+        ensures came { Came (held self.old) (held self.new) (S.left source.old) (S.left source.new) }
+        ensures begins { Begins (held self.new) self.new.ended result }
+        ensures ended { self.new.ended ≡ true → IsAtEnd (S.left source.new) }
+        ensures stays { self.new.ended ≡ false → self.old.ended ≡ false }
+        ensures asks { HasLine (held self.old) → source.new ≡ source.old }
+        ensures cause { Faults (S.faults source.old) (S.faults source.new) (S.down source.new) result }
+    {
+        if self.at < self.end {
+            return Ok(true);
+        }
+        if self.ended {
+            return Ok(false);
+        }
+        match self.refill(source) {
+            Ok(()) => Ok(self.at < self.end),
+            Err(failed) => Err(failed),
         }
     }
 

@@ -1,5 +1,6 @@
 use Rattle.std.proofs.Common.{arith, ◌∙◌}
-use Rattle.trace_rows.specs.Held.{held, HasLine}
+use Rattle.trace_rows.specs.Held.{held}
+use Rattle.trace_rows.specs.Reader.{HasLine}
 use Rattle.trace_rows.proofs.Ranges.{length-range}
 use Rattle.trace_rows.proofs.Refilling.{came_both, none_before}
 use Rattle.trace_rows.proofs.lines.Lines.find.Goals as goal

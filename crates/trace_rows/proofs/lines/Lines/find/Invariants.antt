@@ -1,6 +1,7 @@
 use Rattle.std.proofs.Common.{◌≡◌, ◌+◌, ◌-◌, ◌*◌, ◌≤◌, true, false, cond, length}
 use Rattle.std.specs.Io.KnownBytes.{IsAtEnd}
-use Rattle.trace_rows.specs.Held.{held, HasLine, Came}
+use Rattle.trace_rows.specs.Held.{held}
+use Rattle.trace_rows.specs.Reader.{HasLine, Came}
 use Rattle.trace_rows.proofs.lines.Lines.find.Given as goal
 
 abbrev pub invariant-pieces : goal.invariant-pieces

@@ -1,7 +1,8 @@
 use Rattle.std.proofs.Common.{◌≡◌, ◌+◌, ◌≤◌, ◌++◌, ℕ, List, length, take, sym, ap, subst, ◌∙◌, arith, eqb-true}
 use Rattle.std.specs.List.{slice_range, position_or_len}
 use Rattle.trace_rows.specs.Lines.{is_newline}
-use Rattle.trace_rows.specs.Held.{held, HasLine}
+use Rattle.trace_rows.specs.Held.{held}
+use Rattle.trace_rows.specs.Reader.{HasLine}
 use Rattle.trace_rows.proofs.Ranges.{range_front, length-range}
 use Rattle.trace_rows.proofs.Refilling.{came_none, held_more, stop_more}
 use Rattle.trace_rows.proofs.lines.Lines.refill.Goals as goal
