@@ -4,4 +4,5 @@ mod HeaderWords
 mod LineNumbers
 mod Ranges
 mod Refilling
+mod TraceLines
 mod Worked
