@@ -1,8 +1,10 @@
 mod Digits
 mod Splitting
 mod HeaderWords
+mod Heads
 mod LineNumbers
 mod Ranges
 mod Refilling
+mod Told
 mod TraceLines
 mod Worked

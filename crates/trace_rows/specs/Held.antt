@@ -1,6 +1,5 @@
 -- What a reader of lines holds.
 use Rattle.std.specs.Prelude.{◌≡◌, ℕ, ◌<◌, ◌≤◌, Bool, true, false, List, [], ◌++◌, length, Option, Result, Ok, Err, slice_range, OnErr, OnOk}
-use Rattle.std.specs.Bool.{MatchBool}
 use Rattle.std.specs.List.{before_first, position_or_len}
 use Rattle.std.specs.Io.KnownBytes.{Consumes, IsAtEnd}
 use Rattle.forec_base.specs.declared.outside.Failed.{Failed}
@@ -17,7 +16,7 @@ held l = slice_range l.bytes.items l.at l.end
 
 -- what a call says that looks for the first line: it came, or what came of it is too long, or there is none, or the source failed
 abbrev pub Finds : List ℕ → Bool → Result Found Failed → Type 0
-Finds bytes ended (Ok found.Line) = (length (first_line bytes) ≤ most_bytes) × (0 < length bytes) × MatchBool ended (Unit {0}) (HasLine bytes)
+Finds bytes ended (Ok found.Line) = (length (first_line bytes) ≤ most_bytes) × (0 < length bytes) × (ended ≡ false → HasLine bytes)
 Finds bytes ended (Ok found.Long) = most_bytes < length (first_line bytes)
 Finds bytes ended (Ok found.End) = (bytes ≡ []) × (ended ≡ true)
 Finds bytes ended (Err f) = (HasLine bytes → ⊥) × (ended ≡ false)

@@ -4,5 +4,6 @@ pub mod Lines
 pub mod Numbers
 pub mod Reader
 pub mod Report
+pub mod Steps
 pub mod Trace
 pub mod Words

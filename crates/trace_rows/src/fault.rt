@@ -26,17 +26,28 @@ pub enum RowFault {
     /// The source failed.
     #[error("the trace could not be read")]
     ReadFault,
+    /// Memory was refused. Nothing was read.
     #[error("there is no memory left")]
     OutOfMemory,
 }
 
 impl From<OutOfMemory> for RowFault {
+    ghost use Rattle.std.specs.Prelude.{◌≡◌};
+    ghost use Rattle.trace_rows.specs.declared.fault.RowFault.TheVariants as fault;
+
+    ghost from_gives = { λ _ e. e ≡ fault.OutOfMemory };
+
     fn from(_: OutOfMemory) -> Self {
         RowFault::OutOfMemory
     }
 }
 
 impl From<AllocError> for RowFault {
+    ghost use Rattle.std.specs.Prelude.{◌≡◌};
+    ghost use Rattle.trace_rows.specs.declared.fault.RowFault.TheVariants as fault;
+
+    ghost from_gives = { λ _ e. e ≡ fault.OutOfMemory };
+
     fn from(_: AllocError) -> Self {
         RowFault::OutOfMemory
     }

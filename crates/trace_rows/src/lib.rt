@@ -7,6 +7,7 @@ mod found;
 mod header;
 mod lines;
 mod numbers;
+mod steps;
 mod values;
 mod words;
 
