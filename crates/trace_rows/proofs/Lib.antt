@@ -1,5 +1,6 @@
 mod Digits
 mod Splitting
+mod Following
 mod HeaderWords
 mod Heads
 mod LineNumbers

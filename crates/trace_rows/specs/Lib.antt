@@ -4,6 +4,7 @@ pub mod Lines
 pub mod Numbers
 pub mod Reader
 pub mod Report
+pub mod Shown
 pub mod Steps
 pub mod Trace
 pub mod Words

@@ -98,6 +98,6 @@ NextSays old new row (Err fault.OutOfMemory) before now = ⊥
 
 -- a row more was given, or nothing is given any more
 abbrev pub Goes : Reader → Reader → Row → Row → Result Next RowFault → Type 0
-Goes old new row_old row_new (Ok next.Row) = (new.given ≡ old.given + 1) × (new.live ≡ true)
+Goes old new row_old row_new (Ok next.Row) = (old.given < old.limit) × (new.given ≡ old.given + 1) × (new.live ≡ true)
 Goes old new row_old row_new (Ok next.End) = (row_new ≡ row_old) × (new.live ≡ false)
 Goes old new row_old row_new (Err f) = (row_new ≡ row_old) × (new.live ≡ false)

@@ -7,8 +7,10 @@ mod found;
 mod header;
 mod lines;
 mod numbers;
+mod rows;
 mod steps;
 mod values;
 mod words;
 
 pub use fault::{Next, RowFault};
+pub use rows::Rows;
