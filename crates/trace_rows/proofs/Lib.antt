@@ -4,8 +4,10 @@ mod Following
 mod HeaderWords
 mod Heads
 mod LineNumbers
+mod Pairs
 mod Ranges
 mod Refilling
+mod Starting
 mod Told
 mod TraceLines
 mod Worked

@@ -9,8 +9,12 @@ mod lines;
 mod numbers;
 mod rows;
 mod steps;
+#[cfg(test)]
+mod tests;
+mod tick_line;
 mod values;
 mod words;
 
 pub use fault::{Next, RowFault};
 pub use rows::Rows;
+pub use tick_line::{line, line_room};
