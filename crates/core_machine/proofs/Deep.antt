@@ -1,5 +1,5 @@
 -- How deep the stack of a block can be.
-use Rattle.std.proofs.Common.{◌≡◌, ◌≢◌, ℕ, zero, suc, ◌+◌, ◌-◌, ◌<◌, ◌≤◌, List, [], ◌∷◌, length, Option, Some, None, refl, sym, ap, ◌∙◌, subst, ⊎_elim, inl, inr, arith}
+use Rattle.std.proofs.Common.{◌≡◌, ◌≢◌, ℕ, zero, suc, ◌+◌, ◌-◌, ◌<◌, ◌≤◌, List, [], ◌∷◌, length, Option, Some, None, true, refl, sym, ap, ◌∙◌, subst, ⊎_elim, inl, inr, arith}
 use Rattle.std.specs.Prelude.{slice_get, ◌⊎◌}
 use Rattle.std.proofs.lemmas.Bool.{cases_lt}
 use Rattle.std.proofs.lemmas.Option.{slice_get-get_or}
@@ -8,7 +8,7 @@ use Rattle.thread_code.specs.declared.instruction.Instruction.TheVariants as ins
 use Rattle.thread_code.specs.Plain.{PlainBlock, PlainCode}
 use Rattle.thread_code.specs.Valid.{Scope, Leads, IsValid, IsSound, IsValidCode, arguments_of, branches_in, function_arguments}
 use Rattle.thread_code.specs.Alone.{block_of}
-use Rattle.core_machine.specs.Room.{IsIn}
+use Rattle.core_machine.specs.Room.{IsIn, goes_on, away, takes, gives, Follows}
 use Rattle.core_machine.specs.Stretch.{no_block, block_for, scope_for, Next, depth_after, Comes, first, next, IsDeep}
 use Rattle.core_machine.proofs.Steps.{comes_leads}
 
@@ -102,3 +102,91 @@ sound_in c valid t (Some f) h = (valid.each_function f (block_for c t (Some f)) 
 
 pub deep_in : (c : PlainCode) → IsValidCode c → (t : ℕ) (g : Option ℕ) → IsIn c t g → IsDeep c (block_for c t g) (length (block_for c t g).steps)
 deep_in c valid t g h = let s = sound_in c valid t g h in steps_enough (scope_for c t g) (block_for c t g) s.depths s.valid
+
+-- ---- depths that were found
+
+next_split : (p : ℕ) (i : Instruction) (q : ℕ) → Next p i q → ((goes_on i ≡ true) × (q ≡ p + 1)) ⊎ (away i ≡ Some q)
+next_split p (instruction.Push n) q h = inl (refl, h)
+next_split p (instruction.Quiet n) q h = inl (refl, h)
+next_split p (instruction.Load x) q h = inl (refl, h)
+next_split p (instruction.Store x) q h = inl (refl, h)
+next_split p (instruction.LoadAt x n place) q h = inl (refl, h)
+next_split p (instruction.StoreAt x n place) q h = inl (refl, h)
+next_split p (instruction.Clear x n) q h = inl (refl, h)
+next_split p (instruction.Table n place) q h = inl (refl, h)
+next_split p (instruction.Get v) q h = inl (refl, h)
+next_split p (instruction.Put v) q h = inl (refl, h)
+next_split p (instruction.Unary op) q h = inl (refl, h)
+next_split p (instruction.Binary op place) q h = inl (refl, h)
+next_split p instruction.Truth q h = inl (refl, h)
+next_split p (instruction.Zero to) q h = ⊎_elim (λ e. inl (refl, e)) (λ e. inr (ap Some (sym e))) h
+next_split p (instruction.NonZero to) q h = ⊎_elim (λ e. inl (refl, e)) (λ e. inr (ap Some (sym e))) h
+next_split p (instruction.Jump to) q h = inr (ap Some (sym h))
+next_split p (instruction.Unit n) q h = inl (refl, h)
+next_split p (instruction.Fill x n) q h = inl (refl, h)
+next_split p (instruction.Turn x place) q h = inl (refl, h)
+next_split p (instruction.Flag f n) q h = inl (refl, h)
+next_split p (instruction.Keep f) q h = inl (refl, h)
+next_split p (instruction.Flagged f to) q h = ⊎_elim (λ e. inl (refl, e)) (λ e. inr (ap Some (sym e))) h
+next_split p (instruction.Fork j to) q h = ⊎_elim (λ e. inl (refl, e)) (λ e. inr (ap Some (sym e))) h
+next_split p (instruction.Again j to) q h = ⊎_elim (λ e. inl (refl, e)) (λ e. inr (ap Some (sym e))) h
+next_split p (instruction.Pause to) q h = inr (ap Some (sym h))
+next_split p instruction.End q h = absurd h
+next_split p (instruction.Call f) q h = inl (refl, h)
+next_split p instruction.Return q h = absurd h
+
+behind : (c : PlainCode) (d : ℕ) (i : Instruction) → depth_after c d i ≡ d - takes c i + gives i
+behind c d (instruction.Push n) = omega arith
+behind c d (instruction.Quiet n) = omega arith
+behind c d (instruction.Load x) = omega arith
+behind c d (instruction.Store x) = omega arith
+behind c d (instruction.LoadAt x n place) = omega arith
+behind c d (instruction.StoreAt x n place) = omega arith
+behind c d (instruction.Clear x n) = omega arith
+behind c d (instruction.Table n place) = omega arith
+behind c d (instruction.Get v) = omega arith
+behind c d (instruction.Put v) = omega arith
+behind c d (instruction.Unary op) = omega arith
+behind c d (instruction.Binary op place) = omega arith
+behind c d instruction.Truth = omega arith
+behind c d (instruction.Zero to) = omega arith
+behind c d (instruction.NonZero to) = omega arith
+behind c d (instruction.Jump to) = omega arith
+behind c d (instruction.Unit n) = omega arith
+behind c d (instruction.Fill x n) = omega arith
+behind c d (instruction.Turn x place) = omega arith
+behind c d (instruction.Flag f n) = omega arith
+behind c d (instruction.Keep f) = omega arith
+behind c d (instruction.Flagged f to) = omega arith
+behind c d (instruction.Fork j to) = omega arith
+behind c d (instruction.Again j to) = omega arith
+behind c d (instruction.Pause to) = omega arith
+behind c d instruction.End = omega arith
+behind c d (instruction.Call f) = omega arith
+behind c d instruction.Return = omega arith
+
+marked : (c : PlainCode) (b : PlainBlock) (marks : List ℕ) → slice_get marks 0 ≡ Some 1 → ((p : ℕ) → Follows c b marks p) → (p d : ℕ) → Comes c b p d → slice_get marks p ≡ Some (d + 1)
+marked c b marks begins follows p d first = begins
+marked c b marks begins follows p d (next p' d' i q h is n) = follows p' d' i p is (marked c b marks begins follows p' d' h) n
+
+-- no depth is greater than all that were found
+pub marks_enough : (c : PlainCode) (b : PlainBlock) (marks : List ℕ) (most : ℕ) → slice_get marks 0 ≡ Some 1 → ((p : ℕ) → Follows c b marks p) → ((p m : ℕ) → slice_get marks p ≡ Some m → m ≤ most) → IsDeep c b (most - 1)
+marks_enough c b marks most begins follows below p d h = omega (arith, below p (d + 1) (marked c b marks begins follows p d h))
+
+-- one place follows: where a walk came, it went on
+pub follows_one : (c : PlainCode) (b : PlainBlock) (marks : List ℕ) (p m : ℕ) (i : Instruction) (x : ℕ) → slice_get b.steps p ≡ Some i → slice_get marks p ≡ Some m → x ≡ m - 1 - takes c i + gives i + 1 →
+    (goes_on i ≡ true → slice_get marks (p + 1) ≡ Some x) → ((to : ℕ) → away i ≡ Some to → slice_get marks to ≡ Some x) → Follows c b marks p
+follows_one c b marks p m i x is mark e on other d j q is' mark' n =
+    let same : i ≡ j = let h = sym is ∙ is' in cc in
+    let count : m ≡ d + 1 = let h = sym mark ∙ mark' in cc in
+    let k : x ≡ depth_after c d i + 1 = omega (arith, e, count, behind c d i) in
+    let n' = subst (λ j. Next p j q) (sym same) n in
+    subst (λ j. slice_get marks q ≡ Some (depth_after c d j + 1)) same
+    (⊎_elim
+    (λ h. ap (slice_get marks) h.1 ∙ on h.0 ∙ ap Some k)
+    (λ h. other q h ∙ ap Some k)
+    (next_split p i q n'))
+
+-- a place to which no walk came has nothing to follow
+pub follows_none : (c : PlainCode) (b : PlainBlock) (marks : List ℕ) (p : ℕ) → ((d : ℕ) → slice_get marks p ≡ Some (d + 1) → ⊥) → Follows c b marks p
+follows_none c b marks p none d i q is mark n = absurd (none d mark)

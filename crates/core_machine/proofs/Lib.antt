@@ -1,5 +1,6 @@
 pub mod FrameLemmas
 pub mod Steps
+pub mod Arguments
 pub mod Indexed
 pub mod Outer
 pub mod Deep

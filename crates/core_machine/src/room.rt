@@ -5,22 +5,13 @@ ghost use Rattle.thread_code.specs.Plain.{plain_code, plain_block};
 ghost use Rattle.thread_code.specs.Valid.{IsValidCode};
 ghost use Rattle.thread_code.specs.declared.instruction.Instruction.TheVariants as instruction;
 ghost use Rattle.core_machine.specs.Stretch.{no_block, block_for, IsDeep};
-ghost use Rattle.core_machine.specs.Room.{Enough, IsIn};
+ghost use Rattle.core_machine.specs.Room.{Enough, AreDeep};
 
+use crate::depth::deepest;
 use crate::stretch::{Site, block_at};
 use forec_base::OutOfMemory;
 use std::alloc::Global;
 use thread_code::{Block, CodeParts, Instruction};
-
-/// At most so many numbers stand on the stack of a block.
-fn deepest(site: &Site<'_>) -> u64
-    requires valid { IsValidCode (plain_code site.now.code.now) }
-    requires known { IsIn (plain_code site.now.code.now) site.now.thread site.now.function }
-    requires block { plain_block site.now.block.now ≡ block_for (plain_code site.now.code.now) site.now.thread site.now.function }
-    ensures { IsDeep (plain_code site.now.code.now) (block_for (plain_code site.now.code.now) site.now.thread site.now.function) result }
-{
-    site.block.steps.len() as u64
-}
 
 fn is_short(block: &Block) -> bool
     ensures { result ≡ true → length (plain_block block.now).steps < 2 ^ 32 }
@@ -74,20 +65,39 @@ fn most_called(block: &Block, needs: &[u64]) -> u64
 
 /// So many numbers are enough for a frame of the block and all that it calls, where the functions need
 /// what the table says; None where they are too many to count.
-pub fn frame_need(site: &Site<'_>, needs: &[u64]) -> Option<u64>
-    requires valid { IsValidCode (plain_code site.now.code.now) }
-    requires known { IsIn (plain_code site.now.code.now) site.now.thread site.now.function }
+pub fn frame_need(site: &Site<'_>, deep: u64, needs: &[u64]) -> Option<u64>
+    requires deep { IsDeep (plain_code site.now.code.now) (block_for (plain_code site.now.code.now) site.now.thread site.now.function) deep }
     requires block { plain_block site.now.block.now ≡ block_for (plain_code site.now.code.now) site.now.thread site.now.function }
     ensures { IfSome result (λ n. Enough (plain_code site.now.code.now) (block_for (plain_code site.now.code.now) site.now.thread site.now.function) needs.now n) }
 {
     let own = site.block.words as u64 + site.block.counters as u64;
-    own.checked_add(deepest(site))?
+    own.checked_add(deep)?
         .checked_add(most_called(site.block, needs))
 }
 
-/// Fills the table at a function, after those that it calls, `fuel` calls deep at most.
-fn fill(code: &CodeParts, thread: u32, needs: &mut Vec<u64>, function: u32, fuel: usize)
+/// The most numbers that can stand on the stack of each function.
+fn depths_of(alloc: Global, code: &CodeParts, thread: u32, count: u32) -> Result<Vec<u64>, OutOfMemory>
     requires valid { IsValidCode (plain_code code.now) }
+    requires thread { thread < length (plain_code code.now).threads }
+    requires count { count ≡ length (plain_code code.now).functions }
+    ensures { IfOk result (λ depths. AreDeep (plain_code code.now) thread depths.items) }
+{
+    let mut depths = Vec::new(alloc);
+    for function in 0..count {
+        let site = Site {
+            code,
+            thread,
+            function: Some(function),
+            block: block_at(code, thread, Some(function)),
+        };
+        depths.push(deepest(alloc, &site)?)?;
+    }
+    Ok(depths)
+}
+
+/// Fills the table at a function, after those that it calls, `fuel` calls deep at most.
+fn fill(code: &CodeParts, thread: u32, depths: &[u64], needs: &mut Vec<u64>, function: u32, fuel: usize)
+    requires depths { AreDeep (plain_code code.now) thread depths.now }
     requires thread { thread < length (plain_code code.now).threads }
     requires function { function < length (plain_code code.now).functions }
     requires long { length needs.old.items ≡ length (plain_code code.now).functions }
@@ -100,7 +110,7 @@ fn fill(code: &CodeParts, thread: u32, needs: &mut Vec<u64>, function: u32, fuel
     for step in &block.steps {
         if let Instruction::Call { function } = *step {
             if (function as usize) < needs.len() {
-                fill(code, thread, needs, function, fuel - 1);
+                fill(code, thread, depths, needs, function, fuel - 1);
             }
         }
     }
@@ -110,12 +120,12 @@ fn fill(code: &CodeParts, thread: u32, needs: &mut Vec<u64>, function: u32, fuel
         function: Some(function),
         block,
     };
-    needs[function as usize] = frame_need(&site, needs).unwrap_or(u64::MAX);
+    needs[function as usize] = frame_need(&site, depths[function as usize], needs).unwrap_or(u64::MAX);
 }
 
 /// Whether the table has enough for a function.
-fn is_enough(code: &CodeParts, thread: u32, needs: &[u64], function: u32) -> bool
-    requires valid { IsValidCode (plain_code code.now) }
+fn is_enough(code: &CodeParts, thread: u32, depths: &[u64], needs: &[u64], function: u32) -> bool
+    requires depths { AreDeep (plain_code code.now) thread depths.now }
     requires thread { thread < length (plain_code code.now).threads }
     requires function { function < length (plain_code code.now).functions }
     ensures { result ≡ true → Enough (plain_code code.now) (block_for (plain_code code.now) thread (Some function)) needs.now (get_or needs.now function 0) }
@@ -126,7 +136,7 @@ fn is_enough(code: &CodeParts, thread: u32, needs: &[u64], function: u32) -> boo
         function: Some(function),
         block: block_at(code, thread, Some(function)),
     };
-    match frame_need(&site, needs) {
+    match frame_need(&site, depths[function as usize], needs) {
         Some(need) => need <= need_at(needs, function),
         None => false,
     }
@@ -143,12 +153,13 @@ pub fn needs_of(alloc: Global, code: &CodeParts, thread: u32) -> Result<Vec<u64>
     ensures { IfOk result (λ needs. (f : ℕ) → f < length (plain_code code.now).functions → Enough (plain_code code.now) (block_for (plain_code code.now) thread (Some f)) needs.items (get_or needs.items f 0)) }
 {
     let count = u32::try_from(code.functions.len()).map_err(|_| OutOfMemory)?;
+    let depths = depths_of(alloc, code, thread, count)?;
     let mut needs = vec![in alloc; 0; count as usize]?;
     for function in 0..count {
-        fill(code, thread, &mut needs, function, count as usize);
+        fill(code, thread, &depths, &mut needs, function, count as usize);
     }
     for function in 0..count {
-        if !is_enough(code, thread, &needs, function) {
+        if !is_enough(code, thread, &depths, &needs, function) {
             return Err(OutOfMemory);
         }
     }
