@@ -6,3 +6,4 @@ pub mod Settled
 pub mod Reading
 pub mod Searched
 pub mod Ranked
+pub mod Walks

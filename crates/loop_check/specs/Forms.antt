@@ -51,10 +51,11 @@ abbrev pub turns_unless : Text → Option Form → Option ℕ
 turns_unless text None = None
 turns_unless text (Some f) = cond (form.global_named f.id text) None (run_form f)
 
--- the three parts of a form with a body
-abbrev pub FormOf : Option Form → Start → Test → Step → Statement → Type 0
-FormOf r a t s body =
-    (text : Text) → form.turns_from text body (pair_of (Some a)) (test_from (Some t)) (step_from (Some s)) ≡ turns_unless text r
+-- the three parts of a form, whatever the body is
+abbrev pub FormOf : Option Form → Start → Test → Step → Type 0
+FormOf None a t s = (text : Text) (body : Statement) → form.turns_from text body (pair_of (Some a)) (test_from (Some t)) (step_from (Some s)) ≡ None
+FormOf (Some f) a t s =
+    (text : Text) (body : Statement) → form.turns_from text body (pair_of (Some a)) (test_from (Some t)) (step_from (Some s)) ≡ cond (form.touches f.id body) None (turns_unless text (Some f))
 
 -- what is inferred of a statement
 abbrev pub HasForm : Option Form → Statement → Type 0

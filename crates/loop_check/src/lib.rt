@@ -16,6 +16,7 @@ mod table;
 #[cfg(test)]
 mod tests;
 mod touch;
+mod walk;
 
 pub use graph::{is_waiting, marked, order};
 pub use index::{Index, item_name};

@@ -5,6 +5,8 @@ ghost use Rattle.std.specs.Int.{w32};
 ghost use Rattle.forec_tree.specs.Plain as plain;
 ghost use Rattle.forec_tree.specs.Turns as form;
 ghost use Rattle.loop_check.specs.Forms.{fits_way, FormOf, run_form, HasForm};
+ghost use Rattle.loop_check.specs.Loops as loops;
+ghost use Rattle.loop_check.specs.Loops.{HasShape};
 
 use crate::parts::{Form, Start, Step, Test};
 use crate::reads::{start_of, step_of, test_of};
@@ -22,8 +24,8 @@ fn same_way(test: Binary, step: Binary) -> bool
     }
 }
 
-fn joined(start: Start, test: Test, step: Step, body: &Stmt) -> Option<Form>
-    ensures { FormOf result start test step (plain.statement body.now) }
+fn joined(start: Start, test: Test, step: Step) -> Option<Form>
+    ensures { FormOf result start test step }
 {
     if start.id != test.id || test.id != step.id {
         return None;
@@ -31,7 +33,7 @@ fn joined(start: Start, test: Test, step: Step, body: &Stmt) -> Option<Form>
     if !same_way(test.op, step.op) {
         return None;
     }
-    if step.by < 1 || touches(start.id, body) {
+    if step.by < 1 {
         return None;
     }
     Some(Form {
@@ -135,24 +137,47 @@ pub fn run(form: Form) -> Option<u32>
     }
 }
 
-/// The form of a `for`, but that a global of the name may stand in its way.
-pub fn form_of(s: &Stmt) -> Option<Form>
-    ensures { HasForm result (plain.statement s.now) }
+/// The form of a `for`, but that its body and a global of the name may stand in its way.
+pub fn shape(s: &Stmt) -> Option<Form>
+    ensures { HasShape result (plain.statement s.now) }
 {
     match &s.what {
         StmtKind::For {
             start,
             test,
             step,
-            body,
             ..
         } => {
             match (start_of(start), test_of(test), step_of(step)) {
-                (Some(start), Some(test), Some(step)) => joined(start, test, step, body),
+                (Some(start), Some(test), Some(step)) => joined(start, test, step),
                 _ => None,
             }
         }
         _ => None,
+    }
+}
+
+fn body_touches(id: u32, s: &Stmt) -> bool
+    ensures { result ≡ loops.body_touches id (plain.statement s.now) }
+{
+    match &s.what {
+        StmtKind::For { body, .. } => touches(id, body),
+        _ => false,
+    }
+}
+
+/// The form of a `for`, but that a global of the name may stand in its way.
+pub fn form_of(s: &Stmt) -> Option<Form>
+    ensures { HasForm result (plain.statement s.now) }
+{
+    match shape(s) {
+        None => None,
+        Some(form) => {
+            if body_touches(form.id, s) {
+                return None;
+            }
+            Some(form)
+        }
     }
 }
 
