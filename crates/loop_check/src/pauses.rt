@@ -1,4 +1,4 @@
-// Statements that are certain to pause, and the functions that a statement calls or starts.
+// What the tests and the turns of a loop say, and what a table says of a function.
 
 ghost use Rattle.std.specs.Prelude.{◌≡◌};
 ghost use Rattle.forec_tree.specs.Plain as plain;
@@ -9,7 +9,7 @@ ghost use Rattle.loop_check.specs.Known.{known};
 
 use crate::index::Index;
 use crate::runs::{form_of, run};
-use forec_tree::{Branch, Expr, ExprKind, Stmt, StmtKind};
+use forec_tree::{Expr, ExprKind, Stmt};
 
 /// The number of turns that the form of a `for` tells.
 pub fn turns_of(index: &Index<'_>, s: &Stmt) -> Option<u32>
@@ -65,88 +65,4 @@ pub fn is_known(called: &[bool], id: u32) -> bool
         None => false,
         Some(answer) => *answer,
     }
-}
-
-/// Whether a statement is certain to pause, where `called` says it of each function by its name.
-#[cycle(certain)]
-pub fn is_certain(index: &Index<'_>, called: &[bool], s: &Stmt) -> bool
-    ensures { result ≡ pauses.certain_by (text_of index.now) (known called.now) (plain.statement s.now) }
-{
-    match &s.what {
-        StmtKind::Nothing => false,
-        StmtKind::Group { body } => any_certain(index, called, body.as_slice()),
-        StmtKind::Declare { .. } => false,
-        StmtKind::Assign { .. } => false,
-        StmtKind::Call { name, .. } => is_known(called, name.id),
-        StmtKind::If { yes, no, .. } => {
-            if !is_certain(index, called, yes) {
-                return false;
-            }
-            match no {
-                None => false,
-                Some(other) => is_certain(index, called, other),
-            }
-        }
-        StmtKind::While { test, body, .. } => {
-            if !is_nonzero(test) {
-                return false;
-            }
-            is_certain(index, called, body)
-        }
-        StmtKind::For { test, body, .. } => {
-            if !always(test) {
-                if !at_least_one(turns_of(index, s)) {
-                    return false;
-                }
-            }
-            is_certain(index, called, body)
-        }
-        StmtKind::Pause => true,
-        StmtKind::Par { branches } => branch_certain(index, called, branches.as_slice()),
-        StmtKind::Abort {
-            immediate,
-            body,
-            ..
-        } => {
-            if *immediate {
-                return false;
-            }
-            any_certain(index, called, body.as_slice())
-        }
-        StmtKind::Return { .. } => false,
-    }
-}
-
-/// Whether one of some statements is certain to pause.
-#[cycle(certain)]
-pub fn any_certain(index: &Index<'_>, called: &[bool], list: &[Stmt]) -> bool
-    ensures { result ≡ pauses.some_certain (text_of index.now) (known called.now) (plain.statements list.now) }
-{
-    for s in list {
-        if is_certain(index, called, s) {
-            return true;
-        }
-    }
-    false
-}
-
-#[cycle(certain)]
-fn branch_certain(index: &Index<'_>, called: &[bool], list: &[Branch]) -> bool
-    ensures { result ≡ pauses.branch_certain (text_of index.now) (known called.now) (plain.branches list.now) }
-{
-    for branch in list {
-        match branch {
-            Branch::Call { name, .. } => {
-                if is_known(called, name.id) {
-                    return true;
-                }
-            }
-            Branch::Group { body, .. } => {
-                if any_certain(index, called, body.as_slice()) {
-                    return true;
-                }
-            }
-        }
-    }
-    false
 }

@@ -1,6 +1,6 @@
 // Which functions are certain to pause.
 
-ghost use Rattle.std.specs.Prelude.{◌≡◌, ◌+◌, ℕ, map, length, take, slice_get, Some, IfOk, OnOk};
+ghost use Rattle.std.specs.Prelude.{◌≡◌, ◌+◌, ◌++◌, ℕ, map, length, take, slice_get, Some, IfOk, OnOk};
 ghost use Rattle.forec_tree.specs.Plain as plain;
 ghost use Rattle.forec_tree.specs.Faults.{Leads};
 ghost use Rattle.forec_tree.specs.Turns.{inferred};
@@ -9,12 +9,14 @@ ghost use Rattle.loop_check.specs.Graph.{callees};
 ghost use Rattle.loop_check.specs.Views.{text_of};
 ghost use Rattle.loop_check.specs.Known.{known, started_in, FunctionOf, IsListOf, Read, Adds, Judged};
 ghost use Rattle.loop_check.specs.Known as table;
+ghost use Rattle.loop_check.specs.Loops.{all_loops, endless_in};
 
 use crate::graph::{mark, order};
 use crate::index::{Index, item_name};
-use crate::pauses::{any_certain, is_certain, is_known, turns_of};
+use crate::pauses::{is_known, turns_of};
 use crate::starts::all_started;
-use forec_base::OutOfMemory;
+use crate::walk::{Noted, nothing_noted, walk, walk_all};
+use forec_base::{OutOfMemory, Place};
 use forec_tree::{Function, Item, Program, Stmt};
 use std::alloc::Global;
 
@@ -99,16 +101,22 @@ pub fn read_calls(alloc: Global, index: &Index<'_>) -> Result<Calls, OutOfMemory
     Ok(calls)
 }
 
-fn function_certain(index: &Index<'_>, called: &[bool], id: u32) -> bool
-    ensures { result ≡ pauses.certain_step (text_of index.now) (known called.now) id }
+fn function_certain(
+    index: &Index<'_>,
+    called: &[bool],
+    id: u32,
+    seen: &mut Noted,
+) -> Result<bool, OutOfMemory>
+    ensures { IfOk result (λ answer. answer ≡ pauses.certain_step (text_of index.now) (known called.now) id) }
 {
     match find_function(index, id) {
-        None => false,
+        None => Ok(false),
         Some(function) => {
             if function.gives {
-                return false;
+                return Ok(false);
             }
-            any_certain(index, called, function.body.as_slice())
+            let answer = walk_all(index, called, function.body.as_slice(), seen)?;
+            Ok(answer)
         }
     }
 }
@@ -118,12 +126,33 @@ fn judged(alloc: Global, index: &Index<'_>, order: &[u32]) -> Result<Vec<bool>, 
     ensures { IfOk result (λ called. Judged (pauses.certain_step (text_of index.now)) order.now (length order.now) (known called.items)) }
 {
     let mut called = Vec::new(alloc);
+    let mut seen = nothing_noted(alloc);
     for f in order {
-        if function_certain(index, &called, *f) {
+        let certain = function_certain(index, &called, *f, &mut seen)?;
+        if certain {
             mark(&mut called, *f)?;
         }
     }
     Ok(called)
+}
+
+fn walk_items(
+    index: &Index<'_>,
+    called: &[bool],
+    items: &[Item],
+    seen: &mut Noted,
+) -> Result<(), OutOfMemory>
+    ensures { OnOk result (seen.new.endless.items ≡ seen.old.endless.items ++ endless_in (text_of index.now) (known called.now) (all_loops (map plain.plain_item items.now))) }
+{
+    for item in items {
+        match item {
+            Item::Global { .. } => {}
+            Item::Function { function } => {
+                let _ = walk_all(index, called, function.body.as_slice(), seen)?;
+            }
+        }
+    }
+    Ok(())
 }
 
 /// Which statements of a program are certain to pause: each function is judged once, after those
@@ -155,11 +184,15 @@ impl<'p> Pauses<'p> {
         is_known(&self.called, id)
     }
 
-    /// Whether a statement is certain to pause.
-    pub fn certain(&self, s: &Stmt) -> bool
-        ensures { result ≡ pauses.certain (text_of self.now.index) (plain.statement s.now) }
+    /// The places of the loops that may run for ever, those inside before those round them: without
+    /// a bound, without turns by their form, and with a body that is not certain to pause. Looks at
+    /// each statement once.
+    pub fn endless(&self, alloc: Global) -> Result<Vec<Place>, OutOfMemory>
+        ensures { IfOk result (λ places. places.items ≡ endless_in (text_of self.now.index) (pauses.certain_function (text_of self.now.index)) (all_loops (text_of self.now.index))) }
     {
-        is_certain(&self.index, &self.called, s)
+        let mut seen = nothing_noted(alloc);
+        walk_items(&self.index, &self.called, self.index.items(), &mut seen)?;
+        Ok(seen.endless)
     }
 
     /// The number of turns that the form of a `for` tells.
@@ -178,5 +211,7 @@ pub fn certain(alloc: Global, program: &Program, stmt: &Stmt) -> Result<bool, Ou
     ensures { IfOk result (λ answer. answer ≡ pauses.certain (plain.program program.now) (plain.statement stmt.now)) }
 {
     let pauses = Pauses::of(alloc, program.items.as_slice())?;
-    Ok(pauses.certain(stmt))
+    let mut seen = nothing_noted(alloc);
+    let answer = walk(&pauses.index, &pauses.called, stmt, &mut seen)?;
+    Ok(answer)
 }
