@@ -1,0 +1,2 @@
+pub mod Combines
+pub mod Written

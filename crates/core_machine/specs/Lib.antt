@@ -4,3 +4,4 @@ pub mod Acts
 pub mod Stretch
 pub mod Room
 pub mod Held
+pub mod Replies

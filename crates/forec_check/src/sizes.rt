@@ -27,6 +27,13 @@ impl<'n> Checked<'n> {
         Ok(threads)
     }
 
+    /// The number of the name of the function that the program starts with.
+    pub fn start(&self) -> u32
+        ensures { result ≡ count.start_of (names_of self.now) (text_of self.now) }
+    {
+        start_of(self.names(), self.program().items.as_slice())
+    }
+
     /// How many inputs the program has.
     pub fn inputs(&self) -> usize
         ensures { result ≡ checked.inputs_of (text_of self.now) }

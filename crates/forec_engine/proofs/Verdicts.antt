@@ -1,5 +1,5 @@
 -- A text has one verdict, and it can't be that it has none.
-use Rattle.std.proofs.Common.{◌≡◌, Result, Ok, Err, ℕ, ◌<◌, ◌≤◌, Bool, true, false, nat_lt, ltb-true, ltb-false, List, length, refl, sym, ap, subst, arith}
+use Rattle.std.proofs.Common.{◌≡◌, ◌⊎◌, inl, inr, ◌∙◌, Result, Ok, Err, ℕ, ◌<◌, ◌≤◌, Bool, true, false, nat_lt, ltb-true, ltb-false, List, length, refl, sym, ap, subst, arith}
 use Rattle.forec_base.specs.declared.Place.{Place}
 use Rattle.forec_kernel.specs.Shapes.{PlainKernel, plain_kernel}
 use Rattle.forec_tree.specs.declared.fault.Fault.{Fault}
@@ -15,9 +15,14 @@ use Rattle.forec_lexer.specs.Answers.{HasCause}
 use Rattle.forec_lexer.specs.declared.fault.LexFault.{LexFault}
 use Rattle.forec_lexer.specs.declared.fault.LexFault.TheVariants as lexer
 use Rattle.forec_lexer.proofs.OneWay.{one_lexed, lexed_not_bad, lexed_not_many, bad_not_many, one_bad, one_many}
-use Rattle.forec_engine.specs.FirstForm.{First}
-use Rattle.forec_engine.specs.FirstCode.{IsFirstKernel}
-use Rattle.forec_engine.specs.Judging.{most_bytes, most_levels, Verdict, Accepts, Refuses, OnUnbroken, accepted, another_form, OnProgram, broken, unbroken, OnTokens, spelled, unspelled, Judged, too_long, stops, too_many, lexed, Says, lexer_fault, check_fault}
+use Rattle.kernel_lower.specs.Kernels.{kernel_of}
+use Rattle.kernel_lower.specs.Limits.{limit_of, WithinLimits, IsLimit}
+use Rattle.kernel_lower.specs.declared.limits.Quantity.{Quantity}
+use Rattle.kernel_lower.specs.Refusals as refusals
+use Rattle.kernel_lower.specs.declared.lower_fault.LowerFault.{LowerFault}
+use Rattle.kernel_lower.specs.declared.lower_fault.LowerFault.TheVariants as lower
+use Rattle.forec_engine.specs.Form.{text_forks}
+use Rattle.forec_engine.specs.Judging.{most_bytes, most_levels, Verdict, Accepts, Refuses, OnUnbroken, accepted, beyond, another_form, OnProgram, broken, unbroken, OnTokens, spelled, unspelled, Judged, too_long, stops, too_many, lexed, Says, lexer_fault, check_fault, lower_fault}
 use Rattle.forec_engine.specs.Counting.{counts_of}
 use Rattle.forec_engine.specs.Laws.{OneVerdict}
 use Rattle.forec_engine.specs.declared.counts.Counts.{Counts}
@@ -27,24 +32,32 @@ use Rattle.forec_engine.specs.declared.refusal.JudgeFault.{JudgeFault}
 use Rattle.forec_engine.specs.declared.refusal.JudgeFault.TheVariants as fault
 use Rattle.forec_engine.proofs.LeastFault.{one_least, no_fault}
 use Rattle.forec_engine.proofs.Lexing.{some_lexing}
+use Rattle.forec_engine.proofs.Limits.{one_limit, no_limit, limits_kept}
 
 -- ---- one
 
 abbrev pub OneProgram : Type 0
 OneProgram = (k l : ℕ) (a b : Text) (ts : List Token) → IsSpelled k a ts → IsSpelled l b ts → a ≡ b
 
-abbrev pub OneKernel : Type 0
-OneKernel = (text : Text) (names : List (List ℕ)) (k l : PlainKernel) → First text names k → First text names l → k ≡ l
-
 abbrev fault_at : Place → ℕ → Fault
 fault_at place rule = record { place = place; rule = rule }
 
-module _ (one_program : OneProgram) (one_kernel : OneKernel) where
+never_both_forms : (program : Text) → text_forks program ≡ true → text_forks program ≡ false → ⊥
+never_both_forms program e f = let h : true ≡ false = sym e ∙ f in cc
+
+module _ (one_program : OneProgram) where
   one_on_unbroken : (program : Text) (names : List (List ℕ)) (v w : Verdict) → OnUnbroken program names v → OnUnbroken program names w → v ≡ w
-  one_on_unbroken program names v w (accepted k f) (accepted l g) = ap (Accepts (counts_of program names)) (one_kernel program names k l f g)
-  one_on_unbroken program names v w (accepted k f) (another_form h) = absurd (h k f)
-  one_on_unbroken program names v w (another_form h) (accepted l g) = absurd (h l g)
-  one_on_unbroken program names v w (another_form h) (another_form i) = refl
+  one_on_unbroken program names v w (another_form e) (another_form f) = refl
+  one_on_unbroken program names v w (another_form e) (beyond q n f y) = absurd (never_both_forms program e f)
+  one_on_unbroken program names v w (another_form e) (accepted f y) = absurd (never_both_forms program e f)
+  one_on_unbroken program names v w (beyond p m e x) (another_form f) = absurd (never_both_forms program f e)
+  one_on_unbroken program names v w (beyond p m e x) (beyond q n f y) =
+      let s = one_limit program names p q m n x y in
+      ap (λ z. Refuses (why.Limit z m)) s.0 ∙ ap (λ z. Refuses (why.Limit q z)) s.1
+  one_on_unbroken program names v w (beyond p m e x) (accepted f y) = absurd (no_limit program names p m y x)
+  one_on_unbroken program names v w (accepted e x) (another_form f) = absurd (never_both_forms program f e)
+  one_on_unbroken program names v w (accepted e x) (beyond q n f y) = absurd (no_limit program names q n x y)
+  one_on_unbroken program names v w (accepted e x) (accepted f y) = refl
 
   one_on_program : (program : Text) (names : List (List ℕ)) (v w : Verdict) → OnProgram program names v → OnProgram program names w → v ≡ w
   one_on_program program names v w (broken p r x) (broken q s y) =
@@ -94,7 +107,15 @@ only_long text v h (lexed us ms le y t) = absurd (omega arith)
 -- ---- not none
 
 some_on_unbroken : (program : Text) (names : List (List ℕ)) → ((v : Verdict) → OnUnbroken program names v → ⊥) → ⊥
-some_on_unbroken program names never = never (Refuses why.Form) (another_form (λ k f. never (Accepts (counts_of program names) k) (accepted k f)))
+some_on_unbroken program names never = by (text_forks program) refl
+  where
+    of_limits : text_forks program ≡ false → WithinLimits (kernel_of program names) ⊎ ((q : Quantity) × IsLimit program names q (limit_of q)) → ⊥
+    of_limits e (inl w) = never (Accepts (counts_of program names) (kernel_of program names)) (accepted e w)
+    of_limits e (inr (q, x)) = never (Refuses (why.Limit q (limit_of q))) (beyond q (limit_of q) e x)
+
+    by : (t : Bool) → text_forks program ≡ t → ⊥
+    by true e = never (Refuses why.Form) (another_form e)
+    by false e = of_limits e (limits_kept program names)
 
 some_on_program : (program : Text) (names : List (List ℕ)) → ((v : Verdict) → OnProgram program names v → ⊥) → ⊥
 some_on_program program names never = some_on_unbroken program names (λ v x. never v (unbroken none x))
@@ -115,31 +136,6 @@ some_verdict text never = by (nat_lt most_bytes (length text)) refl
         let short = ltb-false most_bytes (length text) e in
         some_lexing text (λ ts ns x. some_on_tokens ts ns (λ v t. never v (lexed ts ns short x t)))
         (λ p x. never (Refuses (why.Lex p)) (stops p short x)) (λ p x. never (Refuses (why.Many p)) (too_many p short x))
-
--- ---- what is accepted
-
-first_of_unbroken : (program : Text) (names : List (List ℕ)) (v : Verdict) (c : Counts) (k : PlainKernel) → OnUnbroken program names v → v ≡ Accepts c k → IsFirstKernel k
-first_of_unbroken program names v c k (accepted l f) e =
-    let same : l ≡ k = cc in
-    subst IsFirstKernel same (record { program = f.program; is = f.kernel })
-first_of_unbroken program names v c k (another_form h) e = absurd (cc)
-
-first_of_program : (program : Text) (names : List (List ℕ)) (v : Verdict) (c : Counts) (k : PlainKernel) → OnProgram program names v → v ≡ Accepts c k → IsFirstKernel k
-first_of_program program names v c k (broken p r x) e = absurd (cc)
-first_of_program program names v c k (unbroken none x) e = first_of_unbroken program names v c k x e
-
-first_of_tokens : (tokens : List Token) (names : List (List ℕ)) (v : Verdict) (c : Counts) (k : PlainKernel) → OnTokens tokens names v → v ≡ Accepts c k → IsFirstKernel k
-first_of_tokens tokens names v c k (spelled p s x) e = first_of_program p names v c k x e
-first_of_tokens tokens names v c k (unspelled h) e = absurd (cc)
-
-first_of_text : (text : List ℕ) (v : Verdict) (c : Counts) (k : PlainKernel) → Judged text v → v ≡ Accepts c k → IsFirstKernel k
-first_of_text text v c k (too_long i) e = absurd (cc)
-first_of_text text v c k (stops q le y) e = absurd (cc)
-first_of_text text v c k (too_many q le y) e = absurd (cc)
-first_of_text text v c k (lexed us ms le y t) e = first_of_tokens us ms v c k t e
-
-pub accepts_first : (text : List ℕ) (c : Counts) (k : PlainKernel) → Judged text (Accepts c k) → IsFirstKernel k
-accepts_first text c k j = first_of_text text (Accepts c k) c k j refl
 
 -- ---- what code says
 
@@ -165,3 +161,18 @@ checked_exactly program names check.OutOfMemory h = tt
 
 pub told_by_check : (program : Text) (names : List (List ℕ)) (f : CheckFault) (e : JudgeFault) → Causes f program names → e ≡ check_fault f → Says (OnProgram program names) (given e)
 told_by_check program names f e h is = subst (λ x. Says (OnProgram program names) (given x)) (sym is) (checked_exactly program names f h)
+
+lowered_exactly : (program : Text) (names : List (List ℕ)) (f : LowerFault) → text_forks program ≡ false → refusals.Causes f program names → Says (OnUnbroken program names) (given (lower_fault f))
+lowered_exactly program names (lower.Limit what count) e h = beyond what count e h
+lowered_exactly program names lower.OutOfMemory e h = tt
+
+pub told_by_lower : (program : Text) (names : List (List ℕ)) (f : LowerFault) (e : JudgeFault) → text_forks program ≡ false → refusals.Causes f program names → e ≡ lower_fault f →
+    Says (OnUnbroken program names) (given e)
+told_by_lower program names f e form h is = subst (λ x. Says (OnUnbroken program names) (given x)) (sym is) (lowered_exactly program names f form h)
+
+-- a kernel that is the text's
+pub told_kernel : (program : Text) (names : List (List ℕ)) (c : Counts) (k : PlainKernel) → text_forks program ≡ false → c ≡ counts_of program names → k ≡ kernel_of program names → WithinLimits (kernel_of program names) →
+    OnUnbroken program names (Accepts c k)
+told_kernel program names c k e counts kernel within =
+    subst (λ x. OnUnbroken program names (Accepts x k)) (sym counts)
+    (subst (λ x. OnUnbroken program names (Accepts (counts_of program names) x)) (sym kernel) (accepted e within))

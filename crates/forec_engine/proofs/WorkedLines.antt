@@ -12,7 +12,7 @@ use Rattle.forec_engine.specs.Judging.{refusal_line}
 use Rattle.forec_engine.specs.declared.refusal.Refusal.TheVariants as why
 use Rattle.forec_engine.specs.declared.words.Command.TheVariants as command
 
-run_is : command_of (codes "run" ∷ codes "P" ∷ []) ≡ Some (command.Run, codes "P")
+run_is : command_of (codes "run" ∷ codes "P" ∷ []) ≡ Some (command.Run 10000000, codes "P")
 run_is = refl
 
 check_is : command_of (codes "check" ∷ codes "P" ∷ []) ≡ Some (command.Check, codes "P")

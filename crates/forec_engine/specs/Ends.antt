@@ -2,10 +2,10 @@
 use Rattle.std.specs.Prelude.{◌≡◌, ℕ, List, ◌++◌, Option, Some, IfSome, ⊤}
 use Rattle.std.specs.Io.KnownBytes.{Appends}
 use Rattle.forec_kernel.specs.Shapes.{PlainKernel}
-use Rattle.forec_engine.specs.Calls.{IfTold}
-use Rattle.forec_engine.specs.Commands.{command_of, budget}
+use Rattle.trace_rows.specs.Calls.{IfTold}
+use Rattle.trace_rows.specs.Lines.{whole_lines}
+use Rattle.forec_engine.specs.Commands.{command_of}
 use Rattle.forec_engine.specs.Judging.{Accepts, Judged}
-use Rattle.forec_engine.specs.Lines.{whole_lines}
 use Rattle.forec_engine.specs.Report.{Report, printed_for}
 use Rattle.forec_engine.specs.declared.counts.Counts.{Counts}
 use Rattle.forec_engine.specs.declared.status.Status.{Status}
@@ -40,11 +40,11 @@ Wanted k budget left_old left_new held_old held_new =
     (bytes : List ℕ) × Appends held_old held_new bytes × IfTold left_old left_new (PrintedFor k budget bytes)
 
 -- the same by a text, which is accepted
-abbrev pub WantedByText : List ℕ → Option (List ℕ) → Option (List ℕ) → Option (List ℕ) → Option (List ℕ) → Type 0
-WantedByText text left_old left_new held_old held_new =
+abbrev pub WantedByText : ℕ → List ℕ → Option (List ℕ) → Option (List ℕ) → Option (List ℕ) → Option (List ℕ) → Type 0
+WantedByText budget text left_old left_new held_old held_new =
     (counts : Counts) × (k : PlainKernel) × Judged text (Accepts counts k) × Wanted k budget left_old left_new held_old held_new
 
 -- the same by words, which are the command `run`
 abbrev pub WantedByWords : List (List ℕ) → (List ℕ → Option (List ℕ)) → Option (List ℕ) → Option (List ℕ) → Option (List ℕ) → Option (List ℕ) → Type 0
 WantedByWords words content left_old left_new held_old held_new =
-    (name : List ℕ) × (command_of words ≡ Some (command.Run, name)) × IfSome (content name) (λ text. WantedByText text left_old left_new held_old held_new)
+    (budget : ℕ) × (name : List ℕ) × (command_of words ≡ Some (command.Run budget, name)) × IfSome (content name) (λ text. WantedByText budget text left_old left_new held_old held_new)

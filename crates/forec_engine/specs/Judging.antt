@@ -1,5 +1,5 @@
 -- What becomes of a text.
-use Rattle.std.specs.Prelude.{◌≤◌, ◌<◌, ℕ, List, ◌++◌, length, codes, decimal, Result, Ok, Err}
+use Rattle.std.specs.Prelude.{◌≡◌, ◌≤◌, ◌<◌, ℕ, true, false, List, ◌++◌, length, codes, decimal, Result, Ok, Err}
 use Rattle.forec_base.specs.declared.Place.{Place}
 use Rattle.forec_kernel.specs.Shapes.{PlainKernel, plain_kernel}
 use Rattle.forec_tree.specs.declared.fault.Fault.{Fault}
@@ -12,8 +12,14 @@ use Rattle.forec_check.specs.declared.check_fault.CheckFault.{CheckFault}
 use Rattle.forec_check.specs.declared.check_fault.CheckFault.TheVariants as check
 use Rattle.forec_lexer.specs.declared.fault.LexFault.{LexFault}
 use Rattle.forec_lexer.specs.declared.fault.LexFault.TheVariants as lexer
+use Rattle.kernel_lower.specs.Kernels.{kernel_of}
+use Rattle.kernel_lower.specs.Limits.{WithinLimits, IsLimit}
+use Rattle.kernel_lower.specs.declared.lower_fault.LowerFault.{LowerFault}
+use Rattle.kernel_lower.specs.declared.lower_fault.LowerFault.TheVariants as lower
+use Rattle.kernel_lower.specs.declared.limits.Quantity.{Quantity}
+use Rattle.kernel_lower.specs.declared.limits.Quantity.TheVariants.{Threads, Words, Globals, Tables, Terms, Depth}
 use Rattle.forec_engine.specs.Counting.{counts_of}
-use Rattle.forec_engine.specs.FirstForm.{First}
+use Rattle.forec_engine.specs.Form.{text_forks}
 use Rattle.forec_engine.specs.declared.counts.Counts.{Counts}
 use Rattle.forec_engine.specs.declared.judging.Accepted.{Accepted}
 use Rattle.forec_engine.specs.declared.refusal.Refusal.{Refusal}
@@ -34,6 +40,14 @@ most_levels = 128
 abbrev pub refused_at : Place → List ℕ → List ℕ
 refused_at place word = codes "refused " ++ decimal place.line ++ codes ":" ++ decimal place.column ++ word
 
+abbrev pub limit_words : Quantity → List ℕ
+limit_words Threads = codes "refused limit threads "
+limit_words Words = codes "refused limit words "
+limit_words Globals = codes "refused limit globals "
+limit_words Tables = codes "refused limit tables "
+limit_words Terms = codes "refused limit terms "
+limit_words Depth = codes "refused limit depth "
+
 abbrev pub refusal_line : Refusal → List ℕ
 refusal_line why.Long = codes "refused long\n"
 refusal_line (why.Lex place) = refused_at place (codes " lex\n")
@@ -41,6 +55,7 @@ refusal_line (why.Many place) = refused_at place (codes " many\n")
 refusal_line why.Syntax = codes "refused syntax\n"
 refusal_line (why.Rule place rule) = refused_at place (codes " rule " ++ decimal rule ++ codes "\n")
 refusal_line why.Form = codes "refused form\n"
+refusal_line (why.Limit what count) = limit_words what ++ decimal count ++ codes "\n"
 
 -- ---- verdicts, in the order of the refusals
 
@@ -49,10 +64,12 @@ pub data Verdict : Type 0 where
   Accepts : Counts → PlainKernel → Verdict
   Refuses : Refusal → Verdict
 
--- the verdict on a program that breaks no rule
+-- the verdict on a program that breaks no rule: its form, and then its limits are looked at
 pub data OnUnbroken (program : Text) (names : List (List ℕ)) : Verdict → Type 0 where
-  accepted : (k : PlainKernel) → First program names k → OnUnbroken program names (Accepts (counts_of program names) k)
-  another_form : ((k : PlainKernel) → First program names k → ⊥) → OnUnbroken program names (Refuses why.Form)
+  another_form : text_forks program ≡ true → OnUnbroken program names (Refuses why.Form)
+  beyond : (what : Quantity) (count : ℕ) → text_forks program ≡ false → IsLimit program names what count → OnUnbroken program names (Refuses (why.Limit what count))
+  accepted : text_forks program ≡ false → WithinLimits (kernel_of program names)
+      → OnUnbroken program names (Accepts (counts_of program names) (kernel_of program names))
 
 -- the verdict on a program: the least of its faults is told
 pub data OnProgram (program : Text) (names : List (List ℕ)) : Verdict → Type 0 where
@@ -88,3 +105,8 @@ lexer_fault lexer.OutOfMemory = fault.OutOfMemory
 abbrev pub check_fault : CheckFault → JudgeFault
 check_fault (check.Broken place rule) = fault.Refused (why.Rule place rule)
 check_fault check.OutOfMemory = fault.OutOfMemory
+
+-- what a fault of the lowering is for the text
+abbrev pub lower_fault : LowerFault → JudgeFault
+lower_fault (lower.Limit what count) = fault.Refused (why.Limit what count)
+lower_fault lower.OutOfMemory = fault.OutOfMemory

@@ -1,6 +1,10 @@
 -- What holds of all reports.
-use Rattle.std.specs.Prelude.{◌≡◌, ℕ, List, Option, Some}
-use Rattle.forec_engine.specs.Commands.{IsReport}
+use Rattle.std.specs.Prelude.{◌≡◌, ◌⊎◌, ℕ, List, Option, Some}
+use Rattle.forec_kernel.specs.Shapes.{PlainKernel}
+use Rattle.thread_code.specs.Alone.{Stands}
+use Rattle.thread_code.specs.Plain.{PlainCode}
+use Rattle.forec_engine.specs.Commands.{command_of, IsReport, Tells, listed}
+use Rattle.forec_engine.specs.declared.words.Command.TheVariants as command
 use Rattle.forec_engine.specs.Judging.{Verdict, Judged}
 use Rattle.forec_engine.specs.Report.{Report}
 
@@ -8,15 +12,34 @@ use Rattle.forec_engine.specs.Report.{Report}
 abbrev pub OneVerdict : Type 0
 OneVerdict = (text : List ℕ) (v w : Verdict) → Judged text v → Judged text w → v ≡ w
 
--- words have one report at most
+-- the words ask for the listing of a code
+abbrev pub AskForCode : List (List ℕ) → Type 0
+AskForCode words = (name : List ℕ) × (command_of words ≡ Some (command.Code, name))
+
+-- words other than `code P` have one report at most
 abbrev pub OneReport : Type 0
 OneReport =
-    (words : List (List ℕ)) (content : List ℕ → Option (List ℕ)) (trace : Option (List ℕ)) (r q : Report) →
+    (words : List (List ℕ)) (content : List ℕ → Option (List ℕ)) (trace : Option (List ℕ)) (r q : Report) → (AskForCode words → ⊥) →
     IsReport words content trace r → IsReport words content trace q → r ≡ q
 
--- where the texts and the trace are told, it can't be that words have no report
+-- two listings of codes that stand for one kernel
+pub record ListOneKernel (r q : Report) : Type 0 where
+  pub kernel : PlainKernel
+  pub code : PlainCode
+  pub other : PlainCode
+  pub stands : Stands code kernel
+  pub also : Stands other kernel
+  pub first : r ≡ listed code
+  pub second : q ≡ listed other
+
+-- any words have one report at most, up to which code stands for the kernel
+abbrev pub AlikeReports : Type 0
+AlikeReports =
+    (words : List (List ℕ)) (content : List ℕ → Option (List ℕ)) (trace : Option (List ℕ)) (r q : Report) →
+    IsReport words content trace r → IsReport words content trace q → (r ≡ q) ⊎ ListOneKernel r q
+
+-- where the texts and the trace are told, it can't be that words other than `code P` have no report
 abbrev pub SomeReport : Type 0
 SomeReport =
-    (words : List (List ℕ)) (content : List ℕ → Option (List ℕ)) (bytes : List ℕ) →
-    ((name : List ℕ) → (text : List ℕ) × (content name ≡ Some text)) →
-    ((r : Report) → IsReport words content (Some bytes) r → ⊥) → ⊥
+    (words : List (List ℕ)) (content : List ℕ → Option (List ℕ)) (trace : Option (List ℕ)) → (AskForCode words → ⊥) → Tells words content trace →
+    ((r : Report) → IsReport words content trace r → ⊥) → ⊥

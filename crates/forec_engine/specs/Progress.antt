@@ -1,51 +1,73 @@
 -- How far a trace was taken.
-use Rattle.std.specs.Prelude.{◌≡◌, ℕ, Bool, false, List, [], ◌∷◌, ◌++◌, Option, Some, Ok, Err}
+use Rattle.std.specs.Prelude.{◌≡◌, ℕ, ◌+◌, ◌<◌, false, true, List, [], ◌++◌, length, Option, Some, None, Ok}
 use Rattle.forec_kernel.specs.Shapes.{PlainKernel}
 use Rattle.forec_kernel.specs.Ticks.{Fresh}
-use Rattle.forec_engine.specs.Lines.{lines_of, whole_lines}
-use Rattle.forec_engine.specs.Rows.{most_rows, row_at, rows_from}
-use Rattle.forec_engine.specs.Report.{Report, Pace, report_from, advance}
-use Rattle.forec_engine.specs.Calls.{IfTold, NoNewline}
-use Rattle.forec_engine.specs.declared.found.Next.{Next}
-use Rattle.forec_engine.specs.declared.found.Next.TheVariants as next
+use Rattle.trace_rows.specs.Calls.{IfTold}
+use Rattle.trace_rows.specs.Lines.{whole_lines}
+use Rattle.trace_rows.specs.Reader.{Reader, Takes, Waits, ahead}
+use Rattle.trace_rows.specs.Trace.{Row, header_at, row_at, stop, onto, trace_of}
+use Rattle.forec_engine.specs.Report.{Report, Pace, most_rows, report_from, behind_bytes, advance}
+use Rattle.forec_engine.specs.declared.found.Found.{Found}
+use Rattle.forec_engine.specs.declared.found.Found.TheVariants as found
+use Rattle.forec_engine.specs.declared.found.Unread.{Unread}
+use Rattle.forec_engine.specs.declared.found.Unread.TheVariants as unread
 
--- these lines of the text are done, these bytes of it wait, and these are left
-pub record At (text left waits : List ℕ) (ended : Bool) (done : List (List ℕ)) : Type 0 where
-  pub lines : lines_of text ≡ done ++ lines_of (waits ++ left)
-  pub whole : ended ≡ false → (given : List ℕ) × (text ≡ given ++ left) × ((more : List ℕ) → whole_lines (given ++ more) ≡ done ++ whole_lines (waits ++ more))
+-- the next line was a row, and gave these values
+pub record Gave (old new : Reader) (left_old left_new : Option (List ℕ)) (row : Row) : Type 0 where
+  pub line : List ℕ
+  pub is : row_at old.limit old.places (old.given + 1) line ≡ Ok row
+  pub takes : Takes line old.held new.held new.ended left_old left_new
+  pub stays : new.ended ≡ false → old.ended ≡ false
+  pub trace : IfTold left_old left_new (λ x y. ahead old x ≡ onto (Ok row) (old.given + 1) (ahead new y))
+  pub within : old.given < old.limit
+  pub count : new.given ≡ old.given + 1
+  pub most : new.limit ≡ old.limit
+  pub columns : new.places ≡ old.places
 
--- wherever a trace was, these lines more are done now
-abbrev pub Passes : List ℕ → Bool → List ℕ → Bool → List (List ℕ) → List ℕ → List ℕ → Type 0
-Passes waited was waits is lines left_old left_new =
-    (text : List ℕ) (done : List (List ℕ)) → At text left_old waited was done → At text left_new waits is (done ++ lines)
+-- what a call that looks for the next row says; it fails only where no whole line was held or came
+abbrev pub FoundSays : Reader → Reader → Option (List ℕ) → Option (List ℕ) → Row → Found → Type 0
+FoundSays old new left_old left_new row found.Row = Gave old new left_old left_new row
+FoundSays old new left_old left_new row found.End = IfTold left_old left_new (λ x y. ahead old x ≡ stop None (old.given + 1))
+FoundSays old new left_old left_new row (found.Stops f) = IfTold left_old left_new (λ x y. ahead old x ≡ stop (Some f) (old.given + 1))
+FoundSays old new left_old left_new row found.Failed = Waits old.held new.held old.ended new.ended left_old left_new
 
--- wherever a trace was, no line more has come whole
-abbrev pub Stays : List ℕ → Bool → List ℕ → List ℕ → Type 0
-Stays waited was left_old left_new =
-    (text : List ℕ) (done : List (List ℕ)) → At text left_old waited was done → (given : List ℕ) × (text ≡ given ++ left_new) × (whole_lines given ≡ done)
+-- the header is read
+pub record Started (inputs : List (List ℕ)) (left_old left_new : Option (List ℕ)) (r : Reader) : Type 0 where
+  pub header : List ℕ
+  pub is : header_at inputs header ≡ Ok r.places
+  pub takes : Takes header [] r.held r.ended left_old left_new
+  pub trace : IfTold left_old left_new (λ x y. trace_of inputs most_rows x ≡ ahead r y)
+  pub each : length r.places ≡ length inputs
+  pub most : r.limit ≡ most_rows
+  pub count : r.given ≡ 0
+  pub goes : r.live ≡ true
 
--- what a call that looks for row n says; it fails only where no whole line waited
-abbrev pub NextSays : ℕ → List ℕ → Bool → List ℕ → Bool → Option (List ℕ) → Option (List ℕ) → Next → Type 0
-NextSays n waited was waits is left_old left_new next.Row =
-    (line : List ℕ) × (row_at most_rows n line ≡ Ok []) × IfTold left_old left_new (Passes waited was waits is (line ∷ []))
-NextSays n waited was waits is left_old left_new next.End =
-    IfTold left_old left_new (λ x y. lines_of (waited ++ x) ≡ [])
-NextSays n waited was waits is left_old left_new (next.Fault f) =
-    IfTold left_old left_new (λ x y. (line : List ℕ) × (lines : List (List ℕ)) × (lines_of (waited ++ x) ≡ line ∷ lines) × (row_at most_rows n line ≡ Err f))
-NextSays n waited was waits is left_old left_new next.Failed =
-    NoNewline waited × IfTold left_old left_new (Stays waited was)
+-- why no row can be asked for; the source fails only where the first line has not come whole
+abbrev pub UnreadSays : List (List ℕ) → Option (List ℕ) → Option (List ℕ) → Unread → Type 0
+UnreadSays inputs left_old left_new (unread.Stops f) = IfTold left_old left_new (λ x y. trace_of inputs most_rows x ≡ stop (Some f) 0)
+UnreadSays inputs left_old left_new unread.Failed = (held : List ℕ) × Waits [] held false false left_old left_new
+UnreadSays inputs left_old left_new unread.OutOfMemory = Unit {0}
 
--- the report of a kernel on the rows of these bytes
-unfoldable pub report_rest : PlainKernel → ℕ → List ℕ → Report
-report_rest k budget bytes = report_from k budget Fresh 1 (rows_from most_rows 1 (lines_of bytes))
+-- the report of a kernel on the rows from where a reader stands
+unfoldable pub report_rest : PlainKernel → ℕ → Reader → List ℕ → Report
+report_rest k budget r left = report_from k budget Fresh 1 (ahead r left)
 
--- lines were taken that led a kernel from its start to a pace
-abbrev pub Leads : PlainKernel → ℕ → List ℕ → Bool → List ℕ → Bool → Pace → List ℕ → List ℕ → Type 0
-Leads k budget waited was waits is p left_old left_new =
-    (lines : List (List ℕ)) × Passes waited was waits is lines left_old left_new × (advance k budget Fresh 1 lines ≡ Some p)
+-- the bytes that were taken are whole lines, which led a kernel from its start to a pace
+pub record Taken (k : PlainKernel) (budget : ℕ) (first now : Reader) (p : Pace) (left_old left_new : List ℕ) : Type 0 where
+  pub given : List ℕ
+  pub split : first.held ++ left_old ≡ given ++ (now.held ++ left_new)
+  pub lines : List (List ℕ)
+  pub whole : (more : List ℕ) → whole_lines (given ++ more) ≡ lines ++ whole_lines more
+  pub led : advance k budget first.places Fresh 1 lines ≡ Some p
 
--- the same, the fault apart, of lines that have come whole
-abbrev pub Led : PlainKernel → ℕ → List ℕ → Bool → List ℕ → List ℕ → List ℕ → Type 0
-Led k budget waited was bytes left_old left_new =
-    (text : List ℕ) (done : List (List ℕ)) → At text left_old waited was done →
-    (given : List ℕ) × (lines : List (List ℕ)) × (p : Pace) × (text ≡ given ++ left_new) × (whole_lines given ≡ done ++ lines) × (advance k budget Fresh 1 lines ≡ Some p) × (p.bytes ≡ bytes)
+-- rows were taken that led a kernel from its start to a pace
+pub record Leads (k : PlainKernel) (budget : ℕ) (first now : Reader) (p : Pace) (left_old left_new : List ℕ) : Type 0 where
+  pub report : report_rest k budget first left_old ≡ behind_bytes p.bytes (report_from k budget p.state p.next (ahead now left_new))
+  pub stays : now.ended ≡ false → first.ended ≡ false
+  pub taken : now.ended ≡ false → Taken k budget first now p left_old left_new
+
+-- these bytes are what the lines print that have come whole, none of which stops the program
+abbrev pub Led : PlainKernel → ℕ → Reader → List ℕ → List ℕ → List ℕ → Type 0
+Led k budget first bytes left_old left_new =
+    (first.ended ≡ false) × (given : List ℕ) × (first.held ++ left_old ≡ given ++ left_new)
+    × (p : Pace) × (advance k budget first.places Fresh 1 (whole_lines given) ≡ Some p) × (p.bytes ≡ bytes)

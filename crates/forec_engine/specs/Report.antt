@@ -5,16 +5,20 @@ use Rattle.forec_kernel.specs.declared.shape.Outcome.{Outcome}
 use Rattle.forec_kernel.specs.declared.shape.Outcome.TheVariants as outcome
 use Rattle.forec_kernel.specs.Shapes.{PlainKernel}
 use Rattle.forec_kernel.specs.Ticks.{State, Fresh, Tick, tick, goes_on, run_from}
-use Rattle.forec_engine.specs.Lines.{lines_of}
-use Rattle.forec_engine.specs.Rows.{Row, End, Trace, most_rows, row_at, rows_of}
-use Rattle.forec_engine.specs.ReportLines.{output_names, outcome_lines, rows_line, row_line}
-use Rattle.forec_engine.specs.declared.found.RowFault.{RowFault}
+use Rattle.trace_rows.specs.Trace.{Row, End, Trace, header_at, row_at, trace_of}
+use Rattle.trace_rows.specs.declared.fault.RowFault.{RowFault}
+use Rattle.forec_engine.specs.KernelNames.{input_names, output_names}
+use Rattle.trace_rows.specs.Report.{outcome_lines, rows_line, row_line}
 use Rattle.forec_engine.specs.declared.status.Status.{Status}
 use Rattle.forec_engine.specs.declared.status.Status.TheVariants as status
 
 pub record Report : Type 0 where
   pub bytes : List ℕ
   pub status : Status
+
+-- the most rows of a trace
+abbrev pub most_rows : ℕ
+most_rows = 1000000000
 
 -- ---- the whole report
 
@@ -55,7 +59,7 @@ report_from k budget s n trace =
 
 -- the report of a kernel for the bytes of a trace
 unfoldable pub trace_report : PlainKernel → ℕ → List ℕ → Report
-trace_report k budget bytes = report_from k budget Fresh 1 (rows_of most_rows (lines_of bytes))
+trace_report k budget bytes = report_from k budget Fresh 1 (trace_of (input_names k) most_rows bytes)
 
 -- ---- the report so far
 
@@ -72,19 +76,20 @@ with_row (Err e) f = None
 abbrev pub printed_before : List ℕ → Pace → Pace
 printed_before bytes p = record { state = p.state; next = p.next; bytes = bytes ++ p.bytes }
 
--- what these lines print, of which the first is line n, where each is a row and the program goes on at each
-abbrev pub advance : PlainKernel → ℕ → State → ℕ → List (List ℕ) → Option Pace
-advance k budget s n [] = Some (record { state = s; next = n; bytes = [] })
-advance k budget s n (line ∷ lines) = with_row (row_at most_rows n line) (λ row.
+-- What these lines print, of which the first is line n, where each is a row and the program goes on at each. The inputs stand at
+-- these places of the header.
+abbrev pub advance : PlainKernel → ℕ → List ℕ → State → ℕ → List (List ℕ) → Option Pace
+advance k budget places s n [] = Some (record { state = s; next = n; bytes = [] })
+advance k budget places s n (line ∷ lines) = with_row (row_at most_rows places n line) (λ row.
     let t = tick k budget s row in
-    if goes_on t.outcome then option_map (printed_before (tick_lines k budget n t)) (advance k budget t.state (n + 1) lines) else None)
+    if goes_on t.outcome then option_map (printed_before (tick_lines k budget n t)) (advance k budget places t.state (n + 1) lines) else None)
 
-abbrev pub with_header : Result Row RowFault → Option (List ℕ) → Option (List ℕ)
-with_header (Ok header) bytes = bytes
+abbrev pub with_header : Result (List ℕ) RowFault → (List ℕ → Option (List ℕ)) → Option (List ℕ)
+with_header (Ok places) bytes = bytes places
 with_header (Err e) bytes = None
 
 -- what a kernel has printed for these first lines of a trace, where none of them stops it
 unfoldable pub printed_for : PlainKernel → ℕ → List (List ℕ) → Option (List ℕ)
 printed_for k budget [] = Some []
 printed_for k budget (header ∷ lines) =
-    with_header (row_at most_rows 0 header) (option_map (λ p. p.bytes) (advance k budget Fresh 1 lines))
+    with_header (header_at (input_names k) header) (λ places. option_map (λ p. p.bytes) (advance k budget places Fresh 1 lines))

@@ -1,40 +1,45 @@
 // The top call.
-ghost use Rattle.std.specs.Prelude.{◌≡◌, ◌≤◌, ◌≢◌, ◌⊎◌, List, ℕ, map, length, string_bytes, IfSome, Some, None};
+ghost use Rattle.std.specs.Prelude.{◌≡◌, ◌≤◌, ◌≢◌, ◌^◌, ◌⊎◌, List, ℕ, map, length, string_bytes, IfSome, Some, None};
 ghost use Rattle.std.specs.Option.{option_copied};
 ghost use Rattle.forec_base.specs.Outside.{Fell, Rose};
 ghost use Rattle.forec_kernel.specs.Shapes.{PlainKernel, plain_kernel};
+ghost use Rattle.thread_code.specs.Alone.{Stands};
+ghost use Rattle.thread_code.specs.Plain.{PlainCode};
 ghost use Rattle.forec_engine.specs.Calls.{AppendsFront};
-ghost use Rattle.forec_engine.specs.Commands.{program_of, command_of, budget, refused, counted, IsReport, TextReport, AcceptedReport};
+ghost use Rattle.forec_engine.specs.Commands.{program_of, command_of, usage, refused, counted, listed, IsReport, TextReport, AcceptedReport, TellsTrace, Tells, HasSmallBudget};
 ghost use Rattle.forec_engine.specs.Ends.{IsOwn, Given, Wanted, WantedByText, WantedByWords};
-ghost use Rattle.forec_engine.specs.FirstCode.{IsFirstKernel};
 ghost use Rattle.forec_engine.specs.Report.{Report, trace_report};
 
 use crate::counts::Counts;
-use crate::generator::generate;
-use crate::judging::{Accepted, judge, one_verdict};
-use crate::lines::Lines;
-use crate::machine::Machine;
+use crate::judging::{Accepted, judge};
+use crate::names::pick_names;
 use crate::refusal::{JudgeFault, Refusal};
+use crate::runner::Runner;
 use crate::sink::say;
 use crate::status::Status;
-use crate::ticks::{Program, output_name, run};
+use crate::ticks::run;
 use crate::waiting::Waiting;
 use crate::words::{Command, read_words};
+use code_gen::generate;
 use forec_base::{Gate, Sink, Source, TextFault, Texts};
 use forec_kernel::Kernel;
 use std::alloc::Global;
+use thread_code::listing;
 
 const MOST_BYTES: usize = 1_048_576;
-
-// The units that a tick may have.
-const BUDGET: u64 = 10_000_000;
 
 const USAGE: &[u8] =
     b"usage: forec run|check|threads|code|explain|gen PROGRAM [--cores N] [--place LIST] [--budget B] [--order N]\n";
 
-// Makes all that a run needs, and runs.
-fn start<S: Source, K: Sink>(alloc: Global, kernel: Kernel, trace: &mut S, out: &mut K) -> Status
-    requires { IsFirstKernel (plain_kernel kernel) }
+// Makes all that a run needs, and runs. A tick may have so many units.
+fn start<S: Source, K: Sink>(
+    alloc: Global,
+    kernel: Kernel,
+    budget: u64,
+    trace: &mut S,
+    out: &mut K,
+) -> Status
+    requires { budget ≤ 2 ^ 62 }
     ensures own { IsOwn result → IfSome (S.left trace.old)
         (λ x. Given (trace_report (plain_kernel kernel) budget x) result (K.held out.old) (K.held out.new)) }
     ensures read { result ≡ Status.ReadFault → Fell (S.faults trace.old) (S.faults trace.new) (S.down trace.new)
@@ -44,24 +49,31 @@ fn start<S: Source, K: Sink>(alloc: Global, kernel: Kernel, trace: &mut S, out: 
     ensures memory { result ≡ Status.NoMemory → K.held out.new ≡ K.held out.old }
     ensures usage { result ≢ Status.Usage }
 {
+    let shape = kernel.shape();
+    let Ok(inputs) = pick_names(alloc, &shape.names, &shape.inputs) else {
+        return Status::NoMemory;
+    };
+    let Ok(outputs) = pick_names(alloc, &shape.names, &shape.outputs) else {
+        return Status::NoMemory;
+    };
+    let Ok(mut waiting) = Waiting::new(alloc, outputs) else {
+        return Status::NoMemory;
+    };
     let Ok(code) = generate(alloc, &kernel) else {
         return Status::NoMemory;
     };
-    let Ok(mut machine) = Machine::load(alloc, &code) else {
+    let Ok(mut runner) = Runner::load(alloc, kernel, code) else {
         return Status::NoMemory;
     };
-    let Ok(mut lines) = Lines::new(alloc) else {
-        return Status::NoMemory;
-    };
-    let Ok(mut waiting) = Waiting::new(alloc, output_name(&kernel)) else {
-        return Status::NoMemory;
-    };
-    let program = Program {
-        kernel,
-        code,
-        budget: BUDGET,
-    };
-    run(&program, &mut machine, &mut lines, &mut waiting, trace, out)
+    run(
+        alloc,
+        &inputs,
+        &mut runner,
+        budget,
+        &mut waiting,
+        trace,
+        out,
+    )
 }
 
 // Says why a text is refused.
@@ -73,7 +85,7 @@ fn refuse<K: Sink>(alloc: Global, why: Refusal, out: &mut K) -> Status
     ensures memory { result ≡ Status.NoMemory → K.held out.new ≡ K.held out.old }
     ensures usage { result ≢ Status.Usage }
 {
-    let Ok(mut waiting) = Waiting::new(alloc, "") else {
+    let Ok(mut waiting) = Waiting::plain(alloc) else {
         return Status::NoMemory;
     };
     waiting.put_refusal(why);
@@ -89,11 +101,29 @@ fn tell<K: Sink>(alloc: Global, counts: Counts, out: &mut K) -> Status
     ensures memory { result ≡ Status.NoMemory → K.held out.new ≡ K.held out.old }
     ensures usage { result ≢ Status.Usage }
 {
-    let Ok(mut waiting) = Waiting::new(alloc, "") else {
+    let Ok(mut waiting) = Waiting::plain(alloc) else {
         return Status::NoMemory;
     };
     waiting.put_counts(counts);
     waiting.finish(out, Status::Done)
+}
+
+// Lists a code that stands for a kernel.
+fn list<K: Sink>(alloc: Global, kernel: &Kernel, out: &mut K) -> Status
+    ensures own { IsOwn result → (code : PlainCode) × Stands code (plain_kernel kernel.now) × Given (listed code) result (K.held out.old) (K.held out.new) }
+    ensures read { result ≢ Status.ReadFault }
+    ensures write { result ≡ Status.WriteFault → Fell (K.faults out.old) (K.faults out.new) (K.down out.new)
+        × ((code : PlainCode) × Stands code (plain_kernel kernel.now) × AppendsFront (K.held out.old) (K.held out.new) (listed code).bytes) }
+    ensures memory { result ≡ Status.NoMemory → K.held out.new ≡ K.held out.old }
+    ensures usage { result ≢ Status.Usage }
+{
+    let Ok(code) = generate(alloc, kernel) else {
+        return Status::NoMemory;
+    };
+    let Ok(text) = listing(alloc, &code) else {
+        return Status::NoMemory;
+    };
+    say(out, text.as_bytes(), Status::Done)
 }
 
 // Does what a command asks of a text that is accepted.
@@ -104,20 +134,23 @@ fn answer<S: Source, K: Sink>(
     trace: &mut S,
     out: &mut K,
 ) -> Status
-    requires { IsFirstKernel (plain_kernel accepted.kernel) }
-    ensures own { IsOwn result → (r : Report) → AcceptedReport command accepted.counts (plain_kernel accepted.kernel) (S.left trace.old) r
-        → Given r result (K.held out.old) (K.held out.new) }
-    ensures read { result ≡ Status.ReadFault → (command ≡ Command.Run) × Fell (S.faults trace.old) (S.faults trace.new) (S.down trace.new)
+    requires { HasSmallBudget command }
+    ensures own { IsOwn result → TellsTrace command (S.left trace.old) → (r : Report)
+        × AcceptedReport command accepted.counts (plain_kernel accepted.kernel) (S.left trace.old) r
+        × Given r result (K.held out.old) (K.held out.new) }
+    ensures read { result ≡ Status.ReadFault → (budget : ℕ) × (command ≡ Command.Run budget) × Fell (S.faults trace.old) (S.faults trace.new) (S.down trace.new)
         × Wanted (plain_kernel accepted.kernel) budget (S.left trace.old) (S.left trace.new) (K.held out.old) (K.held out.new) }
     ensures write { result ≡ Status.WriteFault → Fell (K.faults out.old) (K.faults out.new) (K.down out.new)
-        × ((r : Report) → AcceptedReport command accepted.counts (plain_kernel accepted.kernel) (S.left trace.old) r
-        → AppendsFront (K.held out.old) (K.held out.new) r.bytes) }
+        × (TellsTrace command (S.left trace.old) → (r : Report)
+        × AcceptedReport command accepted.counts (plain_kernel accepted.kernel) (S.left trace.old) r
+        × AppendsFront (K.held out.old) (K.held out.new) r.bytes) }
     ensures memory { result ≡ Status.NoMemory → K.held out.new ≡ K.held out.old }
     ensures usage { result ≢ Status.Usage }
 {
     match command {
-        Command::Run => start(alloc, accepted.kernel, trace, out),
+        Command::Run { budget } => start(alloc, accepted.kernel, budget, trace, out),
         Command::Check => tell(alloc, accepted.counts, out),
+        Command::Code => list(alloc, &accepted.kernel, out),
     }
 }
 
@@ -129,17 +162,18 @@ fn run_text<S: Source, K: Sink>(
     trace: &mut S,
     out: &mut K,
 ) -> Status
-    requires { length text.now ≤ 1048576 }
-    ensures own { IsOwn result → (r : Report) → TextReport command text.now (S.left trace.old) r → Given r result (K.held out.old) (K.held out.new) }
-    ensures read { result ≡ Status.ReadFault → (command ≡ Command.Run) × Fell (S.faults trace.old) (S.faults trace.new) (S.down trace.new)
-        × WantedByText text.now (S.left trace.old) (S.left trace.new) (K.held out.old) (K.held out.new) }
+    requires short { length text.now ≤ 1048576 }
+    requires small { HasSmallBudget command }
+    ensures own { IsOwn result → TellsTrace command (S.left trace.old) → (r : Report) × TextReport command text.now (S.left trace.old) r
+        × Given r result (K.held out.old) (K.held out.new) }
+    ensures read { result ≡ Status.ReadFault → (budget : ℕ) × (command ≡ Command.Run budget) × Fell (S.faults trace.old) (S.faults trace.new) (S.down trace.new)
+        × WantedByText budget text.now (S.left trace.old) (S.left trace.new) (K.held out.old) (K.held out.new) }
     ensures write { result ≡ Status.WriteFault → Fell (K.faults out.old) (K.faults out.new) (K.down out.new)
-        × ((r : Report) → TextReport command text.now (S.left trace.old) r → AppendsFront (K.held out.old) (K.held out.new) r.bytes) }
+        × (TellsTrace command (S.left trace.old) → (r : Report) × TextReport command text.now (S.left trace.old) r
+        × AppendsFront (K.held out.old) (K.held out.new) r.bytes) }
     ensures memory { result ≡ Status.NoMemory → K.held out.new ≡ K.held out.old }
     ensures usage { result ≢ Status.Usage }
 {
-    // A text has one verdict at most, so that the report of this one is its report.
-    one_verdict();
     match judge(alloc, text) {
         Ok(accepted) => answer(alloc, command, accepted, trace, out),
         Err(JudgeFault::Refused { why }) => refuse(alloc, why, out),
@@ -159,9 +193,10 @@ fn run_command<T: Texts, S: Source, K: Sink, G: Gate>(
     // The text that the words name may be asked for.
     requires may { (name : List ℕ) → program_of (map string_bytes words.now) ≡ Some name → T.may texts.old name }
 
-    // What is printed is the report, and the status is the report's.
-    ensures own { IsOwn result → (r : Report) → IsReport (map string_bytes words.now) (T.content texts.old) (S.left trace.old) r
-        → Given r result (K.held out.old) (K.held out.new) }
+    // Where the text and the trace are told, what is printed is a report of the words, and the status is the report's.
+    ensures own { IsOwn result → Tells (map string_bytes words.now) (T.content texts.old) (S.left trace.old) → (r : Report)
+        × IsReport (map string_bytes words.now) (T.content texts.old) (S.left trace.old) r
+        × Given r result (K.held out.old) (K.held out.new) }
 
     // A store or a trace that was wanted failed. What was printed is what the rows that had come whole print.
     ensures read { result ≡ Status.ReadFault →
@@ -169,10 +204,11 @@ fn run_command<T: Texts, S: Source, K: Sink, G: Gate>(
         ⊎ (Fell (S.faults trace.old) (S.faults trace.new) (S.down trace.new)
         × WantedByWords (map string_bytes words.now) (T.content texts.old) (S.left trace.old) (S.left trace.new) (K.held out.old) (K.held out.new)) }
 
-    // The sink failed. What was printed is a front of the report.
+    // The sink failed. What was printed is a front of a report of the words.
     ensures write { result ≡ Status.WriteFault → Fell (K.faults out.old) (K.faults out.new) (K.down out.new)
-        × ((r : Report) → IsReport (map string_bytes words.now) (T.content texts.old) (S.left trace.old) r
-        → AppendsFront (K.held out.old) (K.held out.new) r.bytes) }
+        × (Tells (map string_bytes words.now) (T.content texts.old) (S.left trace.old) → (r : Report)
+        × IsReport (map string_bytes words.now) (T.content texts.old) (S.left trace.old) r
+        × AppendsFront (K.held out.old) (K.held out.new) r.bytes) }
 
     // Where memory was wanting, nothing was printed.
     ensures memory { result ≡ Status.NoMemory → K.held out.new ≡ K.held out.old }
@@ -192,9 +228,11 @@ fn run_command<T: Texts, S: Source, K: Sink, G: Gate>(
     }
 }
 
-/// Does what the words ask, and gives the status. `run P` runs the program whose text `texts` has under
-/// the name P, a tick for each row of `trace`; `check P` judges it and tells its counts, and reads no
-/// trace. The report goes to `out`. All other words give the usage line.
+/// Does what the words ask, and gives the status. The report goes to `out`.
+///
+/// `run P` and `run P --budget B` run the program whose text `texts` has under the name `P`, a tick for each row
+/// of `trace`, of which each may have `B` units, or 10,000,000. `check P` counts the program's thread instances,
+/// inputs and outputs, and `code P` lists its code; neither reads the trace. All other words give the usage line.
 pub fn forec<T: Texts, S: Source, K: Sink, G: Gate>(
     alloc: Global,
     words: &[String],
@@ -206,9 +244,10 @@ pub fn forec<T: Texts, S: Source, K: Sink, G: Gate>(
     // The text that the words name may be asked for.
     requires may { (name : List ℕ) → program_of (map string_bytes words.now) ≡ Some name → T.may texts.old name }
 
-    // What is printed is the report, and the status is the report's.
-    ensures own { IsOwn result → (r : Report) → IsReport (map string_bytes words.now) (T.content texts.old) (S.left trace.old) r
-        → Given r result (K.held out.old) (K.held out.new) }
+    // Where the text and the trace are told, what is printed is a report of the words, and the status is the report's.
+    ensures own { IsOwn result → Tells (map string_bytes words.now) (T.content texts.old) (S.left trace.old) → (r : Report)
+        × IsReport (map string_bytes words.now) (T.content texts.old) (S.left trace.old) r
+        × Given r result (K.held out.old) (K.held out.new) }
 
     // A store or a trace that was wanted failed. What was printed is what the rows that had come whole print.
     ensures read { result ≡ Status.ReadFault →
@@ -216,10 +255,11 @@ pub fn forec<T: Texts, S: Source, K: Sink, G: Gate>(
         ⊎ (Fell (S.faults trace.old) (S.faults trace.new) (S.down trace.new)
         × WantedByWords (map string_bytes words.now) (T.content texts.old) (S.left trace.old) (S.left trace.new) (K.held out.old) (K.held out.new)) }
 
-    // The sink failed. What was printed is a front of the report.
+    // The sink failed. What was printed is a front of a report of the words.
     ensures write { result ≡ Status.WriteFault → Fell (K.faults out.old) (K.faults out.new) (K.down out.new)
-        × ((r : Report) → IsReport (map string_bytes words.now) (T.content texts.old) (S.left trace.old) r
-        → AppendsFront (K.held out.old) (K.held out.new) r.bytes) }
+        × (Tells (map string_bytes words.now) (T.content texts.old) (S.left trace.old) → (r : Report)
+        × IsReport (map string_bytes words.now) (T.content texts.old) (S.left trace.old) r
+        × AppendsFront (K.held out.old) (K.held out.new) r.bytes) }
 
     // Where memory was wanting, nothing was printed.
     ensures memory { result ≡ Status.NoMemory → K.held out.new ≡ K.held out.old }

@@ -1,37 +1,21 @@
 // What stands next in a trace.
 
-/// Why a line is no row.
-#[derive(Clone, Copy, Debug, PartialEq, Eq)]
-pub enum RowFault {
-    /// It is no header or row.
-    Bad,
-    /// As many rows as there may be were given.
-    Many,
-}
+use trace_rows::RowFault;
 
 /// What stands next in a trace: a row, nothing, or what is no row; or the source failed.
 #[derive(Clone, Copy, Debug, PartialEq, Eq)]
-pub enum Next {
+pub enum Found {
     Row,
     End,
-    Fault(RowFault),
+    Stops(RowFault),
     Failed,
 }
 
-/// What stands next in a text: a line that byte 10 ends, a last line without one, the front of a line that is
-/// too long, or nothing.
+/// Why no row can be asked for: there is no header, or the first line is none; or the source failed, or there is no
+/// memory left.
 #[derive(Clone, Copy, Debug, PartialEq, Eq)]
-pub enum Found {
-    Line,
-    Last,
-    Long,
-    End,
-}
-
-/// What was moved to a line: all that it lacked, a part, or nothing since it would be too long.
-#[derive(Clone, Copy, Debug, PartialEq, Eq)]
-pub enum Moved {
-    Whole,
-    Part,
-    Long,
+pub enum Unread {
+    Stops(RowFault),
+    Failed,
+    OutOfMemory,
 }

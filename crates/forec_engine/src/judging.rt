@@ -1,15 +1,16 @@
 // From a text to its kernel, or to the first cause for which it is refused.
-ghost use Rattle.std.specs.Prelude.{◌≡◌, ◌≤◌, length};
+ghost use Rattle.std.specs.Prelude.{◌≡◌, ◌≤◌, length, false};
 ghost use Rattle.std.specs.List.{All};
 ghost use Rattle.forec_tree.specs.LexedText.{IsNumbered, AreDistinct};
 ghost use Rattle.forec_tree.specs.Plain as tree;
 ghost use Rattle.forec_check.specs.Checked.{text_of, names_of};
 ghost use Rattle.forec_check.specs.Checks.{Distinct, IdsBelow};
-ghost use Rattle.forec_engine.specs.Judging.{Judged, OnTokens, OnProgram, OnUnbroken, Says, lexer_fault, check_fault};
+ghost use Rattle.forec_engine.specs.Form.{text_forks};
+ghost use Rattle.forec_engine.specs.Judging.{Judged, OnTokens, OnProgram, OnUnbroken, Says, lexer_fault, check_fault, lower_fault};
 ghost use Rattle.forec_engine.specs.Laws.{OneVerdict};
 
 use crate::counts::{Counts, count};
-use crate::first_form::{FormFault, first_kernel, one_kernel};
+use crate::form::program_forks;
 use crate::refusal::{JudgeFault, Refusal};
 use forec_base::Labels;
 use forec_check::{CheckFault, Checked, check};
@@ -17,6 +18,7 @@ use forec_kernel::Kernel;
 use forec_lexer::{LexFault, lex, one_lexing};
 use forec_parser::{ParseFault, one_program, parse};
 use forec_tree::{Program, Token};
+use kernel_lower::{LowerFault, lower};
 use std::alloc::Global;
 
 /// A text that is accepted: what is counted of its program, and its kernel.
@@ -26,17 +28,38 @@ pub struct Accepted {
     pub kernel: Kernel,
 }
 
-fn accept(alloc: Global, checked: &Checked<'_>) -> Result<Accepted, JudgeFault>
+// What a fault of the lowering is for the text.
+fn of_lower(fault: LowerFault) -> JudgeFault
+    ensures { result ≡ lower_fault fault }
+{
+    match fault {
+        LowerFault::Limit { what, count } => JudgeFault::Refused {
+            why: Refusal::Limit { what, count },
+        },
+        LowerFault::OutOfMemory => JudgeFault::OutOfMemory,
+    }
+}
+
+fn accept_one(alloc: Global, checked: &Checked<'_>) -> Result<Accepted, JudgeFault>
+    requires { text_forks (text_of checked.now) ≡ false }
     ensures { Says (OnUnbroken (text_of checked.now) (names_of checked.now)) result }
 {
-    match first_kernel(alloc, checked.program(), checked.names()) {
+    match lower(alloc, checked, checked.names()) {
         Ok(kernel) => match count(alloc, checked) {
             Ok(counts) => Ok(Accepted { counts, kernel }),
             Err(_) => Err(JudgeFault::OutOfMemory),
         },
-        Err(FormFault::Form) => Err(JudgeFault::Refused { why: Refusal::Form }),
-        Err(FormFault::OutOfMemory) => Err(JudgeFault::OutOfMemory),
+        Err(fault) => Err(of_lower(fault)),
     }
+}
+
+fn accept(alloc: Global, checked: &Checked<'_>) -> Result<Accepted, JudgeFault>
+    ensures { Says (OnUnbroken (text_of checked.now) (names_of checked.now)) result }
+{
+    if program_forks(checked.program()) {
+        return Err(JudgeFault::Refused { why: Refusal::Form });
+    }
+    accept_one(alloc, checked)
 }
 
 // What a fault of the check is for the text.
@@ -104,11 +127,10 @@ pub fn judge(alloc: Global, text: &[u8]) -> Result<Accepted, JudgeFault>
 }
 
 /// A text has one verdict at most: it is lexed in one way, its tokens spell one program, which has
-/// one least fault and one kernel.
+/// one least fault, one kernel, and one limit that it passes first.
 pub fn one_verdict()
     ensures { OneVerdict }
 {
     one_lexing();
     one_program();
-    one_kernel();
 }

@@ -1,16 +1,25 @@
 // Laws of the reports.
-ghost use Rattle.forec_engine.specs.Laws.{OneReport, SomeReport};
+ghost use Rattle.forec_engine.specs.Laws.{OneReport, AlikeReports, SomeReport};
 
 use crate::judging::one_verdict;
 
-/// Words have one report at most, and its bytes and status are those that the top call gives.
+/// Words other than `code P` have one report at most, and its bytes and status are those that the top
+/// call gives.
 pub fn reports_are_unique()
     ensures { OneReport }
 {
     one_verdict();
 }
 
-/// Where the texts and the trace are told, it can't be that words have no report.
+/// Any words have one report at most, up to this: the reports of `code P` list codes that stand for one
+/// kernel.
+pub fn reports_are_alike()
+    ensures { AlikeReports }
+{
+    one_verdict();
+}
+
+/// Where the texts and the trace are told, it can't be that words other than `code P` have no report.
 pub fn each_command_has_a_report()
     ensures { SomeReport }
 {}

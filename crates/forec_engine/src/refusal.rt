@@ -1,6 +1,7 @@
 // Why a text doesn't run.
 
 use forec_base::Place;
+use kernel_lower::Quantity;
 
 /// Why a text is refused, in the order in which causes are looked for.
 #[derive(Clone, Copy, Debug, PartialEq, Eq)]
@@ -15,14 +16,16 @@ pub enum Refusal {
     Syntax,
     /// Its program breaks this rule, from 1 to 24, at this place, and none before it.
     Rule { place: Place, rule: u8 },
-    /// Its program is no first program.
+    /// A shared variable, a `par` or an abort stands in its program.
     Form,
+    /// Its program passes this limit, `count`, and none before it.
+    Limit { what: Quantity, count: u64 },
 }
 
 /// Why a text is not accepted.
 #[derive(Clone, Copy, Debug, PartialEq, Eq)]
 pub enum JudgeFault {
     Refused { why: Refusal },
-    /// There is no memory left, or the program has more terms than a kernel holds.
+    /// There is no memory left.
     OutOfMemory,
 }

@@ -1,57 +1,81 @@
 // Finished lines of the report that aren't with the sink yet.
-ghost use Rattle.std.specs.Prelude.{◌≡◌, ◌≢◌, ◌+◌, ◌≤◌, ◌++◌, ◌∷◌, [], ℤ, List, length, decimal, vec_len, vec_capacity, IfOk, OnOk, OnErr, IsTrue};
+ghost use Rattle.std.specs.Prelude.{◌≡◌, ◌≢◌, ◌+◌, ◌-◌, ◌^◌, ◌≤◌, ◌++◌, ◌∷◌, [], ℤ, List, length, min, take, decimal, vec_len, vec_capacity, IfOk, OnOk, OnErr, IsTrue};
 ghost use Rattle.std.specs.Io.KnownBytes.{Appends};
 ghost use Rattle.forec_base.specs.Outside.{Fell};
-ghost use Rattle.forec_engine.specs.Calls.{AppendsFront, Faults};
-ghost use Rattle.forec_engine.specs.Machine.{HasOutput};
-ghost use Rattle.forec_engine.specs.ReportLines.{tick_line, end_line, trap_word, trap_line, over_line, rows_line, fault_word, row_line, outcome_lines};
+ghost use Rattle.trace_rows.specs.Calls.{Faults};
+ghost use Rattle.core_host.specs.Outcomes.{HasOutputs};
+ghost use Rattle.forec_engine.specs.Calls.{AppendsFront};
+ghost use Rattle.trace_rows.specs.Report.{tick_line, tick_room, end_line, trap_word, trap_line, over_line, rows_line, fault_word, row_line, outcome_lines};
 ghost use Rattle.forec_engine.specs.Counting.{counts_line};
-ghost use Rattle.forec_engine.specs.Judging.{refused_at, refusal_line};
+ghost use Rattle.forec_engine.specs.Judging.{limit_words, refused_at, refusal_line};
 
 use crate::counts::Counts;
-use crate::found::RowFault;
 use crate::refusal::Refusal;
 use crate::sink::write_all;
 use crate::status::Status;
-use forec_base::{Failed, OutOfMemory, Place, Sink, Trap};
+use forec_base::{Failed, Labels, OutOfMemory, Place, Sink, Trap};
 use forec_kernel::Outcome;
 use itoa::Buffer;
+use kernel_lower::Quantity;
 use std::alloc::Global;
+use trace_rows::{RowFault, line, line_room};
 
-// Room for the lines of a tick, the name of its output apart.
+// Room for the lines of a tick, that of its outputs apart.
 const TICK_ROOM: usize = 64;
 
 // What is written at once where many lines wait.
 const PIECE: usize = 65536;
 
-/// Lines that wait, in room that is made once.
+/// Lines that wait, in room that is made once, and the names of the outputs in order of declaration. In `line` the
+/// line of a tick is made.
 #[derive(Drop)]
 pub struct Waiting {
     pub bytes: Vec<u8>,
-    pub room: usize,
-    ghost fits: { room ≤ vec_capacity bytes },
-    ghost least: { 64 ≤ room },
+    pub line: Vec<u8>,
+    pub names: Labels,
+    ghost fits: { length line.items + 64 ≤ vec_capacity bytes },
+    ghost ample: { 128 ≤ vec_capacity bytes },
+    ghost whole: { min (tick_room names) (2 ^ 64 - 1) ≤ length line.items },
+}
+
+// Adds bytes for which there is room.
+fn append(to: &mut Vec<u8>, bytes: &[u8])
+    requires { vec_len to.old + length bytes.now ≤ vec_capacity to.old }
+    ensures items { to.new.items ≡ to.old.items ++ bytes.now }
+    ensures capacity { vec_capacity to.old ≤ vec_capacity to.new }
+{
+    let Ok(()) = to.extend_from_slice(bytes) else {
+        unreachable!()
+    };
 }
 
 impl Waiting {
-    ghost use Rattle.forec_engine.specs.WaitingRoom.{HasRoom, Gains};
+    ghost use Rattle.forec_engine.specs.WaitingRoom.{HasRoom, HasTickRoom, Gains};
 
-    /// Nothing waits. There is room for the lines of a tick of a program whose output has this name.
-    pub fn new(alloc: Global, name: &str) -> Result<Waiting, OutOfMemory>
+    /// Nothing waits. There is room for the lines of a tick of a program whose outputs have these names.
+    pub fn new(alloc: Global, names: Labels) -> Result<Waiting, OutOfMemory>
         ensures empty { IfOk result (λ w. w.bytes.items ≡ []) }
-        ensures room { IfOk result (λ w. w.room ≡ length name.now + 64) }
+        ensures names { IfOk result (λ w. w.names ≡ names) }
         ensures ample { IfOk result (λ w. HasRoom w 128) }
     {
-        let room = name.len() + TICK_ROOM;
-        let bytes = Vec::with_capacity(alloc, PIECE + room)?;
-        Ok(Waiting { bytes, room })
+        let line = vec![in alloc; 0u8; line_room(&names)]?;
+        let bytes = Vec::with_capacity(alloc, line.len() + TICK_ROOM + PIECE)?;
+        Ok(Waiting { bytes, line, names })
+    }
+
+    /// Nothing waits, and no tick is run.
+    pub fn plain(alloc: Global) -> Result<Waiting, OutOfMemory>
+        ensures empty { IfOk result (λ w. w.bytes.items ≡ []) }
+        ensures ample { IfOk result (λ w. HasRoom w 128) }
+    {
+        Waiting::new(alloc, Labels::new(alloc)?)
     }
 
     /// Whether the lines of a further tick fit.
     pub fn has_room(&self) -> bool
-        ensures { IsTrue result → HasRoom self.now self.now.room }
+        ensures { IsTrue result → HasTickRoom self.now }
     {
-        self.bytes.capacity() - self.bytes.len() >= self.room
+        self.bytes.capacity() - self.bytes.len() >= self.line.len() + TICK_ROOM
     }
 
     // Adds bytes for which there is room.
@@ -59,9 +83,7 @@ impl Waiting {
         requires { HasRoom self.old (length bytes.now) }
         ensures { Gains self.old self.new bytes.now }
     {
-        let Ok(()) = self.bytes.extend_from_slice(bytes) else {
-            unreachable!()
-        };
+        append(&mut self.bytes, bytes);
     }
 
     // Adds a number in decimal.
@@ -73,19 +95,15 @@ impl Waiting {
         self.put(Buffer::new().format(number).as_bytes());
     }
 
-    // Adds the line of a tick whose one output has this name and value.
-    fn put_tick(&mut self, tick: u64, name: &str, value: i32)
-        requires { HasRoom self.old (length name.now + 39) }
-        ensures line { Gains self.old self.new (tick_line tick (name.now ∷ []) (value ∷ [])) }
-        ensures short { length (tick_line tick (name.now ∷ []) (value ∷ [])) ≤ length name.now + 39 }
+    // Adds the line of a tick whose outputs have these values.
+    fn put_tick(&mut self, tick: u64, values: &[i32])
+        requires room { HasRoom self.old (length self.old.line.items) }
+        requires values { length values.now ≡ length self.old.names }
+        ensures line { Gains self.old self.new (tick_line tick self.old.names values.now) }
+        ensures short { length (tick_line tick self.old.names values.now) ≤ length self.old.line.items }
     {
-        self.put(b"tick ");
-        self.put_number(tick);
-        self.put(b" ");
-        self.put(name.as_bytes());
-        self.put(b"=");
-        self.put(Buffer::new().format(value).as_bytes());
-        self.put(b"\n");
+        let length = line(tick, &self.names, values, &mut self.line);
+        append(&mut self.bytes, &self.line[..length]);
     }
 
     fn put_end(&mut self, tick: u64)
@@ -165,6 +183,16 @@ impl Waiting {
         self.put(b"\n");
     }
 
+    // Adds the line of a program that passes this limit first.
+    fn put_limit(&mut self, what: Quantity, count: u64)
+        requires { HasRoom self.old 64 }
+        ensures { Gains self.old self.new (refusal_line (Refusal.Limit what count)) }
+    {
+        self.put(limit_text(what));
+        self.put_number(count);
+        self.put(b"\n");
+    }
+
     /// Adds the line of a text that is refused.
     pub fn put_refusal(&mut self, why: Refusal)
         requires { HasRoom self.old 64 }
@@ -177,6 +205,7 @@ impl Waiting {
             Refusal::Syntax => self.put(b"refused syntax\n"),
             Refusal::Rule { place, rule } => self.put_broken(place, rule),
             Refusal::Form => self.put(b"refused form\n"),
+            Refusal::Limit { what, count } => self.put_limit(what, count),
         }
     }
 
@@ -195,17 +224,17 @@ impl Waiting {
         self.put(b"\n");
     }
 
-    /// Adds the lines of a tick that went so, whose one output has this name and value.
-    pub fn put_outcome(&mut self, tick: u64, outcome: Outcome, name: &str, value: i32, budget: u64)
-        requires sized { self.old.room ≡ length name.now + 64 }
-        requires fits { HasRoom self.old self.old.room }
-        ensures { (outputs : List ℤ) → (HasOutput outcome → outputs ≡ value ∷ [])
-            → Gains self.old self.new (outcome_lines (name.now ∷ []) budget tick outcome outputs) }
+    /// Adds the lines of a tick that went so, whose outputs have these values.
+    pub fn put_outcome(&mut self, tick: u64, outcome: Outcome, values: &[i32], budget: u64)
+        requires values { length values.now ≡ length self.old.names }
+        requires fits { HasTickRoom self.old }
+        ensures { (outputs : List ℤ) → (HasOutputs outcome → outputs ≡ values.now)
+            → Gains self.old self.new (outcome_lines self.old.names budget tick outcome outputs) }
     {
         match outcome {
-            Outcome::Paused => self.put_tick(tick, name, value),
+            Outcome::Paused => self.put_tick(tick, values),
             Outcome::Ended => {
-                self.put_tick(tick, name, value);
+                self.put_tick(tick, values);
                 self.put_end(tick);
             }
             Outcome::Trapped { place, trap } => self.put_trap(tick, place, trap),
@@ -218,7 +247,9 @@ impl Waiting {
         ensures ok { OnOk result (Appends (K.held out.old) (K.held out.new) self.old.bytes.items) }
         ensures empty { OnOk result (self.new.bytes.items ≡ []) }
         ensures err { OnErr result (AppendsFront (K.held out.old) (K.held out.new) self.old.bytes.items) }
-        ensures room { self.new.room ≡ self.old.room }
+        ensures names { self.new.names ≡ self.old.names }
+        ensures line { self.new.line ≡ self.old.line }
+        ensures fits { OnOk result (HasTickRoom self.new) }
         ensures cause { Faults (K.faults out.old) (K.faults out.new) (K.down out.new) result }
     {
         match write_all(out, &self.bytes) {
@@ -262,6 +293,23 @@ fn fault_text(fault: RowFault) -> &'static [u8]
 {
     match fault {
         RowFault::Bad => b" bad\n",
+        RowFault::Long => b" long\n",
         RowFault::Many => b" many\n",
+        RowFault::ReadFault => b"",
+        RowFault::OutOfMemory => b"",
+    }
+}
+
+fn limit_text(what: Quantity) -> &'static [u8]
+    ensures text { result.now ≡ limit_words what }
+    ensures short { length result.now ≤ 22 }
+{
+    match what {
+        Quantity::Threads => b"refused limit threads ",
+        Quantity::Words => b"refused limit words ",
+        Quantity::Globals => b"refused limit globals ",
+        Quantity::Tables => b"refused limit tables ",
+        Quantity::Terms => b"refused limit terms ",
+        Quantity::Depth => b"refused limit depth ",
     }
 }

@@ -13,7 +13,12 @@ use forec_engine::{Status, forec};
 use std::io::ErrorKind;
 use std::process::ExitCode;
 use std::rt::Env;
+use std::thread::{self, Builder};
 use std::{env, io};
+
+// The command runs in a thread with so many bytes of stack: the statements of a program stand in one another up to
+// 4,096 deep, and each takes a few frames. Where no thread can be had it runs all the same.
+const STACK: usize = 67_108_864;
 
 // The words after the program's own name. Where one of them isn't text they are none, which is no command.
 fn words(rt: &(impl Env + AllocGlobal)) -> Result<Vec<String>, OutOfMemory> {
@@ -25,20 +30,33 @@ fn words(rt: &(impl Env + AllocGlobal)) -> Result<Vec<String>, OutOfMemory> {
     }
 }
 
-fn main(rt: HostRuntime) -> ExitCode {
-    let Ok(words) = words(&rt) else {
-        return ExitCode::from(Status::NoMemory.number());
-    };
-    let mut texts = Files::new(&rt);
+// Runs the command that the words are, over standard input, standard output and files.
+fn run(rt: &HostRuntime, words: &[String]) -> Status {
+    let mut texts = Files::new(rt);
     let mut trace = Input::new(rt.stdin());
-    let mut out = Output::new(io::writer(&rt));
-    let status = forec(
+    let mut out = Output::new(io::writer(rt));
+    forec(
         rt.alloc(),
-        &words,
+        words,
         &mut texts,
         &mut trace,
         &mut out,
         &OpenGate,
-    );
+    )
+}
+
+fn main(rt: HostRuntime) -> ExitCode {
+    let Ok(words) = words(&rt) else {
+        return ExitCode::from(Status::NoMemory.number());
+    };
+    let status = thread::scope(thread::scope_env(), &rt, |scope| {
+        match Builder::new()
+            .stack_size(STACK)
+            .spawn_scoped(scope, || run(&rt, &words))
+        {
+            Ok(handle) => handle.join(&rt),
+            Err(_) => run(&rt, &words),
+        }
+    });
     ExitCode::from(status.number())
 }

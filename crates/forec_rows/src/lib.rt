@@ -19,6 +19,23 @@ mod tests {
     // One output, which passes the greatest number.
     const WRAPS: &[u8] = b"output int o = 2147483647; void main(void) { o = o + 1; }";
 
+    // A loop that may turn five times in a tick.
+    const TURNS: &[u8] =
+        b"output int o = 0; void main(void) { int i = 0; while (i < 10) #5 { i = i + 1; } o = i; }";
+
+    // Three units in the first tick, nine in the second.
+    const GROWS: &[u8] =
+        b"output int o = 0; void main(void) { o = 1; pause; o = o + 1; o = o + 1; pause; }";
+
+    const DIFFERENCE: &[u8] =
+        b"input int a, b; output int o = 0; void main(void) { while (1) { o = a - b; pause; } }";
+
+    const NUMBERS: &[u8] =
+        b"output int o = 0; void main(void) { o = -2147483648 / -1; pause; o = 1 << 33; pause; o = -7 / 2; pause; o = -7 % 2; }";
+
+    const FACTORIAL: &[u8] =
+        b"int f(int n) { int r = 1; for (int i = 2; i <= n; i++) #20 { r *= i; } return r; } output int o = 0; void main(void) { o = f(13); }";
+
     // How streams behave: the most bytes of a read and of a write, and the numbers of the calls that fail.
     #[derive(Drop)]
     struct Streams {
@@ -95,8 +112,77 @@ mod tests {
             ),
             (COUNTER, b"", b"row 0 bad\n", Status::Trace),
             (COUNTER, b"\n", b"rows 0\n", Status::Done),
-            (COUNTER, b"\n \n", b"row 1 bad\n", Status::Trace),
-            (COUNTER, b"\n\n ", b"tick 1 o=1\nrow 2 bad\n", Status::Trace),
+            (COUNTER, b"\n \n", b"tick 1 o=1\nrows 1\n", Status::Done),
+            (
+                COUNTER,
+                b"\n\n ",
+                b"tick 1 o=1\ntick 2 o=2\nrows 2\n",
+                Status::Done,
+            ),
+            (COUNTER, b"a\n", b"row 0 bad\n", Status::Trace),
+            (COUNTER, b"\n\n1", b"tick 1 o=1\nrow 2 bad\n", Status::Trace),
+            (TURNS, b"\n\n", b"trap 1 1:48 turns\n", Status::Trapped),
+            (
+                DIFFERENCE,
+                b"b a\n3 5\n3\n",
+                b"tick 1 o=2\nrow 2 bad\n",
+                Status::Trace,
+            ),
+            (
+                DIFFERENCE,
+                b"b a\n1 2147483648\n",
+                b"row 1 bad\n",
+                Status::Trace,
+            ),
+            (DIFFERENCE, b"a a\n", b"row 0 bad\n", Status::Trace),
+            (
+                DIFFERENCE,
+                b"b a\n 3\t5\r\n-1  0",
+                b"tick 1 o=2\ntick 2 o=1\nrows 2\n",
+                Status::Done,
+            ),
+            (
+                NUMBERS,
+                b"\n\n\n\n\n",
+                b"tick 1 o=-2147483648\ntick 2 o=2\ntick 3 o=-3\ntick 4 o=-1\nend 4\n",
+                Status::Done,
+            ),
+            (
+                b"void main(void) { int a[3]; a[3] = 1; }",
+                b"\n\n",
+                b"trap 1 1:29 index\n",
+                Status::Trapped,
+            ),
+            (
+                b"void main(void) { int a[3]; a[2] = 1; }",
+                b"\n\n",
+                b"tick 1\nend 1\n",
+                Status::Done,
+            ),
+            (
+                FACTORIAL,
+                b"\n\n",
+                b"tick 1 o=1932053504\nend 1\n",
+                Status::Done,
+            ),
+            (
+                b"shared int s combine all with f; int f(int a, int b) { return a; } void main(void) { }",
+                b"\n\n",
+                b"refused form\n",
+                Status::Refused,
+            ),
+            (
+                b"void main(void) { par({ }); }",
+                b"\n\n",
+                b"refused form\n",
+                Status::Refused,
+            ),
+            (
+                b"void main(void) { int a[65536]; int b; }",
+                b"\n\n",
+                b"refused limit words 65536\n",
+                Status::Refused,
+            ),
             (
                 WRAPS,
                 b"\n\n",
@@ -121,6 +207,57 @@ mod tests {
             assert_eq!(rt; end.held.as_slice(), want);
             assert_eq!(rt; end.status, status);
         }
+        Ok(())
+    }
+
+    // Runs a program with a budget, over three rows without words.
+    #[test]
+    fn budgets(rt: HostRuntime) -> Result<(), Fail> {
+        let alloc = rt.alloc();
+        for (text, budget, want, status) in [
+            (
+                COUNTER,
+                "7",
+                b"tick 1 o=1\ntick 2 o=2\nrows 2\n".as_slice(),
+                Status::Done,
+            ),
+            (
+                COUNTER,
+                "0000000000000000007",
+                b"tick 1 o=1\ntick 2 o=2\nrows 2\n",
+                Status::Done,
+            ),
+            (COUNTER, "6", b"over 1 budget 6\n", Status::Over),
+            (GROWS, "8", b"tick 1 o=1\nover 2 budget 8\n", Status::Over),
+            (
+                COUNTER,
+                "4611686018427387904",
+                b"tick 1 o=1\ntick 2 o=2\nrows 2\n",
+                Status::Done,
+            ),
+        ] {
+            let words = ["run", "P", "--budget", budget];
+            let end = run(&rt, alloc, &words, text, b"\n\n\n", whole(alloc))?;
+            assert_eq!(rt; end.held.as_slice(), want);
+            assert_eq!(rt; end.status, status);
+        }
+        Ok(())
+    }
+
+    // `code` asks for no trace either.
+    #[test]
+    fn lists_a_code(rt: HostRuntime) -> Result<(), Fail> {
+        let alloc = rt.alloc();
+        let end = run(
+            &rt,
+            alloc,
+            &["code", "P"],
+            COUNTER,
+            b"",
+            single(alloc, 1, 0)?,
+        )?;
+        assert!(rt; end.held.starts_with(b"thread 0\n"));
+        assert_eq!(rt; end.status, Status::Done);
         Ok(())
     }
 
@@ -173,6 +310,19 @@ mod tests {
         shows_usage(&rt, alloc, &["run"])?;
         shows_usage(&rt, alloc, &["ran", "P"])?;
         shows_usage(&rt, alloc, &["run", "P", "P"])?;
+        for budget in [
+            "0",
+            "4611686018427387905",
+            "00000000000000000007",
+            "7 ",
+            "-7",
+            "",
+        ] {
+            shows_usage(&rt, alloc, &["run", "P", "--budget", budget])?;
+        }
+        shows_usage(&rt, alloc, &["run", "P", "--budget"])?;
+        shows_usage(&rt, alloc, &["run", "--budget", "7", "P"])?;
+        shows_usage(&rt, alloc, &["check", "P", "--budget", "7"])?;
         let end = run(&rt, alloc, &["run", "Q"], COUNTER, b"\n\n", whole(alloc))?;
         assert_eq!(rt; end.held.as_slice(), b"".as_slice());
         assert_eq!(rt; end.status, Status::ReadFault);
@@ -197,15 +347,15 @@ mod tests {
             assert_eq!(rt; end.held.as_slice(), want);
             assert_eq!(rt; end.status, Status::Refused);
         }
-        for (bytes, want) in [
-            (8192, b"row 0 bad\n".as_slice()),
-            (8193, b"row 0 bad\n"),
-            (65536, b"row 0 bad\n"),
+        for (bytes, want, status) in [
+            (8192, b"rows 0\n".as_slice(), Status::Done),
+            (8193, b"row 0 long\n", Status::Trace),
+            (65536, b"row 0 long\n", Status::Trace),
         ] {
             let trace = vec![in alloc; b' '; bytes]?;
             let end = run(&rt, alloc, &["run", "P"], COUNTER, &trace, whole(alloc))?;
             assert_eq!(rt; end.held.as_slice(), want);
-            assert_eq!(rt; end.status, Status::Trace);
+            assert_eq!(rt; end.status, status);
         }
         Ok(())
     }

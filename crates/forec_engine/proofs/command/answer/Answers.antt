@@ -1,54 +1,46 @@
-use Rattle.std.proofs.Common.{sym, subst}
+use Rattle.std.proofs.Common.{refl}
 use Rattle.forec_kernel.specs.Shapes.{plain_kernel}
 use Rattle.forec_engine.specs.Calls.{AppendsFront}
-use Rattle.forec_engine.specs.Commands.{AcceptedReport}
 use Rattle.forec_engine.specs.Ends.{Given}
-use Rattle.forec_engine.specs.Report.{Report}
-use Rattle.forec_engine.specs.declared.words.Command.{Command}
-use Rattle.forec_engine.proofs.Reports.{run_told}
+use Rattle.forec_engine.proofs.Reports.{run_answers, check_answers, code_answers}
 use Rattle.forec_engine.proofs.command.answer.Goals as goal
 
 pub returns-in-Run-clause-own : goal.returns-in-Run-clause-own
-returns-in-Run-clause-own g c = λ own r x.
-    let k = plain_kernel c.args.accepted.kernel in
-    let left = g.S.Source.left c.args.trace.now in
-    let h0 = g.K.Sink.held c.args.out.now in
-    let h2 = g.K.Sink.held c.start.new.out in
-    let ran = subst (λ (m : Command). AcceptedReport m c.args.accepted.counts k left r) c.in-Run.is x in
-    run_told c.args.accepted.counts k left (λ r. Given r c.start.result h0 h2) (c.start.ensures.own own) r ran
+returns-in-Run-clause-own g c = λ own told.
+    let a = c.args.accepted in
+    run_answers c.args.command c.in-Run.budget a.counts (plain_kernel a.kernel) (g.S.Source.left c.args.trace.now) (λ r. Given r c.start.result (g.K.Sink.held c.args.out.now) (g.K.Sink.held c.start.new.out)) c.in-Run.is
+    (c.start.ensures.own own) told
 
 pub returns-in-Run-clause-read : goal.returns-in-Run-clause-read
-returns-in-Run-clause-read g c = λ is. let r = c.start.ensures.read is in (c.in-Run.is, r.0, r.1)
+returns-in-Run-clause-read g c = λ is. let r = c.start.ensures.read is in (c.in-Run.budget, c.in-Run.is, r.0, r.1)
 
 pub returns-in-Run-clause-write : goal.returns-in-Run-clause-write
 returns-in-Run-clause-write g c = λ is.
-    let k = plain_kernel c.args.accepted.kernel in
-    let left = g.S.Source.left c.args.trace.now in
-    let h0 = g.K.Sink.held c.args.out.now in
-    let h2 = g.K.Sink.held c.start.new.out in
+    let a = c.args.accepted in
     let w = c.start.ensures.write is in (
       w.0,
-      λ r x.
-          let ran = subst (λ (m : Command). AcceptedReport m c.args.accepted.counts k left r) c.in-Run.is x in
-          run_told c.args.accepted.counts k left (λ r. AppendsFront h0 h2 r.bytes) w.1 r ran,
+      λ told.
+          run_answers c.args.command c.in-Run.budget a.counts (plain_kernel a.kernel) (g.S.Source.left c.args.trace.now) (λ r. AppendsFront (g.K.Sink.held c.args.out.now) (g.K.Sink.held c.start.new.out) r.bytes) c.in-Run.is w.1 told,
     )
 
 pub returns-in-Check-clause-own : goal.returns-in-Check-clause-own
-returns-in-Check-clause-own g c = λ own r x.
-    let left = g.S.Source.left c.args.trace.now in
-    let h0 = g.K.Sink.held c.args.out.now in
-    let h2 = g.K.Sink.held c.tell.new.out in
-    let told = subst (λ (m : Command). AcceptedReport m c.args.accepted.counts (plain_kernel c.args.accepted.kernel) left r) c.in-Check.is x in
-    subst (λ (q : Report). Given q c.tell.result h0 h2) (sym told) (c.tell.ensures.own own)
+returns-in-Check-clause-own g c = λ own told.
+    let a = c.args.accepted in
+    check_answers c.args.command a.counts (plain_kernel a.kernel) (g.S.Source.left c.args.trace.now) (λ r. Given r c.tell.result (g.K.Sink.held c.args.out.now) (g.K.Sink.held c.tell.new.out)) c.in-Check.is (c.tell.ensures.own own)
 
 pub returns-in-Check-clause-write : goal.returns-in-Check-clause-write
 returns-in-Check-clause-write g c = λ is.
-    let left = g.S.Source.left c.args.trace.now in
-    let h0 = g.K.Sink.held c.args.out.now in
-    let h2 = g.K.Sink.held c.tell.new.out in
-    let w = c.tell.ensures.write is in (
-      w.0,
-      λ r x.
-          let told = subst (λ (m : Command). AcceptedReport m c.args.accepted.counts (plain_kernel c.args.accepted.kernel) left r) c.in-Check.is x in
-          subst (λ (q : Report). AppendsFront h0 h2 q.bytes) (sym told) w.1,
-    )
+    let a = c.args.accepted in
+    let w = c.tell.ensures.write is in
+    (w.0, λ told. check_answers c.args.command a.counts (plain_kernel a.kernel) (g.S.Source.left c.args.trace.now) (λ r. AppendsFront (g.K.Sink.held c.args.out.now) (g.K.Sink.held c.tell.new.out) r.bytes) c.in-Check.is w.1)
+
+pub returns-in-Code-clause-own : goal.returns-in-Code-clause-own
+returns-in-Code-clause-own g c = λ own told.
+    let a = c.args.accepted in
+    code_answers c.args.command a.counts (plain_kernel a.kernel) (g.S.Source.left c.args.trace.now) (λ r. Given r c.list.result (g.K.Sink.held c.args.out.now) (g.K.Sink.held c.list.new.out)) c.in-Code.is (c.list.ensures.own own)
+
+pub returns-in-Code-clause-write : goal.returns-in-Code-clause-write
+returns-in-Code-clause-write g c = λ is.
+    let a = c.args.accepted in
+    let w = c.list.ensures.write is in
+    (w.0, λ told. code_answers c.args.command a.counts (plain_kernel a.kernel) (g.S.Source.left c.args.trace.now) (λ r. AppendsFront (g.K.Sink.held c.args.out.now) (g.K.Sink.held c.list.new.out) r.bytes) c.in-Code.is w.1)

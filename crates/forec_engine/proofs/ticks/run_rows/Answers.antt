@@ -1,178 +1,196 @@
-use Rattle.std.proofs.Common.{◌≡◌, ◌-◌, ◌∷◌, [], List, ℕ, sym, ap, ◌∙◌, refl, arith, w32, to_z, of_z}
-use Rattle.std.proofs.lemmas.Int.{to_z-of_z}
-use Rattle.forec_kernel.specs.Shapes.{plain_kernel}
+use Rattle.std.proofs.Common.{◌≡◌, ◌+◌, ◌-◌, List, ℕ, length, sym, ap, subst, ◌∙◌, refl, arith}
 use Rattle.forec_kernel.specs.Ticks.{State, tick, goes_on}
-use Rattle.forec_engine.specs.Machine.{Follows}
+use Rattle.core_host.specs.Runs.{code_of}
+use Rattle.forec_engine.specs.Following.{Follows, kernel_in}
 use Rattle.forec_engine.specs.Report.{Report, tick_lines}
-use Rattle.forec_engine.specs.ReportLines.{rows_line, row_line}
-use Rattle.forec_engine.specs.Waits.{waits}
+use Rattle.trace_rows.specs.Report.{rows_line, row_line}
 use Rattle.forec_engine.specs.WaitingRoom.{Gains}
 use Rattle.forec_engine.specs.declared.status.Status.TheVariants as status
-use Rattle.forec_engine.proofs.Running.{Run, Reached, reached_start, reached_sent, reached_more, at_end, at_fault, own_all, front_all, front_now, stop_own, stop_front, failed, fell_since, stop_status}
-use Rattle.forec_engine.proofs.TickLines.{put_tick_lines}
+use Rattle.forec_engine.proofs.Running.{Run, Stands_at, Reached, reached_start, reached_sent, reached_more, row_within, waited, at_end, at_fault, own_all, front_all, front_now, stop_own, stop_front, failed, fell_since, stop_status}
+use Rattle.forec_engine.proofs.TickLines.{put_tick_lines, names_each}
 use Rattle.forec_engine.proofs.ticks.run_rows.Goals as goal
 
 pub ticks-init : goal.ticks-init
 ticks-init g c =
-    let run : Run = record { kernel = plain_kernel c.args.program.now.kernel; budget = c.args.program.now.budget; waited = waits c.args.lines.now; was = c.args.lines.now.ended } in
+    let run : Run = record { kernel = kernel_in c.args.runner.now; budget = c.args.budget; first = c.args.rows.now } in
     record {
-      reached = reached_start run (λ s. Follows run.kernel s c.args.program.now.code c.args.machine.now) (g.S.Source.left c.args.trace.now) (g.K.Sink.held c.args.out.now) c.args.waiting.now.bytes.items c.requires.follows c.requires.none;
+      reached = reached_start run (λ s. Follows s c.args.runner.now) (g.S.Source.left c.args.trace.now) (g.K.Sink.held c.args.out.now) c.args.waiting.now.bytes.items c.requires.follows
+          (record { limit = c.requires.limit; places = refl; number = ap (λ n. n + 1) c.requires.number }) c.requires.none;
+      kernel = refl;
+      live = c.requires.follows.live;
+      reads = c.requires.live;
       low = omega arith;
       high = omega arith;
-      room = refl;
+      names = refl;
       ended = c.requires.ended;
       read = omega arith;
       written = omega arith;
     }
 
+pub next_row-requires-clause-room : goal.next_row-requires-clause-room
+next_row-requires-clause-room g c =
+    let i = c.ticks.invariant in
+    ap length i.reached.stands.places ∙ c.requires.inputs ∙ ap (λ k. length k.shape.inputs) (sym i.kernel) ∙ ap (λ s. length s.inputs) (sym i.reached.follows.stands.shape)
+
+pub tick-outcome-requires-clause-live : goal.tick-outcome-requires-clause-live
+tick-outcome-requires-clause-live g c = c.next_row.ensures.live ∙ c.ticks.invariant.live
+
+pub put_outcome-requires-clause-values : goal.put_outcome-requires-clause-values
+put_outcome-requires-clause-values g c =
+    let i = c.ticks.invariant in
+    let shape = i.reached.follows.stands.shape in
+    ap length c.deref.ensures.value ∙ c.tick-outcome.new.self.given ∙ ap (λ x. length x.shape.outputs) (c.tick-outcome.ensures.code ∙ c.next_row.ensures.code) ∙ ap (λ s. length s.outputs) shape
+    ∙ ap (λ k. length k.shape.outputs) i.kernel ∙ sym (names_each (kernel_in c.args.runner.now)) ∙ ap length (sym (c.send_due.ensures.names ∙ i.names ∙ c.requires.names))
+
 pub returns-in-Err-clause-write : goal.returns-in-Err-clause-write
 returns-in-Err-clause-write g c = λ _.
-    let run : Run = record { kernel = plain_kernel c.args.program.now.kernel; budget = c.args.program.now.budget; waited = waits c.args.lines.now; was = c.args.lines.now.ended } in
+    let run : Run = record { kernel = kernel_in c.args.runner.now; budget = c.args.budget; first = c.args.rows.now } in
     let i = c.ticks.invariant in (
       fell_since _ (g.K.Sink.faults c.ticks.out) _ _ i.written c.in-Err.ensures.cause.failed,
-      front_now run (λ s. Follows run.kernel s c.args.program.now.code c.ticks.machine) (waits c.ticks.lines) c.ticks.lines.ended (g.S.Source.left c.args.trace.now) (g.S.Source.left c.ticks.trace) (g.K.Sink.held c.args.out.now) (g.K.Sink.held c.ticks.out) (g.K.Sink.held c.send_due.new.out)
+      front_now run (λ s. Follows s c.ticks.runner) c.ticks.rows (g.S.Source.left c.args.trace.now) (g.S.Source.left c.ticks.trace) (g.K.Sink.held c.args.out.now) (g.K.Sink.held c.ticks.out) (g.K.Sink.held c.send_due.new.out)
           c.ticks.waiting.bytes.items c.ticks.row i.reached c.in-Err.ensures.err,
     )
 
 pub returns-in-Failed-clause-read : goal.returns-in-Failed-clause-read
 returns-in-Failed-clause-read g c = λ _.
-    let run : Run = record { kernel = plain_kernel c.args.program.now.kernel; budget = c.args.program.now.budget; waited = waits c.args.lines.now; was = c.args.lines.now.ended } in
-    let F : State → Type 0 = λ s. Follows run.kernel s c.args.program.now.code c.ticks.machine in
-    let w : List ℕ = waits c.ticks.lines in
-    let e = c.ticks.lines.ended in
-    let w' : List ℕ = waits c.next_row.new.lines in
-    let e' = c.next_row.new.lines.ended in
+    let run : Run = record { kernel = kernel_in c.args.runner.now; budget = c.args.budget; first = c.args.rows.now } in
+    let F : State → Type 0 = λ s. Follows s c.ticks.runner in
+    let now = c.ticks.rows in
     let l0 = g.S.Source.left c.args.trace.now in
     let l = g.S.Source.left c.ticks.trace in
-    let l' = g.S.Source.left c.next_row.new.trace in
     let h0 = g.K.Sink.held c.args.out.now in
     let h = g.K.Sink.held c.send_due.new.out in
     let unsent : List ℕ = c.send_due.new.waiting.bytes.items in
     let row = c.ticks.row in
     let i = c.ticks.invariant in
-    let r : Reached run F w e l0 l h0 h unsent row = reached_sent run F w e l0 l h0 (g.K.Sink.held c.ticks.out) h c.ticks.waiting.bytes.items unsent row i.reached c.in_default.ensures.ok in (
+    let r : Reached run F now l0 l h0 h unsent row = reached_sent run F now l0 l h0 (g.K.Sink.held c.ticks.out) h c.ticks.waiting.bytes.items unsent row i.reached c.in_default.ensures.ok in
+    let new = c.next_row.new.rows in
+    let l' = g.S.Source.left c.next_row.new.trace in
+    let values = c.next_row.new.self.row.items in (
       fell_since _ (g.S.Source.faults c.ticks.trace) _ _ i.read (c.in-Failed.ensures.fell refl),
-      failed run F w e w' e' l0 l l' h0 h unsent row r c.in-Failed.ensures.next (c.in_default.ensures.all c.in-Failed.ensures.next.0),
+      failed run F now new l0 l l' h0 h unsent row r c.in-Failed.ensures.next (c.in_default.ensures.all (waited now.held new.held now.ended new.ended l l' c.in-Failed.ensures.next)),
     )
 
 pub returns-in-End-clause-own : goal.returns-in-End-clause-own
 returns-in-End-clause-own g c = λ own.
-    let run : Run = record { kernel = plain_kernel c.args.program.now.kernel; budget = c.args.program.now.budget; waited = waits c.args.lines.now; was = c.args.lines.now.ended } in
-    let F : State → Type 0 = λ s. Follows run.kernel s c.args.program.now.code c.ticks.machine in
-    let w : List ℕ = waits c.ticks.lines in
-    let e = c.ticks.lines.ended in
-    let w' : List ℕ = waits c.next_row.new.lines in
-    let e' = c.next_row.new.lines.ended in
+    let run : Run = record { kernel = kernel_in c.args.runner.now; budget = c.args.budget; first = c.args.rows.now } in
+    let F : State → Type 0 = λ s. Follows s c.ticks.runner in
+    let now = c.ticks.rows in
     let l0 = g.S.Source.left c.args.trace.now in
     let l = g.S.Source.left c.ticks.trace in
-    let l' = g.S.Source.left c.next_row.new.trace in
     let h0 = g.K.Sink.held c.args.out.now in
     let h = g.K.Sink.held c.send_due.new.out in
     let unsent : List ℕ = c.send_due.new.waiting.bytes.items in
     let row = c.ticks.row in
     let i = c.ticks.invariant in
-    let r : Reached run F w e l0 l h0 h unsent row = reached_sent run F w e l0 l h0 (g.K.Sink.held c.ticks.out) h c.ticks.waiting.bytes.items unsent row i.reached c.in_default.ensures.ok in
+    let r : Reached run F now l0 l h0 h unsent row = reached_sent run F now l0 l h0 (g.K.Sink.held c.ticks.out) h c.ticks.waiting.bytes.items unsent row i.reached c.in_default.ensures.ok in
+    let new = c.next_row.new.rows in
+    let l' = g.S.Source.left c.next_row.new.trace in
+    let values = c.next_row.new.self.row.items in
     let s : Report = record { bytes = rows_line (row - 1); status = status.Done } in
-    own_all run F w e l0 l h0 h (g.K.Sink.held c.finish.new.out) unsent c.put_rows.new.self.bytes.items row r s c.finish.result
-    (at_end run F w e w' e' l0 l l' h0 h unsent row r c.in-End.ensures.next) c.put_rows.ensures.bytes_are c.finish.ensures.said c.finish.ensures.all own
+    own_all run F now l0 l h0 h (g.K.Sink.held c.finish.new.out) unsent c.put_rows.new.self.bytes.items row r s c.finish.result
+    (at_end run F now new l0 l l' h0 h unsent row values r c.in-End.ensures.next) c.put_rows.ensures.bytes_are c.finish.ensures.said c.finish.ensures.all own
 
 pub returns-in-End-clause-write : goal.returns-in-End-clause-write
 returns-in-End-clause-write g c = λ is.
-    let run : Run = record { kernel = plain_kernel c.args.program.now.kernel; budget = c.args.program.now.budget; waited = waits c.args.lines.now; was = c.args.lines.now.ended } in
-    let F : State → Type 0 = λ s. Follows run.kernel s c.args.program.now.code c.ticks.machine in
-    let w : List ℕ = waits c.ticks.lines in
-    let e = c.ticks.lines.ended in
-    let w' : List ℕ = waits c.next_row.new.lines in
-    let e' = c.next_row.new.lines.ended in
+    let run : Run = record { kernel = kernel_in c.args.runner.now; budget = c.args.budget; first = c.args.rows.now } in
+    let F : State → Type 0 = λ s. Follows s c.ticks.runner in
+    let now = c.ticks.rows in
     let l0 = g.S.Source.left c.args.trace.now in
     let l = g.S.Source.left c.ticks.trace in
-    let l' = g.S.Source.left c.next_row.new.trace in
     let h0 = g.K.Sink.held c.args.out.now in
     let h = g.K.Sink.held c.send_due.new.out in
     let unsent : List ℕ = c.send_due.new.waiting.bytes.items in
     let row = c.ticks.row in
     let i = c.ticks.invariant in
-    let r : Reached run F w e l0 l h0 h unsent row = reached_sent run F w e l0 l h0 (g.K.Sink.held c.ticks.out) h c.ticks.waiting.bytes.items unsent row i.reached c.in_default.ensures.ok in
+    let r : Reached run F now l0 l h0 h unsent row = reached_sent run F now l0 l h0 (g.K.Sink.held c.ticks.out) h c.ticks.waiting.bytes.items unsent row i.reached c.in_default.ensures.ok in
+    let new = c.next_row.new.rows in
+    let l' = g.S.Source.left c.next_row.new.trace in
+    let values = c.next_row.new.self.row.items in
     let s : Report = record { bytes = rows_line (row - 1); status = status.Done } in (
       fell_since _ (g.K.Sink.faults c.send_due.new.out) _ _ (omega (arith, i.written, c.in_default.ensures.cause.later)) (c.finish.ensures.fault is),
-      front_all run F w e l0 l h0 h (g.K.Sink.held c.finish.new.out) unsent c.put_rows.new.self.bytes.items row r s
-          (at_end run F w e w' e' l0 l l' h0 h unsent row r c.in-End.ensures.next) c.put_rows.ensures.bytes_are (c.finish.ensures.front is),
+      front_all run F now l0 l h0 h (g.K.Sink.held c.finish.new.out) unsent c.put_rows.new.self.bytes.items row r s
+          (at_end run F now new l0 l l' h0 h unsent row values r c.in-End.ensures.next) c.put_rows.ensures.bytes_are (c.finish.ensures.front is),
     )
 
-pub returns-in-Fault-clause-own : goal.returns-in-Fault-clause-own
-returns-in-Fault-clause-own g c = λ own.
-    let run : Run = record { kernel = plain_kernel c.args.program.now.kernel; budget = c.args.program.now.budget; waited = waits c.args.lines.now; was = c.args.lines.now.ended } in
-    let F : State → Type 0 = λ s. Follows run.kernel s c.args.program.now.code c.ticks.machine in
-    let w : List ℕ = waits c.ticks.lines in
-    let e = c.ticks.lines.ended in
-    let w' : List ℕ = waits c.next_row.new.lines in
-    let e' = c.next_row.new.lines.ended in
+pub returns-in-Stops-clause-own : goal.returns-in-Stops-clause-own
+returns-in-Stops-clause-own g c = λ own.
+    let run : Run = record { kernel = kernel_in c.args.runner.now; budget = c.args.budget; first = c.args.rows.now } in
+    let F : State → Type 0 = λ s. Follows s c.ticks.runner in
+    let now = c.ticks.rows in
     let l0 = g.S.Source.left c.args.trace.now in
     let l = g.S.Source.left c.ticks.trace in
-    let l' = g.S.Source.left c.next_row.new.trace in
     let h0 = g.K.Sink.held c.args.out.now in
     let h = g.K.Sink.held c.send_due.new.out in
     let unsent : List ℕ = c.send_due.new.waiting.bytes.items in
     let row = c.ticks.row in
     let i = c.ticks.invariant in
-    let r : Reached run F w e l0 l h0 h unsent row = reached_sent run F w e l0 l h0 (g.K.Sink.held c.ticks.out) h c.ticks.waiting.bytes.items unsent row i.reached c.in_default.ensures.ok in
-    let s : Report = record { bytes = row_line row c.in-Fault.fault; status = status.Trace } in
-    own_all run F w e l0 l h0 h (g.K.Sink.held c.finish-in-Fault.new.out) unsent c.put_row.new.self.bytes.items row r s c.finish-in-Fault.result
-    (at_fault run F w e w' e' l0 l l' h0 h unsent row c.in-Fault.fault r c.in-Fault.ensures.next) c.put_row.ensures.bytes_are c.finish-in-Fault.ensures.said c.finish-in-Fault.ensures.all own
+    let r : Reached run F now l0 l h0 h unsent row = reached_sent run F now l0 l h0 (g.K.Sink.held c.ticks.out) h c.ticks.waiting.bytes.items unsent row i.reached c.in_default.ensures.ok in
+    let new = c.next_row.new.rows in
+    let l' = g.S.Source.left c.next_row.new.trace in
+    let values = c.next_row.new.self.row.items in
+    let s : Report = record { bytes = row_line row c.in-Stops.fault; status = status.Trace } in
+    own_all run F now l0 l h0 h (g.K.Sink.held c.finish-in-Stops.new.out) unsent c.put_row.new.self.bytes.items row r s c.finish-in-Stops.result
+    (at_fault run F now new l0 l l' h0 h unsent row values c.in-Stops.fault r c.in-Stops.ensures.next) c.put_row.ensures.bytes_are c.finish-in-Stops.ensures.said c.finish-in-Stops.ensures.all own
 
-pub returns-in-Fault-clause-write : goal.returns-in-Fault-clause-write
-returns-in-Fault-clause-write g c = λ is.
-    let run : Run = record { kernel = plain_kernel c.args.program.now.kernel; budget = c.args.program.now.budget; waited = waits c.args.lines.now; was = c.args.lines.now.ended } in
-    let F : State → Type 0 = λ s. Follows run.kernel s c.args.program.now.code c.ticks.machine in
-    let w : List ℕ = waits c.ticks.lines in
-    let e = c.ticks.lines.ended in
-    let w' : List ℕ = waits c.next_row.new.lines in
-    let e' = c.next_row.new.lines.ended in
+pub returns-in-Stops-clause-write : goal.returns-in-Stops-clause-write
+returns-in-Stops-clause-write g c = λ is.
+    let run : Run = record { kernel = kernel_in c.args.runner.now; budget = c.args.budget; first = c.args.rows.now } in
+    let F : State → Type 0 = λ s. Follows s c.ticks.runner in
+    let now = c.ticks.rows in
     let l0 = g.S.Source.left c.args.trace.now in
     let l = g.S.Source.left c.ticks.trace in
-    let l' = g.S.Source.left c.next_row.new.trace in
     let h0 = g.K.Sink.held c.args.out.now in
     let h = g.K.Sink.held c.send_due.new.out in
     let unsent : List ℕ = c.send_due.new.waiting.bytes.items in
     let row = c.ticks.row in
     let i = c.ticks.invariant in
-    let r : Reached run F w e l0 l h0 h unsent row = reached_sent run F w e l0 l h0 (g.K.Sink.held c.ticks.out) h c.ticks.waiting.bytes.items unsent row i.reached c.in_default.ensures.ok in
-    let s : Report = record { bytes = row_line row c.in-Fault.fault; status = status.Trace } in (
-      fell_since _ (g.K.Sink.faults c.send_due.new.out) _ _ (omega (arith, i.written, c.in_default.ensures.cause.later)) (c.finish-in-Fault.ensures.fault is),
-      front_all run F w e l0 l h0 h (g.K.Sink.held c.finish-in-Fault.new.out) unsent c.put_row.new.self.bytes.items row r s
-          (at_fault run F w e w' e' l0 l l' h0 h unsent row c.in-Fault.fault r c.in-Fault.ensures.next) c.put_row.ensures.bytes_are (c.finish-in-Fault.ensures.front is),
+    let r : Reached run F now l0 l h0 h unsent row = reached_sent run F now l0 l h0 (g.K.Sink.held c.ticks.out) h c.ticks.waiting.bytes.items unsent row i.reached c.in_default.ensures.ok in
+    let new = c.next_row.new.rows in
+    let l' = g.S.Source.left c.next_row.new.trace in
+    let values = c.next_row.new.self.row.items in
+    let s : Report = record { bytes = row_line row c.in-Stops.fault; status = status.Trace } in (
+      fell_since _ (g.K.Sink.faults c.send_due.new.out) _ _ (omega (arith, i.written, c.in_default.ensures.cause.later)) (c.finish-in-Stops.ensures.fault is),
+      front_all run F now l0 l h0 h (g.K.Sink.held c.finish-in-Stops.new.out) unsent c.put_row.new.self.bytes.items row r s
+          (at_fault run F now new l0 l l' h0 h unsent row values c.in-Stops.fault r c.in-Stops.ensures.next) c.put_row.ensures.bytes_are (c.finish-in-Stops.ensures.front is),
     )
 
 pub ticks-preserved : goal.ticks-preserved
 ticks-preserved g c =
-    let run : Run = record { kernel = plain_kernel c.args.program.now.kernel; budget = c.args.program.now.budget; waited = waits c.args.lines.now; was = c.args.lines.now.ended } in
-    let F : State → Type 0 = λ s. Follows run.kernel s c.args.program.now.code c.ticks.machine in
-    let w : List ℕ = waits c.ticks.lines in
-    let e = c.ticks.lines.ended in
-    let w' : List ℕ = waits c.next_row.new.lines in
-    let e' = c.next_row.new.lines.ended in
+    let run : Run = record { kernel = kernel_in c.args.runner.now; budget = c.args.budget; first = c.args.rows.now } in
+    let F : State → Type 0 = λ s. Follows s c.ticks.runner in
+    let now = c.ticks.rows in
     let l0 = g.S.Source.left c.args.trace.now in
     let l = g.S.Source.left c.ticks.trace in
-    let l' = g.S.Source.left c.next_row.new.trace in
     let h0 = g.K.Sink.held c.args.out.now in
     let h = g.K.Sink.held c.send_due.new.out in
     let unsent : List ℕ = c.send_due.new.waiting.bytes.items in
     let row = c.ticks.row in
     let i = c.ticks.invariant in
-    let r : Reached run F w e l0 l h0 h unsent row = reached_sent run F w e l0 l h0 (g.K.Sink.held c.ticks.out) h c.ticks.waiting.bytes.items unsent row i.reached c.in_default.ensures.ok in
-    let t = tick run.kernel run.budget r.state [] in
+    let r : Reached run F now l0 l h0 h unsent row = reached_sent run F now l0 l h0 (g.K.Sink.held c.ticks.out) h c.ticks.waiting.bytes.items unsent row i.reached c.in_default.ensures.ok in
+    let new = c.next_row.new.rows in
+    let l' = g.S.Source.left c.next_row.new.trace in
+    let values = c.next_row.new.self.row.items in
+    let t = tick run.kernel run.budget r.state values in
     let o = c.tick-outcome.result in
-    let how : o ≡ t.outcome = c.tick-outcome.ensures.outcome run.kernel r.state r.follows in
+    let k : kernel_in c.next_row.new.self ≡ run.kernel = c.next_row.ensures.kernel ∙ i.kernel in
+    let follows : Follows r.state c.next_row.new.self = c.next_row.ensures.follows r.state r.follows in
+    let how : o ≡ t.outcome = c.tick-outcome.ensures.outcome r.state follows ∙ ap (λ x. (tick x run.budget r.state values).outcome) k in
     let put : Gains c.send_due.new.waiting c.put_outcome.new.self (tick_lines run.kernel run.budget row t) =
-    put_tick_lines run.kernel run.budget row t o c.output_name-name.result.now c.output.result (to_z w32 (of_z w32 c.output.result)) c.send_due.new.waiting c.put_outcome.new.self
-    c.output_name-name.ensures how (λ has. c.tick-outcome.ensures.output run.kernel r.state r.follows has ∙ ap (λ z. z ∷ []) (sym c.output.ensures))
-    (to_z-of_z w32 c.output.result (record { sfits = c.output.type_inv })) c.put_outcome.ensures in
+    put_tick_lines run.kernel run.budget row t o c.send_due.new.waiting.names c.deref.result.now c.send_due.new.waiting c.put_outcome.new.self
+    (c.send_due.ensures.names ∙ i.names ∙ c.requires.names) how
+    (λ has. c.deref.ensures.value ∙ c.tick-outcome.ensures.outputs r.state follows has ∙ ap (λ x. (tick x run.budget r.state values).outputs) k) c.put_outcome.ensures in
+    let gave = c.in-Row.ensures.next in
     record {
-      reached = reached_more run F (λ s. Follows run.kernel s c.args.program.now.code c.tick-outcome.new.self) w e w' e' l0 l l' h0 h unsent c.put_outcome.new.self.bytes.items row r c.in-Row.ensures.next
-          (ap goes_on (sym how ∙ c.in-Paused.is)) (c.tick-outcome.ensures.state run.kernel r.state r.follows (ap goes_on c.in-Paused.is)) put.bytes_are;
+      reached = reached_more run F (λ s. Follows s c.tick-outcome.new.self) now new l0 l l' h0 h unsent c.put_outcome.new.self.bytes.items row values r gave
+          (ap goes_on (sym how ∙ c.in-Paused.is))
+          (subst (λ x. Follows (tick x run.budget r.state values).state c.tick-outcome.new.self) k (c.tick-outcome.ensures.follows r.state follows (ap goes_on c.in-Paused.is))) put.bytes_are;
+      kernel = c.tick-outcome.ensures.kernel ∙ k;
+      live = c.tick-outcome.ensures.live ∙ ap goes_on c.in-Paused.is;
+      reads = c.in-Row.ensures.reads refl;
       low = omega arith;
-      high = omega (arith, c.in-Row.ensures.within refl);
-      room = put.room ∙ c.send_due.ensures.room ∙ i.room;
+      high = (let w = row_within run row now r.stands gave.within in omega (arith, w));
+      names = put.names ∙ c.send_due.ensures.names ∙ i.names;
       ended = c.next_row.ensures.ended;
       read = omega (arith, i.read, c.next_row.ensures.later);
       written = omega (arith, i.written, c.in_default.ensures.cause.later);
@@ -180,168 +198,174 @@ ticks-preserved g c =
 
 pub returns-in-Ended-clause-own : goal.returns-in-Ended-clause-own
 returns-in-Ended-clause-own g c = λ own.
-    let run : Run = record { kernel = plain_kernel c.args.program.now.kernel; budget = c.args.program.now.budget; waited = waits c.args.lines.now; was = c.args.lines.now.ended } in
-    let F : State → Type 0 = λ s. Follows run.kernel s c.args.program.now.code c.ticks.machine in
-    let w : List ℕ = waits c.ticks.lines in
-    let e = c.ticks.lines.ended in
-    let w' : List ℕ = waits c.next_row.new.lines in
-    let e' = c.next_row.new.lines.ended in
+    let run : Run = record { kernel = kernel_in c.args.runner.now; budget = c.args.budget; first = c.args.rows.now } in
+    let F : State → Type 0 = λ s. Follows s c.ticks.runner in
+    let now = c.ticks.rows in
     let l0 = g.S.Source.left c.args.trace.now in
     let l = g.S.Source.left c.ticks.trace in
-    let l' = g.S.Source.left c.next_row.new.trace in
     let h0 = g.K.Sink.held c.args.out.now in
     let h = g.K.Sink.held c.send_due.new.out in
     let unsent : List ℕ = c.send_due.new.waiting.bytes.items in
     let row = c.ticks.row in
     let i = c.ticks.invariant in
-    let r : Reached run F w e l0 l h0 h unsent row = reached_sent run F w e l0 l h0 (g.K.Sink.held c.ticks.out) h c.ticks.waiting.bytes.items unsent row i.reached c.in_default.ensures.ok in
-    let t = tick run.kernel run.budget r.state [] in
+    let r : Reached run F now l0 l h0 h unsent row = reached_sent run F now l0 l h0 (g.K.Sink.held c.ticks.out) h c.ticks.waiting.bytes.items unsent row i.reached c.in_default.ensures.ok in
+    let new = c.next_row.new.rows in
+    let l' = g.S.Source.left c.next_row.new.trace in
+    let values = c.next_row.new.self.row.items in
+    let t = tick run.kernel run.budget r.state values in
     let o = c.tick-outcome.result in
-    let how : o ≡ t.outcome = c.tick-outcome.ensures.outcome run.kernel r.state r.follows in
+    let k : kernel_in c.next_row.new.self ≡ run.kernel = c.next_row.ensures.kernel ∙ i.kernel in
+    let follows : Follows r.state c.next_row.new.self = c.next_row.ensures.follows r.state r.follows in
+    let how : o ≡ t.outcome = c.tick-outcome.ensures.outcome r.state follows ∙ ap (λ x. (tick x run.budget r.state values).outcome) k in
     let put : Gains c.send_due.new.waiting c.put_outcome.new.self (tick_lines run.kernel run.budget row t) =
-    put_tick_lines run.kernel run.budget row t o c.output_name-name.result.now c.output.result (to_z w32 (of_z w32 c.output.result)) c.send_due.new.waiting c.put_outcome.new.self
-    c.output_name-name.ensures how (λ has. c.tick-outcome.ensures.output run.kernel r.state r.follows has ∙ ap (λ z. z ∷ []) (sym c.output.ensures))
-    (to_z-of_z w32 c.output.result (record { sfits = c.output.type_inv })) c.put_outcome.ensures in
-    stop_own run F w e w' e' l0 l l' h0 h (g.K.Sink.held c.finish-in-Ended.new.out) unsent c.put_outcome.new.self.bytes.items row r c.in-Row.ensures.next o status.Done c.finish-in-Ended.result how
+    put_tick_lines run.kernel run.budget row t o c.send_due.new.waiting.names c.deref.result.now c.send_due.new.waiting c.put_outcome.new.self
+    (c.send_due.ensures.names ∙ i.names ∙ c.requires.names) how
+    (λ has. c.deref.ensures.value ∙ c.tick-outcome.ensures.outputs r.state follows has ∙ ap (λ x. (tick x run.budget r.state values).outputs) k) c.put_outcome.ensures in
+    stop_own run F now new l0 l l' h0 h (g.K.Sink.held c.finish-in-Ended.new.out) unsent c.put_outcome.new.self.bytes.items row values r c.in-Row.ensures.next o status.Done c.finish-in-Ended.result how
     (ap goes_on c.in-Ended.is) (ap stop_status c.in-Ended.is) put.bytes_are c.finish-in-Ended.ensures.said c.finish-in-Ended.ensures.all own
 
 pub returns-in-Ended-clause-write : goal.returns-in-Ended-clause-write
 returns-in-Ended-clause-write g c = λ is.
-    let run : Run = record { kernel = plain_kernel c.args.program.now.kernel; budget = c.args.program.now.budget; waited = waits c.args.lines.now; was = c.args.lines.now.ended } in
-    let F : State → Type 0 = λ s. Follows run.kernel s c.args.program.now.code c.ticks.machine in
-    let w : List ℕ = waits c.ticks.lines in
-    let e = c.ticks.lines.ended in
-    let w' : List ℕ = waits c.next_row.new.lines in
-    let e' = c.next_row.new.lines.ended in
+    let run : Run = record { kernel = kernel_in c.args.runner.now; budget = c.args.budget; first = c.args.rows.now } in
+    let F : State → Type 0 = λ s. Follows s c.ticks.runner in
+    let now = c.ticks.rows in
     let l0 = g.S.Source.left c.args.trace.now in
     let l = g.S.Source.left c.ticks.trace in
-    let l' = g.S.Source.left c.next_row.new.trace in
     let h0 = g.K.Sink.held c.args.out.now in
     let h = g.K.Sink.held c.send_due.new.out in
     let unsent : List ℕ = c.send_due.new.waiting.bytes.items in
     let row = c.ticks.row in
     let i = c.ticks.invariant in
-    let r : Reached run F w e l0 l h0 h unsent row = reached_sent run F w e l0 l h0 (g.K.Sink.held c.ticks.out) h c.ticks.waiting.bytes.items unsent row i.reached c.in_default.ensures.ok in
-    let t = tick run.kernel run.budget r.state [] in
+    let r : Reached run F now l0 l h0 h unsent row = reached_sent run F now l0 l h0 (g.K.Sink.held c.ticks.out) h c.ticks.waiting.bytes.items unsent row i.reached c.in_default.ensures.ok in
+    let new = c.next_row.new.rows in
+    let l' = g.S.Source.left c.next_row.new.trace in
+    let values = c.next_row.new.self.row.items in
+    let t = tick run.kernel run.budget r.state values in
     let o = c.tick-outcome.result in
-    let how : o ≡ t.outcome = c.tick-outcome.ensures.outcome run.kernel r.state r.follows in
+    let k : kernel_in c.next_row.new.self ≡ run.kernel = c.next_row.ensures.kernel ∙ i.kernel in
+    let follows : Follows r.state c.next_row.new.self = c.next_row.ensures.follows r.state r.follows in
+    let how : o ≡ t.outcome = c.tick-outcome.ensures.outcome r.state follows ∙ ap (λ x. (tick x run.budget r.state values).outcome) k in
     let put : Gains c.send_due.new.waiting c.put_outcome.new.self (tick_lines run.kernel run.budget row t) =
-    put_tick_lines run.kernel run.budget row t o c.output_name-name.result.now c.output.result (to_z w32 (of_z w32 c.output.result)) c.send_due.new.waiting c.put_outcome.new.self
-    c.output_name-name.ensures how (λ has. c.tick-outcome.ensures.output run.kernel r.state r.follows has ∙ ap (λ z. z ∷ []) (sym c.output.ensures))
-    (to_z-of_z w32 c.output.result (record { sfits = c.output.type_inv })) c.put_outcome.ensures in (
+    put_tick_lines run.kernel run.budget row t o c.send_due.new.waiting.names c.deref.result.now c.send_due.new.waiting c.put_outcome.new.self
+    (c.send_due.ensures.names ∙ i.names ∙ c.requires.names) how
+    (λ has. c.deref.ensures.value ∙ c.tick-outcome.ensures.outputs r.state follows has ∙ ap (λ x. (tick x run.budget r.state values).outputs) k) c.put_outcome.ensures in (
       fell_since _ (g.K.Sink.faults c.send_due.new.out) _ _ (omega (arith, i.written, c.in_default.ensures.cause.later)) (c.finish-in-Ended.ensures.fault is),
-      stop_front run F w e w' e' l0 l l' h0 h (g.K.Sink.held c.finish-in-Ended.new.out) unsent c.put_outcome.new.self.bytes.items row r c.in-Row.ensures.next o how
+      stop_front run F now new l0 l l' h0 h (g.K.Sink.held c.finish-in-Ended.new.out) unsent c.put_outcome.new.self.bytes.items row values r c.in-Row.ensures.next o how
           (ap goes_on c.in-Ended.is) put.bytes_are (c.finish-in-Ended.ensures.front is),
     )
 
 pub returns-in-Trapped-clause-own : goal.returns-in-Trapped-clause-own
 returns-in-Trapped-clause-own g c = λ own.
-    let run : Run = record { kernel = plain_kernel c.args.program.now.kernel; budget = c.args.program.now.budget; waited = waits c.args.lines.now; was = c.args.lines.now.ended } in
-    let F : State → Type 0 = λ s. Follows run.kernel s c.args.program.now.code c.ticks.machine in
-    let w : List ℕ = waits c.ticks.lines in
-    let e = c.ticks.lines.ended in
-    let w' : List ℕ = waits c.next_row.new.lines in
-    let e' = c.next_row.new.lines.ended in
+    let run : Run = record { kernel = kernel_in c.args.runner.now; budget = c.args.budget; first = c.args.rows.now } in
+    let F : State → Type 0 = λ s. Follows s c.ticks.runner in
+    let now = c.ticks.rows in
     let l0 = g.S.Source.left c.args.trace.now in
     let l = g.S.Source.left c.ticks.trace in
-    let l' = g.S.Source.left c.next_row.new.trace in
     let h0 = g.K.Sink.held c.args.out.now in
     let h = g.K.Sink.held c.send_due.new.out in
     let unsent : List ℕ = c.send_due.new.waiting.bytes.items in
     let row = c.ticks.row in
     let i = c.ticks.invariant in
-    let r : Reached run F w e l0 l h0 h unsent row = reached_sent run F w e l0 l h0 (g.K.Sink.held c.ticks.out) h c.ticks.waiting.bytes.items unsent row i.reached c.in_default.ensures.ok in
-    let t = tick run.kernel run.budget r.state [] in
+    let r : Reached run F now l0 l h0 h unsent row = reached_sent run F now l0 l h0 (g.K.Sink.held c.ticks.out) h c.ticks.waiting.bytes.items unsent row i.reached c.in_default.ensures.ok in
+    let new = c.next_row.new.rows in
+    let l' = g.S.Source.left c.next_row.new.trace in
+    let values = c.next_row.new.self.row.items in
+    let t = tick run.kernel run.budget r.state values in
     let o = c.tick-outcome.result in
-    let how : o ≡ t.outcome = c.tick-outcome.ensures.outcome run.kernel r.state r.follows in
+    let k : kernel_in c.next_row.new.self ≡ run.kernel = c.next_row.ensures.kernel ∙ i.kernel in
+    let follows : Follows r.state c.next_row.new.self = c.next_row.ensures.follows r.state r.follows in
+    let how : o ≡ t.outcome = c.tick-outcome.ensures.outcome r.state follows ∙ ap (λ x. (tick x run.budget r.state values).outcome) k in
     let put : Gains c.send_due.new.waiting c.put_outcome.new.self (tick_lines run.kernel run.budget row t) =
-    put_tick_lines run.kernel run.budget row t o c.output_name-name.result.now c.output.result (to_z w32 (of_z w32 c.output.result)) c.send_due.new.waiting c.put_outcome.new.self
-    c.output_name-name.ensures how (λ has. c.tick-outcome.ensures.output run.kernel r.state r.follows has ∙ ap (λ z. z ∷ []) (sym c.output.ensures))
-    (to_z-of_z w32 c.output.result (record { sfits = c.output.type_inv })) c.put_outcome.ensures in
-    stop_own run F w e w' e' l0 l l' h0 h (g.K.Sink.held c.finish-in-Trapped.new.out) unsent c.put_outcome.new.self.bytes.items row r c.in-Row.ensures.next o status.Trapped c.finish-in-Trapped.result how
+    put_tick_lines run.kernel run.budget row t o c.send_due.new.waiting.names c.deref.result.now c.send_due.new.waiting c.put_outcome.new.self
+    (c.send_due.ensures.names ∙ i.names ∙ c.requires.names) how
+    (λ has. c.deref.ensures.value ∙ c.tick-outcome.ensures.outputs r.state follows has ∙ ap (λ x. (tick x run.budget r.state values).outputs) k) c.put_outcome.ensures in
+    stop_own run F now new l0 l l' h0 h (g.K.Sink.held c.finish-in-Trapped.new.out) unsent c.put_outcome.new.self.bytes.items row values r c.in-Row.ensures.next o status.Trapped c.finish-in-Trapped.result how
     (ap goes_on c.in-Trapped.is) (ap stop_status c.in-Trapped.is) put.bytes_are c.finish-in-Trapped.ensures.said c.finish-in-Trapped.ensures.all own
 
 pub returns-in-Trapped-clause-write : goal.returns-in-Trapped-clause-write
 returns-in-Trapped-clause-write g c = λ is.
-    let run : Run = record { kernel = plain_kernel c.args.program.now.kernel; budget = c.args.program.now.budget; waited = waits c.args.lines.now; was = c.args.lines.now.ended } in
-    let F : State → Type 0 = λ s. Follows run.kernel s c.args.program.now.code c.ticks.machine in
-    let w : List ℕ = waits c.ticks.lines in
-    let e = c.ticks.lines.ended in
-    let w' : List ℕ = waits c.next_row.new.lines in
-    let e' = c.next_row.new.lines.ended in
+    let run : Run = record { kernel = kernel_in c.args.runner.now; budget = c.args.budget; first = c.args.rows.now } in
+    let F : State → Type 0 = λ s. Follows s c.ticks.runner in
+    let now = c.ticks.rows in
     let l0 = g.S.Source.left c.args.trace.now in
     let l = g.S.Source.left c.ticks.trace in
-    let l' = g.S.Source.left c.next_row.new.trace in
     let h0 = g.K.Sink.held c.args.out.now in
     let h = g.K.Sink.held c.send_due.new.out in
     let unsent : List ℕ = c.send_due.new.waiting.bytes.items in
     let row = c.ticks.row in
     let i = c.ticks.invariant in
-    let r : Reached run F w e l0 l h0 h unsent row = reached_sent run F w e l0 l h0 (g.K.Sink.held c.ticks.out) h c.ticks.waiting.bytes.items unsent row i.reached c.in_default.ensures.ok in
-    let t = tick run.kernel run.budget r.state [] in
+    let r : Reached run F now l0 l h0 h unsent row = reached_sent run F now l0 l h0 (g.K.Sink.held c.ticks.out) h c.ticks.waiting.bytes.items unsent row i.reached c.in_default.ensures.ok in
+    let new = c.next_row.new.rows in
+    let l' = g.S.Source.left c.next_row.new.trace in
+    let values = c.next_row.new.self.row.items in
+    let t = tick run.kernel run.budget r.state values in
     let o = c.tick-outcome.result in
-    let how : o ≡ t.outcome = c.tick-outcome.ensures.outcome run.kernel r.state r.follows in
+    let k : kernel_in c.next_row.new.self ≡ run.kernel = c.next_row.ensures.kernel ∙ i.kernel in
+    let follows : Follows r.state c.next_row.new.self = c.next_row.ensures.follows r.state r.follows in
+    let how : o ≡ t.outcome = c.tick-outcome.ensures.outcome r.state follows ∙ ap (λ x. (tick x run.budget r.state values).outcome) k in
     let put : Gains c.send_due.new.waiting c.put_outcome.new.self (tick_lines run.kernel run.budget row t) =
-    put_tick_lines run.kernel run.budget row t o c.output_name-name.result.now c.output.result (to_z w32 (of_z w32 c.output.result)) c.send_due.new.waiting c.put_outcome.new.self
-    c.output_name-name.ensures how (λ has. c.tick-outcome.ensures.output run.kernel r.state r.follows has ∙ ap (λ z. z ∷ []) (sym c.output.ensures))
-    (to_z-of_z w32 c.output.result (record { sfits = c.output.type_inv })) c.put_outcome.ensures in (
+    put_tick_lines run.kernel run.budget row t o c.send_due.new.waiting.names c.deref.result.now c.send_due.new.waiting c.put_outcome.new.self
+    (c.send_due.ensures.names ∙ i.names ∙ c.requires.names) how
+    (λ has. c.deref.ensures.value ∙ c.tick-outcome.ensures.outputs r.state follows has ∙ ap (λ x. (tick x run.budget r.state values).outputs) k) c.put_outcome.ensures in (
       fell_since _ (g.K.Sink.faults c.send_due.new.out) _ _ (omega (arith, i.written, c.in_default.ensures.cause.later)) (c.finish-in-Trapped.ensures.fault is),
-      stop_front run F w e w' e' l0 l l' h0 h (g.K.Sink.held c.finish-in-Trapped.new.out) unsent c.put_outcome.new.self.bytes.items row r c.in-Row.ensures.next o how
+      stop_front run F now new l0 l l' h0 h (g.K.Sink.held c.finish-in-Trapped.new.out) unsent c.put_outcome.new.self.bytes.items row values r c.in-Row.ensures.next o how
           (ap goes_on c.in-Trapped.is) put.bytes_are (c.finish-in-Trapped.ensures.front is),
     )
 
 pub returns-in-Over-clause-own : goal.returns-in-Over-clause-own
 returns-in-Over-clause-own g c = λ own.
-    let run : Run = record { kernel = plain_kernel c.args.program.now.kernel; budget = c.args.program.now.budget; waited = waits c.args.lines.now; was = c.args.lines.now.ended } in
-    let F : State → Type 0 = λ s. Follows run.kernel s c.args.program.now.code c.ticks.machine in
-    let w : List ℕ = waits c.ticks.lines in
-    let e = c.ticks.lines.ended in
-    let w' : List ℕ = waits c.next_row.new.lines in
-    let e' = c.next_row.new.lines.ended in
+    let run : Run = record { kernel = kernel_in c.args.runner.now; budget = c.args.budget; first = c.args.rows.now } in
+    let F : State → Type 0 = λ s. Follows s c.ticks.runner in
+    let now = c.ticks.rows in
     let l0 = g.S.Source.left c.args.trace.now in
     let l = g.S.Source.left c.ticks.trace in
-    let l' = g.S.Source.left c.next_row.new.trace in
     let h0 = g.K.Sink.held c.args.out.now in
     let h = g.K.Sink.held c.send_due.new.out in
     let unsent : List ℕ = c.send_due.new.waiting.bytes.items in
     let row = c.ticks.row in
     let i = c.ticks.invariant in
-    let r : Reached run F w e l0 l h0 h unsent row = reached_sent run F w e l0 l h0 (g.K.Sink.held c.ticks.out) h c.ticks.waiting.bytes.items unsent row i.reached c.in_default.ensures.ok in
-    let t = tick run.kernel run.budget r.state [] in
+    let r : Reached run F now l0 l h0 h unsent row = reached_sent run F now l0 l h0 (g.K.Sink.held c.ticks.out) h c.ticks.waiting.bytes.items unsent row i.reached c.in_default.ensures.ok in
+    let new = c.next_row.new.rows in
+    let l' = g.S.Source.left c.next_row.new.trace in
+    let values = c.next_row.new.self.row.items in
+    let t = tick run.kernel run.budget r.state values in
     let o = c.tick-outcome.result in
-    let how : o ≡ t.outcome = c.tick-outcome.ensures.outcome run.kernel r.state r.follows in
+    let k : kernel_in c.next_row.new.self ≡ run.kernel = c.next_row.ensures.kernel ∙ i.kernel in
+    let follows : Follows r.state c.next_row.new.self = c.next_row.ensures.follows r.state r.follows in
+    let how : o ≡ t.outcome = c.tick-outcome.ensures.outcome r.state follows ∙ ap (λ x. (tick x run.budget r.state values).outcome) k in
     let put : Gains c.send_due.new.waiting c.put_outcome.new.self (tick_lines run.kernel run.budget row t) =
-    put_tick_lines run.kernel run.budget row t o c.output_name-name.result.now c.output.result (to_z w32 (of_z w32 c.output.result)) c.send_due.new.waiting c.put_outcome.new.self
-    c.output_name-name.ensures how (λ has. c.tick-outcome.ensures.output run.kernel r.state r.follows has ∙ ap (λ z. z ∷ []) (sym c.output.ensures))
-    (to_z-of_z w32 c.output.result (record { sfits = c.output.type_inv })) c.put_outcome.ensures in
-    stop_own run F w e w' e' l0 l l' h0 h (g.K.Sink.held c.finish-in-Over.new.out) unsent c.put_outcome.new.self.bytes.items row r c.in-Row.ensures.next o status.Over c.finish-in-Over.result how
+    put_tick_lines run.kernel run.budget row t o c.send_due.new.waiting.names c.deref.result.now c.send_due.new.waiting c.put_outcome.new.self
+    (c.send_due.ensures.names ∙ i.names ∙ c.requires.names) how
+    (λ has. c.deref.ensures.value ∙ c.tick-outcome.ensures.outputs r.state follows has ∙ ap (λ x. (tick x run.budget r.state values).outputs) k) c.put_outcome.ensures in
+    stop_own run F now new l0 l l' h0 h (g.K.Sink.held c.finish-in-Over.new.out) unsent c.put_outcome.new.self.bytes.items row values r c.in-Row.ensures.next o status.Over c.finish-in-Over.result how
     (ap goes_on c.in-Over.is) (ap stop_status c.in-Over.is) put.bytes_are c.finish-in-Over.ensures.said c.finish-in-Over.ensures.all own
 
 pub returns-in-Over-clause-write : goal.returns-in-Over-clause-write
 returns-in-Over-clause-write g c = λ is.
-    let run : Run = record { kernel = plain_kernel c.args.program.now.kernel; budget = c.args.program.now.budget; waited = waits c.args.lines.now; was = c.args.lines.now.ended } in
-    let F : State → Type 0 = λ s. Follows run.kernel s c.args.program.now.code c.ticks.machine in
-    let w : List ℕ = waits c.ticks.lines in
-    let e = c.ticks.lines.ended in
-    let w' : List ℕ = waits c.next_row.new.lines in
-    let e' = c.next_row.new.lines.ended in
+    let run : Run = record { kernel = kernel_in c.args.runner.now; budget = c.args.budget; first = c.args.rows.now } in
+    let F : State → Type 0 = λ s. Follows s c.ticks.runner in
+    let now = c.ticks.rows in
     let l0 = g.S.Source.left c.args.trace.now in
     let l = g.S.Source.left c.ticks.trace in
-    let l' = g.S.Source.left c.next_row.new.trace in
     let h0 = g.K.Sink.held c.args.out.now in
     let h = g.K.Sink.held c.send_due.new.out in
     let unsent : List ℕ = c.send_due.new.waiting.bytes.items in
     let row = c.ticks.row in
     let i = c.ticks.invariant in
-    let r : Reached run F w e l0 l h0 h unsent row = reached_sent run F w e l0 l h0 (g.K.Sink.held c.ticks.out) h c.ticks.waiting.bytes.items unsent row i.reached c.in_default.ensures.ok in
-    let t = tick run.kernel run.budget r.state [] in
+    let r : Reached run F now l0 l h0 h unsent row = reached_sent run F now l0 l h0 (g.K.Sink.held c.ticks.out) h c.ticks.waiting.bytes.items unsent row i.reached c.in_default.ensures.ok in
+    let new = c.next_row.new.rows in
+    let l' = g.S.Source.left c.next_row.new.trace in
+    let values = c.next_row.new.self.row.items in
+    let t = tick run.kernel run.budget r.state values in
     let o = c.tick-outcome.result in
-    let how : o ≡ t.outcome = c.tick-outcome.ensures.outcome run.kernel r.state r.follows in
+    let k : kernel_in c.next_row.new.self ≡ run.kernel = c.next_row.ensures.kernel ∙ i.kernel in
+    let follows : Follows r.state c.next_row.new.self = c.next_row.ensures.follows r.state r.follows in
+    let how : o ≡ t.outcome = c.tick-outcome.ensures.outcome r.state follows ∙ ap (λ x. (tick x run.budget r.state values).outcome) k in
     let put : Gains c.send_due.new.waiting c.put_outcome.new.self (tick_lines run.kernel run.budget row t) =
-    put_tick_lines run.kernel run.budget row t o c.output_name-name.result.now c.output.result (to_z w32 (of_z w32 c.output.result)) c.send_due.new.waiting c.put_outcome.new.self
-    c.output_name-name.ensures how (λ has. c.tick-outcome.ensures.output run.kernel r.state r.follows has ∙ ap (λ z. z ∷ []) (sym c.output.ensures))
-    (to_z-of_z w32 c.output.result (record { sfits = c.output.type_inv })) c.put_outcome.ensures in (
+    put_tick_lines run.kernel run.budget row t o c.send_due.new.waiting.names c.deref.result.now c.send_due.new.waiting c.put_outcome.new.self
+    (c.send_due.ensures.names ∙ i.names ∙ c.requires.names) how
+    (λ has. c.deref.ensures.value ∙ c.tick-outcome.ensures.outputs r.state follows has ∙ ap (λ x. (tick x run.budget r.state values).outputs) k) c.put_outcome.ensures in (
       fell_since _ (g.K.Sink.faults c.send_due.new.out) _ _ (omega (arith, i.written, c.in_default.ensures.cause.later)) (c.finish-in-Over.ensures.fault is),
-      stop_front run F w e w' e' l0 l l' h0 h (g.K.Sink.held c.finish-in-Over.new.out) unsent c.put_outcome.new.self.bytes.items row r c.in-Row.ensures.next o how
+      stop_front run F now new l0 l l' h0 h (g.K.Sink.held c.finish-in-Over.new.out) unsent c.put_outcome.new.self.bytes.items row values r c.in-Row.ensures.next o how
           (ap goes_on c.in-Over.is) put.bytes_are (c.finish-in-Over.ensures.front is),
     )

@@ -1,0 +1,6 @@
+pub mod Dealing
+pub mod Mailing
+pub mod Placing
+pub mod Porting
+pub mod Ruling
+pub mod Seating

@@ -1,0 +1,153 @@
+-- A port whose seats have both ends of a mailbox each.
+use Rattle.std.proofs.Common.{◌≡◌, ◌⊎◌, ℕ, suc, zero, ◌<◌, List, [], ◌∷◌, ◌++◌, length, map, get_or, set, sym, refl, ap, ◌∙◌, subst, ⊎_elim, inl, inr, arith, Option, Some, Bool, true, false, slice_get}
+use Rattle.std.proofs.lemmas.Option.{slice_get-get_or}
+use Rattle.atomic_table.specs.Table.{Me}
+use Rattle.atomic_table.specs.Seated.{TableId}
+use Rattle.atomic_table.specs.declared.shared.Seat.{Seat}
+use Rattle.copy_slots.specs.declared.view.View.{View}
+use Rattle.copy_slots.specs.declared.view.Place.{Place}
+use Rattle.copy_slots.specs.declared.view.Sender.{Sender}
+use Rattle.copy_slots.specs.declared.view.Taker.{Taker}
+use Rattle.copy_slots.specs.declared.view.Role.{Role}
+use Rattle.copy_slots.specs.declared.view.Role.TheVariants.{Idle, Keeper, Mailbox}
+use Rattle.copy_slots.specs.Mail.{role_checked, role_stopped, new_sender, new_taker}
+use Rattle.copy_slots.specs.Fresh.{AllFresh, fresh_ends, new_state}
+use Rattle.copy_slots.specs.declared.both.BothEnds.{BothEnds}
+use Rattle.copy_slots.specs.Places.{Sits, Watches}
+use Rattle.copy_slots.specs.Ports.{PortState, local_state, Ends, parent_at, child_at, on_parent, on_child, IsParent, IsChild, ends_of, sender_in, taker_in, root_of, after_check, stop_word, after_stop}
+use Rattle.copy_slots.proofs.Placing.{role_is}
+
+pub set_cases : {A : Type 0} (l : List A) (k j : ℕ) (a b : A) → slice_get (set l k a) j ≡ Some b → ((j ≡ k) × (a ≡ b)) ⊎ (slice_get l j ≡ Some b)
+set_cases [] k j a b e = inr e
+set_cases (x ∷ xs) zero zero a b e = inl (refl, cc)
+set_cases (x ∷ xs) zero (suc j) a b e = inr e
+set_cases (x ∷ xs) (suc k) zero a b e = inr e
+set_cases (x ∷ xs) (suc k) (suc j) a b e = ⊎_elim (λ t. inl (ap suc t.0, t.1)) (λ t. inr t) (set_cases xs k j a b e)
+
+pub at_index : {A : Type 0} (l : List A) (k : ℕ) (a : A) → k < length l → a ≡ get_or l k a → slice_get l k ≡ Some a
+at_index l k a h e = slice_get-get_or l k a h ∙ ap Some (sym e)
+
+module _ {A Q : Type 0} (f : A → Role Q) where
+  abbrev pub ends_in : List A → List (Ends Q)
+  ends_in l = map ends_of (map f l)
+
+  pub parent_inside : (l : List A) (k : ℕ) (p : Place) → IsParent (parent_at (ends_in l) k) p → k < length l
+  parent_inside [] k p h = absurd h
+  parent_inside (a ∷ l) zero p h = omega arith
+  parent_inside (a ∷ l) (suc k) p h = let t = parent_inside l k p h in omega arith
+
+  pub child_inside : (l : List A) (k : ℕ) (b : Bool) → IsChild (child_at (ends_in l) k) b → k < length l
+  child_inside [] k b h = absurd h
+  child_inside (a ∷ l) zero b h = omega arith
+  child_inside (a ∷ l) (suc k) b h = let t = child_inside l k b h in omega arith
+
+  pub parent_is : (l : List A) (k j : ℕ) (a : A) (p : Option (Sender Q)) (c : Option (Taker Q)) → slice_get l k ≡ Some a → f a ≡ Mailbox j p c → parent_at (ends_in l) k ≡ p
+  parent_is [] k j a p c e is = absurd (cc)
+  parent_is (b ∷ l) zero j a p c e is = let same : b ≡ a = cc in ap (λ z. (ends_of (f z)).parent) same ∙ ap (λ r. (ends_of r).parent) is
+  parent_is (b ∷ l) (suc k) j a p c e is = parent_is l k j a p c e is
+
+  pub child_is : (l : List A) (k j : ℕ) (a : A) (p : Option (Sender Q)) (c : Option (Taker Q)) → slice_get l k ≡ Some a → f a ≡ Mailbox j p c → child_at (ends_in l) k ≡ c
+  child_is [] k j a p c e is = absurd (cc)
+  child_is (b ∷ l) zero j a p c e is = let same : b ≡ a = cc in ap (λ z. (ends_of (f z)).child) same ∙ ap (λ r. (ends_of r).child) is
+  child_is (b ∷ l) (suc k) j a p c e is = child_is l k j a p c e is
+
+  pub parent_moved : (l : List A) (k j : ℕ) (a b : A) (x : Sender Q) (g : Sender Q → Sender Q) (c : Option (Taker Q)) → slice_get l k ≡ Some a → f a ≡ Mailbox j (Some x) c → f b ≡ Mailbox j (Some (g x)) c
+      → ends_in (set l k b) ≡ on_parent (ends_in l) k g
+  parent_moved [] k j a b x g c e is is' = absurd (cc)
+  parent_moved (h ∷ l) zero j a b x g c e is is' = let same : h ≡ a = cc in let old = ap f same ∙ is in
+      ap (λ r. ends_of r ∷ ends_in l) is' ∙ ap (λ r. on_parent (ends_of r ∷ ends_in l) zero g) (sym old)
+  parent_moved (h ∷ l) (suc k) j a b x g c e is is' = ap (λ t. ends_of (f h) ∷ t) (parent_moved l k j a b x g c e is is')
+
+  pub child_moved : (l : List A) (k j : ℕ) (a b : A) (y : Taker Q) (g : Taker Q → Taker Q) (p : Option (Sender Q)) → slice_get l k ≡ Some a → f a ≡ Mailbox j p (Some y) → f b ≡ Mailbox j p (Some (g y))
+      → ends_in (set l k b) ≡ on_child (ends_in l) k g
+  child_moved [] k j a b y g p e is is' = absurd (cc)
+  child_moved (h ∷ l) zero j a b y g p e is is' = let same : h ≡ a = cc in let old = ap f same ∙ is in
+      ap (λ r. ends_of r ∷ ends_in l) is' ∙ ap (λ r. on_child (ends_of r ∷ ends_in l) zero g) (sym old)
+  child_moved (h ∷ l) (suc k) j a b y g p e is is' = ap (λ t. ends_of (f h) ∷ t) (child_moved l k j a b y g p e is is')
+
+module _ {W P Q : Type 0} (z : TableId) (work : W) (blanks : List Q) where
+  abbrev pub AllSit : List (BothEnds W P Q) → Type 0
+  AllSit l = (j : ℕ) (s : BothEnds W P Q) → slice_get l j ≡ Some s → Sits z work blanks j (Some (sender_in s.seat.me.0.role)) (Some (taker_in s.seat.me.0.role)) s.seat
+
+  pub resits : (l : List (BothEnds W P Q)) (k : ℕ) (b : BothEnds W P Q) (x : Sender Q) (y : Taker Q) → AllSit l → Sits z work blanks k (Some x) (Some y) b.seat → AllSit (set l k b)
+  resits l k b x y all h j s e = ⊎_elim
+      (λ (t : (j ≡ k) × (b ≡ s)). let role = role_is z work blanks k (Some x) (Some y) b.seat h in
+      subst (λ (q : ℕ × BothEnds W P Q). Sits z work blanks q.0 (Some (sender_in q.1.seat.me.0.role)) (Some (taker_in q.1.seat.me.0.role)) q.1.seat) (λ i. (sym t.0 i, t.1 i))
+      (subst (λ (q : Sender Q × Taker Q). Sits z work blanks k (Some q.0) (Some q.1) b.seat) (λ i. (sym (ap sender_in role) i, sym (ap taker_in role) i)) h))
+      (λ t. all j s t) (set_cases l k j b s e)
+
+module _ {W A Q : Type 0} (f : A → Role Q) (work : W) (blanks : List Q) (watch : Role Q) where
+  abbrev pub state_of : List A → PortState W Q
+  state_of l = local_state work blanks (map f l) watch
+
+  pub parent_state : (l : List A) (k j : ℕ) (a b : A) (x : Sender Q) (g : Sender Q → Sender Q) (c : Option (Taker Q)) → slice_get l k ≡ Some a → f a ≡ Mailbox j (Some x) c → f b ≡ Mailbox j (Some (g x)) c
+      → state_of (set l k b) ≡ record (state_of l) { ends = on_parent (ends_in f l) k g }
+  parent_state l k j a b x g c e is is' = ap (λ (es : List (Ends Q)). let s : PortState W Q = record (state_of l) { ends = es } in s) (parent_moved f l k j a b x g c e is is')
+
+  pub child_state : (l : List A) (k j : ℕ) (a b : A) (y : Taker Q) (g : Taker Q → Taker Q) (p : Option (Sender Q)) → slice_get l k ≡ Some a → f a ≡ Mailbox j p (Some y) → f b ≡ Mailbox j p (Some (g y))
+      → state_of (set l k b) ≡ record (state_of l) { ends = on_child (ends_in f l) k g }
+  child_state l k j a b y g p e is is' = ap (λ (es : List (Ends Q)). let s : PortState W Q = record (state_of l) { ends = es } in s) (child_moved f l k j a b y g p e is is')
+
+module _ {W Q : Type 0} (work : W) (blanks : List Q) (roles : List (Role Q)) where
+  pub root_checked : (w : ℕ) (role : Role Q) → root_of role ≡ true → root_of (role_checked w role) ≡ true
+  root_checked w (Idle ws) e = e
+  root_checked w (Keeper from st ws) e = refl
+  root_checked w (Mailbox k p c) e = e
+
+  pub root_stopped : (role : Role Q) → root_of role ≡ true → root_of (role_stopped role) ≡ true
+  root_stopped (Idle ws) e = e
+  root_stopped (Keeper from st ws) e = refl
+  root_stopped (Mailbox k p c) e = e
+
+  pub keeper_is : (role : Role Q) → root_of role ≡ true → (from : ℕ) × (st : Bool) × (ws : List ℕ) × (role ≡ Keeper from st ws)
+  keeper_is (Idle ws) e = absurd (cc)
+  keeper_is (Keeper from st ws) e = (from, st, ws, refl)
+  keeper_is (Mailbox k p c) e = absurd (cc)
+
+  pub checked_state : (stopped : Bool) (role : Role Q) → root_of role ≡ true → local_state work blanks roles (role_checked (stop_word stopped) role) ≡ after_check stopped (local_state work blanks roles role)
+  checked_state w (Idle ws) e = absurd (cc)
+  checked_state w (Keeper from st ws) e = refl
+  checked_state w (Mailbox k p c) e = absurd (cc)
+
+  pub stopped_state : (role : Role Q) → root_of role ≡ true → local_state work blanks roles (role_stopped role) ≡ after_stop (local_state work blanks roles role)
+  stopped_state (Idle ws) e = absurd (cc)
+  stopped_state (Keeper from st ws) e = refl
+  stopped_state (Mailbox k p c) e = absurd (cc)
+
+module _ {W P Q : Type 0} (z : TableId) (work : W) (blanks : List Q) where
+  -- the seat that looks at the stop word, by its own view
+  pub rewatches : (role : Role Q) (s : Seat (Option P) (View W Q)) → Watches z work blanks role s → Watches z work s.me.0.blanks s.me.0.role s
+  rewatches role s h = subst (λ (q : List Q × Role Q). Watches z work q.0 q.1 s) (λ i. (sym (ap (λ (m : Me (Option P) (View W Q)). m.0.blanks) h.me) i, sym (ap (λ (m : Me (Option P) (View W Q)). m.0.role) h.me) i)) h
+
+pub snoc_cases : {A : Type 0} (l : List A) (a b : A) (j : ℕ) → slice_get (l ++ a ∷ []) j ≡ Some b → ((j ≡ length l) × (a ≡ b)) ⊎ (slice_get l j ≡ Some b)
+snoc_cases [] a b zero e = inl (refl, cc)
+snoc_cases [] a b (suc j) e = absurd (cc)
+snoc_cases (x ∷ xs) a b zero e = inr e
+snoc_cases (x ∷ xs) a b (suc j) e = ⊎_elim (λ t. inl (ap suc t.0, t.1)) (λ t. inr t) (snoc_cases xs a b j e)
+
+module _ {W P Q : Type 0} (z : TableId) (work : W) (blanks : List Q) where
+  pub fresh_more : (l : List (BothEnds W P Q)) (k : ℕ) (b : BothEnds W P Q) → length l ≡ k → AllFresh z work blanks l → Sits z work blanks k (Some new_sender) (Some new_taker) b.seat → AllFresh z work blanks (l ++ b ∷ [])
+  fresh_more l k b long all h j s e = ⊎_elim
+      (λ (t : (j ≡ length l) × (b ≡ s)). subst (λ (q : ℕ × BothEnds W P Q). Sits z work blanks q.0 (Some new_sender) (Some new_taker) q.1.seat) (λ i. (sym (t.0 ∙ long) i, t.1 i)) h)
+      (λ t. all j s t) (snoc_cases l b s j e)
+
+all_same : {A B C : Type 0} (f : A → B) (v : B) (l : List A) (m : List C) → length l ≡ length m → ((j : ℕ) (s : A) → slice_get l j ≡ Some s → f s ≡ v) → map f l ≡ map (λ (x : C). v) m
+all_same f v [] [] e h = refl
+all_same f v [] (y ∷ m) e h = absurd (omega arith)
+all_same f v (x ∷ l) [] e h = absurd (omega arith)
+all_same f v (x ∷ l) (y ∷ m) e h = λ i. h 0 x refl i ∷ all_same f v l m (omega arith) (λ j s t. h (suc j) s t) i
+
+map_map : {A B C : Type 0} (f : A → B) (g : B → C) (l : List A) → map g (map f l) ≡ map (λ x. g (f x)) l
+map_map f g [] = refl
+map_map f g (x ∷ l) = ap (λ t. g (f x) ∷ t) (map_map f g l)
+
+module _ {W P Q : Type 0} (plain : P → Q) (z : TableId) (work : W) (packets : List P) where
+  pub fresh_sits : (l : List (BothEnds W P Q)) → AllFresh z work (map plain packets) l → AllSit z work (map plain packets) l
+  fresh_sits l h j s e = let role = role_is z work (map plain packets) j (Some new_sender) (Some new_taker) s.seat (h j s e) in
+      subst (λ (q : Sender Q × Taker Q). Sits z work (map plain packets) j (Some q.0) (Some q.1) s.seat) (λ i. (sym (ap sender_in role) i, sym (ap taker_in role) i)) (h j s e)
+
+  pub fresh_state : (l : List (BothEnds W P Q)) (n : ℕ) → length l ≡ length packets → AllFresh z work (map plain packets) l
+      → local_state work (map plain packets) (map (λ (b : BothEnds W P Q). b.seat.me.0.role) l) (Keeper n false []) ≡ new_state plain work packets
+  fresh_state l n long h = ap (λ (es : List (Ends Q)). let s : PortState W Q = record { work = work; blanks = map plain packets; ends = es; tells = true; root = true; stored = false; stops = [] } in s)
+      (map_map (λ (b : BothEnds W P Q). b.seat.me.0.role) ends_of l ∙ all_same (λ (b : BothEnds W P Q). ends_of b.seat.me.0.role) fresh_ends l packets long
+      (λ j s e. ap ends_of (role_is z work (map plain packets) j (Some new_sender) (Some new_taker) s.seat (h j s e))))

@@ -1,0 +1,19 @@
+-- A port with all ends, before its first call.
+use Rattle.std.specs.Prelude.{◌≡◌, ℕ, List, [], map, slice_get, Some, true, false}
+use Rattle.atomic_table.specs.Seated.{TableId}
+use Rattle.copy_slots.specs.declared.both.BothEnds.{BothEnds}
+use Rattle.copy_slots.specs.Mail.{new_sender, new_taker}
+use Rattle.copy_slots.specs.Places.{Sits}
+use Rattle.copy_slots.specs.Ports.{Ends, PortState}
+
+-- each seat has both ends of its mailbox, and nothing was done there
+module _ {W P Q : Type 0} where
+  abbrev pub AllFresh : TableId → W → List Q → List (BothEnds W P Q) → Type 0
+  AllFresh z work blanks l = (j : ℕ) (s : BothEnds W P Q) → slice_get l j ≡ Some s → Sits z work blanks j (Some new_sender) (Some new_taker) s.seat
+
+abbrev pub fresh_ends : {Q : Type 0} → Ends Q
+fresh_ends = record { parent = Some new_sender; child = Some new_taker }
+
+-- a port with all ends, before its first call
+abbrev pub new_state : {W P Q : Type 0} → (P → Q) → W → List P → PortState W Q
+new_state plain work blanks = record { work = work; blanks = map plain blanks; ends = map (λ p. fresh_ends) blanks; tells = true; root = true; stored = false; stops = [] }

@@ -1,0 +1,5 @@
+pub mod Fresh
+pub mod Mail
+pub mod Places
+pub mod Ports
+pub mod Rule

@@ -1,0 +1,19 @@
+//! Mailboxes between a parent and a child, through which a packet goes to and fro.
+#![tactic(auto)]
+
+mod both;
+mod laws;
+mod local;
+mod make;
+mod port;
+mod rule;
+mod steps;
+#[cfg(test)]
+mod tests;
+mod view;
+mod work;
+
+pub use laws::mailboxes_are_ruled;
+pub use local::LocalPort;
+pub use port::Port;
+pub use work::Work;

@@ -1,0 +1,12 @@
+//! Which core runs which thread.
+#![tactic(auto)]
+
+mod fault;
+mod list;
+mod placement;
+#[cfg(test)]
+mod tests;
+
+pub use fault::PlaceFault;
+pub use list::given;
+pub use placement::Placement;

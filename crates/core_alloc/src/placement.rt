@@ -1,0 +1,58 @@
+//! Placements.
+
+ghost use Rattle.std.specs.Prelude.{◌≡◌, ◌<◌, ◌≤◌, ◌^◌, Some, All, length, slice_get};
+
+use std::marker::Model;
+
+/// A number of cores, and the core of each thread.
+#[derive(Drop)]
+pub struct Placement {
+    cores: u32,
+    places: Vec<u32>,
+}
+
+impl Model for Placement {
+    ghost use Rattle.core_alloc.specs.Places.{Places, IsPlaced};
+
+    ghost Value = { Places };
+
+    ghost view = { λ p. record { cores = p.cores; places = p.places.items } };
+
+    ghost invariant = { λ p. IsPlaced p.cores p.places.items };
+}
+
+impl Placement {
+    /// The placement of these threads on so many cores.
+    pub(crate) fn of(cores: u32, places: Vec<u32>) -> Placement
+        requires some { 1 ≤ cores }
+        requires below { All (λ core. core < cores) places.items }
+        requires few { length places.items < 2 ^ 32 }
+        ensures { result ≡ record { cores = cores; places = places.items } }
+    {
+        Placement { cores, places }
+    }
+
+    /// How many cores there are, at least 1.
+    pub fn cores(&self) -> u32
+        ensures value { result ≡ self.now.cores }
+        ensures some { 1 ≤ result }
+    {
+        self.cores
+    }
+
+    /// How many threads are placed.
+    pub fn threads(&self) -> u32
+        ensures { result ≡ length self.now.places }
+    {
+        self.places.len() as u32
+    }
+
+    /// The core of thread number `t`.
+    pub fn core(&self, t: u32) -> u32
+        requires { t < length self.now.places }
+        ensures value { slice_get self.now.places t ≡ Some result }
+        ensures below { result < self.now.cores }
+    {
+        self.places[t as usize]
+    }
+}

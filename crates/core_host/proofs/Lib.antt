@@ -1,0 +1,7 @@
+pub mod Copies
+pub mod Rooms
+pub mod One
+pub mod KeptCopies
+pub mod Replying
+pub mod Ticked
+pub mod SumCode

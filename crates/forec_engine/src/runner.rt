@@ -1,0 +1,99 @@
+// A program that runs.
+ghost use Rattle.std.specs.Prelude.{◌≡◌, ◌≤◌, ◌^◌, ◌∷◌, [], length, true, List, ℕ, IfOk};
+ghost use Rattle.std.specs.Io.KnownBytes.{IsAtEnd};
+ghost use Rattle.forec_base.specs.Outside.{Fell};
+ghost use Rattle.forec_kernel.specs.Shapes.{plain_kernel};
+ghost use Rattle.forec_kernel.specs.Ticks.{State, Fresh, tick, goes_on};
+ghost use Rattle.thread_code.specs.Alone.{Stands};
+ghost use Rattle.thread_code.specs.Plain.{plain_code};
+ghost use Rattle.core_host.specs.Outcomes.{HasOutputs};
+ghost use Rattle.core_host.specs.Runs.{code_of, is_live};
+
+use crate::found::Found;
+use core_host::Host;
+use forec_base::{OutOfMemory, Source};
+use forec_kernel::{Kernel, Outcome};
+use std::alloc::Global;
+use thread_code::Code;
+use trace_rows::{Next, RowFault, Rows};
+
+/// A program that runs: its kernel, the host of its code, the values of the inputs in the next tick, and those of
+/// the outputs after the last one, each in order of declaration.
+#[derive(Drop)]
+pub struct Runner {
+    pub kernel: Kernel,
+    pub host: Host,
+    pub row: Vec<i32>,
+    pub outputs: Vec<i32>,
+    ghost inputs: { length row.items ≡ length (code_of host).shape.inputs },
+    ghost given: { length outputs.items ≡ length (code_of host).shape.outputs },
+}
+
+impl Runner {
+    ghost use Rattle.forec_engine.specs.Following.{Follows, kernel_in};
+    ghost use Rattle.forec_engine.specs.Progress.{FoundSays};
+
+    /// Nothing has run. It takes all the memory that the ticks need.
+    pub fn load(alloc: Global, kernel: Kernel, code: Code) -> Result<Runner, OutOfMemory>
+        requires { Stands (plain_code code) (plain_kernel kernel) }
+        ensures kernel { IfOk result (λ r. kernel_in r ≡ plain_kernel kernel) }
+        ensures follows { IfOk result (Follows Fresh) }
+    {
+        // A text without `par` has one thread.
+        if code.parts().threads.len() != 1 {
+            return Err(OutOfMemory);
+        }
+        let row = vec![in alloc; 0i32; code.shape().inputs.len()]?;
+        let outputs = vec![in alloc; 0i32; code.shape().outputs.len()]?;
+        let host = Host::load(alloc, code)?;
+        Ok(Runner {
+            kernel,
+            host,
+            row,
+            outputs,
+        })
+    }
+
+    /// Looks for the next row of the trace. Where there is one, the inputs get its values.
+    pub fn next_row<S: Source>(&mut self, rows: &mut Rows, trace: &mut S) -> Found
+        requires live { rows.old.live ≡ true }
+        requires room { length (rows.old.places) ≡ length (code_of self.old.host).shape.inputs }
+        requires ended { rows.old.ended ≡ true → IsAtEnd (S.left trace.old) }
+        ensures kernel { kernel_in self.new ≡ kernel_in self.old }
+        ensures code { code_of self.new.host ≡ code_of self.old.host }
+        ensures follows { (s : State) → Follows s self.old → Follows s self.new }
+        ensures live { is_live self.new.host ≡ is_live self.old.host }
+        ensures next { FoundSays rows.old rows.new (S.left trace.old) (S.left trace.new) self.new.row.items result }
+        ensures reads { result ≡ Found.Row → rows.new.live ≡ true }
+        ensures ended { rows.new.ended ≡ true → IsAtEnd (S.left trace.new) }
+        ensures later { S.faults trace.old ≤ S.faults trace.new }
+        ensures fell { result ≡ Found.Failed → Fell (S.faults trace.old) (S.faults trace.new) (S.down trace.new) }
+    {
+        match rows.next(trace, &mut self.row) {
+            Ok(Next::Row) => Found::Row,
+            Ok(Next::End) => Found::End,
+            Err(RowFault::ReadFault) => Found::Failed,
+            Err(RowFault::OutOfMemory) => unreachable!(),
+            Err(RowFault::Bad) => Found::Stops(RowFault::Bad),
+            Err(RowFault::Long) => Found::Stops(RowFault::Long),
+            Err(RowFault::Many) => Found::Stops(RowFault::Many),
+        }
+    }
+
+    /// Runs one tick. Where it pauses or ends the outputs get their values.
+    pub fn tick(&mut self, budget: u64) -> Outcome
+        requires live { is_live self.old.host ≡ true }
+        requires small { budget ≤ 2 ^ 62 }
+        ensures kernel { kernel_in self.new ≡ kernel_in self.old }
+        ensures code { code_of self.new.host ≡ code_of self.old.host }
+        ensures outcome { (s : State) → Follows s self.old → result ≡ (tick (kernel_in self.old) budget s self.old.row.items).outcome }
+        ensures outputs { (s : State) → Follows s self.old → HasOutputs result → self.new.outputs.items ≡ (tick (kernel_in self.old) budget s self.old.row.items).outputs }
+        ensures follows { (s : State) → Follows s self.old → goes_on result ≡ true
+            → Follows (tick (kernel_in self.old) budget s self.old.row.items).state self.new }
+        ensures live { is_live self.new.host ≡ goes_on result }
+    {
+        // Its clause tells that the kernel is well formed.
+        let _ = self.kernel.shape();
+        self.host.alone(&self.row, budget, &mut self.outputs)
+    }
+}

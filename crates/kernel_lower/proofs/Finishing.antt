@@ -1,0 +1,346 @@
+-- The draft of a kernel, its amounts, and the whole kernel.
+use Rattle.std.proofs.Common.{ℕ, zero, suc, ◌+◌, ◌-◌, ◌^◌, ◌<◌, ◌≤◌, ◌≡◌, ◌∙◌, ◌&&◌, min, max, sum, sym, ap, refl, subst, ℤ, pos, Bool, true, false, cond, nat_lt, IsTrue, is_some, Option, Some, None, List, [], ◌∷◌, ◌++◌, length, map, get_or, arith}
+use Rattle.std.proofs.lemmas.List.{length-map}
+use Rattle.forec_base.specs.declared.Policy.TheVariants.{Mod}
+use Rattle.forec_tree.specs.declared.tree.Number.{Number}
+use Rattle.forec_tree.specs.Terms.{Text, PlainItem, PlainGlobal, PlainFunction, IsGlobal, IsFunction}
+use Rattle.forec_tree.specs.Rules.{is_constant}
+use Rattle.forec_tree.specs.Faults.{Member}
+use Rattle.forec_tree.specs.Pauses.{within}
+use Rattle.forec_tree.specs.Threads.{below_step, instances}
+use Rattle.forec_kernel.specs.declared.shape.Variable.{Variable}
+use Rattle.forec_kernel.specs.declared.shape.FunctionShape.{FunctionShape}
+use Rattle.forec_kernel.specs.Terms as kernel
+use Rattle.forec_kernel.specs.Terms.{Stmt}
+use Rattle.forec_kernel.specs.Plain.{stmt}
+use Rattle.forec_kernel.specs.Shapes.{PlainKernel, PlainShape, PlainThread, plain_thread}
+use Rattle.forec_kernel.specs.Combining.{contains, variable_of}
+use Rattle.forec_kernel.specs.Values.{function_words}
+use Rattle.forec_kernel.specs.Texts.{uses_in, uses_of, words_in, words_of, body_of}
+use Rattle.forec_kernel.specs.WellFormed.{greatest, count_up, stmt_calls, stmt_depth, stmt_terms, bodies_terms, function_body, chain, users, combine_calls, par_calls, pars_of, thread_calls, Ranked}
+use Rattle.forec_check.specs.Instances.{threads_of, start_of}
+use Rattle.kernel_lower.specs.declared.limits.Quantity.{Quantity}
+use Rattle.kernel_lower.specs.declared.limits.Quantity.TheVariants.{Threads, Words, Globals, Tables, Terms, Depth}
+use Rattle.kernel_lower.specs.declared.lower_fault.LowerFault.{LowerFault}
+use Rattle.kernel_lower.specs.declared.lower_fault.LowerFault.TheVariants as fault
+use Rattle.kernel_lower.specs.declared.measure.Draft.{Draft}
+use Rattle.kernel_lower.specs.declared.extents.Extent.{Extent}
+use Rattle.kernel_lower.specs.Bindings.{number_of}
+use Rattle.kernel_lower.specs.Lowering.{Made, Lowered, sequence, nothing_in_place, in_place_step}
+use Rattle.kernel_lower.specs.Kernels.{kernel_of, root, main_id, variable_count, variable_items, variable_shape, int_functions, tables_of, table_of, padded, thread_shape, root_shape}
+use Rattle.kernel_lower.specs.Kernels as kernels
+use Rattle.kernel_lower.specs.Views.{Bare, bare, of_thread}
+use Rattle.kernel_lower.specs.Drafts.{root_of, main_shape, bare_shapes, function_text, function_shape}
+use Rattle.kernel_lower.specs.Extents.{extent_value, extent_step, exact, own_at, counts_of}
+use Rattle.kernel_lower.specs.Items.{array_items, array_in, array_length, array_table, listed}
+use Rattle.kernel_lower.specs.Limits.{amount, limit_of, earlier, thread_words, thread_depth, function_depth, WithinLimits, IsLimit}
+use Rattle.kernel_lower.specs.Measures.{plain_draft, IsDraft, Fits, CallsLow}
+use Rattle.kernel_lower.specs.declared.judge.Amounts.{Amounts}
+use Rattle.kernel_lower.specs.Refusals.{amount_in, First, IsFirst, Causes, Passes}
+use Rattle.kernel_lower.proofs.Counted.{sequence_as, all_is, length_is}
+use Rattle.kernel_lower.proofs.Sized.{place_threads, made_terms}
+use Rattle.kernel_lower.proofs.Placed.{root_grown}
+use Rattle.kernel_lower.proofs.Segments.{segments}
+use Rattle.kernel_lower.proofs.Drafted.{shapes_are}
+use Rattle.kernel_lower.proofs.Functions.{nothing}
+use Rattle.kernel_lower.proofs.Extending.{value_capped, has_terms, nothing_known}
+
+-- ---- the threads
+
+module _ (text : Text) (names : List (List ℕ)) where
+  main_made : (count first words : ℕ) → count ≡ variable_count text names → first ≡ main_id text names → words ≡ (root text names).next.slot → main_shape names count first words ≡ root_shape text names
+  main_made count first words c f w =
+      ap (λ n. main_shape names n first words) c ∙ (ap (λ n. main_shape names (variable_count text names) n words) f ∙ ap (main_shape names (variable_count text names) (main_id text names)) w)
+
+  pub draft_threads : (count first words : ℕ) (bares : List Bare) → count ≡ variable_count text names → first ≡ main_id text names → words ≡ (root_of text first).next.slot → bares ≡ map bare (root_of text first).made →
+      main_shape names count first words ∷ bare_shapes names count bares 0 bares ≡ (kernel_of text names).shape.threads
+  unfolding kernel_of
+  draft_threads count first words bares c f w b =
+      let made = (root text names).made in
+      let same : root_of text first ≡ root text names = ap (root_of text) f in
+      let are : bares ≡ map bare made = b ∙ ap (λ (l : Lowered). map bare l.made) same in
+      ap (λ s. s ∷ bare_shapes names count bares 0 bares) (main_made count first words c f (w ∙ ap (λ (l : Lowered). l.next.slot) same))
+      ∙ (ap (λ n. root_shape text names ∷ bare_shapes names n bares 0 bares) c
+      ∙ (ap (λ l. root_shape text names ∷ bare_shapes names (variable_count text names) l 0 l) are
+      ∙ ap (λ l. root_shape text names ∷ l) (shapes_are text names made (segments (root_grown text names).grown))))
+
+  pub draft_texts : (first : ℕ) (main : Stmt) (rest : List Stmt) → first ≡ main_id text names → main ≡ (root_of text first).stmt → rest ≡ map (λ m. m.body) (root_of text first).made → main ∷ rest ≡ (kernel_of text names).threads
+  unfolding kernel_of
+  draft_texts first main rest f m r =
+      let same : root_of text first ≡ root text names = ap (root_of text) f in
+      ap (λ s. s ∷ rest) (m ∙ ap (λ (l : Lowered). l.stmt) same) ∙ ap (λ l. (root text names).stmt ∷ l) (r ∙ ap (λ (l : Lowered). map (λ x. x.body) l.made) same)
+
+  pub draft_variables : (vs : List PlainGlobal) → vs ≡ variable_items text names text → map (variable_shape text names) vs ≡ (kernel_of text names).shape.variables
+  unfolding kernel_of
+  draft_variables vs e = ap (map (variable_shape text names)) e
+
+  pub draft_shapes : (fs : List PlainFunction) → fs ≡ int_functions text names text → map (function_shape text names) fs ≡ (kernel_of text names).shape.functions
+  unfolding kernel_of
+  draft_shapes fs e = ap (map (function_shape text names)) e
+
+  pub draft_bodies : (fs : List PlainFunction) → fs ≡ int_functions text names text → map (function_text text names) fs ≡ (kernel_of text names).functions
+  unfolding kernel_of
+  draft_bodies fs e = ap (map (function_text text names)) e
+
+  pub as_many : length (kernel_of text names).threads ≡ length (kernel_of text names).shape.threads
+  unfolding kernel_of
+  as_many = ap suc (length-map (root text names).made (λ m. m.body) ∙ sym (length-map (root text names).made (thread_shape text names)))
+
+  pub as_many_functions : length (kernel_of text names).functions ≡ length (kernel_of text names).shape.functions
+  unfolding kernel_of
+  as_many_functions = length-map (int_functions text names text) _ ∙ sym (length-map (int_functions text names text) _)
+
+  -- ---- constant arrays
+
+  either_table : (b : Bool) (o : Option Number) (g : PlainGlobal) → g.length ≡ o →
+      cond b (elim o [ None ↦ [] | Some n ↦ padded (number_of n) g.values ∷ [] ]) [] ≡ map array_table (listed (cond (b && is_some o) (Some g) None))
+  either_table false o g d = refl
+  either_table true None g d = refl
+  either_table true (Some n) g d = ap (λ (o : Option Number). padded (elim o [ None ↦ 0 | Some n ↦ number_of n ]) g.values ∷ []) (sym d)
+
+  one_table : (g : PlainGlobal) → table_of text names g ≡ map array_table (listed (array_in (IsGlobal g)))
+  one_table g = either_table (is_constant g.kind) g.length g refl
+
+  pub tables_are : (t : Text) → tables_of text names t ≡ map array_table (array_items t)
+  tables_are [] = refl
+  tables_are (IsFunction f ∷ rest) = tables_are rest
+  tables_are (IsGlobal g ∷ rest) =
+      ap (λ l. l ++ tables_of text names rest) (one_table g)
+      ∙ (ap (λ l. map array_table (listed (array_in (IsGlobal g))) ++ l) (tables_are rest)
+      ∙ sym (Rattle.std.proofs.lemmas.List.map-append array_table (listed (array_in (IsGlobal g))) (array_items rest)))
+
+  pub draft_tables : (tables : List (List ℤ)) (arrays : List PlainGlobal) → tables ≡ map array_table arrays → arrays ≡ array_items text → tables ≡ (kernel_of text names).shape.tables
+  unfolding kernel_of
+  draft_tables tables arrays t a = t ∙ (ap (map array_table) a ∙ sym (tables_are text))
+
+  pub draft_inputs : (vs : List PlainGlobal) → vs ≡ variable_items text names text → kernels.numbers_of text names Rattle.forec_tree.specs.Rules.is_input 0 vs ≡ (kernel_of text names).shape.inputs
+  unfolding kernel_of
+  draft_inputs vs e = ap (kernels.numbers_of text names Rattle.forec_tree.specs.Rules.is_input 0) e
+
+  pub draft_outputs : (vs : List PlainGlobal) → vs ≡ variable_items text names text → kernels.numbers_of text names Rattle.forec_tree.specs.Rules.is_output 0 vs ≡ (kernel_of text names).shape.outputs
+  unfolding kernel_of
+  draft_outputs vs e = ap (kernels.numbers_of text names Rattle.forec_tree.specs.Rules.is_output 0) e
+
+  pub draft_names : (vs : List PlainGlobal) → vs ≡ variable_items text names text → map (λ g. Rattle.forec_tree.specs.Rules.bytes_of names g.name.id) vs ≡ (kernel_of text names).shape.names
+  unfolding kernel_of
+  draft_names vs e = ap (map (λ g. Rattle.forec_tree.specs.Rules.bytes_of names g.name.id)) e
+
+-- ---- a kernel by its parts
+
+made_of : List PlainThread → List Variable → List FunctionShape → List (List ℤ) → List ℕ → List ℕ → List (List ℕ) → List Stmt → List Stmt → PlainKernel
+made_of a b c d e f g h i = record { shape = record { threads = a; variables = b; functions = c; tables = d; inputs = e; outputs = f; names = g }; threads = h; functions = i }
+
+pub by_parts : (k : PlainKernel) (a : List PlainThread) (b : List Variable) (c : List FunctionShape) (d : List (List ℤ)) (e f : List ℕ) (g : List (List ℕ)) (h i : List Stmt) → a ≡ k.shape.threads → b ≡ k.shape.variables →
+    c ≡ k.shape.functions → d ≡ k.shape.tables → e ≡ k.shape.inputs → f ≡ k.shape.outputs → g ≡ k.shape.names → h ≡ k.threads → i ≡ k.functions →
+    (let s : PlainShape = record { threads = a; variables = b; functions = c; tables = d; inputs = e; outputs = f; names = g } in let m : PlainKernel = record { shape = s; threads = h; functions = i } in m) ≡ k
+unfolding made_of
+by_parts k a b c d e f g h i pa pb pc pd pe pf pg ph pi =
+    let s = k.shape in
+    ap (λ x. made_of x b c d e f g h i) pa
+    ∙ (ap (λ x. made_of s.threads x c d e f g h i) pb
+    ∙ (ap (λ x. made_of s.threads s.variables x d e f g h i) pc
+    ∙ (ap (λ x. made_of s.threads s.variables s.functions x e f g h i) pd
+    ∙ (ap (λ x. made_of s.threads s.variables s.functions s.tables x f g h i) pe
+    ∙ (ap (λ x. made_of s.threads s.variables s.functions s.tables s.inputs x g h i) pf
+    ∙ (ap (λ x. made_of s.threads s.variables s.functions s.tables s.inputs s.outputs x h i) pg
+    ∙ (ap (λ x. made_of s.threads s.variables s.functions s.tables s.inputs s.outputs s.names x i) ph ∙ ap (made_of s.threads s.variables s.functions s.tables s.inputs s.outputs s.names k.threads) pi)))))))
+
+-- ---- words and depth depend on the parts of a draft alone
+
+pub record Alike (k j : PlainKernel) : Type 0 where
+  pub shapes : k.shape.threads ≡ j.shape.threads
+  pub variables : k.shape.variables ≡ j.shape.variables
+  pub words : k.shape.functions ≡ j.shape.functions
+  pub texts : k.threads ≡ j.threads
+  pub bodies : k.functions ≡ j.functions
+
+greatest_each : (a b : ℕ → ℕ) (xs : List ℕ) → ((g : ℕ) → a g ≡ b g) → greatest a xs ≡ greatest b xs
+greatest_each a b [] h = refl
+greatest_each a b (x ∷ xs) h = ap (λ n. max n (greatest a xs)) (h x) ∙ ap (max (b x)) (greatest_each a b xs h)
+
+module _ (k j : PlainKernel) (s : Alike k j) where
+  body_same : (f : ℕ) → function_body k f ≡ function_body j f
+  body_same f = ap (λ l. get_or l f kernel.Nop) s.bodies
+
+  chain_same : (a b : ℕ → ℕ) → ((g : ℕ) → a g ≡ b g) → (deep f : ℕ) → chain a k deep f ≡ chain b j deep f
+  chain_same a b h zero f = refl
+  chain_same a b h (suc deep) f =
+      ap (λ n. n + greatest (chain a k deep) (stmt_calls (function_body k f))) (h f)
+      ∙ (ap (λ x. b f + greatest (chain a k deep) (stmt_calls x)) (body_same f) ∙ ap (λ n. b f + n) (greatest_each (chain a k deep) (chain b j deep) (stmt_calls (function_body j f)) (chain_same a b h deep)))
+
+  uses_same : (t : ℕ) → uses_of k t ≡ uses_of j t
+  uses_same t = ap (λ l. uses_in l t) s.shapes
+
+  users_same : (ts : List ℕ) (v : ℕ) → users k ts v ≡ users j ts v
+  users_same [] v = refl
+  users_same (t ∷ ts) v = ap (λ u. cond (contains v u) (suc (users k ts v)) (users k ts v)) (uses_same t) ∙ ap (λ n. cond (contains v (uses_of j t)) (suc n) n) (users_same ts v)
+
+  combine_same : (threads vs : List ℕ) → combine_calls k threads vs ≡ combine_calls j threads vs
+  combine_same threads [] = refl
+  combine_same threads (v ∷ vs) =
+      let pick : Variable → ℕ → List ℕ → List ℕ = λ x n xs. elim x.combine [ None ↦ xs | Some f ↦ cond (nat_lt 1 n) (f ∷ xs) xs ] in
+      let of : variable_of k v ≡ variable_of j v = ap (λ l. get_or l v (record { policy = Mod; combine = None; start = pos 0; input = false })) s.variables in
+      ap (λ x. pick x (users k threads v) (combine_calls k threads vs)) of
+      ∙ (ap (λ n. pick (variable_of j v) n (combine_calls k threads vs)) (users_same threads v) ∙ ap (pick (variable_of j v) (users j threads v)) (combine_same threads vs))
+
+  pars_same : (uses : List ℕ) (pars : List (List ℕ)) → par_calls k uses pars ≡ par_calls j uses pars
+  pars_same uses [] = refl
+  pars_same uses (threads ∷ rest) = ap (λ l. l ++ par_calls k uses rest) (combine_same threads uses) ∙ ap (λ l. combine_calls j threads uses ++ l) (pars_same uses rest)
+
+  text_same : (t : ℕ) → body_of k t ≡ body_of j t
+  text_same t = ap (λ l. get_or l t kernel.Nop) s.texts
+
+  pub calls_same : (t : ℕ) → thread_calls k t ≡ thread_calls j t
+  calls_same t =
+      ap (λ b. stmt_calls b ++ par_calls k (uses_of k t) (pars_of b)) (text_same t)
+      ∙ (ap (λ u. stmt_calls (body_of j t) ++ par_calls k u (pars_of (body_of j t))) (uses_same t) ∙ ap (λ l. stmt_calls (body_of j t) ++ l) (pars_same (uses_of j t) (pars_of (body_of j t))))
+
+  words_same : (t : ℕ) → thread_words k t ≡ thread_words j t
+  words_same t =
+      let chained = λ (g : ℕ). chain_same (function_words k.shape.functions) (function_words j.shape.functions) (λ f. ap (λ l. function_words l f) s.words) (length k.functions) g
+      ∙ ap (λ (l : List Stmt). chain (function_words j.shape.functions) j (length l) g) s.bodies in
+      ap (λ l. words_in l t + greatest (chain (function_words k.shape.functions) k (length k.functions)) (thread_calls k t)) s.shapes
+      ∙ (ap (λ l. words_of j t + greatest (chain (function_words k.shape.functions) k (length k.functions)) l) (calls_same t)
+      ∙ ap (λ n. words_of j t + n) (greatest_each (chain (function_words k.shape.functions) k (length k.functions)) (chain (function_words j.shape.functions) j (length j.functions)) (thread_calls j t) chained))
+
+  function_same : (f : ℕ) → function_depth k f ≡ function_depth j f
+  function_same f =
+      chain_same (λ g. stmt_depth (function_body k g)) (λ g. stmt_depth (function_body j g)) (λ g. ap stmt_depth (body_same g)) (length k.functions) f
+      ∙ ap (λ (l : List Stmt). chain (λ g. stmt_depth (function_body j g)) j (length l) f) s.bodies
+
+  depth_same : (t : ℕ) → thread_depth k t ≡ thread_depth j t
+  depth_same t =
+      ap (λ b. stmt_depth b + greatest (function_depth k) (thread_calls k t)) (text_same t)
+      ∙ (ap (λ l. stmt_depth (body_of j t) + greatest (function_depth k) l) (calls_same t) ∙ ap (λ n. stmt_depth (body_of j t) + n) (greatest_each (function_depth k) (function_depth j) (thread_calls j t) function_same))
+
+  pub words_amounts : amount Words k ≡ amount Words j
+  unfolding amount
+  words_amounts =
+      greatest_each (thread_words k) (thread_words j) (count_up 0 (length k.threads)) words_same ∙ ap (λ (l : List Stmt). greatest (thread_words j) (count_up 0 (length l))) s.texts
+
+  pub depth_amounts : amount Depth k ≡ amount Depth j
+  unfolding amount
+  depth_amounts =
+      ap (λ n. max n (greatest (function_depth k) (count_up 0 (length k.functions))))
+      (greatest_each (thread_depth k) (thread_depth j) (count_up 0 (length k.threads)) depth_same ∙ ap (λ (l : List Stmt). greatest (thread_depth j) (count_up 0 (length l))) s.texts)
+      ∙ ap (max (greatest (thread_depth j) (count_up 0 (length j.threads))))
+      (greatest_each (function_depth k) (function_depth j) (count_up 0 (length k.functions)) function_same ∙ ap (λ (l : List Stmt). greatest (function_depth j) (count_up 0 (length l))) s.bodies)
+
+  pub ranked_same : Ranked j → Ranked k
+  ranked_same r =
+      record {
+        rank = r.rank;
+        falls = λ f g l h. r.falls f g (subst (λ (x : List Stmt). f < length x) s.bodies l) (subst (λ x. IsTrue (contains g (stmt_calls x))) (body_same f) h);
+      }
+
+  pub low_same : CallsLow j → CallsLow k
+  low_same c =
+      record {
+        functions = λ f g l h.
+            subst (λ (x : List Stmt). g < length x) (sym s.bodies) (c.functions f g (subst (λ (x : List Stmt). f < length x) s.bodies l) (subst (λ x. contains g (stmt_calls x) ≡ true) (body_same f) h));
+        threads = λ t g l h.
+            subst (λ (x : List Stmt). g < length x) (sym s.bodies) (c.threads t g (subst (λ (x : List Stmt). t < length x) s.texts l) (subst (λ x. contains g x ≡ true) (calls_same t) h));
+      }
+
+pub draft_alike : (k : PlainKernel) (d : Draft) → IsDraft k d → Alike (plain_draft d) k
+draft_alike k d i = record { shapes = i.threads; variables = i.variables; words = i.shapes; texts = i.texts; bodies = i.bodies }
+
+-- ---- the other amounts
+
+pub globals_amount : (k : PlainKernel) (d : Draft) (n : ℕ) → IsDraft k d → n ≡ length d.variables.items → n ≡ amount Globals k
+unfolding amount
+globals_amount k d n i e = e ∙ ap (λ (l : List Variable). length l) i.variables
+
+padded_long : (n : ℕ) (values : List Rattle.forec_tree.specs.declared.tree.Number.Number) → length (padded n values) ≡ n
+padded_long zero values = refl
+padded_long (suc n) [] = ap suc (padded_long n [])
+padded_long (suc n) (v ∷ rest) = ap suc (padded_long n rest)
+
+lengths_are : (arrays : List PlainGlobal) → map (λ (table : List ℤ). length table) (map array_table arrays) ≡ map array_length arrays
+lengths_are [] = refl
+lengths_are (g ∷ rest) = ap (λ n. n ∷ map (λ (table : List ℤ). length table) (map array_table rest)) (padded_long (array_length g) g.values) ∙ ap (λ l. array_length g ∷ l) (lengths_are rest)
+
+pub tables_amount : (text : Text) (names : List (List ℕ)) (n : ℕ) (arrays : List PlainGlobal) → arrays ≡ array_items text → n ≡ min (sum (map array_length arrays)) (2 ^ 64 - 1) → n ≡ min (amount Tables (kernel_of text names)) (2 ^ 64 - 1)
+unfolding amount kernel_of
+tables_amount text names n arrays a e =
+    e ∙ ap (λ l. min (sum l) (2 ^ 64 - 1)) (sym (lengths_are arrays) ∙ (ap (λ l. map (λ (table : List ℤ). length table) (map array_table l)) a ∙ ap (map (λ (table : List ℤ). length table)) (sym (tables_are text names text))))
+
+pub threads_amount : (text : Text) (names : List (List ℕ)) (n : ℕ) → n ≡ threads_of text names → n ≡ min (amount Threads (kernel_of text names)) (2 ^ 64 - 1)
+unfolding amount kernel_of
+threads_amount text names n e =
+    e ∙ ap (λ m. min (suc m) (2 ^ 64 - 1)) (sym (place_threads text (length text) (main_id text names) 0 0 (record { slot = 0; thread = 1; par = 0 })) ∙ sym (length-map (root text names).made (λ m. m.body)))
+
+bodies_made : (a : List Made) → bodies_terms (map (λ m. m.body) a) ≡ made_terms a
+bodies_made [] = refl
+bodies_made (m ∷ a) = ap (λ n. stmt_terms m.body + n) (bodies_made a)
+
+functions_terms : (text : Text) (names : List (List ℕ)) (fs : List PlainFunction) → bodies_terms (map (function_text text names) fs) ≡ counts_of fs
+functions_terms text names [] = refl
+functions_terms text names (f ∷ rest) =
+    let right = λ (id first t : ℕ) (n : Rattle.kernel_lower.specs.Lowering.Next). ap (λ (x : Extent). x.own) (sym (nothing_known id)) in
+    let n : Rattle.kernel_lower.specs.Lowering.Next = record { slot = length f.params; thread = 1; par = 0 } in
+    let s = Rattle.kernel_lower.specs.Bindings.params_at 0 f.params in
+    let one =
+    sequence_as (kernels.function_body text names f).list _ _ (length_is text nothing (own_at []) right 0 s n f.body) (all_is text nothing (own_at []) right 0 s n f.body) in
+    let rest_is = functions_terms text names rest in
+    omega (arith, one, rest_is)
+
+pub terms_amount : (text : Text) (names : List (List ℕ)) (first own under functions main whole : ℕ) (fs : List PlainFunction) → first ≡ main_id text names → fs ≡ int_functions text names text → own ≡ (extent_value text first).own →
+    under ≡ (extent_value text first).under → functions ≡ min (counts_of fs) (2 ^ 64 - 1) → main ≡ min (own + under) (2 ^ 64 - 1) → whole ≡ min (main + functions) (2 ^ 64 - 1) →
+    whole ≡ min (amount Terms (kernel_of text names)) (2 ^ 64 - 1)
+unfolding amount kernel_of
+terms_amount text names first own under functions main whole fs f i o u g m w =
+    let kept = value_capped text (main_id text names) in
+    let ko = kept.own in
+    let ku = kept.under in
+    let all = has_terms text (length text) (main_id text names) in
+    let from : Rattle.kernel_lower.specs.Lowering.Next = record { slot = 0; thread = 1; par = 0 } in
+    let a = all.own 0 0 from in
+    let b = all.under 0 0 from in
+    let oo = o ∙ ap (λ n. (extent_value text n).own) f in
+    let uu = u ∙ ap (λ n. (extent_value text n).under) f in
+    let made = bodies_made (root text names).made in
+    let fn = functions_terms text names (int_functions text names text) in
+    let same = ap counts_of i in
+    omega (arith, ko, ku, a, b, oo, uu, g, m, w, made, fn, same)
+
+-- ---- limits
+
+-- all amounts at once
+pub all_amounts : (k : PlainKernel) (a : Amounts) → a.threads ≡ min (amount Threads k) (2 ^ 64 - 1) → a.words ≡ min (amount Words k) (2 ^ 64 - 1) → a.globals ≡ amount Globals k → a.globals < 2 ^ 64 → a.tables ≡ min (amount Tables k) (2 ^ 64 - 1) →
+    a.terms ≡ min (amount Terms k) (2 ^ 64 - 1) → a.depth ≡ min (amount Depth k) (2 ^ 64 - 1) → (q : Quantity) → amount_in a q ≡ min (amount q k) (2 ^ 64 - 1)
+all_amounts k a t w g s b e d Threads = t
+all_amounts k a t w g s b e d Words = w
+all_amounts k a t w g s b e d Globals = omega (arith, g, s)
+all_amounts k a t w g s b e d Tables = b
+all_amounts k a t w g s b e d Terms = e
+all_amounts k a t w g s b e d Depth = d
+
+pub within_limits : (k : PlainKernel) (amounts : Quantity → ℕ) → ((q : Quantity) → amounts q ≡ min (amount q k) (2 ^ 64 - 1)) → ((q : Quantity) → amounts q ≤ limit_of q) → WithinLimits k
+within_limits k amounts e h Threads = let a = e Threads in let b = h Threads in omega (arith, a, b)
+within_limits k amounts e h Words = let a = e Words in let b = h Words in omega (arith, a, b)
+within_limits k amounts e h Globals = let a = e Globals in let b = h Globals in omega (arith, a, b)
+within_limits k amounts e h Tables = let a = e Tables in let b = h Tables in omega (arith, a, b)
+within_limits k amounts e h Terms = let a = e Terms in let b = h Terms in omega (arith, a, b)
+within_limits k amounts e h Depth = let a = e Depth in let b = h Depth in omega (arith, a, b)
+
+few : (q : Quantity) (a n : ℕ) → a ≡ min n (2 ^ 64 - 1) → a ≤ limit_of q → n ≤ limit_of q
+few Threads a n e h = omega (arith, e, h)
+few Words a n e h = omega (arith, e, h)
+few Globals a n e h = omega (arith, e, h)
+few Tables a n e h = omega (arith, e, h)
+few Terms a n e h = omega (arith, e, h)
+few Depth a n e h = omega (arith, e, h)
+
+pub first_causes : (text : Text) (names : List (List ℕ)) (amounts : Quantity → ℕ) (e : LowerFault) → ((q : Quantity) → amounts q ≡ min (amount q (kernel_of text names)) (2 ^ 64 - 1)) → First amounts e → Causes e text names
+first_causes text names amounts (fault.Limit what count) h f =
+    let p = f.passes in
+    let a = h what in
+    record { passes = omega (arith, p, a); first = λ q m. few q (amounts q) (amount q (kernel_of text names)) (h q) (f.first q m); is = f.is }
+first_causes text names amounts fault.OutOfMemory h f = tt
+
+-- one quantity alone, the first
+pub threads_cause : (text : Text) (names : List (List ℕ)) (threads : ℕ) (e : LowerFault) → threads ≡ min (amount Threads (kernel_of text names)) (2 ^ 64 - 1) → Passes Threads threads e → Causes e text names
+threads_cause text names threads e h p =
+    let l = p.1 in
+    subst (λ x. Causes x text names) (sym p.0) (record { passes = omega (arith, l, h); first = λ q m. elim m [ ]; is = refl })

@@ -1,0 +1,256 @@
+-- What the text tells of words and depth bounds those of the kernel.
+use Rattle.std.proofs.Common.{ℕ, zero, suc, ◌+◌, ◌-◌, ◌^◌, ◌<◌, ◌≤◌, ◌≡◌, ◌∙◌, ◌==◌, min, max, ap, sym, refl, subst, Bool, true, false, cond, List, [], ◌∷◌, length, map, get_or, arith, Result, Ok, Err}
+use Rattle.std.proofs.lemmas.Bool.Decides.{nat_tests}
+use Rattle.std.proofs.lemmas.List.{length-map}
+use Rattle.std.specs.Result.{IfErr}
+use Rattle.forec_tree.specs.Terms.{Text, PlainGlobal}
+use Rattle.forec_tree.specs.Pauses.{within}
+use Rattle.forec_tree.specs.Faults.{Member, later}
+use Rattle.forec_kernel.specs.Terms as kernel
+use Rattle.forec_kernel.specs.Terms.{Stmt}
+use Rattle.forec_kernel.specs.Plain.{stmt}
+use Rattle.forec_kernel.specs.Shapes.{PlainKernel, PlainThread}
+use Rattle.forec_kernel.specs.Combining.{contains}
+use Rattle.forec_kernel.specs.Values.{function_words}
+use Rattle.forec_kernel.specs.Texts.{words_of, body_of, words_in}
+use Rattle.forec_kernel.specs.WellFormed.{greatest, count_up, stmt_calls, stmt_depth, function_body, chain, thread_calls, Ranked}
+use Rattle.loop_check.proofs.Indexed.{split}
+use Rattle.kernel_lower.specs.declared.limits.Quantity.{Quantity}
+use Rattle.kernel_lower.specs.declared.limits.Quantity.TheVariants.{Threads, Words, Globals, Tables, Terms, Depth}
+use Rattle.kernel_lower.specs.declared.lower_fault.LowerFault.{LowerFault}
+use Rattle.kernel_lower.specs.declared.lower_fault.LowerFault.TheVariants as fault
+use Rattle.kernel_lower.specs.declared.measure.Draft.{Draft}
+use Rattle.kernel_lower.specs.declared.spans.Span.{Span}
+use Rattle.kernel_lower.specs.Lowering.{Made}
+use Rattle.kernel_lower.specs.Kernels.{kernel_of, variable_items, variable_shape, root, root_shape, thread_shape, main_id}
+use Rattle.kernel_lower.specs.Extents.{exact}
+use Rattle.kernel_lower.specs.Spans.{no_span, span_step, span_value}
+use Rattle.kernel_lower.specs.Limits.{amount, limit_of, earlier, thread_words, thread_depth, function_depth, widest, longest, IsLimit}
+use Rattle.kernel_lower.specs.Measures.{plain_draft, CallsLow}
+use Rattle.kernel_lower.specs.declared.judge.Amounts.{Amounts}
+use Rattle.kernel_lower.specs.Refusals.{amount_in, First, Causes}
+use Rattle.kernel_lower.proofs.Widening.{span_kept}
+use Rattle.kernel_lower.proofs.Heights.{all_told, depth_in}
+use Rattle.kernel_lower.proofs.Heights as heights
+
+-- ---- the greatest of values
+
+pub greatest_least : (f : ℕ → ℕ) (xs : List ℕ) (x : ℕ) → ((g : ℕ) → contains g xs ≡ true → f g ≤ x) → greatest f xs ≤ x
+greatest_least f [] x h = omega arith
+greatest_least f (y ∷ ys) x h =
+    let e = h y (let q : (y == y) ≡ true = grind (arith, nat_tests) in ap (λ c. cond c true (contains y ys)) q) in
+    let d = greatest_least f ys x (λ g i. h g (elim (y == g) as (λ c. cond c true (contains g ys) ≡ true) [ true ↦ refl | false ↦ i ])) in
+    omega (arith, e, d)
+
+pub greatest_above : (f : ℕ → ℕ) (xs : List ℕ) (g : ℕ) → contains g xs ≡ true → f g ≤ greatest f xs
+greatest_above f [] g i = absurd (let q : false ≡ true = i in cc)
+greatest_above f (y ∷ ys) g i =
+    split (y == g) (λ e. (let q : y ≡ g = grind (arith, nat_tests) in let d = ap f q in omega (arith, d)))
+    (λ e. (let d = greatest_above f ys g (sym (ap (λ c. cond c true (contains g ys)) e) ∙ i) in omega (arith, d)))
+
+count_has : (from n g : ℕ) → from ≤ g → g < from + n → contains g (count_up from n) ≡ true
+count_has from zero g l h = absurd (omega (arith, l, h))
+count_has from (suc n) g l h =
+    split (from == g) (λ e. ap (λ c. cond c true (contains g (count_up (suc from) n))) e)
+    (λ e. (let q : suc from ≤ g = grind (arith, nat_tests) in ap (λ c. cond c true (contains g (count_up (suc from) n))) e ∙ count_has (suc from) n g q (omega (arith, h))))
+
+pub count_below : (from n g : ℕ) → contains g (count_up from n) ≡ true → g < from + n
+count_below from zero g i = absurd (let q : false ≡ true = i in cc)
+count_below from (suc n) g i =
+    split (from == g) (λ e. (let q : from ≡ g = grind (arith, nat_tests) in omega (arith, q)))
+    (λ e. (let r = count_below (suc from) n g (sym (ap (λ c. cond c true (contains g (count_up (suc from) n))) e) ∙ i) in omega (arith, r)))
+
+-- ---- words
+
+wide_above : (shapes : List PlainThread) (t : ℕ) → words_in shapes t ≤ widest shapes
+wide_above [] t = omega arith
+wide_above (s ∷ rest) zero = omega arith
+wide_above (s ∷ rest) (suc t) = let e = wide_above rest t in omega (arith, e)
+
+wide_least : (shapes : List PlainThread) (x : ℕ) → ((t : ℕ) → t < length shapes → words_in shapes t ≤ x) → widest shapes ≤ x
+wide_least [] x h = omega arith
+wide_least (s ∷ rest) x h =
+    let e = h 0 (omega arith) in
+    let d = wide_least rest x (λ t l. h (suc t) (omega (arith, l))) in
+    omega (arith, e, d)
+
+module _ (k : PlainKernel) (many : length k.threads ≡ length k.shape.threads) where
+  pub words_least : widest k.shape.threads ≤ amount Words k
+  unfolding amount
+  words_least =
+      wide_least k.shape.threads (greatest (thread_words k) (count_up 0 (length k.threads)))
+      (λ t l.
+        let e = greatest_above (thread_words k) (count_up 0 (length k.threads)) t (count_has 0 (length k.threads) t (omega arith) (omega (arith, l, many))) in
+        omega (arith, e))
+
+  pub words_greatest : CallsLow k → amount Words k ≤ widest k.shape.threads + longest k
+  unfolding amount
+  words_greatest low =
+      greatest_least (thread_words k) (count_up 0 (length k.threads)) (widest k.shape.threads + longest k)
+      (λ t i.
+        let l = count_below 0 (length k.threads) t i in
+        let w = wide_above k.shape.threads t in
+        let c =
+        greatest_least (chain (function_words k.shape.functions) k (length k.functions)) (thread_calls k t) (longest k)
+        (λ g j.
+          let h = low.threads t g (omega (arith, l)) j in
+          greatest_above (chain (function_words k.shape.functions) k (length k.functions)) (count_up 0 (length k.functions)) g (count_has 0 (length k.functions) g (omega arith) (omega (arith, h)))) in
+        omega (arith, w, c))
+
+-- ---- depth
+
+module _ (k : PlainKernel) where
+  pub depth_above : (t : ℕ) → t < length k.threads → stmt_depth (body_of k t) ≤ amount Depth k
+  unfolding amount
+  depth_above t l =
+      let e = greatest_above (thread_depth k) (count_up 0 (length k.threads)) t (count_has 0 (length k.threads) t (omega arith) (omega (arith, l))) in
+      omega (arith, e)
+
+deepest_least : (a : List Made) (x : ℕ) → ((t : ℕ) → t < length (map (λ (m : Made). m.body) a) → stmt_depth (get_or (map (λ (m : Made). m.body) a) t kernel.Nop) ≤ x) → depth_in a ≤ x
+deepest_least [] x h = omega arith
+deepest_least (m ∷ a) x h =
+    let e = h 0 (omega arith) in
+    let d = deepest_least a x (λ t l. h (suc t) (omega (arith, l))) in
+    omega (arith, e, d)
+
+-- ---- the kernel of a text
+
+module _ (text : Text) (names : List (List ℕ)) where
+  widest_made : (a : List Made) → widest (map (thread_shape text names) a) ≡ heights.words_in a
+  widest_made [] = refl
+  widest_made (m ∷ a) = ap (max m.words) (widest_made a)
+
+  pub widest_is : widest (kernel_of text names).shape.threads ≡ max (root text names).next.slot (heights.words_in (root text names).made)
+  unfolding kernel_of
+  widest_is = ap (max (root text names).next.slot) (widest_made (root text names).made)
+
+  pub as_deep : max (stmt_depth (root text names).stmt) (depth_in (root text names).made) ≤ amount Depth (kernel_of text names)
+  unfolding kernel_of
+  as_deep =
+      let k = kernel_of text names in
+      let e = depth_above k 0 (omega arith) in
+      let d = deepest_least (root text names).made (amount Depth k) (λ t l. depth_above k (suc t) (omega (arith, l))) in
+      omega (arith, e, d)
+
+  pub words_told : (first slots wide words : ℕ) → first ≡ main_id text names → slots ≡ (span_value text first).slots → wide ≡ (span_value text first).widest → words ≡ max slots wide →
+      words ≡ min (widest (kernel_of text names).shape.threads) (2 ^ 64 - 1)
+  words_told first slots wide words f s w e =
+      let kept = span_kept text (main_id text names) in
+      let ks = kept.slots in
+      let kw = kept.widest in
+      let all = all_told text (length text) in
+      let a = all.slots (main_id text names) 0 0 (record { slot = 0; thread = 1; par = 0 }) in
+      let b = all.widest (main_id text names) 0 0 (record { slot = 0; thread = 1; par = 0 }) in
+      let ss = s ∙ ap (λ n. (span_value text n).slots) f in
+      let ww = w ∙ ap (λ n. (span_value text n).widest) f in
+      let is = widest_is in
+      omega (arith, ks, kw, a, b, ss, ww, is, e)
+
+  pub levels_told : (first levels deep most : ℕ) → first ≡ main_id text names → levels ≡ (span_value text first).levels → deep ≡ (span_value text first).deepest → most ≡ max levels deep →
+      most ≤ amount Depth (kernel_of text names)
+  levels_told first levels deep most f s w e =
+      let kept = span_kept text (main_id text names) in
+      let ks = kept.levels in
+      let kw = kept.deepest in
+      let all = all_told text (length text) in
+      let a = all.levels (main_id text names) 0 0 (record { slot = 0; thread = 1; par = 0 }) in
+      let b = all.deepest (main_id text names) 0 0 (record { slot = 0; thread = 1; par = 0 }) in
+      let ss = s ∙ ap (λ n. (span_value text n).levels) f in
+      let ww = w ∙ ap (λ n. (span_value text n).deepest) f in
+      let is = as_deep in
+      omega (arith, ks, kw, a, b, ss, ww, is, e)
+
+-- ---- int functions alone
+
+module _ (k j : PlainKernel) (words : k.shape.functions ≡ j.shape.functions) (bodies : k.functions ≡ j.functions) where
+  one_body : (f : ℕ) → function_body k f ≡ function_body j f
+  one_body f = ap (λ l. get_or l f kernel.Nop) bodies
+
+  greatest_each : (a b : ℕ → ℕ) (xs : List ℕ) → ((g : ℕ) → a g ≡ b g) → greatest a xs ≡ greatest b xs
+  greatest_each a b [] h = refl
+  greatest_each a b (x ∷ xs) h = ap (λ n. max n (greatest a xs)) (h x) ∙ ap (max (b x)) (greatest_each a b xs h)
+
+  one_chain : (a b : ℕ → ℕ) → ((g : ℕ) → a g ≡ b g) → (deep f : ℕ) → chain a k deep f ≡ chain b j deep f
+  one_chain a b h zero f = refl
+  one_chain a b h (suc deep) f =
+      ap (λ n. n + greatest (chain a k deep) (stmt_calls (function_body k f))) (h f)
+      ∙ (ap (λ x. b f + greatest (chain a k deep) (stmt_calls x)) (one_body f) ∙ ap (λ n. b f + n) (greatest_each (chain a k deep) (chain b j deep) (stmt_calls (function_body j f)) (one_chain a b h deep)))
+
+  pub longest_same : longest k ≡ longest j
+  longest_same =
+      greatest_each _ _ (count_up 0 (length k.functions)) (one_chain (function_words k.shape.functions) (function_words j.shape.functions) (λ f. ap (λ l. function_words l f) words) (length k.functions))
+      ∙ ap (λ (l : List Stmt). greatest (chain (function_words j.shape.functions) j (length l)) (count_up 0 (length l))) bodies
+
+  pub ranked_too : Ranked j → Ranked k
+  ranked_too r =
+      record {
+        rank = r.rank;
+        falls = λ f g l h. r.falls f g (subst (λ (x : List Stmt). f < length x) bodies l) (subst (λ x. Rattle.std.proofs.Common.IsTrue (contains g (stmt_calls x))) (one_body f) h);
+      }
+
+  pub low_too : k.threads ≡ [] → CallsLow j → CallsLow k
+  low_too none c =
+      record {
+        functions = λ f g l h.
+            subst (λ (x : List Stmt). g < length x) (sym bodies) (c.functions f g (subst (λ (x : List Stmt). f < length x) bodies l) (subst (λ x. contains g (stmt_calls x) ≡ true) (one_body f) h));
+        threads = λ t g l h. absurd (let e = ap (λ (x : List Stmt). length x) none in omega (arith, l, e));
+      }
+
+-- ---- the first limit that is passed
+
+no_depth : (what : Quantity) → Member Depth (earlier what) → ⊥
+no_depth Threads m = elim m [ ]
+no_depth Words (later m) = elim m [ ]
+no_depth Globals (later (later m)) = elim m [ ]
+no_depth Tables (later (later (later m))) = elim m [ ]
+no_depth Terms (later (later (later (later m)))) = elim m [ ]
+no_depth Depth (later (later (later (later (later m))))) = elim m [ ]
+
+-- amounts that pass their limits where those of the kernel do; depth may be told too small
+pub record Tells (k : PlainKernel) (amounts : Quantity → ℕ) : Type 0 where
+  pub passes : (q : Quantity) → limit_of q < amounts q → limit_of q < amount q k
+  pub fits : (q : Quantity) → (q ≡ Depth → ⊥) → amounts q ≤ limit_of q → amount q k ≤ limit_of q
+
+pub told_causes : (text : Text) (names : List (List ℕ)) (amounts : Quantity → ℕ) (e : LowerFault) → Tells (kernel_of text names) amounts → First amounts e → Causes e text names
+told_causes text names amounts (fault.Limit what count) h f =
+    record {
+      passes = h.passes what f.passes;
+      first = λ q m. h.fits q (λ d. no_depth what (subst (λ x. Member x (earlier what)) d m)) (f.first q m);
+      is = f.is;
+    }
+told_causes text names amounts fault.OutOfMemory h f = tt
+
+exactly : (l a n : ℕ) → l < 2 ^ 64 - 1 → a ≡ min n (2 ^ 64 - 1) → l < a → l < n
+exactly l a n s e h = omega (arith, s, e, h)
+
+at_most : (l a n : ℕ) → l < 2 ^ 64 - 1 → a ≡ min n (2 ^ 64 - 1) → a ≤ l → n ≤ l
+at_most l a n s e h = omega (arith, s, e, h)
+
+pub tells : (k : PlainKernel) (a : Amounts) (chained both : ℕ) → length k.threads ≡ length k.shape.threads → CallsLow k → a.threads ≡ min (amount Threads k) (2 ^ 64 - 1) → a.words ≡ min (widest k.shape.threads) (2 ^ 64 - 1) →
+    chained ≡ min (longest k) (2 ^ 64 - 1) → both ≡ min (a.words + chained) (2 ^ 64 - 1) → (a.words ≤ 65536 → both ≤ 65536) → a.globals ≡ amount Globals k → a.tables ≡ min (amount Tables k) (2 ^ 64 - 1) → a.terms ≡ min (amount Terms k) (2 ^ 64 - 1) →
+    a.depth ≤ amount Depth k → Tells k (amount_in a)
+tells k a chained both many low t w c b s g x e d = record { passes = passes; fits = fits }
+  where
+    passes : (q : Quantity) → limit_of q < amount_in a q → limit_of q < amount q k
+    passes Threads h = exactly 256 a.threads (amount Threads k) (omega arith) t h
+    passes Words h = let l = words_least k many in let m = exactly 65536 a.words (widest k.shape.threads) (omega arith) w h in omega (arith, l, m)
+    passes Globals h = omega (arith, g, h)
+    passes Tables h = exactly 1048576 a.tables (amount Tables k) (omega arith) x h
+    passes Terms h = exactly 200000 a.terms (amount Terms k) (omega arith) e h
+    passes Depth h = omega (arith, d, h)
+
+    fits : (q : Quantity) → (q ≡ Depth → ⊥) → amount_in a q ≤ limit_of q → amount q k ≤ limit_of q
+    fits Threads n h = at_most 256 a.threads (amount Threads k) (omega arith) t h
+    fits Words n h = let l = words_greatest k many low in let r = s h in let m = at_most 65536 a.words (widest k.shape.threads) (omega arith) w h in omega (arith, l, r, m, b, c, w)
+    fits Globals n h = omega (arith, g, h)
+    fits Tables n h = at_most 1048576 a.tables (amount Tables k) (omega arith) x h
+    fits Terms n h = at_most 200000 a.terms (amount Terms k) (omega arith) e h
+    fits Depth n h = absurd (n refl)
+
+pub variables_amount : (text : Text) (names : List (List ℕ)) (n : ℕ) (vs : List PlainGlobal) → vs ≡ variable_items text names text → n ≡ length vs → n ≡ amount Globals (kernel_of text names)
+unfolding amount kernel_of
+variables_amount text names n vs e l = l ∙ (ap (λ (x : List PlainGlobal). length x) e ∙ sym (length-map (variable_items text names text) (variable_shape text names)))
+
+pub err_more : {T E : Type 0} (r : Result T E) (P Q : E → Type 0) → IfErr r P → ((e : E) → P e → Q e) → IfErr r Q
+err_more (Ok t) P Q h k = tt
+err_more (Err e) P Q h k = k e h

@@ -1,0 +1,134 @@
+-- A fact of an expression or a statement whose kind is known, counts at a cap, and marks.
+use Rattle.std.proofs.Common.{ℕ, zero, suc, ◌+◌, ◌-◌, ◌^◌, ◌<◌, ◌≤◌, ◌≡◌, ◌∙◌, ◌||◌, ◌==◌, min, sym, ap, refl, subst, Bool, true, false, cond, Option, Some, None, List, [], ◌∷◌, ◌++◌, append_assoc, length, length-append, map, take, drop, get_or, arith, Vec, Global}
+use Rattle.std.proofs.Math.Seq.{take-append_seam, take-suc}
+use Rattle.std.proofs.lemmas.Bool.Decides.{nat_tests}
+use Rattle.std.specs.Result.{IsErrAnd, IfErr}
+use Rattle.std.specs.Prelude.{Result, Ok, Err}
+use Rattle.forec_tree.specs.declared.tree.Name.{Name}
+use Rattle.forec_tree.specs.declared.tree.Expr as tree_expr
+use Rattle.forec_tree.specs.declared.tree.ExprKind as tree_kind
+use Rattle.forec_tree.specs.declared.tree.Stmt.{Stmt}
+use Rattle.forec_tree.specs.Plain as tree_plain
+use Rattle.forec_tree.specs.Terms as tree
+use Rattle.forec_tree.specs.Faults.{is_in, Member, here, later}
+use Rattle.forec_tree.proofs.Rows.{term-call}
+use Rattle.forec_kernel.specs.Terms as kernel
+use Rattle.forec_kernel.specs.Plain.{expr, exprs, stmt, stmts}
+use Rattle.forec_kernel.specs.declared.terms.Expression as rust_expr
+use Rattle.forec_kernel.specs.declared.terms.Statement as rust_stmt
+use Rattle.forec_kernel.specs.WellFormed.{count_up}
+use Rattle.forec_kernel.proofs.VecTerms.{expr-call, stmt-sequence}
+use Rattle.kernel_lower.specs.declared.limits.Quantity.{Quantity}
+use Rattle.kernel_lower.specs.declared.lower_fault.LowerFault.{LowerFault}
+use Rattle.kernel_lower.specs.declared.lower_fault.LowerFault.TheVariants as fault
+use Rattle.kernel_lower.specs.Counts.{sequence_count, statement_count}
+use Rattle.kernel_lower.specs.Drafts.{marked_from}
+use Rattle.kernel_lower.specs.Limits.{limit_of, earlier}
+use Rattle.kernel_lower.specs.Marks.{is_marked, Marks}
+use Rattle.kernel_lower.specs.Refusals.{Passes, First}
+use Rattle.kernel_lower.proofs.Nearby.{sequence_near}
+
+-- ---- kinds
+
+pub of_call : {A : Type 0} (F : kernel.Expr → A) (e : rust_expr.Expression) (f : ℕ) (args : Vec rust_expr.Expression Global) (slice : List rust_expr.Expression) → e ≡ rust_expr.Call f args → slice ≡ args.items →
+    F (kernel.Call f (exprs slice)) ≡ F (expr e)
+of_call F e f args slice is same = ap (λ l. F (kernel.Call f (exprs l))) same ∙ ap F (sym (ap expr is ∙ expr-call f args))
+
+pub of_sequence : {A : Type 0} (F : kernel.Stmt → A) (s : rust_stmt.Statement) (list : Vec rust_stmt.Statement Global) (slice : List rust_stmt.Statement) → s ≡ rust_stmt.Sequence list → slice ≡ list.items →
+    F (kernel.Seq (stmts slice)) ≡ F (stmt s)
+of_sequence F s list slice is same = ap (λ l. F (kernel.Seq (stmts l))) same ∙ ap F (sym (ap stmt is ∙ stmt-sequence list))
+
+pub of_tree_call : {A : Type 0} (F : tree.Term → A) (e : tree_expr.Expr) (name : Name) (args slice : List tree_expr.Expr) → e.what ≡ tree_kind.Call name args → slice ≡ args →
+    F (tree.Call e.place name (tree_plain.terms slice)) ≡ F (tree_plain.term e)
+of_tree_call F e name args slice is same =
+    ap (λ l. F (tree.Call e.place name (tree_plain.terms l))) same ∙ ap F (sym (term-call name args e.place)) ∙ ap (λ w. F (tree_plain.term_at w e.place)) (sym is)
+
+-- ---- counts
+
+pub sequence_as_near : (r n k x y : ℕ) → r ≡ min (sequence_count n x) (2 ^ 64 - 1) → n ≡ k → min x (2 ^ 64 - 1) ≡ min y (2 ^ 64 - 1) → r ≡ min (sequence_count k y) (2 ^ 64 - 1)
+sequence_as_near r n k x y e d h = e ∙ (ap (λ m. min (sequence_count m x) (2 ^ 64 - 1)) d ∙ sequence_near (2 ^ 64 - 1) k x y h)
+
+pub terms_length : (es : List tree_expr.Expr) → length es ≡ tree.count_terms (tree_plain.terms es)
+terms_length [] = refl
+terms_length (e ∷ es) = ap suc (terms_length es)
+
+pub statements_length : (ss : List Stmt) → length ss ≡ statement_count (tree_plain.statements ss)
+statements_length [] = refl
+statements_length (s ∷ ss) = ap suc (statements_length ss)
+
+-- ---- marks
+
+or_assoc : (a b d : Bool) → ((a || b) || d) ≡ (a || (b || d))
+or_assoc true b d = refl
+or_assoc false b d = refl
+
+pub in_both : (v : ℕ) (xs ys : List ℕ) → is_in v (xs ++ ys) ≡ (is_in v xs || is_in v ys)
+in_both v [] ys = refl
+in_both v (x ∷ xs) ys = pick (x == v) (in_both v xs ys)
+  where
+    pick : (b : Bool) → is_in v (xs ++ ys) ≡ (is_in v xs || is_in v ys) → cond b true (is_in v (xs ++ ys)) ≡ (cond b true (is_in v xs) || is_in v ys)
+    pick true h = refl
+    pick false h = h
+
+pub marks_two : (old mid new : List Bool) (a b named : List ℕ) → Marks old mid a → Marks mid new b → named ≡ a ++ b → Marks old new named
+marks_two old mid new a b named h k e =
+    let long = k.long in
+    record {
+      each = λ v l.
+          k.each v l
+          ∙ (ap (λ m. m || is_in v b) (h.each v (omega (arith, l, long)))
+          ∙ (or_assoc (is_marked old v) (is_in v a) (is_in v b) ∙ ap (λ m. is_marked old v || m) (sym (in_both v a b) ∙ ap (is_in v) (sym e))));
+      long = k.long ∙ h.long;
+    }
+
+pub marks_as : (old new : List Bool) (a b : List ℕ) → Marks old new a → a ≡ b → Marks old new b
+marks_as old new a b h e = subst (Marks old new) e h
+
+-- one step of a loop that marks what a list names
+pub marks_step : (old new : List Bool) (a rest all : List ℕ) (whole : ℕ → Bool) (n : ℕ) → Marks old new a → all ≡ a ++ rest → n ≤ length new → ((v : ℕ) → v < n → (is_marked old v || is_in v all) ≡ whole v) →
+    (v : ℕ) → v < n → (is_marked new v || is_in v rest) ≡ whole v
+marks_step old new a rest all whole n h e s w v l =
+    ap (λ m. m || is_in v rest) (h.each v (omega (arith, l, s)))
+    ∙ (or_assoc (is_marked old v) (is_in v a) (is_in v rest) ∙ (ap (λ m. is_marked old v || m) (sym (in_both v a rest) ∙ ap (is_in v) (sym e)) ∙ w v l))
+
+-- a vector whose items were lent as a slice
+pub written_back : (n : ℕ) (new rest : List Bool) → length new ≡ n → take n (new ++ rest) ≡ new
+written_back n new rest e = ap (λ m. take m (new ++ rest)) (sym e) ∙ take-append_seam new rest
+
+-- all marks
+pub all_marked : (from count : ℕ) (marks : List Bool) → length marks ≡ count → ((v : ℕ) → v < count → get_or marks v true ≡ true) → marked_from from marks ≡ count_up from count
+all_marked from zero [] e h = refl
+all_marked from (suc n) [] e h = absurd (omega (arith, e))
+all_marked from zero (m ∷ marks) e h = absurd (omega (arith, e))
+all_marked from (suc n) (m ∷ marks) e h =
+    let first : m ≡ true = h 0 (omega arith) in
+    ap (λ b. cond b (from ∷ marked_from (suc from) marks) (marked_from (suc from) marks)) first
+    ∙ ap (λ l. from ∷ l) (all_marked (suc from) n marks (omega (arith, e)) (λ v l. h (suc v) (omega (arith, l))))
+
+-- ---- limits
+
+abbrev pub Each : {A : Type 0} → (A → Type 0) → List A → Type 0
+Each P [] = Unit {0}
+Each P (x ∷ xs) = P x × Each P xs
+
+pub each_member : {A : Type 0} (P : A → Type 0) (xs : List A) (x : A) → Each P xs → Member x xs → P x
+each_member P [] x h m = elim m [ ]
+each_member P (y ∷ xs) x h here = h.0
+each_member P (y ∷ xs) x h (later m) = each_member P xs x h.1 m
+
+pub first_at : (amounts : Quantity → ℕ) (what : Quantity) (e : LowerFault) → Passes what (amounts what) e → Each (λ q. amounts q ≤ limit_of q) (earlier what) → First amounts e
+first_at amounts what e p h =
+    subst (First amounts) (sym p.0) (record { passes = p.1; first = λ q m. each_member (λ x. amounts x ≤ limit_of x) (earlier what) q h m; is = refl })
+
+pub err_passed : {T E F : Type 0} (r : Result T F) (x : E) (Q : F → Type 0) (P : F → Type 0) → IsErrAnd r Q → ((y : F) → Q y → P y) → IfErr r P
+err_passed (Ok t) x Q P h k = tt
+err_passed (Err y) x Q P h k = k y h
+
+-- ---- numbers
+
+pub count_more : (from n : ℕ) → count_up from (n + 1) ≡ count_up from n ++ (from + n) ∷ []
+count_more from zero = let e : from + 0 ≡ from = omega arith in ap (λ m. m ∷ []) (sym e)
+count_more from (suc n) =
+    let e : suc n + 1 ≡ suc (n + 1) = omega arith in
+    let d : suc from + n ≡ from + suc n = omega arith in
+    ap (count_up from) e ∙ ap (λ l. from ∷ l) (count_more (suc from) n ∙ ap (λ m. count_up (suc from) n ++ m ∷ []) d)

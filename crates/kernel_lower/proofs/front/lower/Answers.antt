@@ -1,0 +1,25 @@
+use Rattle.std.proofs.Common.{◌≡◌, ◌∙◌, sym, ap, refl, subst}
+use Rattle.forec_kernel.specs.WellFormed.{WellFormed}
+use Rattle.forec_check.specs.Checked.{text_of, names_of}
+use Rattle.kernel_lower.specs.Kernels.{kernel_of}
+use Rattle.kernel_lower.specs.Refusals.{Causes}
+use Rattle.kernel_lower.proofs.Finishing.{threads_amount, threads_cause}
+use Rattle.kernel_lower.proofs.Tallying.{err_passed}
+use Rattle.kernel_lower.proofs.Whole.{well_formed}
+use Rattle.kernel_lower.proofs.front.lower.Goals as goal
+
+pub returns-in_err-within-clause-fault : goal.returns-in_err-within-clause-fault
+returns-in_err-within-clause-fault c =
+    let text = text_of c.args.checked.now in
+    let names = names_of c.args.checked.now in
+    let n = c.in_ok-threads.threads in
+    let cause = threads_cause text names n c.in_err-within.field-0.0 (threads_amount text names n c.in_ok-threads.ensures) c.in_err-within.ensures.err in
+    err_passed c.from_residual-in_err-within.result c.in_err-within.field-0.0 _ (λ e. Causes e text names) c.from_residual-in_err-within.ensures.1 (λ y e. subst (λ e. Causes e text names) (sym e) cause)
+
+pub parts_of-requires-clause-threads : goal.parts_of-requires-clause-threads
+parts_of-requires-clause-threads c = threads_amount (text_of c.args.checked.now) (names_of c.args.checked.now) c.in_ok-threads.threads c.in_ok-threads.ensures
+
+pub of-requires : goal.of-requires
+of-requires c =
+    let checked = c.args.checked.now in
+    subst WellFormed (sym c.in_ok-parts.ensures.parts) (well_formed (text_of checked) (names_of checked) checked.faultless c.in_ok-parts.ensures.within)

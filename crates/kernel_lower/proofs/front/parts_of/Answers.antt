@@ -1,0 +1,113 @@
+use Rattle.std.proofs.Common.{◌≡◌, ◌∙◌, ◌≤◌, ◌<◌, ◌-◌, ◌^◌, min, sum, sym, ap, refl, subst, map, length, inl, arith}
+use Rattle.forec_tree.specs.Terms.{Text}
+use Rattle.forec_tree.specs.Plain as plain
+use Rattle.forec_tree.specs.Pauses.{starts}
+use Rattle.forec_tree.specs.Faults.{Leads}
+use Rattle.forec_kernel.specs.WellFormed.{Ranked}
+use Rattle.forec_check.specs.Checked.{text_of, names_of}
+use Rattle.forec_check.proofs.Acyclic.{no_circle}
+use Rattle.loop_check.specs.Views as views
+use Rattle.kernel_lower.specs.Kernels.{kernel_of}
+use Rattle.kernel_lower.specs.declared.judge.Amounts.{Amounts}
+use Rattle.kernel_lower.specs.declared.limits.Quantity.TheVariants.{Terms}
+use Rattle.kernel_lower.specs.Limits.{amount}
+use Rattle.kernel_lower.specs.Refusals.{amount_in, Causes}
+use Rattle.kernel_lower.specs.Items.{globals_of, array_items, array_length}
+use Rattle.kernel_lower.specs.Measures.{CallsLow, IsDraft, plain_draft}
+use Rattle.kernel_lower.proofs.Called.{ranked}
+use Rattle.kernel_lower.proofs.InRange.{calls_low}
+use Rattle.kernel_lower.proofs.Faultless.{clean_of}
+use Rattle.kernel_lower.proofs.Finishing.{draft_alike, ranked_same, low_same, words_amounts, depth_amounts, globals_amount, tables_amount, all_amounts, first_causes, within_limits}
+use Rattle.kernel_lower.proofs.Tallying.{err_passed}
+use Rattle.kernel_lower.proofs.front.parts_of.Goals as goal
+
+pub of-requires : goal.of-requires
+of-requires c =
+    let kept = c.args.checked.now in
+    let same = ap (map plain.plain_item) c.as_slice-items.ensures ∙ ap plain.program c.program.ensures in
+    λ f l. no_circle (plain.program kept.program) kept.names.now (λ fault e. kept.faultless fault (inl e)) f (subst (λ t. Leads (starts t) f f) same l)
+
+pub program_terms-requires-clause-free : goal.program_terms-requires-clause-free
+program_terms-requires-clause-free c =
+    let kept = c.args.checked.now in
+    let same = c.in_ok-source.ensures.text ∙ (ap (map plain.plain_item) c.as_slice-items.ensures ∙ ap plain.program c.program.ensures) in
+    λ f l. no_circle (plain.program kept.program) kept.names.now (λ fault e. kept.faultless fault (inl e)) f (subst (λ t. Leads (starts t) f f) same l)
+
+pub most-requires-clause-ranked : goal.most-requires-clause-ranked
+most-requires-clause-ranked c =
+    let kept = c.args.checked.now in
+    let text = text_of kept in
+    let names = names_of kept in
+    let same : views.text_of c.in_ok-source.source.globals.index ≡ text = c.in_ok-source.ensures.text ∙ (ap (map plain.plain_item) c.as_slice-items.ensures ∙ ap plain.program c.program.ensures) in
+    let is : IsDraft (kernel_of text names) c.in_ok-draft.draft = subst (λ k. IsDraft k c.in_ok-draft.draft) (ap (λ t. kernel_of t c.args.names.now) same ∙ ap (kernel_of text) c.requires.names) c.in_ok-draft.ensures in
+    ranked_same (plain_draft c.in_ok-draft.draft) (kernel_of text names) (draft_alike (kernel_of text names) c.in_ok-draft.draft is) (ranked text names (clean_of text names kept.faultless))
+
+pub most-requires-clause-low : goal.most-requires-clause-low
+most-requires-clause-low c =
+    let kept = c.args.checked.now in
+    let text = text_of kept in
+    let names = names_of kept in
+    let same : views.text_of c.in_ok-source.source.globals.index ≡ text = c.in_ok-source.ensures.text ∙ (ap (map plain.plain_item) c.as_slice-items.ensures ∙ ap plain.program c.program.ensures) in
+    let is : IsDraft (kernel_of text names) c.in_ok-draft.draft = subst (λ k. IsDraft k c.in_ok-draft.draft) (ap (λ t. kernel_of t c.args.names.now) same ∙ ap (kernel_of text) c.requires.names) c.in_ok-draft.ensures in
+    low_same (plain_draft c.in_ok-draft.draft) (kernel_of text names) (draft_alike (kernel_of text names) c.in_ok-draft.draft is) (calls_low text names (clean_of text names kept.faultless))
+
+pub returns-in_err-judge-clause-fault : goal.returns-in_err-judge-clause-fault
+returns-in_err-judge-clause-fault c =
+    let kept = c.args.checked.now in
+    let text = text_of kept in
+    let names = names_of kept in
+    let k = kernel_of text names in
+    let d = c.in_ok-draft.draft in
+    let same : views.text_of c.in_ok-source.source.globals.index ≡ text = c.in_ok-source.ensures.text ∙ (ap (map plain.plain_item) c.as_slice-items.ensures ∙ ap plain.program c.program.ensures) in
+    let all : map plain.plain_item c.as_slice-items.result.now ≡ text = ap (map plain.plain_item) c.as_slice-items.ensures ∙ ap plain.program c.program.ensures in
+    let is : IsDraft k d = subst (λ k. IsDraft k d) (ap (λ t. kernel_of t c.args.names.now) same ∙ ap (kernel_of text) c.requires.names) c.in_ok-draft.ensures in
+    let alike = draft_alike k d is in
+    let a : Amounts = record { threads = c.args.threads; words = c.in_ok-peak.peak.words; globals = c.len.result; tables = c.table_words.result; terms = c.in_ok-terms.terms; depth = c.in_ok-peak.peak.depth } in
+    let near = all_amounts k a c.requires.threads (c.in_ok-peak.ensures.words ∙ ap (λ n. min n (2 ^ 64 - 1)) (words_amounts (plain_draft d) k alike)) (globals_amount k d c.len.result is (c.len.ensures ∙ d.variables.ok.0)) c.len.type_inv
+    (tables_amount text names c.table_words.result (globals_of c.in_ok-arrays.arrays.items) (c.in_ok-arrays.ensures ∙ ap array_items all) (c.table_words.ensures ∙ ap (λ l. min (sum (map array_length (globals_of l))) (2 ^ 64 - 1)) c.deref-2.ensures.value))
+    (c.in_ok-terms.ensures ∙ ap (λ k. min (amount Terms k) (2 ^ 64 - 1)) (ap (λ t. kernel_of t c.args.names.now) same ∙ ap (kernel_of text) c.requires.names))
+    (c.in_ok-peak.ensures.depth ∙ ap (λ n. min n (2 ^ 64 - 1)) (depth_amounts (plain_draft d) k alike)) in
+    let cause = first_causes text names (amount_in a) c.in_err-judge.field-0.0 near c.in_err-judge.ensures.err in
+    err_passed c.from_residual-in_err-judge.result c.in_err-judge.field-0.0 _ (λ e. Causes e text names) c.from_residual-in_err-judge.ensures.1 (λ y e. subst (λ e. Causes e text names) (sym e) cause)
+
+pub returns-clause-within : goal.returns-clause-within
+returns-clause-within c =
+    let kept = c.args.checked.now in
+    let text = text_of kept in
+    let names = names_of kept in
+    let k = kernel_of text names in
+    let d = c.in_ok-draft.draft in
+    let same : views.text_of c.in_ok-source.source.globals.index ≡ text = c.in_ok-source.ensures.text ∙ (ap (map plain.plain_item) c.as_slice-items.ensures ∙ ap plain.program c.program.ensures) in
+    let all : map plain.plain_item c.as_slice-items.result.now ≡ text = ap (map plain.plain_item) c.as_slice-items.ensures ∙ ap plain.program c.program.ensures in
+    let is : IsDraft k d = subst (λ k. IsDraft k d) (ap (λ t. kernel_of t c.args.names.now) same ∙ ap (kernel_of text) c.requires.names) c.in_ok-draft.ensures in
+    let alike = draft_alike k d is in
+    let a : Amounts = record { threads = c.args.threads; words = c.in_ok-peak.peak.words; globals = c.len.result; tables = c.table_words.result; terms = c.in_ok-terms.terms; depth = c.in_ok-peak.peak.depth } in
+    let near = all_amounts k a c.requires.threads (c.in_ok-peak.ensures.words ∙ ap (λ n. min n (2 ^ 64 - 1)) (words_amounts (plain_draft d) k alike)) (globals_amount k d c.len.result is (c.len.ensures ∙ d.variables.ok.0)) c.len.type_inv
+    (tables_amount text names c.table_words.result (globals_of c.in_ok-arrays.arrays.items) (c.in_ok-arrays.ensures ∙ ap array_items all) (c.table_words.ensures ∙ ap (λ l. min (sum (map array_length (globals_of l))) (2 ^ 64 - 1)) c.deref-2.ensures.value))
+    (c.in_ok-terms.ensures ∙ ap (λ k. min (amount Terms k) (2 ^ 64 - 1)) (ap (λ t. kernel_of t c.args.names.now) same ∙ ap (kernel_of text) c.requires.names))
+    (c.in_ok-peak.ensures.depth ∙ ap (λ n. min n (2 ^ 64 - 1)) (depth_amounts (plain_draft d) k alike)) in
+    within_limits k (amount_in a) near c.in_ok-judge.ensures.ok
+
+pub foresee-requires-clause-free : goal.foresee-requires-clause-free
+foresee-requires-clause-free c =
+    let kept = c.args.checked.now in
+    let same = c.in_ok-source.ensures.text ∙ (ap (map plain.plain_item) c.as_slice-items.ensures ∙ ap plain.program c.program.ensures) in
+    λ f l. no_circle (plain.program kept.program) kept.names.now (λ fault e. kept.faultless fault (inl e)) f (subst (λ t. Leads (starts t) f f) same l)
+
+pub beyond-requires-clause-ranked : goal.beyond-requires-clause-ranked
+beyond-requires-clause-ranked c =
+    let kept = c.args.checked.now in
+    let text = text_of kept in
+    let names = names_of kept in
+    let same : views.text_of c.in_ok-source.source.globals.index ≡ text = c.in_ok-source.ensures.text ∙ (ap (map plain.plain_item) c.as_slice-items.ensures ∙ ap plain.program c.program.ensures) in
+    let equal = ap (λ t. kernel_of t c.args.names.now) same ∙ ap (kernel_of text) c.requires.names in
+    subst Ranked (sym equal) (ranked text names (clean_of text names kept.faultless))
+
+pub beyond-requires-clause-low : goal.beyond-requires-clause-low
+beyond-requires-clause-low c =
+    let kept = c.args.checked.now in
+    let text = text_of kept in
+    let names = names_of kept in
+    let same : views.text_of c.in_ok-source.source.globals.index ≡ text = c.in_ok-source.ensures.text ∙ (ap (map plain.plain_item) c.as_slice-items.ensures ∙ ap plain.program c.program.ensures) in
+    let equal = ap (λ t. kernel_of t c.args.names.now) same ∙ ap (kernel_of text) c.requires.names in
+    subst CallsLow (sym equal) (calls_low text names (clean_of text names kept.faultless))

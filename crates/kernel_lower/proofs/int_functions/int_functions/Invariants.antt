@@ -1,0 +1,10 @@
+use Rattle.std.proofs.Common.{◌≡◌, ◌++◌, map, drop}
+use Rattle.forec_tree.specs.Plain.{plain_item}
+use Rattle.loop_check.specs.Views.{text_of}
+use Rattle.kernel_lower.specs.Kernels as kernels
+use Rattle.kernel_lower.specs.Items.{functions_of}
+use Rattle.kernel_lower.proofs.int_functions.int_functions.Given as goal
+
+abbrev pub invariant-loop-item : goal.invariant-loop-item
+invariant-loop-item l =
+    functions_of l.list.items ++ kernels.int_functions (text_of l.globals.index) l.names (map plain_item (drop l.item-index l.items)) ≡ kernels.int_functions (text_of l.globals.index) l.names (map plain_item l.fn.items)

@@ -1,0 +1,42 @@
+// The threads of a program, with all functions that are called as statements put in place.
+
+ghost use Rattle.std.specs.Prelude.{◌≡◌, length, IfOk};
+ghost use Rattle.loop_check.specs.Views.{text_of};
+ghost use Rattle.kernel_lower.specs.Views.{OneText};
+ghost use Rattle.kernel_lower.specs.Drafts.{Expanded};
+
+use crate::body::{FUEL, in_place};
+use crate::source::Source;
+use crate::state::{State, Thread};
+use forec_base::OutOfMemory;
+use forec_kernel::Statement;
+use std::alloc::Global;
+
+/// The body of thread 0, how many words it has, and the threads below it, in the order of their numbers.
+#[derive(Drop)]
+pub struct Bodies {
+    pub main: Statement,
+    pub words: u32,
+    pub threads: Vec<Thread>,
+}
+
+/// Puts the function of a name in place as thread 0.
+pub fn expand(
+    alloc: Global,
+    source: &Source<'_>,
+    deep: usize,
+    first: u32,
+) -> Result<Bodies, OutOfMemory>
+    requires text { OneText source.now }
+    requires deep { deep ≡ length (text_of source.now.globals.index) }
+    ensures { IfOk result (λ b. Expanded (text_of source.now.globals.index) first b) }
+{
+    let mut state = State::new(alloc);
+    let main = in_place(alloc, source, deep, FUEL, 0, 0, &mut state, first)?;
+    let words = state.slot;
+    Ok(Bodies {
+        main,
+        words,
+        threads: state.threads,
+    })
+}

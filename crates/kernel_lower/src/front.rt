@@ -1,0 +1,78 @@
+// From a checked program to its kernel.
+
+ghost use Rattle.std.specs.Prelude.{◌≡◌, ◌-◌, ◌^◌, min, IfOk, IfErr, OnOk};
+ghost use Rattle.forec_kernel.specs.Shapes.{plain_kernel};
+ghost use Rattle.forec_check.specs.Checked.{text_of, names_of};
+ghost use Rattle.kernel_lower.specs.Kernels.{kernel_of};
+ghost use Rattle.kernel_lower.specs.Limits.{WithinLimits, amount};
+ghost use Rattle.kernel_lower.specs.declared.limits.Quantity.TheVariants.{Threads};
+ghost use Rattle.kernel_lower.specs.Refusals.{Causes};
+
+use crate::beyond::{beyond, foresee};
+use crate::draft::{complete, draft};
+use crate::extents::program_terms;
+use crate::int_functions::int_functions;
+use crate::judge::{Amounts, judge, within};
+use crate::limits::Quantity;
+use crate::lower_fault::LowerFault;
+use crate::measure::most;
+use crate::source::Source;
+use crate::tables::{arrays, table_words};
+use forec_base::Labels;
+use forec_check::Checked;
+use forec_kernel::{Kernel, KernelParts};
+use std::alloc::Global;
+
+/// The parts of the kernel of a program of so many threads.
+fn parts_of(
+    alloc: Global,
+    checked: &Checked<'_>,
+    names: &Labels,
+    threads: u64,
+) -> Result<KernelParts, LowerFault>
+    requires names { names.now ≡ names_of checked.now }
+    requires threads { threads ≡ min (amount Threads (kernel_of (text_of checked.now) (names_of checked.now))) (2 ^ 64 - 1) }
+    ensures parts { IfOk result (λ parts. plain_kernel parts ≡ kernel_of (text_of checked.now) (names_of checked.now)) }
+    ensures within { OnOk result (WithinLimits (kernel_of (text_of checked.now) (names_of checked.now))) }
+    ensures fault { IfErr result (λ e. Causes e (text_of checked.now) (names_of checked.now)) }
+{
+    let items = checked.program().items.as_slice();
+    let source = Source::of(alloc, items)?;
+    let first = checked.start();
+    let functions = int_functions(alloc, &source.globals, names, items)?;
+    let terms = program_terms(alloc, &source.globals.index, names, &functions, first)?;
+    let known = foresee(alloc, &source.globals.index, names, first)?;
+    if 200_000 < terms || 4096 < known.levels {
+        beyond(
+            alloc, &source, names, items, &functions, threads, terms, known,
+        )?;
+        return Err(LowerFault::OutOfMemory);
+    }
+    let draft = draft(alloc, &source, names, items, first)?;
+    let peak = most(alloc, &draft)?;
+    let arrays = arrays(alloc, items)?;
+    judge(Amounts {
+        threads,
+        words: peak.words,
+        globals: draft.variables.len() as u64,
+        tables: table_words(&arrays),
+        terms,
+        depth: peak.depth,
+    })?;
+    let parts = complete(alloc, &source, names, items, &arrays, draft)?;
+    Ok(parts)
+}
+
+/// The kernel of a checked program, whose names are given. A program is refused exactly where a
+/// quantity passes its limit, and the first such quantity is told.
+pub fn lower(alloc: Global, checked: &Checked<'_>, names: &Labels) -> Result<Kernel, LowerFault>
+    requires { names.now ≡ names_of checked.now }
+    ensures kernel { IfOk result (λ k. plain_kernel k ≡ kernel_of (text_of checked.now) (names_of checked.now)) }
+    ensures within { OnOk result (WithinLimits (kernel_of (text_of checked.now) (names_of checked.now))) }
+    ensures fault { IfErr result (λ e. Causes e (text_of checked.now) (names_of checked.now)) }
+{
+    let threads = checked.threads(alloc)?;
+    within(Quantity::Threads, threads)?;
+    let parts = parts_of(alloc, checked, names, threads)?;
+    Ok(Kernel::of(parts))
+}

@@ -1,0 +1,60 @@
+// The limits, in their order.
+
+ghost use Rattle.std.specs.Prelude.{◌≡◌, ◌≤◌, OnOk, IfErr};
+ghost use Rattle.kernel_lower.specs.Limits as limits;
+ghost use Rattle.kernel_lower.specs.declared.limits.Quantity.{Quantity};
+ghost use Rattle.kernel_lower.specs.Refusals.{Passes, amount_in, First};
+
+use crate::limits::Quantity;
+use crate::lower_fault::LowerFault;
+
+/// How much of each quantity there is.
+#[derive(Clone, Copy)]
+pub struct Amounts {
+    pub threads: u64,
+    pub words: u64,
+    pub globals: u64,
+    pub tables: u64,
+    pub terms: u64,
+    pub depth: u64,
+}
+
+/// The limit of a quantity.
+fn limit(what: Quantity) -> u64
+    ensures { result ≡ limits.limit_of what }
+{
+    match what {
+        Quantity::Threads => 256,
+        Quantity::Words => 65536,
+        Quantity::Globals => 4096,
+        Quantity::Tables => 1_048_576,
+        Quantity::Terms => 200_000,
+        Quantity::Depth => 4096,
+    }
+}
+
+/// Whether so much of a quantity is within its limit.
+pub fn within(what: Quantity, count: u64) -> Result<(), LowerFault>
+    ensures ok { OnOk result (count ≤ limits.limit_of what) }
+    ensures err { IfErr result (λ e. Passes what count e) }
+{
+    let most = limit(what);
+    if most < count {
+        return Err(LowerFault::Limit { what, count: most });
+    }
+    Ok(())
+}
+
+/// Whether all is within the limits; else the first limit that is passed.
+pub fn judge(a: Amounts) -> Result<(), LowerFault>
+    ensures ok { OnOk result ((q : Quantity) → amount_in a q ≤ limits.limit_of q) }
+    ensures err { IfErr result (λ e. First (amount_in a) e) }
+{
+    within(Quantity::Threads, a.threads)?;
+    within(Quantity::Words, a.words)?;
+    within(Quantity::Globals, a.globals)?;
+    within(Quantity::Tables, a.tables)?;
+    within(Quantity::Terms, a.terms)?;
+    within(Quantity::Depth, a.depth)?;
+    Ok(())
+}

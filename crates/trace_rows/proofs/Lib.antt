@@ -1,0 +1,13 @@
+mod Digits
+mod Splitting
+mod Following
+mod HeaderWords
+mod Heads
+mod LineNumbers
+mod Pairs
+mod Ranges
+mod Refilling
+mod Starting
+mod Told
+mod TraceLines
+mod Worked

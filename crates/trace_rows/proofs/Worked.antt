@@ -1,0 +1,127 @@
+-- Worked traces, computed by the definitions.
+use Rattle.std.proofs.Common.{◌≡◌, ℕ, pos, negsuc, List, [], ◌∷◌, ◌++◌, Option, Some, None, codes, replicate, map, refl}
+use Rattle.trace_rows.specs.declared.fault.RowFault.{RowFault}
+use Rattle.trace_rows.specs.declared.fault.RowFault.TheVariants as fault
+use Rattle.trace_rows.specs.Lines.{lines_of, whole_lines}
+use Rattle.trace_rows.specs.Numbers.{number_of}
+use Rattle.trace_rows.specs.Words.{words_of}
+use Rattle.trace_rows.specs.Trace.{Row, Trace, trace_of}
+
+-- the trace of a text for two inputs a and b, and for none
+abbrev of_two : List ℕ → Trace
+of_two = trace_of (codes "a" ∷ codes "b" ∷ []) 1000000000
+
+abbrev of_none : List ℕ → Trace
+of_none = trace_of [] 1000000000
+
+-- the trace of no inputs and at most two rows
+abbrev two_rows_of_none : List ℕ → Trace
+two_rows_of_none = trace_of [] 2
+
+abbrev trace : List Row → Option RowFault → ℕ → Trace
+trace rows cause line = record { rows = rows; end = record { cause = cause; line = line } }
+
+abbrev spaces : ℕ → List ℕ
+spaces n = replicate n 32
+
+-- ---- words and numbers
+
+words_between_blanks : words_of (codes " 3\t5 \r") ≡ codes "3" ∷ codes "5" ∷ []
+unfolding words_of
+words_between_blanks = refl
+
+lines_end_at_byte_10 : lines_of (codes "a\n\nb") ≡ codes "a" ∷ [] ∷ codes "b" ∷ []
+unfolding lines_of
+lines_end_at_byte_10 = refl
+
+no_last_line_where_none_begins : lines_of (codes "a\n") ≡ codes "a" ∷ []
+unfolding lines_of
+no_last_line_where_none_begins = refl
+
+lines_that_came_whole : whole_lines (codes "a\nb") ≡ codes "a" ∷ []
+unfolding whole_lines
+lines_that_came_whole = refl
+
+numbers : map number_of (map codes ("0" ∷ "-0" ∷ "007" ∷ "-2147483648" ∷ "2147483647" ∷ "-1" ∷ "00000000000000000001" ∷ []))
+    ≡ Some (pos 0) ∷ Some (pos 0) ∷ Some (pos 7) ∷ Some (negsuc 2147483647) ∷ Some (pos 2147483647) ∷ Some (negsuc 0) ∷ Some (pos 1) ∷ []
+numbers = refl
+
+no_numbers : map number_of (map codes ("" ∷ "-" ∷ "+1" ∷ "--1" ∷ "1-" ∷ "0x1" ∷ "2147483648" ∷ "-2147483649" ∷ "10000000000" ∷ "12345678901234567890" ∷ "-12345678901234567890" ∷ []))
+    ≡ None ∷ None ∷ None ∷ None ∷ None ∷ None ∷ None ∷ None ∷ None ∷ None ∷ None ∷ []
+no_numbers = refl
+
+no_number_of_other_bytes : map number_of ((0 ∷ []) ∷ (178 ∷ []) ∷ (49 ∷ 0 ∷ []) ∷ (11 ∷ 49 ∷ []) ∷ []) ≡ None ∷ None ∷ None ∷ None ∷ []
+no_number_of_other_bytes = refl
+
+-- ---- rows in the header's order
+
+another_order : of_two (codes "b a\n3 5\n3\n") ≡ trace ((pos 5 ∷ pos 3 ∷ []) ∷ []) (Some fault.Bad) 2
+unfolding trace_of lines_of words_of
+another_order = refl
+
+too_great : of_two (codes "b a\n1 2147483648\n") ≡ trace [] (Some fault.Bad) 1
+unfolding trace_of lines_of words_of
+too_great = refl
+
+any_blanks_and_no_last_line_feed : of_two (codes "b a\n 3\t5\r\n-1  0") ≡ trace ((pos 5 ∷ pos 3 ∷ []) ∷ (pos 0 ∷ negsuc 0 ∷ []) ∷ []) None 3
+unfolding trace_of lines_of words_of
+any_blanks_and_no_last_line_feed = refl
+
+a_row_in_part : of_two (codes "b a\n3 5\n3 ") ≡ trace ((pos 5 ∷ pos 3 ∷ []) ∷ []) (Some fault.Bad) 2
+unfolding trace_of lines_of words_of
+a_row_in_part = refl
+
+one_number_more : of_two (codes "a b\n1 2 3\n") ≡ trace [] (Some fault.Bad) 1
+unfolding trace_of lines_of words_of
+one_number_more = refl
+
+no_byte_between : of_two (codes "a b\n1,2\n") ≡ trace [] (Some fault.Bad) 1
+unfolding trace_of lines_of words_of
+no_byte_between = refl
+
+-- ---- headers
+
+header_alone : of_two (codes " b\ta \r\n") ≡ trace [] None 1
+unfolding trace_of lines_of words_of
+header_alone = refl
+
+bad_headers : map of_two (map codes ("" ∷ "\n" ∷ "a" ∷ "a a\n" ∷ "a b a\n" ∷ "a b c\n" ∷ "a c\n" ∷ "ab\n" ∷ "A b\n" ∷ "#2\n" ∷ []))
+    ≡ map (λ (n : ℕ). trace [] (Some fault.Bad) 0) (replicate 10 0)
+unfolding trace_of lines_of words_of
+bad_headers = refl
+
+-- ---- no inputs
+
+nothing : of_none [] ≡ trace [] (Some fault.Bad) 0
+unfolding trace_of lines_of words_of
+nothing = refl
+
+empty_lines : of_none (codes "\n\n\n") ≡ trace ([] ∷ [] ∷ []) None 3
+unfolding trace_of lines_of words_of
+empty_lines = refl
+
+blanks_alone : of_none (codes "\n \n") ≡ trace ([] ∷ []) None 2
+unfolding trace_of lines_of words_of
+blanks_alone = refl
+
+too_many : two_rows_of_none (codes "\n\n\n\n") ≡ trace ([] ∷ [] ∷ []) (Some fault.Many) 3
+unfolding trace_of lines_of words_of
+too_many = refl
+
+many_before_bad : two_rows_of_none (codes "\n\n\nx") ≡ trace ([] ∷ [] ∷ []) (Some fault.Many) 3
+unfolding trace_of lines_of words_of
+many_before_bad = refl
+
+-- ---- long lines
+
+long_header : of_none (spaces 8193 ++ codes "\n") ≡ trace [] (Some fault.Long) 0
+unfolding trace_of lines_of words_of
+long_header = refl
+
+longest_header : of_none (spaces 8192 ++ codes "\n") ≡ trace [] None 1
+unfolding trace_of lines_of words_of
+longest_header = refl
+
+long_before_bad : of_none (codes "\nx" ++ spaces 8192) ≡ trace [] (Some fault.Long) 1
+unfolding trace_of lines_of words_of
+long_before_bad = refl

@@ -1,0 +1,13 @@
+use Rattle.std.proofs.Common.{◌≡◌, ◌+◌, ◌≤◌, length, count_by}
+use Rattle.std.specs.Str.{bytes_eq}
+use Rattle.trace_rows.specs.Words.{words_of}
+use Rattle.trace_rows.proofs.header.count_name.Given as goal
+
+abbrev pub invariant-words : goal.invariant-words
+invariant-words l = record {
+  count : l.count + count_by (bytes_eq l.name) (words_of l.rest) ≡ count_by (bytes_eq l.name) (words_of l.line);
+  few : l.count + length l.rest ≤ length l.line;
+}
+
+abbrev pub decreases-words : goal.decreases-words
+decreases-words l = length l.rest

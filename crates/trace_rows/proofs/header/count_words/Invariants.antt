@@ -1,0 +1,12 @@
+use Rattle.std.proofs.Common.{◌≡◌, ◌+◌, ◌≤◌, length}
+use Rattle.trace_rows.specs.Words.{words_of}
+use Rattle.trace_rows.proofs.header.count_words.Given as goal
+
+abbrev pub invariant-words : goal.invariant-words
+invariant-words l = record {
+  count : l.count + length (words_of l.rest) ≡ length (words_of l.line);
+  few : l.count + length l.rest ≤ length l.line;
+}
+
+abbrev pub decreases-words : goal.decreases-words
+decreases-words l = length l.rest

@@ -1,0 +1,14 @@
+use Rattle.std.proofs.Common.{◌≡◌, ◌+◌, ◌≤◌, length}
+use Rattle.std.specs.List.{position_or_len}
+use Rattle.std.specs.Str.{bytes_eq}
+use Rattle.trace_rows.specs.Words.{words_of}
+use Rattle.trace_rows.proofs.header.first_place.Given as goal
+
+abbrev pub invariant-words : goal.invariant-words
+invariant-words l = record {
+  place : l.place + position_or_len (bytes_eq l.name) (words_of l.rest) ≡ position_or_len (bytes_eq l.name) (words_of l.line);
+  few : l.place + length l.rest ≤ length l.line;
+}
+
+abbrev pub decreases-words : goal.decreases-words
+decreases-words l = length l.rest

@@ -1,0 +1,60 @@
+use Rattle.std.proofs.Common.{◌≡◌, ◌≤◌, [], ◌++◌, ℕ, List, length, refl, sym, ap, subst, ◌∙◌, arith}
+use Rattle.trace_rows.specs.declared.fault.RowFault.TheVariants as fault
+use Rattle.std.specs.List.{after_first}
+use Rattle.trace_rows.specs.Lines.{is_newline, lines_of}
+use Rattle.trace_rows.specs.Held.{held}
+use Rattle.trace_rows.specs.Reader.{Takes}
+use Rattle.trace_rows.specs.Steps.{NoHeader}
+use Rattle.trace_rows.specs.Trace.{most_bytes, rows_of_lines}
+use Rattle.trace_rows.proofs.Told.{told_map, end_told, long_told, LongLine, LineOf, line_told, takes_first}
+use Rattle.trace_rows.proofs.Heads.{header_long, header_bad, header_good, no_header, written}
+use Rattle.trace_rows.proofs.steps.take_header.Goals as goal
+
+pub returns-in-Ok-End-clause-header : goal.returns-in-Ok-End-clause-header
+returns-in-Ok-End-clause-header g c =
+    let left = g.S.Source.left in
+    let w : List ℕ = held c.args.lines.now in
+    let f = rw c.in-Ok-End.field-0-is at c.in-Ok-End.ensures.finds in
+    told_map (left c.args.source.now) (left c.find.new.source) (λ x y. lines_of (w ++ x) ≡ []) (λ x y. NoHeader c.args.inputs.now fault.Bad (lines_of (w ++ x)))
+    (end_told w (held c.find.new.self) (left c.args.source.now) (left c.find.new.source) c.find.ensures.came f.0 (c.find.ensures.ended f.1))
+    (λ x y e limit. ap (rows_of_lines c.args.inputs.now limit) e)
+
+pub returns-in-Ok-Long-clause-header : goal.returns-in-Ok-Long-clause-header
+returns-in-Ok-Long-clause-header g c =
+    let left = g.S.Source.left in
+    let w : List ℕ = held c.args.lines.now in
+    let f = rw c.in-Ok-Long.field-0-is at c.in-Ok-Long.ensures.finds in
+    told_map (left c.args.source.now) (left c.find.new.source) (LongLine w) (λ x y. NoHeader c.args.inputs.now fault.Long (lines_of (w ++ x)))
+    (long_told w (held c.find.new.self) (left c.args.source.now) (left c.find.new.source) c.find.ensures.came f)
+    (λ x y l. no_header c.args.inputs.now l.0 fault.Long (lines_of (w ++ x)) l.1 l.2 (header_long c.args.inputs.now l.0 l.3))
+
+pub returns-then-not-read_header-clause-header : goal.returns-then-not-read_header-clause-header
+returns-then-not-read_header-clause-header g c =
+    let left = g.S.Source.left in
+    let w : List ℕ = held c.args.lines.now in
+    let bytes : List ℕ = held c.find.new.self in
+    let line : List ℕ = c.line.result.now in
+    let f = rw c.in-Ok-Line.field-0-is at c.in-Ok-Line.ensures.finds in
+    let takes : Takes line w (after_first is_newline bytes) c.find.new.self.ended (left c.args.source.now) (left c.find.new.source) =
+    takes_first line w (after_first is_newline bytes) bytes c.find.new.self.ended (left c.args.source.now) (left c.find.new.source) c.find.ensures.came f.1 f.2 c.line.ensures refl in
+    let short : length line ≤ most_bytes = subst (λ (l : List ℕ). length l ≤ most_bytes) (sym c.line.ensures) f.0 in
+    told_map (left c.args.source.now) (left c.find.new.source) (LineOf line w (after_first is_newline bytes)) (λ x y. NoHeader c.args.inputs.now fault.Bad (lines_of (w ++ x)))
+    (line_told line w (after_first is_newline bytes) c.find.new.self.ended (left c.args.source.now) (left c.find.new.source) takes c.find.ensures.ended)
+    (λ x y e. no_header c.args.inputs.now line fault.Bad (lines_of (w ++ x)) (lines_of (after_first is_newline bytes ++ y)) e
+    (header_bad c.args.inputs.now line short (c.if-not-read_header.ensures.no refl)))
+
+pub returns-clause-header : goal.returns-clause-header
+returns-clause-header g c =
+    let left = g.S.Source.left in
+    let w : List ℕ = held c.args.lines.now in
+    let bytes : List ℕ = held c.find.new.self in
+    let line : List ℕ = c.line.result.now in
+    let f = rw c.in-Ok-Line.field-0-is at c.in-Ok-Line.ensures.finds in
+    let short : length line ≤ most_bytes = subst (λ (l : List ℕ). length l ≤ most_bytes) (sym c.line.ensures) f.0 in
+    let same : c.args.places.now.len ≡ length c.read_header.new.places = omega (arith, c.read_header.auto.places, c.deref_mut.ensures.len) in
+    let yes = c.if-not-read_header.ensures in (
+      line,
+      header_good c.args.inputs.now line _ short (yes.yes refl) (written c.read_header.new.places c.args.places.now.items c.args.places.now.len same ∙ yes.places refl),
+      takes_first line w (held c.pass.new.self) bytes c.pass.new.self.ended (left c.args.source.now) (left c.find.new.source) c.find.ensures.came f.1
+          (λ e. f.2 (sym c.pass.ensures.ended ∙ e)) c.line.ensures c.pass.ensures.held,
+    )

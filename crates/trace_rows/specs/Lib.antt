@@ -1,0 +1,10 @@
+pub mod Calls
+pub mod Held
+pub mod Lines
+pub mod Numbers
+pub mod Reader
+pub mod Report
+pub mod Shown
+pub mod Steps
+pub mod Trace
+pub mod Words

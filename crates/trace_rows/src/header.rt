@@ -1,0 +1,72 @@
+// The header of a trace.
+ghost use Rattle.std.specs.Prelude.{◌≡◌, true, false, length, count_by, IsTrue};
+ghost use Rattle.std.specs.List.{position_or_len};
+ghost use Rattle.std.specs.Str.{bytes_eq};
+ghost use Rattle.trace_rows.specs.Words.{words_of};
+ghost use Rattle.trace_rows.specs.Trace.{names_each, places_of};
+
+use crate::words::next_word;
+use forec_base::Labels;
+
+fn count_words(line: &[u8]) -> usize
+    ensures { result ≡ length (words_of line.now) }
+{
+    let mut rest = line;
+    let mut count = 0;
+    'words: while let Some((_word, after)) = next_word(rest) {
+        count += 1;
+        rest = after;
+    }
+    count
+}
+
+// How often a name stands among the words of a line.
+fn count_name(line: &[u8], name: &[u8]) -> usize
+    ensures { result ≡ count_by (bytes_eq name.now) (words_of line.now) }
+{
+    let mut rest = line;
+    let mut count = 0;
+    'words: while let Some((word, after)) = next_word(rest) {
+        if name == word {
+            count += 1;
+        }
+        rest = after;
+    }
+    count
+}
+
+// Where a name stands first among the words of a line, or how many words there are.
+fn first_place(line: &[u8], name: &[u8]) -> usize
+    ensures { result ≡ position_or_len (bytes_eq name.now) (words_of line.now) }
+{
+    let mut rest = line;
+    let mut place = 0;
+    'words: while let Some((word, after)) = next_word(rest) {
+        if name == word {
+            return place;
+        }
+        place += 1;
+        rest = after;
+    }
+    place
+}
+
+/// Reads a header for these inputs, and finds the place of each. Where it is none some places may be written.
+pub fn read_header(line: &[u8], inputs: &Labels, places: &mut [usize]) -> bool
+    requires { length places.old ≡ length inputs.now }
+    ensures yes { IsTrue result → (names_each inputs.now (words_of line.now) ≡ true) }
+    ensures places { IsTrue result → places.new ≡ places_of inputs.now (words_of line.now) }
+    ensures no { result ≡ false → (names_each inputs.now (words_of line.now) ≡ false) }
+{
+    if count_words(line) != inputs.len() as usize {
+        return false;
+    }
+    for i in 0..inputs.len() {
+        let name = inputs.get(i).as_bytes();
+        if count_name(line, name) != 1 {
+            return false;
+        }
+        places[i as usize] = first_place(line, name);
+    }
+    true
+}

@@ -1,0 +1,73 @@
+// The steps of a reader of rows.
+ghost use Rattle.std.specs.Prelude.{◌≡◌, ◌≤◌, true, false, length, Err};
+ghost use Rattle.std.specs.Io.KnownBytes.{IsAtEnd};
+ghost use Rattle.forec_base.specs.Outside.{Fell};
+ghost use Rattle.trace_rows.specs.Held.{held};
+ghost use Rattle.trace_rows.specs.Reader.{Came, HasLine};
+ghost use Rattle.trace_rows.specs.Steps.{TakesHeader, FindsNext};
+
+use crate::fault::{Next, RowFault};
+use crate::found::Found;
+use crate::header::read_header;
+use crate::lines::Lines;
+use forec_base::{Labels, Source};
+
+/// Takes the header off a trace, and finds the places of the inputs.
+pub fn take_header<S: Source>(
+    lines: &mut Lines,
+    source: &mut S,
+    inputs: &Labels,
+    places: &mut Vec<usize>,
+) -> Result<(), RowFault>
+    requires places { length places.old.items ≡ length inputs.now }
+    requires ended { lines.old.ended ≡ true → IsAtEnd (S.left source.old) }
+    ensures header { TakesHeader inputs.now places.new.items (held lines.old) (held lines.new) lines.old.ended lines.new.ended (S.left source.old) (S.left source.new) result }
+    ensures places { length places.new.items ≡ length places.old.items }
+    ensures ended { lines.new.ended ≡ true → IsAtEnd (S.left source.new) }
+    ensures later { S.faults source.old ≤ S.faults source.new }
+    ensures fault { result ≡ Err RowFault.ReadFault → Fell (S.faults source.old) (S.faults source.new) (S.down source.new) }
+{
+    match lines.find(source) {
+        Err(_) => return Err(RowFault::ReadFault),
+        Ok(Found::End) => return Err(RowFault::Bad),
+        Ok(Found::Long) => return Err(RowFault::Long),
+        Ok(Found::Line) => {}
+    }
+    if !read_header(lines.line(), inputs, places) {
+        return Err(RowFault::Bad);
+    }
+    lines.pass();
+    Ok(())
+}
+
+/// Looks for the line behind so many rows, of at most `limit`. A line beyond the limit needn't be whole.
+pub fn find_next<S: Source>(
+    lines: &mut Lines,
+    source: &mut S,
+    given: u64,
+    limit: u64,
+) -> Result<Next, RowFault>
+    requires ended { lines.old.ended ≡ true → IsAtEnd (S.left source.old) }
+    ensures came { Came (held lines.old) (held lines.new) (S.left source.old) (S.left source.new) }
+    ensures finds { FindsNext limit given (held lines.new) lines.new.ended result }
+    ensures ended { lines.new.ended ≡ true → IsAtEnd (S.left source.new) }
+    ensures stays { lines.new.ended ≡ false → lines.old.ended ≡ false }
+    ensures asks { HasLine (held lines.old) → source.new ≡ source.old }
+    ensures closed { lines.old.ended ≡ true → source.new ≡ source.old }
+    ensures later { S.faults source.old ≤ S.faults source.new }
+    ensures fault { result ≡ Err RowFault.ReadFault → Fell (S.faults source.old) (S.faults source.new) (S.down source.new) }
+{
+    if given >= limit {
+        return match lines.begins(source) {
+            Err(_) => Err(RowFault::ReadFault),
+            Ok(true) => Err(RowFault::Many),
+            Ok(false) => Ok(Next::End),
+        };
+    }
+    match lines.find(source) {
+        Err(_) => Err(RowFault::ReadFault),
+        Ok(Found::End) => Ok(Next::End),
+        Ok(Found::Long) => Err(RowFault::Long),
+        Ok(Found::Line) => Ok(Next::Row),
+    }
+}
