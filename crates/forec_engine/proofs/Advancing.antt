@@ -5,7 +5,7 @@ use Rattle.forec_kernel.specs.declared.shape.Outcome.{Outcome}
 use Rattle.forec_kernel.specs.declared.shape.Outcome.TheVariants as outcome
 use Rattle.forec_kernel.specs.Shapes.{PlainKernel}
 use Rattle.forec_kernel.specs.Ticks.{State, Tick, tick, goes_on, run_from}
-use Rattle.trace_rows.specs.Trace.{Row, Trace, onto, row_at, rows_from}
+use Rattle.trace_rows.specs.Trace.{Row, Trace, onto, row_at}
 use Rattle.trace_rows.specs.declared.fault.RowFault.{RowFault}
 use Rattle.forec_engine.specs.Report.{Report, Pace, most_rows, tick_lines, lines_from, last_outcome, ending, behind_bytes, report_from, with_row, printed_before, advance}
 

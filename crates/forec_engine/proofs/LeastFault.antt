@@ -1,5 +1,5 @@
 -- A program has one least fault, and it can't be that it has faults and no least one.
-use Rattle.std.proofs.Common.{◌≡◌, ℕ, ◌<◌, ◌≤◌, ◌+◌, zero, suc, Bool, true, false, nat_lt, ltb-true, ltb-false, refl, ap, ◌∙◌, arith}
+use Rattle.std.proofs.Common.{◌≡◌, ℕ, ◌<◌, zero, suc, Bool, true, false, nat_lt, ltb-true, ltb-false, refl, ap, ◌∙◌, arith}
 use Rattle.std.proofs.lemmas.Bool.Decides.{nat_tests}
 use Rattle.forec_tree.specs.declared.fault.Fault.{Fault}
 use Rattle.forec_tree.specs.Faults.{is_before, IsLeast}

@@ -3,6 +3,7 @@ mod Digits
 mod Endings
 mod Following
 mod Heading
+mod OneCore
 mod Ranges
 mod Reports
 mod Running

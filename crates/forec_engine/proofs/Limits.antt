@@ -1,5 +1,5 @@
 -- A program passes one limit first, or none.
-use Rattle.std.proofs.Common.{◌≡◌, ◌⊎◌, inl, inr, ℕ, ◌<◌, ◌≤◌, Bool, true, false, nat_lt, ltb-true, ltb-false, List, [], ◌∷◌, refl, sym, ap, subst, ◌∙◌, arith}
+use Rattle.std.proofs.Common.{◌≡◌, ◌⊎◌, inl, inr, ℕ, ◌<◌, Bool, true, false, nat_lt, ltb-true, ltb-false, List, [], ◌∷◌, refl, sym, ap, ◌∙◌, arith}
 use Rattle.forec_kernel.specs.Shapes.{PlainKernel}
 use Rattle.forec_tree.specs.Terms.{Text}
 use Rattle.forec_tree.specs.Faults.{Member, here, later}

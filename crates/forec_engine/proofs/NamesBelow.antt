@@ -9,9 +9,9 @@ use Rattle.forec_tree.specs.declared.token.Token.{Token}
 use Rattle.forec_tree.specs.declared.tree.Name.{Name}
 use Rattle.forec_tree.specs.declared.tree.Combine.{Combine}
 use Rattle.forec_tree.specs.declared.tree.GlobalKind.{GlobalKind}
-use Rattle.forec_tree.specs.Terms.{Term, Num, Declared, Written, Statement, Statements, Perhaps, PlainGlobal, PlainItem, IsGlobal, IsFunction, Text}
+use Rattle.forec_tree.specs.Terms.{Term, Num, Declared, Written, Statement, Perhaps, PlainGlobal, PlainItem, IsGlobal, Text}
 use Rattle.forec_tree.specs.Faults.{Member, here, later}
-use Rattle.forec_tree.specs.Parts.{in_order, Launch, Calls, Blocks, launched, Head}
+use Rattle.forec_tree.specs.Parts.{in_order, Launch, launched, Head}
 use Rattle.forec_tree.specs.Spelling as sp
 use Rattle.forec_tree.specs.Spelling.{Spelt, IsName, joined, listed, tokens, Spells, Whole, Brackets, Indexes, Passes, Arguments}
 use Rattle.forec_tree.specs.SpelledStatements as st

@@ -7,7 +7,7 @@ use Rattle.forec_tree.specs.declared.token.Token.{Token}
 use Rattle.forec_tree.specs.LexedText.{IsLexed}
 use Rattle.forec_tree.specs.SpelledPrograms.{IsSpelled}
 use Rattle.forec_tree.specs.Terms.{Text}
-use Rattle.forec_tree.specs.Faults.{IsFault, IsLeast}
+use Rattle.forec_tree.specs.Faults.{IsFault}
 use Rattle.forec_check.specs.Checked.{Causes}
 use Rattle.forec_check.specs.declared.check_fault.CheckFault.{CheckFault}
 use Rattle.forec_check.specs.declared.check_fault.CheckFault.TheVariants as check
@@ -21,8 +21,7 @@ use Rattle.kernel_lower.specs.declared.limits.Quantity.{Quantity}
 use Rattle.kernel_lower.specs.Refusals as refusals
 use Rattle.kernel_lower.specs.declared.lower_fault.LowerFault.{LowerFault}
 use Rattle.kernel_lower.specs.declared.lower_fault.LowerFault.TheVariants as lower
-use Rattle.forec_engine.specs.Form.{text_forks}
-use Rattle.forec_engine.specs.Judging.{most_bytes, most_levels, Verdict, Accepts, Refuses, OnUnbroken, accepted, beyond, another_form, OnProgram, broken, unbroken, OnTokens, spelled, unspelled, Judged, too_long, stops, too_many, lexed, Says, lexer_fault, check_fault, lower_fault}
+use Rattle.forec_engine.specs.Judging.{most_bytes, most_levels, Verdict, Accepts, Refuses, OnUnbroken, accepted, beyond, OnProgram, broken, unbroken, OnTokens, spelled, unspelled, Judged, too_long, stops, too_many, lexed, Says, lexer_fault, check_fault, lower_fault}
 use Rattle.forec_engine.specs.Counting.{counts_of}
 use Rattle.forec_engine.specs.Laws.{OneVerdict}
 use Rattle.forec_engine.specs.declared.counts.Counts.{Counts}
@@ -42,22 +41,14 @@ OneProgram = (k l : ℕ) (a b : Text) (ts : List Token) → IsSpelled k a ts →
 abbrev fault_at : Place → ℕ → Fault
 fault_at place rule = record { place = place; rule = rule }
 
-never_both_forms : (program : Text) → text_forks program ≡ true → text_forks program ≡ false → ⊥
-never_both_forms program e f = let h : true ≡ false = sym e ∙ f in cc
-
 module _ (one_program : OneProgram) where
   one_on_unbroken : (program : Text) (names : List (List ℕ)) (v w : Verdict) → OnUnbroken program names v → OnUnbroken program names w → v ≡ w
-  one_on_unbroken program names v w (another_form e) (another_form f) = refl
-  one_on_unbroken program names v w (another_form e) (beyond q n f y) = absurd (never_both_forms program e f)
-  one_on_unbroken program names v w (another_form e) (accepted f y) = absurd (never_both_forms program e f)
-  one_on_unbroken program names v w (beyond p m e x) (another_form f) = absurd (never_both_forms program f e)
-  one_on_unbroken program names v w (beyond p m e x) (beyond q n f y) =
+  one_on_unbroken program names v w (beyond p m x) (beyond q n y) =
       let s = one_limit program names p q m n x y in
       ap (λ z. Refuses (why.Limit z m)) s.0 ∙ ap (λ z. Refuses (why.Limit q z)) s.1
-  one_on_unbroken program names v w (beyond p m e x) (accepted f y) = absurd (no_limit program names p m y x)
-  one_on_unbroken program names v w (accepted e x) (another_form f) = absurd (never_both_forms program f e)
-  one_on_unbroken program names v w (accepted e x) (beyond q n f y) = absurd (no_limit program names q n x y)
-  one_on_unbroken program names v w (accepted e x) (accepted f y) = refl
+  one_on_unbroken program names v w (beyond p m x) (accepted y) = absurd (no_limit program names p m y x)
+  one_on_unbroken program names v w (accepted x) (beyond q n y) = absurd (no_limit program names q n x y)
+  one_on_unbroken program names v w (accepted x) (accepted y) = refl
 
   one_on_program : (program : Text) (names : List (List ℕ)) (v w : Verdict) → OnProgram program names v → OnProgram program names w → v ≡ w
   one_on_program program names v w (broken p r x) (broken q s y) =
@@ -107,15 +98,11 @@ only_long text v h (lexed us ms le y t) = absurd (omega arith)
 -- ---- not none
 
 some_on_unbroken : (program : Text) (names : List (List ℕ)) → ((v : Verdict) → OnUnbroken program names v → ⊥) → ⊥
-some_on_unbroken program names never = by (text_forks program) refl
+some_on_unbroken program names never = by (limits_kept program names)
   where
-    of_limits : text_forks program ≡ false → WithinLimits (kernel_of program names) ⊎ ((q : Quantity) × IsLimit program names q (limit_of q)) → ⊥
-    of_limits e (inl w) = never (Accepts (counts_of program names) (kernel_of program names)) (accepted e w)
-    of_limits e (inr (q, x)) = never (Refuses (why.Limit q (limit_of q))) (beyond q (limit_of q) e x)
-
-    by : (t : Bool) → text_forks program ≡ t → ⊥
-    by true e = never (Refuses why.Form) (another_form e)
-    by false e = of_limits e (limits_kept program names)
+    by : WithinLimits (kernel_of program names) ⊎ ((q : Quantity) × IsLimit program names q (limit_of q)) → ⊥
+    by (inl w) = never (Accepts (counts_of program names) (kernel_of program names)) (accepted w)
+    by (inr (q, x)) = never (Refuses (why.Limit q (limit_of q))) (beyond q (limit_of q) x)
 
 some_on_program : (program : Text) (names : List (List ℕ)) → ((v : Verdict) → OnProgram program names v → ⊥) → ⊥
 some_on_program program names never = some_on_unbroken program names (λ v x. never v (unbroken none x))
@@ -162,17 +149,17 @@ checked_exactly program names check.OutOfMemory h = tt
 pub told_by_check : (program : Text) (names : List (List ℕ)) (f : CheckFault) (e : JudgeFault) → Causes f program names → e ≡ check_fault f → Says (OnProgram program names) (given e)
 told_by_check program names f e h is = subst (λ x. Says (OnProgram program names) (given x)) (sym is) (checked_exactly program names f h)
 
-lowered_exactly : (program : Text) (names : List (List ℕ)) (f : LowerFault) → text_forks program ≡ false → refusals.Causes f program names → Says (OnUnbroken program names) (given (lower_fault f))
-lowered_exactly program names (lower.Limit what count) e h = beyond what count e h
-lowered_exactly program names lower.OutOfMemory e h = tt
+lowered_exactly : (program : Text) (names : List (List ℕ)) (f : LowerFault) → refusals.Causes f program names → Says (OnUnbroken program names) (given (lower_fault f))
+lowered_exactly program names (lower.Limit what count) h = beyond what count h
+lowered_exactly program names lower.OutOfMemory h = tt
 
-pub told_by_lower : (program : Text) (names : List (List ℕ)) (f : LowerFault) (e : JudgeFault) → text_forks program ≡ false → refusals.Causes f program names → e ≡ lower_fault f →
+pub told_by_lower : (program : Text) (names : List (List ℕ)) (f : LowerFault) (e : JudgeFault) → refusals.Causes f program names → e ≡ lower_fault f →
     Says (OnUnbroken program names) (given e)
-told_by_lower program names f e form h is = subst (λ x. Says (OnUnbroken program names) (given x)) (sym is) (lowered_exactly program names f form h)
+told_by_lower program names f e h is = subst (λ x. Says (OnUnbroken program names) (given x)) (sym is) (lowered_exactly program names f h)
 
 -- a kernel that is the text's
-pub told_kernel : (program : Text) (names : List (List ℕ)) (c : Counts) (k : PlainKernel) → text_forks program ≡ false → c ≡ counts_of program names → k ≡ kernel_of program names → WithinLimits (kernel_of program names) →
+pub told_kernel : (program : Text) (names : List (List ℕ)) (c : Counts) (k : PlainKernel) → c ≡ counts_of program names → k ≡ kernel_of program names → WithinLimits (kernel_of program names) →
     OnUnbroken program names (Accepts c k)
-told_kernel program names c k e counts kernel within =
+told_kernel program names c k counts kernel within =
     subst (λ x. OnUnbroken program names (Accepts x k)) (sym counts)
-    (subst (λ x. OnUnbroken program names (Accepts (counts_of program names) x)) (sym kernel) (accepted e within))
+    (subst (λ x. OnUnbroken program names (Accepts (counts_of program names) x)) (sym kernel) (accepted within))

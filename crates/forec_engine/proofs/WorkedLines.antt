@@ -1,5 +1,5 @@
 -- Worked words, counts and lines, computed.
-use Rattle.std.proofs.Common.{ℕ, ◌≡◌, pos, false, Some, None, [], ◌∷◌, refl, codes}
+use Rattle.std.proofs.Common.{ℕ, ◌≡◌, false, Some, None, [], ◌∷◌, refl, codes}
 use Rattle.std.specs.Fmt.{digits}
 use Rattle.forec_tree.specs.declared.tree.Name.{Name}
 use Rattle.forec_tree.specs.declared.tree.GlobalKind.{GlobalKind}

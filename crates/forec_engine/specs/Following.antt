@@ -1,10 +1,11 @@
 -- What a program that runs stands for.
-use Rattle.std.specs.Prelude.{◌≡◌, ℕ, true, List}
+use Rattle.std.specs.Prelude.{◌≡◌, true, List}
 use Rattle.forec_kernel.specs.Composed.{Turn, state_after}
 use Rattle.forec_kernel.specs.Shapes.{PlainKernel, plain_kernel}
 use Rattle.forec_kernel.specs.Ticks.{State, Fresh}
 use Rattle.thread_code.specs.Alone.{Stands}
-use Rattle.core_host.specs.Runs.{HasRun, code_of, is_live}
+use Rattle.core_host.specs.Hosted.{code_of, is_live}
+use Rattle.core_host.specs.Runs.{HasRun}
 use Rattle.forec_engine.specs.declared.runner.Runner.{Runner}
 
 -- the kernel that it runs

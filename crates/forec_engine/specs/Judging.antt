@@ -1,5 +1,5 @@
 -- What becomes of a text.
-use Rattle.std.specs.Prelude.{◌≡◌, ◌≤◌, ◌<◌, ℕ, true, false, List, ◌++◌, length, codes, decimal, Result, Ok, Err}
+use Rattle.std.specs.Prelude.{◌≤◌, ◌<◌, ℕ, List, ◌++◌, length, codes, decimal, Result, Ok, Err}
 use Rattle.forec_base.specs.declared.Place.{Place}
 use Rattle.forec_kernel.specs.Shapes.{PlainKernel, plain_kernel}
 use Rattle.forec_tree.specs.declared.fault.Fault.{Fault}
@@ -19,7 +19,6 @@ use Rattle.kernel_lower.specs.declared.lower_fault.LowerFault.TheVariants as low
 use Rattle.kernel_lower.specs.declared.limits.Quantity.{Quantity}
 use Rattle.kernel_lower.specs.declared.limits.Quantity.TheVariants.{Threads, Words, Globals, Tables, Terms, Depth}
 use Rattle.forec_engine.specs.Counting.{counts_of}
-use Rattle.forec_engine.specs.Form.{text_forks}
 use Rattle.forec_engine.specs.declared.counts.Counts.{Counts}
 use Rattle.forec_engine.specs.declared.judging.Accepted.{Accepted}
 use Rattle.forec_engine.specs.declared.refusal.Refusal.{Refusal}
@@ -54,7 +53,6 @@ refusal_line (why.Lex place) = refused_at place (codes " lex\n")
 refusal_line (why.Many place) = refused_at place (codes " many\n")
 refusal_line why.Syntax = codes "refused syntax\n"
 refusal_line (why.Rule place rule) = refused_at place (codes " rule " ++ decimal rule ++ codes "\n")
-refusal_line why.Form = codes "refused form\n"
 refusal_line (why.Limit what count) = limit_words what ++ decimal count ++ codes "\n"
 
 -- ---- verdicts, in the order of the refusals
@@ -64,12 +62,10 @@ pub data Verdict : Type 0 where
   Accepts : Counts → PlainKernel → Verdict
   Refuses : Refusal → Verdict
 
--- the verdict on a program that breaks no rule: its form, and then its limits are looked at
+-- the verdict on a program that breaks no rule: its limits are looked at
 pub data OnUnbroken (program : Text) (names : List (List ℕ)) : Verdict → Type 0 where
-  another_form : text_forks program ≡ true → OnUnbroken program names (Refuses why.Form)
-  beyond : (what : Quantity) (count : ℕ) → text_forks program ≡ false → IsLimit program names what count → OnUnbroken program names (Refuses (why.Limit what count))
-  accepted : text_forks program ≡ false → WithinLimits (kernel_of program names)
-      → OnUnbroken program names (Accepts (counts_of program names) (kernel_of program names))
+  beyond : (what : Quantity) (count : ℕ) → IsLimit program names what count → OnUnbroken program names (Refuses (why.Limit what count))
+  accepted : WithinLimits (kernel_of program names) → OnUnbroken program names (Accepts (counts_of program names) (kernel_of program names))
 
 -- the verdict on a program: the least of its faults is told
 pub data OnProgram (program : Text) (names : List (List ℕ)) : Verdict → Type 0 where

@@ -3,7 +3,6 @@ pub mod Commands
 pub mod Counting
 pub mod Ends
 pub mod Following
-pub mod Form
 pub mod Judging
 pub mod KernelNames
 pub mod Laws

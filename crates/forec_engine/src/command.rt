@@ -32,12 +32,13 @@ const USAGE: &[u8] =
     b"usage: forec run|check|threads|code|explain|gen PROGRAM [--cores N] [--place LIST] [--budget B] [--order N]\n";
 
 // Makes all that a run needs, and runs. A tick may have so many units.
-fn start<S: Source, K: Sink>(
+fn start<S: Source, K: Sink, G: Gate>(
     alloc: Global,
     kernel: Kernel,
     budget: u64,
     trace: &mut S,
     out: &mut K,
+    gate: &G,
 ) -> Status
     requires { budget ≤ 2 ^ 62 }
     ensures own { IsOwn result → IfSome (S.left trace.old)
@@ -62,7 +63,7 @@ fn start<S: Source, K: Sink>(
     let Ok(code) = generate(alloc, &kernel) else {
         return Status::NoMemory;
     };
-    let Ok(mut runner) = Runner::load(alloc, kernel, code) else {
+    let Ok(mut runner) = Runner::load(alloc, kernel, &code) else {
         return Status::NoMemory;
     };
     run(
@@ -70,6 +71,7 @@ fn start<S: Source, K: Sink>(
         &inputs,
         &mut runner,
         budget,
+        gate,
         &mut waiting,
         trace,
         out,
@@ -127,12 +129,13 @@ fn list<K: Sink>(alloc: Global, kernel: &Kernel, out: &mut K) -> Status
 }
 
 // Does what a command asks of a text that is accepted.
-fn answer<S: Source, K: Sink>(
+fn answer<S: Source, K: Sink, G: Gate>(
     alloc: Global,
     command: Command,
     accepted: Accepted,
     trace: &mut S,
     out: &mut K,
+    gate: &G,
 ) -> Status
     requires { HasSmallBudget command }
     ensures own { IsOwn result → TellsTrace command (S.left trace.old) → (r : Report)
@@ -148,19 +151,20 @@ fn answer<S: Source, K: Sink>(
     ensures usage { result ≢ Status.Usage }
 {
     match command {
-        Command::Run { budget } => start(alloc, accepted.kernel, budget, trace, out),
+        Command::Run { budget } => start(alloc, accepted.kernel, budget, trace, out, gate),
         Command::Check => tell(alloc, accepted.counts, out),
         Command::Code => list(alloc, &accepted.kernel, out),
     }
 }
 
 // Does what a command asks of a text.
-fn run_text<S: Source, K: Sink>(
+fn run_text<S: Source, K: Sink, G: Gate>(
     alloc: Global,
     command: Command,
     text: &[u8],
     trace: &mut S,
     out: &mut K,
+    gate: &G,
 ) -> Status
     requires short { length text.now ≤ 1048576 }
     requires small { HasSmallBudget command }
@@ -175,7 +179,7 @@ fn run_text<S: Source, K: Sink>(
     ensures usage { result ≢ Status.Usage }
 {
     match judge(alloc, text) {
-        Ok(accepted) => answer(alloc, command, accepted, trace, out),
+        Ok(accepted) => answer(alloc, command, accepted, trace, out, gate),
         Err(JudgeFault::Refused { why }) => refuse(alloc, why, out),
         Err(JudgeFault::OutOfMemory) => Status::NoMemory,
     }
@@ -216,12 +220,11 @@ fn run_command<T: Texts, S: Source, K: Sink, G: Gate>(
     // The usage line comes only where the words are no command.
     ensures usage { result ≡ Status.Usage → command_of (map string_bytes words.now) ≡ None }
 {
-    let _ = gate;
     let Some((command, name)) = read_words(words) else {
         return say(out, USAGE, Status::Usage);
     };
     match texts.read(alloc, name, MOST_BYTES) {
-        Ok(text) => run_text(alloc, command, &text, trace, out),
+        Ok(text) => run_text(alloc, command, &text, trace, out, gate),
         Err(TextFault::Failed) => Status::ReadFault,
         Err(TextFault::OutOfMemory) => Status::NoMemory,
         Err(TextFault::Long) => refuse(alloc, Refusal::Long, out),

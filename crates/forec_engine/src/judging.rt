@@ -1,16 +1,14 @@
 // From a text to its kernel, or to the first cause for which it is refused.
-ghost use Rattle.std.specs.Prelude.{◌≡◌, ◌≤◌, length, false};
+ghost use Rattle.std.specs.Prelude.{◌≡◌, ◌≤◌, length};
 ghost use Rattle.std.specs.List.{All};
 ghost use Rattle.forec_tree.specs.LexedText.{IsNumbered, AreDistinct};
 ghost use Rattle.forec_tree.specs.Plain as tree;
 ghost use Rattle.forec_check.specs.Checked.{text_of, names_of};
 ghost use Rattle.forec_check.specs.Checks.{Distinct, IdsBelow};
-ghost use Rattle.forec_engine.specs.Form.{text_forks};
 ghost use Rattle.forec_engine.specs.Judging.{Judged, OnTokens, OnProgram, OnUnbroken, Says, lexer_fault, check_fault, lower_fault};
 ghost use Rattle.forec_engine.specs.Laws.{OneVerdict};
 
 use crate::counts::{Counts, count};
-use crate::form::program_forks;
 use crate::refusal::{JudgeFault, Refusal};
 use forec_base::Labels;
 use forec_check::{CheckFault, Checked, check};
@@ -40,8 +38,7 @@ fn of_lower(fault: LowerFault) -> JudgeFault
     }
 }
 
-fn accept_one(alloc: Global, checked: &Checked<'_>) -> Result<Accepted, JudgeFault>
-    requires { text_forks (text_of checked.now) ≡ false }
+fn accept(alloc: Global, checked: &Checked<'_>) -> Result<Accepted, JudgeFault>
     ensures { Says (OnUnbroken (text_of checked.now) (names_of checked.now)) result }
 {
     match lower(alloc, checked, checked.names()) {
@@ -51,15 +48,6 @@ fn accept_one(alloc: Global, checked: &Checked<'_>) -> Result<Accepted, JudgeFau
         },
         Err(fault) => Err(of_lower(fault)),
     }
-}
-
-fn accept(alloc: Global, checked: &Checked<'_>) -> Result<Accepted, JudgeFault>
-    ensures { Says (OnUnbroken (text_of checked.now) (names_of checked.now)) result }
-{
-    if program_forks(checked.program()) {
-        return Err(JudgeFault::Refused { why: Refusal::Form });
-    }
-    accept_one(alloc, checked)
 }
 
 // What a fault of the check is for the text.

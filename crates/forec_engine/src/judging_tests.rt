@@ -20,18 +20,54 @@ fn refused(why: Refusal) -> Option<JudgeFault> {
     Some(JudgeFault::Refused { why })
 }
 
+/// The thread instances of a text that is accepted, as they are counted and as its kernel has them.
+fn threads(alloc: Global, text: &[u8]) -> Option<(u64, usize)> {
+    if text.len() > 1_048_576 {
+        return None;
+    }
+    match judge(alloc, text) {
+        Ok(accepted) => Some((
+            accepted.counts.threads,
+            accepted.kernel.parts().threads.len(),
+        )),
+        Err(_) => None,
+    }
+}
+
 #[test]
-fn programs_of_another_form(rt: HostRuntime) {
-    for text in [
-        b"int f(int a, int b) { return a; } shared int s combine all with f; void main(void) { }".as_slice(),
-        b"int f(int a, int b) { return a; } shared output int s = 1 combine mod with f; void main(void) { }",
-        b"void main(void) { par({ }); }",
-        b"void f(void) { pause; } void main(void) { while (1) { pause; if (1) { par(f); } } }",
-        b"void unused(void) { for (int i = 0; i < 3; i++) par({ }); } void main(void) { }",
-        b"input int r; void main(void) { abort { pause; } when (r); }",
-        b"input int r; void main(void) { weak abort { pause; } when immediate (r); }",
+fn threads_of_a_kernel(rt: HostRuntime) {
+    for (text, want) in [
+        (
+            b"int f(int a, int b) { return a; } shared int s combine all with f; void main(void) { }".as_slice(),
+            1,
+        ),
+        (
+            b"int f(int a, int b) { return a; } shared output int s = 1 combine mod with f; void main(void) { }",
+            1,
+        ),
+        (b"void main(void) { par({ }); }", 2),
+        (
+            b"void f(void) { pause; } void main(void) { while (1) { pause; if (1) { par(f); } } }",
+            2,
+        ),
+        (
+            b"void f(void) { par({ }, { }); } void main(void) { par(f, { }); f(); }",
+            7,
+        ),
+        (
+            b"void unused(void) { for (int i = 0; i < 3; i++) par({ }); } void main(void) { }",
+            1,
+        ),
+        (
+            b"input int r; void main(void) { abort { pause; } when (r); }",
+            1,
+        ),
+        (
+            b"input int r; void main(void) { weak abort { par({ pause; }); } when immediate (r); }",
+            2,
+        ),
     ] {
-        assert_eq!(rt; why(rt.alloc(), text), refused(Refusal::Form));
+        assert_eq!(rt; threads(rt.alloc(), text), Some((want as u64, want)));
     }
 }
 

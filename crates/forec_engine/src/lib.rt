@@ -3,13 +3,13 @@
 
 mod command;
 mod counts;
-mod form;
 mod found;
 mod judging;
 #[cfg(test)]
 mod judging_tests;
 mod laws;
 mod names;
+mod placing;
 mod refusal;
 mod runner;
 mod sink;

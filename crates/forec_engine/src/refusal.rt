@@ -16,8 +16,6 @@ pub enum Refusal {
     Syntax,
     /// Its program breaks this rule, from 1 to 24, at this place, and none before it.
     Rule { place: Place, rule: u8 },
-    /// A shared variable, a `par` or an abort stands in its program.
-    Form,
     /// Its program passes this limit, `count`, and none before it.
     Limit { what: Quantity, count: u64 },
 }

@@ -7,45 +7,46 @@ ghost use Rattle.forec_kernel.specs.Ticks.{State, Fresh, tick, goes_on};
 ghost use Rattle.thread_code.specs.Alone.{Stands};
 ghost use Rattle.thread_code.specs.Plain.{plain_code};
 ghost use Rattle.core_host.specs.Outcomes.{HasOutputs};
-ghost use Rattle.core_host.specs.Runs.{code_of, is_live};
+ghost use Rattle.core_host.specs.Hosted.{IsWhole, code_of, is_live};
 
 use crate::found::Found;
-use core_host::Host;
-use forec_base::{OutOfMemory, Source};
+use crate::placing::on_one_core;
+use copy_slots::LocalPort;
+use core_host::{ForecWork, Host, local_port};
+use forec_base::{Gate, OutOfMemory, Source};
 use forec_kernel::{Kernel, Outcome};
 use std::alloc::Global;
 use thread_code::Code;
 use trace_rows::{Next, RowFault, Rows};
 
-/// A program that runs: its kernel, the host of its code, the values of the inputs in the next tick, and those of
-/// the outputs after the last one, each in order of declaration.
+/// A program that runs: its kernel, the host of all threads of its code, the values of the inputs in the next tick,
+/// and those of the outputs after the last one, each in order of declaration.
 #[derive(Drop)]
-pub struct Runner {
+pub struct Runner<'c> {
     pub kernel: Kernel,
-    pub host: Host,
+    pub host: Host<'c, LocalPort<ForecWork>>,
     pub row: Vec<i32>,
     pub outputs: Vec<i32>,
+    ghost whole: { IsWhole host },
     ghost inputs: { length row.items ≡ length (code_of host).shape.inputs },
     ghost given: { length outputs.items ≡ length (code_of host).shape.outputs },
 }
 
-impl Runner {
+impl<'c> Runner<'c> {
     ghost use Rattle.forec_engine.specs.Following.{Follows, kernel_in};
     ghost use Rattle.forec_engine.specs.Progress.{FoundSays};
 
     /// Nothing has run. It takes all the memory that the ticks need.
-    pub fn load(alloc: Global, kernel: Kernel, code: Code) -> Result<Runner, OutOfMemory>
-        requires { Stands (plain_code code) (plain_kernel kernel) }
+    pub fn load(alloc: Global, kernel: Kernel, code: &'c Code) -> Result<Runner<'c>, OutOfMemory>
+        requires { Stands (plain_code code.now) (plain_kernel kernel) }
         ensures kernel { IfOk result (λ r. kernel_in r ≡ plain_kernel kernel) }
         ensures follows { IfOk result (Follows Fresh) }
     {
-        // A text without `par` has one thread.
-        if code.parts().threads.len() != 1 {
-            return Err(OutOfMemory);
-        }
         let row = vec![in alloc; 0i32; code.shape().inputs.len()]?;
         let outputs = vec![in alloc; 0i32; code.shape().outputs.len()]?;
-        let host = Host::load(alloc, code)?;
+        let placement = on_one_core(alloc, kernel.parts().threads.len())?;
+        let port = local_port(alloc, code)?;
+        let host = Host::load(alloc, code, &placement, &[0], port)?;
         Ok(Runner {
             kernel,
             host,
@@ -81,7 +82,7 @@ impl Runner {
     }
 
     /// Runs one tick. Where it pauses or ends the outputs get their values.
-    pub fn tick(&mut self, budget: u64) -> Outcome
+    pub fn tick<G: Gate>(&mut self, budget: u64, gate: &G) -> Outcome
         requires live { is_live self.old.host ≡ true }
         requires small { budget ≤ 2 ^ 62 }
         ensures kernel { kernel_in self.new ≡ kernel_in self.old }
@@ -94,6 +95,6 @@ impl Runner {
     {
         // Its clause tells that the kernel is well formed.
         let _ = self.kernel.shape();
-        self.host.alone(&self.row, budget, &mut self.outputs)
+        self.host.alone(&self.row, budget, gate, &mut self.outputs)
     }
 }

@@ -17,7 +17,7 @@ use crate::found::{Found, Unread};
 use crate::runner::Runner;
 use crate::status::Status;
 use crate::waiting::Waiting;
-use forec_base::{Failed, Labels, Sink, Source};
+use forec_base::{Failed, Gate, Labels, Sink, Source};
 use forec_kernel::Outcome;
 use std::alloc::Global;
 use trace_rows::{RowFault, Rows};
@@ -42,9 +42,10 @@ fn send_due<K: Sink>(rows: &Rows, waiting: &mut Waiting, out: &mut K) -> Result<
 
 /// Runs a program over the rows that are left. A tick may have so many units. No read of the trace is made while the
 /// line of a tick waits.
-pub fn run_rows<S: Source, K: Sink>(
-    runner: &mut Runner,
+pub fn run_rows<S: Source, K: Sink, G: Gate>(
+    runner: &mut Runner<'_>,
     budget: u64,
+    gate: &G,
     rows: &mut Rows,
     waiting: &mut Waiting,
     trace: &mut S,
@@ -87,7 +88,7 @@ pub fn run_rows<S: Source, K: Sink>(
             }
             Found::Row => {}
         }
-        let outcome = runner.tick(budget);
+        let outcome = runner.tick(budget, gate);
         waiting.put_outcome(row, outcome, &runner.outputs, budget);
         match outcome {
             Outcome::Paused => row += 1,
@@ -118,11 +119,12 @@ fn start_rows<S: Source>(alloc: Global, trace: &mut S, inputs: &Labels) -> Resul
 }
 
 /// Reads the header, and runs over the rows.
-pub fn run<S: Source, K: Sink>(
+pub fn run<S: Source, K: Sink, G: Gate>(
     alloc: Global,
     inputs: &Labels,
-    runner: &mut Runner,
+    runner: &mut Runner<'_>,
     budget: u64,
+    gate: &G,
     waiting: &mut Waiting,
     trace: &mut S,
     out: &mut K,
@@ -144,7 +146,7 @@ pub fn run<S: Source, K: Sink>(
     ensures usage { result ≢ Status.Usage }
 {
     match start_rows(alloc, trace, inputs) {
-        Ok(mut rows) => run_rows(runner, budget, &mut rows, waiting, trace, out),
+        Ok(mut rows) => run_rows(runner, budget, gate, &mut rows, waiting, trace, out),
         Err(Unread::OutOfMemory) => Status::NoMemory,
         Err(Unread::Failed) => Status::ReadFault,
         Err(Unread::Stops(fault)) => {

@@ -204,7 +204,6 @@ impl Waiting {
             Refusal::Many { place } => self.put_refused_at(place, b" many\n"),
             Refusal::Syntax => self.put(b"refused syntax\n"),
             Refusal::Rule { place, rule } => self.put_broken(place, rule),
-            Refusal::Form => self.put(b"refused form\n"),
             Refusal::Limit { what, count } => self.put_limit(what, count),
         }
     }

@@ -1,4 +1,3 @@
-use Rattle.std.proofs.Common.{refl}
 use Rattle.forec_kernel.specs.Shapes.{plain_kernel}
 use Rattle.forec_engine.specs.Calls.{AppendsFront}
 use Rattle.forec_engine.specs.Ends.{Given}

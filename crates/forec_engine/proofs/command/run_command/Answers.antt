@@ -1,4 +1,4 @@
-use Rattle.std.proofs.Common.{map, string_bytes, sym, ap, subst, List, ℕ, ◌≡◌, ◌∙◌, Some, Option, inr, refl}
+use Rattle.std.proofs.Common.{map, string_bytes, sym, ap, subst, List, ℕ, ◌≡◌, ◌∙◌, Some, inr, refl}
 use Rattle.forec_engine.specs.Calls.{AppendsFront}
 use Rattle.forec_engine.specs.Commands.{usage, Of_usage, TextReport, TellsTrace}
 use Rattle.forec_engine.specs.Ends.{Given, WantedByText}

@@ -1,8 +1,12 @@
-use Rattle.std.proofs.Common.{ap, ◌∙◌, sym}
-use Rattle.forec_tree.specs.Plain as tree
-use Rattle.forec_engine.specs.Form.{text_forks}
-use Rattle.forec_engine.specs.Judging.{another_form}
+use Rattle.forec_kernel.specs.Shapes.{plain_kernel}
+use Rattle.forec_check.specs.Checked.{text_of, names_of}
+use Rattle.forec_engine.proofs.Verdicts.{told_kernel, told_by_lower}
 use Rattle.forec_engine.proofs.judging.accept.Goals as goal
 
-pub returns-then-program_forks : goal.returns-then-program_forks
-returns-then-program_forks c = another_form (ap (λ p. text_forks (tree.program p)) (sym c.program.ensures) ∙ sym c.program_forks.ensures ∙ c.if-program_forks.true)
+pub returns-in-Ok-count : goal.returns-in-Ok-count
+returns-in-Ok-count c =
+    told_kernel (text_of c.args.checked.now) (names_of c.args.checked.now) c.in-Ok-count.counts (plain_kernel c.in-Ok.kernel) c.in-Ok-count.ensures
+    c.in-Ok.ensures.kernel c.in-Ok.ensures.within
+
+pub returns-in-Err : goal.returns-in-Err
+returns-in-Err c = told_by_lower (text_of c.args.checked.now) (names_of c.args.checked.now) c.in-Err.fault c.of_lower.result c.in-Err.ensures.fault c.of_lower.ensures

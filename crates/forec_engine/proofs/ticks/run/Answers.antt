@@ -1,4 +1,4 @@
-use Rattle.std.proofs.Common.{List, ℕ, sym, ap, ◌∙◌, refl, length}
+use Rattle.std.proofs.Common.{ap, ◌∙◌, refl, length}
 use Rattle.forec_engine.specs.Following.{kernel_in}
 use Rattle.forec_engine.specs.Report.{trace_report}
 use Rattle.trace_rows.specs.Report.{row_line}
@@ -9,7 +9,7 @@ use Rattle.forec_engine.proofs.Heading.{head_failed, head_fault, head_own, head_
 use Rattle.forec_engine.proofs.ticks.run.Goals as goal
 
 pub run_rows-requires-clause-inputs : goal.run_rows-requires-clause-inputs
-run_rows-requires-clause-inputs g c =
+run_rows-requires-clause-inputs g c = λ _ _.
     c.in-Ok.ensures.ok.each ∙ ap length c.requires.inputs ∙ inputs_each (kernel_in c.args.runner.now)
 
 pub returns-in-Ok-clause-own : goal.returns-in-Ok-clause-own

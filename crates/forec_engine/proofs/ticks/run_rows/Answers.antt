@@ -1,12 +1,11 @@
 use Rattle.std.proofs.Common.{◌≡◌, ◌+◌, ◌-◌, List, ℕ, length, sym, ap, subst, ◌∙◌, refl, arith}
 use Rattle.forec_kernel.specs.Ticks.{State, tick, goes_on}
-use Rattle.core_host.specs.Runs.{code_of}
 use Rattle.forec_engine.specs.Following.{Follows, kernel_in}
 use Rattle.forec_engine.specs.Report.{Report, tick_lines}
 use Rattle.trace_rows.specs.Report.{rows_line, row_line}
 use Rattle.forec_engine.specs.WaitingRoom.{Gains}
 use Rattle.forec_engine.specs.declared.status.Status.TheVariants as status
-use Rattle.forec_engine.proofs.Running.{Run, Stands_at, Reached, reached_start, reached_sent, reached_more, row_within, waited, at_end, at_fault, own_all, front_all, front_now, stop_own, stop_front, failed, fell_since, stop_status}
+use Rattle.forec_engine.proofs.Running.{Run, Reached, reached_start, reached_sent, reached_more, row_within, waited, at_end, at_fault, own_all, front_all, front_now, stop_own, stop_front, failed, fell_since, stop_status}
 use Rattle.forec_engine.proofs.TickLines.{put_tick_lines, names_each}
 use Rattle.forec_engine.proofs.ticks.run_rows.Goals as goal
 
@@ -31,9 +30,6 @@ pub next_row-requires-clause-room : goal.next_row-requires-clause-room
 next_row-requires-clause-room g c =
     let i = c.ticks.invariant in
     ap length i.reached.stands.places ∙ c.requires.inputs ∙ ap (λ k. length k.shape.inputs) (sym i.kernel) ∙ ap (λ s. length s.inputs) (sym i.reached.follows.stands.shape)
-
-pub tick-outcome-requires-clause-live : goal.tick-outcome-requires-clause-live
-tick-outcome-requires-clause-live g c = c.next_row.ensures.live ∙ c.ticks.invariant.live
 
 pub put_outcome-requires-clause-values : goal.put_outcome-requires-clause-values
 put_outcome-requires-clause-values g c =

@@ -1,6 +1,6 @@
 use Rattle.std.proofs.Common.{◌≡◌, ◌≤◌, ◌-◌, true}
 use Rattle.std.specs.Io.KnownBytes.{IsAtEnd}
-use Rattle.core_host.specs.Runs.{code_of, is_live}
+use Rattle.core_host.specs.Hosted.{is_live}
 use Rattle.forec_engine.specs.Following.{Follows, kernel_in}
 use Rattle.forec_engine.proofs.Running.{Reached}
 use Rattle.forec_engine.proofs.ticks.run_rows.Given as goal

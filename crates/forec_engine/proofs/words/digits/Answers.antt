@@ -1,4 +1,4 @@
-use Rattle.std.proofs.Common.{◌≡◌, ◌≤◌, ℕ, min, length, take, sym, ap, ◌∙◌, Some, arith}
+use Rattle.std.proofs.Common.{◌≤◌, min, length, sym, ap, ◌∙◌, Some, arith}
 use Rattle.std.specs.Option.{option_map}
 use Rattle.std.proofs.lemmas.List.{take_all}
 use Rattle.trace_rows.specs.Numbers.{digits_value}

@@ -1,0 +1,97 @@
+// The top call over stores in memory.
+
+use forec_base::{MemSink, MemSource, MemTexts, NamedText, OpenGate};
+use forec_engine::{Status, forec};
+use std::alloc::Global;
+use std::process::Abort;
+use std::test::Fail;
+
+/// How streams behave: the most bytes of a read and of a write, and the numbers of the calls that fail.
+#[derive(Drop)]
+pub struct Streams {
+    pub read: usize,
+    pub read_fails: Vec<u64>,
+    pub write: usize,
+    pub write_fails: Vec<u64>,
+}
+
+/// What is held, and the status.
+#[derive(Drop)]
+pub struct Ended {
+    pub held: Vec<u8>,
+    pub status: Status,
+}
+
+/// Streams that take and give all at once, of which no call fails.
+pub fn whole(alloc: Global) -> Streams {
+    Streams {
+        read: 65536,
+        read_fails: Vec::new(alloc),
+        write: 65536,
+        write_fails: Vec::new(alloc),
+    }
+}
+
+/// Streams that take and give single bytes, of which these calls fail; 0 is none.
+pub fn single(alloc: Global, read: u64, write: u64) -> Result<Streams, Fail> {
+    Ok(Streams {
+        read: 1,
+        read_fails: vec![in alloc; read; 1]?,
+        write: 1,
+        write_fails: vec![in alloc; write; 1]?,
+    })
+}
+
+/// Runs words over a store with one text, named `P`.
+pub fn run(
+    rt: &impl Abort,
+    alloc: Global,
+    words: &[&str],
+    text: &[u8],
+    trace: &[u8],
+    streams: Streams,
+) -> Result<Ended, Fail> {
+    assert!(rt; streams.read > 0 && streams.write > 0);
+    let mut owned = Vec::new(alloc);
+    for word in words {
+        owned.push(String::from_str(alloc, word)?)?;
+    }
+    let mut files = Vec::new(alloc);
+    files.push(NamedText {
+        name: String::from_str(alloc, "P")?,
+        bytes: text.to_vec(alloc)?,
+    })?;
+    let mut texts = MemTexts::new(files, Vec::new(alloc));
+    let mut source = MemSource::pieces(trace.to_vec(alloc)?, streams.read_fails, streams.read);
+    let mut sink = MemSink::pieces(alloc, 200_000, streams.write_fails, streams.write)?;
+    let status = forec(alloc, &owned, &mut texts, &mut source, &mut sink, &OpenGate);
+    Ok(Ended {
+        held: sink.bytes().to_vec(alloc)?,
+        status,
+    })
+}
+
+/// Runs a text over a trace, once by large pieces and once by single bytes: each time this is held in the end.
+pub fn prints(
+    rt: &impl Abort,
+    alloc: Global,
+    text: &[u8],
+    trace: &[u8],
+    want: &[u8],
+    status: Status,
+) -> Result<(), Fail> {
+    for streams in [whole(alloc), single(alloc, 0, 0)?] {
+        let end = run(rt, alloc, &["run", "P"], text, trace, streams)?;
+        assert_eq!(rt; end.held.as_slice(), want);
+        assert_eq!(rt; end.status, status);
+    }
+    Ok(())
+}
+
+/// Judges a text: this is held in the end.
+pub fn counts(rt: &impl Abort, alloc: Global, text: &[u8], want: &[u8], status: Status) -> Result<(), Fail> {
+    let end = run(rt, alloc, &["check", "P"], text, b"", single(alloc, 1, 0)?)?;
+    assert_eq!(rt; end.held.as_slice(), want);
+    assert_eq!(rt; end.status, status);
+    Ok(())
+}
