@@ -54,7 +54,12 @@ fn aborts(rt: HostRuntime) -> Result<(), Fail> {
             b"tick 1 o=1\ntick 2 o=2\ntick 3 o=103\ntick 4 o=104\nrows 4\n",
             Status::Done,
         ),
-        (STRONG_IMMEDIATE, b"r\n1\n", b"tick 1 o=100\nrows 1\n", Status::Done),
+        (
+            STRONG_IMMEDIATE,
+            b"r\n1\n",
+            b"tick 1 o=100\nrows 1\n",
+            Status::Done,
+        ),
         (
             WEAK_IMMEDIATE,
             b"r\n1\n0\n",

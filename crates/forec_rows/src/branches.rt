@@ -71,8 +71,18 @@ fn branches(rt: HostRuntime) -> Result<(), Fail> {
             b"tick 1 s=5\ntick 2 s=10\nend 2\n".as_slice(),
             Status::Done,
         ),
-        (NEW, b"\n\n\n", b"tick 1 s=5\ntick 2 s=5\nend 2\n", Status::Done),
-        (MOD, b"\n\n\n", b"tick 1 s=5\ntick 2 s=5\nend 2\n", Status::Done),
+        (
+            NEW,
+            b"\n\n\n",
+            b"tick 1 s=5\ntick 2 s=5\nend 2\n",
+            Status::Done,
+        ),
+        (
+            MOD,
+            b"\n\n\n",
+            b"tick 1 s=5\ntick 2 s=5\nend 2\n",
+            Status::Done,
+        ),
         (MINUS, b"\n\n", b"tick 1 s=5\nend 1\n", Status::Done),
         (NESTED, b"\n\n", b"tick 1 s=21\nend 1\n", Status::Done),
         (AGAIN, b"\n\n", b"tick 1 s=14\nend 1\n", Status::Done),
@@ -117,7 +127,14 @@ fn many_threads(rt: HostRuntime) -> Result<(), Fail> {
         b"refused limit threads 256\n",
         Status::Refused,
     )?;
-    prints(&rt, alloc, SEVEN_LEVELS, b"\n\n", b"tick 1\nend 1\n", Status::Done)?;
+    prints(
+        &rt,
+        alloc,
+        SEVEN_LEVELS,
+        b"\n\n",
+        b"tick 1\nend 1\n",
+        Status::Done,
+    )?;
     counts(
         &rt,
         alloc,

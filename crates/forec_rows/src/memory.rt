@@ -89,7 +89,13 @@ pub fn prints(
 }
 
 /// Judges a text: this is held in the end.
-pub fn counts(rt: &impl Abort, alloc: Global, text: &[u8], want: &[u8], status: Status) -> Result<(), Fail> {
+pub fn counts(
+    rt: &impl Abort,
+    alloc: Global,
+    text: &[u8],
+    want: &[u8],
+    status: Status,
+) -> Result<(), Fail> {
     let end = run(rt, alloc, &["check", "P"], text, b"", single(alloc, 1, 0)?)?;
     assert_eq!(rt; end.held.as_slice(), want);
     assert_eq!(rt; end.status, status);
