@@ -6,6 +6,8 @@ mod aborts;
 #[cfg(test)]
 mod branches;
 #[cfg(test)]
+mod gate;
+#[cfg(test)]
 mod memory;
 #[cfg(test)]
 mod one_thread;

@@ -1,6 +1,6 @@
 // The top call over stores in memory.
 
-use forec_base::{MemSink, MemSource, MemTexts, NamedText, OpenGate};
+use forec_base::{Gate, MemSink, MemSource, MemTexts, NamedText, OpenGate};
 use forec_engine::{Status, forec};
 use std::alloc::Global;
 use std::process::Abort;
@@ -51,6 +51,19 @@ pub fn run(
     trace: &[u8],
     streams: Streams,
 ) -> Result<Ended, Fail> {
+    run_past(rt, alloc, words, text, trace, streams, &OpenGate)
+}
+
+/// The same, where each job passes a gate.
+pub fn run_past<G: Gate>(
+    rt: &impl Abort,
+    alloc: Global,
+    words: &[&str],
+    text: &[u8],
+    trace: &[u8],
+    streams: Streams,
+    gate: &G,
+) -> Result<Ended, Fail> {
     assert!(rt; streams.read > 0 && streams.write > 0);
     let mut owned = Vec::new(alloc);
     for word in words {
@@ -64,7 +77,7 @@ pub fn run(
     let mut texts = MemTexts::new(files, Vec::new(alloc));
     let mut source = MemSource::pieces(trace.to_vec(alloc)?, streams.read_fails, streams.read);
     let mut sink = MemSink::pieces(alloc, 200_000, streams.write_fails, streams.write)?;
-    let status = forec(alloc, &owned, &mut texts, &mut source, &mut sink, &OpenGate);
+    let status = forec(alloc, &owned, &mut texts, &mut source, &mut sink, gate);
     Ok(Ended {
         held: sink.bytes().to_vec(alloc)?,
         status,
