@@ -193,6 +193,8 @@ class Draw:
 
     def par(self, scope, depth):
         """Branches: functions with or without arguments, and blocks, which see global names alone."""
+        if self.traps and self.odds(0.4):
+            return self.trapping_par(), False
         branches, certain = [], False
         for _ in range(self.pick(1, 2, 2, 3)):
             known = [b for b in self.branches if self.threads + b[3] <= self.most]
@@ -208,6 +210,13 @@ class Draw:
                 branches.append(text)
             certain = certain or pauses
         return f"par({', '.join(branches)});", certain
+
+    def trapping_par(self):
+        """Branches of which several may trap in one tick, or whose combine calls may."""
+        values = self.inputs + ["0", "1", "8", f"limit / {self.pick(*self.inputs)}", f"table[{self.pick(*self.inputs)}]"]
+        branches = [" ".join(f"{v} = {self.pick(*values)};" for v in self.shared if self.odds(0.8)) for _ in range(3)]
+        self.threads += 3
+        return f"par({', '.join(f'{{ {b} }}' for b in branches)});"
 
     def own_scope(self, one_instance, scalars=()):
         """The names of a new thread: where it has one instance, it may have some of the plain variables to itself."""
