@@ -115,7 +115,7 @@ class Draw:
     def statement(self, scope, depth):
         kinds = [self.assignment] * 5 + [self.pause] * 2 + [self.declaration]
         if depth:
-            kinds += [self.choice, self.bounded, self.counted, self.abort, self.abort, self.par, self.par, self.group, self.ever]
+            kinds += [self.choice, self.bounded, self.counted, self.abort, self.abort, self.par, self.par, self.par, self.group, self.ever]
             kinds += [self.call] if self.helpers else []
         return self.pick(*kinds)(scope, depth)
 
@@ -266,7 +266,7 @@ class Draw:
             first, _ = self.block(scope, 3)
             return f"void main(void) {first}"
         start, _ = self.statement(scope, 0) if self.odds(0.3) else ("", False)
-        shape = self.pick(self.par, self.abort, self.abort, self.group)
+        shape = self.pick(self.par, self.par, self.abort, self.abort, self.group)
         inside, certain = shape(scope, 3)
         tail, pauses = self.block(scope, 1, 2)
         rest = "" if certain or pauses else " pause;"
