@@ -10,7 +10,7 @@ import sys
 sys.path.insert(0, os.path.join(os.path.dirname(os.path.dirname(os.path.realpath(__file__))), "tests"))
 sys.dont_write_bytecode = True
 
-from meaning import Function, Program  # noqa: E402
+from program_tree import Function, Program  # noqa: E402
 
 
 def tree_of_branches(n):
