@@ -120,11 +120,27 @@ module _ (measure : Made → ℕ) where
   module _
       (text : Text) (called : ℕ → InPlace) (by_name : ℕ → ℕ → ℕ) (by_body : Statements → ℕ) (below : ℕ → ℕ)
       (names : (t p thread args : ℕ) (name : Rattle.forec_tree.specs.declared.tree.Name.Name) (n : Next) (params : ℕ) → n.slot ≡ args →
-      by_name name.id args ≤ measure (record { parent = t; par = p; name = Some name.id; params = params; words = (called name.id 0 thread n).next.slot; behind = (called name.id 0 thread n).next.thread; body = (called name.id 0 thread n).stmt;
-        named = low.vars_of (called name.id 0 thread n).stmt ++ low.vars_made (called name.id 0 thread n).made }))
+      by_name name.id args ≤ measure (record {
+        parent = t;
+        par = p;
+        name = Some name.id;
+        params = params;
+        words = (called name.id 0 thread n).next.slot;
+        behind = (called name.id 0 thread n).next.thread;
+        body = (called name.id 0 thread n).stmt;
+        named = low.vars_of (called name.id 0 thread n).stmt ++ low.vars_made (called name.id 0 thread n).made;
+      }))
       (bodies : (t p thread : ℕ) (n : Next) (body : Statements) → n.slot ≡ 0 →
-      by_body body ≤ measure (record { parent = t; par = p; name = None; params = 0; words = (lower_list text called thread [] n body).next.slot; behind = (lower_list text called thread [] n body).next.thread;
-        body = sequence (lower_list text called thread [] n body).list; named = low.vars_of (sequence (lower_list text called thread [] n body).list) ++ low.vars_made (lower_list text called thread [] n body).made }))
+      by_body body ≤ measure (record {
+        parent = t;
+        par = p;
+        name = None;
+        params = 0;
+        words = (lower_list text called thread [] n body).next.slot;
+        behind = (lower_list text called thread [] n body).next.thread;
+        body = sequence (lower_list text called thread [] n body).list;
+        named = low.vars_of (sequence (lower_list text called thread [] n body).list) ++ low.vars_made (lower_list text called thread [] n body).made;
+      }))
       (beneath : (id first t : ℕ) (n : Next) → below id ≤ made_most (called id first t n).made) where
     mutual
       pub most_least : (t : ℕ) (s : List Slot) (n : Next) (a : Statement) → most by_name by_body below a ≤ made_most (lower_statement text called t s n a).made
@@ -199,11 +215,27 @@ module _ (measure : Made → ℕ) where
   module _
       (text : Text) (called : ℕ → InPlace) (by_name : ℕ → ℕ → ℕ) (by_body : Statements → ℕ) (below : ℕ → ℕ)
       (names : (t p thread args : ℕ) (name : Rattle.forec_tree.specs.declared.tree.Name.Name) (n : Next) (params : ℕ) → n.slot ≡ args →
-      measure (record { parent = t; par = p; name = Some name.id; params = params; words = (called name.id 0 thread n).next.slot; behind = (called name.id 0 thread n).next.thread; body = (called name.id 0 thread n).stmt;
-        named = low.vars_of (called name.id 0 thread n).stmt ++ low.vars_made (called name.id 0 thread n).made }) ≤ by_name name.id args)
+      measure (record {
+        parent = t;
+        par = p;
+        name = Some name.id;
+        params = params;
+        words = (called name.id 0 thread n).next.slot;
+        behind = (called name.id 0 thread n).next.thread;
+        body = (called name.id 0 thread n).stmt;
+        named = low.vars_of (called name.id 0 thread n).stmt ++ low.vars_made (called name.id 0 thread n).made;
+      }) ≤ by_name name.id args)
       (bodies : (t p thread : ℕ) (n : Next) (body : Statements) → n.slot ≡ 0 →
-      measure (record { parent = t; par = p; name = None; params = 0; words = (lower_list text called thread [] n body).next.slot; behind = (lower_list text called thread [] n body).next.thread;
-        body = sequence (lower_list text called thread [] n body).list; named = low.vars_of (sequence (lower_list text called thread [] n body).list) ++ low.vars_made (lower_list text called thread [] n body).made }) ≤ by_body body)
+      measure (record {
+        parent = t;
+        par = p;
+        name = None;
+        params = 0;
+        words = (lower_list text called thread [] n body).next.slot;
+        behind = (lower_list text called thread [] n body).next.thread;
+        body = sequence (lower_list text called thread [] n body).list;
+        named = low.vars_of (sequence (lower_list text called thread [] n body).list) ++ low.vars_made (lower_list text called thread [] n body).made;
+      }) ≤ by_body body)
       (beneath : (id first t : ℕ) (n : Next) → made_most (called id first t n).made ≤ below id) where
     mutual
       pub most_greatest : (t : ℕ) (s : List Slot) (n : Next) (a : Statement) → made_most (lower_statement text called t s n a).made ≤ most by_name by_body below a

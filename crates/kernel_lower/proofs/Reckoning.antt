@@ -80,22 +80,22 @@ module _ (k : PlainKernel) (many : length k.threads ≡ length k.shape.threads) 
   words_least =
       wide_least k.shape.threads (greatest (thread_words k) (count_up 0 (length k.threads)))
       (λ t l.
-        let e = greatest_above (thread_words k) (count_up 0 (length k.threads)) t (count_has 0 (length k.threads) t (omega arith) (omega (arith, l, many))) in
-        omega (arith, e))
+      let e = greatest_above (thread_words k) (count_up 0 (length k.threads)) t (count_has 0 (length k.threads) t (omega arith) (omega (arith, l, many))) in
+      omega (arith, e))
 
   pub words_greatest : CallsLow k → amount Words k ≤ widest k.shape.threads + longest k
   unfolding amount
   words_greatest low =
       greatest_least (thread_words k) (count_up 0 (length k.threads)) (widest k.shape.threads + longest k)
       (λ t i.
-        let l = count_below 0 (length k.threads) t i in
-        let w = wide_above k.shape.threads t in
-        let c =
-        greatest_least (chain (function_words k.shape.functions) k (length k.functions)) (thread_calls k t) (longest k)
-        (λ g j.
-          let h = low.threads t g (omega (arith, l)) j in
-          greatest_above (chain (function_words k.shape.functions) k (length k.functions)) (count_up 0 (length k.functions)) g (count_has 0 (length k.functions) g (omega arith) (omega (arith, h)))) in
-        omega (arith, w, c))
+      let l = count_below 0 (length k.threads) t i in
+      let w = wide_above k.shape.threads t in
+      let c =
+      greatest_least (chain (function_words k.shape.functions) k (length k.functions)) (thread_calls k t) (longest k)
+      (λ g j.
+      let h = low.threads t g (omega (arith, l)) j in
+      greatest_above (chain (function_words k.shape.functions) k (length k.functions)) (count_up 0 (length k.functions)) g (count_has 0 (length k.functions) g (omega arith) (omega (arith, h)))) in
+      omega (arith, w, c))
 
 -- ---- depth
 

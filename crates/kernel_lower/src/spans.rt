@@ -77,7 +77,10 @@ fn slots(table: &[Span], s: &Stmt) -> u64
         StmtKind::If { yes, no, .. } => add(slots(table, yes), optional_slots(table, no)),
         StmtKind::While { body, .. } => slots(table, body),
         StmtKind::For {
-            start, step, body, ..
+            start,
+            step,
+            body,
+            ..
         } => {
             let head = optional_slots(table, start);
             add(head, add(optional_slots(table, step), slots(table, body)))
@@ -145,7 +148,10 @@ fn levels(table: &[Span], s: &Stmt) -> u64
         }
         StmtKind::While { body, .. } => add(1, levels(table, body)),
         StmtKind::For {
-            start, step, body, ..
+            start,
+            step,
+            body,
+            ..
         } => {
             let step = optional_levels(table, step);
             let turned = add(1, step.max(levels(table, body)));

@@ -32,7 +32,10 @@ fn widest(table: &[Span], s: &Stmt) -> u64
         }
         StmtKind::While { body, .. } => widest(table, body),
         StmtKind::For {
-            start, step, body, ..
+            start,
+            step,
+            body,
+            ..
         } => {
             let start = optional_widest(table, start);
             let step = optional_widest(table, step);
@@ -101,7 +104,10 @@ fn deepest(table: &[Span], s: &Stmt) -> u64
         }
         StmtKind::While { body, .. } => deepest(table, body),
         StmtKind::For {
-            start, step, body, ..
+            start,
+            step,
+            body,
+            ..
         } => {
             let start = optional_deepest(table, start);
             let step = optional_deepest(table, step);
