@@ -71,7 +71,7 @@ module _ (c : PlainCode) (valid : IsValidCode c) (h : Thread) (l : Loaded c h) (
   kept = begun_kept p.copies.items h.own
 
   abbrev started_thread : Thread
-  started_thread = record { number = h.number; phase = phase.Running; function = None; at = 0; stack = frames; own = kept; units = 0; allowance = p.allowance }
+  started_thread = record { number = h.number; phase = phase.Running false; function = None; at = 0; stack = frames; own = kept; units = 0; allowance = p.allowance; branches = h.branches; joining = h.joining }
 
   serves : Serves c h.number kept
   serves = record {
@@ -81,7 +81,7 @@ module _ (c : PlainCode) (valid : IsValidCode c) (h : Thread) (l : Loaded c h) (
     live = length-replicate (length h.own.live) false ∙ l.serves.live;
   }
 
-  start_works : Works c h.number l.needs None (work 0 frames kept 0)
+  start_works : Works false c h.number l.needs None (work 0 frames kept 0)
   start_works =
       let w = length_fresh p.args.items b.words start_args in
       let k = length-replicate {A = ℕ} b.counters 0 in
@@ -125,7 +125,10 @@ module _ (c : PlainCode) (valid : IsValidCode c) (h : Thread) (l : Loaded c h) (
       own = l.own;
       room = l.room;
       most = l.most;
+      combines = l.combines;
       serves = serves;
+      folds = l.folds;
+      space = l.space;
       small = small;
       units = omega arith;
       placed = start_works;
@@ -140,7 +143,7 @@ module _ (c : PlainCode) (valid : IsValidCode c) (h : Thread) (l : Loaded c h) (
 
 module _ (c : PlainCode) (h : Thread) (l : Loaded c h) (asleep : HasPaused h) (p : Packet) (room : HasRoom (of_shape c.shape) h.number (plain_packet p)) where
   abbrev woken_thread : Thread
-  woken_thread = record { number = h.number; phase = phase.Running; function = h.function; at = h.at; stack = h.stack; own = with_copies p.copies.items h.own; units = 0; allowance = p.allowance }
+  woken_thread = record { number = h.number; phase = phase.Running false; function = h.function; at = h.at; stack = h.stack; own = with_copies p.copies.items h.own; units = 0; allowance = p.allowance; branches = h.branches; joining = h.joining }
 
   placed_here : Placed c l.needs h phase.Paused
   placed_here = subst (Placed c l.needs h) asleep.phase l.placed
@@ -148,7 +151,7 @@ module _ (c : PlainCode) (h : Thread) (l : Loaded c h) (asleep : HasPaused h) (p
   woken_serves : Serves c h.number (with_copies p.copies.items h.own)
   woken_serves = record { copies = room.copies; places = l.serves.places; flags = l.serves.flags; live = l.serves.live }
 
-  woken_works : Works c h.number l.needs None (work h.at h.stack (with_copies p.copies.items h.own) 0)
+  woken_works : Works false c h.number l.needs None (work h.at h.stack (with_copies p.copies.items h.own) 0)
   woken_works =
       let w = placed_here.0 in
       record {
@@ -187,10 +190,13 @@ module _ (c : PlainCode) (h : Thread) (l : Loaded c h) (asleep : HasPaused h) (p
           own = l.own;
           room = l.room;
           most = l.most;
+          combines = l.combines;
           serves = woken_serves;
+          folds = l.folds;
+          space = l.space;
           small = small;
           units = omega arith;
-          placed = subst (λ g. Works c h.number l.needs g (work h.at h.stack (with_copies p.copies.items h.own) 0)) (sym own) woken_works;
+          placed = subst (λ g. Works false c h.number l.needs g (work h.at h.stack (with_copies p.copies.items h.own) 0)) (sym own) woken_works;
         };
         running = refl;
         number = refl;

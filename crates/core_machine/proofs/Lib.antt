@@ -8,3 +8,4 @@ pub mod Moving
 pub mod Jobs
 pub mod Advance
 pub mod Living
+pub mod Gathering

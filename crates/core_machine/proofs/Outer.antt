@@ -112,8 +112,8 @@ fork_own c t g a w at within i is (is_again j to some e) = let f = fine c t g a 
 
 -- ---- the thread goes on
 
-pub works_at : (c : PlainCode) (t : ℕ) (needs : List ℕ) (g : Option ℕ) (w : Work) → Works c t needs g w → (q : ℕ) → Comes c (block_for c t g) q (length w.frames.stack) → Works c t needs g (work q w.frames w.kept w.units)
-works_at c t needs g w r q here = record {
+pub works_at : (folding : Bool) (c : PlainCode) (t : ℕ) (needs : List ℕ) (g : Option ℕ) (w : Work) → Works folding c t needs g w → (q : ℕ) → Comes c (block_for c t g) q (length w.frames.stack) → Works folding c t needs g (work q w.frames w.kept w.units)
+works_at folding c t needs g w r q here = record {
   at = record {
     sound = r.at.sound;
     here = here;
@@ -134,17 +134,80 @@ works_at c t needs g w r q here = record {
   below = r.below;
 }
 
-module _ (c : PlainCode) (h : Thread) (l : Loaded c h) (run : h.phase ≡ phase.Running) where
-  pub works : Works c h.number l.needs h.function (work_of h)
+module _ (folding : Bool) (c : PlainCode) (h : Thread) (l : Loaded c h) (run : h.phase ≡ phase.Running folding) where
+  pub works : Works folding c h.number l.needs h.function (work_of h)
   works = subst (Placed c l.needs h) run l.placed
 
   pub machine_runs : machine_of c h ≡ machine_at (block_for c h.number h.function) (callers c h.number h.stack.below) (work_of h)
   machine_runs = ap (machine_in c h) run
 
+  -- ---- a frame's run
+
+  module _ (w : Work) (r : Runs c h.number h.function (work_of h) w) (small : w.units < h.allowance + 2 ^ 32) where
+    abbrev went : Thread
+    went = record { number = h.number; phase = h.phase; function = h.function; at = w.at; stack = w.frames; own = w.kept; units = w.units; allowance = h.allowance; branches = h.branches; joining = h.joining }
+
+    still_below : Below folding c h.number l.needs w.frames.room w.frames.below works.base
+    still_below =
+        subst (λ n. Below folding c h.number l.needs n w.frames.below works.base) (sym r.keeps.room)
+        (subst (λ ws. Below folding c h.number l.needs h.stack.room ws works.base) (sym r.keeps.below) works.below)
+
+    works_on : Works folding c h.number l.needs h.function w
+    works_on = record {
+      at = r.at;
+      base = works.base;
+      ends = omega (arith, works.ends, r.keeps.base, r.keeps.words, r.keeps.counters);
+      need = works.need;
+      enough = works.enough;
+      fits = omega (arith, works.fits, r.keeps.room);
+      chained = subst (λ ws. Chained c h.function (length ws)) (sym r.keeps.below) works.chained;
+      below = still_below;
+    }
+
+    pub run_stretches : (s : Stop) → Shows c h.number h.function h.allowance w s → Stretches c h went s
+    run_stretches s shows = record {
+      moved = record {
+        loaded = record {
+          thread = l.thread;
+          short = l.short;
+          needs = l.needs;
+          each = l.each;
+          need = l.need;
+          own = l.own;
+          room = omega (arith, l.room, r.keeps.room);
+          most = omega (arith, l.most, r.keeps.most);
+          combines = λ v f u e. omega (arith, l.combines v f u e, r.keeps.room);
+          serves = r.at.serves;
+          folds = l.folds;
+          space = l.space;
+          small = l.small;
+          units = small;
+          placed = subst (Placed c l.needs went) (sym run) works_on;
+        };
+        number = refl;
+        allowance = refl;
+        count = r.count;
+        lands = ap (run_for (step c h.number) r.count) machine_runs ∙ r.lands (callers c h.number h.stack.below)
+            ∙ ap (λ ws. machine_at (block_for c h.number h.function) (callers c h.number ws) w) (sym r.keeps.below) ∙ sym (ap (machine_in c went) run);
+        rises = r.rises;
+      };
+      phase = refl;
+      function = refl;
+      below = r.keeps.below;
+      shows = shows;
+    }
+
+module _ (c : PlainCode) (h : Thread) (l : Loaded c h) (run : h.phase ≡ phase.Running false) where
+  runs : Works false c h.number l.needs h.function (work_of h)
+  runs = works false c h l run
+
+  on_runs : machine_of c h ≡ machine_at (block_for c h.number h.function) (callers c h.number h.stack.below) (work_of h)
+  on_runs = machine_runs false c h l run
+
   -- a trap
   module _ (place : Place) (trap : Trap) (units : ℕ) (s : Shows c h.number h.function h.allowance (work_of h) (stop.Traps place trap units)) where
     abbrev trapped : Thread
-    trapped = record { number = h.number; phase = phase.Trapped place trap; function = h.function; at = h.at; stack = h.stack; own = h.own; units = units; allowance = h.allowance }
+    trapped = record { number = h.number; phase = phase.Trapped place trap; function = h.function; at = h.at; stack = h.stack; own = h.own; units = units; allowance = h.allowance; branches = h.branches; joining = h.joining }
 
     pub trap_moved : Moved c h trapped
     trap_moved = record {
@@ -157,7 +220,10 @@ module _ (c : PlainCode) (h : Thread) (l : Loaded c h) (run : h.phase ≡ phase.
         own = l.own;
         room = l.room;
         most = l.most;
+        combines = l.combines;
         serves = l.serves;
+        folds = l.folds;
+        space = l.space;
         small = l.small;
         units = omega (arith, s.0.small, s.1);
         placed = tt;
@@ -165,13 +231,13 @@ module _ (c : PlainCode) (h : Thread) (l : Loaded c h) (run : h.phase ≡ phase.
       number = refl;
       allowance = refl;
       count = 1;
-      lands = ap (step c h.number) machine_runs ∙ s.0.steps (callers c h.number h.stack.below);
+      lands = ap (step c h.number) on_runs ∙ s.0.steps (callers c h.number h.stack.below);
       rises = s.0.rises;
     }
 
   module _ (s : Stands_before (block_for c h.number h.function) h.allowance (work_of h) instruction.End) where
     abbrev ended : Thread
-    ended = record { number = h.number; phase = phase.Ended; function = h.function; at = h.at; stack = h.stack; own = h.own; units = h.units; allowance = h.allowance }
+    ended = record { number = h.number; phase = phase.Ended; function = h.function; at = h.at; stack = h.stack; own = h.own; units = h.units; allowance = h.allowance; branches = h.branches; joining = h.joining }
 
     pub end_moved : Moved c h ended
     end_moved = record {
@@ -184,7 +250,10 @@ module _ (c : PlainCode) (h : Thread) (l : Loaded c h) (run : h.phase ≡ phase.
         own = l.own;
         room = l.room;
         most = l.most;
+        combines = l.combines;
         serves = l.serves;
+        folds = l.folds;
+        space = l.space;
         small = l.small;
         units = l.units;
         placed = tt;
@@ -192,21 +261,21 @@ module _ (c : PlainCode) (h : Thread) (l : Loaded c h) (run : h.phase ≡ phase.
       number = refl;
       allowance = refl;
       count = 1;
-      lands = ap (step c h.number) machine_runs
+      lands = ap (step c h.number) on_runs
           ∙ ap (λ i. act c h.number i (point_of (block_for c h.number h.function) h.at h.stack) (callers c h.number h.stack.below) (own_of h.own) h.units) s.is;
       rises = omega arith;
     }
 
   module _ (to : ℕ) (s : Stands_before (block_for c h.number h.function) h.allowance (work_of h) (instruction.Pause to)) where
     abbrev paused : Thread
-    paused = record { number = h.number; phase = phase.Paused; function = h.function; at = to; stack = h.stack; own = h.own; units = h.units; allowance = h.allowance }
+    paused = record { number = h.number; phase = phase.Paused; function = h.function; at = to; stack = h.stack; own = h.own; units = h.units; allowance = h.allowance; branches = h.branches; joining = h.joining }
 
     pause_own : h.function ≡ None
-    pause_own = own_block h.number h.function (fine c h.number h.function h.allowance (work_of h) works.at s.within (instruction.Pause to) s.is).0
+    pause_own = own_block h.number h.function (fine c h.number h.function h.allowance (work_of h) runs.at s.within (instruction.Pause to) s.is).0
 
     pub pause_moved : Moved c h paused
     pause_moved =
-        let w = works_at c h.number l.needs h.function (work_of h) works to (next h.at (length h.stack.stack) (instruction.Pause to) to works.at.here s.is refl) in
+        let w = works_at false c h.number l.needs h.function (work_of h) runs to (next h.at (length h.stack.stack) (instruction.Pause to) to runs.at.here s.is refl) in
         record {
           loaded = record {
             thread = l.thread;
@@ -217,15 +286,18 @@ module _ (c : PlainCode) (h : Thread) (l : Loaded c h) (run : h.phase ≡ phase.
             own = l.own;
             room = l.room;
             most = l.most;
+            combines = l.combines;
             serves = l.serves;
+            folds = l.folds;
+            space = l.space;
             small = l.small;
             units = l.units;
-            placed = (subst (λ g. Works c h.number l.needs g (work to h.stack h.own h.units)) pause_own w, pause_own);
+            placed = (subst (λ g. Works false c h.number l.needs g (work to h.stack h.own h.units)) pause_own w, pause_own);
           };
           number = refl;
           allowance = refl;
           count = 1;
-          lands = ap (step c h.number) machine_runs
+          lands = ap (step c h.number) on_runs
               ∙ ap (λ i. act c h.number i (point_of (block_for c h.number h.function) h.at h.stack) (callers c h.number h.stack.below) (own_of h.own) h.units) s.is
               ∙ ap (λ g. Paused (point_of (block_for c h.number g) to h.stack) (own_of h.own) h.units) pause_own;
           rises = omega arith;
@@ -233,16 +305,16 @@ module _ (c : PlainCode) (h : Thread) (l : Loaded c h) (run : h.phase ≡ phase.
 
   module _ (units : ℕ) (s : Shows c h.number h.function h.allowance (work_of h) (stop.Forks units)) where
     abbrev forked : Thread
-    forked = record { number = h.number; phase = phase.Forked h.units; function = h.function; at = h.at; stack = h.stack; own = h.own; units = units; allowance = h.allowance }
+    forked = record { number = h.number; phase = phase.Forked h.units; function = h.function; at = h.at; stack = h.stack; own = h.own; units = units; allowance = h.allowance; branches = h.branches; joining = h.joining }
 
     kind : Fork_kind c h.own s.0
     kind = fork_kind c h.own s.0 s.2
 
     fork_is_own : h.function ≡ None
-    fork_is_own = fork_own c h.number h.function h.allowance (work_of h) works.at s.1.within s.0 s.1.is kind
+    fork_is_own = fork_own c h.number h.function h.allowance (work_of h) runs.at s.1.within s.0 s.1.is kind
 
-    works_own : Works c h.number l.needs None (work_of h)
-    works_own = subst (λ g. Works c h.number l.needs g (work_of h)) fork_is_own works
+    works_own : Works false c h.number l.needs None (work_of h)
+    works_own = subst (λ g. Works false c h.number l.needs g (work_of h)) fork_is_own runs
 
     is_own : slice_get (block_of c h.number).steps h.at ≡ Some s.0
     is_own = ap (λ g. slice_get (block_for c h.number g).steps h.at) (sym fork_is_own) ∙ s.1.is
@@ -270,7 +342,10 @@ module _ (c : PlainCode) (h : Thread) (l : Loaded c h) (run : h.phase ≡ phase.
             own = l.own;
             room = l.room;
             most = l.most;
+            combines = l.combines;
             serves = l.serves;
+            folds = l.folds;
+            space = l.space;
             small = l.small;
             units = omega (arith, s.3, s.1.within, small_cost s.0 kind);
             placed = record {
@@ -288,7 +363,7 @@ module _ (c : PlainCode) (h : Thread) (l : Loaded c h) (run : h.phase ≡ phase.
           allowance = refl;
           count = 1;
           lands = ap (step c h.number)
-              (machine_runs ∙ ap (λ g. machine_at (block_for c h.number g) (callers c h.number h.stack.below) (work_of h)) fork_is_own
+              (on_runs ∙ ap (λ g. machine_at (block_for c h.number g) (callers c h.number h.stack.below) (work_of h)) fork_is_own
               ∙ ap (λ ws. machine_at (block_of c h.number) (callers c h.number ws) (work_of h)) none);
           rises = omega (arith, s.3);
         }
@@ -296,55 +371,3 @@ module _ (c : PlainCode) (h : Thread) (l : Loaded c h) (run : h.phase ≡ phase.
     pub fork_view : event_of (view_of (machine_of c forked)) ≡ Some event.Fork
     fork_view = ap (λ m. event_of (view_of m)) stepped
 
-  -- ---- a frame's run
-
-  module _ (w : Work) (r : Runs c h.number h.function (work_of h) w) (small : w.units < h.allowance + 2 ^ 32) where
-    abbrev went : Thread
-    went = record { number = h.number; phase = h.phase; function = h.function; at = w.at; stack = w.frames; own = w.kept; units = w.units; allowance = h.allowance }
-
-    still_below : Below c h.number l.needs w.frames.room w.frames.below works.base
-    still_below =
-        subst (λ n. Below c h.number l.needs n w.frames.below works.base) (sym r.keeps.room)
-        (subst (λ ws. Below c h.number l.needs h.stack.room ws works.base) (sym r.keeps.below) works.below)
-
-    works_on : Works c h.number l.needs h.function w
-    works_on = record {
-      at = r.at;
-      base = works.base;
-      ends = omega (arith, works.ends, r.keeps.base, r.keeps.words, r.keeps.counters);
-      need = works.need;
-      enough = works.enough;
-      fits = omega (arith, works.fits, r.keeps.room);
-      chained = subst (λ ws. Chained c h.function (length ws)) (sym r.keeps.below) works.chained;
-      below = still_below;
-    }
-
-    pub run_stretches : (s : Stop) → Shows c h.number h.function h.allowance w s → Stretches c h went s
-    run_stretches s shows = record {
-      moved = record {
-        loaded = record {
-          thread = l.thread;
-          short = l.short;
-          needs = l.needs;
-          each = l.each;
-          need = l.need;
-          own = l.own;
-          room = omega (arith, l.room, r.keeps.room);
-          most = omega (arith, l.most, r.keeps.most);
-          serves = r.at.serves;
-          small = l.small;
-          units = small;
-          placed = subst (Placed c l.needs went) (sym run) works_on;
-        };
-        number = refl;
-        allowance = refl;
-        count = r.count;
-        lands = ap (run_for (step c h.number) r.count) machine_runs ∙ r.lands (callers c h.number h.stack.below)
-            ∙ ap (λ ws. machine_at (block_for c h.number h.function) (callers c h.number ws) w) (sym r.keeps.below) ∙ sym (ap (machine_in c went) run);
-        rises = r.rises;
-      };
-      running = run;
-      function = refl;
-      below = r.keeps.below;
-      shows = shows;
-    }

@@ -1,8 +1,13 @@
 -- The branches of a thread's present fork, and what their replies say together.
-use Rattle.std.specs.Prelude.{ℕ, ◌≡◌, ◌<◌, ◌^◌, ◌⊎◌, ◌++◌, Bool, cond, List, [], ◌∷◌, length, map, take, get_or}
+use Rattle.std.specs.Prelude.{ℕ, ◌≡◌, ◌<◌, ◌+◌, ◌-◌, ◌^◌, ◌⊎◌, ◌++◌, min, Bool, cond, List, [], ◌∷◌, length, map, take, get_or}
+use Rattle.forec_base.specs.declared.Place.{Place}
+use Rattle.forec_base.specs.declared.Trap.{Trap}
+use Rattle.forec_kernel.specs.Packed.{IsReply}
+use Rattle.combine_tree.specs.declared.packet.Packet.{Packet}
+use Rattle.combine_tree.specs.Plain.{plain_packet}
 use Rattle.forec_kernel.specs.Engine.{Reply, WasPaused, WasEnded, WasTrapped, WasOver}
 use Rattle.forec_kernel.specs.Solo.{all_units, some_reply_over}
-use Rattle.thread_code.specs.Machine.{is_ended}
+use Rattle.thread_code.specs.Machine.{is_ended, living}
 use Rattle.core_machine.specs.declared.branches.Verdict.{Verdict}
 use Rattle.core_machine.specs.declared.branches.Verdict.TheVariants as verdict
 
@@ -24,9 +29,33 @@ gathered_of numbers count ended settled joined units verdict =
 abbrev pub no_branches : ℕ → Gathered
 no_branches room = record { numbers = []; ended = []; joined = 0; units = 0; verdict = verdict.Combine; room = room }
 
--- one more branch, before any has replied
-abbrev pub with_branch : ℕ → Gathered → Gathered
-with_branch b g = record g { numbers = g.numbers ++ b ∷ [] }
+-- these branches, none of which has replied
+abbrev pub with_branches : List ℕ → Gathered → Gathered
+with_branches bs g = record { numbers = bs; ended = []; joined = 0; units = 0; verdict = verdict.Combine; room = g.room }
+
+abbrev pub with_verdict : Verdict → Gathered → Gathered
+with_verdict v g = record { numbers = g.numbers; ended = g.ended; joined = g.joined; units = g.units; verdict = v; room = g.room }
+
+abbrev pub one_joined : Gathered → Gathered
+one_joined g = record { numbers = g.numbers; ended = g.ended; joined = g.joined + 1; units = g.units; verdict = g.verdict; room = g.room }
+
+-- these branches, or of those of a held fork the ones that live
+abbrev pub chosen : Bool → List Bool → List ℕ → List ℕ
+chosen again live bs = cond again (living live bs) bs
+
+-- ---- how replies are counted
+
+-- the first trap stays
+abbrev pub first_trap : Verdict → Verdict → Verdict
+first_trap verdict.Combine v = v
+first_trap (verdict.Trap place trap) v = verdict.Trap place trap
+first_trap verdict.Over v = verdict.Over
+
+abbrev pub noted : Bool → Gathered → Gathered
+noted e g = record { numbers = g.numbers; ended = g.ended ++ e ∷ []; joined = g.joined; units = g.units; verdict = g.verdict; room = g.room }
+
+abbrev pub counted : ℕ → Gathered → Gathered
+counted n g = record { numbers = g.numbers; ended = g.ended; joined = g.joined; units = min (g.units + n) (2 ^ 64 - 1); verdict = g.verdict; room = g.room }
 
 -- ---- what the replies say
 
@@ -49,3 +78,11 @@ pub record Says (g : Gathered) (rs : List Reply) : Type 0 where
   pub ended : g.ended ≡ map is_ended rs
   pub units : Counts g.units (all_units rs)
   pub verdict : g.verdict ≡ verdict_of rs
+
+-- one more reply was settled
+pub record Settles (g : Gathered) (p : Packet) (g' : Gathered) : Type 0 where
+  pub numbers : g'.numbers ≡ g.numbers
+  pub joined : g'.joined ≡ g.joined
+  pub room : g'.room ≡ g.room
+  pub count : length g'.ended ≡ length g.ended + 1
+  pub says : (rs : List Reply) (r : Reply) → IsReply (plain_packet p) r → Says g rs → Says g' (rs ++ r ∷ [])

@@ -1,8 +1,14 @@
 -- What a thread at a fork asks of its branches, and what it makes of their replies.
-use Rattle.std.specs.Prelude.{ℕ, ◌-◌, ◌≡◌, Option, None, List, [], ◌∷◌, ◌++◌, map, get_or}
+use Rattle.std.specs.Prelude.{ℕ, zero, suc, ◌-◌, ◌≡◌, ◌<◌, ℤ, Option, Some, None, List, [], ◌∷◌, ◌++◌, length, map, get_or, slice_get, take}
 use Rattle.forec_kernel.specs.Engine.{Reply, Written, written, View, Going, AtFork, Pausing, Ending, Trapping, Exceeding, Seed, Exchange, Output}
+use Rattle.forec_kernel.specs.Shapes.{PlainShape}
+use Rattle.forec_kernel.specs.Values.{word}
+use Rattle.thread_code.specs.declared.instruction.Instruction.{Instruction}
+use Rattle.thread_code.specs.declared.instruction.Instruction.TheVariants as instruction
+use Rattle.forec_kernel.specs.Texts.{params_in}
 use Rattle.thread_code.specs.Plain.{PlainCode}
-use Rattle.thread_code.specs.Alone.{view_of, CodeAlone}
+use Rattle.thread_code.specs.Valid.{arguments_of}
+use Rattle.thread_code.specs.Alone.{block_of, view_of, CodeAlone}
 use Rattle.combine_tree.specs.declared.packet.PacketKind.{PacketKind}
 use Rattle.combine_tree.specs.declared.packet.PacketKind.TheVariants as kind
 use Rattle.core_machine.specs.declared.thread.Thread.{Thread}
@@ -50,3 +56,31 @@ IsReplyKind kind.Ended = Unit {0}
 IsReplyKind (kind.Trapped place trap) = Unit {0}
 IsReplyKind kind.Over = Unit {0}
 IsReplyKind _ = ⊥
+
+-- ---- the instruction at which branches wait
+
+abbrev pub IsForkStep : Instruction → Type 0
+IsForkStep (instruction.Fork j to) = Unit {0}
+IsForkStep (instruction.Again j to) = Unit {0}
+IsForkStep _ = ⊥
+
+abbrev pub IsFork : PlainCode → ℕ → ℕ → Type 0
+IsFork c t at = (i : Instruction) × (slice_get (block_of c t).steps at ≡ Some i) × IsForkStep i
+
+-- the thread is at a new fork
+abbrev pub IsNewFork : PlainCode → Thread → Type 0
+IsNewFork c h = (j : ℕ) × (to : ℕ) × (slice_get (block_of c h.number).steps h.at ≡ Some (instruction.Fork j to))
+
+abbrev pub AreThreads : PlainShape → List ℕ → Type 0
+AreThreads s [] = Unit {0}
+AreThreads s (b ∷ bs) = (b < length s.threads) × AreThreads s bs
+
+-- of the `total` topmost numbers of a stack, n from the `first` one on, the deepest being number 0
+abbrev pub args_from : (total first n : ℕ) → List ℤ → List ℤ
+args_from total first zero stack = []
+args_from total first (suc n) stack = word stack (total - 1 - first) ∷ args_from total (suc first) n stack
+
+-- the arguments of the k-th branch of a new fork
+abbrev pub args_at : PlainCode → Thread → ℕ → List ℤ
+args_at c h k =
+    args_from (arguments_of c.shape h.branches.numbers) (arguments_of c.shape (take k h.branches.numbers)) (params_in c.shape.threads (branch_at h k)) h.stack.stack

@@ -6,4 +6,5 @@ pub mod Stretch
 pub mod Room
 pub mod Held
 pub mod Forks
+pub mod Merging
 pub mod Replies

@@ -3,6 +3,8 @@
 
 mod acts;
 mod branches;
+mod fork;
+mod merging;
 mod own;
 mod room;
 mod stack;

@@ -1,3 +1,4 @@
+use Rattle.std.proofs.Common.{◌∙◌}
 use Rattle.thread_code.specs.Plain.{plain_code}
 use Rattle.core_machine.specs.declared.thread.Event.TheVariants as event
 use Rattle.core_machine.specs.Held.{over}
@@ -8,13 +9,13 @@ pub loop-function-preserved-in-Calls : goal.loop-function-preserved-in-Calls
 loop-function-preserved-in-Calls c =
     let code = plain_code c.args.code.now in
     let m = moved_then code c.args.self.now c.loop-function.self c.run_frame.new.self c.loop-function.invariant.moved c.run_frame.ensures.moved in
-    record { moved = moved_then code c.args.self.now c.run_frame.new.self c.call.new.self m c.call.ensures.moved; running = c.call.ensures.running }
+    record { moved = moved_then code c.args.self.now c.run_frame.new.self c.call.new.self m c.call.ensures.moved; running = c.call.ensures.phase ∙ c.run_frame.ensures.phase ∙ c.loop-function.invariant.running }
 
 pub loop-function-preserved : goal.loop-function-preserved
 loop-function-preserved c =
     let code = plain_code c.args.code.now in
     let m = moved_then code c.args.self.now c.loop-function.self c.run_frame.new.self c.loop-function.invariant.moved c.run_frame.ensures.moved in
-    record { moved = moved_then code c.args.self.now c.run_frame.new.self c.return_to_caller.new.self m c.return_to_caller.ensures.moved; running = c.return_to_caller.ensures.running }
+    record { moved = moved_then code c.args.self.now c.run_frame.new.self c.return_to_caller.new.self m c.return_to_caller.ensures.moved; running = c.return_to_caller.ensures.phase ∙ c.run_frame.ensures.phase ∙ c.loop-function.invariant.running }
 
 pub returns-in-Pauses : goal.returns-in-Pauses
 returns-in-Pauses c =
