@@ -11,6 +11,7 @@ use Rattle.forec_kernel.specs.Solo.{all_units, reply_units, some_reply_over, is_
 use Rattle.forec_kernel.specs.Shapes.{PlainThread}
 use Rattle.forec_kernel.specs.WellFormed.{branches_of, is_par, blank_thread}
 use Rattle.thread_code.specs.Machine.{is_ended, living}
+use Rattle.core_machine.proofs.Lists.{take_set}
 use Rattle.core_machine.specs.declared.branches.Verdict.{Verdict}
 use Rattle.core_machine.specs.declared.branches.Verdict.TheVariants as verdict
 use Rattle.forec_kernel.specs.Packets.{IsEnded, IsTrapped, IsOver}
@@ -245,11 +246,6 @@ module _ (g : Gathered) (p : Packet) where
       by_reply rs WasOver is s = absurd (no_over (of_over p.kind is))
 
 -- ---- the next thread is looked at
-
-take_set : (xs : List ℕ) (n x : ℕ) → n < length xs → take (n + 1) (slice_set xs n x) ≡ take n xs ++ x ∷ []
-take_set [] n x lt = absurd (omega arith)
-take_set (y ∷ ys) zero x lt = refl
-take_set (y ∷ ys) (suc n) x lt = let e : suc n + 1 ≡ suc (n + 1) = omega arith in ap (λ k. take k (slice_set (y ∷ ys) (suc n) x)) e ∙ ap (λ l. y ∷ l) (take_set ys n x (omega arith))
 
 pub one_chosen : (numbers : List ℕ) (n i : ℕ) (all rest : List ℕ) → n < length numbers → take n numbers ++ (i ∷ rest) ≡ all → take (n + 1) (slice_set numbers n i) ++ rest ≡ all
 one_chosen numbers n i all rest lt h = ap (λ l. l ++ rest) (take_set numbers n i lt) ∙ append_assoc (take n numbers) (i ∷ []) rest ∙ h

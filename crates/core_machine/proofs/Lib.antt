@@ -9,3 +9,5 @@ pub mod Jobs
 pub mod Advance
 pub mod Living
 pub mod Gathering
+pub mod Lists
+pub mod Args
