@@ -17,7 +17,7 @@ get_set_other (y ∷ ys) zero (suc j) x ne = refl
 get_set_other (y ∷ ys) (suc k) zero x ne = refl
 get_set_other (y ∷ ys) (suc k) (suc j) x ne = get_set_other ys k j x (λ e. ne (ap suc e))
 
-equal_of : (a b : ℕ) → (a == b) ≡ true → a ≡ b
+pub equal_of : (a b : ℕ) → (a == b) ≡ true → a ≡ b
 equal_of a b h = grind (arith, nat_tests)
 
 differs_of : (a b : ℕ) → (a == b) ≡ false → b ≢ a

@@ -11,3 +11,5 @@ pub mod Living
 pub mod Gathering
 pub mod Lists
 pub mod Args
+pub mod Branching
+pub mod Asking

@@ -1,5 +1,5 @@
 -- The events of a thread's run.
-use Rattle.std.proofs.Common.{◌≡◌, ◌≢◌, ℕ, zero, suc, ◌+◌, ◌-◌, ◌*◌, ◌<◌, ◌≤◌, ◌^◌, List, [], ◌∷◌, length, Option, Some, None, Bool, true, false, refl, sym, ap, ◌∙◌, subst, arith}
+use Rattle.std.proofs.Common.{◌≡◌, ◌≢◌, ℕ, zero, suc, ◌+◌, ◌-◌, ◌*◌, ◌<◌, ◌≤◌, ◌^◌, List, [], ◌∷◌, length, Option, Some, None, Bool, true, false, cond, map, refl, sym, ap, ◌∙◌, subst, arith}
 use Rattle.std.specs.Prelude.{ℤ, slice_get, get_or, IsSome}
 use Rattle.forec_base.specs.declared.Place.{Place}
 use Rattle.forec_base.specs.declared.Trap.{Trap}
@@ -7,7 +7,7 @@ use Rattle.forec_kernel.specs.Engine.{run_for}
 use Rattle.thread_code.specs.declared.instruction.Instruction.{Instruction}
 use Rattle.thread_code.specs.declared.instruction.Instruction.TheVariants as instruction
 use Rattle.thread_code.specs.Plain.{PlainBlock, PlainCode}
-use Rattle.thread_code.specs.Valid.{cost, IsFine, branches_in, arguments_of}
+use Rattle.thread_code.specs.Valid.{cost, IsFine, IsParOf, IsValidCode, branches_in, arguments_of}
 use Rattle.thread_code.specs.Machine.{Point, Frame, Own, Awaited, Machine, On, Waits, Paused, Ended, Trapped, with_arguments, awaited, starts, wakes, waking, living, uses_of, act, step}
 use Rattle.thread_code.specs.Alone.{block_of, view_of, units_of}
 use Rattle.core_machine.specs.Frames.{Waiting, Frames, arguments, without}
@@ -18,7 +18,13 @@ use Rattle.core_machine.specs.declared.stretch.Stop.TheVariants as stop
 use Rattle.core_machine.specs.declared.thread.Thread.{Thread}
 use Rattle.core_machine.specs.declared.thread.Phase.TheVariants as phase
 use Rattle.core_machine.specs.declared.thread.Event.TheVariants as event
-use Rattle.core_machine.specs.Held.{work_of, callers, machine_in, machine_of, Chained, Below, Works, Waits_at, Placed, Loaded, Moved, Stretches, event_of}
+use Rattle.core_machine.specs.Held.{work_of, callers, callers_over, machine_in, machine_of, branch_of, Chained, Below, Works, Waits_at, Placed, Loaded, Has_machine, Moved, Stretches, event_of}
+use Rattle.core_machine.specs.Room.{EnoughToCombine}
+use Rattle.core_machine.specs.Branches.{chosen, with_branches}
+use Rattle.core_machine.specs.declared.fork.ForkAt.{ForkAt}
+use Rattle.core_machine.specs.Forks.{IsFork, IsForkStep}
+use Rattle.core_machine.specs.Merging.{instruction_of}
+use Rattle.core_machine.proofs.Branching.{starts_name, wakes_name, chosen_are, chosen_few}
 use Rattle.core_machine.proofs.Steps.{fine}
 
 -- ---- lists
@@ -80,30 +86,45 @@ module _ (c : PlainCode) (k : Kept) where
 
 -- ---- a machine that waits for branches
 
-record Waits_for (c : PlainCode) (t : ℕ) (i : Instruction) (w : Work) : Type 0 where
+record Waits_for (c : PlainCode) (t : ℕ) (i : Instruction) (bs : List ℕ) (w : Work) : Type 0 where
   for : Awaited
+  names : map branch_of for.seeds ≡ bs
   steps : act c t (Some i) (point_of (block_of c t) w.at w.frames) [] (own_of w.kept) w.units ≡ Waits for (own_of w.kept) (w.units + cost i)
 
-wakes_some : (c : PlainCode) (t : ℕ) (bs : List ℕ) → bs ≢ [] → (to : ℕ) (p : Point) (o : Own) (u : ℕ) → (for : Awaited) × (waking c t bs to p [] o u ≡ Waits for o u)
-wakes_some c t [] h to p o u = absurd (h refl)
-wakes_some c t (b ∷ bs) h to p o u = (awaited (b ∷ bs) (wakes c t o.copies (b ∷ bs)) p to p.stack, refl)
+wakes_named : (c : PlainCode) (t : ℕ) (bs : List ℕ) → bs ≢ [] → (to : ℕ) (p : Point) (o : Own) (u : ℕ) → (for : Awaited) × (waking c t bs to p [] o u ≡ Waits for o u) × (map branch_of for.seeds ≡ bs)
+wakes_named c t [] h to p o u = absurd (h refl)
+wakes_named c t (b ∷ bs) h to p o u = (awaited (b ∷ bs) (wakes c t o.copies (b ∷ bs)) p to p.stack, refl, wakes_name c t o.copies (b ∷ bs))
 
 module _ (c : PlainCode) (t : ℕ) (a : ℕ) (w : Work) (at : IsAt c t None w) (within : w.units ≤ a) where
-  waits_for : (i : Instruction) → slice_get (block_of c t).steps w.at ≡ Some i → Fork_kind c w.kept i → Waits_for c t i w
-  waits_for i is (is_fork j to e) =
-      let f = fine c t None a w at within (instruction.Fork j to) (is ∙ ap Some e) in
+  waits_by : (par to : ℕ) (again : Bool) → slice_get (block_of c t).steps w.at ≡ Some (cond again (instruction.Again par to) (instruction.Fork par to)) → (again ≡ true → living w.kept.live (branches_in c.shape par) ≢ []) →
+      Waits_for c t (cond again (instruction.Again par to) (instruction.Fork par to)) (chosen again w.kept.live (branches_in c.shape par)) w
+  waits_by par to false is some =
+      let f = fine c t None a w at within (instruction.Fork par to) is in
       let p = point_of (block_of c t) w.at w.frames in
-      let bs = branches_in c.shape j in
+      let bs = branches_in c.shape par in
       let go : List ℤ → List ℤ → Machine = λ args rest. Waits (awaited bs (starts c t w.kept.copies bs args) p to rest) (own_of w.kept) (w.units + 1) in
-      subst (λ i. Waits_for c t i w) (sym e)
-      (record {
+      record {
         for = awaited bs (starts c t w.kept.copies bs (arguments (arguments_of c.shape bs) w.frames.stack [])) p to (without (arguments_of c.shape bs) w.frames.stack);
         steps = args_act (arguments_of c.shape bs) w.frames.stack [] w.units go f.1;
-      })
-  waits_for i is (is_again j to some e) =
-      let h = wakes_some c t (living w.kept.live (branches_in c.shape j)) some to (point_of (block_of c t) w.at w.frames) (own_of w.kept) w.units in
+        names = starts_name c t w.kept.copies bs (arguments (arguments_of c.shape bs) w.frames.stack []);
+      }
+  waits_by par to true is some =
+      let h = wakes_named c t (living w.kept.live (branches_in c.shape par)) (some refl) to (point_of (block_of c t) w.at w.frames) (own_of w.kept) w.units in
       let z : w.units ≡ w.units + 0 = omega arith in
-      subst (λ i. Waits_for c t i w) (sym e) (record { for = h.0; steps = h.1 ∙ ap (Waits h.0 (own_of w.kept)) z })
+      record { for = h.0; steps = h.1 ∙ ap (Waits h.0 (own_of w.kept)) z; names = h.2 }
+
+  -- whose branches they are
+  par_by : (par to : ℕ) (again : Bool) → slice_get (block_of c t).steps w.at ≡ Some (cond again (instruction.Again par to) (instruction.Fork par to)) → IsParOf c.shape (Some t) par
+  par_by par to false is = (fine c t None a w at within (instruction.Fork par to) is).0
+  par_by par to true is = (fine c t None a w at within (instruction.Again par to) is).0
+
+some_by : (c : PlainCode) (k : Kept) (par to : ℕ) (again : Bool) → Forks c (cond again (instruction.Again par to) (instruction.Fork par to)) k → again ≡ true → living k.live (branches_in c.shape par) ≢ []
+some_by c k par to true h e = h
+some_by c k par to false h e = cc
+
+cost_by : (par to : ℕ) (again : Bool) → cost (cond again (instruction.Again par to) (instruction.Fork par to)) ≤ 1
+cost_by par to true = omega arith
+cost_by par to false = omega arith
 
 -- whose block it is
 fork_own : (c : PlainCode) (t : ℕ) (g : Option ℕ) (a : ℕ) (w : Work) (at : IsAt c t g w) (within : w.units ≤ a) (i : Instruction) → slice_get (block_for c t g).steps w.at ≡ Some i → Fork_kind c w.kept i → g ≡ None
@@ -131,6 +152,7 @@ works_at folding c t needs g w r q here = record {
   enough = r.enough;
   fits = r.fits;
   chained = r.chained;
+  inside = r.inside;
   below = r.below;
 }
 
@@ -161,6 +183,7 @@ module _ (folding : Bool) (c : PlainCode) (h : Thread) (l : Loaded c h) (run : h
       enough = works.enough;
       fits = omega (arith, works.fits, r.keeps.room);
       chained = subst (λ ws. Chained c h.function (length ws)) (sym r.keeps.below) works.chained;
+      inside = works.inside;
       below = still_below;
     }
 
@@ -176,7 +199,7 @@ module _ (folding : Bool) (c : PlainCode) (h : Thread) (l : Loaded c h) (run : h
           own = l.own;
           room = omega (arith, l.room, r.keeps.room);
           most = omega (arith, l.most, r.keeps.most);
-          combines = λ v f u e. omega (arith, l.combines v f u e, r.keeps.room);
+          combines = subst (EnoughToCombine c (block_of c h.number) (uses_of c h.number) l.needs) (sym r.keeps.room) l.combines;
           serves = r.at.serves;
           folds = l.folds;
           space = l.space;
@@ -189,12 +212,19 @@ module _ (folding : Bool) (c : PlainCode) (h : Thread) (l : Loaded c h) (run : h
         count = r.count;
         lands = ap (run_for (step c h.number) r.count) machine_runs ∙ r.lands (callers c h.number h.stack.below)
             ∙ ap (λ ws. machine_at (block_for c h.number h.function) (callers c h.number ws) w) (sym r.keeps.below) ∙ sym (ap (machine_in c went) run);
+        machine = subst Has_machine (sym run) tt;
         rises = r.rises;
       };
       phase = refl;
       function = refl;
       below = r.keeps.below;
       shows = shows;
+      aside = record { branches = refl; joining = refl; room = r.keeps.room; most = r.keeps.most };
+      own = r.own;
+      over = λ F. (
+        r.count,
+        r.lands (callers_over c h.number F h.stack.below) ∙ ap (λ ws. machine_at (block_for c h.number h.function) (callers_over c h.number F ws) w) (sym r.keeps.below),
+      );
     }
 
 module _ (c : PlainCode) (h : Thread) (l : Loaded c h) (run : h.phase ≡ phase.Running false) where
@@ -232,6 +262,7 @@ module _ (c : PlainCode) (h : Thread) (l : Loaded c h) (run : h.phase ≡ phase.
       allowance = refl;
       count = 1;
       lands = ap (step c h.number) on_runs ∙ s.0.steps (callers c h.number h.stack.below);
+      machine = tt;
       rises = s.0.rises;
     }
 
@@ -263,6 +294,7 @@ module _ (c : PlainCode) (h : Thread) (l : Loaded c h) (run : h.phase ≡ phase.
       count = 1;
       lands = ap (step c h.number) on_runs
           ∙ ap (λ i. act c h.number i (point_of (block_for c h.number h.function) h.at h.stack) (callers c h.number h.stack.below) (own_of h.own) h.units) s.is;
+      machine = tt;
       rises = omega arith;
     }
 
@@ -300,17 +332,15 @@ module _ (c : PlainCode) (h : Thread) (l : Loaded c h) (run : h.phase ≡ phase.
           lands = ap (step c h.number) on_runs
               ∙ ap (λ i. act c h.number i (point_of (block_for c h.number h.function) h.at h.stack) (callers c h.number h.stack.below) (own_of h.own) h.units) s.is
               ∙ ap (λ g. Paused (point_of (block_for c h.number g) to h.stack) (own_of h.own) h.units) pause_own;
+          machine = tt;
           rises = omega arith;
         }
 
   module _ (units : ℕ) (s : Shows c h.number h.function h.allowance (work_of h) (stop.Forks units)) where
-    abbrev forked : Thread
-    forked = record { number = h.number; phase = phase.Forked h.units; function = h.function; at = h.at; stack = h.stack; own = h.own; units = units; allowance = h.allowance; branches = h.branches; joining = h.joining }
-
     kind : Fork_kind c h.own s.0
     kind = fork_kind c h.own s.0 s.2
 
-    fork_is_own : h.function ≡ None
+    pub fork_is_own : h.function ≡ None
     fork_is_own = fork_own c h.number h.function h.allowance (work_of h) runs.at s.1.within s.0 s.1.is kind
 
     works_own : Works false c h.number l.needs None (work_of h)
@@ -319,55 +349,79 @@ module _ (c : PlainCode) (h : Thread) (l : Loaded c h) (run : h.phase ≡ phase.
     is_own : slice_get (block_of c h.number).steps h.at ≡ Some s.0
     is_own = ap (λ g. slice_get (block_for c h.number g).steps h.at) (sym fork_is_own) ∙ s.1.is
 
-    waits : Waits_for c h.number s.0 (work_of h)
-    waits = waits_for c h.number h.allowance (work_of h) works_own.at s.1.within s.0 is_own kind
+    step_of : (i : Instruction) → Fork_kind c h.own i → IsForkStep i
+    step_of i (is_fork j to e) = subst IsForkStep (sym e) tt
+    step_of i (is_again j to some e) = subst IsForkStep (sym e) tt
 
-    stepped : step c h.number (machine_at (block_of c h.number) [] (work_of h)) ≡ Waits waits.for (own_of h.own) (h.units + cost s.0)
-    stepped = ap (λ i. act c h.number i (point_of (block_of c h.number) h.at h.stack) [] (own_of h.own) h.units) is_own ∙ waits.steps
+    pub fork_here : IsFork c h.number h.at
+    fork_here = (s.0, is_own, step_of s.0 kind)
 
-    small_cost : (i : Instruction) → Fork_kind c h.own i → cost i ≤ 1
-    small_cost i (is_fork j to e) = let n = ap cost e in omega (arith, n)
-    small_cost i (is_again j to some e) = let n = ap cost e in omega (arith, n)
+    module _ (valid : IsValidCode c) (f : ForkAt) (is : slice_get (block_of c h.number).steps h.at ≡ Some (instruction_of f)) where
+      same : s.0 ≡ instruction_of f
+      same = let e = sym is_own ∙ is in cc
 
-    pub fork_moved : Moved c h forked
-    fork_moved =
-        let none = empty_of h.stack.below works_own.chained in
-        record {
-          loaded = record {
-            thread = l.thread;
-            short = l.short;
-            needs = l.needs;
-            each = l.each;
-            need = l.need;
-            own = l.own;
-            room = l.room;
-            most = l.most;
-            combines = l.combines;
-            serves = l.serves;
-            folds = l.folds;
-            space = l.space;
-            small = l.small;
-            units = omega (arith, s.3, s.1.within, small_cost s.0 kind);
-            placed = record {
-              works = works_own;
-              own = fork_is_own;
-              instruction = s.0;
-              is = is_own;
-              forks = s.2;
-              units = ap units_of stepped ∙ sym s.3;
-              seeds = waits.for.seeds;
-              view = ap view_of stepped;
+      forks : Forks c (instruction_of f) h.own
+      forks = subst (λ i. Forks c i h.own) same s.2
+
+      abbrev bs : List ℕ
+      bs = chosen f.again h.own.live (branches_in c.shape f.par)
+
+      waits : Waits_for c h.number (instruction_of f) bs (work_of h)
+      waits = waits_by c h.number h.allowance (work_of h) works_own.at s.1.within f.par f.to f.again is (some_by c h.own f.par f.to f.again forks)
+
+      abbrev forked : Thread
+      forked = record { number = h.number; phase = phase.Forked h.units; function = h.function; at = h.at; stack = h.stack; own = h.own; units = units; allowance = h.allowance; branches = with_branches bs h.branches; joining = h.joining }
+
+      stepped : step c h.number (machine_at (block_of c h.number) [] (work_of h)) ≡ Waits waits.for (own_of h.own) (h.units + cost (instruction_of f))
+      stepped = ap (λ i. act c h.number i (point_of (block_of c h.number) h.at h.stack) [] (own_of h.own) h.units) is ∙ waits.steps
+
+      counted : units ≡ h.units + cost (instruction_of f)
+      counted = s.3 ∙ ap (λ i. h.units + cost i) same
+
+      pub fork_moved : Moved c h forked
+      fork_moved =
+          let none = empty_of h.stack.below works_own.chained in
+          record {
+            loaded = record {
+              thread = l.thread;
+              short = l.short;
+              needs = l.needs;
+              each = l.each;
+              need = l.need;
+              own = l.own;
+              room = l.room;
+              most = l.most;
+              combines = l.combines;
+              serves = l.serves;
+              folds = l.folds;
+              space = l.space;
+              small = l.small;
+              units = omega (arith, counted, s.1.within, cost_by f.par f.to f.again);
+              placed = record {
+                works = works_own;
+                own = fork_is_own;
+                instruction = instruction_of f;
+                is = is;
+                forks = forks;
+                units = ap units_of stepped ∙ sym counted;
+                seeds = waits.for.seeds;
+                view = ap view_of stepped;
+                numbers = sym waits.names;
+                branches = chosen_are c valid h.number f.par (par_by c h.number h.allowance (work_of h) works_own.at s.1.within f.par f.to f.again is) f.again h.own.live;
+                few = chosen_few c valid f.par f.again h.own.live;
+                settled = omega arith;
+                joined = refl;
+              };
             };
-          };
-          number = refl;
-          allowance = refl;
-          count = 1;
-          lands = ap (step c h.number)
-              (on_runs ∙ ap (λ g. machine_at (block_for c h.number g) (callers c h.number h.stack.below) (work_of h)) fork_is_own
-              ∙ ap (λ ws. machine_at (block_of c h.number) (callers c h.number ws) (work_of h)) none);
-          rises = omega (arith, s.3);
-        }
+            number = refl;
+            allowance = refl;
+            count = 1;
+            lands = ap (step c h.number)
+                (on_runs ∙ ap (λ g. machine_at (block_for c h.number g) (callers c h.number h.stack.below) (work_of h)) fork_is_own
+                ∙ ap (λ ws. machine_at (block_of c h.number) (callers c h.number ws) (work_of h)) none);
+            machine = tt;
+            rises = omega (arith, counted);
+          }
 
-    pub fork_view : event_of (view_of (machine_of c forked)) ≡ Some event.Fork
-    fork_view = ap (λ m. event_of (view_of m)) stepped
-
+      pub fork_view : event_of (view_of (machine_of c forked)) ≡ Some event.Fork
+      fork_view = ap (λ m. event_of (view_of m)) stepped

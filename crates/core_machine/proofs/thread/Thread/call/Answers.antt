@@ -3,7 +3,7 @@ use Rattle.thread_code.specs.Plain.{PlainBlock, plain_code, plain_block}
 use Rattle.core_machine.specs.Frames.{entered}
 use Rattle.core_machine.specs.declared.stack.Resume.{Resume}
 use Rattle.core_machine.specs.declared.thread.Thread.{Thread}
-use Rattle.core_machine.specs.Held.{Calls_or_returns}
+use Rattle.core_machine.specs.Held.{Calls}
 use Rattle.core_machine.proofs.Calls.{known, call_args, call_words, call_next, call_frames, call_room, call_goes}
 use Rattle.core_machine.proofs.thread.Thread.call.Goals as goal
 
@@ -46,5 +46,5 @@ returns c =
     let resume : Resume = record { at = h.at + 1; block = h.function } in
     let e = c.enter.ensures ∙ ap (λ (b : PlainBlock). entered b.params b.words b.counters resume h.stack) c.block_at-block.ensures in
     subst
-    (λ s. Calls_or_returns (plain_code c.args.code.now) h (record { number = h.number; phase = h.phase; function = Some c.args.function; at = 0; stack = s; own = h.own; units = h.units + 1; allowance = h.allowance; branches = h.branches; joining = h.joining })) (sym e)
+    (λ s. Calls (plain_code c.args.code.now) h (record { number = h.number; phase = h.phase; function = Some c.args.function; at = 0; stack = s; own = h.own; units = h.units + 1; allowance = h.allowance; branches = h.branches; joining = h.joining })) (sym e)
     (call_goes c.requires.running.0 (plain_code c.args.code.now) c.requires.valid h c.requires.loaded c.requires.running.1 c.args.function c.requires.before)

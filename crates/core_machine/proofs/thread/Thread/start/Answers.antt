@@ -1,4 +1,4 @@
-use Rattle.std.proofs.Common.{◌≡◌, ◌≤◌, ◌∙◌, sym, ap, subst, arith, length, None, List, ℤ, ℕ}
+use Rattle.std.proofs.Common.{false, ◌≡◌, ◌≤◌, ◌∙◌, sym, ap, subst, arith, length, None, List, ℤ, ℕ}
 use Rattle.forec_kernel.specs.declared.shape.VarCopy.{VarCopy}
 use Rattle.thread_code.specs.Plain.{PlainBlock, plain_code}
 use Rattle.thread_code.specs.Alone.{block_of}
