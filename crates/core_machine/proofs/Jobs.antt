@@ -29,6 +29,7 @@ use Rattle.combine_tree.specs.declared.packet.PacketKind.{PacketKind}
 use Rattle.combine_tree.specs.declared.packet.PacketKind.TheVariants as kind
 use Rattle.combine_tree.specs.Plain.{plain_kind, plain_packet}
 use Rattle.core_machine.specs.Frames.{Frames, started as started_frames}
+use Rattle.core_machine.specs.Branches.{Says}
 use Rattle.core_machine.specs.Kept.{Kept, own_of, begun as begun_kept, with_copies, Serves}
 use Rattle.core_machine.specs.Stretch.{block_for, scope_for, first, Work, work, point_of, IsAt}
 use Rattle.core_machine.specs.declared.thread.Thread.{Thread}
@@ -380,7 +381,7 @@ is_wake h kind.Over n b = absurd b
 pub at_running : (c : PlainCode) (h : Thread) (folding : Bool) → h.phase ≡ phase.Running folding → Stands_at c h (machine_of c h)
 at_running c h folding e = subst (λ p. Stands_in c h p (machine_in c h p)) (sym e) refl
 
-stands_in_phase : (c : PlainCode) (h : Thread) (p : Phase) → Has_machine p → ((before : ℕ) → p ≡ phase.Forked before → h.branches.ended ≡ []) → Stands_in c h p (machine_in c h p)
+stands_in_phase : (c : PlainCode) (h : Thread) (p : Phase) → Has_machine p → ((before : ℕ) → p ≡ phase.Forked before → Says h.branches []) → Stands_in c h p (machine_in c h p)
 stands_in_phase c h phase.Fresh k quiet = refl
 stands_in_phase c h (phase.Running folding) k quiet = refl
 stands_in_phase c h (phase.Forked before) k quiet = (refl, quiet before refl)
@@ -390,7 +391,7 @@ stands_in_phase c h phase.Ended k quiet = refl
 stands_in_phase c h (phase.Trapped place trap) k quiet = refl
 stands_in_phase c h phase.Over k quiet = absurd k
 
-at_event : (c : PlainCode) (h : Thread) → Has_machine h.phase → ((before : ℕ) → h.phase ≡ phase.Forked before → h.branches.ended ≡ []) → Stands_at c h (machine_of c h)
+at_event : (c : PlainCode) (h : Thread) → Has_machine h.phase → ((before : ℕ) → h.phase ≡ phase.Forked before → Says h.branches []) → Stands_at c h (machine_of c h)
 at_event c h k quiet = stands_in_phase c h h.phase k quiet
 
 stands_running : (c : PlainCode) (h : Thread) (m : Machine) → h.phase ≡ phase.Running false → Stands_at c h m → m ≡ machine_of c h
@@ -486,12 +487,12 @@ rests_over h phase.Ended past k = tt
 rests_over h (phase.Trapped place trap) past k = tt
 rests_over h phase.Over past k = tt
 
-left_in : (c : PlainCode) (h : Thread) (l : Loaded c h) (p : Phase) → h.phase ≡ p → Placed c l.needs h p → (r : Event) → h.units ≤ h.allowance → ((before : ℕ) → h.phase ≡ phase.Forked before → h.branches.ended ≡ []) → event_of (view_of (machine_in c h p)) ≡ Some r → Left_by h r
+left_in : (c : PlainCode) (h : Thread) (l : Loaded c h) (p : Phase) → h.phase ≡ p → Placed c l.needs h p → (r : Event) → h.units ≤ h.allowance → ((before : ℕ) → h.phase ≡ phase.Forked before → Says h.branches []) → event_of (view_of (machine_in c h p)) ≡ Some r → Left_by h r
 left_in c h l phase.Fresh e pl r le g v = cc
 left_in c h l (phase.Running folding) e pl r le g v = cc
 left_in c h l (phase.Forked before) e pl r le g v =
     let k : r ≡ event.Fork = let w = sym v ∙ ap event_of pl.view in cc in
-    subst (Left_by h) (sym k) (record { before = before; phase = e; within = le; count = ap length (g before e) })
+    subst (Left_by h) (sym k) (record { before = before; phase = e; within = le; count = ap length (g before e).ended })
 left_in c h l phase.Joining e pl r le g v = cc
 left_in c h l phase.Paused e pl r le g v =
     let k : r ≡ event.Paused = cc in
@@ -504,7 +505,7 @@ left_in c h l (phase.Trapped place trap) e pl r le g v =
     subst (Left_by h) (sym k) (record { resting = subst (Rests_in h) (sym e) tt; started = λ f. let w = sym e ∙ f in cc })
 left_in c h l phase.Over e pl r le g v = cc
 
-left_shown : (c : PlainCode) (h : Thread) (l : Loaded c h) → h.phase ≢ phase.Fresh → (r : Event) → Stops_in h.phase → ((before : ℕ) → h.phase ≡ phase.Forked before → h.branches.ended ≡ []) → Shown c h r → Left_by h r
+left_shown : (c : PlainCode) (h : Thread) (l : Loaded c h) → h.phase ≢ phase.Fresh → (r : Event) → Stops_in h.phase → ((before : ℕ) → h.phase ≡ phase.Forked before → Says h.branches []) → Shown c h r → Left_by h r
 left_shown c h l started r stops quiet (over past) = record { resting = rests_over h h.phase past stops; started = started }
 left_shown c h l started r stops quiet (comes s le v) = left_in c h l h.phase refl l.placed r le quiet v
 

@@ -13,3 +13,4 @@ pub mod Lists
 pub mod Args
 pub mod Branching
 pub mod Asking
+pub mod Replying

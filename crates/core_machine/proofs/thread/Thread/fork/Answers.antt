@@ -1,4 +1,4 @@
-use Rattle.std.proofs.Common.{sym, refl, subst}
+use Rattle.std.proofs.Common.{sym, refl, subst, inl}
 use Rattle.thread_code.specs.Plain.{plain_code}
 use Rattle.core_machine.specs.declared.thread.Thread.{Thread}
 use Rattle.core_machine.specs.declared.thread.Phase.TheVariants as phase
@@ -21,7 +21,7 @@ returns-then-units-self c =
       moved = fork_moved code h c.requires.loaded c.requires.running c.args.units c.requires.before c.requires.valid c.fork_at-fork.result c.fork_at-fork.ensures;
       shown = over c.if-units-self.true;
       stops = tt;
-      none = λ before e. refl;
+      none = λ before e. record { ended = refl; units = inl refl; verdict = refl };
     })
 
 pub returns-else-units-self : goal.returns-else-units-self
@@ -34,5 +34,5 @@ returns-else-units-self c =
       moved = fork_moved code h c.requires.loaded c.requires.running c.args.units c.requires.before c.requires.valid c.fork_at-fork.result c.fork_at-fork.ensures;
       shown = comes event.Fork c.if-units-self.false (fork_view code h c.requires.loaded c.requires.running c.args.units c.requires.before c.requires.valid c.fork_at-fork.result c.fork_at-fork.ensures);
       stops = tt;
-      none = λ before e. refl;
+      none = λ before e. record { ended = refl; units = inl refl; verdict = refl };
     })
