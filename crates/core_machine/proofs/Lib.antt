@@ -14,3 +14,4 @@ pub mod Args
 pub mod Branching
 pub mod Asking
 pub mod Replying
+pub mod Seeds

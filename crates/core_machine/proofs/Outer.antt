@@ -49,12 +49,12 @@ is_owned t (Some f) n h = cc
 
 -- ---- the instructions at which branches wait
 
-data Fork_kind (c : PlainCode) (k : Kept) (i : Instruction) : Type 0 where
+pub data Fork_kind (c : PlainCode) (k : Kept) (i : Instruction) : Type 0 where
   is_fork : (j to : ℕ) → i ≡ instruction.Fork j to → Fork_kind c k i
   is_again : (j to : ℕ) → living k.live (branches_in c.shape j) ≢ [] → i ≡ instruction.Again j to → Fork_kind c k i
 
 module _ (c : PlainCode) (k : Kept) where
-  fork_kind : (i : Instruction) → Forks c i k → Fork_kind c k i
+  pub fork_kind : (i : Instruction) → Forks c i k → Fork_kind c k i
   fork_kind (instruction.Push n) h = absurd h
   fork_kind (instruction.Quiet n) h = absurd h
   fork_kind (instruction.Load x) h = absurd h

@@ -9,6 +9,7 @@ use Rattle.forec_kernel.specs.Texts.{params_in}
 use Rattle.thread_code.specs.Plain.{PlainCode}
 use Rattle.thread_code.specs.Valid.{arguments_of}
 use Rattle.thread_code.specs.Alone.{block_of, view_of, CodeAlone}
+use Rattle.combine_tree.specs.declared.packet.Packet.{Packet}
 use Rattle.combine_tree.specs.declared.packet.PacketKind.{PacketKind}
 use Rattle.combine_tree.specs.declared.packet.PacketKind.TheVariants as kind
 use Rattle.core_machine.specs.declared.thread.Thread.{Thread}
@@ -67,10 +68,6 @@ IsForkStep _ = ⊥
 abbrev pub IsFork : PlainCode → ℕ → ℕ → Type 0
 IsFork c t at = (i : Instruction) × (slice_get (block_of c t).steps at ≡ Some i) × IsForkStep i
 
--- the thread is at a new fork
-abbrev pub IsNewFork : PlainCode → Thread → Type 0
-IsNewFork c h = (j : ℕ) × (to : ℕ) × (slice_get (block_of c h.number).steps h.at ≡ Some (instruction.Fork j to))
-
 abbrev pub AreThreads : PlainShape → List ℕ → Type 0
 AreThreads s [] = Unit {0}
 AreThreads s (b ∷ bs) = (b < length s.threads) × AreThreads s bs
@@ -84,3 +81,10 @@ args_from total first (suc n) stack = word stack (total - 1 - first) ∷ args_fr
 abbrev pub args_at : PlainCode → Thread → ℕ → List ℤ
 args_at c h k =
     args_from (arguments_of c.shape h.branches.numbers) (arguments_of c.shape (take k h.branches.numbers)) (params_in c.shape.threads (branch_at h k)) h.stack.stack
+
+-- it was made a Start with the arguments of the k-th branch where the fork is new, and else a Wake
+pub record HasKind (c : PlainCode) (h : Thread) (k : ℕ) (p p' : Packet) : Type 0 where
+  pub copies : p'.copies ≡ p.copies
+  pub long : length p'.args.items ≡ length p.args.items
+  pub start : (j to : ℕ) → slice_get (block_of c h.number).steps h.at ≡ Some (instruction.Fork j to) → (p'.kind ≡ kind.Start) × (p'.args.items ≡ args_at c h k)
+  pub wake : (j to : ℕ) → slice_get (block_of c h.number).steps h.at ≡ Some (instruction.Again j to) → p'.kind ≡ kind.Wake
