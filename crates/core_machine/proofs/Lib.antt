@@ -15,3 +15,4 @@ pub mod Branching
 pub mod Asking
 pub mod Replying
 pub mod Seeds
+pub mod Folds

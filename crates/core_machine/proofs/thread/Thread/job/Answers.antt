@@ -63,5 +63,5 @@ returns-clause-job c = λ w e.
     let q = plain_packet (record p { copies = with_items p.copies c.hand_down.new.copies; allowance = h.allowance - h.units }) in
     let m = length-map c.deref.result.now (λ v. record { value = (get_or h.own.copies (place_in h.own v) no_copy).value; modified = false }) in
     let long : length c.hand_down.new.copies ≡ length p.copies.items = ap length c.hand_down.ensures ∙ m ∙ sym (ap length uses) ∙ sym c.requires.room.copies ∙ sym (ap (λ (v : _). length v.items) c.write_kind.ensures.copies) in
-    let copies = with_items_is p.copies c.hand_down.new.copies (long ∙ p.copies.ok.0) in
+    let copies = with_items_is p.copies c.hand_down.new.copies (long ∙ sym p.copies.ok.0) in
     job_by code h c.requires.loaded c.requires.fork c.args.k c.requires.branch c.args.packet.now p kinds q refl refl (copies ∙ c.hand_down.ensures ∙ ap (handed_by h.own) (sym uses)) refl w e
