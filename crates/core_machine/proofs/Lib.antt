@@ -16,3 +16,4 @@ pub mod Asking
 pub mod Replying
 pub mod Seeds
 pub mod Folds
+pub mod FoldRuns
