@@ -17,3 +17,4 @@ pub mod Replying
 pub mod Seeds
 pub mod Folds
 pub mod FoldRuns
+pub mod FoldLoop

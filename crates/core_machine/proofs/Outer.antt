@@ -127,7 +127,7 @@ cost_by par to true = omega arith
 cost_by par to false = omega arith
 
 -- whose block it is
-fork_own : (c : PlainCode) (t : ℕ) (g : Option ℕ) (a : ℕ) (w : Work) (at : IsAt c t g w) (within : w.units ≤ a) (i : Instruction) → slice_get (block_for c t g).steps w.at ≡ Some i → Fork_kind c w.kept i → g ≡ None
+pub fork_own : (c : PlainCode) (t : ℕ) (g : Option ℕ) (a : ℕ) (w : Work) (at : IsAt c t g w) (within : w.units ≤ a) (i : Instruction) → slice_get (block_for c t g).steps w.at ≡ Some i → Fork_kind c w.kept i → g ≡ None
 fork_own c t g a w at within i is (is_fork j to e) = let f = fine c t g a w at within (instruction.Fork j to) (is ∙ ap Some e) in is_owned t g f.0.owner f.0.is
 fork_own c t g a w at within i is (is_again j to some e) = let f = fine c t g a w at within (instruction.Again j to) (is ∙ ap Some e) in is_owned t g f.0.owner f.0.is
 
