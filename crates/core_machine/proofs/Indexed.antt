@@ -20,7 +20,7 @@ get_set_other (y ∷ ys) (suc k) (suc j) x ne = get_set_other ys k j x (λ e. ne
 pub equal_of : (a b : ℕ) → (a == b) ≡ true → a ≡ b
 equal_of a b h = grind (arith, nat_tests)
 
-differs_of : (a b : ℕ) → (a == b) ≡ false → b ≢ a
+pub differs_of : (a b : ℕ) → (a == b) ≡ false → b ≢ a
 differs_of a b h = grind (arith, nat_tests)
 
 -- one variable more, in front of those that have their places

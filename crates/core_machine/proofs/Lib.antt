@@ -18,3 +18,4 @@ pub mod Seeds
 pub mod Folds
 pub mod FoldRuns
 pub mod FoldLoop
+pub mod Offering
