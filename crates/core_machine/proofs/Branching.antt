@@ -15,7 +15,7 @@ use Rattle.core_machine.specs.Held.{branch_of, IsBranch, AreBranches}
 use Rattle.core_machine.specs.Forks.{AreThreads}
 use Rattle.core_machine.proofs.Indexed.{equal_of}
 
-same_self : (b : ℕ) → (b == b) ≡ true
+pub same_self : (b : ℕ) → (b == b) ≡ true
 same_self b = grind (arith, nat_tests)
 
 -- ---- the branches of a par

@@ -19,3 +19,4 @@ pub mod Folds
 pub mod FoldRuns
 pub mod FoldLoop
 pub mod Offering
+pub mod Combining

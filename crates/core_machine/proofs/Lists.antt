@@ -20,7 +20,7 @@ read_map f [] i d e lt = absurd (omega arith)
 read_map f (x ∷ xs) zero d e lt = refl
 read_map f (x ∷ xs) (suc i) d e lt = read_map f xs i d e (omega arith)
 
-take_past : {A : Type 0} → (xs : List A) (n : ℕ) → length xs ≤ n → take n xs ≡ xs
+pub take_past : {A : Type 0} → (xs : List A) (n : ℕ) → length xs ≤ n → take n xs ≡ xs
 take_past [] zero le = refl
 take_past [] (suc n) le = refl
 take_past (x ∷ xs) zero le = absurd (omega arith)
