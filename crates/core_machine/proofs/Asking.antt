@@ -40,11 +40,11 @@ module _ (S : Type 0) (e : Engine S) where
 
 -- ---- at a fork
 
-module _ (c : PlainCode) (h : Thread) (l : Loaded c h) (at : HasSettled h 0) where
+module _ (c : PlainCode) (h : Thread) (l : Loaded c h) {k : ℕ} (at : HasSettled h k) where
   pub waits : Waits_at c l.needs h at.before
   waits = subst (Placed c l.needs h) at.phase l.placed
 
-  machine_is : machine_of c h ≡ machine_in c h (phase.Forked at.before)
+  pub machine_is : machine_of c h ≡ machine_in c h (phase.Forked at.before)
   machine_is = ap (machine_in c h) at.phase
 
   pub view_is : view_of (machine_of c h) ≡ AtFork waits.seeds
@@ -53,9 +53,10 @@ module _ (c : PlainCode) (h : Thread) (l : Loaded c h) (at : HasSettled h 0) whe
   pub jobs_are : jobs_at c h ≡ map (written (h.allowance - h.units)) waits.seeds
   jobs_are = ap (λ v. map (written (h.allowance - h.units)) (seeds_in v)) view_is
 
-  units_is : units_of (machine_of c h) ≡ h.units
+  pub units_is : units_of (machine_of c h) ≡ h.units
   units_is = ap units_of machine_is ∙ waits.units
 
+module _ (c : PlainCode) (h : Thread) (l : Loaded c h) (at : HasSettled h 0) where
   none_settled : (rs : List Reply) → Says h.branches rs → rs ≢ [] → ⊥
   none_settled [] s some = some refl
   none_settled (r ∷ rs) s some = let n = ap length s.ended in omega (arith, n, at.count)
@@ -64,9 +65,9 @@ module _ (c : PlainCode) (h : Thread) (l : Loaded c h) (at : HasSettled h 0) whe
   asks_in ys job before al reached =
       let e = code_engine c h.number in
       let t = tells Machine e ys (Inside job before (machine_of c h)) reached in
-      let ws = map (written (allowance_of job - units_of (machine_of c h))) waits.seeds in
-      let same : ws ≡ jobs_at c h = ap (λ a. map (written (a - units_of (machine_of c h))) waits.seeds) (sym al) ∙ ap (λ u. map (written (h.allowance - u)) waits.seeds) units_is ∙ sym jobs_are in
-      let serves = went_fork Machine e (allowance_of job) before t.2 t.3 (machine_of c h) waits.seeds t.6 (omega (arith, al, units_is, at.within)) view_is in
+      let ws = map (written (allowance_of job - units_of (machine_of c h))) (waits c h l at).seeds in
+      let same : ws ≡ jobs_at c h = ap (λ a. map (written (a - units_of (machine_of c h))) (waits c h l at).seeds) (sym al) ∙ ap (λ u. map (written (h.allowance - u)) (waits c h l at).seeds) (units_is c h l at) ∙ sym (jobs_are c h l at) in
+      let serves = went_fork Machine e (allowance_of job) before t.2 t.3 (machine_of c h) (waits c h l at).seeds t.6 (omega (arith, al, (units_is c h l at), at.within)) (view_is c h l at) in
       let out = ends_with Machine e t.3 ws in
       subst (Asks c h.number (ys ++ record { job = job; replies = before } ∷ [])) same
       (record {
@@ -80,7 +81,7 @@ module _ (c : PlainCode) (h : Thread) (l : Loaded c h) (at : HasSettled h 0) whe
   asks xs (never fresh) = let e = sym fresh ∙ at.phase in cc
   asks xs (since ys job before m al reached st) =
       let s = subst (λ p. Stands_in c h p m) at.phase st in
-      asks_in ys job before al (subst (λ m. Reached (code_engine c h.number) ys (Inside job before m)) (s.0 ∙ sym machine_is) reached)
+      asks_in ys job before al (subst (λ m. Reached (code_engine c h.number) ys (Inside job before m)) (s.0 ∙ sym (machine_is c h l at)) reached)
   asks xs (settling ys job before rs al reached w some says) = absurd (none_settled rs says some)
   asks xs (joining ys job before rs m al reached e n st) = let f = sym e ∙ at.phase in cc
 
@@ -90,4 +91,4 @@ module _ (c : PlainCode) (h : Thread) (l : Loaded c h) (at : HasSettled h 0) whe
   branches_written a (Wakes b values ∷ seeds) = ap (λ l. b ∷ l) (branches_written a seeds)
 
   pub branches_are : h.branches.numbers ≡ map (λ (w : Written). w.branch) (jobs_at c h)
-  branches_are = waits.numbers ∙ sym (branches_written (h.allowance - h.units) waits.seeds) ∙ sym (ap (map (λ (w : Written). w.branch)) jobs_are)
+  branches_are = (waits c h l at).numbers ∙ sym (branches_written (h.allowance - h.units) (waits c h l at).seeds) ∙ sym (ap (map (λ (w : Written). w.branch)) (jobs_are c h l at))

@@ -20,3 +20,4 @@ pub mod FoldRuns
 pub mod FoldLoop
 pub mod Offering
 pub mod Combining
+pub mod Back

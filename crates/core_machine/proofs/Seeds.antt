@@ -98,7 +98,7 @@ branch_in c t [] k h lt = absurd (omega arith)
 branch_in c t (b ∷ bs) zero h lt = h.0
 branch_in c t (b ∷ bs) (suc k) h lt = branch_in c t bs k h.1 (omega arith)
 
-module _ (c : PlainCode) (h : Thread) (l : Loaded c h) (at : HasSettled h 0) where
+module _ (c : PlainCode) (h : Thread) (l : Loaded c h) {n : ℕ} (at : HasSettled h n) where
   abbrev w0 : Waits_at c l.needs h at.before
   w0 = waits c h l at
 
@@ -145,7 +145,7 @@ module _ (c : PlainCode) (h : Thread) (l : Loaded c h) (at : HasSettled h 0) whe
     abbrev living_ones : List ℕ
     living_ones = living h.own.live (branches_in c.shape j)
 
-    again_some : living_ones ≢ []
+    pub again_some : living_ones ≢ []
     again_some = by (fork_kind c h.own w0.instruction w0.forks)
       where
         by : Fork_kind c h.own w0.instruction → living h.own.live (branches_in c.shape j) ≢ []
