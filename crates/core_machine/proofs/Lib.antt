@@ -21,3 +21,4 @@ pub mod FoldLoop
 pub mod Offering
 pub mod Combining
 pub mod Back
+pub mod Starting
