@@ -22,3 +22,4 @@ pub mod Offering
 pub mod Combining
 pub mod Back
 pub mod Starting
+pub mod Finishing
