@@ -428,7 +428,7 @@ module _ (c : PlainCode) (t : ℕ) where
   abbrev e : Engine Machine
   e = code_engine c t
 
-  steps_on : (xs : List Exchange) (job : Job) (before : List (List Reply)) (n : ℕ) (m : Machine) → Reached e xs (Inside job before m) → Reached e xs (Inside job before (run_for (step c t) n m))
+  pub steps_on : (xs : List Exchange) (job : Job) (before : List (List Reply)) (n : ℕ) (m : Machine) → Reached e xs (Inside job before m) → Reached e xs (Inside job before (run_for (step c t) n m))
   steps_on xs job before zero m r = r
   steps_on xs job before (suc n) m r = steps_on xs job before n (step c t m) (stepped xs job before m (step c t m) r refl)
 

@@ -23,3 +23,4 @@ pub mod Combining
 pub mod Back
 pub mod Starting
 pub mod Finishing
+pub mod Joined

@@ -53,7 +53,7 @@ next_some : (rss : List (List Reply)) (rs : List Reply) → rs ≢ [] → next_r
 next_some rss [] some = absurd (some refl)
 next_some rss (r ∷ rs) some = refl
 
-abbrev at_fork : List Exchange → Job → List (List Reply) → List Exchange
+abbrev pub at_fork : List Exchange → Job → List (List Reply) → List Exchange
 at_fork ys job replies = ys ++ record { job = job; replies = replies } ∷ []
 
 -- none has come in
@@ -89,7 +89,7 @@ some_of : (rs : List Reply) (r : Reply) → rs ++ r ∷ [] ≢ []
 some_of [] r e = cc
 some_of (x ∷ rs) r e = cc
 
-long_some : (rs : List Reply) → 0 < length rs → rs ≢ []
+pub long_some : (rs : List Reply) → 0 < length rs → rs ≢ []
 long_some [] lt e = omega (arith, lt)
 long_some (r ∷ rs) lt e = cc
 
@@ -97,7 +97,7 @@ no_length : (rs : List Reply) → length rs ≡ 0 → rs ≡ []
 no_length [] e = refl
 no_length (r ∷ rs) e = absurd (omega (arith, e))
 
-some_long : (rs : List Reply) → rs ≢ [] → 0 < length rs
+pub some_long : (rs : List Reply) → rs ≢ [] → 0 < length rs
 some_long [] some = absurd (some refl)
 some_long (r ∷ rs) some = omega arith
 

@@ -1,6 +1,6 @@
 //! The branches of a thread's present fork, and what their replies say together.
 
-ghost use Rattle.std.specs.Prelude.{◌≡◌, ◌+◌, ◌<◌, ◌≤◌, ◌++◌, ◌∷◌, [], List, length, slice_get, get_or, take, ◌&&◌, false, true, cond, IfOk};
+ghost use Rattle.std.specs.Prelude.{◌≡◌, ◌≢◌, ◌+◌, ◌<◌, ◌≤◌, ◌++◌, ◌∷◌, [], List, length, slice_get, get_or, take, ◌&&◌, false, true, cond, IfOk};
 ghost use Rattle.std.specs.List.{list_all};
 ghost use Rattle.forec_kernel.specs.Engine.{Reply};
 ghost use Rattle.forec_kernel.specs.Packed.{IsReply};
@@ -152,10 +152,13 @@ impl Branches {
         are_all(&self.ended[..self.settled])
     }
 
-    pub fn joined(&self) -> usize
-        ensures { result ≡ self.now.joined }
+    /// Whether all but one have been joined.
+    pub fn is_last(&self) -> bool
+        requires { self.now.joined < length self.now.numbers }
+        ensures last { result ≡ true → self.now.joined + 1 ≡ length self.now.numbers }
+        ensures next { result ≡ false → self.now.joined + 1 ≢ length self.now.numbers }
     {
-        self.joined
+        self.joined + 1 == self.count
     }
 
     /// The units of the replies together; more than any allowance where they are too many to count.
