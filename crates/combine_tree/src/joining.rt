@@ -91,6 +91,19 @@ impl Joining {
         }
     }
 
+    /// Begins the join of one variable alone, with the parent's copy of it.
+    pub fn begin_at(&mut self, at: usize, base: VarCopy)
+        requires { at < length self.old }
+        ensures { self.new ≡ slice_set self.old at (begun base) }
+    {
+        self.folds[at] = Fold {
+            base,
+            marked: false,
+            total: None,
+            waits: false,
+        };
+    }
+
     /// Offers the next branch's copy of a variable. Gives the fold so far and the copy's value, to be
     /// combined, exactly where the copy takes part and is not the first that does.
     pub fn offer(&mut self, at: usize, policy: Policy, copy: VarCopy) -> Option<(i32, i32)>

@@ -14,9 +14,9 @@ use Rattle.forec_kernel.specs.Texts.{params_in, words_in, uses_in}
 use Rattle.forec_kernel.specs.Packets.{PlainPacket}
 use Rattle.forec_kernel.specs.Packed.{HasRoom, IsJob, IsReply}
 use Rattle.forec_kernel.specs.Solo.{unmarked_copies}
-use Rattle.forec_kernel.specs.Engine.{Job, Start, Wake, allowance_of, Reply, WasPaused, WasEnded, WasTrapped, WasOver, View, Going, AtFork, Pausing, Ending, Trapping, Exceeding, Engine, run_for, Stops, Reaches, Passes, Rest, Asleep, Nothing, Exchange, Output, last_reply}
+use Rattle.forec_kernel.specs.Engine.{Job, Start, Wake, allowance_of, Reply, WasPaused, WasEnded, WasTrapped, WasOver, Written, View, Going, AtFork, Pausing, Ending, Trapping, Exceeding, Engine, run_for, Stops, Reaches, Passes, Rest, Asleep, Nothing, Exchange, Output, Serves as Serves_by, last_reply}
 use Rattle.forec_kernel.specs.Reached.{Reached, AtRest, Inside, none, begun, stepped, answered, exceeded, Closes}
-use Rattle.forec_kernel.proofs.Reach.{tells, alone_of, alone_snoc, went_answer, went_over}
+use Rattle.forec_kernel.proofs.Reach.{Went, tells, alone_of, alone_snoc, went_answer, went_over}
 use Rattle.forec_kernel.proofs.Same.{one_stop, not_both}
 use Rattle.thread_code.specs.Plain.{PlainBlock, PlainCode}
 use Rattle.thread_code.specs.Valid.{IsBlock, IsValidCode, of_shape, thread_scope}
@@ -29,6 +29,7 @@ use Rattle.combine_tree.specs.declared.packet.PacketKind.{PacketKind}
 use Rattle.combine_tree.specs.declared.packet.PacketKind.TheVariants as kind
 use Rattle.combine_tree.specs.Plain.{plain_kind, plain_packet}
 use Rattle.core_machine.specs.Frames.{Frames, started as started_frames}
+use Rattle.core_machine.specs.Branches.{Says}
 use Rattle.core_machine.specs.Kept.{Kept, own_of, begun as begun_kept, with_copies, Serves}
 use Rattle.core_machine.specs.Stretch.{block_for, scope_for, first, Work, work, point_of, IsAt}
 use Rattle.core_machine.specs.declared.thread.Thread.{Thread}
@@ -36,7 +37,7 @@ use Rattle.core_machine.specs.declared.thread.Phase.{Phase}
 use Rattle.core_machine.specs.declared.thread.Phase.TheVariants as phase
 use Rattle.core_machine.specs.declared.thread.Event.{Event}
 use Rattle.core_machine.specs.declared.thread.Event.TheVariants as event
-use Rattle.core_machine.specs.Held.{work_of, callers, machine_in, machine_of, Works, Placed, Loaded, StandsFor, never, since, event_of, Tells, passes, reaches, IsResting, Rests_in, HasReply, HasPaused, IsForked, Left_by, CanBegin, Gives, started_anew, woken_up, Begun, Moved, Shown, over, comes, Comes_to}
+use Rattle.core_machine.specs.Held.{work_of, callers, machine_in, machine_of, Works, Placed, Loaded, Exceeds, Stands_in, Stands_at, Waits_for, StandsFor, never, since, settling, joining, event_of, Tells, passes, reaches, IsResting, Rests_in, HasReply, HasPaused, HasSettled, Has_machine, Stops_in, Runs_in, CanRun, Left_by, CanBegin, Gives, started_anew, woken_up, Begun, Moved, Shown, over, comes, Comes_to}
 use Rattle.core_machine.proofs.Outer.{empty_of}
 
 length_fresh : (args : List ℤ) (w : ℕ) → length args ≤ w → length (fresh_words args w) ≡ w
@@ -71,7 +72,7 @@ module _ (c : PlainCode) (valid : IsValidCode c) (h : Thread) (l : Loaded c h) (
   kept = begun_kept p.copies.items h.own
 
   abbrev started_thread : Thread
-  started_thread = record { number = h.number; phase = phase.Running; function = None; at = 0; stack = frames; own = kept; units = 0; allowance = p.allowance }
+  started_thread = record { number = h.number; phase = phase.Running false; function = None; at = 0; stack = frames; own = kept; units = 0; allowance = p.allowance; branches = h.branches; joining = h.joining }
 
   serves : Serves c h.number kept
   serves = record {
@@ -81,7 +82,7 @@ module _ (c : PlainCode) (valid : IsValidCode c) (h : Thread) (l : Loaded c h) (
     live = length-replicate (length h.own.live) false ∙ l.serves.live;
   }
 
-  start_works : Works c h.number l.needs None (work 0 frames kept 0)
+  start_works : Works false c h.number l.needs None (work 0 frames kept 0)
   start_works =
       let w = length_fresh p.args.items b.words start_args in
       let k = length-replicate {A = ℕ} b.counters 0 in
@@ -103,6 +104,7 @@ module _ (c : PlainCode) (valid : IsValidCode c) (h : Thread) (l : Loaded c h) (
         enough = l.own;
         fits = omega (arith, l.room);
         chained = refl;
+        inside = λ e. cc;
         below = refl;
       }
 
@@ -125,7 +127,10 @@ module _ (c : PlainCode) (valid : IsValidCode c) (h : Thread) (l : Loaded c h) (
       own = l.own;
       room = l.room;
       most = l.most;
+      combines = l.combines;
       serves = serves;
+      folds = l.folds;
+      space = l.space;
       small = small;
       units = omega arith;
       placed = start_works;
@@ -140,7 +145,7 @@ module _ (c : PlainCode) (valid : IsValidCode c) (h : Thread) (l : Loaded c h) (
 
 module _ (c : PlainCode) (h : Thread) (l : Loaded c h) (asleep : HasPaused h) (p : Packet) (room : HasRoom (of_shape c.shape) h.number (plain_packet p)) where
   abbrev woken_thread : Thread
-  woken_thread = record { number = h.number; phase = phase.Running; function = h.function; at = h.at; stack = h.stack; own = with_copies p.copies.items h.own; units = 0; allowance = p.allowance }
+  woken_thread = record { number = h.number; phase = phase.Running false; function = h.function; at = h.at; stack = h.stack; own = with_copies p.copies.items h.own; units = 0; allowance = p.allowance; branches = h.branches; joining = h.joining }
 
   placed_here : Placed c l.needs h phase.Paused
   placed_here = subst (Placed c l.needs h) asleep.phase l.placed
@@ -148,7 +153,7 @@ module _ (c : PlainCode) (h : Thread) (l : Loaded c h) (asleep : HasPaused h) (p
   woken_serves : Serves c h.number (with_copies p.copies.items h.own)
   woken_serves = record { copies = room.copies; places = l.serves.places; flags = l.serves.flags; live = l.serves.live }
 
-  woken_works : Works c h.number l.needs None (work h.at h.stack (with_copies p.copies.items h.own) 0)
+  woken_works : Works false c h.number l.needs None (work h.at h.stack (with_copies p.copies.items h.own) 0)
   woken_works =
       let w = placed_here.0 in
       record {
@@ -169,6 +174,7 @@ module _ (c : PlainCode) (h : Thread) (l : Loaded c h) (asleep : HasPaused h) (p
         enough = w.enough;
         fits = w.fits;
         chained = w.chained;
+        inside = λ e. cc;
         below = w.below;
       }
 
@@ -187,10 +193,13 @@ module _ (c : PlainCode) (h : Thread) (l : Loaded c h) (asleep : HasPaused h) (p
           own = l.own;
           room = l.room;
           most = l.most;
+          combines = l.combines;
           serves = woken_serves;
+          folds = l.folds;
+          space = l.space;
           small = small;
           units = omega arith;
-          placed = subst (λ g. Works c h.number l.needs g (work h.at h.stack (with_copies p.copies.items h.own) 0)) (sym own) woken_works;
+          placed = subst (λ g. Works false c h.number l.needs g (work h.at h.stack (with_copies p.copies.items h.own) 0)) (sym own) woken_works;
         };
         running = refl;
         number = refl;
@@ -201,45 +210,76 @@ module _ (c : PlainCode) (h : Thread) (l : Loaded c h) (asleep : HasPaused h) (p
 
 -- ---- where a thread stands
 
-units_in : (c : PlainCode) (h : Thread) (l : Loaded c h) (p : Phase) → Placed c l.needs h p → units_of (machine_in c h p) ≡ h.units
-units_in c h l phase.Fresh e = sym e
-units_in c h l phase.Running e = refl
-units_in c h l (phase.Forked before) e = e.units
-units_in c h l phase.Paused e = refl
-units_in c h l phase.Ended e = refl
-units_in c h l (phase.Trapped place trap) e = refl
+units_in : (c : PlainCode) (h : Thread) (l : Loaded c h) (p : Phase) → Has_machine p → Placed c l.needs h p → units_of (machine_in c h p) ≡ h.units
+units_in c h l phase.Fresh k e = sym e
+units_in c h l (phase.Running folding) k e = refl
+units_in c h l (phase.Forked before) k e = e.units
+units_in c h l phase.Joining k e = absurd k
+units_in c h l phase.Paused k e = refl
+units_in c h l phase.Ended k e = refl
+units_in c h l (phase.Trapped place trap) k e = refl
+units_in c h l phase.Over k e = absurd k
 
-pub units_are : (c : PlainCode) (h : Thread) → Loaded c h → units_of (machine_of c h) ≡ h.units
-units_are c h l = units_in c h l h.phase l.placed
+pub units_are : (c : PlainCode) (h : Thread) → Loaded c h → Has_machine h.phase → units_of (machine_of c h) ≡ h.units
+units_are c h l k = units_in c h l h.phase k l.placed
 
-not_fresh : (c : PlainCode) → IsValidCode c → (h : Thread) → Loaded c h → (xs : List Exchange) (job : Job) (before : List (List Reply)) → Reached (code_engine c h.number) xs (Inside job before (machine_of c h)) → h.phase ≡ phase.Fresh → ⊥
-not_fresh c valid h l xs job before r fresh =
-    never_stuck c valid h.number l.thread xs job before (Stuck 0) (subst (λ m. Reached (code_engine c h.number) xs (Inside job before m)) (ap (machine_in c h) fresh) r)
+not_fresh : (c : PlainCode) → IsValidCode c → (h : Thread) → Loaded c h → (xs : List Exchange) (job : Job) (before : List (List Reply)) (m : Machine) → Reached (code_engine c h.number) xs (Inside job before m) → Stands_at c h m → h.phase ≢ phase.Fresh
+not_fresh c valid h l xs job before m reached st fresh =
+    let e : m ≡ Stuck 0 = subst (λ p. Stands_in c h p m) fresh st in
+    never_stuck c valid h.number l.thread xs job before (Stuck 0) (subst (λ m. Reached (code_engine c h.number) xs (Inside job before m)) e reached)
 
 -- ---- the end of a job
-
--- the reply that a machine gives, and what a Wake finds
-record Closed (c : PlainCode) (t : ℕ) (m : Machine) : Type 0 where
-  reply : Reply
-  rest : Rest Machine
-  closes : Closes (code_engine c t) m (view_of m) reply rest
 
 abbrev pub reply_in : Thread → Phase → Reply
 reply_in h phase.Ended = WasEnded h.own.copies h.units
 reply_in h (phase.Trapped place trap) = WasTrapped place trap h.units
+reply_in h phase.Over = WasOver
 reply_in h _ = WasPaused h.own.copies h.units
 
 abbrev rest_in : PlainCode → Thread → Phase → Rest Machine
 rest_in c h phase.Paused = Asleep (machine_in c h phase.Paused)
 rest_in c h _ = Nothing
 
-closes_in : (c : PlainCode) (h : Thread) (p : Phase) → (p ≢ phase.Fresh) → Rests_in h p → h.units ≤ h.allowance → Closes (code_engine c h.number) (machine_in c h p) (view_of (machine_in c h p)) (reply_in h p) (rest_in c h p)
-closes_in c h phase.Fresh started rests le = absurd (started refl)
-closes_in c h phase.Running started rests le = absurd (omega (arith, rests, le))
-closes_in c h (phase.Forked before) started rests le = absurd (omega (arith, rests, le))
-closes_in c h phase.Paused started rests le = (refl, refl)
-closes_in c h phase.Ended started rests le = (refl, refl)
-closes_in c h (phase.Trapped place trap) started rests le = (refl, refl)
+-- how a job ends with this reply: its units pass the allowance, or it comes to an event
+data Concludes (c : PlainCode) (h : Thread) (m : Machine) (o : Reply) (r : Rest Machine) : Type 0 where
+  by_event : units_of m ≤ h.allowance → Closes (code_engine c h.number) m (view_of m) o r → Concludes c h m o r
+  by_units : h.allowance < units_of m → o ≡ WasOver → r ≡ Nothing → Concludes c h m o r
+
+exceeding : (c : PlainCode) (h : Thread) (m : Machine) → Exceeds h.allowance m → Concludes c h m WasOver Nothing
+exceeding c h m (inl past) = by_units past refl refl
+exceeding c h m (inr e) =
+    ⊎_elim (λ past. by_units past refl refl) (λ le. by_event le (subst (λ v. Closes (code_engine c h.number) m v WasOver Nothing) (sym e) (refl, refl)))
+    (cases_lt h.allowance (units_of m))
+
+module _ (c : PlainCode) (h : Thread) (l : Loaded c h) (m : Machine) where
+  -- within the allowance
+  concludes_in : (p : Phase) → p ≢ phase.Fresh → Placed c l.needs h p → Rests_in h p → Stands_in c h p m → h.units ≤ h.allowance → Concludes c h m (reply_in h p) (rest_in c h p)
+  concludes_in phase.Fresh fresh pl rests st le = absurd (fresh refl)
+  concludes_in (phase.Running folding) fresh pl rests st le = absurd (omega (arith, rests.0, le))
+  concludes_in (phase.Forked before) fresh pl rests st le = absurd (omega (arith, rests, le))
+  concludes_in phase.Joining fresh pl rests st le = absurd rests
+  concludes_in phase.Paused fresh pl rests st le = subst (λ m. Concludes c h m (reply_in h phase.Paused) (rest_in c h phase.Paused)) (sym st) (by_event le (refl, refl))
+  concludes_in phase.Ended fresh pl rests st le = subst (λ m. Concludes c h m (reply_in h phase.Ended) (rest_in c h phase.Ended)) (sym st) (by_event le (refl, refl))
+  concludes_in (phase.Trapped place trap) fresh pl rests st le = subst (λ m. Concludes c h m (reply_in h (phase.Trapped place trap)) (rest_in c h (phase.Trapped place trap))) (sym st) (by_event le (refl, refl))
+  concludes_in phase.Over fresh pl rests st le = exceeding c h m st
+
+  -- past the allowance
+  past_in : (p : Phase) → p ≢ phase.Fresh → Placed c l.needs h p → Rests_in h p → Stands_in c h p m → h.allowance < h.units → Concludes c h m WasOver Nothing
+  past_in phase.Fresh fresh pl rests st past = absurd (fresh refl)
+  past_in (phase.Running folding) fresh pl rests st past = by_units (subst (λ m. h.allowance < units_of m) (sym st) past) refl refl
+  past_in (phase.Forked before) fresh pl rests st past = by_units (subst (λ m. h.allowance < units_of m) (sym st.0) (let u = pl.units in omega (arith, past, u))) refl refl
+  past_in phase.Joining fresh pl rests st past = absurd rests
+  past_in phase.Paused fresh pl rests st past = by_units (subst (λ m. h.allowance < units_of m) (sym st) past) refl refl
+  past_in phase.Ended fresh pl rests st past = by_units (subst (λ m. h.allowance < units_of m) (sym st) past) refl refl
+  past_in (phase.Trapped place trap) fresh pl rests st past = by_units (subst (λ m. h.allowance < units_of m) (sym st) past) refl refl
+  past_in phase.Over fresh pl rests st past = exceeding c h m st
+
+-- a thread that rests has no fork open
+no_settling : (h : Thread) → IsResting h → Waits_for h → ⊥
+no_settling h rests w = let r : h.allowance < h.units = subst (Rests_in h) w.phase rests in omega (arith, r, w.within)
+
+no_joining : (h : Thread) → IsResting h → h.phase ≡ phase.Joining → ⊥
+no_joining h rests e = subst (Rests_in h) e rests
 
 last_of : (os : List Output) (o : Output) → last_reply (os ++ o ∷ []) ≡ o.reply
 last_of [] o = refl
@@ -254,54 +294,69 @@ record Finds (c : PlainCode) (h : Thread) (xs : List Exchange) : Type 0 where
   asleep : HasPaused h → rest ≡ Asleep (machine_of c h)
 
 module _ (c : PlainCode) (valid : IsValidCode c) (h : Thread) (l : Loaded c h) where
+  ends_at_rest : (xs : List Exchange) (job : Job) (before : List (List Reply)) (m : Machine) (o : Reply) (r : Rest Machine) → h.allowance ≡ allowance_of job → Reached (code_engine c h.number) xs (Inside job before m) → Concludes c h m o r →
+      Reached (code_engine c h.number) (xs ++ record { job = job; replies = before } ∷ []) (AtRest r)
+  ends_at_rest xs job before m o r al reached (by_event le closes) = answered xs job before m o r reached (omega (arith, le, al)) closes
+  ends_at_rest xs job before m o r al reached (by_units past eo er) =
+      subst (λ r. Reached (code_engine c h.number) (xs ++ record { job = job; replies = before } ∷ []) (AtRest r)) (sym er) (exceeded xs job before m reached (omega (arith, past, al)))
+
   finds : IsResting h → (xs : List Exchange) → StandsFor c h xs → Finds c h xs
   finds rests xs (never fresh) = record { rest = Nothing; reached = none; asleep = λ a. let e = sym fresh ∙ a.phase in cc }
-  finds rests xs (since ys job before al reached) =
+  finds rests xs (since ys job before m al reached st) =
       ⊎_elim
-      (λ past. record { rest = Nothing; reached = exceeded ys job before (machine_of c h) reached (omega (arith, past, al, units_are c h l)); asleep = λ a. absurd (omega (arith, past, a.within)) })
+      (λ past. record {
+        rest = Nothing;
+        reached = ends_at_rest ys job before m WasOver Nothing al reached (past_in c h l m h.phase (not_fresh c valid h l ys job before m reached st) l.placed rests st past);
+        asleep = λ a. absurd (omega (arith, past, a.within));
+      })
       (λ le. record {
         rest = rest_in c h h.phase;
-        reached = answered ys job before (machine_of c h) (reply_in h h.phase) (rest_in c h h.phase) reached (omega (arith, le, al, units_are c h l))
-            (closes_in c h h.phase (not_fresh c valid h l ys job before reached) rests le);
+        reached = ends_at_rest ys job before m (reply_in h h.phase) (rest_in c h h.phase) al reached (concludes_in c h l m h.phase (not_fresh c valid h l ys job before m reached st) l.placed rests st le);
         asleep = λ a. ap (rest_in c h) a.phase ∙ ap Asleep (sym (ap (machine_in c h) a.phase));
       })
       (cases_lt h.allowance h.units)
+  finds rests xs (settling ys job before rs al reached w some says) = absurd (no_settling h rests w)
+  finds rests xs (joining ys job before rs m al reached e n st) = absurd (no_joining h rests e)
 
 -- the packet that a reply fills
 module _ (c : PlainCode) (h : Thread) (l : Loaded c h) where
+  gives_by : (xs : List Exchange) (job : Job) (before : List (List Reply)) (m : Machine) (o : Reply) (r : Rest Machine) → h.allowance ≡ allowance_of job → Reached (code_engine c h.number) xs (Inside job before m) → Concludes c h m o r →
+      (p : PlainPacket) → IsReply p o → Gives c h.number (xs ++ record { job = job; replies = before } ∷ []) p
+  gives_by ys job before m o r al reached k p is =
+      let e = code_engine c h.number in
+      let t = tells Machine e ys (Inside job before m) reached in
+      let serves = serves_by k in
+      let out : Output = record { jobs = t.3; reply = Some o } in
+      record {
+        outputs = t.0 ++ out ∷ [];
+        runs = alone_of Machine e (ys ++ record { job = job; replies = before } ∷ []) Nothing r (t.0 ++ out ∷ [])
+            (alone_snoc Machine e ys (record { job = job; replies = before }) Nothing t.1 r t.0 t.2 out t.4 t.5 (serves t.2 t.3 t.6));
+        reply = o;
+        last = last_of t.0 out;
+        is = is;
+      }
+    where
+      serves_by : Concludes c h m o r → (s0 : Machine) (js : List (List Written)) → Went Machine (code_engine c h.number) (allowance_of job) s0 before js m → Serves_by (code_engine c h.number) (allowance_of job) before s0 (record { jobs = js; reply = Some o }) r
+      serves_by (by_event le closes) s0 js went = went_answer Machine (code_engine c h.number) (allowance_of job) before s0 js m o r went (omega (arith, le, al)) closes
+      serves_by (by_units past eo er) s0 js went =
+          subst (λ o. Serves_by (code_engine c h.number) (allowance_of job) before s0 (record { jobs = js; reply = Some o }) r) (sym eo)
+          (subst (λ r. Serves_by (code_engine c h.number) (allowance_of job) before s0 (record { jobs = js; reply = Some WasOver }) r) (sym er)
+          (went_over Machine (code_engine c h.number) (allowance_of job) before s0 js m went (omega (arith, past, al))))
+
   module _ (done : HasReply h) (p : PlainPacket) where
     pub gives_reply : (h.units ≤ h.allowance) → IsReply p (reply_in h h.phase) → (xs : List Exchange) → StandsFor c h xs → Gives c h.number xs p
     gives_reply le is xs (never fresh) = absurd (done.started fresh)
-    gives_reply le is xs (since ys job before al reached) =
-        let e = code_engine c h.number in
-        let t = tells Machine e ys (Inside job before (machine_of c h)) reached in
-        let closes = closes_in c h h.phase done.started done.resting le in
-        let serves = went_answer Machine e (allowance_of job) before t.2 t.3 (machine_of c h) (reply_in h h.phase) (rest_in c h h.phase) t.6 (omega (arith, le, al, units_are c h l)) closes in
-        let o : Output = record { jobs = t.3; reply = Some (reply_in h h.phase) } in
-        record {
-          outputs = t.0 ++ o ∷ [];
-          runs = alone_of Machine e (ys ++ record { job = job; replies = before } ∷ []) Nothing (rest_in c h h.phase) (t.0 ++ o ∷ [])
-              (alone_snoc Machine e ys (record { job = job; replies = before }) Nothing t.1 (rest_in c h h.phase) t.0 t.2 o t.4 t.5 serves);
-          reply = reply_in h h.phase;
-          last = last_of t.0 o;
-          is = is;
-        }
+    gives_reply le is xs (since ys job before m al reached st) =
+        gives_by ys job before m (reply_in h h.phase) (rest_in c h h.phase) al reached (concludes_in c h l m h.phase done.started l.placed done.resting st le) p is
+    gives_reply le is xs (settling ys job before rs al reached w some says) = absurd (no_settling h done.resting w)
+    gives_reply le is xs (joining ys job before rs m al reached e n st) = absurd (no_joining h done.resting e)
 
     pub gives_over : (h.allowance < h.units) → IsReply p WasOver → (xs : List Exchange) → StandsFor c h xs → Gives c h.number xs p
     gives_over past is xs (never fresh) = absurd (done.started fresh)
-    gives_over past is xs (since ys job before al reached) =
-        let e = code_engine c h.number in
-        let t = tells Machine e ys (Inside job before (machine_of c h)) reached in
-        let serves = went_over Machine e (allowance_of job) before t.2 t.3 (machine_of c h) t.6 (omega (arith, past, al, units_are c h l)) in
-        let o : Output = record { jobs = t.3; reply = Some WasOver } in
-        record {
-          outputs = t.0 ++ o ∷ [];
-          runs = alone_of Machine e (ys ++ record { job = job; replies = before } ∷ []) Nothing Nothing (t.0 ++ o ∷ [])
-              (alone_snoc Machine e ys (record { job = job; replies = before }) Nothing t.1 Nothing t.0 t.2 o t.4 t.5 serves);
-          reply = WasOver;
-          last = last_of t.0 o;
-          is = is;
-        }
+    gives_over past is xs (since ys job before m al reached st) =
+        gives_by ys job before m WasOver Nothing al reached (past_in c h l m h.phase done.started l.placed done.resting st past) p is
+    gives_over past is xs (settling ys job before rs al reached w some says) = absurd (no_settling h done.resting w)
+    gives_over past is xs (joining ys job before rs m al reached e n st) = absurd (no_joining h done.resting e)
 
 -- ---- a job begins
 
@@ -323,9 +378,28 @@ is_wake h kind.Ended n b = absurd b
 is_wake h (kind.Trapped place trap) n b = absurd b
 is_wake h kind.Over n b = absurd b
 
-stands_after : (c : PlainCode) (t : ℕ) (h : Thread) → h.number ≡ t → (xs : List Exchange) (job : Job) (before : List (List Reply)) → h.allowance ≡ allowance_of job →
-    Reached (code_engine c t) xs (Inside job before (machine_of c h)) → StandsFor c h (xs ++ record { job = job; replies = before } ∷ [])
-stands_after c t h e xs job before al r = since xs job before al (subst (λ t. Reached (code_engine c t) xs (Inside job before (machine_of c h))) (sym e) r)
+pub at_running : (c : PlainCode) (h : Thread) (folding : Bool) → h.phase ≡ phase.Running folding → Stands_at c h (machine_of c h)
+at_running c h folding e = subst (λ p. Stands_in c h p (machine_in c h p)) (sym e) refl
+
+stands_in_phase : (c : PlainCode) (h : Thread) (p : Phase) → Has_machine p → ((before : ℕ) → p ≡ phase.Forked before → Says h.branches []) → Stands_in c h p (machine_in c h p)
+stands_in_phase c h phase.Fresh k quiet = refl
+stands_in_phase c h (phase.Running folding) k quiet = refl
+stands_in_phase c h (phase.Forked before) k quiet = (refl, quiet before refl)
+stands_in_phase c h phase.Joining k quiet = absurd k
+stands_in_phase c h phase.Paused k quiet = refl
+stands_in_phase c h phase.Ended k quiet = refl
+stands_in_phase c h (phase.Trapped place trap) k quiet = refl
+stands_in_phase c h phase.Over k quiet = absurd k
+
+at_event : (c : PlainCode) (h : Thread) → Has_machine h.phase → ((before : ℕ) → h.phase ≡ phase.Forked before → Says h.branches []) → Stands_at c h (machine_of c h)
+at_event c h k quiet = stands_in_phase c h h.phase k quiet
+
+stands_running : (c : PlainCode) (h : Thread) (m : Machine) → h.phase ≡ phase.Running false → Stands_at c h m → m ≡ machine_of c h
+stands_running c h m e st = let k : m ≡ machine_in c h (phase.Running false) = subst (λ p. Stands_in c h p m) e st in k ∙ sym (ap (machine_in c h) e)
+
+pub stands_after : (c : PlainCode) (t : ℕ) (h : Thread) → h.number ≡ t → (xs : List Exchange) (job : Job) (before : List (List Reply)) (m : Machine) → h.allowance ≡ allowance_of job → Stands_at c h m →
+    Reached (code_engine c t) xs (Inside job before m) → StandsFor c h (xs ++ record { job = job; replies = before } ∷ [])
+stands_after c t h e xs job before m al st r = since xs job before m al (subst (λ t. Reached (code_engine c t) xs (Inside job before m)) (sym e) r) st
 
 module _ (c : PlainCode) (valid : IsValidCode c) (h : Thread) (l : Loaded c h) (rests : IsResting h) (p : Packet) (h' : Thread) where
   pub start_stands : Begun c h h' (started_anew c h p) p.allowance → p.kind ≡ kind.Start → (xs : List Exchange) (job : Job) → IsJob (plain_packet p) job → StandsFor c h xs → StandsFor c h' (xs ++ record { job = job; replies = [] } ∷ [])
@@ -335,7 +409,7 @@ module _ (c : PlainCode) (valid : IsValidCode c) (h : Thread) (l : Loaded c h) (
       On (record { steps = (block_of c h.number).steps; at = 0; stack = []; words = fresh_words ns (block_of c h.number).words; counters = replicate (block_of c h.number).counters 0 })
       [] (record { copies = cs; flags = replicate (block_of c h.number).flags false; live = replicate (length c.shape.threads) false }) 0 in
       let m : machine_of c h' ≡ started c (block_of c h.number) args values = b.machine ∙ ap (λ ns. make ns p.copies.items) is.1 ∙ ap (make args) is.2 in
-      stands_after c h.number h' b.number xs (Start args values a) [] (b.allowance ∙ is.3) (begun xs (Start args values a) f.rest (machine_of c h') f.reached m)
+      stands_after c h.number h' b.number xs (Start args values a) [] (machine_of c h') (b.allowance ∙ is.3) (at_running c h' false b.running) (begun xs (Start args values a) f.rest (machine_of c h') f.reached m)
   start_stands b k xs (Wake values a) is stands = let e = sym is.0 ∙ ap (λ k. plain_kind k) k in cc
 
   pub wake_stands : Begun c h h' (woken_up c h p) p.allowance → HasPaused h → p.kind ≡ kind.Wake → (xs : List Exchange) (job : Job) → IsJob (plain_packet p) job → StandsFor c h xs → StandsFor c h' (xs ++ record { job = job; replies = [] } ∷ [])
@@ -345,7 +419,7 @@ module _ (c : PlainCode) (valid : IsValidCode c) (h : Thread) (l : Loaded c h) (
       let make : List VarCopy → Machine = λ cs. On (point_of (block_of c h.number) h.at h.stack) [] (record { copies = cs; flags = h.own.flags; live = h.own.live }) 0 in
       let m : machine_of c h' ≡ woken values (machine_of c h) = b.machine ∙ ap make is.1 ∙ sym (ap (λ q. woken values (machine_in c h q)) asleep.phase) in
       let rest = f.asleep asleep in
-      stands_after c h.number h' b.number xs (Wake values a) [] (b.allowance ∙ is.2)
+      stands_after c h.number h' b.number xs (Wake values a) [] (machine_of c h') (b.allowance ∙ is.2) (at_running c h' false b.running)
       (begun xs (Wake values a) (Asleep (machine_of c h)) (machine_of c h') (subst (λ r. Reached (code_engine c h.number) xs (AtRest r)) rest f.reached) m)
 
 -- ---- a run
@@ -354,7 +428,7 @@ module _ (c : PlainCode) (t : ℕ) where
   abbrev e : Engine Machine
   e = code_engine c t
 
-  steps_on : (xs : List Exchange) (job : Job) (before : List (List Reply)) (n : ℕ) (m : Machine) → Reached e xs (Inside job before m) → Reached e xs (Inside job before (run_for (step c t) n m))
+  pub steps_on : (xs : List Exchange) (job : Job) (before : List (List Reply)) (n : ℕ) (m : Machine) → Reached e xs (Inside job before m) → Reached e xs (Inside job before (run_for (step c t) n m))
   steps_on xs job before zero m r = r
   steps_on xs job before (suc n) m r = steps_on xs job before n (step c t m) (stepped xs job before m (step c t m) r refl)
 
@@ -376,54 +450,64 @@ module _ (c : PlainCode) (t : ℕ) where
 
 tells_by : (c : PlainCode) (h h' : Thread) → Moved c h h' → (r : Event) → Shown c h' r → Tells (code_engine c h.number) h.allowance (machine_of c h) r
 tells_by c h h' m r (over past) =
-    passes (record { count = m.count; past = let u = ap units_of m.lands in omega (arith, past, m.allowance, u, units_are c h' m.loaded) })
+    passes (record { count = m.count; past = let u = ap units_of m.lands in omega (arith, past, m.allowance, u, units_are c h' m.loaded m.machine) })
 tells_by c h h' m r (comes s le shown) =
     reaches (machine_of c h') s
-    (record { count = m.count; lands = m.lands; stops = stops_at c h.number (view_of (machine_of c h')) s shown; within = omega (arith, le, m.allowance, units_are c h' m.loaded) })
+    (record { count = m.count; lands = m.lands; stops = stops_at c h.number (view_of (machine_of c h')) s shown; within = omega (arith, le, m.allowance, units_are c h' m.loaded m.machine) })
     shown
 
-module _ (c : PlainCode) (h h' : Thread) (r : Event) (k : Comes_to c h h' r) where
+module _ (c : PlainCode) (h h' : Thread) (r : Event) (k : Comes_to c h h' r) (running : h.phase ≡ phase.Running false) where
   pub tells_run : Tells (code_engine c h.number) h.allowance (machine_of c h) r
   tells_run = tells_by c h h' k.moved r k.shown
 
-  pub tells_exactly : (s : Event) → Tells (code_engine c h.number) h.allowance (machine_of c h) s ↔ (s ≡ r)
-  tells_exactly s = (λ other. one_event c h.number h.allowance (machine_of c h) s r other tells_run, λ same. subst (Tells (code_engine c h.number) h.allowance (machine_of c h)) (sym same) tells_run)
+  pub tells_exactly : (m : Machine) (s : Event) → Stands_at c h m → Tells (code_engine c h.number) h.allowance m s ↔ (s ≡ r)
+  tells_exactly m s st =
+      let is : m ≡ machine_of c h = stands_running c h m running st in
+      subst (λ m. Tells (code_engine c h.number) h.allowance m s ↔ (s ≡ r)) (sym is)
+      (λ other. one_event c h.number h.allowance (machine_of c h) s r other tells_run, λ same. subst (Tells (code_engine c h.number) h.allowance (machine_of c h)) (sym same) tells_run)
 
-  pub run_stands : h.phase ≡ phase.Running → (xs : List Exchange) → StandsFor c h xs → StandsFor c h' xs
-  run_stands running xs (never fresh) = let e = sym fresh ∙ running in cc
-  run_stands running xs (since ys job before al reached) =
-      stands_after c h.number h' k.moved.number ys job before (k.moved.allowance ∙ al)
-      (subst (λ m. Reached (code_engine c h.number) ys (Inside job before m)) k.moved.lands (steps_on c h.number ys job before k.moved.count (machine_of c h) reached))
+  pub run_stands : (xs : List Exchange) → StandsFor c h xs → StandsFor c h' xs
+  run_stands xs (never fresh) = let e = sym fresh ∙ running in cc
+  run_stands xs (since ys job before m al reached st) =
+      let is : m ≡ machine_of c h = stands_running c h m running st in
+      stands_after c h.number h' k.moved.number ys job before (machine_of c h') (k.moved.allowance ∙ al) (at_event c h' k.moved.machine k.none)
+      (subst (λ m. Reached (code_engine c h.number) ys (Inside job before m)) k.moved.lands (steps_on c h.number ys job before k.moved.count (machine_of c h) (subst (λ m. Reached (code_engine c h.number) ys (Inside job before m)) is reached)))
+  run_stands xs (settling ys job before rs al reached w some says) = let e = sym w.phase ∙ running in cc
+  run_stands xs (joining ys job before rs m al reached e n st) = let f = sym e ∙ running in cc
 
 -- ---- how an event leaves the thread
 
-rests_over : (h : Thread) (p : Phase) → h.allowance < h.units → Rests_in h p
-rests_over h phase.Fresh past = tt
-rests_over h phase.Running past = past
-rests_over h (phase.Forked before) past = past
-rests_over h phase.Paused past = tt
-rests_over h phase.Ended past = tt
-rests_over h (phase.Trapped place trap) past = tt
+rests_over : (h : Thread) (p : Phase) → h.allowance < h.units → Stops_in p → Rests_in h p
+rests_over h phase.Fresh past k = tt
+rests_over h (phase.Running folding) past k = (past, k)
+rests_over h (phase.Forked before) past k = past
+rests_over h phase.Joining past k = absurd k
+rests_over h phase.Paused past k = tt
+rests_over h phase.Ended past k = tt
+rests_over h (phase.Trapped place trap) past k = tt
+rests_over h phase.Over past k = tt
 
-left_in : (c : PlainCode) (h : Thread) (l : Loaded c h) (p : Phase) → h.phase ≡ p → Placed c l.needs h p → (r : Event) → h.units ≤ h.allowance → event_of (view_of (machine_in c h p)) ≡ Some r → Left_by h r
-left_in c h l phase.Fresh e pl r le v = cc
-left_in c h l phase.Running e pl r le v = cc
-left_in c h l (phase.Forked before) e pl r le v =
+left_in : (c : PlainCode) (h : Thread) (l : Loaded c h) (p : Phase) → h.phase ≡ p → Placed c l.needs h p → (r : Event) → h.units ≤ h.allowance → ((before : ℕ) → h.phase ≡ phase.Forked before → Says h.branches []) → event_of (view_of (machine_in c h p)) ≡ Some r → Left_by h r
+left_in c h l phase.Fresh e pl r le g v = cc
+left_in c h l (phase.Running folding) e pl r le g v = cc
+left_in c h l (phase.Forked before) e pl r le g v =
     let k : r ≡ event.Fork = let w = sym v ∙ ap event_of pl.view in cc in
-    subst (Left_by h) (sym k) (record { before = before; phase = e; within = le })
-left_in c h l phase.Paused e pl r le v =
+    subst (Left_by h) (sym k) (record { before = before; phase = e; within = le; count = ap length (g before e).ended })
+left_in c h l phase.Joining e pl r le g v = cc
+left_in c h l phase.Paused e pl r le g v =
     let k : r ≡ event.Paused = cc in
     subst (Left_by h) (sym k) (record { resting = subst (Rests_in h) (sym e) tt; started = λ f. let w = sym e ∙ f in cc }, record { phase = e; within = le })
-left_in c h l phase.Ended e pl r le v =
+left_in c h l phase.Ended e pl r le g v =
     let k : r ≡ event.Ended = cc in
     subst (Left_by h) (sym k) (record { resting = subst (Rests_in h) (sym e) tt; started = λ f. let w = sym e ∙ f in cc })
-left_in c h l (phase.Trapped place trap) e pl r le v =
+left_in c h l (phase.Trapped place trap) e pl r le g v =
     let k : r ≡ event.Trapped place trap = cc in
     subst (Left_by h) (sym k) (record { resting = subst (Rests_in h) (sym e) tt; started = λ f. let w = sym e ∙ f in cc })
+left_in c h l phase.Over e pl r le g v = cc
 
-left_shown : (c : PlainCode) (h : Thread) (l : Loaded c h) → h.phase ≢ phase.Fresh → (r : Event) → Shown c h r → Left_by h r
-left_shown c h l started r (over past) = record { resting = rests_over h h.phase past; started = started }
-left_shown c h l started r (comes s le v) = left_in c h l h.phase refl l.placed r le v
+left_shown : (c : PlainCode) (h : Thread) (l : Loaded c h) → h.phase ≢ phase.Fresh → (r : Event) → Stops_in h.phase → ((before : ℕ) → h.phase ≡ phase.Forked before → Says h.branches []) → Shown c h r → Left_by h r
+left_shown c h l started r stops quiet (over past) = record { resting = rests_over h h.phase past stops; started = started }
+left_shown c h l started r stops quiet (comes s le v) = left_in c h l h.phase refl l.placed r le quiet v
 
 -- a run begins within a job, so the thread was started
 not_fresh_after : (c : PlainCode) (h : Thread) → Loaded c h → (r : Event) → Shown c h r → h.phase ≢ phase.Fresh
@@ -431,7 +515,7 @@ not_fresh_after c h l r (over past) fresh = let u = subst (Placed c l.needs h) f
 not_fresh_after c h l r (comes s le v) fresh = let w = sym v ∙ ap (λ q. event_of (view_of (machine_in c h q))) fresh in cc
 
 pub run_left : (c : PlainCode) (h h' : Thread) (r : Event) → Comes_to c h h' r → Left_by h' r
-run_left c h h' r k = left_shown c h' k.moved.loaded (not_fresh_after c h' k.moved.loaded r k.shown) r k.shown
+run_left c h h' r k = left_shown c h' k.moved.loaded (not_fresh_after c h' k.moved.loaded r k.shown) r k.stops k.none k.shown
 
 -- ---- a thread that was never started
 
@@ -439,3 +523,46 @@ pub read_uses : (xs : List ThreadShape) (t : ℕ) (x : ThreadShape) → t < leng
 read_uses [] t x lt e = absurd (omega arith)
 read_uses (y ∷ ys) zero x lt e = ap (λ (s : ThreadShape). s.uses.items) (sym e)
 read_uses (y ∷ ys) (suc t) x lt e = read_uses ys t x (omega arith) e
+
+-- ---- a thread that does not run on by itself
+
+pub can_run : (h : Thread) (p : Phase) → Runs_in h p → ((place : Place) (trap : Trap) → p ≡ phase.Trapped place trap → ⊥) → (p ≡ phase.Over → ⊥) → p ≡ phase.Running false
+can_run h phase.Fresh k a b = absurd k
+can_run h (phase.Running true) k a b = cc
+can_run h (phase.Running false) k a b = refl
+can_run h (phase.Forked before) k a b = absurd k
+can_run h phase.Joining k a b = absurd k
+can_run h phase.Paused k a b = absurd k
+can_run h phase.Ended k a b = absurd k
+can_run h (phase.Trapped place trap) k a b = absurd (a place trap refl)
+can_run h phase.Over k a b = absurd (b refl)
+
+module _ (c : PlainCode) (h : Thread) (m : Machine) (st : Stands_at c h m) where
+  over_tells : h.phase ≡ phase.Over → Tells (code_engine c h.number) h.allowance m event.Over
+  over_tells e = by (subst (λ p. Stands_in c h p m) e st)
+    where
+      by : Exceeds h.allowance m → Tells (code_engine c h.number) h.allowance m event.Over
+      by (inl past) = passes (record { count = 0; past = past })
+      by (inr v) =
+          ⊎_elim (λ past. passes (record { count = 0; past = past }))
+          (λ le. reaches m event.Over (record { count = 0; lands = refl; stops = subst Stops (sym v) tt; within = le }) (ap event_of v))
+          (cases_lt h.allowance (units_of m))
+
+  pub over_exactly : h.phase ≡ phase.Over → (s : Event) → Tells (code_engine c h.number) h.allowance m s ↔ (s ≡ event.Over)
+  over_exactly e s = (λ other. one_event c h.number h.allowance m s event.Over other (over_tells e), λ same. subst (Tells (code_engine c h.number) h.allowance m) (sym same) (over_tells e))
+
+  trap_tells : (place : Place) (trap : Trap) → h.phase ≡ phase.Trapped place trap → CanRun h → Tells (code_engine c h.number) h.allowance m (event.Trapped place trap)
+  trap_tells place trap e can =
+      let is : m ≡ Trapped place trap h.units = subst (λ p. Stands_in c h p m) e st in
+      let le : h.units ≤ h.allowance = subst (Runs_in h) e can in
+      subst (λ m. Tells (code_engine c h.number) h.allowance m (event.Trapped place trap)) (sym is)
+      (reaches (Trapped place trap h.units) (event.Trapped place trap) (record { count = 0; lands = refl; stops = tt; within = le }) refl)
+
+  pub trap_exactly : (place : Place) (trap : Trap) → h.phase ≡ phase.Trapped place trap → CanRun h → (s : Event) → Tells (code_engine c h.number) h.allowance m s ↔ (s ≡ event.Trapped place trap)
+  trap_exactly place trap e can s = (λ other. one_event c h.number h.allowance m s (event.Trapped place trap) other (trap_tells place trap e can), λ same. subst (Tells (code_engine c h.number) h.allowance m) (sym same) (trap_tells place trap e can))
+
+pub trap_replies : (h : Thread) (place : Place) (trap : Trap) → h.phase ≡ phase.Trapped place trap → HasReply h
+trap_replies h place trap e = record { resting = subst (Rests_in h) (sym e) tt; started = λ f. let w = sym e ∙ f in cc }
+
+pub over_replies : (h : Thread) → h.phase ≡ phase.Over → HasReply h
+over_replies h e = record { resting = subst (Rests_in h) (sym e) tt; started = λ f. let w = sym e ∙ f in cc }

@@ -2,6 +2,9 @@
 #![tactic(auto)]
 
 mod acts;
+mod branches;
+mod fork;
+mod merging;
 mod own;
 mod room;
 mod stack;

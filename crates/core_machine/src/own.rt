@@ -1,7 +1,7 @@
 //! What a thread has beside its frames: copies of variables, flags, and its living branches.
 
 ghost use Rattle.std.specs.Prelude.{◌≡◌, ◌<◌, ◌≤◌, length, get_or, true, false, IfOk};
-ghost use Rattle.core_machine.specs.Kept.{Kept, AreIndexed, place_in, no_copy, with_copy, with_flag, begun, with_copies};
+ghost use Rattle.core_machine.specs.Kept.{Kept, AreIndexed, place_in, no_copy, with_copy, with_copy_at, with_flag, with_live_at, begun, with_copies, HavePlaces, handed_by};
 
 use forec_base::OutOfMemory;
 use forec_kernel::VarCopy;
@@ -87,6 +87,29 @@ impl Own {
         };
     }
 
+    /// Where the copy of a variable stands.
+    pub fn place(&self, variable: u32) -> usize
+        requires { variable < length self.now.places }
+        ensures { result ≡ place_in self.now variable }
+    {
+        self.places[variable as usize] as usize
+    }
+
+    /// The copy at a place.
+    pub fn copy_at(&self, at: usize) -> VarCopy
+        requires { at < length self.now.copies }
+        ensures { result ≡ get_or self.now.copies at no_copy }
+    {
+        self.copies[at]
+    }
+
+    pub fn set_copy(&mut self, at: usize, copy: VarCopy)
+        requires { at < length self.old.copies }
+        ensures { self.new ≡ with_copy_at at copy self.old }
+    {
+        self.copies[at] = copy;
+    }
+
     pub fn is_set(&self, flag: u32) -> bool
         requires { flag < length self.now.flags }
         ensures { result ≡ get_or self.now.flags flag false }
@@ -108,11 +131,32 @@ impl Own {
         self.live[thread]
     }
 
+    pub fn set_live(&mut self, thread: u32, live: bool)
+        requires { thread < length self.old.live }
+        ensures { self.new ≡ with_live_at thread live self.old }
+    {
+        self.live[thread as usize] = live;
+    }
+
     /// The thread's copies, in the order of the variables that it uses.
     pub fn copies(&self) -> &[VarCopy]
         ensures { result.now ≡ self.now.copies }
     {
         &self.copies
+    }
+
+    /// Writes the present values of these variables, unmarked.
+    pub fn hand_down(&self, uses: &[u32], copies: &mut [VarCopy])
+        requires places { HavePlaces self.now uses.now }
+        requires room { length copies.old ≡ length uses.now }
+        ensures { copies.new ≡ handed_by self.now uses.now }
+    {
+        for i in 0..uses.len() {
+            copies[i] = VarCopy {
+                value: self.copy(uses[i]),
+                modified: false,
+            };
+        }
     }
 
     /// Takes these copies.

@@ -1,14 +1,20 @@
 //! How many numbers the frames of a thread can hold together.
 
-ghost use Rattle.std.specs.Prelude.{◌≡◌, ◌<◌, ◌≤◌, ◌^◌, ℕ, Option, length, get_or, slice_get, true, Some, IfSome, IfOk, IfSome};
+ghost use Rattle.std.specs.Prelude.{◌≡◌, ◌<◌, ◌≤◌, ◌^◌, ℕ, Option, length, get_or, slice_get, true, Some, None, IsTrue, IfSome, IfOk};
 ghost use Rattle.thread_code.specs.Plain.{plain_code, plain_block};
-ghost use Rattle.thread_code.specs.Valid.{IsValidCode};
+ghost use Rattle.forec_kernel.specs.Combining.{contains, variable_of};
+ghost use Rattle.forec_kernel.specs.Shapes.{plain_shape};
+ghost use Rattle.thread_code.specs.Machine.{uses_of};
+ghost use Rattle.thread_code.specs.Alone.{block_of};
+ghost use Rattle.thread_code.specs.Valid.{IsValidCode, of_shape};
 ghost use Rattle.thread_code.specs.declared.instruction.Instruction.TheVariants as instruction;
 ghost use Rattle.core_machine.specs.Stretch.{no_block, block_for, IsDeep};
-ghost use Rattle.core_machine.specs.Room.{Enough, IsIn};
+ghost use Rattle.core_machine.specs.Room.{Enough, EnoughToCombine, EnoughFor, IsIn};
 
+use crate::merging::variable_at;
 use crate::stretch::{Site, block_at};
 use forec_base::OutOfMemory;
+use forec_kernel::Shape;
 use std::alloc::Global;
 use thread_code::{Block, CodeParts, Instruction};
 
@@ -74,7 +80,7 @@ fn most_called(block: &Block, needs: &[u64]) -> u64
 
 /// So many numbers are enough for a frame of the block and all that it calls, where the functions need
 /// what the table says; None where they are too many to count.
-pub fn frame_need(site: &Site<'_>, needs: &[u64]) -> Option<u64>
+fn frame_need(site: &Site<'_>, needs: &[u64]) -> Option<u64>
     requires valid { IsValidCode (plain_code site.now.code.now) }
     requires known { IsIn (plain_code site.now.code.now) site.now.thread site.now.function }
     requires block { plain_block site.now.block.now ≡ block_for (plain_code site.now.code.now) site.now.thread site.now.function }
@@ -83,6 +89,47 @@ pub fn frame_need(site: &Site<'_>, needs: &[u64]) -> Option<u64>
     let own = site.block.words as u64 + site.block.counters as u64;
     own.checked_add(deepest(site))?
         .checked_add(most_called(site.block, needs))
+}
+
+/// The most that a combine function needs, of those of these variables.
+fn most_combined(shape: &Shape, uses: &[u32], needs: &[u64]) -> u64
+    ensures { (v f : ℕ) → IsTrue (contains v uses.now) → (variable_of (of_shape (plain_shape shape.now)) v).combine ≡ Some f → get_or needs.now f 0 ≤ result }
+{
+    let mut most = 0;
+    for i in 0..uses.len() {
+        if let Some(function) = variable_at(shape, uses[i]).combine {
+            most = most.max(need_at(needs, function));
+        }
+    }
+    most
+}
+
+/// So many numbers are enough for a frame of the block that calls any of these variables' combine
+/// functions; None where they are too many to count.
+fn combine_need(site: &Site<'_>, uses: &[u32], needs: &[u64]) -> Option<u64>
+    requires valid { IsValidCode (plain_code site.now.code.now) }
+    requires known { IsIn (plain_code site.now.code.now) site.now.thread site.now.function }
+    requires block { plain_block site.now.block.now ≡ block_for (plain_code site.now.code.now) site.now.thread site.now.function }
+    ensures { IfSome result (λ n. EnoughToCombine (plain_code site.now.code.now) (block_for (plain_code site.now.code.now) site.now.thread site.now.function) uses.now needs.now n) }
+{
+    let own = site.block.words as u64 + site.block.counters as u64;
+    own.checked_add(deepest(site))?
+        .checked_add(most_combined(&site.code.shape, uses, needs))
+}
+
+/// So many numbers are enough for all runs of a thread that uses these variables; None where they are
+/// too many to count.
+pub fn thread_need(site: &Site<'_>, uses: &[u32], needs: &[u64]) -> Option<u64>
+    requires valid { IsValidCode (plain_code site.now.code.now) }
+    requires own { site.now.function ≡ None }
+    requires known { site.now.thread < length (plain_code site.now.code.now).threads }
+    requires block { plain_block site.now.block.now ≡ block_of (plain_code site.now.code.now) site.now.thread }
+    requires uses { uses.now ≡ uses_of (plain_code site.now.code.now) site.now.thread }
+    ensures { IfSome result (λ n. EnoughFor (plain_code site.now.code.now) site.now.thread needs.now n) }
+{
+    let frame = frame_need(site, needs)?;
+    let combine = combine_need(site, uses, needs)?;
+    Some(frame.max(combine))
 }
 
 /// Fills the table at a function, after those that it calls, `fuel` calls deep at most.

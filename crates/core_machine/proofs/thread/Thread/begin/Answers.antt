@@ -1,8 +1,8 @@
-use Rattle.std.proofs.Common.{sym, ap, subst}
+use Rattle.std.proofs.Common.{refl, sym, ap, subst}
 use Rattle.forec_kernel.specs.Engine.{Exchange, Job}
 use Rattle.thread_code.specs.Plain.{plain_code}
 use Rattle.thread_code.specs.Valid.{IsValidCode}
-use Rattle.core_machine.specs.Held.{Begun, Loaded, started_anew, woken_up}
+use Rattle.core_machine.specs.Held.{Begun, Loaded, Runs_in, started_anew, woken_up}
 use Rattle.core_machine.proofs.Jobs.{start_stands, wake_stands, can_wake, is_wake}
 use Rattle.core_machine.proofs.thread.Thread.begin.Goals as goal
 
@@ -22,7 +22,7 @@ returns-in_default c =
     let b = subst (λ k. Begun (plain_code k) c.args.self.now c.wake.new.self (woken_up (plain_code k) c.args.self.now p) p.allowance) same c.wake.ensures in
     record {
       loaded = b.loaded;
-      running = b.running;
+      running = subst (Runs_in c.wake.new.self) (sym b.running) refl;
       number = b.number;
       stands = wake_stands (plain_code c.args.code.now) valid c.args.self.now c.requires.loaded c.requires.resting p c.wake.new.self b (can_wake c.args.self.now p.kind c.in_default.not-Start c.requires.job) (is_wake c.args.self.now p.kind c.in_default.not-Start c.requires.job);
     }

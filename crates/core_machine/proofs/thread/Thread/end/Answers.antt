@@ -9,4 +9,6 @@ pub returns : goal.returns
 returns c = record {
   moved = end_moved (plain_code c.args.code.now) c.args.self.now c.requires.loaded c.requires.running c.requires.before;
   shown = comes event.Ended c.requires.before.within refl;
+  stops = tt;
+  none = λ before e. cc;
 }

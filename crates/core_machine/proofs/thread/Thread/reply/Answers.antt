@@ -36,3 +36,11 @@ returns-in-Trapped-clause-gives c =
     let q = plain_packet (record p { kind = kind.Trapped c.in-Trapped.place c.in-Trapped.trap; units = h.units }) in
     let is : IsReply q (reply_in h h.phase) = subst (λ s. IsReply q (reply_in h s)) (sym c.in-Trapped.is) (refl, refl) in
     gives_reply (plain_code c.args.code.now) h c.requires.loaded c.requires.done q c.if-self.false is
+
+pub returns-in-Over-clause-gives : goal.returns-in-Over-clause-gives
+returns-in-Over-clause-gives c =
+    let h = c.args.self.now in
+    let p = c.args.packet.now in
+    let q = plain_packet (record p { kind = kind.Over; units = h.units }) in
+    let is : IsReply q (reply_in h h.phase) = subst (λ s. IsReply q (reply_in h s)) (sym c.in-Over.is) refl in
+    gives_reply (plain_code c.args.code.now) h c.requires.loaded c.requires.done q c.if-self.false is

@@ -1,6 +1,7 @@
+use Rattle.std.proofs.Common.{◌∙◌, refl, sym, subst}
 use Rattle.thread_code.specs.Plain.{plain_code}
 use Rattle.core_machine.specs.declared.thread.Event.TheVariants as event
-use Rattle.core_machine.specs.Held.{over}
+use Rattle.core_machine.specs.Held.{over, Stops_in}
 use Rattle.core_machine.proofs.Moving.{moved_then, comes_then}
 use Rattle.core_machine.proofs.thread.Thread.run_on.Goals as goal
 
@@ -8,13 +9,13 @@ pub loop-function-preserved-in-Calls : goal.loop-function-preserved-in-Calls
 loop-function-preserved-in-Calls c =
     let code = plain_code c.args.code.now in
     let m = moved_then code c.args.self.now c.loop-function.self c.run_frame.new.self c.loop-function.invariant.moved c.run_frame.ensures.moved in
-    record { moved = moved_then code c.args.self.now c.run_frame.new.self c.call.new.self m c.call.ensures.moved; running = c.call.ensures.running }
+    record { moved = moved_then code c.args.self.now c.run_frame.new.self c.call.new.self m c.call.ensures.goes.moved; running = c.call.ensures.goes.phase ∙ c.run_frame.ensures.phase ∙ c.loop-function.invariant.running }
 
 pub loop-function-preserved : goal.loop-function-preserved
 loop-function-preserved c =
     let code = plain_code c.args.code.now in
     let m = moved_then code c.args.self.now c.loop-function.self c.run_frame.new.self c.loop-function.invariant.moved c.run_frame.ensures.moved in
-    record { moved = moved_then code c.args.self.now c.run_frame.new.self c.return_to_caller.new.self m c.return_to_caller.ensures.moved; running = c.return_to_caller.ensures.running }
+    record { moved = moved_then code c.args.self.now c.run_frame.new.self c.return_to_caller.new.self m c.return_to_caller.ensures.goes.moved; running = c.return_to_caller.ensures.goes.phase ∙ c.run_frame.ensures.phase ∙ c.loop-function.invariant.running }
 
 pub returns-in-Pauses : goal.returns-in-Pauses
 returns-in-Pauses c =
@@ -44,4 +45,9 @@ pub returns-in-Over : goal.returns-in-Over
 returns-in-Over c =
     let code = plain_code c.args.code.now in
     let m = moved_then code c.args.self.now c.loop-function.self c.run_frame.new.self c.loop-function.invariant.moved c.run_frame.ensures.moved in
-    record { moved = m; shown = over c.in-Over.ensures.shows }
+    record {
+      moved = m;
+      shown = over c.in-Over.ensures.shows;
+      stops = subst Stops_in (sym (c.run_frame.ensures.phase ∙ c.loop-function.invariant.running)) refl;
+      none = λ before e. let k = sym e ∙ (c.run_frame.ensures.phase ∙ c.loop-function.invariant.running) in cc;
+    }

@@ -1,4 +1,4 @@
-use Rattle.std.proofs.Common.{◌≡◌}
+use Rattle.std.proofs.Common.{◌≡◌, false}
 use Rattle.thread_code.specs.Plain.{plain_code}
 use Rattle.core_machine.specs.declared.thread.Phase.TheVariants as phase
 use Rattle.core_machine.specs.Held.{Moved, left_for}
@@ -7,7 +7,7 @@ use Rattle.core_machine.proofs.thread.Thread.run_on.Given as goal
 abbrev pub invariant-loop-function : goal.invariant-loop-function
 invariant-loop-function l = record {
   moved : Moved (plain_code l.code) l.fn.self l.self;
-  running : l.self.phase ≡ phase.Running;
+  running : l.self.phase ≡ phase.Running false;
 }
 
 abbrev pub decreases-loop-function : goal.decreases-loop-function

@@ -1,4 +1,4 @@
-use Rattle.std.proofs.Common.{◌≡◌, ◌≤◌, ◌∙◌, sym, ap, subst, arith, length, None, List, ℤ, ℕ}
+use Rattle.std.proofs.Common.{false, ◌≡◌, ◌≤◌, ◌∙◌, sym, ap, subst, arith, length, None, List, ℤ, ℕ}
 use Rattle.forec_kernel.specs.declared.shape.VarCopy.{VarCopy}
 use Rattle.thread_code.specs.Plain.{PlainBlock, plain_code}
 use Rattle.thread_code.specs.Alone.{block_of}
@@ -23,7 +23,7 @@ returns c =
     let h = c.args.self.now in
     let p = c.args.packet.now in
     let b = block_of code h.number in
-    let make : Frames → Kept → Thread = λ f k. record { number = h.number; phase = phase.Running; function = None; at = 0; stack = f; own = k; units = 0; allowance = p.allowance } in
+    let make : Frames → Kept → Thread = λ f k. record { number = h.number; phase = phase.Running false; function = None; at = 0; stack = f; own = k; units = 0; allowance = p.allowance; branches = h.branches; joining = h.joining } in
     let f : c.restart.new.self ≡ started p.args.items b.words b.counters h.stack.room h.stack.most =
     c.restart.ensures ∙ ap (λ (b : PlainBlock). started c.deref.result.now b.words b.counters h.stack.room h.stack.most) c.block_at-block.ensures
     ∙ ap (λ (xs : List ℤ). started xs b.words b.counters h.stack.room h.stack.most) c.deref.ensures.value in

@@ -9,10 +9,14 @@ pub returns-then-units-self : goal.returns-then-units-self
 returns-then-units-self c = record {
   moved = trap_moved (plain_code c.args.code.now) c.args.self.now c.requires.loaded c.requires.running c.args.place c.args.trap c.args.units c.requires.before;
   shown = over c.if-units-self.true;
+  stops = tt;
+  none = λ before e. cc;
 }
 
 pub returns-else-units-self : goal.returns-else-units-self
 returns-else-units-self c = record {
   moved = trap_moved (plain_code c.args.code.now) c.args.self.now c.requires.loaded c.requires.running c.args.place c.args.trap c.args.units c.requires.before;
   shown = comes (event.Trapped c.args.place c.args.trap) c.if-units-self.false refl;
+  stops = tt;
+  none = λ before e. cc;
 }

@@ -1,0 +1,90 @@
+-- The arguments of branches on a stack.
+use Rattle.std.proofs.Common.{◌≡◌, ℕ, zero, suc, ◌+◌, ◌-◌, ◌*◌, ◌<◌, ◌≤◌, ◌^◌, List, [], ◌∷◌, ◌++◌, length, take, drop, map, get_or, Option, Some, None, refl, sym, ap, ◌∙◌, subst, ⊎_elim, arith, drop-cons}
+use Rattle.std.specs.Prelude.{ℤ, pos, slice_set, slice_get}
+use Rattle.std.proofs.lemmas.Bool.{cases_lt}
+use Rattle.forec_kernel.specs.declared.shape.ThreadShape.{ThreadShape}
+use Rattle.forec_kernel.specs.Shapes.{PlainShape, plain_thread}
+use Rattle.forec_kernel.specs.Texts.{params_in}
+use Rattle.forec_kernel.specs.Values.{word}
+use Rattle.thread_code.specs.Valid.{arguments_of}
+use Rattle.core_machine.specs.Frames.{arguments}
+use Rattle.core_machine.specs.Forks.{AreThreads, args_from}
+use Rattle.core_machine.proofs.Lists.{take_next}
+
+-- ---- how many arguments there are
+
+pub sum_more : (s : PlainShape) (bs : List ℕ) (b : ℕ) → arguments_of s (bs ++ b ∷ []) ≡ arguments_of s bs + params_in s.threads b
+sum_more s [] b = omega arith
+sum_more s (x ∷ bs) b = omega (arith, sum_more s bs b)
+
+pub sum_next : (s : PlainShape) (bs : List ℕ) (k : ℕ) → k < length bs → arguments_of s (take (k + 1) bs) ≡ arguments_of s (take k bs) + params_in s.threads (get_or bs k 0)
+sum_next s bs k lt = ap (arguments_of s) (take_next bs k 0 lt) ∙ sum_more s (take k bs) (get_or bs k 0)
+
+pub sum_within : (s : PlainShape) (bs : List ℕ) (k : ℕ) → k < length bs → arguments_of s (take k bs) + params_in s.threads (get_or bs k 0) ≤ arguments_of s bs
+sum_within s [] k lt = absurd (omega arith)
+sum_within s (b ∷ bs) zero lt = omega arith
+sum_within s (b ∷ bs) (suc k) lt = omega (arith, sum_within s bs k (omega arith))
+
+pub thread_within : (s : PlainShape) (bs : List ℕ) (k : ℕ) → AreThreads s bs → k < length bs → get_or bs k 0 < length s.threads
+thread_within s [] k h lt = absurd (omega arith)
+thread_within s (b ∷ bs) zero h lt = h.0
+thread_within s (b ∷ bs) (suc k) h lt = thread_within s bs k h.1 (omega arith)
+
+pub all_taken : (bs : List ℕ) → take (length bs) bs ≡ bs
+all_taken [] = refl
+all_taken (b ∷ bs) = ap (λ l. b ∷ l) (all_taken bs)
+
+-- ---- reading them
+
+pub args_read : (total first n : ℕ) (stack : List ℤ) (i : ℕ) → i < n → get_or (args_from total first n stack) i (pos 0) ≡ word stack (total - 1 - (first + i))
+args_read total first zero stack i lt = absurd (omega arith)
+args_read total first (suc n) stack zero lt = let e : first ≡ first + zero = omega arith in ap (λ k. word stack (total - 1 - k)) e
+args_read total first (suc n) stack (suc i) lt = let e : suc first + i ≡ first + suc i = omega arith in args_read total (suc first) n stack i (omega arith) ∙ ap (λ k. word stack (total - 1 - k)) e
+
+pub length_args : (total first n : ℕ) (stack : List ℤ) → length (args_from total first n stack) ≡ n
+length_args total first zero stack = refl
+length_args total first (suc n) stack = ap suc (length_args total (suc first) n stack)
+
+-- what lies behind the topmost numbers
+argument_past : (n : ℕ) (stack args : List ℤ) (i : ℕ) → n ≤ length stack → get_or (arguments n stack args) (n + i) (pos 0) ≡ get_or args i (pos 0)
+argument_past zero stack args i le = let e : zero + i ≡ i = omega arith in ap (λ k. get_or args k (pos 0)) e
+argument_past (suc n) [] args i le = absurd (omega arith)
+argument_past (suc n) (x ∷ stack) args i le = let e : suc n + i ≡ n + suc i = omega arith in ap (λ k. get_or (arguments n stack (x ∷ args)) k (pos 0)) e ∙ argument_past n stack (x ∷ args) (suc i) (omega arith)
+
+-- the number that lies so deep among the topmost ones
+argument_at : (n : ℕ) (stack args : List ℤ) (i : ℕ) → n ≤ length stack → i < n → get_or (arguments n stack args) i (pos 0) ≡ word stack (n - 1 - i)
+argument_at zero stack args i le lt = absurd (omega arith)
+argument_at (suc n) [] args i le lt = absurd (omega arith)
+argument_at (suc n) (x ∷ stack) args i le lt =
+    ⊎_elim
+    (λ less.
+    let e : suc n - 1 - i ≡ suc (n - 1 - i) = omega arith in
+    argument_at n stack (x ∷ args) i (omega arith) less ∙ sym (ap (word (x ∷ stack)) e))
+    (λ more.
+    let e : i ≡ n + 0 = omega (arith, more, lt) in
+    let z : suc n - 1 - i ≡ 0 = omega (arith, more, lt) in
+    ap (λ k. get_or (arguments n stack (x ∷ args)) k (pos 0)) e ∙ argument_past n stack (x ∷ args) 0 (omega arith) ∙ sym (ap (word (x ∷ stack)) z))
+    (cases_lt i n)
+
+pub length_arguments : (n : ℕ) (stack args : List ℤ) → n ≤ length stack → length (arguments n stack args) ≡ n + length args
+length_arguments zero stack args le = omega arith
+length_arguments (suc n) [] args le = absurd (omega arith)
+length_arguments (suc n) (x ∷ stack) args le = omega (arith, length_arguments n stack (x ∷ args) (omega arith))
+
+pub args_are : (total : ℕ) (stack : List ℤ) (n first : ℕ) → total ≤ length stack → first + n ≤ total → take n (drop first (arguments total stack [])) ≡ args_from total first n stack
+args_are total stack zero first le within = take_none (drop first (arguments total stack []))
+  where
+    take_none : (xs : List ℤ) → take 0 xs ≡ []
+    take_none [] = refl
+    take_none (x ∷ xs) = refl
+args_are total stack (suc n) first le within =
+    let xs = arguments total stack [] in
+    let lt : first < length xs = omega (arith, length_arguments total stack [] le) in
+    ap (take (suc n)) (drop-cons xs first (pos 0) lt)
+    ∙ ap (λ x. x ∷ take n (drop (suc first) xs)) (argument_at total stack [] first le (omega arith))
+    ∙ ap (λ l. word stack (total - 1 - first) ∷ l) (args_are total stack n (suc first) le (omega arith))
+
+pub read_params : (xs : List ThreadShape) (t : ℕ) (x : ThreadShape) → t < length xs → x ≡ get_or xs t x → params_in (map plain_thread xs) t ≡ x.params
+read_params [] t x lt e = absurd (omega arith)
+read_params (y ∷ ys) zero x lt e = ap (λ (s : ThreadShape). s.params) (sym e)
+read_params (y ∷ ys) (suc t) x lt e = read_params ys t x (omega arith) e

@@ -1,0 +1,251 @@
+-- The branches of a fork are gathered, and their replies counted.
+use Rattle.std.proofs.Common.{◌≡◌, ◌≢◌, ℕ, zero, suc, ◌+◌, ◌-◌, ◌<◌, ◌≤◌, ◌^◌, List, [], ◌∷◌, ◌++◌, length, drop, take, map, get_or, Option, Some, None, Bool, true, false, cond, refl, sym, ap, ◌∙◌, subst, ⊎_elim, inl, inr, arith, add-one, drop-cons, append_assoc}
+use Rattle.std.specs.Prelude.{◌⊎◌, ◌&&◌, ◌||◌, min, slice_set}
+use Rattle.std.specs.List.{list_all}
+use Rattle.std.proofs.lemmas.Bool.{cases_lt}
+use Rattle.std.proofs.lemmas.List.{length-map}
+use Rattle.forec_base.specs.declared.Place.{Place}
+use Rattle.forec_base.specs.declared.Trap.{Trap}
+use Rattle.forec_kernel.specs.Engine.{Reply, WasPaused, WasEnded, WasTrapped, WasOver}
+use Rattle.forec_kernel.specs.Solo.{all_units, reply_units, some_reply_over, is_over_reply}
+use Rattle.forec_kernel.specs.Shapes.{PlainThread}
+use Rattle.forec_kernel.specs.WellFormed.{branches_of, is_par, blank_thread}
+use Rattle.thread_code.specs.Machine.{is_ended, living}
+use Rattle.core_machine.proofs.Lists.{take_set}
+use Rattle.core_machine.specs.declared.branches.Verdict.{Verdict}
+use Rattle.core_machine.specs.declared.branches.Verdict.TheVariants as verdict
+use Rattle.forec_kernel.specs.Packets.{IsEnded, IsTrapped, IsOver}
+use Rattle.forec_kernel.specs.Packed.{IsReply}
+use Rattle.combine_tree.specs.declared.packet.Packet.{Packet}
+use Rattle.combine_tree.specs.declared.packet.PacketKind.{PacketKind}
+use Rattle.combine_tree.specs.declared.packet.PacketKind.TheVariants as kind
+use Rattle.combine_tree.specs.Plain.{plain_kind, plain_packet}
+use Rattle.core_machine.specs.Branches.{Gathered, chosen, with_verdict, first_trap, noted, counted, trap_of, verdict_of, Counts, Says, Settles}
+
+-- ---- all of a list
+
+module _ (d : Bool) where
+  pub all_next : (es : List Bool) (i : ℕ) → i < length es → get_or es i d ≡ true → list_all (λ e. e) (drop i es) ≡ list_all (λ e. e) (drop (i + 1) es)
+  all_next es i lt h = ap (list_all (λ e. e)) (drop-cons es i d lt) ∙ ap (λ b. b && list_all (λ e. e) (drop (suc i) es)) h ∙ ap (λ k. list_all (λ e. e) (drop k es)) (sym (add-one i))
+
+  pub all_not : (es : List Bool) (i : ℕ) → i < length es → get_or es i d ≡ false → list_all (λ e. e) (drop i es) ≡ false
+  all_not es i lt h = ap (list_all (λ e. e)) (drop-cons es i d lt) ∙ ap (λ b. b && list_all (λ e. e) (drop (suc i) es)) h
+
+-- ---- the branches from a thread on
+
+module _ (again : Bool) (live : List Bool) (j : ℕ) where
+  abbrev pub chosen_from : List PlainThread → ℕ → List ℕ
+  chosen_from ss i = chosen again live (branches_of (drop i ss) i j)
+
+  one_thread : (s : PlainThread) (rest : List ℕ) (i : ℕ) → chosen again live (cond (is_par s.par j) (i ∷ rest) rest) ≡ cond (is_par s.par j && cond again (get_or live i false) true) (i ∷ chosen again live rest) (chosen again live rest)
+  one_thread s rest i = by_test again (is_par s.par j) (get_or live i false) refl
+    where
+      by_test : (a p l : Bool) → get_or live i false ≡ l → chosen a live (cond p (i ∷ rest) rest) ≡ cond (p && cond a l true) (i ∷ chosen a live rest) (chosen a live rest)
+      by_test true true true e = ap (λ b. cond b (i ∷ living live rest) (living live rest)) e
+      by_test true true false e = ap (λ b. cond b (i ∷ living live rest) (living live rest)) e
+      by_test true false l e = refl
+      by_test false true l e = refl
+      by_test false false l e = refl
+
+  pub chosen_next : (ss : List PlainThread) (i : ℕ) → i < length ss → (b : Bool) → (is_par (get_or ss i blank_thread).par j && cond again (get_or live i false) true) ≡ b →
+      chosen_from ss i ≡ cond b (i ∷ chosen_from ss (i + 1)) (chosen_from ss (i + 1))
+  chosen_next ss i lt b e =
+      ap (λ l. chosen again live (branches_of l i j)) (drop-cons ss i blank_thread lt)
+      ∙ one_thread (get_or ss i blank_thread) (branches_of (drop (suc i) ss) (suc i) j) i
+      ∙ ap (λ b. cond b (i ∷ chosen again live (branches_of (drop (suc i) ss) (suc i) j)) (chosen again live (branches_of (drop (suc i) ss) (suc i) j))) e
+      ∙ ap (λ k. cond b (i ∷ chosen again live (branches_of (drop k ss) k j)) (chosen again live (branches_of (drop k ss) k j))) (sym (add-one i))
+
+  none_left : (ss : List PlainThread) (i : ℕ) → length ss ≤ i → drop i ss ≡ []
+  none_left [] zero le = refl
+  none_left [] (suc i) le = refl
+  none_left (x ∷ ss) zero le = absurd (omega arith)
+  none_left (x ∷ ss) (suc i) le = none_left ss i (omega arith)
+
+  pub chosen_end : (ss : List PlainThread) (i : ℕ) → length ss ≤ i → chosen_from ss i ≡ []
+  chosen_end ss i le = ap (λ l. chosen again live (branches_of l i j)) (none_left ss i le) ∙ by_again again
+    where
+      by_again : (a : Bool) → chosen a live [] ≡ []
+      by_again true = refl
+      by_again false = refl
+
+-- ---- replies
+
+pub units_more : (rs : List Reply) (r : Reply) → all_units (rs ++ r ∷ []) ≡ all_units rs + reply_units r
+units_more [] r = omega arith
+units_more (x ∷ rs) r = omega (arith, units_more rs r)
+
+over_more : (rs : List Reply) (r : Reply) → some_reply_over (rs ++ r ∷ []) ≡ (some_reply_over rs || is_over_reply r)
+over_more [] r = or_none (is_over_reply r)
+  where
+    or_none : (b : Bool) → (b || false) ≡ (false || b)
+    or_none true = refl
+    or_none false = refl
+over_more (x ∷ rs) r = ap (λ b. is_over_reply x || b) (over_more rs r) ∙ or_assoc (is_over_reply x) (some_reply_over rs) (is_over_reply r)
+  where
+    or_assoc : (a b c : Bool) → (a || (b || c)) ≡ ((a || b) || c)
+    or_assoc true b c = refl
+    or_assoc false b c = refl
+
+trap_more : (rs : List Reply) (r : Reply) → trap_of (rs ++ r ∷ []) ≡ first_trap (trap_of rs) (trap_of (r ∷ []))
+trap_more [] r = refl
+trap_more (WasPaused copies u ∷ rs) r = trap_more rs r
+trap_more (WasEnded copies u ∷ rs) r = trap_more rs r
+trap_more (WasTrapped place trap u ∷ rs) r = refl
+trap_more (WasOver ∷ rs) r = trap_more rs r
+
+verdict_by : (o : Bool) (t : Verdict) (v : Verdict) → cond (o || false) verdict.Over (first_trap t v) ≡ first_trap (cond o verdict.Over t) v
+verdict_by true t v = refl
+verdict_by false t v = refl
+
+still : (t : Verdict) → first_trap t verdict.Combine ≡ t
+still verdict.Combine = refl
+still (verdict.Trap place trap) = refl
+still verdict.Over = refl
+
+verdict_trap : (rs : List Reply) (r : Reply) → is_over_reply r ≡ false → verdict_of (rs ++ r ∷ []) ≡ first_trap (verdict_of rs) (trap_of (r ∷ []))
+verdict_trap rs r not =
+    ap (λ o. cond o verdict.Over (trap_of (rs ++ r ∷ []))) (over_more rs r ∙ ap (λ b. some_reply_over rs || b) not)
+    ∙ ap (λ t. cond (some_reply_over rs || false) verdict.Over t) (trap_more rs r)
+    ∙ verdict_by (some_reply_over rs) (trap_of rs) (trap_of (r ∷ []))
+
+verdict_over : (rs : List Reply) → verdict_of (rs ++ WasOver ∷ []) ≡ verdict.Over
+verdict_over rs = ap (λ o. cond o verdict.Over (trap_of (rs ++ WasOver ∷ []))) (over_more rs WasOver ∙ or_true (some_reply_over rs))
+  where
+    or_true : (b : Bool) → (b || true) ≡ true
+    or_true true = refl
+    or_true false = refl
+
+ended_more : (rs : List Reply) (r : Reply) → map is_ended (rs ++ r ∷ []) ≡ map is_ended rs ++ is_ended r ∷ []
+ended_more [] r = refl
+ended_more (x ∷ rs) r = ap (λ l. is_ended x ∷ l) (ended_more rs r)
+
+counts_more : (n s u : ℕ) → Counts n s → Counts (min (n + u) (2 ^ 64 - 1)) (s + u)
+counts_more n s u (inl e) = by_size (⊎_elim (λ lt. inr lt) (λ le. inl le) (cases_lt (2 ^ 64 - 1) (n + u)))
+  where
+    by_size : ((n + u ≤ 2 ^ 64 - 1) ⊎ (2 ^ 64 - 1 < n + u)) → Counts (min (n + u) (2 ^ 64 - 1)) (s + u)
+    by_size (inl le) = inl (omega (arith, e, le))
+    by_size (inr lt) = inr (omega (arith, lt), omega (arith, e, lt))
+counts_more n s u (inr h) = inr (omega (arith, h.0), omega (arith, h.1))
+
+module _ (g g' : Gathered) (rs : List Reply) (s : Says g rs) where
+  -- a reply that adds nothing but its units
+  pub says_plain : (r : Reply) → is_over_reply r ≡ false → trap_of (r ∷ []) ≡ verdict.Combine → g'.ended ≡ g.ended ++ is_ended r ∷ [] → g'.units ≡ min (g.units + reply_units r) (2 ^ 64 - 1) → g'.verdict ≡ g.verdict → Says g' (rs ++ r ∷ [])
+  says_plain r not none e u v = record {
+    ended = e ∙ ap (λ l. l ++ is_ended r ∷ []) s.ended ∙ sym (ended_more rs r);
+    units = subst (λ n. Counts g'.units n) (sym (units_more rs r)) (subst (λ n. Counts n (all_units rs + reply_units r)) (sym u) (counts_more g.units (all_units rs) (reply_units r) s.units));
+    verdict = v ∙ s.verdict ∙ sym (verdict_trap rs r not ∙ ap (first_trap (verdict_of rs)) none ∙ still (verdict_of rs));
+  }
+
+  pub says_trap : (place : Place) (trap : Trap) (w : ℕ) → g'.ended ≡ g.ended ++ false ∷ [] → g'.units ≡ min (g.units + w) (2 ^ 64 - 1) → g'.verdict ≡ first_trap g.verdict (verdict.Trap place trap) → Says g' (rs ++ WasTrapped place trap w ∷ [])
+  says_trap place trap w e u v = record {
+    ended = e ∙ ap (λ l. l ++ false ∷ []) s.ended ∙ sym (ended_more rs (WasTrapped place trap w));
+    units = subst (λ n. Counts g'.units n) (sym (units_more rs (WasTrapped place trap w))) (subst (λ n. Counts n (all_units rs + w)) (sym u) (counts_more g.units (all_units rs) w s.units));
+    verdict = v ∙ ap (λ x. first_trap x (verdict.Trap place trap)) s.verdict ∙ sym (verdict_trap rs (WasTrapped place trap w) refl);
+  }
+
+  pub says_over : g'.ended ≡ g.ended ++ false ∷ [] → g'.units ≡ g.units → g'.verdict ≡ verdict.Over → Says g' (rs ++ WasOver ∷ [])
+  says_over e u v =
+      let z : all_units (rs ++ WasOver ∷ []) ≡ all_units rs = omega (arith, units_more rs WasOver) in
+      record {
+        ended = e ∙ ap (λ l. l ++ false ∷ []) s.ended ∙ sym (ended_more rs WasOver);
+        units = subst (λ n. Counts g'.units n) (sym z) (subst (λ n. Counts n (all_units rs)) (sym u) s.units);
+        verdict = v ∙ sym (verdict_over rs);
+      }
+
+-- ---- a reply is settled
+
+module _ (k : PacketKind) where
+  of_ended : plain_kind k ≡ IsEnded → k ≡ kind.Ended
+  of_ended e = by_kind k e
+    where
+      by_kind : (k : PacketKind) → plain_kind k ≡ IsEnded → k ≡ kind.Ended
+      by_kind kind.Blank e = cc
+      by_kind kind.Start e = cc
+      by_kind kind.Wake e = cc
+      by_kind kind.Paused e = cc
+      by_kind kind.Ended e = refl
+      by_kind (kind.Trapped place trap) e = cc
+      by_kind kind.Over e = cc
+
+  of_over : plain_kind k ≡ IsOver → k ≡ kind.Over
+  of_over e = by_kind k e
+    where
+      by_kind : (k : PacketKind) → plain_kind k ≡ IsOver → k ≡ kind.Over
+      by_kind kind.Blank e = cc
+      by_kind kind.Start e = cc
+      by_kind kind.Wake e = cc
+      by_kind kind.Paused e = cc
+      by_kind kind.Ended e = cc
+      by_kind (kind.Trapped place trap) e = cc
+      by_kind kind.Over e = refl
+
+  of_trapped : (place : Place) (trap : Trap) → plain_kind k ≡ IsTrapped place trap → k ≡ kind.Trapped place trap
+  of_trapped place trap e = by_kind k e
+    where
+      by_kind : (k : PacketKind) → plain_kind k ≡ IsTrapped place trap → k ≡ kind.Trapped place trap
+      by_kind kind.Blank e = cc
+      by_kind kind.Start e = cc
+      by_kind kind.Wake e = cc
+      by_kind kind.Paused e = cc
+      by_kind kind.Ended e = cc
+      by_kind (kind.Trapped q r) e = let a : q ≡ place = cc in let b : r ≡ trap = cc in ap (λ x. kind.Trapped x r) a ∙ ap (kind.Trapped place) b
+      by_kind kind.Over e = cc
+
+count_one : (es : List Bool) (e : Bool) → length (es ++ e ∷ []) ≡ length es + 1
+count_one [] e = omega arith
+count_one (x ∷ es) e = omega (arith, count_one es e)
+
+module _ (g : Gathered) (p : Packet) where
+  -- whatever says nothing but its units and whether it ended
+  plain_by : (e : Bool) (rs : List Reply) (r : Reply) → is_over_reply r ≡ false → trap_of (r ∷ []) ≡ verdict.Combine → is_ended r ≡ e → p.units ≡ reply_units r → Says g rs → Says (counted p.units (noted e g)) (rs ++ r ∷ [])
+  plain_by e rs r not none ended units s =
+      says_plain g (counted p.units (noted e g)) rs s r not none (ap (λ b. g.ended ++ b ∷ []) (sym ended)) (ap (λ n. min (g.units + n) (2 ^ 64 - 1)) units) refl
+
+  pub settles_ended : p.kind ≡ kind.Ended → Settles g p (counted p.units (noted true g))
+  settles_ended k = record { numbers = refl; joined = refl; room = refl; count = count_one g.ended true; says = by_reply }
+    where
+      by_reply : (rs : List Reply) (r : Reply) → IsReply (plain_packet p) r → Says g rs → Says (counted p.units (noted true g)) (rs ++ r ∷ [])
+      by_reply rs (WasPaused copies u) is s = let e = sym is.0 ∙ ap (λ k. plain_kind k) k in cc
+      by_reply rs (WasEnded copies u) is s = plain_by true rs (WasEnded copies u) refl refl refl is.2 s
+      by_reply rs (WasTrapped place trap u) is s = let e = sym is.0 ∙ ap (λ k. plain_kind k) k in cc
+      by_reply rs WasOver is s = let e = sym is ∙ ap (λ k. plain_kind k) k in cc
+
+  pub settles_over : p.kind ≡ kind.Over → Settles g p (with_verdict verdict.Over (noted false g))
+  settles_over k = record { numbers = refl; joined = refl; room = refl; count = count_one g.ended false; says = by_reply }
+    where
+      by_reply : (rs : List Reply) (r : Reply) → IsReply (plain_packet p) r → Says g rs → Says (with_verdict verdict.Over (noted false g)) (rs ++ r ∷ [])
+      by_reply rs (WasPaused copies u) is s = let e = sym is.0 ∙ ap (λ k. plain_kind k) k in cc
+      by_reply rs (WasEnded copies u) is s = let e = sym is.0 ∙ ap (λ k. plain_kind k) k in cc
+      by_reply rs (WasTrapped place trap u) is s = let e = sym is.0 ∙ ap (λ k. plain_kind k) k in cc
+      by_reply rs WasOver is s = says_over g (with_verdict verdict.Over (noted false g)) rs s refl refl refl
+
+  pub settles_trap : (place : Place) (trap : Trap) → p.kind ≡ kind.Trapped place trap → Settles g p (with_verdict (first_trap g.verdict (verdict.Trap place trap)) (counted p.units (noted false g)))
+  settles_trap place trap k = record { numbers = refl; joined = refl; room = refl; count = count_one g.ended false; says = by_reply }
+    where
+      g' : Gathered
+      g' = with_verdict (first_trap g.verdict (verdict.Trap place trap)) (counted p.units (noted false g))
+
+      by_reply : (rs : List Reply) (r : Reply) → IsReply (plain_packet p) r → Says g rs → Says (with_verdict (first_trap g.verdict (verdict.Trap place trap)) (counted p.units (noted false g))) (rs ++ r ∷ [])
+      by_reply rs (WasPaused copies u) is s = let e = sym is.0 ∙ ap (λ k. plain_kind k) k in cc
+      by_reply rs (WasEnded copies u) is s = let e = sym is.0 ∙ ap (λ k. plain_kind k) k in cc
+      by_reply rs (WasTrapped q r u) is s =
+          let e : kind.Trapped q r ≡ kind.Trapped place trap = sym (of_trapped p.kind q r is.0) ∙ k in
+          let a : place ≡ q = cc in
+          let b : trap ≡ r = cc in
+          says_trap g (with_verdict (first_trap g.verdict (verdict.Trap place trap)) (counted p.units (noted false g))) rs s q r u refl (ap (λ n. min (g.units + n) (2 ^ 64 - 1)) is.1)
+          (ap (λ x. first_trap g.verdict (verdict.Trap x trap)) a ∙ ap (λ x. first_trap g.verdict (verdict.Trap q x)) b)
+      by_reply rs WasOver is s = let e = sym is ∙ ap (λ k. plain_kind k) k in cc
+
+  pub settles_else : (p.kind ≡ kind.Ended → ⊥) → ((place : Place) (trap : Trap) → p.kind ≡ kind.Trapped place trap → ⊥) → (p.kind ≡ kind.Over → ⊥) → Settles g p (counted p.units (noted false g))
+  settles_else no_end no_trap no_over = record { numbers = refl; joined = refl; room = refl; count = count_one g.ended false; says = by_reply }
+    where
+      by_reply : (rs : List Reply) (r : Reply) → IsReply (plain_packet p) r → Says g rs → Says (counted p.units (noted false g)) (rs ++ r ∷ [])
+      by_reply rs (WasPaused copies u) is s = plain_by false rs (WasPaused copies u) refl refl refl is.2 s
+      by_reply rs (WasEnded copies u) is s = absurd (no_end (of_ended p.kind is.0))
+      by_reply rs (WasTrapped q r u) is s = absurd (no_trap q r (of_trapped p.kind q r is.0))
+      by_reply rs WasOver is s = absurd (no_over (of_over p.kind is))
+
+-- ---- the next thread is looked at
+
+pub one_chosen : (numbers : List ℕ) (n i : ℕ) (all rest : List ℕ) → n < length numbers → take n numbers ++ (i ∷ rest) ≡ all → take (n + 1) (slice_set numbers n i) ++ rest ≡ all
+one_chosen numbers n i all rest lt h = ap (λ l. l ++ rest) (take_set numbers n i lt) ∙ append_assoc (take n numbers) (i ∷ []) rest ∙ h
