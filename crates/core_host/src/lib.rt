@@ -3,9 +3,11 @@
 
 mod host;
 mod job;
+mod local;
 mod outcome;
-mod root;
-#[cfg(test)]
-mod tests;
+mod seat;
+mod work;
 
-pub use host::Host;
+pub use host::{Host, Served};
+pub use local::local_port;
+pub use work::{ForecWork, Told};
