@@ -1,7 +1,9 @@
 pub mod Frames
 pub mod Kept
+pub mod Branches
 pub mod Acts
 pub mod Stretch
 pub mod Room
 pub mod Held
+pub mod Forks
 pub mod Replies

@@ -2,6 +2,7 @@
 #![tactic(auto)]
 
 mod acts;
+mod branches;
 mod own;
 mod room;
 mod stack;

@@ -1,0 +1,51 @@
+-- The branches of a thread's present fork, and what their replies say together.
+use Rattle.std.specs.Prelude.{ℕ, ◌≡◌, ◌<◌, ◌^◌, ◌⊎◌, ◌++◌, Bool, cond, List, [], ◌∷◌, length, map, take, get_or}
+use Rattle.forec_kernel.specs.Engine.{Reply, WasPaused, WasEnded, WasTrapped, WasOver}
+use Rattle.forec_kernel.specs.Solo.{all_units, some_reply_over}
+use Rattle.thread_code.specs.Machine.{is_ended}
+use Rattle.core_machine.specs.declared.branches.Verdict.{Verdict}
+use Rattle.core_machine.specs.declared.branches.Verdict.TheVariants as verdict
+
+-- the branches that run in this tick, in the order of the par; of each that has replied, whether it has ended; how many have been joined;
+-- the units of the replies, and what comes of them; and how many branches there is room for
+pub record Gathered : Type 0 where
+  pub numbers : List ℕ
+  pub ended : List Bool
+  pub joined : ℕ
+  pub units : ℕ
+  pub verdict : Verdict
+  pub room : ℕ
+
+-- the first `count` of the numbers, and the first `settled` of the notes, count
+abbrev pub gathered_of : List ℕ → ℕ → List Bool → ℕ → ℕ → ℕ → Verdict → Gathered
+gathered_of numbers count ended settled joined units verdict =
+    record { numbers = take count numbers; ended = take settled ended; joined = joined; units = units; verdict = verdict; room = length numbers }
+
+abbrev pub no_branches : ℕ → Gathered
+no_branches room = record { numbers = []; ended = []; joined = 0; units = 0; verdict = verdict.Combine; room = room }
+
+-- one more branch, before any has replied
+abbrev pub with_branch : ℕ → Gathered → Gathered
+with_branch b g = record g { numbers = g.numbers ++ b ∷ [] }
+
+-- ---- what the replies say
+
+-- the leftmost trap, where there is one
+abbrev pub trap_of : List Reply → Verdict
+trap_of [] = verdict.Combine
+trap_of (WasTrapped place trap u ∷ rs) = verdict.Trap place trap
+trap_of (_ ∷ rs) = trap_of rs
+
+-- one that is over counts before any trap
+abbrev pub verdict_of : List Reply → Verdict
+verdict_of rs = cond (some_reply_over rs) verdict.Over (trap_of rs)
+
+-- a sum; or, where it is more than any allowance, another number that is
+abbrev pub Counts : ℕ → ℕ → Type 0
+Counts n sum = (n ≡ sum) ⊎ ((2 ^ 62 < n) × (2 ^ 62 < sum))
+
+-- these are the replies so far
+pub record Says (g : Gathered) (rs : List Reply) : Type 0 where
+  pub ended : g.ended ≡ map is_ended rs
+  pub units : Counts g.units (all_units rs)
+  pub verdict : g.verdict ≡ verdict_of rs

@@ -1,0 +1,52 @@
+-- What a thread at a fork asks of its branches, and what it makes of their replies.
+use Rattle.std.specs.Prelude.{ℕ, ◌-◌, ◌≡◌, Option, None, List, [], ◌∷◌, ◌++◌, map, get_or}
+use Rattle.forec_kernel.specs.Engine.{Reply, Written, written, View, Going, AtFork, Pausing, Ending, Trapping, Exceeding, Seed, Exchange, Output}
+use Rattle.thread_code.specs.Plain.{PlainCode}
+use Rattle.thread_code.specs.Alone.{view_of, CodeAlone}
+use Rattle.combine_tree.specs.declared.packet.PacketKind.{PacketKind}
+use Rattle.combine_tree.specs.declared.packet.PacketKind.TheVariants as kind
+use Rattle.core_machine.specs.declared.thread.Thread.{Thread}
+use Rattle.core_machine.specs.Held.{machine_of}
+
+-- ---- jobs
+
+-- the number of the k-th branch
+abbrev pub branch_at : Thread → ℕ → ℕ
+branch_at h k = get_or h.branches.numbers k 0
+
+abbrev pub seeds_in : View → List Seed
+seeds_in Going = []
+seeds_in (AtFork seeds) = seeds
+seeds_in (Pausing copies) = []
+seeds_in (Ending copies) = []
+seeds_in (Trapping place trap) = []
+seeds_in Exceeding = []
+
+-- The jobs for the branches of the fork at which the thread is, in the order of the par. A branch may count what the thread's own units have left of its allowance.
+abbrev pub jobs_at : PlainCode → Thread → List Written
+jobs_at c h = map (written (h.allowance - h.units)) (seeds_in (view_of (machine_of c h)))
+
+-- with these exchanges, the last of which has a reply for each job at its forks so far, the thread comes to another fork, and writes these jobs there
+pub record Asks (c : PlainCode) (t : ℕ) (xs : List Exchange) (jobs : List Written) : Type 0 where
+  pub outputs : List Output
+  pub forks : List (List Written)
+  pub runs : CodeAlone c t xs (outputs ++ record { jobs = forks ++ jobs ∷ []; reply = None } ∷ [])
+
+-- ---- replies
+
+-- where there are any, these replies are those of the last exchange's next fork
+abbrev pub next_replies : List (List Reply) → List Reply → List (List Reply)
+next_replies rss [] = rss
+next_replies rss (r ∷ rs) = rss ++ (r ∷ rs) ∷ []
+
+abbrev pub with_replies : List Exchange → List Reply → List Exchange
+with_replies [] rs = []
+with_replies (x ∷ []) rs = record { job = x.job; replies = next_replies x.replies rs } ∷ []
+with_replies (x ∷ y ∷ xs) rs = x ∷ with_replies (y ∷ xs) rs
+
+abbrev pub IsReplyKind : PacketKind → Type 0
+IsReplyKind kind.Paused = Unit {0}
+IsReplyKind kind.Ended = Unit {0}
+IsReplyKind (kind.Trapped place trap) = Unit {0}
+IsReplyKind kind.Over = Unit {0}
+IsReplyKind _ = ⊥
