@@ -203,13 +203,13 @@ module _ (c : PlainCode) (valid : IsValidCode c) (t : ℕ) (lt : t < length c.th
         begins = w.begins;
         went = went_join Machine e n before rs seeds w.begin w.forks s w.went v le count;
         complete = w.complete;
-        fine = subst (λ k. Fine c valid t k _ (e.join rs s)) (length_then before rs)
+        fine = subst (λ k. Fine c valid t k (pair_all ys w.outputs ++ pair_forks (w.forks ++ ws ∷ []) (before ++ rs ∷ [])) (e.join rs s)) (length_then before rs)
             (subst (λ l. Fine c valid t (length before + 1) l (e.join rs s)) pairs
             (join_fine c valid t (length before) (pair_all ys w.outputs ++ pair_forks w.forks before) (n - units_of s) rs s seeds v count w.fine));
       }
   follows xs p (answered ys job before s o r h le a) =
       let w = follows ys (Inside job before s) h in
-      closed ys job before s w o r (went_answer Machine e (allowance_of job) before w.begin w.forks s o r w.went le a) (closes_rested (length before) _ s o r a w.fine)
+      closed ys job before s w o r (went_answer Machine e (allowance_of job) before w.begin w.forks s o r w.went le a) (closes_rested (length before) (pair_all ys w.outputs ++ pair_forks w.forks before) s o r a w.fine)
   follows xs p (exceeded ys job before s h less) =
       let w = follows ys (Inside job before s) h in
       closed ys job before s w WasOver Nothing (went_over Machine e (allowance_of job) before w.begin w.forks s w.went less) tt

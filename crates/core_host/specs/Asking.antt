@@ -6,15 +6,16 @@ use Rattle.thread_code.specs.Plain.{PlainCode}
 use Rattle.thread_code.specs.Valid.{of_shape}
 use Rattle.thread_code.specs.Alone.{CodeAlone}
 
--- thread k + 1 of the code, with its branches below it, answers these jobs by this reply
-abbrev pub Replies : PlainCode → ℕ → List PlainPacket → PlainPacket → Type 0
-Replies c k jobs reply = PacketAnswers (CodeAlone c) (length c.threads) (suc k) jobs reply
+-- thread k + 1 of the code, with its branches below it, answers these jobs by this reply, which has its lengths
+pub record Replies (c : PlainCode) (k : ℕ) (jobs : List PlainPacket) (reply : PlainPacket) : Type 0 where
+  pub room : HasRoom (of_shape c.shape) (suc k) reply
+  pub answers : PacketAnswers (CodeAlone c) (length c.threads) (suc k) jobs reply
 
 -- the jobs are answered by Paused
 pub record ArePaused (c : PlainCode) (k : ℕ) (jobs : List PlainPacket) : Type 0 where
   pub reply : PlainPacket
   pub paused : reply.kind ≡ IsPaused
-  pub answers : Replies c k jobs reply
+  pub answers : PacketAnswers (CodeAlone c) (length c.threads) (suc k) jobs reply
 
 -- after these jobs, a job of this kind may be sent
 abbrev pub MayFollow : PlainCode → ℕ → List PlainPacket → Kind → Type 0

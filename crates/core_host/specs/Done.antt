@@ -1,21 +1,22 @@
 -- What a thread has done for its jobs.
-use Rattle.std.specs.Prelude.{ℕ, suc, ◌≡◌, true, List, [], map, length}
-use Rattle.forec_kernel.specs.Shapes.{PlainKernel}
-use Rattle.forec_kernel.specs.Ticks.{State, Fresh, After_tick}
+use Rattle.std.specs.Prelude.{ℕ, suc, ◌≡◌, List, [], ◌∷◌, ◌++◌, map, length}
 use Rattle.forec_kernel.specs.Packed.{AreJobs}
-use Rattle.forec_kernel.specs.Engine.{Job, Reply, Exchange, Output, AllReply, Allowed, Answers, pair_all, jobs_to}
-use Rattle.forec_kernel.specs.Composed.{Turn, tick_jobs, state_after}
-use Rattle.combine_tree.specs.declared.packet.Packet.{Packet}
-use Rattle.combine_tree.specs.declared.packet.PacketKind.TheVariants as kind
+use Rattle.forec_kernel.specs.Engine.{Job, Reply, Exchange, Output, AllReply, Allowed, Answers, Answered, pair_all, jobs_to}
 use Rattle.thread_code.specs.Plain.{PlainCode}
 use Rattle.thread_code.specs.Alone.{CodeAlone}
-use Rattle.thread_code.specs.Laws.{EachFits}
 use Rattle.core_machine.specs.declared.thread.Thread.{Thread}
 use Rattle.core_machine.specs.Held.{StandsFor}
 use Rattle.copy_slots.specs.Ports.{sent, got}
 use Rattle.core_host.specs.Posts.{Mail, IsBranchOf, AreReplies, replies_to}
+use Rattle.core_host.specs.Writing.{Log, heard, told}
 
--- The thread stands for its jobs with the replies of its branches, has replied to each, and each reply of a branch answers what that branch was told.
+-- Through the mailboxes of the thread's branches went these jobs and replies, each reply answering what that branch was told.
+pub record Posts (c : PlainCode) (t : ℕ) (mail : Mail) (pairs : List Answered) : Type 0 where
+  pub allowed : Allowed (Answers (CodeAlone c) (length c.threads)) [] pairs
+  pub sent : (k : ℕ) → IsBranchOf c.shape t k → AreJobs (sent mail k) (jobs_to (suc k) pairs)
+  pub got : (k : ℕ) → IsBranchOf c.shape t k → AreReplies (got mail k) (replies_to (suc k) pairs)
+
+-- the thread stands for its jobs with the replies of its branches, and has replied to each
 pub record HasDone (c : PlainCode) (h : Thread) (mail : Mail) (jobs : List Job) : Type 0 where
   pub exchanges : List Exchange
   pub outputs : List Output
@@ -23,6 +24,10 @@ pub record HasDone (c : PlainCode) (h : Thread) (mail : Mail) (jobs : List Job) 
   pub jobs_are : map (λ x. x.job) exchanges ≡ jobs
   pub runs : CodeAlone c h.number exchanges outputs
   pub complete : AllReply outputs
-  pub allowed : Allowed (Answers (CodeAlone c) (length c.threads)) [] (pair_all exchanges outputs)
-  pub sent : (k : ℕ) → IsBranchOf c.shape h.number k → AreJobs (sent mail k) (jobs_to (suc k) (pair_all exchanges outputs))
-  pub got : (k : ℕ) → IsBranchOf c.shape h.number k → AreReplies (got mail k) (replies_to (suc k) (pair_all exchanges outputs))
+  pub posts : Posts c h.number mail (pair_all exchanges outputs)
+
+-- the thread has done these jobs, and is at this one
+pub record InJob (c : PlainCode) (h : Thread) (mail : Mail) (jobs : List Job) (job : Job) : Type 0 where
+  pub log : Log c h.number jobs job
+  pub stands : StandsFor c h (heard c h.number jobs job log)
+  pub posts : Posts c h.number mail (told c h.number jobs job log)

@@ -1,26 +1,31 @@
 -- A host, as its callers see it.
-use Rattle.std.specs.Prelude.{ℕ, ◌≡◌, ◌<◌, Bool, true, List, length}
+use Rattle.std.specs.Prelude.{ℕ, ◌≡◌, ◌<◌, Bool, true, Option, List, length}
 use Rattle.combine_tree.specs.declared.packet.Packet.{Packet}
 use Rattle.thread_code.specs.declared.instruction.CodeParts.{CodeParts}
 use Rattle.thread_code.specs.Plain.{PlainCode, plain_code}
 use Rattle.core_host.specs.declared.seat.Seat.{Seat}
 use Rattle.core_host.specs.Posts.{Mail}
+use Rattle.core_host.specs.Keeping.{State}
 use Rattle.core_host.specs.Loads.{is_on}
 
--- `places`: the core of each thread. `cores`: those of this host. `mail`: what went through its mailboxes. `seats`: each thread, with the packets in its hands.
--- `root`: the packet of thread 0, in a tick its job, between ticks its reply. `live`: each tick so far has paused
+-- `places`: the core of each thread. `cores`: those of this host. `mail`: what went through its mailboxes. `seats`: each thread, with the job in its hand.
+-- `hands`: the packets in the parents' hands. `root`: the packet of thread 0, in a tick its job, between ticks its reply. `live`: each tick so far has paused
 pub record Hosted : Type 0 where
   pub code : CodeParts
   pub places : List ℕ
   pub cores : List ℕ
   pub mail : Mail
   pub seats : List Seat
+  pub hands : List (Option Packet)
   pub root : Packet
   pub live : Bool
 
-abbrev pub hosted : CodeParts → List ℕ → List ℕ → Mail → List Seat → Packet → Bool → Hosted
-hosted code places cores mail seats root live =
-    record { code = code; places = places; cores = cores; mail = mail; seats = seats; root = root; live = live }
+abbrev pub hosted : State → List ℕ → Packet → Bool → Hosted
+hosted s cores root live =
+    record { code = s.code; places = s.places; cores = cores; mail = s.mail; seats = s.seats; hands = s.hands; root = root; live = live }
+
+abbrev pub state_in : Hosted → State
+state_in h = record { code = h.code; places = h.places; mail = h.mail; seats = h.seats; hands = h.hands }
 
 -- the code whose threads the host has
 abbrev pub code_of : Hosted → PlainCode

@@ -11,7 +11,7 @@ ghost use Rattle.core_host.specs.Jobs.{job_of};
 ghost use Rattle.core_host.specs.Loads.{CanLoad, AreAll, is_on};
 ghost use Rattle.core_host.specs.Outcomes.{HasOutputs, LacksOutputs};
 
-use crate::seat::Seat;
+use crate::desk::Desk;
 use crate::work::ForecWork;
 use combine_tree::Packet;
 use copy_slots::Port;
@@ -39,24 +39,21 @@ pub enum Served {
 /// replies to them.
 #[derive(Drop)]
 pub struct Host<'c, P: Port<ForecWork> + Drop> {
-    code: &'c Code,
-    places: Vec<u32>,
+    desk: Desk<'c, P>,
     cores: Vec<u32>,
-    port: P,
-    seats: Vec<Seat>,
     root: Packet,
     live: bool,
 }
 
 impl<'c, P: Port<ForecWork> + Drop> Model for Host<'c, P> {
     ghost use Rattle.core_host.specs.Hosted.{Hosted, hosted};
-    ghost use Rattle.core_host.specs.Keeping.{IsHosted};
+    ghost use Rattle.core_host.specs.Rests.{IsHosted};
 
     ghost Value = { Hosted };
 
-    ghost view = { λ h. hosted h.code.now h.places.items h.cores.items (P.state h.port) h.seats.items h.root h.live };
+    ghost view = { λ h. hosted h.desk h.cores.items h.root h.live };
 
-    ghost invariant = { λ h. IsHosted (hosted h.code.now h.places.items h.cores.items (P.state h.port) h.seats.items h.root h.live) };
+    ghost invariant = { λ h. IsHosted (hosted h.desk h.cores.items h.root h.live) };
 }
 
 impl<'c, P: Port<ForecWork> + Drop> Host<'c, P> {

@@ -1,6 +1,7 @@
 //! The host of a program's threads: it runs a tick.
 #![tactic(auto)]
 
+mod desk;
 mod host;
 mod job;
 mod local;

@@ -3,13 +3,11 @@
 use combine_tree::Packet;
 use core_machine::Thread;
 
-/// A thread, and the packets in its hands.
+/// A thread, and the job in its hand.
 #[derive(Drop)]
 pub struct Seat {
-    /// None where the thread's core is another host's.
+    /// None where the thread's core is another host's, and while the thread is at work.
     pub thread: Option<Thread>,
-    /// The job that the thread is at.
+    /// The job that the thread is at, where it waits for its branches.
     pub job: Option<Packet>,
-    /// The thread's last reply, in its parent's hand.
-    pub reply: Option<Packet>,
 }
