@@ -6,3 +6,7 @@ pub mod SumCode
 pub mod Once
 pub mod Forking
 pub mod Follows
+pub mod Mails
+pub mod Keep
+pub mod Send
+pub mod Hearing

@@ -6,7 +6,7 @@ use Rattle.forec_kernel.specs.Packed.{HasRoom, AreJobs, IsReply, PacketAnswers}
 use Rattle.forec_kernel.specs.Engine.{Job, Start, Wake, Reply, Written}
 use Rattle.thread_code.specs.declared.instruction.CodeParts.{CodeParts}
 use Rattle.thread_code.specs.Plain.{PlainCode, plain_code}
-use Rattle.thread_code.specs.Valid.{of_shape}
+use Rattle.thread_code.specs.Valid.{of_shape, IsValidCode}
 use Rattle.thread_code.specs.Alone.{CodeAlone}
 use Rattle.combine_tree.specs.declared.packet.Packet.{Packet}
 use Rattle.combine_tree.specs.Plain.{plain_packet}
@@ -34,6 +34,7 @@ code_in s = plain_code s.code
 
 -- the port is one for the code, has both ends of each mailbox, and tells whose turn it is
 pub record IsFitted (s : State) : Type 0 where
+  pub valid : IsValidCode (code_in s)
   pub work : s.mail.work.code.value ≡ s.code
   pub tells : s.mail.tells ≡ true
   pub mailboxes : suc (length s.mail.ends) ≡ length (code_in s).threads
@@ -137,6 +138,7 @@ pub record IsJobFor (c : PlainCode) (mail : Mail) (t : ℕ) (w : Written) : Type
 pub record AtFork (s : State) (h : Thread) : Type 0 where
   pub loaded : Loaded (code_in s) h
   pub settled : HasSettled h 0
+  pub few : length h.branches.numbers ≤ 256
   pub numbers : h.branches.numbers ≡ map (λ w. w.branch) (jobs_at (code_in s) h)
   pub order : (i j : ℕ) (v w : Written) → i < j → slice_get (jobs_at (code_in s) h) i ≡ Some v → slice_get (jobs_at (code_in s) h) j ≡ Some w → v.branch < w.branch
   pub each : (i : ℕ) (w : Written) → slice_get (jobs_at (code_in s) h) i ≡ Some w → IsJobFor (code_in s) s.mail h.number w

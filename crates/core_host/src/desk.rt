@@ -145,6 +145,7 @@ impl<'c, P: Port<ForecWork> + Drop> Desk<'c, P> {
     fn settle(&self, thread: &mut Thread)
         requires loaded { Loaded (code_in self.now) thread.old }
         requires fork { HasSettled thread.old 0 }
+        requires few { length thread.old.branches.numbers ≤ 256 }
         requires heard { (rs : List Reply) × HaveHeard self.now thread.old.branches.numbers rs }
         ensures loaded { Loaded (code_in self.now) thread.new }
         ensures number { thread.new.number ≡ thread.old.number }
@@ -154,9 +155,10 @@ impl<'c, P: Port<ForecWork> + Drop> Desk<'c, P> {
     {
         let mut k = 0;
         while let Some(branch) = thread.active(self.code, k) {
-            if let Some(packet) = &self.hands[branch as usize - 1] {
-                thread.settle(self.code, k, packet);
-            }
+            let Some(packet) = &self.hands[branch as usize - 1] else {
+                unreachable!()
+            };
+            thread.settle(self.code, k, packet);
             k += 1;
         }
     }
@@ -165,6 +167,7 @@ impl<'c, P: Port<ForecWork> + Drop> Desk<'c, P> {
     fn join(&self, thread: &mut Thread)
         requires loaded { Loaded (code_in self.now) thread.old }
         requires some { 0 < length thread.old.branches.numbers }
+        requires few { length thread.old.branches.numbers ≤ 256 }
         requires order { HasJoined thread.old 0 }
         requires heard { (rs : List Reply) × HaveHeard self.now thread.old.branches.numbers rs }
         ensures loaded { Loaded (code_in self.now) thread.new }
@@ -174,9 +177,10 @@ impl<'c, P: Port<ForecWork> + Drop> Desk<'c, P> {
     {
         let mut k = 0;
         while let Some(branch) = thread.active(self.code, k) {
-            if let Some(packet) = &self.hands[branch as usize - 1] {
-                thread.joined(self.code, k, packet);
-            }
+            let Some(packet) = &self.hands[branch as usize - 1] else {
+                unreachable!()
+            };
+            thread.joined(self.code, k, packet);
             k += 1;
         }
     }
