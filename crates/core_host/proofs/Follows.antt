@@ -25,7 +25,7 @@ module _ (S : Type 0) (e : Engine S) where
   went_step n [] s0 js s s' h g = (record { count = h.0.count + 1; lands = run_add h.0.count 1 s0 ∙ ap e.step h.0.lands ∙ g }, h.1)
   went_step n (rs ∷ more) s0 js s s' h g = (h.0, h.1, h.2, h.3, h.4, h.5, h.6, went_step n more (e.join rs h.0) h.2 s s' h.7 g)
 
-  went_join : (n : ℕ) (before : List (List Reply)) (rs : List Reply) (seeds : List Seed) (s0 : S) (js : List (List Written)) (s : S) → Went S e n s0 before js s → e.view s ≡ AtFork seeds → e.units s ≤ n → length rs ≡ length seeds →
+  pub went_join : (n : ℕ) (before : List (List Reply)) (rs : List Reply) (seeds : List Seed) (s0 : S) (js : List (List Written)) (s : S) → Went S e n s0 before js s → e.view s ≡ AtFork seeds → e.units s ≤ n → length rs ≡ length seeds →
       Went S e n s0 (before ++ rs ∷ []) (js ++ map (written (n - e.units s)) seeds ∷ []) (e.join rs s)
   went_join n [] rs seeds s0 js s h v le c =
       (s, seeds, [], record { count = h.0.count; lands = h.0.lands; stops = subst Stops (sym v) tt; within = le }, v, c, ap (λ l. l ++ map (written (n - e.units s)) seeds ∷ []) h.1, (record { count = 0; lands = refl }, refl))
@@ -36,7 +36,7 @@ module _ (S : Type 0) (e : Engine S) where
   wrote_of n [] s0 js s h = h.1
   wrote_of n (rs ∷ more) s0 js s h = (h.0, h.1, h.2, h.3, h.4, h.5, h.6, wrote_of n more (e.join rs h.0) h.2 s h.7)
 
-  wrote_count : (n : ℕ) (before : List (List Reply)) (s0 : S) (js : List (List Written)) → Wrote e n s0 before js → length js ≡ length before
+  pub wrote_count : (n : ℕ) (before : List (List Reply)) (s0 : S) (js : List (List Written)) → Wrote e n s0 before js → length js ≡ length before
   wrote_count n [] s0 js h = ap length h
   wrote_count n (rs ∷ more) s0 js h = ap length h.6 ∙ ap suc (wrote_count n more (e.join rs h.0) h.2 h.7)
 

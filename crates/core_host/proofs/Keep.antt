@@ -48,6 +48,7 @@ has_parent c valid k lt =
 
 pub posts_keep : (c : PlainCode) (t : ℕ) (m m' : Mail) (pairs : List Answered) → ((j : ℕ) → IsBranchOf c.shape t j → parent_at m'.ends j ≡ parent_at m.ends j) → Posts c t m pairs → Posts c t m' pairs
 posts_keep c t m m' pairs same h = record {
+  above = h.above;
   allowed = h.allowed;
   sent = λ j mine. subst (λ l. AreJobs l (jobs_to (suc j) pairs)) (sym (ap sent_by (same j mine))) (h.sent j mine);
   got = λ j mine. subst (λ l. AreReplies l (replies_to (suc j) pairs)) (sym (ap got_by (same j mine))) (h.got j mine);

@@ -10,3 +10,8 @@ pub mod Mails
 pub mod Keep
 pub mod Send
 pub mod Hearing
+pub mod Consulting
+pub mod Consults
+pub mod Replying
+pub mod Logs
+pub mod Employing

@@ -36,7 +36,7 @@ follows c m m' k q (Start args values a) is same may = subst (MayFollow c k (sen
 follows c m m' k q (Wake values a) is same may = subst (MayFollow c k (sent m' k)) (sym is.0) (subst (ArePaused c k) (sym same) may)
 
 pub asks_now : (c : PlainCode) (m m' : Mail) (k : ℕ) (q : PlainPacket) (j : Job) → IsJob q j → sent m' k ≡ sent m k → MayAsk c m k j → HasRoom (of_shape c.shape) (suc k) q → q.allowance ≤ 2 ^ 62 → Asks c k (sent m' k ++ q ∷ [])
-asks_now c m m' k q j is same may room small = record { before = sent m' k; last = q; are = refl; room = room; small = small; follows = follows c m m' k q j is same may }
+asks_now c m m' k q j is same may room small = record { before = sent m' k; last = q; are = refl; job = j; is = is; room = room; small = small; follows = follows c m m' k q j is same may }
 
 module _ (s0 s1 : State) (k : ℕ) (fitted : IsFitted s0) (inside : k < length s0.mail.ends) (quiet : Quiet s0 k) (moves : Moves k s0 s1) (held : ParentIs s1.mail k Held)
     (same_sent : sent s1.mail k ≡ sent s0.mail k) (same_got : got s1.mail k ≡ got s0.mail k) (q : PlainPacket) where
@@ -123,28 +123,3 @@ at_map f (a ∷ l) zero b e = (a, refl, some_one (f a) b e)
     some_one : {B : Type 0} (x y : B) → Some x ≡ Some y → x ≡ y
     some_one x y e = cc
 at_map f (a ∷ l) (suc k) b e = at_map f l k b e
-
-module _ (s : State) (h : Thread) (k m : ℕ) (fitted : IsFitted s) (fork : AtFork s h) (at : slice_get h.branches.numbers k ≡ Some (suc m)) where
-  pub the_job : (w : Written) × (slice_get (jobs_at (code_in s) h) k ≡ Some w) × (w.branch ≡ suc m)
-  the_job = at_map (λ w. w.branch) (jobs_at (code_in s) h) k (suc m) (ap (λ l. slice_get l k) (sym fork.numbers) ∙ at)
-
-  for_it : IsJobFor (code_in s) s.mail h.number the_job.0
-  for_it = fork.each k the_job.0 the_job.1
-
-  same_box : for_it.mailbox ≡ m
-  same_box = let a = for_it.branch in let b = the_job.2 in omega (arith, a, b)
-
-  pub job_inside : m < length s.mail.ends
-  job_inside = let a = for_it.inside in let b = same_box in let f = fitted.mailboxes in omega (arith, a, b, f)
-
-  pub job_mine : IsBranchOf (code_in s).shape h.number m
-  job_mine = subst (IsBranchOf (code_in s).shape h.number) same_box for_it.mine
-
-  pub job_above : h.number ≤ m
-  job_above = let a = for_it.above in let b = same_box in omega (arith, a, b)
-
-  pub job_may : MayAsk (code_in s) s.mail m the_job.0.job
-  job_may = subst (λ x. MayAsk (code_in s) s.mail x the_job.0.job) same_box for_it.may
-
-  pub job_branch : branch_at h k ≡ suc m
-  job_branch = get_or_from_slice_get h.branches.numbers k (suc m) 0 at

@@ -1,7 +1,8 @@
 -- Which jobs may be sent through the mailboxes of a code, and which replies answer them.
 use Rattle.std.specs.Prelude.{ℕ, suc, ◌+◌, ◌≡◌, ◌≤◌, ◌^◌, List, [], ◌∷◌, ◌++◌, length}
 use Rattle.forec_kernel.specs.Packets.{Kind, Start, Wake, IsPaused, PlainPacket}
-use Rattle.forec_kernel.specs.Packed.{HasRoom, PacketAnswers}
+use Rattle.forec_kernel.specs.Packed.{HasRoom, IsJob, PacketAnswers}
+use Rattle.forec_kernel.specs.Engine.{Job}
 use Rattle.thread_code.specs.Plain.{PlainCode}
 use Rattle.thread_code.specs.Valid.{of_shape}
 use Rattle.thread_code.specs.Alone.{CodeAlone}
@@ -28,6 +29,8 @@ pub record Asks (c : PlainCode) (k : ℕ) (jobs : List PlainPacket) : Type 0 whe
   pub before : List PlainPacket
   pub last : PlainPacket
   pub are : jobs ≡ before ++ last ∷ []
+  pub job : Job
+  pub is : IsJob last job
   pub room : HasRoom (of_shape c.shape) (suc k) last
   pub small : last.allowance ≤ 2 ^ 62
   pub follows : MayFollow c k before last.kind

@@ -1,5 +1,5 @@
 -- What a thread has done for its jobs.
-use Rattle.std.specs.Prelude.{ℕ, suc, ◌≡◌, List, [], ◌∷◌, ◌++◌, map, length}
+use Rattle.std.specs.Prelude.{ℕ, suc, ◌≡◌, ◌<◌, List, [], ◌∷◌, ◌++◌, map, length}
 use Rattle.forec_kernel.specs.Packed.{AreJobs}
 use Rattle.forec_kernel.specs.Engine.{Job, Reply, Exchange, Output, AllReply, Allowed, Answers, Answered, pair_all, jobs_to}
 use Rattle.thread_code.specs.Plain.{PlainCode}
@@ -10,8 +10,14 @@ use Rattle.copy_slots.specs.Ports.{sent, got}
 use Rattle.core_host.specs.Posts.{Mail, IsBranchOf, AreReplies, replies_to}
 use Rattle.core_host.specs.Writing.{Log, heard, told}
 
+-- they are for threads above t
+abbrev pub AreAbove : ℕ → List Answered → Type 0
+AreAbove t [] = Unit {0}
+AreAbove t (x ∷ xs) = (t < x.branch) × AreAbove t xs
+
 -- Through the mailboxes of the thread's branches went these jobs and replies, each reply answering what that branch was told.
 pub record Posts (c : PlainCode) (t : ℕ) (mail : Mail) (pairs : List Answered) : Type 0 where
+  pub above : AreAbove t pairs
   pub allowed : Allowed (Answers (CodeAlone c) (length c.threads)) [] pairs
   pub sent : (k : ℕ) → IsBranchOf c.shape t k → AreJobs (sent mail k) (jobs_to (suc k) pairs)
   pub got : (k : ℕ) → IsBranchOf c.shape t k → AreReplies (got mail k) (replies_to (suc k) pairs)

@@ -143,6 +143,16 @@ pub record AtFork (s : State) (h : Thread) : Type 0 where
   pub order : (i j : ℕ) (v w : Written) → i < j → slice_get (jobs_at (code_in s) h) i ≡ Some v → slice_get (jobs_at (code_in s) h) j ≡ Some w → v.branch < w.branch
   pub each : (i : ℕ) (w : Written) → slice_get (jobs_at (code_in s) h) i ≡ Some w → IsJobFor (code_in s) s.mail h.number w
 
+-- the k-th of these jobs can be sent through mailbox m
+pub record CanSend (s : State) (h : Thread) (k m : ℕ) : Type 0 where
+  pub loaded : Loaded (code_in s) h
+  pub settled : HasSettled h 0
+  pub number : slice_get h.branches.numbers k ≡ Some (suc m)
+  pub job : Written
+  pub at : slice_get (jobs_at (code_in s) h) k ≡ Some job
+  pub may : MayAsk (code_in s) s.mail m job.job
+  pub inside : m < length s.mail.ends
+
 -- branch number i has replied by this, and the packet is in hand
 pub record HasHeard (s : State) (branch : ℕ) (r : Reply) : Type 0 where
   pub mailbox : ℕ

@@ -10,7 +10,7 @@ ghost use Rattle.copy_slots.specs.Ports.{sent, got, ParentIs, ChildIs};
 ghost use Rattle.core_machine.specs.Held.{Loaded, StandsFor, CanRun, HasReply, HasSettled, HasJoined};
 ghost use Rattle.core_machine.specs.Forks.{jobs_at, with_replies};
 ghost use Rattle.core_host.specs.Done.{Posts, InJob};
-ghost use Rattle.core_host.specs.Keeping.{State, code_in, IsFitted, Quiet, QuietAbove, IsCalled, IsBack, Leaves, AtFork, HaveHeard};
+ghost use Rattle.core_host.specs.Keeping.{State, code_in, IsFitted, Quiet, QuietAbove, CanSend, IsCalled, IsBack, Leaves, AtFork, HaveHeard};
 ghost use Rattle.core_host.specs.Moving.{Moves, HasSent, HasGot};
 
 use crate::seat::Seat;
@@ -65,8 +65,7 @@ impl<'c, P: Port<ForecWork> + Drop> Desk<'c, P> {
     /// Sends its job to the k-th branch of the thread's fork.
     fn send(&mut self, thread: &Thread, k: usize, mailbox: u32)
         requires fitted { IsFitted self.old }
-        requires fork { AtFork self.old thread.now }
-        requires branch { slice_get thread.now.branches.numbers k ≡ Some (suc mailbox) }
+        requires job { CanSend self.old thread.now k mailbox }
         requires quiet { Quiet self.old mailbox }
         ensures moves { Moves mailbox self.old self.new }
         ensures called { IsCalled self.new mailbox }

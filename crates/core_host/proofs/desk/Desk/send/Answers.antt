@@ -15,7 +15,7 @@ use Rattle.core_host.specs.Posts.{Mail, IsBranchOf}
 use Rattle.core_host.specs.Keeping.{State, code_in, IsFitted, IsJobFor, MayAsk, IsCalled}
 use Rattle.core_host.specs.Moving.{Moves, HasSent}
 use Rattle.core_host.proofs.Mails.{state, with_parent}
-use Rattle.core_host.proofs.Send.{the_job, job_inside, job_may, job_branch, asks_now, after_sent, sent_moves, sent_called, has_sent}
+use Rattle.core_host.proofs.Send.{asks_now, after_sent, sent_moves, sent_called, has_sent}
 use Rattle.core_host.proofs.desk.Desk.send.Goals as goal
 
 pub offer-requires-clause-asks : goal.offer-requires-clause-asks
@@ -27,14 +27,14 @@ offer-requires-clause-asks g c =
     let code : c.self.inside.code.now ≡ s.code = ap (λ (s : State). s.code) c.self.view_is ∙ c.packet-packet.ensures.moves.code in
     let work : port.work.code.value ≡ s.code =
         ap (λ (s : State). s.mail.work.code.value) c.self.view_is ∙ ap (λ w. w.code.value) c.packet-packet.ensures.moves.alike.work ∙ c.requires.fitted.work in
-    let job = the_job s c.args.thread.now c.args.k m c.requires.fitted c.requires.fork c.requires.branch in
-    let is : IsJob q job.0.job = (c.job.ensures.job job.0 (ap (λ (x : CodeParts). slice_get (jobs_at (plain_code x) c.args.thread.now) c.args.k) code ∙ job.1)).1 in
+    let job = c.requires.job in
+    let is : IsJob q job.job.job = (c.job.ensures.job job.job (ap (λ (x : CodeParts). slice_get (jobs_at (plain_code x) c.args.thread.now) c.args.k) code ∙ job.at)).1 in
     let sent_same : sent port m ≡ sent s.mail m = ap (λ (s : State). sent s.mail m) c.self.view_is ∙ c.packet-packet.ensures.sent in
     let room : HasRoom (of_shape (code_in s).shape) (suc m) q =
-        subst (λ t. HasRoom (of_shape (code_in s).shape) t q) (job_branch s c.args.thread.now c.args.k m c.requires.fitted c.requires.fork c.requires.branch)
+        subst (λ t. HasRoom (of_shape (code_in s).shape) t q) (get_or_from_slice_get c.args.thread.now.branches.numbers c.args.k (suc m) 0 job.number)
         (subst (λ (x : CodeParts). HasRoom (of_shape (plain_code x).shape) (branch_at c.args.thread.now c.args.k) q) code c.job.ensures.room) in
     subst (λ (x : CodeParts). Asks (plain_code x) m (sent port m ++ q ∷ [])) (sym work)
-    (asks_now (code_in s) s.mail port m q job.0.job is sent_same (job_may s c.args.thread.now c.args.k m c.requires.fitted c.requires.fork c.requires.branch) room c.job.ensures.small)
+    (asks_now (code_in s) s.mail port m q job.job.job is sent_same job.may room c.job.ensures.small)
 
 -- the state afterwards
 now_is : (g : _) (c : goal.After-offer g) →
@@ -45,7 +45,7 @@ now_is g c =
     ∙ ap (λ (s : State). with_parent s c.args.mailbox (sender_sent (plain_packet c.job.new.packet)) s.hands) c.self.view_is
 
 inside : (g : _) (c : goal.After-offer g) → c.args.mailbox < length c.args.self.now.mail.ends
-inside g c = job_inside c.args.self.now c.args.thread.now c.args.k c.args.mailbox c.requires.fitted c.requires.fork c.requires.branch
+inside g c = c.requires.job.inside
 
 pub returns-clause-moves : goal.returns-clause-moves
 returns-clause-moves g c =
