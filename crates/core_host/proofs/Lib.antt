@@ -15,3 +15,4 @@ pub mod Consults
 pub mod Replying
 pub mod Logs
 pub mod Employing
+pub mod Forked
