@@ -61,21 +61,19 @@ module _ (a b : State) (h : Thread) (k number : ℕ) (fitted : IsFitted a) (fork
   for_it : IsJobFor (code_in a) b.mail h.number job.0
   for_it = done.rest k job.0 (omega arith) job.1
 
-  pub m : ℕ
+  abbrev pub m : ℕ
   m = number - 1
 
   number_is : number ≡ suc for_it.mailbox
   number_is = sym job.2 ∙ for_it.branch
 
   m_is : m ≡ for_it.mailbox
-  unfolding m
   m_is = let e = number_is in omega (arith, e)
 
   pub some_number : 1 ≤ number
   some_number = let e = number_is in omega (arith, e)
 
   pub is_suc : number ≡ suc m
-  unfolding m
   is_suc = let e = some_number in omega (arith, e)
 
   pub fitted_b : IsFitted b

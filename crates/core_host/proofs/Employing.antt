@@ -205,7 +205,7 @@ module _ (s0 : State) (m : ℕ) (fitted : IsFitted s0) (inside : m < length s0.m
       done_work : HasDone (code_in s0) h0 at_work.mail called.idle.jobs
       done_work = done_keeps (code_in s0) h0 s0.mail at_work.mail called.idle.jobs (λ j mine. work_begins.parents j) called.idle.done
 
-      in_job : (i : InJob (code_in s0) h1 at_work.mail called.idle.jobs asks.job) × (i.log.before ≡ [])
+      pub in_job : (i : InJob (code_in s0) h1 at_work.mail called.idle.jobs asks.job) × (i.log.before ≡ [])
       in_job =
           job_begins (code_in s0) fitted.valid h0 h1 at_work.mail called.idle.jobs asks.job number (let n = number_is in omega (arith, n, in_threads)) done_work
           (stands done_work.exchanges asks.job job_is done_work.stands)

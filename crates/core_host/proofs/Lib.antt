@@ -16,3 +16,5 @@ pub mod Replying
 pub mod Logs
 pub mod Employing
 pub mod Forked
+pub mod Finishing
+pub mod Desks
