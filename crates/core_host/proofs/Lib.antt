@@ -18,3 +18,4 @@ pub mod Employing
 pub mod Forked
 pub mod Finishing
 pub mod Desks
+pub mod Rooted

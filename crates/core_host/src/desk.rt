@@ -1,16 +1,19 @@
 //! Threads at work, one after the other.
 ghost use Rattle.std.specs.Prelude.{◌≡◌, ◌≤◌, ◌<◌, ◌^◌, ◌+◌, ◌++◌, ◌∷◌, [], ℕ, suc, List, Some, None, length, slice_get, true, false};
 ghost use Rattle.forec_kernel.specs.Engine.{Job, Reply, Written, Answered, Exchange, pair_up};
-ghost use Rattle.forec_kernel.specs.Packed.{HasRoom};
+ghost use Rattle.forec_kernel.specs.Packed.{HasRoom, IsJob};
 ghost use Rattle.thread_code.specs.Plain.{plain_code};
 ghost use Rattle.thread_code.specs.Valid.{of_shape};
 ghost use Rattle.combine_tree.specs.Plain.{plain_packet};
 ghost use Rattle.copy_slots.specs.declared.view.Place.TheVariants.{Held};
 ghost use Rattle.copy_slots.specs.Ports.{sent, got, ParentIs, ChildIs};
-ghost use Rattle.core_machine.specs.Held.{Loaded, StandsFor, CanRun, HasReply, HasSettled, HasJoined};
+ghost use Rattle.core_machine.specs.Held.{Loaded, StandsFor, CanBegin, CanRun, HasReply, HasSettled, HasJoined};
 ghost use Rattle.core_machine.specs.Forks.{jobs_at, with_replies};
-ghost use Rattle.core_host.specs.Done.{Posts, InJob};
-ghost use Rattle.core_host.specs.Keeping.{State, code_in, IsFitted, Quiet, QuietAbove, CanSend, IsCalled, IsBack, Leaves, AtFork, HaveHeard};
+ghost use Rattle.core_machine.specs.declared.thread.Thread.{Thread as PlainThread};
+ghost use Rattle.core_machine.specs.Replies.{Replies_by};
+ghost use Rattle.core_host.specs.Changes.{Grown};
+ghost use Rattle.core_host.specs.Done.{Posts, HasDone, InJob};
+ghost use Rattle.core_host.specs.Keeping.{State, code_in, IsFitted, Sits, Quiet, QuietAbove, CanSend, IsCalled, IsBack, Leaves, AtFork, HaveHeard};
 ghost use Rattle.core_host.specs.Moving.{Moves, HasSent, HasGot};
 
 use crate::seat::Seat;
@@ -43,7 +46,9 @@ impl<'c, P: Port<ForecWork> + Drop> Model for Desk<'c, P> {
 }
 
 impl<'c, P: Port<ForecWork> + Drop> Desk<'c, P> {
+    ghost use Rattle.core_host.specs.Ending.{HasReplied};
     ghost use Rattle.core_host.specs.Following.{HasFollowed};
+    ghost use Rattle.core_host.specs.Rests.{RootRests};
 
     /// The packet of a mailbox with nothing under way, out of its parent's hand or its slot.
     fn packet(&mut self, mailbox: u32) -> Packet
@@ -206,5 +211,34 @@ impl<'c, P: Port<ForecWork> + Drop> Desk<'c, P> {
             self.join(thread);
             forks += 1;
         }
+    }
+
+    /// Has thread 0, with all threads below it, do the job in this packet. The packet is then its reply.
+    pub fn work<G: Gate>(&mut self, gate: &G, packet: &mut Packet)
+        requires fitted { IsFitted self.old }
+        requires quiet { QuietAbove self.old 0 }
+        requires root { RootRests self.old }
+        requires job { (t : PlainThread) → Sits self.old 0 t → CanBegin t packet.old.kind }
+        requires is { (job : Job) × IsJob (plain_packet packet.old) job }
+        requires room { HasRoom (of_shape (code_in self.old).shape) 0 (plain_packet packet.old) }
+        requires small { packet.old.allowance ≤ 2 ^ 62 }
+        ensures fitted { IsFitted self.new }
+        ensures code { self.new.code ≡ self.old.code }
+        ensures places { self.new.places ≡ self.old.places }
+        ensures quiet { QuietAbove self.new 0 }
+        ensures root { RootRests self.new }
+        ensures grown { Grown self.old.mail self.new.mail }
+        ensures room { HasRoom (of_shape (code_in self.old).shape) 0 (plain_packet packet.new) }
+        ensures kind { (t : PlainThread) → Sits self.new 0 t → Replies_by t packet.new.kind }
+        ensures replied { (t u : PlainThread) (jobs : List Job) (job : Job) → Sits self.old 0 t → Sits self.new 0 u → HasDone (code_in self.old) t self.old.mail jobs
+            → IsJob (plain_packet packet.old) job → HasReplied self.new u (jobs ++ job ∷ []) (plain_packet packet.new) }
+    {
+        let Some(mut thread) = self.seats[0].thread.take() else {
+            unreachable!()
+        };
+        thread.begin(self.code, packet);
+        self.finish(gate, &mut thread);
+        thread.reply(self.code, packet);
+        self.seats[0].thread = Some(thread);
     }
 }
