@@ -19,3 +19,5 @@ pub mod Forked
 pub mod Finishing
 pub mod Desks
 pub mod Rooted
+pub mod Ticked
+pub mod Ticking

@@ -1,5 +1,5 @@
 -- What a host has run.
-use Rattle.std.specs.Prelude.{ℕ, ◌≡◌, true, Some, List, [], slice_get}
+use Rattle.std.specs.Prelude.{◌≡◌, true, List, []}
 use Rattle.forec_kernel.specs.Shapes.{PlainKernel}
 use Rattle.forec_kernel.specs.Ticks.{State, Fresh, After_tick}
 use Rattle.forec_kernel.specs.WellFormed.{WellFormed}
@@ -10,16 +10,14 @@ use Rattle.combine_tree.specs.declared.packet.PacketKind.TheVariants as kind
 use Rattle.thread_code.specs.Alone.{Stands}
 use Rattle.thread_code.specs.Laws.{EachFits}
 use Rattle.core_machine.specs.declared.thread.Thread.{Thread}
-use Rattle.core_host.specs.declared.seat.Seat.{Seat}
 use Rattle.core_host.specs.Done.{HasDone}
-use Rattle.core_host.specs.Hosted.{Hosted, code_of}
+use Rattle.core_host.specs.Keeping.{Sits}
+use Rattle.core_host.specs.Hosted.{Hosted, code_of, state_in}
 
 -- thread 0 was given these jobs by the ticks so far, and has replied to each
 pub record HasJobs (h : Hosted) (jobs : List Job) : Type 0 where
-  pub seat : Seat
-  pub at : slice_get h.seats 0 ≡ Some seat
   pub thread : Thread
-  pub is : seat.thread ≡ Some thread
+  pub sits : Sits (state_in h) 0 thread
   pub fit : EachFits (code_of h).shape 0 jobs
   pub done : HasDone (code_of h) thread h.mail jobs
 

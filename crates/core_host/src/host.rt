@@ -12,6 +12,8 @@ ghost use Rattle.core_host.specs.Loads.{CanLoad, AreAll, is_on};
 ghost use Rattle.core_host.specs.Outcomes.{HasOutputs, LacksOutputs};
 
 use crate::desk::Desk;
+use crate::job::write_job;
+use crate::outcome::write_outcome;
 use crate::work::ForecWork;
 use combine_tree::Packet;
 use copy_slots::Port;
@@ -110,10 +112,18 @@ impl<'c, P: Port<ForecWork> + Drop> Host<'c, P> {
         ensures live { is_live self.new ≡ goes_on result }
         ensures jobs { (jobs : List Job) → HasJobs self.old jobs → HasJobs self.new (jobs ++ job_of (code_of self.old).shape self.old.root row.now budget ∷ []) }
         ensures rest { (k : ℕ) → k < length self.new.mail.ends → ChildIs self.new.mail k false }
-        ensures taken { (k : ℕ) → taken self.new.mail k ≡ sent self.new.mail k }
+        ensures taken { (k : ℕ) → k < length self.new.mail.ends → taken self.new.mail k ≡ sent self.new.mail k }
         ensures grown { Grown self.old.mail self.new.mail }
     {
-        unreachable!()
+        let Host {
+            desk, root, live, ..
+        } = self;
+        let code = desk.code;
+        write_job(root, code.shape(), row, budget);
+        desk.work(gate, root);
+        let outcome = write_outcome(root, code.shape(), outputs);
+        *live = matches!(outcome, Outcome::Paused);
+        outcome
     }
 
     /// Takes one job, or goes on with one thread whose branches have all answered, and runs that thread until it
