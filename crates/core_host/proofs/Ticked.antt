@@ -1,4 +1,4 @@
--- What a tick of a code's one thread comes to.
+-- What a tick comes to.
 use Rattle.std.proofs.Common.{◌≡◌, ℕ, ◌-◌, ℤ, Bool, true, List, [], ◌∷◌, ◌++◌, length, refl, sym, ap, ◌∙◌, subst}
 use Rattle.std.proofs.lemmas.List.{length-map}
 use Rattle.forec_kernel.specs.declared.shape.VarCopy.{VarCopy}
@@ -7,31 +7,26 @@ use Rattle.forec_kernel.specs.Texts.{uses_in}
 use Rattle.forec_kernel.specs.WellFormed.{WellFormed}
 use Rattle.forec_kernel.specs.Ticks.{State, Fresh, After_tick, tick, goes_on, start_copies, unmarked, with_row, values_of}
 use Rattle.forec_kernel.specs.Packets.{Blank, IsPaused, IsEnded, IsTrapped, IsOver}
-use Rattle.forec_kernel.specs.Packed.{HasRoom, IsReply}
-use Rattle.forec_kernel.specs.Engine.{Job, Start, Wake, Reply, WasPaused, WasEnded, WasTrapped, WasOver, Exchange, AllReply, Answers}
+use Rattle.forec_kernel.specs.Packed.{HasRoom, IsReply, IsJob}
+use Rattle.forec_kernel.specs.Engine.{Job, Start, Wake, Reply, WasPaused, WasEnded, WasTrapped, WasOver, Answers}
 use Rattle.forec_kernel.specs.Solo.{values_in, KernelAlone}
 use Rattle.forec_kernel.specs.Composed.{Turn, tick_job, tick_jobs, next_state, state_after, Tells}
 use Rattle.forec_kernel.proofs.Distinct.{branches_apart}
 use Rattle.forec_kernel.proofs.TickByTick.{each_tick}
 use Rattle.thread_code.specs.Plain.{PlainCode, plain_code}
 use Rattle.thread_code.specs.Valid.{IsValidCode, FineShape, of_shape}
-use Rattle.thread_code.specs.Alone.{Stands, CodeAlone, code_engine}
+use Rattle.thread_code.specs.Alone.{Stands, CodeAlone}
 use Rattle.thread_code.specs.Laws.{FitsThread, EachFits}
 use Rattle.thread_code.proofs.Answers.{answers_agree}
-use Rattle.thread_code.proofs.Steady.{code_steady}
 use Rattle.combine_tree.specs.declared.packet.Packet.{Packet}
 use Rattle.combine_tree.specs.declared.packet.PacketKind.{PacketKind}
 use Rattle.combine_tree.specs.declared.packet.PacketKind.TheVariants as kind
 use Rattle.combine_tree.specs.Plain.{plain_kind, plain_packet}
-use Rattle.core_machine.specs.declared.thread.Thread.{Thread}
-use Rattle.core_machine.specs.Held.{StandsFor, Gives}
 use Rattle.core_host.specs.Jobs.{copies_before, copies_at, job_with, job_of}
 use Rattle.core_host.specs.Outcomes.{HasOutputs, outcome_in}
-use Rattle.core_host.specs.Hosted.{Hosted, hosted}
-use Rattle.core_host.specs.Done.{by_itself, Keeps, HasDone}
+use Rattle.core_host.specs.Runs.{Keeps}
 use Rattle.core_host.proofs.Rooms.{no_params, all_copies, length_at}
 use Rattle.core_host.proofs.KeptCopies.{KeptBy, HasCopies, copies_kept, jobs_then, state_then}
-use Rattle.core_host.proofs.Replying.{replies_more, by_itself_then, answers_alone}
 
 -- ---- the job
 
@@ -53,11 +48,11 @@ fits_with s fine kind.Ended values budget h = h
 fits_with s fine (kind.Trapped place trap) values budget h = h
 fits_with s fine kind.Over values budget h = h
 
-job_fits : (s : PlainShape) → FineShape s → (p : Packet) → HasRoom (of_shape s) 0 (plain_packet p) → (row : List ℤ) (budget : ℕ) → FitsThread s 0 (job_of s p row budget)
+pub job_fits : (s : PlainShape) → FineShape s → (p : Packet) → HasRoom (of_shape s) 0 (plain_packet p) → (row : List ℤ) (budget : ℕ) → FitsThread s 0 (job_of s p row budget)
 job_fits s fine p room row budget =
     fits_with s fine p.kind (values_in (copies_at s p row)) budget (length-map (copies_at s p row) (λ c. c.value) ∙ length_at s fine p row (all_copies s fine (plain_packet p) room))
 
-fits_then : (s : PlainShape) (js : List Job) (j : Job) → EachFits s 0 js → FitsThread s 0 j → EachFits s 0 (js ++ j ∷ [])
+pub fits_then : (s : PlainShape) (js : List Job) (j : Job) → EachFits s 0 js → FitsThread s 0 j → EachFits s 0 (js ++ j ∷ [])
 fits_then s [] j h f = (f, tt)
 fits_then s (i ∷ js) j h f = (h.0, fits_then s js j h.1 f)
 
@@ -126,68 +121,35 @@ goes_on_paused _ e = cc
 
 -- ---- a tick
 
-module _ (r : Hosted) (valid : IsValidCode (plain_code r.code)) (room : HasRoom (of_shape (plain_code r.code).shape) 0 (plain_packet r.packet)) (live : r.live ≡ true)
-    (h : Thread) (number : h.number ≡ 0) (p : Packet) (row : List ℤ) (budget : ℕ)
-    (runs : (xs : List Exchange) → StandsFor (plain_code r.code) r.thread xs → StandsFor (plain_code r.code) h (xs ++ record { job = job_of (plain_code r.code).shape r.packet row budget; replies = [] } ∷ []))
-    (gives : (xs : List Exchange) → StandsFor (plain_code r.code) h xs → Gives (plain_code r.code) h.number xs (plain_packet p))
-    (k : PlainKernel) (turns : List Turn) (fine : WellFormed k) (stands : Stands (plain_code r.code) k) (done : HasDone r k turns) where
-  abbrev c : PlainCode
-  c = plain_code r.code
-
+module _ (c : PlainCode) (valid : IsValidCode c) (k : PlainKernel) (turns : List Turn) (fine : WellFormed k) (stands : Stands c k) (p p' : Packet) (room : HasRoom (of_shape c.shape) 0 (plain_packet p)) (row : List ℤ) (budget : ℕ)
+    (fit : EachFits c.shape 0 (tick_jobs k Fresh turns)) (keeps : Keeps (state_after k Fresh turns) p) (reply : Reply) (is : IsReply (plain_packet p') reply)
+    (answers : Answers (CodeAlone c) (length c.threads) 0 (tick_jobs k Fresh turns ++ job_of c.shape p row budget ∷ []) reply) where
   abbrev turn : Turn
   turn = record { row = row; budget = budget }
 
-  abbrev jobs : List Job
-  jobs = tick_jobs k Fresh (turns ++ turn ∷ [])
-
   abbrev job : Job
-  job = job_of c.shape r.packet row budget
+  job = job_of c.shape p row budget
 
   is_job : job ≡ tick_job k (state_after k Fresh turns) turn
-  is_job = same_job c k stands.shape (state_after k Fresh turns) r.packet turn (done.keeps live)
+  is_job = same_job c k stands.shape (state_after k Fresh turns) p turn keeps
 
-  jobs_are : tick_jobs k Fresh turns ++ job ∷ [] ≡ jobs
+  pub jobs_are : tick_jobs k Fresh turns ++ job ∷ [] ≡ tick_jobs k Fresh (turns ++ turn ∷ [])
   jobs_are = ap (λ j. tick_jobs k Fresh turns ++ j ∷ []) is_job ∙ sym (jobs_then k turns turn Fresh)
 
-  exchanges_are : by_itself (tick_jobs k Fresh turns) ++ record { job = job; replies = [] } ∷ [] ≡ by_itself jobs
-  exchanges_are = sym (by_itself_then (tick_jobs k Fresh turns) job) ∙ ap by_itself jobs_are
+  now_fit : EachFits c.shape 0 (tick_jobs k Fresh (turns ++ turn ∷ []))
+  now_fit = subst (EachFits c.shape 0) jobs_are (fits_then c.shape (tick_jobs k Fresh turns) job fit (job_fits c.shape valid.shape p room row budget))
 
-  now_stands : StandsFor c h (by_itself jobs)
-  now_stands = subst (StandsFor c h) exchanges_are (runs (by_itself (tick_jobs k Fresh turns)) done.stands)
+  counts : length c.threads ≡ length k.threads
+  counts = valid.threads ∙ ap (λ (s : PlainShape). length s.threads) stands.shape ∙ sym fine.bodies
 
-  given : Gives c 0 (by_itself jobs) (plain_packet p)
-  given = subst (λ t. Gives c t (by_itself jobs) (plain_packet p)) number (gives (by_itself jobs) now_stands)
+  agreed : Answers (KernelAlone k) (length k.threads) 0 (tick_jobs k Fresh (turns ++ turn ∷ [])) reply
+  agreed =
+      answers_agree c k stands 0 fine.some fine.bodies (tick_jobs k Fresh (turns ++ turn ∷ [])) reply now_fit
+      (subst (λ js. Answers (CodeAlone c) (length k.threads) 0 js reply) jobs_are (subst (λ n. Answers (CodeAlone c) n 0 (tick_jobs k Fresh turns ++ job ∷ []) reply) counts answers))
 
-  complete : AllReply given.outputs
-  complete =
-      replies_more (code_engine c 0) (code_steady c 0) (by_itself (tick_jobs k Fresh turns)) (record { job = job; replies = [] }) _ done.outputs given.outputs given.reply done.runs done.complete
-      (subst (λ xs. CodeAlone c 0 xs given.outputs) (sym exchanges_are) given.runs) given.last
-
-  now_fit : EachFits c.shape 0 jobs
-  now_fit = subst (EachFits c.shape 0) jobs_are (fits_then c.shape (tick_jobs k Fresh turns) job done.fit (job_fits c.shape valid.shape r.packet room row budget))
-
-  answers : Answers (KernelAlone k) (length k.threads) 0 jobs given.reply
-  answers =
-      answers_agree c k stands 0 fine.some fine.bodies jobs given.reply now_fit
-      (answers_alone (CodeAlone c) 0 jobs given.reply given.outputs given.runs complete given.last (length k.threads - 0))
-
-  pub told : Told c k turns turn p
+  pub told : Told c k turns turn p'
   told =
-      told_by c k stands.shape turns turn p given.reply given.is (each_tick k (branches_apart k fine) turns turn given.reply answers)
-      (copies_kept k (branches_apart k fine) turns turn given.reply answers)
+      told_by c k stands.shape turns turn p' reply is (each_tick k (branches_apart k fine) turns turn reply agreed) (copies_kept k (branches_apart k fine) turns turn reply agreed)
 
-  pub now_done : (live' : Bool) → live' ≡ goes_on (outcome_in p.kind) → HasDone (hosted r.code h p live') k (turns ++ turn ∷ [])
-  now_done live' is = record {
-    stands = now_stands;
-    fit = now_fit;
-    outputs = given.outputs;
-    runs = given.runs;
-    complete = complete;
-    keeps = λ e. subst (λ s. Keeps s p) (sym (state_then k turns turn Fresh)) (told.keeps (goes_on_paused p.kind (sym is ∙ e)));
-  }
-
--- ---- before the first tick
-
-pub blank_of : (q : PacketKind) → plain_kind q ≡ Blank → q ≡ kind.Blank
-blank_of kind.Blank e = refl
-blank_of _ e = cc
+  pub keeps_now : p'.kind ≡ kind.Paused → Keeps (state_after k Fresh (turns ++ turn ∷ [])) p'
+  keeps_now e = subst (λ s. Keeps s p') (sym (state_then k turns turn Fresh)) (told.keeps e)

@@ -1,31 +1,39 @@
--- What a thread has done for a list of ticks.
-use Rattle.std.specs.Prelude.{◌≡◌, true, List, [], map}
-use Rattle.forec_kernel.specs.Shapes.{PlainKernel}
-use Rattle.forec_kernel.specs.Ticks.{State, Fresh, After_tick}
-use Rattle.forec_kernel.specs.Engine.{Job, Exchange, Output, AllReply}
-use Rattle.forec_kernel.specs.Composed.{Turn, tick_jobs, state_after}
-use Rattle.combine_tree.specs.declared.packet.Packet.{Packet}
-use Rattle.combine_tree.specs.declared.packet.PacketKind.TheVariants as kind
-use Rattle.thread_code.specs.Plain.{plain_code}
+-- What a thread has done for its jobs.
+use Rattle.std.specs.Prelude.{ℕ, suc, ◌≡◌, ◌<◌, List, [], ◌∷◌, ◌++◌, map, length}
+use Rattle.forec_kernel.specs.Packed.{AreJobs}
+use Rattle.forec_kernel.specs.Engine.{Job, Reply, Exchange, Output, AllReply, Allowed, Answers, Answered, pair_all, jobs_to}
+use Rattle.thread_code.specs.Plain.{PlainCode}
 use Rattle.thread_code.specs.Alone.{CodeAlone}
-use Rattle.thread_code.specs.Laws.{EachFits}
+use Rattle.core_machine.specs.declared.thread.Thread.{Thread}
 use Rattle.core_machine.specs.Held.{StandsFor}
-use Rattle.core_host.specs.Hosted.{Hosted}
+use Rattle.copy_slots.specs.Ports.{sent, got}
+use Rattle.core_host.specs.Posts.{Mail, IsBranchOf, AreReplies, replies_to}
+use Rattle.core_host.specs.Writing.{Log, heard, told}
 
--- these jobs, in which no branch replies
-abbrev pub by_itself : List Job → List Exchange
-by_itself = map (λ job. record { job = job; replies = [] })
+-- they are for threads above t
+abbrev pub AreAbove : ℕ → List Answered → Type 0
+AreAbove t [] = Unit {0}
+AreAbove t (x ∷ xs) = (t < x.branch) × AreAbove t xs
 
--- what the packet has between ticks: before the first nothing, later the copies with which the last one paused
-abbrev pub Keeps : State → Packet → Type 0
-Keeps Fresh p = p.kind ≡ kind.Blank
-Keeps (After_tick thread) p = (p.kind ≡ kind.Paused) × (p.copies.items ≡ thread.copies)
+-- Through the mailboxes of the thread's branches went these jobs and replies, each reply answering what that branch was told.
+pub record Posts (c : PlainCode) (t : ℕ) (mail : Mail) (pairs : List Answered) : Type 0 where
+  pub above : AreAbove t pairs
+  pub allowed : Allowed (Answers (CodeAlone c) (length c.threads)) [] pairs
+  pub sent : (k : ℕ) → IsBranchOf c.shape t k → AreJobs (sent mail k) (jobs_to (suc k) pairs)
+  pub got : (k : ℕ) → IsBranchOf c.shape t k → AreReplies (got mail k) (replies_to (suc k) pairs)
 
--- the thread had the jobs of these ticks, and has replied to each; where it goes on, the packet has the copies with which it paused
-pub record HasDone (r : Hosted) (k : PlainKernel) (turns : List Turn) : Type 0 where
-  pub stands : StandsFor (plain_code r.code) r.thread (by_itself (tick_jobs k Fresh turns))
-  pub fit : EachFits (plain_code r.code).shape 0 (tick_jobs k Fresh turns)
+-- the thread stands for its jobs with the replies of its branches, and has replied to each
+pub record HasDone (c : PlainCode) (h : Thread) (mail : Mail) (jobs : List Job) : Type 0 where
+  pub exchanges : List Exchange
   pub outputs : List Output
-  pub runs : CodeAlone (plain_code r.code) 0 (by_itself (tick_jobs k Fresh turns)) outputs
+  pub stands : StandsFor c h exchanges
+  pub jobs_are : map (λ x. x.job) exchanges ≡ jobs
+  pub runs : CodeAlone c h.number exchanges outputs
   pub complete : AllReply outputs
-  pub keeps : r.live ≡ true → Keeps (state_after k Fresh turns) r.packet
+  pub posts : Posts c h.number mail (pair_all exchanges outputs)
+
+-- the thread has done these jobs, and is at this one
+pub record InJob (c : PlainCode) (h : Thread) (mail : Mail) (jobs : List Job) (job : Job) : Type 0 where
+  pub log : Log c h.number jobs job
+  pub stands : StandsFor c h (heard c h.number jobs job log)
+  pub posts : Posts c h.number mail (told c h.number jobs job log)

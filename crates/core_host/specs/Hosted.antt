@@ -1,36 +1,45 @@
--- A code's one thread, and the packet by which it is told its ticks.
-use Rattle.std.specs.Prelude.{◌≡◌, Bool, true, length}
-use Rattle.forec_kernel.specs.Packed.{HasRoom}
+-- A host, as its callers see it.
+use Rattle.std.specs.Prelude.{ℕ, ◌≡◌, ◌<◌, Bool, true, Option, List, length}
 use Rattle.combine_tree.specs.declared.packet.Packet.{Packet}
-use Rattle.combine_tree.specs.declared.packet.PacketKind.{PacketKind}
-use Rattle.combine_tree.specs.declared.packet.PacketKind.TheVariants as kind
-use Rattle.combine_tree.specs.Plain.{plain_packet}
 use Rattle.thread_code.specs.declared.instruction.CodeParts.{CodeParts}
-use Rattle.thread_code.specs.Plain.{plain_code}
-use Rattle.thread_code.specs.Valid.{of_shape}
-use Rattle.core_machine.specs.declared.thread.Thread.{Thread}
-use Rattle.core_machine.specs.Held.{Loaded, IsResting, HasPaused}
+use Rattle.thread_code.specs.Plain.{PlainCode, plain_code}
+use Rattle.core_host.specs.declared.seat.Seat.{Seat}
+use Rattle.core_host.specs.Posts.{Mail}
+use Rattle.core_host.specs.Keeping.{State}
+use Rattle.core_host.specs.Loads.{is_on}
 
+-- `places`: the core of each thread. `cores`: those of this host. `mail`: what went through its mailboxes. `seats`: each thread, with the job in its hand.
+-- `hands`: the packets in the parents' hands. `root`: the packet of thread 0, in a tick its job, between ticks its reply. `live`: each tick so far has paused
 pub record Hosted : Type 0 where
   pub code : CodeParts
-  pub thread : Thread
-  pub packet : Packet
+  pub places : List ℕ
+  pub cores : List ℕ
+  pub mail : Mail
+  pub seats : List Seat
+  pub hands : List (Option Packet)
+  pub root : Packet
   pub live : Bool
 
-abbrev pub hosted : CodeParts → Thread → Packet → Bool → Hosted
-hosted code thread packet live = record { code = code; thread = thread; packet = packet; live = live }
+abbrev pub hosted : State → List ℕ → Packet → Bool → Hosted
+hosted s cores root live =
+    record { code = s.code; places = s.places; cores = cores; mail = s.mail; seats = s.seats; hands = s.hands; root = root; live = live }
 
--- the next tick can begin: no tick was run, or the last one paused
-abbrev pub IsReady : Thread → PacketKind → Type 0
-IsReady h kind.Blank = Unit {0}
-IsReady h kind.Paused = HasPaused h
-IsReady h _ = ⊥
+abbrev pub state_in : Hosted → State
+state_in h = record { code = h.code; places = h.places; mail = h.mail; seats = h.seats; hands = h.hands }
 
--- the code has one thread, which has no job in progress
-pub record IsHosted (r : Hosted) : Type 0 where
-  pub loaded : Loaded (plain_code r.code) r.thread
-  pub root : r.thread.number ≡ 0
-  pub one : length (plain_code r.code).threads ≡ 1
-  pub resting : IsResting r.thread
-  pub room : HasRoom (of_shape (plain_code r.code).shape) 0 (plain_packet r.packet)
-  pub ready : r.live ≡ true → IsReady r.thread r.packet.kind
+-- the code whose threads the host has
+abbrev pub code_of : Hosted → PlainCode
+code_of h = plain_code h.code
+
+-- each tick so far has paused
+abbrev pub is_live : Hosted → Bool
+is_live h = h.live
+
+-- the thread's core is one of the host's
+abbrev pub is_here : Hosted → ℕ → Bool
+is_here h t = is_on h.places h.cores t
+
+-- the host has all threads, and its port tells whose turn it is
+pub record IsWhole (h : Hosted) : Type 0 where
+  pub tells : h.mail.tells ≡ true
+  pub all : (t : ℕ) → t < length (code_of h).threads → is_here h t ≡ true

@@ -1,21 +1,35 @@
 -- What a host has run.
-use Rattle.std.specs.Prelude.{Bool, List}
+use Rattle.std.specs.Prelude.{◌≡◌, true, List, []}
 use Rattle.forec_kernel.specs.Shapes.{PlainKernel}
+use Rattle.forec_kernel.specs.Ticks.{State, Fresh, After_tick}
 use Rattle.forec_kernel.specs.WellFormed.{WellFormed}
-use Rattle.forec_kernel.specs.Composed.{Turn}
-use Rattle.thread_code.specs.Plain.{PlainCode, plain_code}
+use Rattle.forec_kernel.specs.Engine.{Job}
+use Rattle.forec_kernel.specs.Composed.{Turn, tick_jobs, state_after}
+use Rattle.combine_tree.specs.declared.packet.Packet.{Packet}
+use Rattle.combine_tree.specs.declared.packet.PacketKind.TheVariants as kind
 use Rattle.thread_code.specs.Alone.{Stands}
+use Rattle.thread_code.specs.Laws.{EachFits}
+use Rattle.core_machine.specs.declared.thread.Thread.{Thread}
 use Rattle.core_host.specs.Done.{HasDone}
-use Rattle.core_host.specs.declared.host.Host.{Host}
+use Rattle.core_host.specs.Keeping.{Sits}
+use Rattle.core_host.specs.Hosted.{Hosted, code_of, state_in}
 
--- the code whose threads the host has
-abbrev pub code_of : Host → PlainCode
-code_of h = plain_code h.root.code
+-- thread 0 was given these jobs by the ticks so far, and has replied to each
+pub record HasJobs (h : Hosted) (jobs : List Job) : Type 0 where
+  pub thread : Thread
+  pub sits : Sits (state_in h) 0 thread
+  pub fit : EachFits (code_of h).shape 0 jobs
+  pub done : HasDone (code_of h) thread h.mail jobs
 
--- each tick so far has paused
-abbrev pub is_live : Host → Bool
-is_live h = h.root.live
+-- what the packet of thread 0 has between ticks: before the first nothing, later the copies with which the last one paused
+abbrev pub Keeps : State → Packet → Type 0
+Keeps Fresh p = p.kind ≡ kind.Blank
+Keeps (After_tick thread) p = (p.kind ≡ kind.Paused) × (p.copies.items ≡ thread.copies)
+
+pub record HasTicked (h : Hosted) (k : PlainKernel) (turns : List Turn) : Type 0 where
+  pub jobs : HasJobs h (tick_jobs k Fresh turns)
+  pub keeps : h.live ≡ true → Keeps (state_after k Fresh turns) h.root
 
 -- the host has run these ticks, each with its row and its budget, as each kernel for which its code stands runs them
-unfoldable pub HasRun : Host → List Turn → Type 0
-HasRun h turns = (k : PlainKernel) → WellFormed k → Stands (code_of h) k → HasDone h.root k turns
+unfoldable pub HasRun : Hosted → List Turn → Type 0
+HasRun h turns = (k : PlainKernel) → WellFormed k → Stands (code_of h) k → HasTicked h k turns

@@ -1,58 +1,108 @@
-//! One thread's ticks.
-ghost use Rattle.std.specs.Prelude.{◌≡◌, ◌≤◌, ◌^◌, ◌++◌, ◌∷◌, [], List, length, true, IfOk, IsTrue};
+//! The host of some of a code's threads.
+ghost use Rattle.std.specs.Prelude.{◌≡◌, ◌≤◌, ◌<◌, ◌^◌, ◌++◌, ◌∷◌, [], ℕ, suc, List, length, true, false, IfOk, IsTrue};
 ghost use Rattle.forec_kernel.specs.Composed.{Turn, state_after};
+ghost use Rattle.forec_kernel.specs.Engine.{Job};
 ghost use Rattle.forec_kernel.specs.Shapes.{PlainKernel};
 ghost use Rattle.forec_kernel.specs.Ticks.{Fresh, tick, goes_on};
 ghost use Rattle.forec_kernel.specs.WellFormed.{WellFormed};
 ghost use Rattle.thread_code.specs.Alone.{Stands};
-ghost use Rattle.thread_code.specs.Plain.{plain_code};
+ghost use Rattle.copy_slots.specs.Ports.{sent, taken, ChildIs};
+ghost use Rattle.core_host.specs.Jobs.{job_of};
+ghost use Rattle.core_host.specs.Loads.{CanLoad, AreAll, is_on};
 ghost use Rattle.core_host.specs.Outcomes.{HasOutputs, LacksOutputs};
 
-use crate::root::Root;
-use forec_base::OutOfMemory;
+use crate::desk::Desk;
+use crate::job::write_job;
+use crate::outcome::write_outcome;
+use crate::work::ForecWork;
+use combine_tree::Packet;
+use copy_slots::Port;
+use core_alloc::Placement;
+use forec_base::{Gate, OutOfMemory};
 use forec_kernel::Outcome;
 use std::alloc::Global;
+use std::marker::Model;
 use thread_code::Code;
 
-/// The threads of a code, in memory that is made once.
-#[derive(Drop)]
-pub struct Host {
-    root: Root,
+/// What a host has done in one call.
+#[derive(Clone, Copy, Debug, PartialEq, Eq)]
+pub enum Served {
+    /// The thread of mailbox k has run: it has answered its job, or sent jobs to its branches.
+    Worked { k: u32 },
+    /// No job has come, and no branch has answered.
+    Nothing,
 }
 
-impl Host {
-    ghost use Rattle.core_host.specs.Runs.{HasRun, code_of, is_live};
+/// The threads of a code that run on some cores, with the ends of the mailboxes there, in memory that is
+/// made once.
+///
+/// A thread but thread 0 takes its jobs from its mailbox, tells its branches theirs, and answers. Between
+/// two calls what went through the mailboxes of its branches are the jobs that it writes by itself, and the
+/// replies to them.
+#[derive(Drop)]
+pub struct Host<'c, P: Port<ForecWork> + Drop> {
+    desk: Desk<'c, P>,
+    cores: Vec<u32>,
+    root: Packet,
+    live: bool,
+}
 
-    /// The host of a code's one thread. No tick was run.
+impl<'c, P: Port<ForecWork> + Drop> Model for Host<'c, P> {
+    ghost use Rattle.core_host.specs.Hosted.{Hosted, hosted};
+    ghost use Rattle.core_host.specs.Rests.{IsHosted};
+
+    ghost Value = { Hosted };
+
+    ghost view = { λ h. hosted h.desk h.cores.items h.root h.live };
+
+    ghost invariant = { λ h. IsHosted (hosted h.desk h.cores.items h.root h.live) };
+}
+
+impl<'c, P: Port<ForecWork> + Drop> Host<'c, P> {
+    ghost use Rattle.core_host.specs.Changes.{Grown, HasWorked, IsIdle};
+    ghost use Rattle.core_host.specs.Hosted.{code_of, is_live, is_here, IsWhole};
+    ghost use Rattle.core_host.specs.Posts.{HasPosted, HasPostedTaken};
+    ghost use Rattle.core_host.specs.Runs.{HasJobs, HasRun};
+
+    /// The threads of these cores, over a port with the ends of their mailboxes. No tick was run.
     ///
     /// # Errors
     ///
     /// Want of memory.
-    pub fn load(alloc: Global, code: Code) -> Result<Host, OutOfMemory>
-        requires { length (plain_code code).threads ≡ 1 }
-        ensures code { IfOk result (λ h. code_of h ≡ plain_code code) }
+    pub fn load(alloc: Global, code: &'c Code, placement: &Placement, cores: &[u32], port: P) -> Result<Host<'c, P>, OutOfMemory>
+        requires { CanLoad code.now placement.now cores.now (P.state port) }
+        ensures code { IfOk result (λ h. h.code ≡ code.now) }
+        ensures places { IfOk result (λ h. h.places ≡ placement.now.places) }
+        ensures cores { IfOk result (λ h. h.cores ≡ cores.now) }
+        ensures mail { IfOk result (λ h. h.mail ≡ P.state port) }
         ensures live { IfOk result (λ h. is_live h ≡ true) }
         ensures none { IfOk result (λ h. HasRun h []) }
+        ensures jobs { IfOk result (λ h. is_on placement.now.places cores.now 0 ≡ true → HasJobs h []) }
+        ensures whole { IfOk result (λ h. (P.state port).tells ≡ true → AreAll placement.now.cores cores.now → IsWhole h) }
     {
-        let root = Root::load(alloc, code)?;
-        Ok(Host { root })
+        unreachable!()
     }
 
-    /// Whether each tick so far has paused.
+    /// Whether no tick has ended, trapped or gone over its budget.
     pub fn live(&self) -> bool
         ensures { result ≡ is_live self.now }
     {
-        self.root.live()
+        self.live
     }
 
-    /// Runs one tick: the inputs get the values of the row, in order of declaration. Where the tick pauses or ends
-    /// the outputs are written, in order of declaration; else they stay as they were. It takes no memory.
-    pub fn alone(&mut self, row: &[i32], budget: u64, outputs: &mut [i32]) -> Outcome
+    /// Runs one tick, by itself: the inputs get the values of the row, in order of declaration. Where the tick
+    /// pauses or ends the outputs are written, in order of declaration; else they stay as they were. It takes
+    /// no memory.
+    ///
+    /// Through each mailbox go exactly the tick's jobs and replies, however the tick ends.
+    pub fn alone<G: Gate>(&mut self, row: &[i32], budget: u64, gate: &G, outputs: &mut [i32]) -> Outcome
+        requires whole { IsWhole self.old }
         requires live { is_live self.old ≡ true }
         requires row { length row.now ≡ length (code_of self.old).shape.inputs }
         requires outputs { length outputs.old ≡ length (code_of self.old).shape.outputs }
         requires small { budget ≤ 2 ^ 62 }
-        ensures code { code_of self.new ≡ code_of self.old }
+        ensures code { self.new.code ≡ self.old.code }
+        ensures whole { IsWhole self.new }
         ensures turns { (turns : List Turn) → HasRun self.old turns → HasRun self.new (turns ++ record { row = row.now; budget = budget } ∷ []) }
         ensures outcome { (k : PlainKernel) (turns : List Turn) → WellFormed k → Stands (code_of self.old) k → HasRun self.old turns
             → result ≡ (tick k budget (state_after k Fresh turns) row.now).outcome }
@@ -60,7 +110,43 @@ impl Host {
             → HasOutputs result → outputs.new ≡ (tick k budget (state_after k Fresh turns) row.now).outputs }
         ensures stay { LacksOutputs result → outputs.new ≡ outputs.old }
         ensures live { is_live self.new ≡ goes_on result }
+        ensures jobs { (jobs : List Job) → HasJobs self.old jobs → HasJobs self.new (jobs ++ job_of (code_of self.old).shape self.old.root row.now budget ∷ []) }
+        ensures rest { (k : ℕ) → k < length self.new.mail.ends → ChildIs self.new.mail k false }
+        ensures taken { (k : ℕ) → k < length self.new.mail.ends → taken self.new.mail k ≡ sent self.new.mail k }
+        ensures grown { Grown self.old.mail self.new.mail }
     {
-        self.root.tick(row, budget, outputs)
+        let Host {
+            desk, root, live, ..
+        } = self;
+        let code = desk.code;
+        write_job(root, code.shape(), row, budget);
+        desk.work(gate, root);
+        let outcome = write_outcome(root, code.shape(), outputs);
+        *live = matches!(outcome, Outcome::Paused);
+        outcome
     }
+
+    /// Takes one job, or goes on with one thread whose branches have all answered, and runs that thread until it
+    /// has answered or has sent jobs to its branches. Thread 0 gets its jobs by ticks alone. It takes no memory.
+    pub fn serve<G: Gate>(&mut self, gate: &G) -> Served
+        ensures code { self.new.code ≡ self.old.code }
+        ensures places { self.new.places ≡ self.old.places }
+        ensures cores { self.new.cores ≡ self.old.cores }
+        ensures worked { (k : ℕ) → result ≡ Served.Worked k → HasWorked (code_of self.old).shape self.old.mail self.new.mail k }
+        ensures nothing { result ≡ Served.Nothing → (k : ℕ) → suc k < length (code_of self.old).threads → is_here self.old (suc k) ≡ true → IsIdle (code_of self.old).shape self.old.mail self.new.mail k }
+        ensures grown { Grown self.old.mail self.new.mail }
+        ensures live { is_live self.new ≡ is_live self.old }
+        ensures turns { (turns : List Turn) → HasRun self.old turns → HasRun self.new turns }
+        ensures jobs { (jobs : List Job) → HasJobs self.old jobs → HasJobs self.new jobs }
+        ensures whole { IsWhole self.old → IsWhole self.new }
+    {
+        unreachable!()
+    }
+
+    /// What a host keeps: the branches of a thread were told and have told exactly what the thread writes by
+    /// itself, for thread 0 in the ticks so far, for each other thread that rests in the jobs that were taken.
+    pub fn posts(&self)
+        ensures root { (jobs : List Job) → HasJobs self.now jobs → HasPosted (code_of self.now) 0 self.now.mail jobs }
+        ensures taken { (k : ℕ) → ChildIs self.now.mail k false → HasPostedTaken (code_of self.now) self.now.mail k }
+    {}
 }

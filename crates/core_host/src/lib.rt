@@ -1,11 +1,14 @@
 //! The host of a program's threads: it runs a tick.
 #![tactic(auto)]
 
+mod desk;
 mod host;
 mod job;
+mod local;
 mod outcome;
-mod root;
-#[cfg(test)]
-mod tests;
+mod seat;
+mod work;
 
-pub use host::Host;
+pub use host::{Host, Served};
+pub use local::local_port;
+pub use work::{ForecWork, Told};

@@ -1,0 +1,266 @@
+-- What stays of threads and mailboxes that a change leaves alone.
+use Rattle.std.proofs.Common.{◌≡◌, ◌≢◌, ℕ, zero, suc, ◌+◌, ◌-◌, ◌<◌, ◌≤◌, Bool, true, false, Option, Some, None, List, [], ◌∷◌, ◌++◌, length, get_or, refl, sym, ap, ◌∙◌, subst, append_assoc, arith}
+use Rattle.std.specs.Prelude.{slice_get}
+use Rattle.forec_kernel.specs.Packets.{PlainPacket}
+use Rattle.forec_kernel.specs.Packed.{AreJobs, HasRoom}
+use Rattle.forec_kernel.specs.Engine.{Job, Answered, jobs_to}
+use Rattle.forec_kernel.specs.WellFormed.{thread_of, FineChild}
+use Rattle.thread_code.specs.declared.instruction.CodeParts.{CodeParts}
+use Rattle.thread_code.specs.Plain.{PlainCode, plain_code}
+use Rattle.thread_code.specs.Valid.{of_shape, IsValidCode}
+use Rattle.combine_tree.specs.declared.packet.Packet.{Packet}
+use Rattle.combine_tree.specs.Plain.{plain_packet}
+use Rattle.core_machine.specs.declared.thread.Thread.{Thread}
+use Rattle.core_machine.specs.Held.{Loaded}
+use Rattle.copy_slots.specs.declared.view.Place.TheVariants.{Fresh, Held, Out}
+use Rattle.copy_slots.specs.declared.view.Sender.{Sender}
+use Rattle.copy_slots.specs.declared.view.Taker.{Taker}
+use Rattle.copy_slots.specs.Ports.{parent_at, child_at, sent_by, got_by, taken_by, answered_by, IsParent, IsChild, ParentIs, ChildIs, sent, got, taken, answered}
+use Rattle.core_host.specs.Posts.{Mail, IsBranchOf, AreReplies, replies_to}
+use Rattle.core_host.specs.Changes.{Extends, Grown}
+use Rattle.core_host.specs.Done.{Posts, HasDone}
+use Rattle.core_host.specs.Keeping.{State, code_in, Alike, Leaves, IsFitted, Sits, LastReply, Idle, Ready, blank, reply, Quiet, QuietAbove, IsCalled, IsBack}
+use Rattle.core_host.specs.Moving.{Moves}
+use Rattle.core_host.proofs.Mails.{alike_then, extends_same}
+
+-- ---- the tree of threads
+
+pub branch_above : (c : PlainCode) → IsValidCode c → (p k : ℕ) → suc k < length c.threads → IsBranchOf c.shape p k → p < suc k
+branch_above c valid p k lt mine =
+    let child = valid.shape.each_child (suc k) (omega arith) (omega (arith, lt, valid.threads)) in
+    let same : child.parent ≡ p = once child.parent p (sym child.is ∙ mine) in
+    omega (arith, same, child.below)
+  where
+    once : (a b : ℕ) → Some a ≡ Some b → a ≡ b
+    once a b e = cc
+
+pub parent_once : (c : PlainCode) (p q k : ℕ) → IsBranchOf c.shape p k → IsBranchOf c.shape q k → p ≡ q
+parent_once c p q k h g = once p q (sym h ∙ g)
+  where
+    once : (a b : ℕ) → Some a ≡ Some b → a ≡ b
+    once a b e = cc
+
+pub has_parent : (c : PlainCode) → IsValidCode c → (k : ℕ) → suc k < length c.threads → (p : ℕ) × IsBranchOf c.shape p k
+has_parent c valid k lt =
+    let child = valid.shape.each_child (suc k) (omega arith) (omega (arith, lt, valid.threads)) in (child.parent, child.is)
+
+-- ---- what a thread has done
+
+pub posts_keep : (c : PlainCode) (t : ℕ) (m m' : Mail) (pairs : List Answered) → ((j : ℕ) → IsBranchOf c.shape t j → parent_at m'.ends j ≡ parent_at m.ends j) → Posts c t m pairs → Posts c t m' pairs
+posts_keep c t m m' pairs same h = record {
+  above = h.above;
+  allowed = h.allowed;
+  sent = λ j mine. subst (λ l. AreJobs l (jobs_to (suc j) pairs)) (sym (ap sent_by (same j mine))) (h.sent j mine);
+  got = λ j mine. subst (λ l. AreReplies l (replies_to (suc j) pairs)) (sym (ap got_by (same j mine))) (h.got j mine);
+}
+
+pub done_keeps : (c : PlainCode) (h : Thread) (m m' : Mail) (jobs : List Job) → ((j : ℕ) → IsBranchOf c.shape h.number j → parent_at m'.ends j ≡ parent_at m.ends j) → HasDone c h m jobs → HasDone c h m' jobs
+done_keeps c h m m' jobs same d = record {
+  exchanges = d.exchanges;
+  outputs = d.outputs;
+  stands = d.stands;
+  jobs_are = d.jobs_are;
+  runs = d.runs;
+  complete = d.complete;
+  posts = posts_keep c h.number m m' _ same d.posts;
+}
+
+-- ---- a thread and its mailbox
+
+pub record SameThread (k : ℕ) (a b : State) : Type 0 where
+  pub code : b.code ≡ a.code
+  pub seat : slice_get b.seats (suc k) ≡ slice_get a.seats (suc k)
+  pub child : child_at b.mail.ends k ≡ child_at a.mail.ends k
+  pub branches : (j : ℕ) → IsBranchOf (code_in a).shape (suc k) j → parent_at b.mail.ends j ≡ parent_at a.mail.ends j
+
+pub record SameParent (k : ℕ) (a b : State) : Type 0 where
+  pub parent : parent_at b.mail.ends k ≡ parent_at a.mail.ends k
+  pub hand : slice_get b.hands k ≡ slice_get a.hands k
+  pub blanks : b.mail.blanks ≡ a.mail.blanks
+
+pub idle_keeps : (k : ℕ) (a b : State) → SameThread k a b → Idle a k → Idle b k
+idle_keeps k a b s i =
+    let same_taken : taken b.mail k ≡ taken a.mail k = ap taken_by s.child in
+    let number = i.sits.number in
+    record {
+      thread = i.thread;
+      sits = record {
+        seat = i.sits.seat;
+        at = s.seat ∙ i.sits.at;
+        is = i.sits.is;
+        loaded = subst (λ x. Loaded (plain_code x) i.thread) (sym s.code) i.sits.loaded;
+        number = number;
+      };
+      resting = i.resting;
+      child = subst (λ (o : Option (Taker PlainPacket)). IsChild o false) (sym s.child) i.child;
+      jobs = i.jobs;
+      are = subst (λ l. AreJobs l i.jobs) (sym same_taken) i.are;
+      done = subst (λ x. HasDone (plain_code x) i.thread b.mail i.jobs) (sym s.code)
+          (done_keeps (code_in a) i.thread a.mail b.mail i.jobs (λ j mine. s.branches j (subst (λ n. IsBranchOf (code_in a).shape n j) number mine)) i.done);
+      last = subst (λ x. LastReply (plain_code x) k (taken b.mail k) i.thread) (sym s.code) (subst (λ l. LastReply (code_in a) k l i.thread) (sym same_taken) i.last);
+      even = ap length (ap answered_by s.child) ∙ i.even ∙ ap length (sym same_taken);
+    }
+
+ready_keeps : (k : ℕ) (a b : State) → b.code ≡ a.code → SameParent k a b → (h : Option Packet) → Ready a k h → Ready b k h
+ready_keeps k a b code s h (blank fresh q at room) =
+    blank (subst (λ (o : Option (Sender PlainPacket)). IsParent o Fresh) (sym s.parent) fresh) q (ap (λ l. slice_get l k) s.blanks ∙ at)
+    (subst (λ x. HasRoom (of_shape (plain_code x).shape) (suc k) q) (sym code) room)
+ready_keeps k a b code s h (reply held p room) =
+    reply (subst (λ (o : Option (Sender PlainPacket)). IsParent o Held) (sym s.parent) held) p
+    (subst (λ x. HasRoom (of_shape (plain_code x).shape) (suc k) (plain_packet p)) (sym code) room)
+
+pub quiet_keeps : (k : ℕ) (a b : State) → SameThread k a b → SameParent k a b → Quiet a k → Quiet b k
+quiet_keeps k a b s t q = record {
+  idle = idle_keeps k a b s q.idle;
+  all = ap taken_by s.child ∙ q.all ∙ sym (ap sent_by t.parent);
+  hand = q.hand;
+  at = t.hand ∙ q.at;
+  ready = ready_keeps k a b s.code t q.hand q.ready;
+}
+
+-- ---- changes of one parent's end
+
+module _ (a b : State) (k : ℕ) (moves : Moves k a b) where
+  moved_thread : (j : ℕ) → (IsBranchOf (code_in a).shape (suc j) k → ⊥) → SameThread j a b
+  moved_thread j other = record {
+    code = moves.code;
+    seat = ap (λ l. slice_get l (suc j)) moves.seats;
+    child = moves.children j;
+    branches = λ i mine. moves.parents i (λ e. other (subst (λ n. IsBranchOf (code_in a).shape (suc j) n) e mine));
+  }
+
+  moved_parent : (j : ℕ) → j ≢ k → SameParent j a b
+  moved_parent j n = record { parent = moves.parents j n; hand = moves.hands j n; blanks = moves.alike.blanks }
+
+  pub moved_idle : (j : ℕ) → (IsBranchOf (code_in a).shape (suc j) k → ⊥) → Idle a j → Idle b j
+  moved_idle j other i = idle_keeps j a b (moved_thread j other) i
+
+  pub moved_quiet : (j : ℕ) → j ≢ k → (IsBranchOf (code_in a).shape (suc j) k → ⊥) → Quiet a j → Quiet b j
+  moved_quiet j n other q = quiet_keeps j a b (moved_thread j other) (moved_parent j n) q
+
+  pub moved_grown : Extends (sent a.mail k) (sent b.mail k) → Extends (got a.mail k) (got b.mail k) → Grown a.mail b.mail
+  moved_grown s g = record {
+    sent = λ j. by_test j (λ n. extends_same (sent a.mail j) (sent b.mail j) (ap sent_by (moves.parents j n))) (λ e. subst (λ n. Extends (sent a.mail n) (sent b.mail n)) (sym e) s);
+    got = λ j. by_test j (λ n. extends_same (got a.mail j) (got b.mail j) (ap got_by (moves.parents j n))) (λ e. subst (λ n. Extends (got a.mail n) (got b.mail n)) (sym e) g);
+    taken = λ j. extends_same (taken a.mail j) (taken b.mail j) (ap taken_by (moves.children j));
+    answered = λ j. extends_same (answered a.mail j) (answered b.mail j) (ap answered_by (moves.children j));
+  }
+    where
+      equal_or : (i j : ℕ) {A : Type 0} → (i ≢ j → A) → (i ≡ j → A) → A
+      equal_or zero zero f g = g refl
+      equal_or zero (suc j) f g = f (λ e. zero_suc j e)
+        where
+          zero_suc : (j : ℕ) → zero ≡ suc j → ⊥
+          zero_suc j e = cc
+      equal_or (suc i) zero f g = f (λ e. suc_zero i e)
+        where
+          suc_zero : (i : ℕ) → suc i ≡ zero → ⊥
+          suc_zero i e = cc
+      equal_or (suc i) (suc j) f g = equal_or i j (λ n. f (λ e. n (omega (arith, e)))) (λ e. g (ap suc e))
+
+      by_test : (j : ℕ) {A : Type 0} → (j ≢ k → A) → (j ≡ k → A) → A
+      by_test j f g = equal_or j k f g
+
+  pub moved_leaves : (p t u : ℕ) → IsBranchOf (code_in a).shape p k → t ≤ p → Grown a.mail b.mail → Leaves t u a b
+  moved_leaves p t u mine le grown = record {
+    code = moves.code;
+    places = moves.places;
+    alike = moves.alike;
+    grown = grown;
+    seats = λ j lt. ap (λ l. slice_get l j) moves.seats;
+    seat_count = ap length moves.seats;
+    hands = λ j q other lt. moves.hands j (apart j q other lt);
+    hand_count = moves.hand_count;
+    parents = λ j q other lt. moves.parents j (apart j q other lt);
+    children = λ j lt. moves.children j;
+  }
+    where
+      apart : (j q : ℕ) → IsBranchOf (code_in a).shape q j → q < t → j ≢ k
+      apart j q other lt e =
+          let same = parent_once (code_in a) q p k (subst (IsBranchOf (code_in a).shape q) e other) mine in omega (arith, same, lt, le)
+
+-- ---- changes above a thread
+
+extends_then : {A : Type 0} (l m n : List A) → Extends l m → Extends m n → Extends l n
+extends_then l m n h g = record { more = h.more ++ g.more; is = g.is ∙ ap (λ x. x ++ g.more) h.is ∙ append_assoc l h.more g.more }
+
+pub grown_then : (a b c : Mail) → Grown a b → Grown b c → Grown a c
+grown_then a b c h g = record {
+  sent = λ k. extends_then _ _ _ (h.sent k) (g.sent k);
+  got = λ k. extends_then _ _ _ (h.got k) (g.got k);
+  taken = λ k. extends_then _ _ _ (h.taken k) (g.taken k);
+  answered = λ k. extends_then _ _ _ (h.answered k) (g.answered k);
+}
+
+pub grown_same : (a : Mail) → Grown a a
+grown_same a = record {
+  sent = λ k. extends_same _ _ refl;
+  got = λ k. extends_same _ _ refl;
+  taken = λ k. extends_same _ _ refl;
+  answered = λ k. extends_same _ _ refl;
+}
+
+pub leaves_same : (t u : ℕ) (a : State) → Leaves t u a a
+leaves_same t u a = record {
+  code = refl;
+  places = refl;
+  alike = record { work = refl; blanks = refl; tells = refl; root = refl; count = refl };
+  grown = grown_same a.mail;
+  seats = λ j lt. refl;
+  seat_count = refl;
+  hands = λ k p mine lt. refl;
+  hand_count = refl;
+  parents = λ k p mine lt. refl;
+  children = λ k lt. refl;
+}
+
+pub leaves_then : (t u : ℕ) (a b c : State) → Leaves t u a b → Leaves t u b c → Leaves t u a c
+leaves_then t u a b c h g = record {
+  code = g.code ∙ h.code;
+  places = g.places ∙ h.places;
+  alike = alike_then a.mail b.mail c.mail h.alike g.alike;
+  grown = grown_then a.mail b.mail c.mail h.grown g.grown;
+  seats = λ j lt. g.seats j lt ∙ h.seats j lt;
+  seat_count = g.seat_count ∙ h.seat_count;
+  hands = λ k p mine lt. g.hands k p (subst (λ x. IsBranchOf (plain_code x).shape p k) (sym h.code) mine) lt ∙ h.hands k p mine lt;
+  hand_count = g.hand_count ∙ h.hand_count;
+  parents = λ k p mine lt. g.parents k p (subst (λ x. IsBranchOf (plain_code x).shape p k) (sym h.code) mine) lt ∙ h.parents k p mine lt;
+  children = λ k lt. g.children k lt ∙ h.children k lt;
+}
+
+pub leaves_less : (t u t' u' : ℕ) (a b : State) → t' ≤ t → u' ≤ u → Leaves t u a b → Leaves t' u' a b
+leaves_less t u t' u' a b le le' h = record {
+  code = h.code;
+  places = h.places;
+  alike = h.alike;
+  grown = h.grown;
+  seats = λ j lt. h.seats j (omega (arith, lt, le));
+  seat_count = h.seat_count;
+  hands = λ k p mine lt. h.hands k p mine (omega (arith, lt, le));
+  hand_count = h.hand_count;
+  parents = λ k p mine lt. h.parents k p mine (omega (arith, lt, le));
+  children = λ k lt. h.children k (omega (arith, lt, le'));
+}
+
+pub fitted_keeps : (t u : ℕ) (a b : State) → Leaves t u a b → IsFitted a → IsFitted b
+fitted_keeps t u a b h f =
+    let count = ap (λ x. length (plain_code x).threads) h.code in
+    record {
+      valid = subst (λ x. IsValidCode (plain_code x)) (sym h.code) f.valid;
+      work = ap (λ w. w.code.value) h.alike.work ∙ f.work ∙ sym h.code;
+      tells = h.alike.tells ∙ f.tells;
+      mailboxes = ap suc h.alike.count ∙ f.mailboxes ∙ sym count;
+      seats = h.seat_count ∙ f.seats ∙ sym count;
+      hands = ap suc h.hand_count ∙ f.hands ∙ sym count;
+      places = ap length h.places ∙ f.places ∙ sym count;
+    }
+
+-- a mailbox below the change stays quiet
+pub quiet_below : (a b : State) (m j : ℕ) → IsFitted a → Leaves (suc m) m a b → j < m → suc j < length (code_in a).threads → Quiet a j → Quiet b j
+quiet_below a b m j f h lt inside q =
+    let up = has_parent (code_in a) f.valid j inside in
+    let low = branch_above (code_in a) f.valid up.0 j inside up.1 in
+    quiet_keeps j a b
+    (record { code = h.code; seat = h.seats (suc j) (omega (arith, lt)); child = h.children j lt; branches = λ i mine. h.parents i (suc j) mine (omega (arith, lt)) })
+    (record { parent = h.parents j up.0 up.1 (omega (arith, low, lt)); hand = h.hands j up.0 up.1 (omega (arith, low, lt)); blanks = h.alike.blanks })
+    q

@@ -1,0 +1,222 @@
+-- What one call of a port leaves of a host's state.
+use Rattle.std.proofs.Common.{◌≡◌, ◌≢◌, ℕ, zero, suc, ◌+◌, ◌-◌, ◌<◌, ◌≤◌, Bool, true, false, Option, Some, None, List, [], ◌∷◌, ◌++◌, length, get_or, refl, sym, ap, ◌∙◌, subst, append-nil, arith}
+use Rattle.std.specs.Prelude.{slice_get, slice_set, slice_index_or}
+use Rattle.std.proofs.lemmas.List.{length-set}
+use Rattle.std.proofs.lemmas.Option.{slice_get_within, get_or_from_slice_get}
+use Rattle.forec_kernel.specs.Packets.{PlainPacket}
+use Rattle.forec_kernel.specs.Packed.{HasRoom}
+use Rattle.thread_code.specs.Valid.{of_shape}
+use Rattle.combine_tree.specs.declared.packet.Packet.{Packet}
+use Rattle.combine_tree.specs.Plain.{plain_packet}
+use Rattle.copy_slots.specs.declared.view.Place.{Place}
+use Rattle.copy_slots.specs.declared.view.Place.TheVariants.{Fresh, Held, Out}
+use Rattle.copy_slots.specs.declared.view.Sender.{Sender}
+use Rattle.copy_slots.specs.declared.view.Taker.{Taker}
+use Rattle.copy_slots.specs.Mail.{sender_opened, sender_got, sender_sent, taker_took, taker_answered}
+use Rattle.copy_slots.specs.Ports.{Ends, parent_at, child_at, on_sender, on_taker, on_parent, on_child, sent_by, got_by, taken_by, answered_by, IsParent, IsChild, ParentIs, ChildIs, sent, got, taken, answered}
+use Rattle.thread_code.specs.declared.instruction.CodeParts.{CodeParts}
+use Rattle.core_host.specs.declared.seat.Seat.{Seat}
+use Rattle.core_host.specs.Posts.{Mail, IsBranchOf}
+use Rattle.core_host.specs.Changes.{Extends, Grown}
+use Rattle.core_host.specs.Keeping.{State, code_in, Alike, Leaves, IsFitted, Sits, Idle, Ready, blank, reply, Quiet, IsCalled, IsBack}
+use Rattle.core_host.specs.Moving.{Moves}
+
+abbrev pub state : CodeParts → List ℕ → Mail → List Seat → List (Option Packet) → State
+state code places mail seats hands = record { code = code; places = places; mail = mail; seats = seats; hands = hands }
+
+-- ---- lists
+
+pub get_set : {A : Type 0} (l : List A) (k : ℕ) (a : A) → k < length l → slice_get (slice_set l k a) k ≡ Some a
+get_set [] k a h = absurd (omega arith)
+get_set (x ∷ xs) zero a h = refl
+get_set (x ∷ xs) (suc k) a h = get_set xs k a (omega arith)
+
+pub get_set_else : {A : Type 0} (l : List A) (k j : ℕ) (a : A) → j ≢ k → slice_get (slice_set l k a) j ≡ slice_get l j
+get_set_else [] k j a n = refl
+get_set_else (x ∷ xs) zero zero a n = absurd (n refl)
+get_set_else (x ∷ xs) zero (suc j) a n = refl
+get_set_else (x ∷ xs) (suc k) zero a n = refl
+get_set_else (x ∷ xs) (suc k) (suc j) a n = get_set_else xs k j a (λ e. n (ap suc e))
+
+pub some_once : {A : Type 0} (x y : A) → Some x ≡ Some y → x ≡ y
+some_once x y e = cc
+
+-- ---- ends
+
+module _ {Q : Type 0} where
+  pub parents_count : (es : List (Ends Q)) (k : ℕ) (f : Sender Q → Sender Q) → length (on_parent es k f) ≡ length es
+  parents_count [] k f = refl
+  parents_count (e ∷ es) zero f = refl
+  parents_count (e ∷ es) (suc k) f = ap suc (parents_count es k f)
+
+  pub children_count : (es : List (Ends Q)) (k : ℕ) (f : Taker Q → Taker Q) → length (on_child es k f) ≡ length es
+  children_count [] k f = refl
+  children_count (e ∷ es) zero f = refl
+  children_count (e ∷ es) (suc k) f = ap suc (children_count es k f)
+
+  pub parent_here : (es : List (Ends Q)) (k : ℕ) (f : Sender Q → Sender Q) → parent_at (on_parent es k f) k ≡ on_sender f (parent_at es k)
+  parent_here [] k f = refl
+  parent_here (e ∷ es) zero f = refl
+  parent_here (e ∷ es) (suc k) f = parent_here es k f
+
+  pub parent_else : (es : List (Ends Q)) (k j : ℕ) (f : Sender Q → Sender Q) → j ≢ k → parent_at (on_parent es k f) j ≡ parent_at es j
+  parent_else [] k j f n = refl
+  parent_else (e ∷ es) zero zero f n = absurd (n refl)
+  parent_else (e ∷ es) zero (suc j) f n = refl
+  parent_else (e ∷ es) (suc k) zero f n = refl
+  parent_else (e ∷ es) (suc k) (suc j) f n = parent_else es k j f (λ i. n (ap suc i))
+
+  pub child_on_parent : (es : List (Ends Q)) (k j : ℕ) (f : Sender Q → Sender Q) → child_at (on_parent es k f) j ≡ child_at es j
+  child_on_parent [] k j f = refl
+  child_on_parent (e ∷ es) zero zero f = refl
+  child_on_parent (e ∷ es) zero (suc j) f = refl
+  child_on_parent (e ∷ es) (suc k) zero f = refl
+  child_on_parent (e ∷ es) (suc k) (suc j) f = child_on_parent es k j f
+
+  pub child_here : (es : List (Ends Q)) (k : ℕ) (f : Taker Q → Taker Q) → child_at (on_child es k f) k ≡ on_taker f (child_at es k)
+  child_here [] k f = refl
+  child_here (e ∷ es) zero f = refl
+  child_here (e ∷ es) (suc k) f = child_here es k f
+
+  pub child_else : (es : List (Ends Q)) (k j : ℕ) (f : Taker Q → Taker Q) → j ≢ k → child_at (on_child es k f) j ≡ child_at es j
+  child_else [] k j f n = refl
+  child_else (e ∷ es) zero zero f n = absurd (n refl)
+  child_else (e ∷ es) zero (suc j) f n = refl
+  child_else (e ∷ es) (suc k) zero f n = refl
+  child_else (e ∷ es) (suc k) (suc j) f n = child_else es k j f (λ i. n (ap suc i))
+
+  pub parent_on_child : (es : List (Ends Q)) (k j : ℕ) (f : Taker Q → Taker Q) → parent_at (on_child es k f) j ≡ parent_at es j
+  parent_on_child [] k j f = refl
+  parent_on_child (e ∷ es) zero zero f = refl
+  parent_on_child (e ∷ es) zero (suc j) f = refl
+  parent_on_child (e ∷ es) (suc k) zero f = refl
+  parent_on_child (e ∷ es) (suc k) (suc j) f = parent_on_child es k j f
+
+  pub is_parent : (o : Option (Sender Q)) (p : Place) → IsParent o p → (x : Sender Q) × (o ≡ Some x) × (x.place ≡ p)
+  is_parent None p h = absurd h
+  is_parent (Some x) p h = (x, refl, h)
+
+  pub is_child : (o : Option (Taker Q)) (b : Bool) → IsChild o b → (y : Taker Q) × (o ≡ Some y) × (y.holds ≡ b)
+  is_child None b h = absurd h
+  is_child (Some y) b h = (y, refl, h)
+
+-- ---- growing
+
+pub extends_same : {A : Type 0} (l m : List A) → m ≡ l → Extends l m
+extends_same l m e = record { more = []; is = e ∙ sym (append-nil l) }
+
+pub extends_one : {A : Type 0} (l m : List A) (a : A) → m ≡ l ++ a ∷ [] → Extends l m
+extends_one l m a e = record { more = a ∷ []; is = e }
+
+-- ---- a parent's end
+
+module _ (s : State) (k : ℕ) (f : Sender PlainPacket → Sender PlainPacket) (hands : List (Option Packet)) where
+  abbrev pub with_parent : State
+  with_parent = record s { mail = record s.mail { ends = on_parent s.mail.ends k f }; hands = hands }
+
+  pub moves_parent : ((j : ℕ) → j ≢ k → slice_get hands j ≡ slice_get s.hands j) → length hands ≡ length s.hands → Moves k s with_parent
+  moves_parent else count = record {
+    code = refl;
+    places = refl;
+    seats = refl;
+    alike = record { work = refl; blanks = refl; tells = refl; root = refl; count = parents_count s.mail.ends k f };
+    parents = λ j n. parent_else s.mail.ends k j f n;
+    children = λ j. child_on_parent s.mail.ends k j f;
+    hands = else;
+    hand_count = count;
+  }
+
+  module _ (x : Sender PlainPacket) (is : parent_at s.mail.ends k ≡ Some x) where
+    pub parent_now : parent_at (on_parent s.mail.ends k f) k ≡ Some (f x)
+    parent_now = parent_here s.mail.ends k f ∙ ap (on_sender f) is
+
+    pub place_now : ParentIs with_parent.mail k (f x).place
+    place_now = subst (λ (o : Option (Sender PlainPacket)). IsParent o (f x).place) (sym parent_now) refl
+
+    pub sent_now : sent with_parent.mail k ≡ (f x).sent
+    sent_now = ap sent_by parent_now
+
+    pub got_now : got with_parent.mail k ≡ (f x).got
+    got_now = ap got_by parent_now
+
+    pub sent_before : sent s.mail k ≡ x.sent
+    sent_before = ap sent_by is
+
+    pub got_before : got s.mail k ≡ x.got
+    got_before = ap got_by is
+
+pub alike_then : (a b c : Mail) → Alike a b → Alike b c → Alike a c
+alike_then a b c h g = record { work = g.work ∙ h.work; blanks = g.blanks ∙ h.blanks; tells = g.tells ∙ h.tells; root = g.root ∙ h.root; count = g.count ∙ h.count }
+
+pub moves_then : (k : ℕ) (a b c : State) → Moves k a b → Moves k b c → Moves k a c
+moves_then k a b c h g = record {
+  code = g.code ∙ h.code;
+  places = g.places ∙ h.places;
+  seats = g.seats ∙ h.seats;
+  alike = alike_then a.mail b.mail c.mail h.alike g.alike;
+  parents = λ j n. g.parents j n ∙ h.parents j n;
+  children = λ j. g.children j ∙ h.children j;
+  hands = λ j n. g.hands j n ∙ h.hands j n;
+  hand_count = g.hand_count ∙ h.hand_count;
+}
+
+-- ---- the packet of a mailbox
+
+module _ (s : State) (k : ℕ) (fitted : IsFitted s) (inside : k < length s.mail.ends) (quiet : Quiet s k) where
+  in_hands : k < length s.hands
+  in_hands = omega (arith, inside, fitted.mailboxes, fitted.hands)
+
+  emptied_else : (j : ℕ) → j ≢ k → slice_get (slice_set s.hands k None) j ≡ slice_get s.hands j
+  emptied_else j n = get_set_else s.hands k j None n
+
+  hand_is : (d : Option Packet) → slice_index_or s.hands k d ≡ quiet.hand
+  hand_is d = get_or_from_slice_get s.hands k quiet.hand d quiet.at
+
+  pub reply_room : (p : Packet) (d : Option Packet) → d ≡ slice_index_or s.hands k d → d ≡ Some p → HasRoom (of_shape (code_in s).shape) (suc k) (plain_packet p)
+  reply_room p d e is = pick quiet.hand quiet.ready (sym (hand_is d) ∙ sym e ∙ is)
+    where
+      pick : (h : Option Packet) → Ready s k h → h ≡ Some p → HasRoom (of_shape (code_in s).shape) (suc k) (plain_packet p)
+      pick None r q = cc
+      pick (Some x) (reply held y room) q = subst (λ z. HasRoom (of_shape (code_in s).shape) (suc k) (plain_packet z)) (some_once x p q) room
+
+  pub reply_held : (p : Packet) (d : Option Packet) → d ≡ slice_index_or s.hands k d → d ≡ Some p → ParentIs s.mail k Held
+  reply_held p d e is = pick quiet.hand quiet.ready (sym (hand_is d) ∙ sym e ∙ is)
+    where
+      pick : (h : Option Packet) → Ready s k h → h ≡ Some p → ParentIs s.mail k Held
+      pick None r q = cc
+      pick (Some x) (reply held y room) q = held
+
+  module _ (d : Option Packet) (e : d ≡ slice_index_or s.hands k d) (nothing : d ≡ None) where
+    pub record IsBlank : Type 0 where
+      pub fresh : ParentIs s.mail k Fresh
+      pub q : PlainPacket
+      pub at : slice_get s.mail.blanks k ≡ Some q
+      pub room : HasRoom (of_shape (code_in s).shape) (suc k) q
+
+    pub is_blank : IsBlank
+    is_blank = pick quiet.hand quiet.ready (sym (hand_is d) ∙ sym e ∙ nothing)
+      where
+        pick : (h : Option Packet) → Ready s k h → h ≡ None → IsBlank
+        pick None (blank fresh q at room) n = record { fresh = fresh; q = q; at = at; room = room }
+        pick (Some x) r n = cc
+
+    sender : (x : Sender PlainPacket) × (parent_at s.mail.ends k ≡ Some x) × (x.place ≡ Fresh)
+    sender = is_parent (parent_at s.mail.ends k) Fresh is_blank.fresh
+
+    abbrev pub opened : State
+    opened = with_parent s k sender_opened (slice_set s.hands k None)
+
+    pub opened_moves : Moves k s opened
+    opened_moves = moves_parent s k sender_opened (slice_set s.hands k None) emptied_else (length-set s.hands k None)
+
+    pub opened_held : ParentIs opened.mail k Held
+    opened_held = place_now s k sender_opened (slice_set s.hands k None) sender.0 sender.1
+
+    pub opened_sent : sent opened.mail k ≡ sent s.mail k
+    opened_sent = sent_now s k sender_opened (slice_set s.hands k None) sender.0 sender.1 ∙ sym (sent_before s k sender_opened (slice_set s.hands k None) sender.0 sender.1)
+
+    pub opened_got : got opened.mail k ≡ got s.mail k
+    opened_got = got_now s k sender_opened (slice_set s.hands k None) sender.0 sender.1 ∙ sym (got_before s k sender_opened (slice_set s.hands k None) sender.0 sender.1)
+
+    pub opened_room : (q : PlainPacket) → slice_get s.mail.blanks k ≡ Some q → HasRoom (of_shape (code_in s).shape) (suc k) q
+    opened_room q at = subst (HasRoom (of_shape (code_in s).shape) (suc k)) (some_once is_blank.q q (sym is_blank.at ∙ at)) is_blank.room

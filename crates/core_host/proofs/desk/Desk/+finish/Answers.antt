@@ -1,0 +1,299 @@
+use Rattle.std.proofs.Common.{rules, ◌≡◌, ◌≤◌, ◌<◌, ◌^◌, ◌+◌, ◌-◌, ◌*◌, ◌++◌, ◌∷◌, [], ℕ, suc, List, Some, None, length, map, slice_get, true, false, refl, sym, ap, ◌∙◌, subst, arith}
+use Rattle.std.proofs.lemmas.Option.{slice_get_within}
+use Rattle.std.proofs.Math.Facts.{Fits-of_lt}
+use Rattle.forec_kernel.specs.Engine.{Job, Exchange, allowance_of}
+use Rattle.thread_code.specs.declared.instruction.CodeParts.{CodeParts}
+use Rattle.thread_code.specs.Plain.{plain_code}
+use Rattle.thread_code.specs.Alone.{block_of}
+use Rattle.core_machine.specs.declared.thread.Event.TheVariants as event
+use Rattle.core_machine.specs.Held.{Loaded, StandsFor, Left_by}
+use Rattle.core_machine.specs.Forks.{jobs_at, with_replies}
+use Rattle.core_host.specs.Done.{Posts, InJob}
+use Rattle.core_host.specs.Keeping.{State, code_in, QuietAbove, Leaves, HaveHeard}
+use Rattle.core_host.proofs.Mails.{state}
+use Rattle.core_host.proofs.Keep.{leaves_same, leaves_then, leaves_less, fitted_keeps}
+use Rattle.core_host.proofs.Hearing.{past_end}
+use Rattle.core_host.proofs.Consults.{consulted_none, some_number, fitted_b, above_m, inside_m, can_send, quiet_m, sent_above, consulted_more, have_heard}
+use Rattle.core_host.proofs.Finishing.{Counted, fits_forks, replied_by, job_runs, allowance_is, at_fork, some_at, bound, next}
+use Rattle.core_host.proofs.Desks.{loaded_now, resting_now, begins_now, room_now, small_now, raw_fitted, number1, raw_above, raw_followed, reply_room, answer_held, answer_answers, end_back, end_above, end_leaves}
+use Rattle.core_host.proofs.desk.Desk.+finish.Goals as goal
+
+-- ---- consult
+
+pub consult-loop-branch-init : goal.consult-loop-branch-init
+consult-loop-branch-init g t c =
+    consulted_none c.args.self.now c.args.thread.now c.requires.fork c.requires.above
+
+pub consult-overflow_sub-mailbox : goal.consult-overflow_sub-mailbox
+consult-overflow_sub-mailbox g t c =
+    some_number c.args.self.now c.loop-branch.self c.args.thread.now c.loop-branch.k c.in-Some.branch c.requires.fitted c.requires.fork c.loop-branch.invariant (sym c.active.ensures ∙ c.in-Some.is)
+
+pub consult-send-requires-clause-job : goal.consult-send-requires-clause-job
+consult-send-requires-clause-job g t c =
+    can_send c.args.self.now c.loop-branch.self c.args.thread.now c.loop-branch.k c.in-Some.branch c.requires.fitted c.requires.fork c.loop-branch.invariant (sym c.active.ensures ∙ c.in-Some.is)
+
+pub consult-send-requires-clause-quiet : goal.consult-send-requires-clause-quiet
+consult-send-requires-clause-quiet g t c =
+    quiet_m c.args.self.now c.loop-branch.self c.args.thread.now c.loop-branch.k c.in-Some.branch c.requires.fitted c.requires.fork c.loop-branch.invariant (sym c.active.ensures ∙ c.in-Some.is)
+
+pub consult-loop-branch-smaller : goal.consult-loop-branch-smaller
+consult-loop-branch-smaller g t c =
+    let lt = slice_get_within c.args.thread.now.branches.numbers c.loop-branch.k c.in-Some.branch (sym c.active.ensures ∙ c.in-Some.is) in omega (arith, lt)
+
+pub consult-loop-branch-preserved : goal.consult-loop-branch-preserved
+consult-loop-branch-preserved g t c =
+    consulted_more c.args.self.now c.loop-branch.self c.args.thread.now c.loop-branch.k c.in-Some.branch c.requires.fitted c.requires.fork c.loop-branch.invariant (sym c.active.ensures ∙ c.in-Some.is)
+    c.send.new.self c.send.ensures.moves c.employ.new.self c.collect.new.self c.send.ensures.sent c.employ.ensures.leaves c.employ.ensures.above c.collect.ensures.moves c.collect.ensures.quiet c.collect.ensures.got
+
+pub consult-returns-clause-heard : goal.consult-returns-clause-heard
+consult-returns-clause-heard g t c =
+    let past = past_end c.args.thread.now.branches.numbers c.loop-branch.k (sym c.active.ensures ∙ c.in_default.is) in
+    (c.loop-branch.invariant.replies, have_heard c.args.self.now c.loop-branch.self c.args.thread.now c.loop-branch.k c.loop-branch.invariant past, c.loop-branch.invariant.posts)
+
+-- ---- employ
+
+pub employ-begin-requires-clause-loaded : goal.employ-begin-requires-clause-loaded
+employ-begin-requires-clause-loaded g t c =
+    loaded_now c.args.self.now c.args.mailbox c.requires.fitted c.requires.inside c.requires.called c.requires.above c.self.inside.code.now c.self.inside.places.items (g.P.Port.state c.self.inside.port) (g.P.Port.state c.take.new.self)
+    c.self.inside.seats.items c.self.inside.hands.items c.self.view_is c.in-Some.packet c.in-Some.ensures.state c.in-Some.ensures.job c.in-Some.ensures.turn c.index_mut.result.now c.index_mut.ensures.value c.take-2.result c.take-2.ensures.value
+    c.in-Some-take.thread c.in-Some-take.is
+
+pub employ-begin-requires-clause-resting : goal.employ-begin-requires-clause-resting
+employ-begin-requires-clause-resting g t c =
+    resting_now c.args.self.now c.args.mailbox c.requires.fitted c.requires.inside c.requires.called c.requires.above c.self.inside.code.now c.self.inside.places.items (g.P.Port.state c.self.inside.port) (g.P.Port.state c.take.new.self)
+    c.self.inside.seats.items c.self.inside.hands.items c.self.view_is c.in-Some.packet c.in-Some.ensures.state c.in-Some.ensures.job c.in-Some.ensures.turn c.index_mut.result.now c.index_mut.ensures.value c.take-2.result c.take-2.ensures.value
+    c.in-Some-take.thread c.in-Some-take.is
+
+pub employ-begin-requires-clause-job : goal.employ-begin-requires-clause-job
+employ-begin-requires-clause-job g t c =
+    begins_now c.args.self.now c.args.mailbox c.requires.fitted c.requires.inside c.requires.called c.requires.above c.self.inside.code.now c.self.inside.places.items (g.P.Port.state c.self.inside.port) (g.P.Port.state c.take.new.self)
+    c.self.inside.seats.items c.self.inside.hands.items c.self.view_is c.in-Some.packet c.in-Some.ensures.state c.in-Some.ensures.job c.in-Some.ensures.turn c.index_mut.result.now c.index_mut.ensures.value c.take-2.result c.take-2.ensures.value
+    c.in-Some-take.thread c.in-Some-take.is
+
+pub employ-begin-requires-clause-room : goal.employ-begin-requires-clause-room
+employ-begin-requires-clause-room g t c =
+    room_now c.args.self.now c.args.mailbox c.requires.fitted c.requires.inside c.requires.called c.requires.above c.self.inside.code.now c.self.inside.places.items (g.P.Port.state c.self.inside.port) (g.P.Port.state c.take.new.self)
+    c.self.inside.seats.items c.self.inside.hands.items c.self.view_is c.in-Some.packet c.in-Some.ensures.state c.in-Some.ensures.job c.in-Some.ensures.turn c.index_mut.result.now c.index_mut.ensures.value c.take-2.result c.take-2.ensures.value
+    c.in-Some-take.thread c.in-Some-take.is
+
+pub employ-begin-requires-clause-small : goal.employ-begin-requires-clause-small
+employ-begin-requires-clause-small g t c =
+    small_now c.args.self.now c.args.mailbox c.requires.fitted c.requires.inside c.requires.called c.requires.above c.self.inside.code.now c.self.inside.places.items (g.P.Port.state c.self.inside.port) (g.P.Port.state c.take.new.self)
+    c.self.inside.seats.items c.self.inside.hands.items c.self.view_is c.in-Some.packet c.in-Some.ensures.state c.in-Some.ensures.job c.in-Some.ensures.turn c.index_mut.result.now c.index_mut.ensures.value c.take-2.result c.take-2.ensures.value
+    c.in-Some-take.thread c.in-Some-take.is
+
+pub employ-reply-requires-clause-room : goal.employ-reply-requires-clause-room
+employ-reply-requires-clause-room g t c =
+    reply_room c.args.self.now c.args.mailbox c.requires.fitted c.requires.inside c.requires.called c.requires.above c.self.inside.code.now c.self.inside.places.items (g.P.Port.state c.self.inside.port) (g.P.Port.state c.take.new.self)
+    c.self.inside.seats.items c.self.inside.hands.items c.self.view_is c.in-Some.packet c.in-Some.ensures.state c.in-Some.ensures.job c.in-Some.ensures.turn c.index_mut.result.now c.index_mut.ensures.value c.take-2.result c.take-2.ensures.value
+    c.in-Some-take.thread c.in-Some-take.is
+    (record { thread = c.take-2.new.self; job = c.index_mut.result.now.job }) c.begin.new.self c.begin.ensures.number c.begin.ensures.stands
+    c.finish.new.self c.finish.new.thread c.finish.ensures.number c.finish.ensures.loaded c.finish.ensures.reply c.finish.ensures.above c.finish.ensures.leaves c.finish.ensures.done
+    c.self-2.inside.code.now c.self-2.inside.places.items (g.P.Port.state c.self-2.inside.port) c.self-2.inside.seats.items c.self-2.inside.hands.items c.self-2.view_is
+
+pub employ-answer-requires-clause-held : goal.employ-answer-requires-clause-held
+employ-answer-requires-clause-held g t c =
+    answer_held c.args.self.now c.args.mailbox c.requires.fitted c.requires.inside c.requires.called c.requires.above c.self.inside.code.now c.self.inside.places.items (g.P.Port.state c.self.inside.port) (g.P.Port.state c.take.new.self)
+    c.self.inside.seats.items c.self.inside.hands.items c.self.view_is c.in-Some.packet c.in-Some.ensures.state c.in-Some.ensures.job c.in-Some.ensures.turn c.index_mut.result.now c.index_mut.ensures.value c.take-2.result c.take-2.ensures.value
+    c.in-Some-take.thread c.in-Some-take.is
+    (record { thread = c.take-2.new.self; job = c.index_mut.result.now.job }) c.begin.new.self c.begin.ensures.number c.begin.ensures.stands
+    c.finish.new.self c.finish.new.thread c.finish.ensures.number c.finish.ensures.loaded c.finish.ensures.reply c.finish.ensures.above c.finish.ensures.leaves c.finish.ensures.done
+    c.self-2.inside.code.now c.self-2.inside.places.items (g.P.Port.state c.self-2.inside.port) c.self-2.inside.seats.items c.self-2.inside.hands.items c.self-2.view_is
+    c.reply.new.packet c.reply.ensures.room c.reply.ensures.kind c.reply.ensures.gives
+
+pub employ-answer-requires-clause-answers : goal.employ-answer-requires-clause-answers
+employ-answer-requires-clause-answers g t c =
+    answer_answers c.args.self.now c.args.mailbox c.requires.fitted c.requires.inside c.requires.called c.requires.above c.self.inside.code.now c.self.inside.places.items (g.P.Port.state c.self.inside.port) (g.P.Port.state c.take.new.self)
+    c.self.inside.seats.items c.self.inside.hands.items c.self.view_is c.in-Some.packet c.in-Some.ensures.state c.in-Some.ensures.job c.in-Some.ensures.turn c.index_mut.result.now c.index_mut.ensures.value c.take-2.result c.take-2.ensures.value
+    c.in-Some-take.thread c.in-Some-take.is
+    (record { thread = c.take-2.new.self; job = c.index_mut.result.now.job }) c.begin.new.self c.begin.ensures.number c.begin.ensures.stands
+    c.finish.new.self c.finish.new.thread c.finish.ensures.number c.finish.ensures.loaded c.finish.ensures.reply c.finish.ensures.above c.finish.ensures.leaves c.finish.ensures.done
+    c.self-2.inside.code.now c.self-2.inside.places.items (g.P.Port.state c.self-2.inside.port) c.self-2.inside.seats.items c.self-2.inside.hands.items c.self-2.view_is
+    c.reply.new.packet c.reply.ensures.room c.reply.ensures.kind c.reply.ensures.gives
+
+pub employ-returns-clause-back : goal.employ-returns-clause-back
+employ-returns-clause-back g t c =
+    end_back c.args.self.now c.args.mailbox c.requires.fitted c.requires.inside c.requires.called c.requires.above c.self.inside.code.now c.self.inside.places.items (g.P.Port.state c.self.inside.port) (g.P.Port.state c.take.new.self)
+    c.self.inside.seats.items c.self.inside.hands.items c.self.view_is c.in-Some.packet c.in-Some.ensures.state c.in-Some.ensures.job c.in-Some.ensures.turn c.index_mut.result.now c.index_mut.ensures.value c.take-2.result c.take-2.ensures.value
+    c.in-Some-take.thread c.in-Some-take.is
+    (record { thread = c.take-2.new.self; job = c.index_mut.result.now.job }) c.begin.new.self c.begin.ensures.number c.begin.ensures.stands
+    c.finish.new.self c.finish.new.thread c.finish.ensures.number c.finish.ensures.loaded c.finish.ensures.reply c.finish.ensures.above c.finish.ensures.leaves c.finish.ensures.done
+    c.self-2.inside.code.now c.self-2.inside.places.items (g.P.Port.state c.self-2.inside.port) c.self-2.inside.seats.items c.self-2.inside.hands.items c.self-2.view_is
+    c.reply.new.packet c.reply.ensures.room c.reply.ensures.kind c.reply.ensures.gives
+    (record { thread = Some c.finish.new.thread; job = c.index_mut-2.result.now.job }) refl (g.P.Port.state c.answer.new.self) c.answer.ensures
+
+pub employ-returns-clause-above : goal.employ-returns-clause-above
+employ-returns-clause-above g t c =
+    end_above c.args.self.now c.args.mailbox c.requires.fitted c.requires.inside c.requires.called c.requires.above c.self.inside.code.now c.self.inside.places.items (g.P.Port.state c.self.inside.port) (g.P.Port.state c.take.new.self)
+    c.self.inside.seats.items c.self.inside.hands.items c.self.view_is c.in-Some.packet c.in-Some.ensures.state c.in-Some.ensures.job c.in-Some.ensures.turn c.index_mut.result.now c.index_mut.ensures.value c.take-2.result c.take-2.ensures.value
+    c.in-Some-take.thread c.in-Some-take.is
+    (record { thread = c.take-2.new.self; job = c.index_mut.result.now.job }) c.begin.new.self c.begin.ensures.number c.begin.ensures.stands
+    c.finish.new.self c.finish.new.thread c.finish.ensures.number c.finish.ensures.loaded c.finish.ensures.reply c.finish.ensures.above c.finish.ensures.leaves c.finish.ensures.done
+    c.self-2.inside.code.now c.self-2.inside.places.items (g.P.Port.state c.self-2.inside.port) c.self-2.inside.seats.items c.self-2.inside.hands.items c.self-2.view_is
+    c.reply.new.packet c.reply.ensures.room c.reply.ensures.kind c.reply.ensures.gives
+    (record { thread = Some c.finish.new.thread; job = c.index_mut-2.result.now.job }) refl (g.P.Port.state c.answer.new.self) c.answer.ensures
+
+pub employ-returns-clause-leaves : goal.employ-returns-clause-leaves
+employ-returns-clause-leaves g t c =
+    end_leaves c.args.self.now c.args.mailbox c.requires.fitted c.requires.inside c.requires.called c.requires.above c.self.inside.code.now c.self.inside.places.items (g.P.Port.state c.self.inside.port) (g.P.Port.state c.take.new.self)
+    c.self.inside.seats.items c.self.inside.hands.items c.self.view_is c.in-Some.packet c.in-Some.ensures.state c.in-Some.ensures.job c.in-Some.ensures.turn c.index_mut.result.now c.index_mut.ensures.value c.take-2.result c.take-2.ensures.value
+    c.in-Some-take.thread c.in-Some-take.is
+    (record { thread = c.take-2.new.self; job = c.index_mut.result.now.job }) c.begin.new.self c.begin.ensures.number c.begin.ensures.stands
+    c.finish.new.self c.finish.new.thread c.finish.ensures.number c.finish.ensures.loaded c.finish.ensures.reply c.finish.ensures.above c.finish.ensures.leaves c.finish.ensures.done
+    c.self-2.inside.code.now c.self-2.inside.places.items (g.P.Port.state c.self-2.inside.port) c.self-2.inside.seats.items c.self-2.inside.hands.items c.self-2.view_is
+    c.reply.new.packet c.reply.ensures.room c.reply.ensures.kind c.reply.ensures.gives
+    (record { thread = Some c.finish.new.thread; job = c.index_mut-2.result.now.job }) refl (g.P.Port.state c.answer.new.self) c.answer.ensures
+
+-- ---- finish
+
+pub finish-loop-self-init : goal.finish-loop-self-init
+finish-loop-self-init g t c =
+    record {
+      loaded = c.requires.loaded;
+      number = refl;
+      running = c.requires.running;
+      above = c.requires.above;
+      leaves = leaves_same c.args.thread.now.number c.args.thread.now.number c.args.self.now;
+      jobs = c.requires.begun.jobs;
+      job = c.requires.begun.job;
+      in_job = c.requires.begun.in_job;
+      count = ap length c.requires.begun.first;
+      allowance = sym (allowance_is (code_in c.args.self.now) c.args.thread.now c.args.self.now.mail c.requires.begun.jobs c.requires.begun.job c.requires.begun.in_job);
+      done = λ jobs job i. i;
+    }
+
+pub finish-consult-requires-clause-fork : goal.finish-consult-requires-clause-fork
+finish-consult-requires-clause-fork g t c κs within =
+    let code : c.self.inside.code.now ≡ c.loop-self.self.code = ap (λ (s : State). s.code) c.self.view_is in
+    at_fork c.args.self.now c.loop-self.self c.requires.fitted c.args.thread.now c.loop-self.thread c.run.new.self c.loop-self.invariant.number c.loop-self.invariant.leaves (subst (λ (x : CodeParts). Loaded (plain_code x) c.run.new.self) code c.run.ensures.loaded) c.run.ensures.number
+    (λ xs st. subst (λ (x : CodeParts). StandsFor (plain_code x) c.run.new.self xs) code (c.run.ensures.stands xs (subst (λ (x : CodeParts). StandsFor (plain_code x) c.loop-self.thread xs) (sym code) st)))
+    (subst (λ e. Left_by c.run.new.self e) c.in-Fork.is c.run.ensures.left) (subst (λ (x : CodeParts). c.run.new.self.branches.numbers ≡ map (λ w. w.branch) (jobs_at (plain_code x) c.run.new.self)) code (c.run.ensures.branches c.in-Fork.is)) c.loop-self.invariant.jobs c.loop-self.invariant.job c.loop-self.forks (c.loop-self.invariant.in_job, c.loop-self.invariant.count)
+
+pub finish-consult-requires-clause-above : goal.finish-consult-requires-clause-above
+finish-consult-requires-clause-above g t c κs within =
+    subst (QuietAbove c.loop-self.self) (sym (c.run.ensures.number ∙ c.loop-self.invariant.number)) c.loop-self.invariant.above
+
+pub finish-settle-requires-clause-few : goal.finish-settle-requires-clause-few
+finish-settle-requires-clause-few g t c =
+    let code : c.self.inside.code.now ≡ c.loop-self.self.code = ap (λ (s : State). s.code) c.self.view_is in
+    (at_fork c.args.self.now c.loop-self.self c.requires.fitted c.args.thread.now c.loop-self.thread c.run.new.self c.loop-self.invariant.number c.loop-self.invariant.leaves (subst (λ (x : CodeParts). Loaded (plain_code x) c.run.new.self) code c.run.ensures.loaded) c.run.ensures.number
+    (λ xs st. subst (λ (x : CodeParts). StandsFor (plain_code x) c.run.new.self xs) code (c.run.ensures.stands xs (subst (λ (x : CodeParts). StandsFor (plain_code x) c.loop-self.thread xs) (sym code) st)))
+    (subst (λ e. Left_by c.run.new.self e) c.in-Fork.is c.run.ensures.left) (subst (λ (x : CodeParts). c.run.new.self.branches.numbers ≡ map (λ w. w.branch) (jobs_at (plain_code x) c.run.new.self)) code (c.run.ensures.branches c.in-Fork.is)) c.loop-self.invariant.jobs c.loop-self.invariant.job c.loop-self.forks (c.loop-self.invariant.in_job, c.loop-self.invariant.count)).few
+
+pub finish-join-requires-clause-some : goal.finish-join-requires-clause-some
+finish-join-requires-clause-some g t c =
+    let code : c.self.inside.code.now ≡ c.loop-self.self.code = ap (λ (s : State). s.code) c.self.view_is in
+    subst (λ l. 0 < length l) (sym c.settle.ensures.branches)
+    (some_at c.args.self.now c.loop-self.self c.requires.fitted c.args.thread.now c.loop-self.thread c.run.new.self c.loop-self.invariant.number c.loop-self.invariant.leaves (subst (λ (x : CodeParts). Loaded (plain_code x) c.run.new.self) code c.run.ensures.loaded) c.run.ensures.number
+    (λ xs st. subst (λ (x : CodeParts). StandsFor (plain_code x) c.run.new.self xs) code (c.run.ensures.stands xs (subst (λ (x : CodeParts). StandsFor (plain_code x) c.loop-self.thread xs) (sym code) st)))
+    (subst (λ e. Left_by c.run.new.self e) c.in-Fork.is c.run.ensures.left) (subst (λ (x : CodeParts). c.run.new.self.branches.numbers ≡ map (λ w. w.branch) (jobs_at (plain_code x) c.run.new.self)) code (c.run.ensures.branches c.in-Fork.is)) c.loop-self.invariant.jobs c.loop-self.invariant.job c.loop-self.forks (c.loop-self.invariant.in_job, c.loop-self.invariant.count))
+
+pub finish-join-requires-clause-few : goal.finish-join-requires-clause-few
+finish-join-requires-clause-few g t c =
+    let code : c.self.inside.code.now ≡ c.loop-self.self.code = ap (λ (s : State). s.code) c.self.view_is in
+    subst (λ l. length l ≤ 256) (sym c.settle.ensures.branches)
+    (at_fork c.args.self.now c.loop-self.self c.requires.fitted c.args.thread.now c.loop-self.thread c.run.new.self c.loop-self.invariant.number c.loop-self.invariant.leaves (subst (λ (x : CodeParts). Loaded (plain_code x) c.run.new.self) code c.run.ensures.loaded) c.run.ensures.number
+    (λ xs st. subst (λ (x : CodeParts). StandsFor (plain_code x) c.run.new.self xs) code (c.run.ensures.stands xs (subst (λ (x : CodeParts). StandsFor (plain_code x) c.loop-self.thread xs) (sym code) st)))
+    (subst (λ e. Left_by c.run.new.self e) c.in-Fork.is c.run.ensures.left) (subst (λ (x : CodeParts). c.run.new.self.branches.numbers ≡ map (λ w. w.branch) (jobs_at (plain_code x) c.run.new.self)) code (c.run.ensures.branches c.in-Fork.is)) c.loop-self.invariant.jobs c.loop-self.invariant.job c.loop-self.forks (c.loop-self.invariant.in_job, c.loop-self.invariant.count)).few
+
+pub finish-overflow_add-forks : goal.finish-overflow_add-forks
+finish-overflow_add-forks g t c =
+    let code : c.self.inside.code.now ≡ c.loop-self.self.code = ap (λ (s : State). s.code) c.self.view_is in
+    let b = bound c.args.self.now c.loop-self.self c.requires.fitted c.args.thread.now c.loop-self.thread c.run.new.self c.loop-self.invariant.number c.loop-self.invariant.leaves (subst (λ (x : CodeParts). Loaded (plain_code x) c.run.new.self) code c.run.ensures.loaded) c.run.ensures.number
+    (λ xs st. subst (λ (x : CodeParts). StandsFor (plain_code x) c.run.new.self xs) code (c.run.ensures.stands xs (subst (λ (x : CodeParts). StandsFor (plain_code x) c.loop-self.thread xs) (sym code) st)))
+    (subst (λ e. Left_by c.run.new.self e) c.in-Fork.is c.run.ensures.left) (subst (λ (x : CodeParts). c.run.new.self.branches.numbers ≡ map (λ w. w.branch) (jobs_at (plain_code x) c.run.new.self)) code (c.run.ensures.branches c.in-Fork.is)) c.loop-self.invariant.jobs c.loop-self.invariant.job c.loop-self.forks (c.loop-self.invariant.in_job, c.loop-self.invariant.count) c.loop-self.invariant.allowance in
+    let short = c.requires.loaded.short None in
+    Fits-of_lt (fits_forks c.loop-self.forks (length (block_of (code_in c.args.self.now) c.args.thread.now.number).steps) c.args.thread.now.allowance b short c.requires.loaded.small)
+
+pub finish-loop-self-smaller : goal.finish-loop-self-smaller
+finish-loop-self-smaller g t c =
+    let code : c.self.inside.code.now ≡ c.loop-self.self.code = ap (λ (s : State). s.code) c.self.view_is in
+    let b = bound c.args.self.now c.loop-self.self c.requires.fitted c.args.thread.now c.loop-self.thread c.run.new.self c.loop-self.invariant.number c.loop-self.invariant.leaves (subst (λ (x : CodeParts). Loaded (plain_code x) c.run.new.self) code c.run.ensures.loaded) c.run.ensures.number
+    (λ xs st. subst (λ (x : CodeParts). StandsFor (plain_code x) c.run.new.self xs) code (c.run.ensures.stands xs (subst (λ (x : CodeParts). StandsFor (plain_code x) c.loop-self.thread xs) (sym code) st)))
+    (subst (λ e. Left_by c.run.new.self e) c.in-Fork.is c.run.ensures.left) (subst (λ (x : CodeParts). c.run.new.self.branches.numbers ≡ map (λ w. w.branch) (jobs_at (plain_code x) c.run.new.self)) code (c.run.ensures.branches c.in-Fork.is)) c.loop-self.invariant.jobs c.loop-self.invariant.job c.loop-self.forks (c.loop-self.invariant.in_job, c.loop-self.invariant.count) c.loop-self.invariant.allowance in
+    omega (arith, b)
+
+pub finish-loop-self-preserved : goal.finish-loop-self-preserved
+finish-loop-self-preserved g t c =
+    let code : c.self.inside.code.now ≡ c.loop-self.self.code = ap (λ (s : State). s.code) c.self.view_is in
+    let number = c.join.ensures.number ∙ c.settle.ensures.number ∙ c.run.ensures.number ∙ c.loop-self.invariant.number in
+    let leaves = subst (λ n. Leaves n n c.loop-self.self c.consult.new.self) (c.run.ensures.number ∙ c.loop-self.invariant.number) c.consult.ensures.leaves in
+    let now = next c.args.self.now c.loop-self.self c.requires.fitted c.args.thread.now c.loop-self.thread c.run.new.self c.loop-self.invariant.number c.loop-self.invariant.leaves (subst (λ (x : CodeParts). Loaded (plain_code x) c.run.new.self) code c.run.ensures.loaded) c.run.ensures.number
+    (λ xs st. subst (λ (x : CodeParts). StandsFor (plain_code x) c.run.new.self xs) code (c.run.ensures.stands xs (subst (λ (x : CodeParts). StandsFor (plain_code x) c.loop-self.thread xs) (sym code) st)))
+    (subst (λ e. Left_by c.run.new.self e) c.in-Fork.is c.run.ensures.left) (subst (λ (x : CodeParts). c.run.new.self.branches.numbers ≡ map (λ w. w.branch) (jobs_at (plain_code x) c.run.new.self)) code (c.run.ensures.branches c.in-Fork.is)) c.loop-self.invariant.jobs c.loop-self.invariant.job c.loop-self.forks (c.loop-self.invariant.in_job, c.loop-self.invariant.count)
+    c.consult.new.self c.consult.ensures.leaves c.consult.ensures.heard.0 c.consult.ensures.heard.1 c.consult.ensures.heard.2 c.settle.new.thread c.join.new.thread c.settle.ensures.number c.join.ensures.number
+    (λ xs st. c.settle.ensures.stands c.consult.ensures.heard.0 xs c.consult.ensures.heard.1 st)
+    (λ xs st. c.join.ensures.stands c.consult.ensures.heard.0 xs (subst (λ l. HaveHeard c.consult.new.self l c.consult.ensures.heard.0) (sym c.settle.ensures.branches) c.consult.ensures.heard.1) st) in
+    record {
+      loaded = c.join.ensures.loaded;
+      number = number;
+      running = c.join.ensures.running;
+      above = subst (QuietAbove c.consult.new.self) (c.run.ensures.number ∙ c.loop-self.invariant.number) c.consult.ensures.above;
+      leaves = leaves_then c.args.thread.now.number c.args.thread.now.number c.args.self.now c.loop-self.self c.consult.new.self c.loop-self.invariant.leaves leaves;
+      jobs = c.loop-self.invariant.jobs;
+      job = c.loop-self.invariant.job;
+      in_job = now.0;
+      count = now.1;
+      allowance = c.loop-self.invariant.allowance;
+      done = λ jobs job i.
+          let j = c.loop-self.invariant.done jobs job i in
+          (next c.args.self.now c.loop-self.self c.requires.fitted c.args.thread.now c.loop-self.thread c.run.new.self c.loop-self.invariant.number c.loop-self.invariant.leaves (subst (λ (x : CodeParts). Loaded (plain_code x) c.run.new.self) code c.run.ensures.loaded) c.run.ensures.number
+    (λ xs st. subst (λ (x : CodeParts). StandsFor (plain_code x) c.run.new.self xs) code (c.run.ensures.stands xs (subst (λ (x : CodeParts). StandsFor (plain_code x) c.loop-self.thread xs) (sym code) st)))
+    (subst (λ e. Left_by c.run.new.self e) c.in-Fork.is c.run.ensures.left) (subst (λ (x : CodeParts). c.run.new.self.branches.numbers ≡ map (λ w. w.branch) (jobs_at (plain_code x) c.run.new.self)) code (c.run.ensures.branches c.in-Fork.is)) jobs job (length j.log.before) (j, refl)
+    c.consult.new.self c.consult.ensures.leaves c.consult.ensures.heard.0 c.consult.ensures.heard.1 c.consult.ensures.heard.2 c.settle.new.thread c.join.new.thread c.settle.ensures.number c.join.ensures.number
+    (λ xs st. c.settle.ensures.stands c.consult.ensures.heard.0 xs c.consult.ensures.heard.1 st)
+    (λ xs st. c.join.ensures.stands c.consult.ensures.heard.0 xs (subst (λ l. HaveHeard c.consult.new.self l c.consult.ensures.heard.0) (sym c.settle.ensures.branches) c.consult.ensures.heard.1) st)).0;
+    }
+
+pub finish-returns : goal.finish-returns
+finish-returns g t c =
+    let code : c.self.inside.code.now ≡ c.loop-self.self.code = ap (λ (s : State). s.code) c.self.view_is in
+    let here = c.loop-self.invariant.leaves.code in
+    record {
+      loaded = subst (λ (x : CodeParts). Loaded (plain_code x) c.run.new.self) (code ∙ here) c.run.ensures.loaded;
+      number = c.run.ensures.number ∙ c.loop-self.invariant.number;
+      reply = replied_by c.run.new.self c.run.result c.run.ensures.left c.in_default.not-Fork;
+      above = c.loop-self.invariant.above;
+      leaves = c.loop-self.invariant.leaves;
+      done = λ jobs job i.
+          let j = c.loop-self.invariant.done jobs job i in
+          (job_runs (code_in c.args.self.now) c.loop-self.thread c.run.new.self c.loop-self.self.mail jobs job (length j.log.before) c.run.ensures.number
+          (λ xs st. subst (λ (x : CodeParts). StandsFor (plain_code x) c.run.new.self xs) (code ∙ here) (c.run.ensures.stands xs (subst (λ (x : CodeParts). StandsFor (plain_code x) c.loop-self.thread xs) (sym (code ∙ here)) st))) (j, refl)).0;
+    }
+
+-- ---- each call does less
+
+pub consult-employ-requires : goal.consult-employ-requires
+consult-employ-requires g t c κs within =
+    let le = above_m c.args.self.now c.loop-branch.self c.args.thread.now c.loop-branch.k c.in-Some.branch c.requires.fitted c.requires.fork c.loop-branch.invariant (sym c.active.ensures ∙ c.in-Some.is) in
+    let lt = inside_m c.args.self.now c.loop-branch.self c.args.thread.now c.loop-branch.k c.in-Some.branch c.requires.fitted c.requires.fork c.loop-branch.invariant (sym c.active.ensures ∙ c.in-Some.is) in
+    let fitted = fitted_b c.args.self.now c.loop-branch.self c.args.thread.now c.loop-branch.k c.in-Some.branch c.requires.fitted c.requires.fork c.loop-branch.invariant (sym c.active.ensures ∙ c.in-Some.is) in
+    let few = fitted.valid.shape.few_threads in
+    let same = fitted.valid.threads in
+    let boxes = fitted.mailboxes in
+    let smaller : 3 * (256 - (c.in-Some.branch - 1)) + 3 < 3 * (257 - c.args.thread.now.number) + 1 = omega (arith, le, lt, few, same, boxes) in
+    let above = sent_above c.args.self.now c.loop-branch.self c.args.thread.now c.loop-branch.k c.in-Some.branch c.requires.fitted c.requires.fork c.loop-branch.invariant (sym c.active.ensures ∙ c.in-Some.is) c.send.new.self c.send.ensures.moves in
+    let count = c.send.ensures.moves.alike.count in
+    let inside : c.in-Some.branch - 1 < length c.send.new.self.mail.ends = omega (arith, lt, count) in
+    (search rules, (within.0, (within.1, (search rules, (inside, (search rules, (c.send.ensures.called, above)))))))
+
+pub employ-finish-requires : goal.employ-finish-requires
+employ-finish-requires g t c κs within =
+    let number = number1 c.args.self.now c.args.mailbox c.requires.fitted c.requires.inside c.requires.called c.requires.above c.self.inside.code.now c.self.inside.places.items (g.P.Port.state c.self.inside.port) (g.P.Port.state c.take.new.self)
+    c.self.inside.seats.items c.self.inside.hands.items c.self.view_is c.in-Some.packet c.in-Some.ensures.state c.in-Some.ensures.job c.in-Some.ensures.turn c.index_mut.result.now c.index_mut.ensures.value c.take-2.result c.take-2.ensures.value
+    c.in-Some-take.thread c.in-Some-take.is
+        (record { thread = c.take-2.new.self; job = c.index_mut.result.now.job }) c.begin.new.self c.begin.ensures.number c.begin.ensures.stands in
+    let smaller : 3 * (257 - c.begin.new.self.number) + 2 < 3 * (256 - c.args.mailbox) + 3 = omega (arith, number) in
+    let fitted = raw_fitted c.args.self.now c.args.mailbox c.requires.fitted c.requires.inside c.requires.called c.requires.above c.self.inside.code.now c.self.inside.places.items (g.P.Port.state c.self.inside.port) (g.P.Port.state c.take.new.self)
+    c.self.inside.seats.items c.self.inside.hands.items c.self.view_is c.in-Some.packet c.in-Some.ensures.state c.in-Some.ensures.job c.in-Some.ensures.turn c.index_mut.result.now c.index_mut.ensures.value c.take-2.result c.take-2.ensures.value
+    c.in-Some-take.thread c.in-Some-take.is
+    (record { thread = c.take-2.new.self; job = c.index_mut.result.now.job }) in
+    let begun = raw_followed c.args.self.now c.args.mailbox c.requires.fitted c.requires.inside c.requires.called c.requires.above c.self.inside.code.now c.self.inside.places.items (g.P.Port.state c.self.inside.port) (g.P.Port.state c.take.new.self)
+    c.self.inside.seats.items c.self.inside.hands.items c.self.view_is c.in-Some.packet c.in-Some.ensures.state c.in-Some.ensures.job c.in-Some.ensures.turn c.index_mut.result.now c.index_mut.ensures.value c.take-2.result c.take-2.ensures.value
+    c.in-Some-take.thread c.in-Some-take.is
+    (record { thread = c.take-2.new.self; job = c.index_mut.result.now.job }) c.begin.new.self c.begin.ensures.number c.begin.ensures.stands in
+    let above = raw_above c.args.self.now c.args.mailbox c.requires.fitted c.requires.inside c.requires.called c.requires.above c.self.inside.code.now c.self.inside.places.items (g.P.Port.state c.self.inside.port) (g.P.Port.state c.take.new.self)
+    c.self.inside.seats.items c.self.inside.hands.items c.self.view_is c.in-Some.packet c.in-Some.ensures.state c.in-Some.ensures.job c.in-Some.ensures.turn c.index_mut.result.now c.index_mut.ensures.value c.take-2.result c.take-2.ensures.value
+    c.in-Some-take.thread c.in-Some-take.is
+    (record { thread = c.take-2.new.self; job = c.index_mut.result.now.job }) c.begin.new.self c.begin.ensures.number c.begin.ensures.stands in
+    (search rules, (within.0, (within.1, (search rules, (fitted, (c.begin.ensures.loaded, (c.begin.ensures.running, (begun, above))))))))

@@ -1,0 +1,58 @@
+-- What a host is made of.
+use Rattle.std.specs.Prelude.{ℕ, suc, ◌≡◌, ◌<◌, Bool, true, false, IsTrue, Option, None, Some, All, List, [], ◌∷◌, length, get_or, slice_get}
+use Rattle.forec_kernel.specs.Packets.{PlainPacket}
+use Rattle.forec_kernel.specs.Packed.{HasRoom}
+use Rattle.forec_kernel.specs.Combining.{contains}
+use Rattle.forec_kernel.specs.WellFormed.{distinct}
+use Rattle.thread_code.specs.declared.instruction.CodeParts.{CodeParts}
+use Rattle.thread_code.specs.Plain.{plain_code}
+use Rattle.thread_code.specs.Valid.{of_shape}
+use Rattle.copy_slots.specs.declared.view.Place.TheVariants.{Fresh}
+use Rattle.copy_slots.specs.declared.view.Sender.{Sender}
+use Rattle.copy_slots.specs.declared.view.Taker.{Taker}
+use Rattle.copy_slots.specs.Ports.{parent_at, child_at}
+use Rattle.core_alloc.specs.Places.{Places}
+use Rattle.core_host.specs.Posts.{Mail, IsBranchOf}
+
+-- a thread's core is one of these
+abbrev pub is_on : List ℕ → List ℕ → ℕ → Bool
+is_on places cores t = contains (get_or places t 0) cores
+
+-- the parent's end is there, where it is to be, and nothing was done there
+abbrev pub IsNewParent : Bool → Option (Sender PlainPacket) → Type 0
+IsNewParent true (Some x) = (x.place ≡ Fresh) × (x.sent ≡ []) × (x.got ≡ [])
+IsNewParent false None = Unit {0}
+IsNewParent _ _ = ⊥
+
+-- and the child's
+abbrev pub IsNewChild : Bool → Option (Taker PlainPacket) → Type 0
+IsNewChild true (Some y) = (y.holds ≡ false) × (y.taken ≡ []) × (y.answered ≡ [])
+IsNewChild false None = Unit {0}
+IsNewChild _ _ = ⊥
+
+-- the blank packet of mailbox k has the lengths of its thread
+pub record FitsBlank (code : CodeParts) (mail : Mail) (k : ℕ) : Type 0 where
+  pub blank : PlainPacket
+  pub is : slice_get mail.blanks k ≡ Some blank
+  pub room : HasRoom (of_shape (plain_code code).shape) (suc k) blank
+
+-- each thread's core is one of the placement's, as every placement keeps it
+abbrev pub ArePlaced : Places → Type 0
+ArePlaced placement = All (λ core. core < placement.cores) placement.places
+
+-- Each thread has a core; these are cores of the placement, each once; the port is one for this code, with exactly the ends of these cores,
+-- at which nothing was done, and the root's port where thread 0 is on one of them.
+pub record CanLoad (code : CodeParts) (placement : Places) (cores : List ℕ) (mail : Mail) : Type 0 where
+  pub placed : length placement.places ≡ length (plain_code code).threads
+  pub once : IsTrue (distinct cores)
+  pub below : All (λ core. core < placement.cores) cores
+  pub work : mail.work.code.value ≡ code
+  pub mailboxes : suc (length mail.ends) ≡ length (plain_code code).threads
+  pub parents : ArePlaced placement → (k t : ℕ) → k < length mail.ends → IsBranchOf (plain_code code).shape t k → IsNewParent (is_on placement.places cores t) (parent_at mail.ends k)
+  pub children : ArePlaced placement → (k : ℕ) → k < length mail.ends → IsNewChild (is_on placement.places cores (suc k)) (child_at mail.ends k)
+  pub blanks : (k : ℕ) → k < length mail.ends → FitsBlank code mail k
+  pub root : is_on placement.places cores 0 ≡ true → mail.root ≡ true
+
+-- these are all cores of a placement
+abbrev pub AreAll : ℕ → List ℕ → Type 0
+AreAll count cores = (core : ℕ) → core < count → contains core cores ≡ true

@@ -1,0 +1,44 @@
+-- What a host keeps between calls.
+use Rattle.std.specs.Prelude.{ℕ, suc, ◌≡◌, ◌<◌, true, false, List, [], length}
+use Rattle.forec_kernel.specs.Packed.{HasRoom}
+use Rattle.forec_kernel.specs.Engine.{Job}
+use Rattle.combine_tree.specs.declared.packet.PacketKind.{PacketKind}
+use Rattle.combine_tree.specs.declared.packet.PacketKind.TheVariants as kind
+use Rattle.combine_tree.specs.Plain.{plain_packet}
+use Rattle.thread_code.specs.Valid.{of_shape, IsValidCode}
+use Rattle.thread_code.specs.Laws.{EachFits}
+use Rattle.core_machine.specs.declared.thread.Thread.{Thread}
+use Rattle.core_machine.specs.Held.{IsResting, HasPaused}
+use Rattle.copy_slots.specs.Ports.{ChildIs}
+use Rattle.core_host.specs.Done.{HasDone}
+use Rattle.core_host.specs.Keeping.{State, code_in, Sits, Idle, Quiet}
+use Rattle.core_host.specs.Hosted.{Hosted, state_in, code_of, is_here, IsWhole}
+
+-- the next tick can begin: no tick was run, or the last one paused
+abbrev pub IsReady : Thread → PacketKind → Type 0
+IsReady h kind.Blank = Unit {0}
+IsReady h kind.Paused = HasPaused h
+IsReady h _ = ⊥
+
+-- thread 0 rests, and has replied to the jobs of some ticks
+pub record RootRests (s : State) : Type 0 where
+  pub thread : Thread
+  pub sits : Sits s 0 thread
+  pub resting : IsResting thread
+  pub jobs : List Job
+  pub done : HasDone (code_in s) thread s.mail jobs
+
+pub record IsHosted (h : Hosted) : Type 0 where
+  pub valid : IsValidCode (code_of h)
+  pub work : h.mail.work.code.value ≡ h.code
+  pub mailboxes : suc (length h.mail.ends) ≡ length (code_of h).threads
+  pub seats : length h.seats ≡ length (code_of h).threads
+  pub hands : suc (length h.hands) ≡ length (code_of h).threads
+  pub places : length h.places ≡ length (code_of h).threads
+  pub room : HasRoom (of_shape (code_of h).shape) 0 (plain_packet h.root)
+  pub root : is_here h 0 ≡ true → RootRests (state_in h)
+  pub ready : h.live ≡ true → (t : Thread) → Sits (state_in h) 0 t → IsReady t h.root.kind
+  -- each other thread that rests has answered all jobs that it took
+  pub idle : (k : ℕ) → k < length h.mail.ends → ChildIs h.mail k false → Idle (state_in h) k
+  -- where it has all threads, nothing is under way
+  pub whole : IsWhole h → (k : ℕ) → k < length h.mail.ends → Quiet (state_in h) k
