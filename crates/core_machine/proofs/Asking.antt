@@ -1,14 +1,13 @@
 -- The jobs that a thread asks of its branches.
-use Rattle.std.proofs.Common.{◌≡◌, ◌≢◌, ℕ, zero, suc, ◌+◌, ◌-◌, ◌<◌, ◌≤◌, ◌==◌, List, [], ◌∷◌, ◌++◌, length, map, Option, Some, None, Bool, true, false, refl, sym, ap, ◌∙◌, subst, arith}
+use Rattle.std.proofs.Common.{◌≡◌, ◌≢◌, ℕ, ◌-◌, ◌≤◌, ◌==◌, List, [], ◌∷◌, ◌++◌, length, map, None, true, refl, sym, ap, ◌∙◌, subst, arith}
 use Rattle.std.proofs.lemmas.Bool.Decides.{nat_tests}
-use Rattle.forec_kernel.specs.Engine.{Job, allowance_of, Reply, Seed, Starts, Wakes, Written, written, View, AtFork, Engine, Stops, Reaches, Rest, Nothing, Exchange, Output, first_jobs, ends_at, AtEvent, event as at_event, Either, Serves}
+use Rattle.forec_kernel.specs.Engine.{Job, allowance_of, Reply, Seed, Starts, Wakes, Written, written, AtFork, Engine, Stops, Rest, Nothing, Exchange, Output, first_jobs, ends_at, AtEvent, event as at_event, Either, Serves}
 use Rattle.forec_kernel.specs.Reached.{Reached, Inside}
 use Rattle.forec_kernel.proofs.Reach.{Went, tells, alone_of, alone_snoc}
 use Rattle.thread_code.specs.Plain.{PlainCode}
 use Rattle.thread_code.specs.Machine.{Machine}
 use Rattle.thread_code.specs.Alone.{view_of, units_of, code_engine}
 use Rattle.core_machine.specs.declared.thread.Thread.{Thread}
-use Rattle.core_machine.specs.declared.thread.Phase.{Phase}
 use Rattle.core_machine.specs.declared.thread.Phase.TheVariants as phase
 use Rattle.core_machine.specs.Branches.{Says}
 use Rattle.core_machine.specs.Held.{machine_in, machine_of, branch_of, Waits_at, Placed, Loaded, Stands_in, StandsFor, never, since, settling, joining, HasSettled}

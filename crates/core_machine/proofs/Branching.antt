@@ -1,14 +1,14 @@
 -- Which branches run at a fork.
-use Rattle.std.proofs.Common.{◌≡◌, ◌≢◌, ℕ, zero, suc, ◌+◌, ◌-◌, ◌<◌, ◌≤◌, ◌==◌, List, [], ◌∷◌, length, map, get_or, Option, Some, None, Bool, true, false, cond, refl, sym, ap, ◌∙◌, subst, ⊎_elim, inl, inr, arith}
-use Rattle.std.specs.Prelude.{ℤ, IsTrue, IsNone, take, drop, ◌⊎◌}
+use Rattle.std.proofs.Common.{◌≡◌, ℕ, zero, suc, ◌+◌, ◌-◌, ◌<◌, ◌≤◌, ◌==◌, List, [], ◌∷◌, length, map, get_or, Option, Some, None, Bool, true, false, cond, refl, sym, ap, ◌∙◌, subst, ⊎_elim, inl, inr, arith}
+use Rattle.std.specs.Prelude.{ℤ, IsTrue, IsNone, drop, ◌⊎◌}
 use Rattle.std.proofs.lemmas.Bool.Decides.{nat_tests}
 use Rattle.forec_kernel.specs.declared.shape.VarCopy.{VarCopy}
 use Rattle.forec_kernel.specs.Shapes.{PlainThread}
 use Rattle.forec_kernel.specs.Combining.{contains}
-use Rattle.forec_kernel.specs.Texts.{params_in, uses_in}
-use Rattle.forec_kernel.specs.WellFormed.{all_in, branches_of, is_par, blank_thread, thread_of, FineChild}
+use Rattle.forec_kernel.specs.Texts.{params_in}
+use Rattle.forec_kernel.specs.WellFormed.{all_in, branches_of, is_par, blank_thread}
 use Rattle.thread_code.specs.Plain.{PlainCode}
-use Rattle.thread_code.specs.Valid.{IsValidCode, IsParOf, of_shape, branches_in}
+use Rattle.thread_code.specs.Valid.{IsValidCode, IsParOf, branches_in}
 use Rattle.thread_code.specs.Machine.{living, starts, wakes, uses_of}
 use Rattle.core_machine.specs.Branches.{chosen}
 use Rattle.core_machine.specs.Held.{branch_of, IsBranch, AreBranches}
@@ -89,9 +89,10 @@ of_chosen false live bs x h = h
 
 are_branches : (c : PlainCode) (t : ℕ) (bs : List ℕ) → ((b : ℕ) → IsTrue (contains b bs) → IsBranch c t b) → AreBranches c t bs
 are_branches c t [] h = tt
-are_branches c t (b ∷ bs) h =
-    (h b (subst (λ x. IsTrue (cond x true (contains b bs))) (sym (same_self b)) refl),
-     are_branches c t bs (λ x k. h x (later (b == x) (contains x bs) k)))
+are_branches c t (b ∷ bs) h = (
+  h b (subst (λ x. IsTrue (cond x true (contains b bs))) (sym (same_self b)) refl),
+  are_branches c t bs (λ x k. h x (later (b == x) (contains x bs) k)),
+)
   where
     later : (t : Bool) (rest : Bool) → IsTrue rest → IsTrue (cond t true rest)
     later true rest h = refl

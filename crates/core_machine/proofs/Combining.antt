@@ -1,19 +1,18 @@
 -- A branch's copies are combined one after the other.
-use Rattle.std.proofs.Common.{◌≡◌, ◌≢◌, ℕ, zero, suc, ◌+◌, ◌-◌, ◌<◌, ◌≤◌, ◌==◌, List, [], ◌∷◌, ◌++◌, length, take, map, get_or, Option, Some, None, Bool, true, false, cond, refl, sym, ap, ◌∙◌, subst, ⊎_elim, inl, inr, arith, append_assoc}
-use Rattle.std.specs.Prelude.{pos, IsTrue, ◌&&◌, ◌||◌, ◌⊎◌}
-use Rattle.std.proofs.lemmas.List.{append-nil}
+use Rattle.std.proofs.Common.{◌≡◌, ◌≢◌, ℕ, zero, suc, ◌+◌, ◌<◌, ◌==◌, List, [], ◌∷◌, ◌++◌, length, take, get_or, Bool, true, false, cond, refl, sym, ap, ◌∙◌, subst, ⊎_elim, inl, inr, arith, append_assoc}
+use Rattle.std.specs.Prelude.{IsTrue, ◌&&◌, ◌||◌, ◌⊎◌}
 use Rattle.forec_kernel.specs.declared.shape.VarCopy.{VarCopy}
 use Rattle.forec_kernel.specs.Engine.{run_for}
 use Rattle.forec_kernel.specs.Combining.{contains}
 use Rattle.forec_kernel.specs.WellFormed.{all_in}
 use Rattle.thread_code.specs.Plain.{PlainCode}
-use Rattle.thread_code.specs.Machine.{Share, Machine, Trapped, shares_of, step, uses_of}
+use Rattle.thread_code.specs.Machine.{Share, shares_of, step, uses_of}
 use Rattle.core_machine.specs.Kept.{no_copy}
 use Rattle.core_machine.specs.declared.branches.Verdict.{Verdict}
 use Rattle.core_machine.specs.declared.branches.Verdict.TheVariants as verdict
 use Rattle.core_machine.specs.declared.thread.Thread.{Thread}
 use Rattle.core_machine.specs.declared.thread.Phase.TheVariants as phase
-use Rattle.core_machine.specs.Held.{Loaded, Placed, Joins, AreBranches, IsBranch, some_use, Exceeds}
+use Rattle.core_machine.specs.Held.{Loaded, Placed, Joins, IsBranch, some_use, Exceeds}
 use Rattle.core_machine.specs.Merging.{merging_with, Joining_on, Comes_by, Combined}
 use Rattle.core_machine.proofs.Advance.{run_add}
 use Rattle.core_machine.proofs.Branching.{same_self}

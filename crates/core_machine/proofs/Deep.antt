@@ -1,15 +1,15 @@
 -- How deep the stack of a block can be.
-use Rattle.std.proofs.Common.{◌≡◌, ◌≢◌, ℕ, zero, suc, ◌+◌, ◌-◌, ◌<◌, ◌≤◌, List, [], ◌∷◌, length, Option, Some, None, refl, sym, ap, ◌∙◌, subst, ⊎_elim, inl, inr, arith}
+use Rattle.std.proofs.Common.{◌≡◌, ◌≢◌, ℕ, zero, suc, ◌+◌, ◌<◌, ◌≤◌, List, [], ◌∷◌, length, Option, Some, None, sym, ap, ◌∙◌, ⊎_elim, inl, inr, arith}
 use Rattle.std.specs.Prelude.{slice_get, ◌⊎◌}
 use Rattle.std.proofs.lemmas.Bool.{cases_lt}
 use Rattle.std.proofs.lemmas.Option.{slice_get-get_or}
 use Rattle.thread_code.specs.declared.instruction.Instruction.{Instruction}
 use Rattle.thread_code.specs.declared.instruction.Instruction.TheVariants as instruction
 use Rattle.thread_code.specs.Plain.{PlainBlock, PlainCode}
-use Rattle.thread_code.specs.Valid.{Scope, Leads, IsValid, IsSound, IsValidCode, arguments_of, branches_in, function_arguments}
+use Rattle.thread_code.specs.Valid.{Scope, IsValid, IsSound, IsValidCode}
 use Rattle.thread_code.specs.Alone.{block_of}
 use Rattle.core_machine.specs.Room.{IsIn}
-use Rattle.core_machine.specs.Stretch.{no_block, block_for, scope_for, Next, depth_after, Comes, first, next, IsDeep}
+use Rattle.core_machine.specs.Stretch.{no_block, block_for, scope_for, depth_after, Comes, first, next, IsDeep}
 use Rattle.core_machine.proofs.Steps.{comes_leads}
 
 -- ---- a list that has each number up to d has more than d elements

@@ -1,5 +1,5 @@
 -- Loops over the copies of branches.
-use Rattle.std.proofs.Common.{◌≡◌, ◌≢◌, ℕ, zero, suc, ◌+◌, ◌-◌, ◌<◌, ◌≤◌, List, [], ◌∷◌, length, drop, map, get_or, Bool, true, false, not, refl, sym, ap, ◌∙◌, subst, arith, add-one, drop-cons, length-set}
+use Rattle.std.proofs.Common.{◌≡◌, ℕ, zero, suc, ◌+◌, ◌<◌, ◌≤◌, List, [], ◌∷◌, length, drop, get_or, Bool, false, not, refl, sym, ap, ◌∙◌, arith, add-one, drop-cons, length-set}
 use Rattle.std.specs.Prelude.{slice_set}
 use Rattle.forec_kernel.specs.declared.shape.VarCopy.{VarCopy}
 use Rattle.combine_tree.specs.declared.joining.Fold.{Fold}

@@ -1,6 +1,6 @@
 -- How a job begins, and what it leaves.
-use Rattle.std.proofs.Common.{◌≡◌, ◌≢◌, ℕ, zero, suc, ◌+◌, ◌-◌, ◌<◌, ◌≤◌, ◌^◌, List, [], ◌∷◌, ◌++◌, length, map, Option, Some, None, Bool, true, false, refl, sym, ap, ◌∙◌, subst, ⊎_elim, inl, inr, arith}
-use Rattle.std.specs.Prelude.{ℤ, pos, slice_get, get_or, replicate, ◌⊎◌, ◌↔◌}
+use Rattle.std.proofs.Common.{◌≡◌, ◌≢◌, ℕ, zero, suc, ◌+◌, ◌-◌, ◌<◌, ◌≤◌, ◌^◌, List, [], ◌∷◌, ◌++◌, length, map, Some, None, Bool, true, false, refl, sym, ap, ◌∙◌, subst, ⊎_elim, inl, inr, arith}
+use Rattle.std.specs.Prelude.{ℤ, pos, get_or, replicate, ◌↔◌}
 use Rattle.std.proofs.lemmas.Bool.{cases_lt}
 use Rattle.std.proofs.lemmas.List.{length-replicate}
 use Rattle.std.proofs.lemmas.Option.{slice_get-get_or}
@@ -13,15 +13,14 @@ use Rattle.forec_kernel.specs.Values.{fresh_words}
 use Rattle.forec_kernel.specs.Texts.{params_in, words_in, uses_in}
 use Rattle.forec_kernel.specs.Packets.{PlainPacket}
 use Rattle.forec_kernel.specs.Packed.{HasRoom, IsJob, IsReply}
-use Rattle.forec_kernel.specs.Solo.{unmarked_copies}
-use Rattle.forec_kernel.specs.Engine.{Job, Start, Wake, allowance_of, Reply, WasPaused, WasEnded, WasTrapped, WasOver, Written, View, Going, AtFork, Pausing, Ending, Trapping, Exceeding, Engine, run_for, Stops, Reaches, Passes, Rest, Asleep, Nothing, Exchange, Output, Serves as Serves_by, last_reply}
+use Rattle.forec_kernel.specs.Engine.{Job, Start, Wake, allowance_of, Reply, WasPaused, WasEnded, WasTrapped, WasOver, Written, View, Going, AtFork, Pausing, Ending, Trapping, Exceeding, Engine, run_for, Stops, Rest, Asleep, Nothing, Exchange, Output, Serves as Serves_by, last_reply}
 use Rattle.forec_kernel.specs.Reached.{Reached, AtRest, Inside, none, begun, stepped, answered, exceeded, Closes}
 use Rattle.forec_kernel.proofs.Reach.{Went, tells, alone_of, alone_snoc, went_answer, went_over}
 use Rattle.forec_kernel.proofs.Same.{one_stop, not_both}
 use Rattle.thread_code.specs.Plain.{PlainBlock, PlainCode}
 use Rattle.thread_code.specs.Valid.{IsBlock, IsValidCode, of_shape, thread_scope}
-use Rattle.thread_code.specs.Machine.{Own, Machine, On, Waits, Paused, Ended, Trapped, Stuck, uses_of, step}
-use Rattle.thread_code.specs.Alone.{block_of, started, woken, view_of, units_of, code_engine, CodeAlone}
+use Rattle.thread_code.specs.Machine.{Own, Machine, On, Trapped, Stuck, step}
+use Rattle.thread_code.specs.Alone.{block_of, started, woken, view_of, units_of, code_engine}
 use Rattle.thread_code.proofs.Steady.{code_steady}
 use Rattle.thread_code.proofs.Unstuck.{never_stuck}
 use Rattle.combine_tree.specs.declared.packet.Packet.{Packet}
@@ -30,14 +29,14 @@ use Rattle.combine_tree.specs.declared.packet.PacketKind.TheVariants as kind
 use Rattle.combine_tree.specs.Plain.{plain_kind, plain_packet}
 use Rattle.core_machine.specs.Frames.{Frames, started as started_frames}
 use Rattle.core_machine.specs.Branches.{Says}
-use Rattle.core_machine.specs.Kept.{Kept, own_of, begun as begun_kept, with_copies, Serves}
-use Rattle.core_machine.specs.Stretch.{block_for, scope_for, first, Work, work, point_of, IsAt}
+use Rattle.core_machine.specs.Kept.{Kept, begun as begun_kept, with_copies, Serves}
+use Rattle.core_machine.specs.Stretch.{block_for, first, work, point_of}
 use Rattle.core_machine.specs.declared.thread.Thread.{Thread}
 use Rattle.core_machine.specs.declared.thread.Phase.{Phase}
 use Rattle.core_machine.specs.declared.thread.Phase.TheVariants as phase
 use Rattle.core_machine.specs.declared.thread.Event.{Event}
 use Rattle.core_machine.specs.declared.thread.Event.TheVariants as event
-use Rattle.core_machine.specs.Held.{work_of, callers, machine_in, machine_of, Works, Placed, Loaded, Exceeds, Stands_in, Stands_at, Waits_for, StandsFor, never, since, settling, joining, event_of, Tells, passes, reaches, IsResting, Rests_in, HasReply, HasPaused, HasSettled, Has_machine, Stops_in, Runs_in, CanRun, Left_by, CanBegin, Gives, started_anew, woken_up, Begun, Moved, Shown, over, comes, Comes_to}
+use Rattle.core_machine.specs.Held.{callers, machine_in, machine_of, Works, Placed, Loaded, Exceeds, Stands_in, Stands_at, Waits_for, StandsFor, never, since, settling, joining, event_of, Tells, passes, reaches, IsResting, Rests_in, HasReply, HasPaused, Has_machine, Stops_in, Runs_in, CanRun, Left_by, CanBegin, Gives, started_anew, woken_up, Begun, Moved, Shown, over, comes, Comes_to}
 use Rattle.core_machine.proofs.Outer.{empty_of}
 
 length_fresh : (args : List ℤ) (w : ℕ) → length args ≤ w → length (fresh_words args w) ≡ w

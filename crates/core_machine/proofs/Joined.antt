@@ -1,31 +1,30 @@
 -- One more branch is joined.
-use Rattle.std.proofs.Common.{◌≡◌, ◌≢◌, ℕ, zero, suc, ◌+◌, ◌-◌, ◌<◌, ◌≤◌, ◌^◌, List, [], ◌∷◌, ◌++◌, length, map, drop, get_or, Option, Some, None, Bool, true, false, refl, sym, ap, ◌∙◌, subst, ⊎_elim, inl, inr, arith}
+use Rattle.std.proofs.Common.{◌≡◌, ◌≢◌, ℕ, zero, suc, ◌+◌, ◌<◌, List, [], ◌∷◌, ◌++◌, length, drop, get_or, Some, Bool, true, false, refl, sym, ap, ◌∙◌, subst, ⊎_elim, inl, inr, arith}
 use Rattle.std.specs.Prelude.{slice_get, ◌||◌, ◌⊎◌}
 use Rattle.std.proofs.lemmas.Bool.{cases_lt}
 use Rattle.std.proofs.lemmas.List.{length-map}
 use Rattle.std.proofs.lemmas.Option.{slice_get_within}
-use Rattle.forec_kernel.specs.declared.shape.VarCopy.{VarCopy}
-use Rattle.forec_kernel.specs.Engine.{run_for, Job, allowance_of, Reply, WasPaused, WasEnded, WasTrapped, WasOver, Exchange, AtFork}
+use Rattle.forec_kernel.specs.Engine.{run_for, Job, allowance_of, Reply, WasPaused, WasEnded, WasTrapped, WasOver, Exchange}
 use Rattle.forec_kernel.specs.Solo.{some_reply_over, is_over_reply}
 use Rattle.forec_kernel.specs.Packets.{PlainPacket}
 use Rattle.forec_kernel.specs.Packed.{IsReply}
 use Rattle.forec_kernel.specs.Reached.{Reached, Inside, joined, stepped}
 use Rattle.thread_code.specs.Plain.{PlainCode}
 use Rattle.thread_code.specs.Machine.{Share, Machine, Trapped, all_shares, shares_of, copies_in, join, uses_of, step}
-use Rattle.thread_code.specs.Alone.{code_engine, view_of, units_of}
-use Rattle.core_machine.specs.Branches.{Gathered, one_joined, trap_of, verdict_of, Says}
+use Rattle.thread_code.specs.Alone.{code_engine}
+use Rattle.core_machine.specs.Branches.{one_joined, trap_of, verdict_of, Says}
 use Rattle.core_machine.specs.declared.branches.Verdict.{Verdict}
 use Rattle.core_machine.specs.declared.branches.Verdict.TheVariants as verdict
 use Rattle.core_machine.specs.declared.thread.Thread.{Thread}
 use Rattle.core_machine.specs.declared.thread.Phase.TheVariants as phase
 use Rattle.core_machine.specs.Forks.{branch_at, with_replies}
 use Rattle.core_machine.specs.Held.{machine_in, machine_of, branch_of, Placed, Joins, Joins_by, Loaded, HasSettled, HasJoined, Exceeds, Stands_in, Stands_at, Stands_by, Waits_at, StandsFor, never, since, settling, joining}
-use Rattle.core_machine.specs.Merging.{merging_with, Joining_on, Fails_by, Comes_by, Combined, Starts, Prepared, Ends, Ends_by, Steps_on}
+use Rattle.core_machine.specs.Merging.{merging_with, Joining_on, Comes_by, Combined, Starts, Prepared, Ends, Ends_by, Steps_on}
 use Rattle.core_machine.proofs.Asking.{waits, view_is, units_is}
 use Rattle.core_machine.proofs.Back.{not_over}
 use Rattle.core_machine.proofs.Folds.{drop_next, drop_past}
 use Rattle.core_machine.proofs.Jobs.{steps_on}
-use Rattle.core_machine.proofs.Replying.{at_fork, from_some, long_some, says_count}
+use Rattle.core_machine.proofs.Replying.{at_fork, from_some, long_some}
 use Rattle.core_machine.proofs.Steps.{got}
 
 -- ---- where it begins
@@ -154,7 +153,7 @@ Stands_mid c h rs k (verdict.Trap place trap) m = m ≡ Trapped place trap h.uni
 Stands_mid c h rs k verdict.Over m = Exceeds h.allowance m
 
 module _ (c : PlainCode) (h1 h2 : Thread) (k : ℕ) (rs : List Reply) (r : Reply) (p : PlainPacket) (n : length rs ≡ length h1.branches.numbers) (e : slice_get rs k ≡ Some r) (is : IsReply p r) (j : h1.branches.joined ≡ k)
-  (on : h1.branches.verdict ≡ verdict.Combine → Combined c h1 h2 (shares_of (uses_of c (branch_at h1 k)) p.copies)) (stays : h1.branches.verdict ≢ verdict.Combine → h2 ≡ h1) where
+    (on : h1.branches.verdict ≡ verdict.Combine → Combined c h1 h2 (shares_of (uses_of c (branch_at h1 k)) p.copies)) (stays : h1.branches.verdict ≢ verdict.Combine → h2 ≡ h1) where
   Went_on : Machine → Type 0
   Went_on m = (q : ℕ) × Stands_mid c h2 rs (k + 1) h2.branches.verdict (run_for (step c h2.number) q m)
 
@@ -258,7 +257,7 @@ module _ (c : PlainCode) (h2 h3 : Thread) (l : Loaded c h2) (q : h2.phase ≡ ph
   end_loaded = ⊎_elim (λ last. (s.last last).loaded) (λ more. subst (Loaded c) (sym (s.next more.0)) (next_loaded more.1)) last_or_next
 
   module _ (ys : List Exchange) (job : Job) (forks : List (List Reply)) (rs : List Reply) (n : length rs ≡ length h2.branches.numbers) (al : h2.allowance ≡ allowance_of job) (m : Machine)
-    (reached : Reached (code_engine c h2.number) ys (Inside job (forks ++ rs ∷ []) m)) (mid : Stands_mid c h2 rs (h2.branches.joined + 1) h2.branches.verdict m) where
+      (reached : Reached (code_engine c h2.number) ys (Inside job (forks ++ rs ∷ []) m)) (mid : Stands_mid c h2 rs (h2.branches.joined + 1) h2.branches.verdict m) where
     by_next : (v : Verdict) → Stands_mid c h2 rs (h2.branches.joined + 1) v m → Stands_by c one_more rs v m
     by_next verdict.Combine s = s
     by_next (verdict.Trap place trap) s = s

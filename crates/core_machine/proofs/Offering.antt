@@ -1,15 +1,14 @@
 -- One copy of a branch is combined with those before it.
-use Rattle.std.proofs.Common.{◌≡◌, ◌≢◌, ℕ, zero, suc, ◌+◌, ◌-◌, ◌<◌, ◌≤◌, ◌==◌, ◌^◌, List, [], ◌∷◌, ◌++◌, length, map, get_or, Option, Some, None, Bool, true, false, cond, refl, sym, ap, ◌∙◌, subst, ⊎_elim, inl, inr, arith, length-set, get_or-set_same, get_or-set_other}
+use Rattle.std.proofs.Common.{◌≡◌, ◌≢◌, ℕ, zero, suc, ◌+◌, ◌<◌, ◌≤◌, ◌==◌, List, [], ◌∷◌, length, get_or, Option, Some, None, Bool, true, false, cond, refl, sym, ap, ◌∙◌, subst, ⊎_elim, inl, inr, arith, length-set, get_or-set_same, get_or-set_other}
 use Rattle.std.specs.Prelude.{ℤ, slice_set, slice_get, IsTrue, ◌||◌, ◌⊎◌, option_map}
 use Rattle.forec_kernel.specs.declared.shape.VarCopy.{VarCopy}
 use Rattle.forec_kernel.specs.declared.shape.Variable.{Variable}
-use Rattle.forec_base.specs.declared.Policy.{Policy}
 use Rattle.forec_kernel.specs.Engine.{run_for}
 use Rattle.forec_kernel.specs.Values.{copy_of}
 use Rattle.forec_kernel.specs.Combining.{contains, takes_part, variable_of}
 use Rattle.thread_code.specs.Plain.{PlainCode}
-use Rattle.thread_code.specs.Valid.{IsValidCode, of_shape}
-use Rattle.thread_code.specs.Machine.{Point, Frame, Folding as Folds_to, Share, Total, Merge, Own, Machine, Merges, Trapped, no_total, total_of, put_total, totalled, noted, folded as folded_in, offered as offered_in, merge_step, entered, returned, step, uses_of}
+use Rattle.thread_code.specs.Valid.{of_shape}
+use Rattle.thread_code.specs.Machine.{Point, Frame, Folding as Folds_to, Share, Total, Merge, Merges, no_total, total_of, put_total, totalled, noted, folded as folded_in, offered as offered_in, entered, returned, step, uses_of}
 use Rattle.thread_code.specs.Alone.{block_of}
 use Rattle.combine_tree.specs.declared.joining.Fold.{Fold}
 use Rattle.combine_tree.specs.Joins.{fold_at, pair_of, with_value, with_mark, offered, folded}
@@ -20,7 +19,7 @@ use Rattle.core_machine.specs.declared.branches.Verdict.TheVariants as verdict
 use Rattle.core_machine.specs.declared.thread.Thread.{Thread}
 use Rattle.core_machine.specs.declared.thread.Phase.TheVariants as phase
 use Rattle.core_machine.specs.Held.{Loaded, Placed, Joins, Joins_by, Combines, FoldsFit, some_use, total_in, totals_in, Exceeds}
-use Rattle.core_machine.specs.Merging.{merging_with, calling, with_units, Joining_on, Fails_by, Fails, Gave, Folded, Valued, Comes_by, Combined}
+use Rattle.core_machine.specs.Merging.{merging_with, calling, with_units, Joining_on, Fails_by, Fails, Valued, Comes_by, Combined}
 use Rattle.core_machine.proofs.Advance.{run_add}
 use Rattle.core_machine.proofs.Indexed.{equal_of, differs_of, place_within}
 use Rattle.core_machine.proofs.Seeds.{place_is}

@@ -1,24 +1,24 @@
 -- The events of a thread's run.
-use Rattle.std.proofs.Common.{◌≡◌, ◌≢◌, ℕ, zero, suc, ◌+◌, ◌-◌, ◌*◌, ◌<◌, ◌≤◌, ◌^◌, List, [], ◌∷◌, length, Option, Some, None, Bool, true, false, cond, map, refl, sym, ap, ◌∙◌, subst, arith}
-use Rattle.std.specs.Prelude.{ℤ, slice_get, get_or, IsSome}
+use Rattle.std.proofs.Common.{◌≡◌, ◌≢◌, ℕ, zero, suc, ◌+◌, ◌<◌, ◌≤◌, ◌^◌, List, [], ◌∷◌, length, Option, Some, None, Bool, true, false, cond, map, refl, sym, ap, ◌∙◌, subst, arith}
+use Rattle.std.specs.Prelude.{ℤ, slice_get, IsSome}
 use Rattle.forec_base.specs.declared.Place.{Place}
 use Rattle.forec_base.specs.declared.Trap.{Trap}
 use Rattle.forec_kernel.specs.Engine.{run_for}
 use Rattle.thread_code.specs.declared.instruction.Instruction.{Instruction}
 use Rattle.thread_code.specs.declared.instruction.Instruction.TheVariants as instruction
-use Rattle.thread_code.specs.Plain.{PlainBlock, PlainCode}
-use Rattle.thread_code.specs.Valid.{cost, IsFine, IsParOf, IsValidCode, branches_in, arguments_of}
-use Rattle.thread_code.specs.Machine.{Point, Frame, Own, Awaited, Machine, On, Waits, Paused, Ended, Trapped, with_arguments, awaited, starts, wakes, waking, living, uses_of, act, step}
+use Rattle.thread_code.specs.Plain.{PlainCode}
+use Rattle.thread_code.specs.Valid.{cost, IsParOf, IsValidCode, branches_in, arguments_of}
+use Rattle.thread_code.specs.Machine.{Point, Own, Awaited, Machine, Waits, Paused, with_arguments, awaited, starts, wakes, waking, living, uses_of, act, step}
 use Rattle.thread_code.specs.Alone.{block_of, view_of, units_of}
-use Rattle.core_machine.specs.Frames.{Waiting, Frames, arguments, without}
+use Rattle.core_machine.specs.Frames.{arguments, without}
 use Rattle.core_machine.specs.Kept.{Kept, own_of}
-use Rattle.core_machine.specs.Stretch.{block_for, owner, scope_for, Comes, next, Work, work, point_of, machine_at, IsAt, Keeps, Stands_before, Forks, Traps, Shows, Runs}
+use Rattle.core_machine.specs.Stretch.{block_for, owner, Comes, next, Work, work, point_of, machine_at, IsAt, Stands_before, Forks, Shows, Runs}
 use Rattle.core_machine.specs.declared.stretch.Stop.{Stop}
 use Rattle.core_machine.specs.declared.stretch.Stop.TheVariants as stop
 use Rattle.core_machine.specs.declared.thread.Thread.{Thread}
 use Rattle.core_machine.specs.declared.thread.Phase.TheVariants as phase
 use Rattle.core_machine.specs.declared.thread.Event.TheVariants as event
-use Rattle.core_machine.specs.Held.{work_of, callers, callers_over, machine_in, machine_of, branch_of, Chained, Below, Works, Waits_at, Placed, Loaded, Has_machine, Moved, Stretches, event_of}
+use Rattle.core_machine.specs.Held.{work_of, callers, callers_over, machine_in, machine_of, branch_of, Chained, Below, Works, Placed, Loaded, Has_machine, Moved, Stretches, event_of}
 use Rattle.core_machine.specs.Room.{EnoughToCombine}
 use Rattle.core_machine.specs.Branches.{chosen, with_branches}
 use Rattle.core_machine.specs.declared.fork.ForkAt.{ForkAt}

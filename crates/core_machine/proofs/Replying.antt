@@ -1,14 +1,12 @@
 -- The replies of a fork's branches as they come in.
-use Rattle.std.proofs.Common.{◌≡◌, ◌≢◌, ℕ, zero, suc, ◌+◌, ◌<◌, ◌≤◌, List, [], ◌∷◌, ◌++◌, length, map, refl, sym, ap, ◌∙◌, subst, ⊎_elim, inl, inr, arith}
-use Rattle.std.specs.Prelude.{◌⊎◌}
+use Rattle.std.proofs.Common.{◌≡◌, ◌≢◌, ℕ, ◌<◌, List, [], ◌∷◌, ◌++◌, length, refl, sym, ap, ◌∙◌, subst, arith}
 use Rattle.std.proofs.lemmas.List.{length-map}
 use Rattle.forec_kernel.specs.Engine.{Job, allowance_of, Reply, Exchange}
 use Rattle.forec_kernel.specs.Reached.{Reached, Inside}
 use Rattle.thread_code.specs.Plain.{PlainCode}
-use Rattle.thread_code.specs.Machine.{Machine, is_ended}
+use Rattle.thread_code.specs.Machine.{is_ended}
 use Rattle.thread_code.specs.Alone.{code_engine}
 use Rattle.core_machine.specs.declared.thread.Thread.{Thread}
-use Rattle.core_machine.specs.declared.thread.Phase.TheVariants as phase
 use Rattle.core_machine.specs.Branches.{Gathered, Says}
 use Rattle.core_machine.specs.Held.{machine_in, machine_of, Stands_in, Waits_for, StandsFor, never, since, settling, joining, HasSettled}
 use Rattle.core_machine.specs.Forks.{next_replies, with_replies}
@@ -80,10 +78,12 @@ from_some xs ys job before rs rs' some e = by (snoc xs) e
         let k = same_front ys zs (record { job = job; replies = before ++ rs' ∷ [] }) (with_next x rs) (e ∙ at_last zs x rs) in
         let j : job ≡ x.job = ap (λ (x : Exchange). x.job) k.1 in
         let b : before ++ rs' ∷ [] ≡ x.replies ++ rs ∷ [] = ap (λ (x : Exchange). x.replies) k.1 ∙ next_some x.replies rs some in
-        let f = same_front before x.replies rs' rs b in
-        (f.1, λ qs more.
-        ap (λ y. at_fork y job (before ++ qs ∷ [])) k.0 ∙ ap (λ x. at_fork zs x (before ++ qs ∷ [])) j ∙ ap (λ r. at_fork zs x.job (r ++ qs ∷ [])) f.0
-        ∙ ap (λ r. at_fork zs x.job r) (sym (next_some x.replies qs more)) ∙ sym (at_last zs x qs))
+        let f = same_front before x.replies rs' rs b in (
+          f.1,
+          λ qs more.
+              ap (λ y. at_fork y job (before ++ qs ∷ [])) k.0 ∙ ap (λ x. at_fork zs x (before ++ qs ∷ [])) j ∙ ap (λ r. at_fork zs x.job (r ++ qs ∷ [])) f.0
+              ∙ ap (λ r. at_fork zs x.job r) (sym (next_some x.replies qs more)) ∙ sym (at_last zs x qs),
+        )
 
 some_of : (rs : List Reply) (r : Reply) → rs ++ r ∷ [] ≢ []
 some_of [] r e = cc

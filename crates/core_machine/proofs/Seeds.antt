@@ -1,5 +1,5 @@
 -- The jobs of a fork's branches.
-use Rattle.std.proofs.Common.{◌≡◌, ◌≢◌, ℕ, zero, suc, ◌+◌, ◌-◌, ◌<◌, ◌≤◌, List, [], ◌∷◌, ◌++◌, length, take, drop, map, get_or, Option, Some, None, Bool, true, false, cond, refl, sym, ap, ◌∙◌, subst, arith}
+use Rattle.std.proofs.Common.{◌≡◌, ◌≢◌, ℕ, zero, suc, ◌+◌, ◌-◌, ◌<◌, ◌≤◌, List, [], ◌∷◌, length, take, drop, map, get_or, Some, None, Bool, true, false, refl, sym, ap, ◌∙◌, subst, arith}
 use Rattle.std.specs.Prelude.{ℤ, slice_get, IsTrue, ◌&&◌}
 use Rattle.std.proofs.lemmas.Option.{slice_get_within}
 use Rattle.forec_kernel.specs.declared.shape.VarCopy.{VarCopy}
@@ -8,12 +8,11 @@ use Rattle.forec_kernel.specs.Texts.{params_in, handed_down}
 use Rattle.forec_kernel.specs.Values.{copy_of}
 use Rattle.forec_kernel.specs.Solo.{values_in, unmarked_copies}
 use Rattle.forec_kernel.specs.WellFormed.{all_in}
-use Rattle.forec_kernel.specs.Engine.{Job, Start, Wake, Seed, Starts, Wakes, Written, written, View, AtFork}
-use Rattle.thread_code.specs.declared.instruction.Instruction.{Instruction}
+use Rattle.forec_kernel.specs.Engine.{Start, Wake, Seed, Written, written, AtFork}
 use Rattle.thread_code.specs.declared.instruction.Instruction.TheVariants as instruction
 use Rattle.thread_code.specs.Plain.{PlainCode}
 use Rattle.thread_code.specs.Valid.{branches_in, arguments_of}
-use Rattle.thread_code.specs.Machine.{Machine, Waits, Awaited, awaited, with_arguments, waking, living, starts, wakes, handed, uses_of, act, step}
+use Rattle.thread_code.specs.Machine.{Machine, Waits, awaited, waking, living, starts, wakes, handed, uses_of, act, step}
 use Rattle.thread_code.specs.Alone.{block_of, view_of}
 use Rattle.core_machine.specs.Frames.{arguments, without}
 use Rattle.core_machine.specs.Kept.{Kept, own_of, place_in, place_of, no_copy, HavePlaces, handed_by, Serves}

@@ -1,11 +1,9 @@
 -- The branches of a thread's present fork, and what their replies say together.
-use Rattle.std.specs.Prelude.{ℕ, ◌≡◌, ◌<◌, ◌+◌, ◌-◌, ◌^◌, ◌⊎◌, ◌++◌, min, Bool, cond, List, [], ◌∷◌, length, map, take, get_or}
-use Rattle.forec_base.specs.declared.Place.{Place}
-use Rattle.forec_base.specs.declared.Trap.{Trap}
+use Rattle.std.specs.Prelude.{ℕ, ◌≡◌, ◌<◌, ◌+◌, ◌-◌, ◌^◌, ◌⊎◌, ◌++◌, min, Bool, cond, List, [], ◌∷◌, length, map, take}
 use Rattle.forec_kernel.specs.Packed.{IsReply}
 use Rattle.combine_tree.specs.declared.packet.Packet.{Packet}
 use Rattle.combine_tree.specs.Plain.{plain_packet}
-use Rattle.forec_kernel.specs.Engine.{Reply, WasPaused, WasEnded, WasTrapped, WasOver}
+use Rattle.forec_kernel.specs.Engine.{Reply, WasTrapped}
 use Rattle.forec_kernel.specs.Solo.{all_units, some_reply_over}
 use Rattle.thread_code.specs.Machine.{is_ended, living}
 use Rattle.core_machine.specs.declared.branches.Verdict.{Verdict}

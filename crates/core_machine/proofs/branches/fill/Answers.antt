@@ -1,4 +1,4 @@
-use Rattle.std.proofs.Common.{rules, ◌≡◌, ◌+◌, ◌<◌, ◌≤◌, ◌++◌, ◌∙◌, ap, sym, arith, length, take, length-set, map, true, false}
+use Rattle.std.proofs.Common.{◌+◌, ◌<◌, ◌++◌, ◌∙◌, ap, sym, arith, length, take, length-set, map, true, false}
 use Rattle.std.proofs.lemmas.List.{length-map}
 use Rattle.forec_kernel.specs.Shapes.{plain_thread}
 use Rattle.core_machine.proofs.Gathering.{chosen_from, chosen_next, one_chosen}

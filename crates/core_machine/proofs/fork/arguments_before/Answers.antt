@@ -1,8 +1,7 @@
-use Rattle.std.proofs.Common.{◌≡◌, ◌<◌, ◌+◌, ◌∙◌, sym, ap, arith, length, map, get_or, take}
+use Rattle.std.proofs.Common.{◌≡◌, ◌∙◌, ap, arith, get_or}
 use Rattle.std.proofs.lemmas.List.{length-map}
-use Rattle.forec_kernel.specs.Shapes.{PlainThread, plain_thread, plain_shape}
+use Rattle.forec_kernel.specs.Shapes.{plain_thread, plain_shape}
 use Rattle.forec_kernel.specs.Texts.{params_in}
-use Rattle.thread_code.specs.Valid.{arguments_of}
 use Rattle.core_machine.proofs.Args.{sum_next, thread_within, read_params}
 use Rattle.core_machine.proofs.fork.arguments_before.Goals as goal
 

@@ -1,4 +1,4 @@
-use Rattle.std.proofs.Common.{rules, ◌≡◌, ◌+◌, ◌-◌, ◌∙◌, sym, ap, arith, length, get_or, take, length-set, pos, w32, to_z, of_z}
+use Rattle.std.proofs.Common.{rules, ◌≡◌, ◌∙◌, sym, arith, length, length-set, pos, w32, to_z, of_z}
 use Rattle.core_machine.specs.Forks.{args_from}
 use Rattle.core_machine.proofs.Args.{args_read, length_args}
 use Rattle.core_machine.proofs.Lists.{front_next, all_front}

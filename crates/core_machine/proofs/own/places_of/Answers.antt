@@ -1,4 +1,4 @@
-use Rattle.std.proofs.Common.{rules, ◌≡◌, ◌+◌, ◌-◌, ◌<◌, ◌≤◌, ◌∙◌, ℕ, length, get_or, drop, Some, sym, ap, subst, arith, length-set}
+use Rattle.std.proofs.Common.{rules, ◌≡◌, ◌+◌, ◌-◌, ◌<◌, ◌∙◌, ℕ, length, get_or, drop, Some, subst, arith, length-set}
 use Rattle.std.specs.Prelude.{slice_get, IsTrue}
 use Rattle.forec_kernel.specs.Combining.{contains}
 use Rattle.core_machine.specs.Kept.{place_of}

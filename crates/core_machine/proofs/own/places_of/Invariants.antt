@@ -1,4 +1,4 @@
-use Rattle.std.proofs.Common.{◌≡◌, ◌+◌, ◌<◌, ◌≤◌, ℕ, length, get_or, drop, Some}
+use Rattle.std.proofs.Common.{◌≡◌, ◌+◌, ◌≤◌, ℕ, length, drop, Some}
 use Rattle.std.specs.Prelude.{slice_get, IsTrue}
 use Rattle.forec_kernel.specs.Combining.{contains}
 use Rattle.core_machine.specs.Kept.{place_of}

@@ -1,4 +1,4 @@
-use Rattle.std.proofs.Common.{◌≡◌, ◌<◌, ◌≤◌, ℕ, sym, ap, subst, ⊎_elim, length, map, get_or, arith}
+use Rattle.std.proofs.Common.{◌≡◌, ◌<◌, ap, ⊎_elim, length, map, get_or, arith}
 use Rattle.std.proofs.lemmas.Bool.{cases_lt}
 use Rattle.thread_code.specs.Plain.{PlainBlock, plain_block}
 use Rattle.core_machine.specs.Stretch.{no_block}

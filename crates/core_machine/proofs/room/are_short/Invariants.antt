@@ -1,4 +1,4 @@
-use Rattle.std.proofs.Common.{◌≡◌, ◌<◌, ◌^◌, ℕ, length, get_or}
+use Rattle.std.proofs.Common.{◌<◌, ◌^◌, ℕ, length, get_or}
 use Rattle.thread_code.specs.Plain.{plain_code}
 use Rattle.core_machine.specs.Stretch.{no_block}
 use Rattle.core_machine.proofs.room.are_short.Given as goal

@@ -1,4 +1,4 @@
-use Rattle.std.proofs.Common.{sym, ap, length, arith}
+use Rattle.std.proofs.Common.{ap, length, arith}
 use Rattle.thread_code.specs.Plain.{PlainBlock, plain_code}
 use Rattle.core_machine.proofs.Deep.{deep_in}
 use Rattle.core_machine.proofs.room.deepest.Goals as goal

@@ -1,4 +1,4 @@
-use Rattle.std.proofs.Common.{◌≡◌, ◌<◌, ◌∙◌, sym, ap, arith, length}
+use Rattle.std.proofs.Common.{◌∙◌, ap, arith}
 use Rattle.forec_kernel.specs.Combining.{variable_of}
 use Rattle.forec_kernel.specs.Shapes.{plain_shape}
 use Rattle.thread_code.specs.Valid.{of_shape}

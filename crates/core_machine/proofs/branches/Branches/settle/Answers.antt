@@ -1,6 +1,6 @@
-use Rattle.std.proofs.Common.{◌≡◌, ◌∙◌, sym, ap, subst, true, false}
+use Rattle.std.proofs.Common.{◌∙◌, sym, ap, subst}
 use Rattle.core_machine.specs.declared.branches.Verdict.TheVariants as verdict
-use Rattle.core_machine.specs.Branches.{Gathered, with_verdict, first_trap, noted, counted, Settles}
+use Rattle.core_machine.specs.Branches.{Gathered, with_verdict, first_trap, counted, Settles}
 use Rattle.core_machine.proofs.Gathering.{settles_over, settles_trap, settles_ended, settles_else}
 use Rattle.core_machine.proofs.branches.Branches.settle.Goals as goal
 

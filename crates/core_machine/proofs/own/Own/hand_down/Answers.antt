@@ -1,4 +1,4 @@
-use Rattle.std.proofs.Common.{rules, ◌≡◌, ◌∙◌, sym, ap, arith, length, get_or, length-set, map, pos, false, ℕ, w32, to_z, of_z}
+use Rattle.std.proofs.Common.{rules, ◌≡◌, ◌∙◌, sym, ap, arith, get_or, length-set, false, ℕ, w32, to_z, of_z}
 use Rattle.std.proofs.lemmas.List.{length-map}
 use Rattle.forec_kernel.specs.declared.shape.VarCopy.{VarCopy}
 use Rattle.core_machine.specs.Kept.{place_in, no_copy, handed_by}

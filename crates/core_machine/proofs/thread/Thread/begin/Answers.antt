@@ -1,8 +1,6 @@
-use Rattle.std.proofs.Common.{refl, sym, ap, subst}
-use Rattle.forec_kernel.specs.Engine.{Exchange, Job}
+use Rattle.std.proofs.Common.{refl, sym, subst}
 use Rattle.thread_code.specs.Plain.{plain_code}
-use Rattle.thread_code.specs.Valid.{IsValidCode}
-use Rattle.core_machine.specs.Held.{Begun, Loaded, Runs_in, started_anew, woken_up}
+use Rattle.core_machine.specs.Held.{Begun, Runs_in, started_anew, woken_up}
 use Rattle.core_machine.proofs.Jobs.{start_stands, wake_stands, can_wake, is_wake}
 use Rattle.core_machine.proofs.thread.Thread.begin.Goals as goal
 

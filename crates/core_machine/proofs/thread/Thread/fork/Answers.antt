@@ -3,7 +3,7 @@ use Rattle.thread_code.specs.Plain.{plain_code}
 use Rattle.core_machine.specs.declared.thread.Thread.{Thread}
 use Rattle.core_machine.specs.declared.thread.Phase.TheVariants as phase
 use Rattle.core_machine.specs.declared.thread.Event.TheVariants as event
-use Rattle.core_machine.specs.Branches.{Gathered, chosen, with_branches}
+use Rattle.core_machine.specs.Branches.{Gathered}
 use Rattle.core_machine.specs.Held.{over, comes, Comes_to}
 use Rattle.core_machine.proofs.Outer.{fork_here, fork_moved, fork_view}
 use Rattle.core_machine.proofs.thread.Thread.fork.Goals as goal

@@ -1,14 +1,12 @@
-use Rattle.std.proofs.Common.{◌≡◌, ◌<◌, ◌-◌, ◌∙◌, refl, sym, ap, subst, arith, length, map, get_or, ℕ, List, false}
+use Rattle.std.proofs.Common.{◌≡◌, ◌<◌, ◌-◌, ◌∙◌, refl, sym, ap, subst, arith, length, get_or, false}
 use Rattle.std.proofs.lemmas.List.{length-map}
-use Rattle.forec_kernel.specs.declared.shape.VarCopy.{VarCopy}
 use Rattle.forec_kernel.specs.Shapes.{plain_thread}
 use Rattle.std.specs.Vec.{with_items}
 use Rattle.std.proofs.lemmas.List.{with_items_is}
 use Rattle.combine_tree.specs.Plain.{plain_packet}
-use Rattle.thread_code.specs.Plain.{PlainCode, plain_code}
+use Rattle.thread_code.specs.Plain.{plain_code}
 use Rattle.thread_code.specs.Machine.{uses_of}
 use Rattle.core_machine.specs.Kept.{HavePlaces, handed_by, place_in, no_copy}
-use Rattle.core_machine.specs.Held.{Loaded, IsBranch}
 use Rattle.core_machine.specs.Forks.{branch_at, HasKind}
 use Rattle.core_machine.proofs.Jobs.{read_uses}
 use Rattle.core_machine.proofs.Seeds.{is_branch, have_places, job_by}

@@ -1,4 +1,4 @@
-use Rattle.std.proofs.Common.{◌≡◌, ◌≢◌, ◌∙◌, sym, ap, subst}
+use Rattle.std.proofs.Common.{◌≡◌, subst}
 use Rattle.thread_code.specs.Plain.{plain_code}
 use Rattle.thread_code.specs.Machine.{shares_of, uses_of}
 use Rattle.combine_tree.specs.Plain.{plain_packet}

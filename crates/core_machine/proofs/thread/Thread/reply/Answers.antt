@@ -1,8 +1,6 @@
-use Rattle.std.proofs.Common.{◌≡◌, ◌∙◌, refl, sym, ap, subst, List}
-use Rattle.forec_kernel.specs.declared.shape.VarCopy.{VarCopy}
+use Rattle.std.proofs.Common.{◌∙◌, refl, sym, subst}
 use Rattle.forec_kernel.specs.Packed.{IsReply}
 use Rattle.thread_code.specs.Plain.{plain_code}
-use Rattle.combine_tree.specs.declared.packet.Packet.{Packet}
 use Rattle.combine_tree.specs.declared.packet.PacketKind.TheVariants as kind
 use Rattle.combine_tree.specs.Plain.{plain_packet}
 use Rattle.core_machine.proofs.Jobs.{reply_in, gives_reply, gives_over}

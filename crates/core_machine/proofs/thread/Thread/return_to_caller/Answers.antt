@@ -1,4 +1,4 @@
-use Rattle.std.proofs.Common.{rules, ◌≡◌, ◌<◌, ◌∙◌, sym, ap, subst, arith, length, w32, to_z, of_z}
+use Rattle.std.proofs.Common.{rules, ◌≡◌, ◌∙◌, sym, ap, subst, arith, length, w32, to_z, of_z}
 use Rattle.thread_code.specs.Plain.{plain_code}
 use Rattle.core_machine.specs.Frames.{Frames, top_of, pushed, popped, left, resume_in}
 use Rattle.core_machine.specs.declared.stack.Resume.{Resume}

@@ -1,6 +1,5 @@
 use Rattle.std.proofs.Common.{◌∙◌, refl, sym, subst}
 use Rattle.thread_code.specs.Plain.{plain_code}
-use Rattle.core_machine.specs.declared.thread.Event.TheVariants as event
 use Rattle.core_machine.specs.Held.{over, Stops_in}
 use Rattle.core_machine.proofs.Moving.{moved_then, comes_then}
 use Rattle.core_machine.proofs.thread.Thread.run_on.Goals as goal

@@ -1,8 +1,6 @@
-use Rattle.std.proofs.Common.{◌≡◌, refl, sym, ap, subst}
+use Rattle.std.proofs.Common.{refl}
 use Rattle.thread_code.specs.Plain.{plain_code}
 use Rattle.core_machine.specs.declared.thread.Thread.{Thread}
-use Rattle.core_machine.specs.declared.thread.Phase.TheVariants as phase
-use Rattle.core_machine.specs.Held.{machine_in}
 use Rattle.core_machine.proofs.Replying.{settle_stands}
 use Rattle.core_machine.proofs.thread.Thread.settle.Goals as goal
 

@@ -1,4 +1,4 @@
-use Rattle.std.proofs.Common.{false, ◌≡◌, ◌≤◌, ◌∙◌, sym, ap, subst, arith, length, None, List, ℤ, ℕ}
+use Rattle.std.proofs.Common.{false, ◌≡◌, ◌∙◌, sym, ap, subst, arith, length, None, List, ℤ}
 use Rattle.forec_kernel.specs.declared.shape.VarCopy.{VarCopy}
 use Rattle.thread_code.specs.Plain.{PlainBlock, plain_code}
 use Rattle.thread_code.specs.Alone.{block_of}
@@ -7,7 +7,7 @@ use Rattle.core_machine.specs.Kept.{Kept, begun}
 use Rattle.core_machine.specs.declared.thread.Thread.{Thread}
 use Rattle.core_machine.specs.declared.thread.Phase.TheVariants as phase
 use Rattle.core_machine.specs.Held.{Begun, started_anew}
-use Rattle.core_machine.proofs.Jobs.{start_args, start_room, start_copies, start_begun}
+use Rattle.core_machine.proofs.Jobs.{start_args, start_begun}
 use Rattle.core_machine.proofs.thread.Thread.start.Goals as goal
 
 pub restart-requires-clause-args : goal.restart-requires-clause-args

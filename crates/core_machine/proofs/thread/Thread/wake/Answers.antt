@@ -1,4 +1,4 @@
-use Rattle.std.proofs.Common.{false, ◌≡◌, ◌∙◌, sym, ap, subst, arith, length, List}
+use Rattle.std.proofs.Common.{false, ◌≡◌, ◌∙◌, sym, ap, subst, List}
 use Rattle.forec_kernel.specs.declared.shape.VarCopy.{VarCopy}
 use Rattle.thread_code.specs.Plain.{plain_code}
 use Rattle.core_machine.specs.Kept.{Kept, with_copies}
