@@ -24,3 +24,4 @@ pub mod Back
 pub mod Starting
 pub mod Finishing
 pub mod Joined
+pub mod ForkCode

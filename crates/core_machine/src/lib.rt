@@ -4,6 +4,8 @@
 mod acts;
 mod branches;
 mod fork;
+#[cfg(test)]
+mod fork_tests;
 mod merging;
 mod own;
 mod room;
