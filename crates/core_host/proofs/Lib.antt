@@ -21,3 +21,5 @@ pub mod Desks
 pub mod Rooted
 pub mod Ticked
 pub mod Ticking
+pub mod Loading
+pub mod Newly

@@ -153,3 +153,9 @@ module _ (c : PlainCode) (valid : IsValidCode c) (k : PlainKernel) (turns : List
 
   pub keeps_now : p'.kind ≡ kind.Paused → Keeps (state_after k Fresh (turns ++ turn ∷ [])) p'
   keeps_now e = subst (λ s. Keeps s p') (sym (state_then k turns turn Fresh)) (told.keeps e)
+
+-- ---- before the first tick
+
+pub blank_of : (q : PacketKind) → plain_kind q ≡ Blank → q ≡ kind.Blank
+blank_of kind.Blank e = refl
+blank_of _ e = cc

@@ -5,7 +5,10 @@ use Rattle.forec_kernel.specs.Packed.{HasRoom}
 use Rattle.forec_kernel.specs.Combining.{contains}
 use Rattle.forec_kernel.specs.WellFormed.{distinct}
 use Rattle.thread_code.specs.declared.instruction.CodeParts.{CodeParts}
-use Rattle.thread_code.specs.Plain.{plain_code}
+use Rattle.thread_code.specs.Plain.{PlainCode, plain_code}
+use Rattle.core_machine.specs.declared.thread.Thread.{Thread}
+use Rattle.core_machine.specs.Held.{Loaded, IsResting, StandsFor}
+use Rattle.core_host.specs.declared.seat.Seat.{Seat}
 use Rattle.thread_code.specs.Valid.{of_shape}
 use Rattle.copy_slots.specs.declared.view.Place.TheVariants.{Fresh}
 use Rattle.copy_slots.specs.declared.view.Sender.{Sender}
@@ -56,3 +59,21 @@ pub record CanLoad (code : CodeParts) (placement : Places) (cores : List ℕ) (m
 -- these are all cores of a placement
 abbrev pub AreAll : ℕ → List ℕ → Type 0
 AreAll count cores = (core : ℕ) → core < count → contains core cores ≡ true
+
+-- (as it is tested, core by core)
+abbrev pub contains_core : ℕ → List ℕ → Bool
+contains_core core cores = contains core cores
+
+-- a thread that was never started is in the seat, where it is to be
+pub record IsLoaded (c : PlainCode) (t : ℕ) (s : Seat) : Type 0 where
+  pub thread : Thread
+  pub is : s.thread ≡ Some thread
+  pub loaded : Loaded c thread
+  pub number : thread.number ≡ t
+  pub resting : IsResting thread
+  pub stands : StandsFor c thread []
+
+pub record IsNewSeat (c : PlainCode) (t : ℕ) (is_here : Bool) (s : Seat) : Type 0 where
+  pub job : s.job ≡ None
+  pub here : is_here ≡ true → IsLoaded c t s
+  pub else : is_here ≡ false → s.thread ≡ None

@@ -8,11 +8,12 @@ ghost use Rattle.forec_kernel.specs.WellFormed.{WellFormed};
 ghost use Rattle.thread_code.specs.Alone.{Stands};
 ghost use Rattle.copy_slots.specs.Ports.{sent, taken, ChildIs};
 ghost use Rattle.core_host.specs.Jobs.{job_of};
-ghost use Rattle.core_host.specs.Loads.{CanLoad, AreAll, is_on};
+ghost use Rattle.core_host.specs.Loads.{CanLoad, AreAll};
 ghost use Rattle.core_host.specs.Outcomes.{HasOutputs, LacksOutputs};
 
 use crate::desk::Desk;
 use crate::job::write_job;
+use crate::load::{empty_hands, places_of, seats_of};
 use crate::outcome::write_outcome;
 use crate::work::ForecWork;
 use combine_tree::Packet;
@@ -23,15 +24,6 @@ use forec_kernel::Outcome;
 use std::alloc::Global;
 use std::marker::Model;
 use thread_code::Code;
-
-/// What a host has done in one call.
-#[derive(Clone, Copy, Debug, PartialEq, Eq)]
-pub enum Served {
-    /// The thread of mailbox k has run: it has answered its job, or sent jobs to its branches.
-    Worked { k: u32 },
-    /// No job has come, and no branch has answered.
-    Nothing,
-}
 
 /// The threads of a code that run on some cores, with the ends of the mailboxes there, in memory that is
 /// made once.
@@ -59,7 +51,7 @@ impl<'c, P: Port<ForecWork> + Drop> Model for Host<'c, P> {
 }
 
 impl<'c, P: Port<ForecWork> + Drop> Host<'c, P> {
-    ghost use Rattle.core_host.specs.Changes.{Grown, HasWorked, IsIdle};
+    ghost use Rattle.core_host.specs.Changes.{Grown};
     ghost use Rattle.core_host.specs.Hosted.{code_of, is_live, is_here, IsWhole};
     ghost use Rattle.core_host.specs.Posts.{HasPosted, HasPostedTaken};
     ghost use Rattle.core_host.specs.Runs.{HasJobs, HasRun};
@@ -76,11 +68,30 @@ impl<'c, P: Port<ForecWork> + Drop> Host<'c, P> {
         ensures cores { IfOk result (λ h. h.cores ≡ cores.now) }
         ensures mail { IfOk result (λ h. h.mail ≡ P.state port) }
         ensures live { IfOk result (λ h. is_live h ≡ true) }
-        ensures none { IfOk result (λ h. HasRun h []) }
-        ensures jobs { IfOk result (λ h. is_on placement.now.places cores.now 0 ≡ true → HasJobs h []) }
+        ensures none { IfOk result (λ h. is_here h 0 ≡ true → HasRun h []) }
+        ensures jobs { IfOk result (λ h. is_here h 0 ≡ true → HasJobs h []) }
+        ensures fresh { IfOk result (λ h. IsWhole h → HasRun h []) }
         ensures whole { IfOk result (λ h. (P.state port).tells ≡ true → AreAll placement.now.cores cores.now → IsWhole h) }
     {
-        unreachable!()
+        let threads = code.parts().threads.len();
+        let places = places_of(alloc, placement)?;
+        let seats = seats_of(alloc, code, &places, cores)?;
+        let hands = empty_hands(alloc, threads - 1)?;
+        let root = Packet::new(alloc, 0, code.shape().variables.len())?;
+        let cores = cores.to_vec(alloc)?;
+        let desk = Desk {
+            code,
+            places,
+            port,
+            seats,
+            hands,
+        };
+        Ok(Host {
+            desk,
+            cores,
+            root,
+            live: true,
+        })
     }
 
     /// Whether no tick has ended, trapped or gone over its budget.
@@ -126,27 +137,12 @@ impl<'c, P: Port<ForecWork> + Drop> Host<'c, P> {
         outcome
     }
 
-    /// Takes one job, or goes on with one thread whose branches have all answered, and runs that thread until it
-    /// has answered or has sent jobs to its branches. Thread 0 gets its jobs by ticks alone. It takes no memory.
-    pub fn serve<G: Gate>(&mut self, gate: &G) -> Served
-        ensures code { self.new.code ≡ self.old.code }
-        ensures places { self.new.places ≡ self.old.places }
-        ensures cores { self.new.cores ≡ self.old.cores }
-        ensures worked { (k : ℕ) → result ≡ Served.Worked k → HasWorked (code_of self.old).shape self.old.mail self.new.mail k }
-        ensures nothing { result ≡ Served.Nothing → (k : ℕ) → suc k < length (code_of self.old).threads → is_here self.old (suc k) ≡ true → IsIdle (code_of self.old).shape self.old.mail self.new.mail k }
-        ensures grown { Grown self.old.mail self.new.mail }
-        ensures live { is_live self.new ≡ is_live self.old }
-        ensures turns { (turns : List Turn) → HasRun self.old turns → HasRun self.new turns }
-        ensures jobs { (jobs : List Job) → HasJobs self.old jobs → HasJobs self.new jobs }
-        ensures whole { IsWhole self.old → IsWhole self.new }
-    {
-        unreachable!()
-    }
-
     /// What a host keeps: the branches of a thread were told and have told exactly what the thread writes by
     /// itself, for thread 0 in the ticks so far, for each other thread that rests in the jobs that were taken.
     pub fn posts(&self)
         ensures root { (jobs : List Job) → HasJobs self.now jobs → HasPosted (code_of self.now) 0 self.now.mail jobs }
-        ensures taken { (k : ℕ) → ChildIs self.now.mail k false → HasPostedTaken (code_of self.now) self.now.mail k }
-    {}
+        ensures taken { (k : ℕ) → k < length self.now.mail.ends → ChildIs self.now.mail k false → HasPostedTaken (code_of self.now) self.now.mail k }
+    {
+        let _ = &self.desk;
+    }
 }

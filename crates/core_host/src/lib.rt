@@ -4,11 +4,12 @@
 mod desk;
 mod host;
 mod job;
+mod load;
 mod local;
 mod outcome;
 mod seat;
 mod work;
 
-pub use host::{Host, Served};
-pub use local::local_port;
+pub use host::Host;
+pub use local::{blanks, local_port};
 pub use work::{ForecWork, Told};

@@ -1,15 +1,39 @@
 //! The mailboxes of a whole code in one port.
-ghost use Rattle.std.specs.Prelude.{◌≡◌, ◌<◌, ℕ, List, All, IsTrue, IfOk, length, true};
+ghost use Rattle.std.specs.Prelude.{◌≡◌, ◌<◌, ℕ, suc, List, All, IsTrue, IfOk, Some, length, slice_get, true};
+ghost use Rattle.forec_kernel.specs.Packed.{HasRoom};
 ghost use Rattle.forec_kernel.specs.WellFormed.{distinct};
 ghost use Rattle.thread_code.specs.Plain.{plain_code};
+ghost use Rattle.thread_code.specs.Valid.{of_shape};
+ghost use Rattle.combine_tree.specs.declared.packet.Packet.{Packet as PacketState};
+ghost use Rattle.combine_tree.specs.Plain.{plain_packet};
 ghost use Rattle.core_alloc.specs.Places.{Places};
 ghost use Rattle.core_host.specs.Loads.{CanLoad, AreAll};
 
 use crate::work::ForecWork;
+use combine_tree::Packet;
 use copy_slots::{LocalPort, Port};
 use forec_base::OutOfMemory;
 use std::alloc::Global;
 use thread_code::Code;
+
+/// The blank packet of each mailbox of the code, with the lengths of its thread.
+///
+/// # Errors
+///
+/// Want of memory.
+pub fn blanks(alloc: Global, code: &Code) -> Result<Vec<Packet>, OutOfMemory>
+    ensures count { IfOk result (λ packets. suc (length packets.items) ≡ length (plain_code code.now).threads) }
+    ensures each { IfOk result (λ packets. (k : ℕ) (p : PacketState) → slice_get packets.items k ≡ Some p → HasRoom (of_shape (plain_code code.now).shape) (suc k) (plain_packet p)) }
+{
+    let threads = &code.shape().threads;
+    let mut packets = Vec::new(alloc);
+    for mailbox in 0..threads.len() - 1 {
+        let own = &threads[mailbox + 1];
+        let packet = Packet::new(alloc, own.params as usize, own.uses.len())?;
+        packets.push(packet)?;
+    }
+    Ok(packets)
+}
 
 /// A port with all mailboxes of the code, for one host of all its threads, whatever their placement. It tells
 /// whose turn it is.
@@ -23,5 +47,6 @@ pub fn local_port(alloc: Global, code: &Code) -> Result<LocalPort<ForecWork>, Ou
         → IsTrue (distinct cores) → All (λ core. core < placement.cores) cores → AreAll placement.cores cores
         → CanLoad code.now placement cores (⟦<LocalPort<ForecWork> as Port<ForecWork>>⟧.state p)) }
 {
-    unreachable!()
+    let packets = blanks(alloc, code)?;
+    LocalPort::new(alloc, ForecWork::of(code), packets)
 }

@@ -1,0 +1,182 @@
+-- A host that was just made.
+use Rattle.std.proofs.Common.{◌≡◌, ◌≢◌, ℕ, zero, suc, ◌+◌, ◌-◌, ◌<◌, ◌≤◌, Bool, true, false, Option, Some, None, List, [], ◌∷◌, length, get_or, refl, sym, ap, ◌∙◌, subst, ⊎_elim, arith}
+use Rattle.std.specs.Prelude.{slice_get, All, ◌⊎◌}
+use Rattle.std.proofs.lemmas.Bool.{cases_lt}
+use Rattle.std.proofs.lemmas.Option.{slice_get_within, slice_get-get_or}
+use Rattle.forec_kernel.specs.Packets.{PlainPacket}
+use Rattle.forec_kernel.specs.Packed.{HasRoom, AreJobs}
+use Rattle.forec_kernel.specs.Engine.{Job}
+use Rattle.forec_kernel.specs.Combining.{contains}
+use Rattle.thread_code.specs.declared.instruction.CodeParts.{CodeParts}
+use Rattle.thread_code.specs.Plain.{PlainCode, plain_code}
+use Rattle.thread_code.specs.Valid.{of_shape, IsValidCode}
+use Rattle.combine_tree.specs.declared.packet.Packet.{Packet}
+use Rattle.combine_tree.specs.declared.packet.PacketKind.TheVariants as kind
+use Rattle.combine_tree.specs.Plain.{plain_packet}
+use Rattle.core_machine.specs.declared.thread.Thread.{Thread}
+use Rattle.core_machine.specs.Held.{IsResting, StandsFor}
+use Rattle.copy_slots.specs.declared.view.Place.TheVariants.{Fresh}
+use Rattle.copy_slots.specs.declared.view.Sender.{Sender}
+use Rattle.copy_slots.specs.declared.view.Taker.{Taker}
+use Rattle.copy_slots.specs.Ports.{Ends, parent_at, child_at, sent_by, got_by, taken_by, answered_by, IsParent, IsChild, ParentIs, ChildIs, sent, got, taken, answered}
+use Rattle.core_alloc.specs.Places.{Places}
+use Rattle.core_host.specs.declared.seat.Seat.{Seat}
+use Rattle.core_host.specs.Posts.{Mail, IsBranchOf, AreReplies}
+use Rattle.core_host.specs.Loads.{is_on, IsNewParent, IsNewChild, FitsBlank, ArePlaced, CanLoad, AreAll, IsLoaded, IsNewSeat, contains_core}
+use Rattle.core_host.specs.Done.{HasDone}
+use Rattle.core_host.specs.Keeping.{State, code_in, Sits, Idle, none, Ready, blank, Quiet}
+use Rattle.core_host.specs.Hosted.{Hosted, hosted, state_in, code_of, is_here, IsWhole}
+use Rattle.core_host.specs.Rests.{IsReady, RootRests, IsHosted}
+use Rattle.core_host.specs.Runs.{HasJobs}
+use Rattle.core_host.proofs.Keep.{branch_above, has_parent}
+
+parent_past : {Q : Type 0} (es : List (Ends Q)) (k : ℕ) → length es ≤ k → parent_at es k ≡ None
+parent_past [] k le = refl
+parent_past (e ∷ es) zero le = absurd (omega arith)
+parent_past (e ∷ es) (suc k) le = parent_past es k (omega (arith, le))
+
+-- an end at which nothing was done
+parent_new : (b : Bool) (o : Option (Sender PlainPacket)) → IsNewParent b o → b ≡ true → IsParent o Fresh × (sent_by o ≡ []) × (got_by o ≡ [])
+parent_new true (Some x) h e = h
+parent_new true None h e = absurd h
+parent_new false o h e = cc
+
+child_new : (b : Bool) (o : Option (Taker PlainPacket)) → IsNewChild b o → b ≡ true → IsChild o false × (taken_by o ≡ []) × (answered_by o ≡ [])
+child_new true (Some y) h e = h
+child_new true None h e = absurd h
+child_new false o h e = cc
+
+child_there : (b : Bool) (o : Option (Taker PlainPacket)) → IsNewChild b o → IsChild o false → b ≡ true
+child_there true o h c = refl
+child_there false None h c = absurd c
+child_there false (Some y) h c = absurd h
+
+-- nothing was sent or got at the ends of a thread's branches
+no_sent : (b : Bool) (o : Option (Sender PlainPacket)) → IsNewParent b o → (sent_by o ≡ []) × (got_by o ≡ [])
+no_sent true (Some x) h = (h.1, h.2)
+no_sent true None h = absurd h
+no_sent false None h = (refl, refl)
+no_sent false (Some x) h = absurd h
+
+module _ (code : CodeParts) (valid : IsValidCode (plain_code code)) (placement : Places) (cores : List ℕ) (mail : Mail) (can : CanLoad code placement cores mail) (placed : ArePlaced placement) (seats : List Seat)
+    (count : length seats ≡ length placement.places)
+    (each : (t core : ℕ) (s : Seat) → slice_get placement.places t ≡ Some core → slice_get seats t ≡ Some s → IsNewSeat (plain_code code) t (contains_core core cores) s)
+    (hands : List (Option Packet)) (hand_count : length hands ≡ length (plain_code code).threads - 1) (empty : (k : ℕ) (h : Option Packet) → slice_get hands k ≡ Some h → h ≡ None)
+    (root : Packet) (room : HasRoom (of_shape (plain_code code).shape) 0 (plain_packet root)) (is_blank : root.kind ≡ kind.Blank) where
+  abbrev st : State
+  st = record { code = code; places = placement.places; mail = mail; seats = seats; hands = hands }
+
+  abbrev pub new_host : Hosted
+  new_host = hosted st cores root true
+
+  abbrev on : ℕ → Bool
+  on t = is_on placement.places cores t
+
+  some_threads : 0 < length (plain_code code).threads
+  some_threads = omega (arith, valid.shape.some, valid.threads)
+
+  seat_at : (t : ℕ) → t < length (plain_code code).threads → (s : Seat) × (slice_get seats t ≡ Some s) × IsNewSeat (plain_code code) t (on t) s
+  seat_at t lt =
+      let s = get_or seats t (record { thread = None; job = None }) in
+      let at : slice_get seats t ≡ Some s = slice_get-get_or seats t (record { thread = None; job = None }) (omega (arith, lt, count, can.placed)) in
+      (s, at, each t (get_or placement.places t 0) s (slice_get-get_or placement.places t 0 (omega (arith, lt, can.placed))) at)
+
+  pub record NewThread (t : ℕ) : Type 0 where
+    pub thread : Thread
+    pub sits : Sits st t thread
+    pub resting : IsResting thread
+    pub stands : StandsFor (plain_code code) thread []
+
+  thread_at : (t : ℕ) → t < length (plain_code code).threads → on t ≡ true → NewThread t
+  thread_at t lt here =
+      let s = seat_at t lt in
+      let l = s.2.here here in
+      record {
+        thread = l.thread;
+        sits = record { seat = s.0; at = s.1; is = l.is; loaded = l.loaded; number = l.number };
+        resting = l.resting;
+        stands = l.stands;
+      }
+
+  no_posts : (t k : ℕ) → IsBranchOf (plain_code code).shape t k → (sent mail k ≡ []) × (got mail k ≡ [])
+  no_posts t k mine =
+      ⊎_elim (λ lt. no_sent (on t) (parent_at mail.ends k) (can.parents placed k t lt mine))
+      (λ ge. let e = parent_past mail.ends k (omega (arith, ge)) in (ap sent_by e, ap got_by e)) (cases_lt k (length mail.ends))
+
+  new_done : (t : ℕ) (n : NewThread t) → HasDone (plain_code code) n.thread mail []
+  new_done t n = record {
+    exchanges = [];
+    outputs = [];
+    stands = n.stands;
+    jobs_are = refl;
+    runs = tt;
+    complete = tt;
+    posts = record {
+      above = tt;
+      allowed = tt;
+      sent = λ k mine. subst (λ l. AreJobs l []) (sym (no_posts n.thread.number k mine).0) tt;
+      got = λ k mine. subst (λ l. AreReplies l []) (sym (no_posts n.thread.number k mine).1) tt;
+    };
+  }
+
+  in_threads : (k : ℕ) → k < length mail.ends → suc k < length (plain_code code).threads
+  in_threads k lt = omega (arith, lt, can.mailboxes)
+
+  new_idle : (k : ℕ) → k < length mail.ends → on (suc k) ≡ true → Idle st k
+  new_idle k lt here =
+      let n = thread_at (suc k) (in_threads k lt) here in
+      let c = child_new (on (suc k)) (child_at mail.ends k) (can.children placed k lt) here in
+      record {
+        thread = n.thread;
+        sits = n.sits;
+        resting = n.resting;
+        child = c.0;
+        jobs = [];
+        are = subst (λ l. AreJobs l []) (sym c.1) tt;
+        done = new_done (suc k) n;
+        last = none c.1;
+        even = ap length c.2 ∙ ap length (sym c.1);
+      }
+
+  new_quiet : IsWhole new_host → (k : ℕ) → k < length mail.ends → Quiet st k
+  new_quiet whole k lt =
+      let here = whole.all (suc k) (in_threads k lt) in
+      let up = has_parent (plain_code code) valid k (in_threads k lt) in
+      let c = child_new (on (suc k)) (child_at mail.ends k) (can.children placed k lt) here in
+      let up_lt : up.0 < length (plain_code code).threads = let less = branch_above (plain_code code) valid up.0 k (in_threads k lt) up.1 in let n = in_threads k lt in omega (arith, less, n) in
+      let p = parent_new (on up.0) (parent_at mail.ends k) (can.parents placed k up.0 lt up.1) (whole.all up.0 up_lt) in
+      let b = can.blanks k lt in
+      let h = get_or hands k None in
+      let at : slice_get hands k ≡ Some h = slice_get-get_or hands k None (omega (arith, lt, can.mailboxes, hand_count)) in
+      let nothing : h ≡ None = empty k h at in
+      record {
+        idle = new_idle k lt here;
+        all = c.1 ∙ sym p.1;
+        hand = None;
+        at = at ∙ ap Some nothing;
+        ready = blank p.0 b.blank b.is b.room;
+      }
+
+  pub new_hosted : IsHosted new_host
+  new_hosted = record {
+    valid = valid;
+    work = can.work;
+    mailboxes = can.mailboxes;
+    seats = count ∙ can.placed;
+    hands = omega (arith, hand_count, some_threads);
+    places = can.placed;
+    room = room;
+    root = λ here. let n = thread_at 0 some_threads here in record { thread = n.thread; sits = n.sits; resting = n.resting; jobs = []; done = new_done 0 n };
+    ready = λ e t sits. subst (IsReady t) (sym is_blank) tt;
+    idle = λ k lt rests. new_idle k lt (child_there (on (suc k)) (child_at mail.ends k) (can.children placed k lt) rests);
+    whole = new_quiet;
+  }
+
+  pub new_jobs : is_here new_host 0 ≡ true → HasJobs new_host []
+  new_jobs here = let n = thread_at 0 some_threads here in record { thread = n.thread; sits = n.sits; fit = tt; done = new_done 0 n }
+
+  pub new_whole : mail.tells ≡ true → AreAll placement.cores cores → IsWhole new_host
+  new_whole tells all = record { tells = tells; all = λ t lt. all (get_or placement.places t 0) (placed t 0 (omega (arith, lt, can.placed))) }
+
+  pub whole_here : IsWhole new_host → is_here new_host 0 ≡ true
+  whole_here whole = whole.all 0 some_threads

@@ -1,0 +1,15 @@
+use Rattle.std.proofs.Common.{◌<◌, length, false, sym, subst}
+use Rattle.copy_slots.specs.Ports.{ChildIs}
+use Rattle.core_host.specs.Hosted.{Hosted, code_of}
+use Rattle.core_host.specs.Posts.{HasPostedTaken}
+use Rattle.core_host.proofs.Ticking.{root_posted, idle_posted}
+use Rattle.core_host.proofs.host.Host.posts.Goals as goal
+
+pub returns-clause-root : goal.returns-clause-root
+returns-clause-root g c jobs j = root_posted c.args.self.now jobs j
+
+pub returns-clause-taken : goal.returns-clause-taken
+returns-clause-taken g c k lt rests =
+    subst (λ (h : Hosted). HasPostedTaken (code_of h) h.mail k) c.self.view_is
+    (idle_posted c.self.inside.desk k
+    (c.self.invariant.idle k (subst (λ (h : Hosted). k < length h.mail.ends) (sym c.self.view_is) lt) (subst (λ (h : Hosted). ChildIs h.mail k false) (sym c.self.view_is) rests)))

@@ -1,0 +1,83 @@
+//! What a host is made of.
+
+ghost use Rattle.std.specs.Prelude.{◌≡◌, ◌<◌, ◌≤◌, ◌+◌, ℕ, suc, All, IfOk, Some, None, Option, length, slice_get, replicate, true};
+ghost use Rattle.thread_code.specs.Plain.{plain_code};
+ghost use Rattle.combine_tree.specs.declared.packet.Packet.{Packet as PlainPacketState};
+ghost use Rattle.core_host.specs.declared.seat.Seat.{Seat as SeatState};
+ghost use Rattle.core_host.specs.Loads.{ArePlaced, IsNewSeat, contains_core};
+
+use crate::seat::Seat;
+use combine_tree::Packet;
+use core_alloc::Placement;
+use core_machine::Thread;
+use forec_base::OutOfMemory;
+use std::alloc::Global;
+use thread_code::Code;
+
+/// The core of each thread, in order.
+pub fn places_of(alloc: Global, placement: &Placement) -> Result<Vec<u32>, OutOfMemory>
+    ensures same { IfOk result (λ places. places.items ≡ placement.now.places) }
+    ensures placed { IfOk result (λ places. ArePlaced placement.now) }
+{
+    let mut places = Vec::new(alloc);
+    for thread in 0..placement.threads() {
+        places.push(placement.core(thread))?;
+    }
+    Ok(places)
+}
+
+fn is_among(core: u32, cores: &[u32]) -> bool
+    ensures { result ≡ contains_core core cores.now }
+{
+    for other in cores {
+        if *other == core {
+            return true;
+        }
+    }
+    false
+}
+
+/// The seat of thread number `thread`, with the thread in it where its core is one of these.
+fn seat_of(alloc: Global, code: &Code, thread: u32, is_here: bool) -> Result<Seat, OutOfMemory>
+    requires { thread < length (plain_code code.now).threads }
+    ensures { IfOk result (λ s. IsNewSeat (plain_code code.now) thread is_here s) }
+{
+    if !is_here {
+        return Ok(Seat {
+            thread: None,
+            job: None,
+        });
+    }
+    let loaded = Thread::load(alloc, code, thread)?;
+    Ok(Seat {
+        thread: Some(loaded),
+        job: None,
+    })
+}
+
+/// A seat for each thread, in order.
+pub fn seats_of(alloc: Global, code: &Code, places: &[u32], cores: &[u32]) -> Result<Vec<Seat>, OutOfMemory>
+    requires count { length places.now ≡ length (plain_code code.now).threads }
+    requires few { length places.now ≤ 256 }
+    ensures count { IfOk result (λ seats. length seats.items ≡ length places.now) }
+    ensures each { IfOk result (λ seats. (t : ℕ) (core : ℕ) (s : SeatState) → slice_get places.now t ≡ Some core → slice_get seats.items t ≡ Some s → IsNewSeat (plain_code code.now) t (contains_core core cores.now) s) }
+{
+    let mut seats = Vec::new(alloc);
+    for thread in 0..places.len() {
+        let is_here = is_among(places[thread], cores);
+        seats.push(seat_of(alloc, code, thread as u32, is_here)?)?;
+    }
+    Ok(seats)
+}
+
+/// So many empty hands.
+pub fn empty_hands(alloc: Global, count: usize) -> Result<Vec<Option<Packet>>, OutOfMemory>
+    ensures count { IfOk result (λ hands. length hands.items ≡ count) }
+    ensures each { IfOk result (λ hands. (k : ℕ) (h : Option PlainPacketState) → slice_get hands.items k ≡ Some h → h ≡ None) }
+{
+    let mut hands = Vec::new(alloc);
+    for _ in 0..count {
+        hands.push(None)?;
+    }
+    Ok(hands)
+}
