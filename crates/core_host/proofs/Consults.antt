@@ -197,12 +197,12 @@ module _ (a b : State) (h : Thread) (k number : ℕ) (fitted : IsFitted a) (fork
             let old = done.posts pairs posts in
             let all = pairs ++ pair_up (jobs_at (code_in a) h) done.replies in
             let new = posts_now b s1 s2 s3 h.number m fitted_b inside_m mine_b above_m job.0.job done.above sending sent1 working above_now getting quiet_now got_now all
-                (subst (λ x. Posts (plain_code x) h.number b.mail all) (sym done.leaves.code) old) in
+            (subst (λ x. Posts (plain_code x) h.number b.mail all) (sym done.leaves.code) old) in
             let here = subst (λ x. Posts (plain_code x) h.number s3.mail (all ++ record { branch = suc m; job = job.0.job; reply = r } ∷ [])) done.leaves.code new in
             let named : all ++ record { branch = suc m; job = job.0.job; reply = r } ∷ [] ≡ pairs ++ pair_up (jobs_at (code_in a) h) (done.replies ++ r ∷ []) =
-                ap (λ n. all ++ record { branch = n; job = job.0.job; reply = r } ∷ []) (sym is_suc ∙ sym job.2)
-                ∙ append_assoc pairs (pair_up (jobs_at (code_in a) h) done.replies) (record { branch = job.0.branch; job = job.0.job; reply = r } ∷ [])
-                ∙ ap (λ l. pairs ++ l) (sym (pairs_more (jobs_at (code_in a) h) done.replies job.0 r (ap (λ i. slice_get (jobs_at (code_in a) h) i) done.count ∙ job.1))) in
+            ap (λ n. all ++ record { branch = n; job = job.0.job; reply = r } ∷ []) (sym is_suc ∙ sym job.2)
+            ∙ append_assoc pairs (pair_up (jobs_at (code_in a) h) done.replies) (record { branch = job.0.branch; job = job.0.job; reply = r } ∷ [])
+            ∙ ap (λ l. pairs ++ l) (sym (pairs_more (jobs_at (code_in a) h) done.replies job.0 r (ap (λ i. slice_get (jobs_at (code_in a) h) i) done.count ∙ job.1))) in
             subst (Posts (code_in a) h.number s3.mail) named here;
         rest = λ i w le at'.
             let it = done.rest i w (omega (arith, le)) at' in

@@ -170,7 +170,7 @@ module _ (s0 : State) (m : ℕ) (fitted : IsFitted s0) (inside : m < length s0.m
           pub answer_answers : Replies (plain_code mail2.work.code.value) m (taken mail2 m) q'
           answer_answers =
               let work : mail2.work.code.value ≡ s0.code =
-                  ap (λ (s : State). s.mail.work.code.value) view2 ∙ ap (λ w. w.code.value) leaves3.alike.work ∙ ap (λ (s : State). s.mail.work.code.value) raw_is ∙ fitted.work in
+              ap (λ (s : State). s.mail.work.code.value) view2 ∙ ap (λ w. w.code.value) leaves3.alike.work ∙ ap (λ (s : State). s.mail.work.code.value) raw_is ∙ fitted.work in
               subst (λ (z : CodeParts). Replies (plain_code z) m (taken mail2 m) q') (sym work)
               (subst (λ l. Replies (code_in s0) m l q') (sym (ap (λ (s : State). taken s.mail m) view2))
               (its_replies s0 m fitted inside called above p asks y h1 number0 stands0 all s3 h2 number2 loaded3 replied above4 leaves4 in_done p' room4 kind' gives4))

@@ -135,7 +135,7 @@ paused_then c k jobs h (none e) p = absurd (no_answer c (suc k) (length c.thread
 paused_then c k jobs h (last reply answers paused) p =
     let same = jobs_once jobs answers.plain_jobs p.answers.plain_jobs answers.jobs_are p.answers.jobs_are in
     let one = answers_once (λ t. Machine) (code_engine c) (code_steady c) (length c.threads) (suc k) p.answers.plain_jobs answers.plain_reply p.answers.plain_reply
-        (subst (λ js. Answers (CodeAlone c) (length c.threads) (suc k) js answers.plain_reply) same answers.answers) p.answers.answers in
+    (subst (λ js. Answers (CodeAlone c) (length c.threads) (suc k) js answers.plain_reply) same answers.answers) p.answers.answers in
     paused (same_kind reply p.reply answers.plain_reply p.answers.plain_reply answers.reply_is p.answers.reply_is one p.paused)
 
 module _ (s0 : State) (m : ℕ) (fitted : IsFitted s0) (inside : m < length s0.mail.ends) (called : IsCalled s0 m) (above : QuietAbove s0 (suc m)) (p : Packet) (asks : Asks (code_in s0) m (taken s0.mail m ++ plain_packet p ∷ [])) where

@@ -192,8 +192,8 @@ module _ (c : PlainCode) (valid : IsValidCode c) (t : ℕ) (lt : t < length c.th
       let n = allowance_of job in
       let ws = map (written (n - units_of s)) seeds in
       let pairs =
-          append_assoc (pair_all ys w.outputs) (pair_forks w.forks before) (pair_up ws rs)
-          ∙ ap (λ l. pair_all ys w.outputs ++ l) (sym (forks_then w.forks before ws rs (wrote_count Machine e n before w.begin w.forks (wrote_of Machine e n before w.begin w.forks s w.went)))) in
+      append_assoc (pair_all ys w.outputs) (pair_forks w.forks before) (pair_up ws rs)
+      ∙ ap (λ l. pair_all ys w.outputs ++ l) (sym (forks_then w.forks before ws rs (wrote_count Machine e n before w.begin w.forks (wrote_of Machine e n before w.begin w.forks s w.went)))) in
       record {
         outputs = w.outputs;
         rest = w.rest;

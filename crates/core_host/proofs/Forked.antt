@@ -66,7 +66,7 @@ allowed_last Sub past (x ∷ xs) b front r a e =
         let same = is_same x.branch b q in
         let empty = tail_of x.reply r _ _ e in
         let jobs : jobs_to b (past ++ x ∷ []) ≡ jobs_to b (past ++ x ∷ xs) =
-            sym (ap (λ l. jobs_to b (past ++ x ∷ []) ++ l) (nothing_to b xs empty) ∙ append-nil (jobs_to b (past ++ x ∷ []))) ∙ sym (jobs_then b (past ++ x ∷ []) xs) ∙ ap (jobs_to b) (append_assoc past (x ∷ []) xs) in
+        sym (ap (λ l. jobs_to b (past ++ x ∷ []) ++ l) (nothing_to b xs empty) ∙ append-nil (jobs_to b (past ++ x ∷ []))) ∙ sym (jobs_then b (past ++ x ∷ []) xs) ∙ ap (jobs_to b) (append_assoc past (x ∷ []) xs) in
         subst (Sub b (jobs_to b (past ++ x ∷ xs))) (head_of x.reply r _ _ e)
         (subst (λ js. Sub b js x.reply) jobs (subst (λ n. Sub n (jobs_to n (past ++ x ∷ [])) x.reply) same a.0))
 

@@ -401,9 +401,14 @@ module _ (c : PlainCode) (valid : IsValidCode c) (t : ℕ) where
       wake_fine i is nothing (b ∷ bs) to d d' up mine alive next there lt =
           let e = free_at i is nothing in
           let a = place_least (p.at + 1) (in_block (p.at + 1) d next) in
-          let z = place_least to (in_block to d' there) in
-          (steps, omega (arith, few, e, a), steps, omega (arith, few, e, z, lt), lively,
-           record { branches = wakes_branches c t o.copies (b ∷ bs); some = λ q. some_of b bs q; rising = up; mine = mine; wakes = wakes_paused c t past o.copies o.live (b ∷ bs) lively alive })
+          let z = place_least to (in_block to d' there) in (
+            steps,
+            omega (arith, few, e, a),
+            steps,
+            omega (arith, few, e, z, lt),
+            lively,
+            record { branches = wakes_branches c t o.copies (b ∷ bs); some = λ q. some_of b bs q; rising = up; mine = mine; wakes = wakes_paused c t past o.copies o.live (b ∷ bs) lively alive },
+          )
         where
           some_of : (b : ℕ) (bs : List ℕ) → b ∷ bs ≡ [] → ⊥
           some_of b bs q = cc
@@ -454,8 +459,14 @@ module _ (c : PlainCode) (valid : IsValidCode c) (t : ℕ) where
       own_act (instruction.Fork j to) is f =
           let bs = branches_in c.shape j in
           arguments_fine (arguments_of c.shape bs) p.stack [] u (λ args rest. Waits (awaited bs (starts c t o.copies bs args) p to rest) o (u + 1))
-          (λ args rest. (steps, few_paid n u (u + 1) p.at (p.at + 1) here_in few (omega arith), steps, few_paid n u (u + 1) p.at to here_in few (omega arith), lively,
-          record { branches = starts_branches c t o.copies bs args; some = f.0.some; rising = rising c.shape.threads 0 j; mine = fork_mine j f.0; wakes = starts_paused c t past o.copies bs args }))
+          (λ args rest. (
+            steps,
+            few_paid n u (u + 1) p.at (p.at + 1) here_in few (omega arith),
+            steps,
+            few_paid n u (u + 1) p.at to here_in few (omega arith),
+            lively,
+            record { branches = starts_branches c t o.copies bs args; some = f.0.some; rising = rising c.shape.threads 0 j; mine = fork_mine j f.0; wakes = starts_paused c t past o.copies bs args },
+          ))
       own_act (instruction.Again j to) is f =
           let bs = branches_in c.shape j in
           wake_fine (instruction.Again j to) is refl (living o.live bs) to _ _ (living_rising o.live bs (rising c.shape.threads 0 j)) (living_are (IsMine c t) o.live bs (fork_mine j f.0)) (living_live o.live bs) f.1.0 f.1.1 f.1.2

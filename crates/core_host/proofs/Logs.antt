@@ -210,24 +210,26 @@ job_begins c valid h h' m jobs job number lt done stands =
     let inside = begun_in c h' done.exchanges job [] (done.exchanges ++ record { job = job; replies = [] } ∷ []) stands refl refl in
     let w = follows c valid h'.number lt done.exchanges (Inside job [] inside.machine) inside.reached in
     let runs = subst (λ t. CodeAlone c t done.exchanges done.outputs) (sym number) done.runs in
-    let same = outputs_are c h'.number done.exchanges done.outputs w.outputs w.rest runs w.alone in
-    (record {
-      log = record {
-        exchanges = done.exchanges;
-        outputs = done.outputs;
-        before = [];
-        forks = [];
-        jobs_are = done.jobs_are;
-        complete = done.complete;
-        rest = w.rest;
-        alone = subst (λ os. AloneTo (code_engine c h'.number) done.exchanges Nothing os w.rest) (sym same) w.alone;
-        begin = w.begin;
-        begins = w.begins;
-        wrote = refl;
-      };
-      stands = stands;
-      posts = subst (Posts c h'.number m) (sym (append-nil (pair_all done.exchanges done.outputs))) (subst (λ t. Posts c t m (pair_all done.exchanges done.outputs)) (sym number) done.posts);
-    }, refl)
+    let same = outputs_are c h'.number done.exchanges done.outputs w.outputs w.rest runs w.alone in (
+      record {
+        log = record {
+          exchanges = done.exchanges;
+          outputs = done.outputs;
+          before = [];
+          forks = [];
+          jobs_are = done.jobs_are;
+          complete = done.complete;
+          rest = w.rest;
+          alone = subst (λ os. AloneTo (code_engine c h'.number) done.exchanges Nothing os w.rest) (sym same) w.alone;
+          begin = w.begin;
+          begins = w.begins;
+          wrote = refl;
+        };
+        stands = stands;
+        posts = subst (Posts c h'.number m) (sym (append-nil (pair_all done.exchanges done.outputs))) (subst (λ t. Posts c t m (pair_all done.exchanges done.outputs)) (sym number) done.posts);
+      },
+      refl,
+    )
   where
     outputs_are : (c : PlainCode) (t : ℕ) (xs : List Exchange) (os ps : List Output) (r : Rest Machine) → CodeAlone c t xs os → AloneTo (code_engine c t) xs Nothing ps r → os ≡ ps
     outputs_are c t xs os ps r runs alone = alone_one Machine (code_engine c t) (code_steady c t) xs Nothing os ps runs (alone_of Machine (code_engine c t) xs Nothing r ps alone)
@@ -258,7 +260,7 @@ job_ends c h m jobs job p lt i gives =
     let jobs_same = serves_wrote Machine (code_engine c h.number) (code_steady c h.number) (allowance_of job) l.before l.begin t.output t.final g.reply l.forks serves last l.wrote in
     let outputs = t.are ∙ ap (λ os. os ++ t.output ∷ []) (sym same.0) in
     let pairs : pair_all (l.exchanges ++ x ∷ []) (l.outputs ++ t.output ∷ []) ≡ told c h.number jobs job l =
-        all_then l.exchanges l.outputs x t.output (alone_count (code_engine c h.number) l.exchanges Nothing l.rest l.outputs l.alone) ∙ ap (λ js. pair_all l.exchanges l.outputs ++ pair_forks js l.before) jobs_same in
+    all_then l.exchanges l.outputs x t.output (alone_count (code_engine c h.number) l.exchanges Nothing l.rest l.outputs l.alone) ∙ ap (λ js. pair_all l.exchanges l.outputs ++ pair_forks js l.before) jobs_same in
     let runs = subst (CodeAlone c h.number (l.exchanges ++ x ∷ [])) outputs g.runs in
     let complete = reply_then l.outputs t.output g.reply l.complete last in
     let jobs_are = map_then l.exchanges x ∙ ap (λ js. js ++ job ∷ []) l.jobs_are in

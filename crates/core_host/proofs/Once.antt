@@ -27,7 +27,7 @@ ups_once Sub once past (w ∷ ws) (r ∷ rs) (r' ∷ rs') c c' h h' =
     let js = jobs_to w.branch (past ++ record { branch = w.branch; job = w.job; reply = r } ∷ []) in
     let same = once w.branch js r r' h.0 (subst (λ l. Sub w.branch l r') (same_jobs past w r' r) h'.0) in
     let rest = ups_once Sub once (past ++ record { branch = w.branch; job = w.job; reply = r } ∷ []) ws rs rs' (omega (arith, c)) (omega (arith, c')) h.1
-        (subst (λ x. Allowed Sub (past ++ record { branch = w.branch; job = w.job; reply = x } ∷ []) (pair_up ws rs')) (sym same) h'.1) in
+    (subst (λ x. Allowed Sub (past ++ record { branch = w.branch; job = w.job; reply = x } ∷ []) (pair_up ws rs')) (sym same) h'.1) in
     ap (λ x. x ∷ rs) same ∙ ap (λ l. r' ∷ l) rest
   where
     -- (jobs don't depend on replies)
@@ -124,7 +124,7 @@ module _ (S : Type 0) (e : Engine S) (steady : IsSteady e) where
             let all' = subst (Allowed Sub past) (ap (λ l. l ++ rest') is' ∙ append_assoc (pair_up jobs rs') (pair_forks g.0.jobs more') rest') al' in
             let same = ups_once Sub once past jobs rs rs' (count_of _ _ c ∙ sym count) (count_of _ _ c' ∙ sym count) (allowed_first Sub past (pair_up jobs rs) _ all) (allowed_first Sub past (pair_up jobs rs') _ all') in
             let next = ih f.0 g.0 f.1 (subst (λ l. Serves e a more' (e.join l s') g.0 r') (sym same) g.1) (first_replied jobs o f.0 f.2 has) (first_replied jobs o' g.0 g.2 has')
-                (allowed_then Sub past (pair_up jobs rs) _ all) (subst (λ l. Allowed Sub (past ++ pair_up jobs l) (pair_forks g.0.jobs more' ++ rest')) (sym same) (allowed_then Sub past (pair_up jobs rs') _ all')) in
+            (allowed_then Sub past (pair_up jobs rs) _ all) (subst (λ l. Allowed Sub (past ++ pair_up jobs l) (pair_forks g.0.jobs more' ++ rest')) (sym same) (allowed_then Sub past (pair_up jobs rs') _ all')) in
             record {
               output = f.2 ∙ ap (first_jobs jobs) next.output ∙ sym g.2;
               rest = next.rest;
@@ -165,8 +165,8 @@ module _ (S : Type 0) (e : Engine S) (steady : IsSteady e) where
         let served = subst (λ m. Serves e (allowance_of x.job) y.replies m p g.1) (sym s) (subst (λ j. Serves e (allowance_of j) y.replies g.0 p g.1) (sym job) g.3) in
         let one = serves_once (allowance_of x.job) x.replies y.replies h.0 o p h.1 g.1 past (pair_all xs os) (pair_all ys ps) h.3 served a.0 b.0 al bl in
         let more = alone_once xs ys h.1 os ps (past ++ pair_forks o.jobs x.replies) (tail_same x.job y.job (jobs_in xs) (jobs_in ys) same) h.4
-            (subst (λ q. Alone e ys q ps) (sym one.rest) g.4) a.1 b.1 (allowed_then Sub past (pair_forks o.jobs x.replies) (pair_all xs os) al)
-            (subst (λ l. Allowed Sub (past ++ l) (pair_all ys ps)) (sym one.pairs) (allowed_then Sub past (pair_forks p.jobs y.replies) (pair_all ys ps) bl)) in
+        (subst (λ q. Alone e ys q ps) (sym one.rest) g.4) a.1 b.1 (allowed_then Sub past (pair_forks o.jobs x.replies) (pair_all xs os) al)
+        (subst (λ l. Allowed Sub (past ++ l) (pair_all ys ps)) (sym one.pairs) (allowed_then Sub past (pair_forks p.jobs y.replies) (pair_all ys ps) bl)) in
         ap (λ q. q ∷ os) one.output ∙ ap (λ l. p ∷ l) more
 
 -- ---- answers

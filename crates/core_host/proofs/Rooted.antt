@@ -119,7 +119,7 @@ module _ (s0 : State) (fitted : IsFitted s0) (quiet : QuietAbove s0 0) (root : R
             let same = valid.threads in
             let n = number_2 in
             let e = job_ends (plain_code code) h2 s3.mail jobs job (plain_packet p') (omega (arith, n, some, same)) j
-                (λ xs st. subst (λ (w : CodeParts). Gives (plain_code w) h2.number xs (plain_packet p')) code2_is (gives xs (subst (λ (w : CodeParts). StandsFor (plain_code w) h2 xs) (sym code2_is) st))) in
+            (λ xs st. subst (λ (w : CodeParts). Gives (plain_code w) h2.number xs (plain_packet p')) code2_is (gives xs (subst (λ (w : CodeParts). StandsFor (plain_code w) h2 xs) (sym code2_is) st))) in
             let mail2_is = ap (λ (s : State). s.mail) view2 in
             let here : HasReplied raw2 h2 (jobs ++ job ∷ []) (plain_packet p') = record {
               done = subst (λ (w : CodeParts). HasDone (plain_code w) h2 mail2 (jobs ++ job ∷ [])) (sym code2_is) (subst (λ m. HasDone (plain_code code) h2 m (jobs ++ job ∷ [])) (sym mail2_is) e.done);

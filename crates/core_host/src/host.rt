@@ -61,7 +61,13 @@ impl<'c, P: Port<ForecWork> + Drop> Host<'c, P> {
     /// # Errors
     ///
     /// Want of memory.
-    pub fn load(alloc: Global, code: &'c Code, placement: &Placement, cores: &[u32], port: P) -> Result<Host<'c, P>, OutOfMemory>
+    pub fn load(
+        alloc: Global,
+        code: &'c Code,
+        placement: &Placement,
+        cores: &[u32],
+        port: P,
+    ) -> Result<Host<'c, P>, OutOfMemory>
         requires { CanLoad code.now placement.now cores.now (P.state port) }
         ensures code { IfOk result (λ h. h.code ≡ code.now) }
         ensures places { IfOk result (λ h. h.places ≡ placement.now.places) }
@@ -106,7 +112,13 @@ impl<'c, P: Port<ForecWork> + Drop> Host<'c, P> {
     /// no memory.
     ///
     /// Through each mailbox go exactly the tick's jobs and replies, however the tick ends.
-    pub fn alone<G: Gate>(&mut self, row: &[i32], budget: u64, gate: &G, outputs: &mut [i32]) -> Outcome
+    pub fn alone<G: Gate>(
+        &mut self,
+        row: &[i32],
+        budget: u64,
+        gate: &G,
+        outputs: &mut [i32],
+    ) -> Outcome
         requires whole { IsWhole self.old }
         requires live { is_live self.old ≡ true }
         requires row { length row.now ≡ length (code_of self.old).shape.inputs }
@@ -127,7 +139,10 @@ impl<'c, P: Port<ForecWork> + Drop> Host<'c, P> {
         ensures grown { Grown self.old.mail self.new.mail }
     {
         let Host {
-            desk, root, live, ..
+            desk,
+            root,
+            live,
+            ..
         } = self;
         let code = desk.code;
         write_job(root, code.shape(), row, budget);

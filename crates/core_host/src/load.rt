@@ -56,7 +56,12 @@ fn seat_of(alloc: Global, code: &Code, thread: u32, is_here: bool) -> Result<Sea
 }
 
 /// A seat for each thread, in order.
-pub fn seats_of(alloc: Global, code: &Code, places: &[u32], cores: &[u32]) -> Result<Vec<Seat>, OutOfMemory>
+pub fn seats_of(
+    alloc: Global,
+    code: &Code,
+    places: &[u32],
+    cores: &[u32],
+) -> Result<Vec<Seat>, OutOfMemory>
     requires count { length places.now ≡ length (plain_code code.now).threads }
     requires few { length places.now ≤ 256 }
     ensures count { IfOk result (λ seats. length seats.items ≡ length places.now) }

@@ -524,7 +524,10 @@ fn asks_and_wakes(rt: HostRuntime) -> Result<(), Fail> {
     for k in 0..3 {
         let branch = ask(&thread, &code, k, &mut job);
         assert_eq!(rt; branch, Some(k as u32 + 1));
-        let expected = Row { units: job.units, ..start() };
+        let expected = Row {
+            units: job.units,
+            ..start()
+        };
         assert_eq!(rt; row_of(&job), expected);
         assert_eq!(rt; job.allowance, 99);
     }

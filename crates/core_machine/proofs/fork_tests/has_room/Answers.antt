@@ -14,11 +14,11 @@ returns-then-len-thread c same =
     let uses = read_uses c.deref.result.now c.args.thread c.in-Some.thread.now found.0 (found.1 c.in-Some.thread.now) in
     let many : length c.args.packet.now.args.items ≡ c.in-Some.thread.now.params = sym c.args.packet.now.args.ok.0 ∙ sym c.len.ensures ∙ c.if-len-thread.true in
     let all : length c.args.packet.now.copies.items ≡ length c.in-Some.thread.now.uses.items =
-        sym c.args.packet.now.copies.ok.0
-        ∙ sym c.len-then-len-thread.ensures
-        ∙ equal_of c.len-then-len-thread.result c.len-then-len-thread-2.result same
-        ∙ c.len-then-len-thread-2.ensures
-        ∙ c.in-Some.thread.now.uses.ok.0 in
+    sym c.args.packet.now.copies.ok.0
+    ∙ sym c.len-then-len-thread.ensures
+    ∙ equal_of c.len-then-len-thread.result c.len-then-len-thread-2.result same
+    ∙ c.len-then-len-thread-2.ensures
+    ∙ c.in-Some.thread.now.uses.ok.0 in
     record {
       args = many ∙ sym params ∙ ap (λ xs. params_in (map plain_thread xs) c.args.thread) list;
       copies = all ∙ ap length (sym uses ∙ ap (λ xs. uses_in (map plain_thread xs) c.args.thread) list);

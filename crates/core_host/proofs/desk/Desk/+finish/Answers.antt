@@ -238,11 +238,11 @@ finish-loop-self-preserved g t c =
       done = λ jobs job i.
           let j = c.loop-self.invariant.done jobs job i in
           (next c.args.self.now c.loop-self.self c.requires.fitted c.args.thread.now c.loop-self.thread c.run.new.self c.loop-self.invariant.number c.loop-self.invariant.leaves (subst (λ (x : CodeParts). Loaded (plain_code x) c.run.new.self) code c.run.ensures.loaded) c.run.ensures.number
-    (λ xs st. subst (λ (x : CodeParts). StandsFor (plain_code x) c.run.new.self xs) code (c.run.ensures.stands xs (subst (λ (x : CodeParts). StandsFor (plain_code x) c.loop-self.thread xs) (sym code) st)))
-    (subst (λ e. Left_by c.run.new.self e) c.in-Fork.is c.run.ensures.left) (subst (λ (x : CodeParts). c.run.new.self.branches.numbers ≡ map (λ w. w.branch) (jobs_at (plain_code x) c.run.new.self)) code (c.run.ensures.branches c.in-Fork.is)) jobs job (length j.log.before) (j, refl)
-    c.consult.new.self c.consult.ensures.leaves c.consult.ensures.heard.0 c.consult.ensures.heard.1 c.consult.ensures.heard.2 c.settle.new.thread c.join.new.thread c.settle.ensures.number c.join.ensures.number
-    (λ xs st. c.settle.ensures.stands c.consult.ensures.heard.0 xs c.consult.ensures.heard.1 st)
-    (λ xs st. c.join.ensures.stands c.consult.ensures.heard.0 xs (subst (λ l. HaveHeard c.consult.new.self l c.consult.ensures.heard.0) (sym c.settle.ensures.branches) c.consult.ensures.heard.1) st)).0;
+          (λ xs st. subst (λ (x : CodeParts). StandsFor (plain_code x) c.run.new.self xs) code (c.run.ensures.stands xs (subst (λ (x : CodeParts). StandsFor (plain_code x) c.loop-self.thread xs) (sym code) st)))
+          (subst (λ e. Left_by c.run.new.self e) c.in-Fork.is c.run.ensures.left) (subst (λ (x : CodeParts). c.run.new.self.branches.numbers ≡ map (λ w. w.branch) (jobs_at (plain_code x) c.run.new.self)) code (c.run.ensures.branches c.in-Fork.is)) jobs job (length j.log.before) (j, refl)
+          c.consult.new.self c.consult.ensures.leaves c.consult.ensures.heard.0 c.consult.ensures.heard.1 c.consult.ensures.heard.2 c.settle.new.thread c.join.new.thread c.settle.ensures.number c.join.ensures.number
+          (λ xs st. c.settle.ensures.stands c.consult.ensures.heard.0 xs c.consult.ensures.heard.1 st)
+          (λ xs st. c.join.ensures.stands c.consult.ensures.heard.0 xs (subst (λ l. HaveHeard c.consult.new.self l c.consult.ensures.heard.0) (sym c.settle.ensures.branches) c.consult.ensures.heard.1) st)).0;
     }
 
 pub finish-returns : goal.finish-returns
@@ -282,7 +282,7 @@ employ-finish-requires g t c κs within =
     let number = number1 c.args.self.now c.args.mailbox c.requires.fitted c.requires.inside c.requires.called c.requires.above c.self.inside.code.now c.self.inside.places.items (g.P.Port.state c.self.inside.port) (g.P.Port.state c.take.new.self)
     c.self.inside.seats.items c.self.inside.hands.items c.self.view_is c.in-Some.packet c.in-Some.ensures.state c.in-Some.ensures.job c.in-Some.ensures.turn c.index_mut.result.now c.index_mut.ensures.value c.take-2.result c.take-2.ensures.value
     c.in-Some-take.thread c.in-Some-take.is
-        (record { thread = c.take-2.new.self; job = c.index_mut.result.now.job }) c.begin.new.self c.begin.ensures.number c.begin.ensures.stands in
+    (record { thread = c.take-2.new.self; job = c.index_mut.result.now.job }) c.begin.new.self c.begin.ensures.number c.begin.ensures.stands in
     let smaller : 3 * (257 - c.begin.new.self.number) + 2 < 3 * (256 - c.args.mailbox) + 3 = omega (arith, number) in
     let fitted = raw_fitted c.args.self.now c.args.mailbox c.requires.fitted c.requires.inside c.requires.called c.requires.above c.self.inside.code.now c.self.inside.places.items (g.P.Port.state c.self.inside.port) (g.P.Port.state c.take.new.self)
     c.self.inside.seats.items c.self.inside.hands.items c.self.view_is c.in-Some.packet c.in-Some.ensures.state c.in-Some.ensures.job c.in-Some.ensures.turn c.index_mut.result.now c.index_mut.ensures.value c.take-2.result c.take-2.ensures.value

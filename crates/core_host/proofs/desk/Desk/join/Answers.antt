@@ -88,7 +88,7 @@ loop-branch-preserved g c =
       stands = λ rs xs heard before.
           let r = reply_at c.args.self.now c.args.thread.now.branches.numbers rs heard c.loop-branch.k c.in-Some.branch at in
           let is = reply_is c.args.self.now c.args.thread.now.branches.numbers rs heard c.loop-branch.k c.in-Some.branch at c.index.result.now
-              (c.index.ensures ∙ ap (λ (s : State). slice_index_or s.hands (c.in-Some.branch - 1) c.index.result.now) c.self.view_is) c.in-Some-index.packet c.in-Some-index.is in
+          (c.index.ensures ∙ ap (λ (s : State). slice_index_or s.hands (c.in-Some.branch - 1) c.index.result.now) c.self.view_is) c.in-Some-index.packet c.in-Some-index.is in
           let old = subst (λ (x : CodeParts). StandsFor (plain_code x) c.loop-branch.thread (with_replies xs rs)) (sym code) (c.loop-branch.invariant.stands rs xs heard before) in
           let new = c.joined.ensures.stands xs rs r.0 (heard.count ∙ sym count) r.1 is old in
           subst (λ (x : CodeParts). StandsFor (plain_code x) c.joined.new.self (with_replies xs rs)) code new;

@@ -26,13 +26,13 @@ offer-requires-clause-asks g c =
     let port = g.P.Port.state c.self.inside.port in
     let code : c.self.inside.code.now ≡ s.code = ap (λ (s : State). s.code) c.self.view_is ∙ c.packet-packet.ensures.moves.code in
     let work : port.work.code.value ≡ s.code =
-        ap (λ (s : State). s.mail.work.code.value) c.self.view_is ∙ ap (λ w. w.code.value) c.packet-packet.ensures.moves.alike.work ∙ c.requires.fitted.work in
+    ap (λ (s : State). s.mail.work.code.value) c.self.view_is ∙ ap (λ w. w.code.value) c.packet-packet.ensures.moves.alike.work ∙ c.requires.fitted.work in
     let job = c.requires.job in
     let is : IsJob q job.job.job = (c.job.ensures.job job.job (ap (λ (x : CodeParts). slice_get (jobs_at (plain_code x) c.args.thread.now) c.args.k) code ∙ job.at)).1 in
     let sent_same : sent port m ≡ sent s.mail m = ap (λ (s : State). sent s.mail m) c.self.view_is ∙ c.packet-packet.ensures.sent in
     let room : HasRoom (of_shape (code_in s).shape) (suc m) q =
-        subst (λ t. HasRoom (of_shape (code_in s).shape) t q) (get_or_from_slice_get c.args.thread.now.branches.numbers c.args.k (suc m) 0 job.number)
-        (subst (λ (x : CodeParts). HasRoom (of_shape (plain_code x).shape) (branch_at c.args.thread.now c.args.k) q) code c.job.ensures.room) in
+    subst (λ t. HasRoom (of_shape (code_in s).shape) t q) (get_or_from_slice_get c.args.thread.now.branches.numbers c.args.k (suc m) 0 job.number)
+    (subst (λ (x : CodeParts). HasRoom (of_shape (plain_code x).shape) (branch_at c.args.thread.now c.args.k) q) code c.job.ensures.room) in
     subst (λ (x : CodeParts). Asks (plain_code x) m (sent port m ++ q ∷ [])) (sym work)
     (asks_now (code_in s) s.mail port m q job.job.job is sent_same job.may room c.job.ensures.small)
 

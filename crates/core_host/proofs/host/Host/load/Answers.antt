@@ -34,13 +34,13 @@ invariant_of-result g c =
     let read : c.deref.result.now ≡ c.args.placement.now.places = c.deref.ensures.value ∙ places in
     let count = c.in_ok-seats.ensures.count ∙ ap length read in
     let threads : c.len-threads.result ≡ length (plain_code c.args.code.now).threads =
-        omega (arith, c.len-threads.ensures, ap (λ (x : CodeParts). length x.threads.items) c.parts.ensures.same, c.parts.result.now.threads.ok.0, length-map c.args.code.now.threads.items plain_block) in
+    omega (arith, c.len-threads.ensures, ap (λ (x : CodeParts). length x.threads.items) c.parts.ensures.same, c.parts.result.now.threads.ok.0, length-map c.args.code.now.threads.items plain_block) in
     let hands = c.in_ok-hands.ensures.count ∙ ap (λ n. n - 1) threads in
     let host : new_host c.args.code.now valid c.args.placement.now c.args.cores.now (g.P.Port.state c.args.port) c.requires c.in_ok-places.ensures.placed c.in_ok-seats.seats.items count
-        (λ t core z place at. c.in_ok-seats.ensures.each t core z (ap (λ l. slice_get l t) read ∙ place) at) c.in_ok-hands.hands.items hands c.in_ok-hands.ensures.each c.in_ok-root.root room kind
-        ≡ hosted (record { code = c.args.code.now; places = c.in_ok-places.places.items; mail = g.P.Port.state c.args.port; seats = c.in_ok-seats.seats.items; hands = c.in_ok-hands.hands.items }) c.in_ok-cores.cores.items c.in_ok-root.root true =
-        ap (λ l. hosted (record { code = c.args.code.now; places = l; mail = g.P.Port.state c.args.port; seats = c.in_ok-seats.seats.items; hands = c.in_ok-hands.hands.items }) c.args.cores.now c.in_ok-root.root true) (sym places)
-        ∙ ap (λ l. hosted (record { code = c.args.code.now; places = c.in_ok-places.places.items; mail = g.P.Port.state c.args.port; seats = c.in_ok-seats.seats.items; hands = c.in_ok-hands.hands.items }) l c.in_ok-root.root true) (sym cores) in
+    (λ t core z place at. c.in_ok-seats.ensures.each t core z (ap (λ l. slice_get l t) read ∙ place) at) c.in_ok-hands.hands.items hands c.in_ok-hands.ensures.each c.in_ok-root.root room kind
+    ≡ hosted (record { code = c.args.code.now; places = c.in_ok-places.places.items; mail = g.P.Port.state c.args.port; seats = c.in_ok-seats.seats.items; hands = c.in_ok-hands.hands.items }) c.in_ok-cores.cores.items c.in_ok-root.root true =
+    ap (λ l. hosted (record { code = c.args.code.now; places = l; mail = g.P.Port.state c.args.port; seats = c.in_ok-seats.seats.items; hands = c.in_ok-hands.hands.items }) c.args.cores.now c.in_ok-root.root true) (sym places)
+    ∙ ap (λ l. hosted (record { code = c.args.code.now; places = c.in_ok-places.places.items; mail = g.P.Port.state c.args.port; seats = c.in_ok-seats.seats.items; hands = c.in_ok-hands.hands.items }) l c.in_ok-root.root true) (sym cores) in
     subst IsHosted host (new_hosted c.args.code.now valid c.args.placement.now c.args.cores.now (g.P.Port.state c.args.port) c.requires c.in_ok-places.ensures.placed c.in_ok-seats.seats.items count
     (λ t core z place at. c.in_ok-seats.ensures.each t core z (ap (λ l. slice_get l t) read ∙ place) at) c.in_ok-hands.hands.items hands c.in_ok-hands.ensures.each c.in_ok-root.root room kind)
 
@@ -61,13 +61,13 @@ returns-clause-jobs g c here =
     let read : c.deref.result.now ≡ c.args.placement.now.places = c.deref.ensures.value ∙ places in
     let count = c.in_ok-seats.ensures.count ∙ ap length read in
     let threads : c.len-threads.result ≡ length (plain_code c.args.code.now).threads =
-        omega (arith, c.len-threads.ensures, ap (λ (x : CodeParts). length x.threads.items) c.parts.ensures.same, c.parts.result.now.threads.ok.0, length-map c.args.code.now.threads.items plain_block) in
+    omega (arith, c.len-threads.ensures, ap (λ (x : CodeParts). length x.threads.items) c.parts.ensures.same, c.parts.result.now.threads.ok.0, length-map c.args.code.now.threads.items plain_block) in
     let hands = c.in_ok-hands.ensures.count ∙ ap (λ n. n - 1) threads in
     let host : new_host c.args.code.now valid c.args.placement.now c.args.cores.now (g.P.Port.state c.args.port) c.requires c.in_ok-places.ensures.placed c.in_ok-seats.seats.items count
-        (λ t core z place at. c.in_ok-seats.ensures.each t core z (ap (λ l. slice_get l t) read ∙ place) at) c.in_ok-hands.hands.items hands c.in_ok-hands.ensures.each c.in_ok-root.root room kind
-        ≡ hosted (record { code = c.args.code.now; places = c.in_ok-places.places.items; mail = g.P.Port.state c.args.port; seats = c.in_ok-seats.seats.items; hands = c.in_ok-hands.hands.items }) c.in_ok-cores.cores.items c.in_ok-root.root true =
-        ap (λ l. hosted (record { code = c.args.code.now; places = l; mail = g.P.Port.state c.args.port; seats = c.in_ok-seats.seats.items; hands = c.in_ok-hands.hands.items }) c.args.cores.now c.in_ok-root.root true) (sym places)
-        ∙ ap (λ l. hosted (record { code = c.args.code.now; places = c.in_ok-places.places.items; mail = g.P.Port.state c.args.port; seats = c.in_ok-seats.seats.items; hands = c.in_ok-hands.hands.items }) l c.in_ok-root.root true) (sym cores) in
+    (λ t core z place at. c.in_ok-seats.ensures.each t core z (ap (λ l. slice_get l t) read ∙ place) at) c.in_ok-hands.hands.items hands c.in_ok-hands.ensures.each c.in_ok-root.root room kind
+    ≡ hosted (record { code = c.args.code.now; places = c.in_ok-places.places.items; mail = g.P.Port.state c.args.port; seats = c.in_ok-seats.seats.items; hands = c.in_ok-hands.hands.items }) c.in_ok-cores.cores.items c.in_ok-root.root true =
+    ap (λ l. hosted (record { code = c.args.code.now; places = l; mail = g.P.Port.state c.args.port; seats = c.in_ok-seats.seats.items; hands = c.in_ok-hands.hands.items }) c.args.cores.now c.in_ok-root.root true) (sym places)
+    ∙ ap (λ l. hosted (record { code = c.args.code.now; places = c.in_ok-places.places.items; mail = g.P.Port.state c.args.port; seats = c.in_ok-seats.seats.items; hands = c.in_ok-hands.hands.items }) l c.in_ok-root.root true) (sym cores) in
     subst (λ h. HasJobs h []) host (new_jobs c.args.code.now valid c.args.placement.now c.args.cores.now (g.P.Port.state c.args.port) c.requires c.in_ok-places.ensures.placed c.in_ok-seats.seats.items count
     (λ t core z place at. c.in_ok-seats.ensures.each t core z (ap (λ l. slice_get l t) read ∙ place) at) c.in_ok-hands.hands.items hands c.in_ok-hands.ensures.each c.in_ok-root.root room kind (subst (λ (h : Hosted). is_here h 0 ≡ true) (sym host) here))
 
@@ -89,15 +89,18 @@ returns-clause-none g c here k fine' stands =
     let read : c.deref.result.now ≡ c.args.placement.now.places = c.deref.ensures.value ∙ places in
     let count = c.in_ok-seats.ensures.count ∙ ap length read in
     let threads : c.len-threads.result ≡ length (plain_code c.args.code.now).threads =
-        omega (arith, c.len-threads.ensures, ap (λ (x : CodeParts). length x.threads.items) c.parts.ensures.same, c.parts.result.now.threads.ok.0, length-map c.args.code.now.threads.items plain_block) in
+    omega (arith, c.len-threads.ensures, ap (λ (x : CodeParts). length x.threads.items) c.parts.ensures.same, c.parts.result.now.threads.ok.0, length-map c.args.code.now.threads.items plain_block) in
     let hands = c.in_ok-hands.ensures.count ∙ ap (λ n. n - 1) threads in
     let host : new_host c.args.code.now valid c.args.placement.now c.args.cores.now (g.P.Port.state c.args.port) c.requires c.in_ok-places.ensures.placed c.in_ok-seats.seats.items count
-        (λ t core z place at. c.in_ok-seats.ensures.each t core z (ap (λ l. slice_get l t) read ∙ place) at) c.in_ok-hands.hands.items hands c.in_ok-hands.ensures.each c.in_ok-root.root room kind
-        ≡ hosted (record { code = c.args.code.now; places = c.in_ok-places.places.items; mail = g.P.Port.state c.args.port; seats = c.in_ok-seats.seats.items; hands = c.in_ok-hands.hands.items }) c.in_ok-cores.cores.items c.in_ok-root.root true =
-        ap (λ l. hosted (record { code = c.args.code.now; places = l; mail = g.P.Port.state c.args.port; seats = c.in_ok-seats.seats.items; hands = c.in_ok-hands.hands.items }) c.args.cores.now c.in_ok-root.root true) (sym places)
-        ∙ ap (λ l. hosted (record { code = c.args.code.now; places = c.in_ok-places.places.items; mail = g.P.Port.state c.args.port; seats = c.in_ok-seats.seats.items; hands = c.in_ok-hands.hands.items }) l c.in_ok-root.root true) (sym cores) in
-    record { jobs = subst (λ h. HasJobs h []) host (new_jobs c.args.code.now valid c.args.placement.now c.args.cores.now (g.P.Port.state c.args.port) c.requires c.in_ok-places.ensures.placed c.in_ok-seats.seats.items count
-    (λ t core z place at. c.in_ok-seats.ensures.each t core z (ap (λ l. slice_get l t) read ∙ place) at) c.in_ok-hands.hands.items hands c.in_ok-hands.ensures.each c.in_ok-root.root room kind (subst (λ (h : Hosted). is_here h 0 ≡ true) (sym host) here)); keeps = λ e. kind }
+    (λ t core z place at. c.in_ok-seats.ensures.each t core z (ap (λ l. slice_get l t) read ∙ place) at) c.in_ok-hands.hands.items hands c.in_ok-hands.ensures.each c.in_ok-root.root room kind
+    ≡ hosted (record { code = c.args.code.now; places = c.in_ok-places.places.items; mail = g.P.Port.state c.args.port; seats = c.in_ok-seats.seats.items; hands = c.in_ok-hands.hands.items }) c.in_ok-cores.cores.items c.in_ok-root.root true =
+    ap (λ l. hosted (record { code = c.args.code.now; places = l; mail = g.P.Port.state c.args.port; seats = c.in_ok-seats.seats.items; hands = c.in_ok-hands.hands.items }) c.args.cores.now c.in_ok-root.root true) (sym places)
+    ∙ ap (λ l. hosted (record { code = c.args.code.now; places = c.in_ok-places.places.items; mail = g.P.Port.state c.args.port; seats = c.in_ok-seats.seats.items; hands = c.in_ok-hands.hands.items }) l c.in_ok-root.root true) (sym cores) in
+    record {
+      jobs = subst (λ h. HasJobs h []) host (new_jobs c.args.code.now valid c.args.placement.now c.args.cores.now (g.P.Port.state c.args.port) c.requires c.in_ok-places.ensures.placed c.in_ok-seats.seats.items count
+          (λ t core z place at. c.in_ok-seats.ensures.each t core z (ap (λ l. slice_get l t) read ∙ place) at) c.in_ok-hands.hands.items hands c.in_ok-hands.ensures.each c.in_ok-root.root room kind (subst (λ (h : Hosted). is_here h 0 ≡ true) (sym host) here));
+      keeps = λ e. kind;
+    }
 
 pub returns-clause-fresh : goal.returns-clause-fresh
 unfolding HasRun
@@ -117,14 +120,17 @@ returns-clause-fresh g c whole k fine' stands =
     let read : c.deref.result.now ≡ c.args.placement.now.places = c.deref.ensures.value ∙ places in
     let count = c.in_ok-seats.ensures.count ∙ ap length read in
     let threads : c.len-threads.result ≡ length (plain_code c.args.code.now).threads =
-        omega (arith, c.len-threads.ensures, ap (λ (x : CodeParts). length x.threads.items) c.parts.ensures.same, c.parts.result.now.threads.ok.0, length-map c.args.code.now.threads.items plain_block) in
+    omega (arith, c.len-threads.ensures, ap (λ (x : CodeParts). length x.threads.items) c.parts.ensures.same, c.parts.result.now.threads.ok.0, length-map c.args.code.now.threads.items plain_block) in
     let hands = c.in_ok-hands.ensures.count ∙ ap (λ n. n - 1) threads in
     let host : new_host c.args.code.now valid c.args.placement.now c.args.cores.now (g.P.Port.state c.args.port) c.requires c.in_ok-places.ensures.placed c.in_ok-seats.seats.items count
-        (λ t core z place at. c.in_ok-seats.ensures.each t core z (ap (λ l. slice_get l t) read ∙ place) at) c.in_ok-hands.hands.items hands c.in_ok-hands.ensures.each c.in_ok-root.root room kind
-        ≡ hosted (record { code = c.args.code.now; places = c.in_ok-places.places.items; mail = g.P.Port.state c.args.port; seats = c.in_ok-seats.seats.items; hands = c.in_ok-hands.hands.items }) c.in_ok-cores.cores.items c.in_ok-root.root true =
-        ap (λ l. hosted (record { code = c.args.code.now; places = l; mail = g.P.Port.state c.args.port; seats = c.in_ok-seats.seats.items; hands = c.in_ok-hands.hands.items }) c.args.cores.now c.in_ok-root.root true) (sym places)
-        ∙ ap (λ l. hosted (record { code = c.args.code.now; places = c.in_ok-places.places.items; mail = g.P.Port.state c.args.port; seats = c.in_ok-seats.seats.items; hands = c.in_ok-hands.hands.items }) l c.in_ok-root.root true) (sym cores) in
+    (λ t core z place at. c.in_ok-seats.ensures.each t core z (ap (λ l. slice_get l t) read ∙ place) at) c.in_ok-hands.hands.items hands c.in_ok-hands.ensures.each c.in_ok-root.root room kind
+    ≡ hosted (record { code = c.args.code.now; places = c.in_ok-places.places.items; mail = g.P.Port.state c.args.port; seats = c.in_ok-seats.seats.items; hands = c.in_ok-hands.hands.items }) c.in_ok-cores.cores.items c.in_ok-root.root true =
+    ap (λ l. hosted (record { code = c.args.code.now; places = l; mail = g.P.Port.state c.args.port; seats = c.in_ok-seats.seats.items; hands = c.in_ok-hands.hands.items }) c.args.cores.now c.in_ok-root.root true) (sym places)
+    ∙ ap (λ l. hosted (record { code = c.args.code.now; places = c.in_ok-places.places.items; mail = g.P.Port.state c.args.port; seats = c.in_ok-seats.seats.items; hands = c.in_ok-hands.hands.items }) l c.in_ok-root.root true) (sym cores) in
     let here = whole_here c.args.code.now valid c.args.placement.now c.args.cores.now (g.P.Port.state c.args.port) c.requires c.in_ok-places.ensures.placed c.in_ok-seats.seats.items count
     (λ t core z place at. c.in_ok-seats.ensures.each t core z (ap (λ l. slice_get l t) read ∙ place) at) c.in_ok-hands.hands.items hands c.in_ok-hands.ensures.each c.in_ok-root.root room kind (subst IsWhole (sym host) whole) in
-    record { jobs = subst (λ h. HasJobs h []) host (new_jobs c.args.code.now valid c.args.placement.now c.args.cores.now (g.P.Port.state c.args.port) c.requires c.in_ok-places.ensures.placed c.in_ok-seats.seats.items count
-    (λ t core z place at. c.in_ok-seats.ensures.each t core z (ap (λ l. slice_get l t) read ∙ place) at) c.in_ok-hands.hands.items hands c.in_ok-hands.ensures.each c.in_ok-root.root room kind here); keeps = λ e. kind }
+    record {
+      jobs = subst (λ h. HasJobs h []) host (new_jobs c.args.code.now valid c.args.placement.now c.args.cores.now (g.P.Port.state c.args.port) c.requires c.in_ok-places.ensures.placed c.in_ok-seats.seats.items count
+          (λ t core z place at. c.in_ok-seats.ensures.each t core z (ap (λ l. slice_get l t) read ∙ place) at) c.in_ok-hands.hands.items hands c.in_ok-hands.ensures.each c.in_ok-root.root room kind here);
+      keeps = λ e. kind;
+    }
