@@ -23,3 +23,4 @@ pub mod Ticked
 pub mod Ticking
 pub mod Loading
 pub mod Newly
+pub mod Locally

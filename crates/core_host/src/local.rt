@@ -1,5 +1,5 @@
 //! The mailboxes of a whole code in one port.
-ghost use Rattle.std.specs.Prelude.{◌≡◌, ◌<◌, ℕ, suc, List, All, IsTrue, IfOk, Some, length, slice_get, true};
+ghost use Rattle.std.specs.Prelude.{◌≡◌, ◌<◌, ◌^◌, ℕ, suc, List, All, IsTrue, IfOk, Some, length, slice_get, true};
 ghost use Rattle.forec_kernel.specs.Packed.{HasRoom};
 ghost use Rattle.forec_kernel.specs.WellFormed.{distinct};
 ghost use Rattle.thread_code.specs.Plain.{plain_code};
@@ -23,6 +23,7 @@ use thread_code::Code;
 /// Want of memory.
 pub fn blanks(alloc: Global, code: &Code) -> Result<Vec<Packet>, OutOfMemory>
     ensures count { IfOk result (λ packets. suc (length packets.items) ≡ length (plain_code code.now).threads) }
+    ensures few { IfOk result (λ packets. length packets.items < 2 ^ 16) }
     ensures each { IfOk result (λ packets. (k : ℕ) (p : PacketState) → slice_get packets.items k ≡ Some p → HasRoom (of_shape (plain_code code.now).shape) (suc k) (plain_packet p)) }
 {
     let threads = &code.shape().threads;
