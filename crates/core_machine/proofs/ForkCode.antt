@@ -1,5 +1,5 @@
 -- The code with a fork is valid.
-use Rattle.std.proofs.Common.{ℕ, zero, suc, ◌≡◌, ◌<◌, true, false, Some, List, [], ◌∷◌, map, refl, ap, ◌∙◌, subst, arith, Bool, cond, ◌==◌, ◌+◌}
+use Rattle.std.proofs.Common.{ℕ, zero, suc, ◌≡◌, ◌<◌, true, false, Some, List, [], ◌∷◌, map, refl, ap, ◌∙◌, subst, arith, Bool, cond, ◌==◌}
 use Rattle.std.proofs.lemmas.Bool.Decides.{nat_tests}
 use Rattle.std.specs.Prelude.{slice_get, IsTrue}
 use Rattle.forec_kernel.specs.declared.shape.Variable.{Variable}
@@ -8,10 +8,9 @@ use Rattle.forec_kernel.specs.Combining.{contains}
 use Rattle.forec_kernel.specs.Texts.{params_in, words_in}
 use Rattle.forec_kernel.specs.WellFormed.{FineChild, function_params, thread_of}
 use Rattle.forec_kernel.specs.Shapes.{PlainShape, plain_shape}
-use Rattle.thread_code.specs.declared.instruction.Block.{Block}
 use Rattle.thread_code.specs.declared.instruction.CodeParts.{CodeParts}
 use Rattle.thread_code.specs.Plain.{PlainBlock, PlainCode, plain_block, plain_code}
-use Rattle.thread_code.specs.Valid.{FineShape, FineThreadShape, FineFunctionShape, FineCombine, IsParOf, IsBlock, of_shape, branches_in, function_arguments, thread_scope, function_scope, deep_within, IsValidCode}
+use Rattle.thread_code.specs.Valid.{FineShape, FineThreadShape, FineFunctionShape, FineCombine, IsParOf, IsBlock, of_shape, function_arguments, thread_scope, function_scope, deep_within, IsValidCode}
 use Rattle.thread_code.proofs.AllFine.{valid_all}
 use Rattle.core_machine.specs.Worked.{all_by_minus, new_by_division, mod_by_minus, fork_shape, root_block, branch_block, minus_block, division_block, fork_code}
 

@@ -1,10 +1,9 @@
 -- A code with a fork: a thread with three branches, and three variables whose copies are combined.
-use Rattle.std.specs.Prelude.{pos, false, Option, Some, None, List, [], ◌∷◌}
+use Rattle.std.specs.Prelude.{pos, false, Some, None, [], ◌∷◌}
 use Rattle.forec_base.specs.declared.Policy.TheVariants.{All, New, Mod}
 use Rattle.forec_base.specs.declared.operators.Binary.TheVariants.{Sub, Div}
 use Rattle.forec_kernel.specs.declared.shape.Variable.{Variable}
 use Rattle.forec_kernel.specs.Shapes.{PlainThread, PlainShape}
-use Rattle.thread_code.specs.declared.instruction.Instruction.{Instruction}
 use Rattle.thread_code.specs.declared.instruction.Instruction.TheVariants.{Load, Binary, Fork, Again, Pause, End, Return}
 use Rattle.thread_code.specs.Plain.{PlainBlock, PlainCode}
 

@@ -7,7 +7,7 @@ ghost use Rattle.thread_code.specs.Plain.{plain_block, plain_code};
 ghost use Rattle.thread_code.specs.Valid.{of_shape};
 ghost use Rattle.combine_tree.specs.Plain.{plain_packet};
 ghost use Rattle.core_machine.specs.Forks.{IsReplyKind};
-ghost use Rattle.core_machine.specs.Held.{Loaded, CanRun, IsResting, HasSettled, HasJoined};
+ghost use Rattle.core_machine.specs.Held.{Loaded, CanRun, IsResting, HasReply, HasPaused, HasSettled, HasJoined};
 ghost use Rattle.combine_tree.specs.declared.packet.PacketKind.TheVariants as kind;
 ghost use Rattle.core_machine.specs.Worked.{fork_shape, root_thread, branch_thread, root_block, branch_block, minus_block, division_block, fork_code};
 
@@ -340,6 +340,59 @@ fn replies(thread: &mut Thread, code: &Code, packet: &mut Packet) -> Option<Even
     }
 }
 
+/// Runs to a pause, and writes the reply.
+fn pauses(thread: &mut Thread, code: &Code, packet: &mut Packet) -> bool
+    requires loaded { Loaded (plain_code code.now) thread.old }
+    requires running { CanRun thread.old }
+    requires room { HasRoom (of_shape (plain_code code.now).shape) thread.old.number (plain_packet packet.old) }
+    ensures loaded { Loaded (plain_code code.now) thread.new }
+    ensures number { thread.new.number ≡ thread.old.number }
+    ensures replied { result ≡ true → HasReply thread.new }
+    ensures paused { result ≡ true → HasPaused thread.new }
+    ensures room { HasRoom (of_shape (plain_code code.now).shape) thread.old.number (plain_packet packet.new) }
+{
+    match thread.run(code) {
+        Event::Paused => {
+            thread.reply(code, packet);
+            true
+        }
+        _ => false,
+    }
+}
+
+/// Wakes a thread that has paused.
+fn wakes(thread: &mut Thread, code: &Code, packet: &mut Packet)
+    requires loaded { Loaded (plain_code code.now) thread.old }
+    requires replied { HasReply thread.old }
+    requires paused { HasPaused thread.old }
+    requires room { HasRoom (of_shape (plain_code code.now).shape) thread.old.number (plain_packet packet.old) }
+    ensures loaded { Loaded (plain_code code.now) thread.new }
+    ensures number { thread.new.number ≡ thread.old.number }
+    ensures running { CanRun thread.new }
+    ensures room { HasRoom (of_shape (plain_code code.now).shape) thread.old.number (plain_packet packet.new) }
+{
+    packet.kind = PacketKind::Wake;
+    packet.allowance = 50;
+    thread.begin(code, packet);
+}
+
+/// Settles and joins the reply of one branch.
+fn play_one(thread: &mut Thread, code: &Code, a: &Packet) -> bool
+    requires loaded { Loaded (plain_code code.now) thread.old }
+    requires order { HasSettled thread.old 0 }
+    ensures loaded { Loaded (plain_code code.now) thread.new }
+    ensures number { thread.new.number ≡ thread.old.number }
+    ensures running { result ≡ true → CanRun thread.new }
+{
+    if !settle(thread, code, 0, a) {
+        return false;
+    }
+    if thread.active(code, 1).is_some() {
+        return false;
+    }
+    join(thread, code, 0, a)
+}
+
 /// Begins a job where the packet has the thread's room.
 fn begins(thread: &mut Thread, code: &Code, packet: &Packet) -> bool
     requires loaded { Loaded (plain_code code.now) thread.old }
@@ -517,7 +570,7 @@ fn asks_and_wakes(rt: HostRuntime) -> Result<(), Fail> {
     let mut packet = packet_of(rt.alloc(), &start())?;
     let mut job = packet_of(rt.alloc(), &start())?;
     let ends = packet_of(rt.alloc(), &ended(2, [(10, false), (1, false), (7, false)]))?;
-    let pauses = packet_of(rt.alloc(), &told(PacketKind::Paused))?;
+    let held = packet_of(rt.alloc(), &told(PacketKind::Paused))?;
     if !begins(&mut thread, &code, &packet) || !comes_to_fork(&mut thread, &code) {
         panic!(rt; "no fork");
     }
@@ -531,10 +584,26 @@ fn asks_and_wakes(rt: HostRuntime) -> Result<(), Fail> {
         assert_eq!(rt; row_of(&job), expected);
         assert_eq!(rt; job.allowance, 99);
     }
-    if !play(&mut thread, &code, &ends, &pauses, &ends) {
+    if !play(&mut thread, &code, &ends, &held, &ends) {
         panic!(rt; "no replies");
     }
+    if !pauses(&mut thread, &code, &mut packet) {
+        panic!(rt; "no pause");
+    }
+    wakes(&mut thread, &code, &mut packet);
+    if !comes_to_fork(&mut thread, &code) {
+        panic!(rt; "no held fork");
+    }
+    let branch = ask(&thread, &code, 0, &mut job);
+    assert_eq!(rt; branch, Some(2));
+    assert_eq!(rt; job.kind, PacketKind::Wake);
+    assert_eq!(rt; job.allowance, 50);
+    let branch = ask(&thread, &code, 1, &mut job);
+    assert_eq!(rt; branch, None);
+    if !play_one(&mut thread, &code, &ends) {
+        panic!(rt; "no reply");
+    }
     let event = replies(&mut thread, &code, &mut packet);
-    assert_eq!(rt; event, Some(Event::Paused));
+    assert_eq!(rt; event, Some(Event::Ended));
     Ok(())
 }
