@@ -9,6 +9,8 @@ mod judging;
 mod judging_tests;
 mod laws;
 mod names;
+#[cfg(test)]
+mod placed_tests;
 mod placing;
 mod refusal;
 mod runner;
