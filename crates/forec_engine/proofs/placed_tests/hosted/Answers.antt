@@ -23,7 +23,7 @@ pub load-requires : goal.load-requires
 load-requires c =
     let same = ap (λ parts. vec_len parts.threads) c.parts.ensures.same in
     let placed : length c.args.placement.now.places ≡ length (plain_code c.args.code.now).threads =
-        omega (arith, c.threads.ensures, c.if-threads-count.false, c.len-count.ensures, same, length-map c.args.code.now.threads.items plain_block) in
+    omega (arith, c.threads.ensures, c.if-threads-count.false, c.len-count.ensures, same, length-map c.args.code.now.threads.items plain_block) in
     c.in_ok-port.ensures.serves c.args.placement.now (0 ∷ 1 ∷ 2 ∷ []) placed refl (all_below c.args.placement.now.cores c.requires.cores) (no_others c.args.placement.now.cores c.requires.cores)
 
 pub returns-clause-whole : goal.returns-clause-whole
