@@ -1,27 +1,21 @@
 -- One branch after the other does its job.
-use Rattle.std.proofs.Common.{◌≡◌, ◌≢◌, ℕ, zero, suc, ◌+◌, ◌-◌, ◌<◌, ◌≤◌, ◌==◌, Bool, true, false, cond, Option, Some, None, List, [], ◌∷◌, ◌++◌, length, map, take, get_or, refl, sym, ap, ◌∙◌, subst, append_assoc, append-nil, ⊎_elim, arith}
-use Rattle.std.specs.Prelude.{slice_get, ◌⊎◌, ℤ}
+use Rattle.std.proofs.Common.{◌≡◌, ◌≢◌, ℕ, suc, ◌<◌, ◌≤◌, ◌==◌, Bool, true, false, cond, Some, List, [], ◌∷◌, ◌++◌, length, map, refl, sym, ap, ◌∙◌, subst, append_assoc, append-nil, ⊎_elim, arith}
+use Rattle.std.specs.Prelude.{slice_get, ℤ}
 use Rattle.std.proofs.lemmas.Bool.{cases_lt}
 use Rattle.std.proofs.lemmas.Bool.Decides.{nat_tests}
-use Rattle.std.proofs.lemmas.Option.{slice_get_within}
 use Rattle.forec_kernel.specs.declared.shape.VarCopy.{VarCopy}
 use Rattle.forec_kernel.specs.Packets.{PlainPacket}
-use Rattle.forec_kernel.specs.Packets as packet
 use Rattle.forec_kernel.specs.Packed.{HasRoom, IsJob, AreJobs, IsReply, PacketAnswers}
 use Rattle.forec_kernel.specs.Solo.{unmarked_copies}
-use Rattle.forec_kernel.specs.Engine.{Job, Start, Wake, Reply, WasPaused, WasEnded, WasTrapped, WasOver, Written, Answered, pair_up, jobs_to, Allowed, Answers}
-use Rattle.forec_kernel.proofs.Serving.{allowed_first}
+use Rattle.forec_kernel.specs.Engine.{Job, Start, Wake, Reply, Written, Answered, pair_up, jobs_to, Allowed, Answers}
 use Rattle.thread_code.specs.Plain.{PlainCode, plain_code}
-use Rattle.thread_code.specs.Valid.{IsValidCode, of_shape}
+use Rattle.thread_code.specs.Valid.{of_shape}
 use Rattle.thread_code.specs.Alone.{CodeAlone}
-use Rattle.combine_tree.specs.declared.packet.Packet.{Packet}
 use Rattle.combine_tree.specs.Plain.{plain_packet}
-use Rattle.copy_slots.specs.Ports.{parent_at, child_at, sent_by, got_by, sent, got, taken, answered}
-use Rattle.core_host.specs.Asking.{Replies, ArePaused}
+use Rattle.copy_slots.specs.Ports.{parent_at, sent_by, got_by, sent, got}
 use Rattle.core_host.specs.Posts.{Mail, IsBranchOf, AreReplies, replies_to}
-use Rattle.core_host.specs.Changes.{Extends, Grown}
 use Rattle.core_host.specs.Done.{AreAbove, Posts}
-use Rattle.core_host.specs.Keeping.{State, code_in, Leaves, IsFitted, Idle, Quiet, QuietAbove, IsCalled, IsBack, MayAsk, IsJobFor, HasHeard}
+use Rattle.core_host.specs.Keeping.{State, code_in, Leaves, IsFitted, Quiet, QuietAbove, HasHeard}
 use Rattle.core_host.specs.Moving.{Moves, HasSent, HasGot}
 use Rattle.core_host.proofs.Mails.{extends_one, extends_same}
 use Rattle.core_host.proofs.Keep.{parent_once, moved_quiet, moved_grown, moved_leaves, leaves_then, leaves_less, quiet_below, fitted_keeps}

@@ -1,28 +1,25 @@
 -- The branches of a fork, one by one.
-use Rattle.std.proofs.Common.{◌≡◌, ◌≢◌, ℕ, zero, suc, ◌+◌, ◌-◌, ◌<◌, ◌≤◌, Option, Some, None, List, [], ◌∷◌, ◌++◌, length, map, take, get_or, refl, sym, ap, ◌∙◌, subst, append_assoc, append-nil, ⊎_elim, inl, inr, arith}
+use Rattle.std.proofs.Common.{◌≡◌, ◌≢◌, ℕ, zero, suc, ◌+◌, ◌-◌, ◌<◌, ◌≤◌, Some, List, [], ◌∷◌, ◌++◌, length, refl, sym, ap, ◌∙◌, subst, append_assoc, append-nil, ⊎_elim, inl, inr, arith}
 use Rattle.std.specs.Prelude.{slice_get, ◌⊎◌}
 use Rattle.std.proofs.lemmas.Bool.{cases_lt}
 use Rattle.std.proofs.lemmas.Option.{slice_get_within}
-use Rattle.forec_kernel.specs.Packets.{PlainPacket}
 use Rattle.forec_kernel.specs.Packed.{HasRoom}
 use Rattle.thread_code.specs.Valid.{of_shape}
 use Rattle.combine_tree.specs.Plain.{plain_packet}
-use Rattle.forec_kernel.specs.Engine.{Job, Start, Wake, Reply, Written, Answered, pair_up}
-use Rattle.thread_code.specs.declared.instruction.CodeParts.{CodeParts}
+use Rattle.forec_kernel.specs.Engine.{Job, Start, Wake, Reply, Written, pair_up}
 use Rattle.thread_code.specs.Plain.{PlainCode, plain_code}
 use Rattle.core_machine.specs.declared.thread.Thread.{Thread}
-use Rattle.core_machine.specs.Held.{Loaded, HasSettled}
+use Rattle.core_machine.specs.Held.{Loaded}
 use Rattle.core_machine.specs.Forks.{jobs_at}
 use Rattle.copy_slots.specs.Ports.{parent_at, sent_by, sent}
 use Rattle.core_host.specs.Asking.{ArePaused}
 use Rattle.core_host.specs.Posts.{Mail, IsBranchOf}
 use Rattle.core_host.specs.Done.{Posts}
-use Rattle.core_host.specs.Keeping.{State, code_in, Leaves, IsFitted, Quiet, QuietAbove, IsCalled, MayAsk, IsJobFor, AtFork, CanSend, HasHeard, HaveHeard}
+use Rattle.core_host.specs.Keeping.{State, code_in, Leaves, IsFitted, Quiet, QuietAbove, MayAsk, IsJobFor, AtFork, CanSend, HasHeard, HaveHeard}
 use Rattle.core_host.specs.Moving.{Moves, HasSent, HasGot}
 use Rattle.core_host.specs.Consults.{Consulted}
 use Rattle.core_host.proofs.Mails.{some_once}
 use Rattle.core_host.proofs.Keep.{leaves_same, leaves_then, fitted_keeps, moved_quiet, parent_once}
-use Rattle.core_host.proofs.Hearing.{past_end, take_all}
 use Rattle.core_host.proofs.Send.{at_map}
 use Rattle.core_host.proofs.Consulting.{all_leaves, quiet_all, parent_else, hand_else, its_reply, heard_now, posts_now, pairs_more}
 

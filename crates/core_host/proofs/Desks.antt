@@ -1,29 +1,28 @@
 -- A thread at work at a desk, in the words of the calls that it makes.
-use Rattle.std.proofs.Common.{◌≡◌, ◌≢◌, ℕ, zero, suc, ◌+◌, ◌-◌, ◌<◌, ◌≤◌, ◌^◌, Bool, true, false, Option, Some, None, List, [], ◌∷◌, ◌++◌, length, map, refl, sym, ap, ◌∙◌, subst, arith}
-use Rattle.std.specs.Prelude.{slice_get, slice_set, slice_index_or}
+use Rattle.std.proofs.Common.{◌≡◌, ◌≢◌, ℕ, suc, ◌+◌, ◌<◌, ◌≤◌, ◌^◌, true, false, Option, Some, List, [], ◌∷◌, ◌++◌, length, sym, ap, ◌∙◌, subst, arith}
+use Rattle.std.specs.Prelude.{slice_set, slice_index_or}
 use Rattle.std.proofs.lemmas.Option.{get_or_from_slice_get}
 use Rattle.forec_kernel.specs.Packets.{PlainPacket}
 use Rattle.forec_kernel.specs.Packed.{HasRoom, IsJob}
 use Rattle.forec_kernel.specs.Engine.{Job, Exchange}
 use Rattle.thread_code.specs.declared.instruction.CodeParts.{CodeParts}
-use Rattle.thread_code.specs.Plain.{PlainCode, plain_code}
+use Rattle.thread_code.specs.Plain.{plain_code}
 use Rattle.thread_code.specs.Valid.{of_shape}
 use Rattle.combine_tree.specs.declared.packet.Packet.{Packet}
 use Rattle.combine_tree.specs.Plain.{plain_packet}
 use Rattle.core_machine.specs.declared.thread.Thread.{Thread}
 use Rattle.core_machine.specs.Held.{Loaded, StandsFor, CanBegin, HasReply, IsResting, Gives}
 use Rattle.core_machine.specs.Replies.{Replies_by}
-use Rattle.copy_slots.specs.declared.view.Taker.{Taker}
 use Rattle.copy_slots.specs.Mail.{taker_took, taker_answered}
-use Rattle.copy_slots.specs.Ports.{child_at, on_child, on_taker, sent_by, taken_by, IsChild, ChildIs, sent, taken, turn, after_take, after_answer}
+use Rattle.copy_slots.specs.Ports.{child_at, on_child, on_taker, sent_by, taken_by, ChildIs, sent, taken, turn, after_take, after_answer}
 use Rattle.core_host.specs.declared.seat.Seat.{Seat}
 use Rattle.core_host.specs.Asking.{Replies, Asks}
 use Rattle.core_host.specs.Posts.{Mail}
 use Rattle.core_host.specs.Done.{InJob}
-use Rattle.core_host.specs.Keeping.{State, code_in, Leaves, IsFitted, Idle, QuietAbove, IsCalled, IsBack}
+use Rattle.core_host.specs.Keeping.{State, code_in, Leaves, IsFitted, QuietAbove, IsCalled, IsBack}
 use Rattle.core_host.specs.Following.{HasFollowed}
 use Rattle.core_host.proofs.Mails.{state, some_once, child_here, is_child, parent_on_child}
-use Rattle.core_host.proofs.Employing.{job_can_begin, job_room, job_small, job_is, at_work, fitted_work, above_work, number_is, in_job, followed, taken3, its_replies, holds3, at_end, leaves_all, above_end, back}
+use Rattle.core_host.proofs.Employing.{job_can_begin, job_room, job_small, at_work, fitted_work, above_work, in_job, followed, its_replies, holds3, at_end, leaves_all, above_end, back}
 
 -- what a child's end has taken
 took : (m : Mail) (k : ℕ) (q : PlainPacket) → ChildIs m k false → taken (record m { ends = on_child m.ends k (taker_took q) }) k ≡ taken m k ++ q ∷ []

@@ -1,13 +1,12 @@
 -- A thread takes a job, does it, and answers.
-use Rattle.std.proofs.Common.{◌≡◌, ◌≢◌, ℕ, zero, suc, ◌+◌, ◌-◌, ◌<◌, ◌≤◌, ◌^◌, Bool, true, false, Option, Some, None, List, [], ◌∷◌, ◌++◌, length, map, refl, sym, ap, ◌∙◌, subst, arith}
+use Rattle.std.proofs.Common.{◌≡◌, ◌≢◌, ℕ, zero, suc, ◌+◌, ◌-◌, ◌<◌, ◌≤◌, ◌^◌, true, false, Option, Some, List, [], ◌∷◌, ◌++◌, length, map, refl, sym, ap, ◌∙◌, subst, arith}
 use Rattle.std.specs.Prelude.{slice_get, slice_set}
 use Rattle.std.proofs.lemmas.List.{length-set}
 use Rattle.forec_kernel.specs.Packets.{PlainPacket, IsPaused}
-use Rattle.forec_kernel.specs.Packets as packet
 use Rattle.forec_kernel.specs.Packed.{HasRoom, IsJob, AreJobs, IsReply, PacketAnswers}
 use Rattle.forec_kernel.specs.Engine.{Job, Reply, WasPaused, WasEnded, WasTrapped, WasOver, Exchange, Output, last_reply, answers_within, Answers}
 use Rattle.thread_code.specs.Plain.{PlainCode, plain_code}
-use Rattle.thread_code.specs.Valid.{of_shape, IsValidCode}
+use Rattle.thread_code.specs.Valid.{of_shape}
 use Rattle.thread_code.specs.Alone.{CodeAlone, code_engine}
 use Rattle.thread_code.specs.Machine.{Machine}
 use Rattle.thread_code.proofs.Steady.{code_steady}
@@ -16,22 +15,22 @@ use Rattle.combine_tree.specs.declared.packet.PacketKind.{PacketKind}
 use Rattle.combine_tree.specs.declared.packet.PacketKind.TheVariants as kind
 use Rattle.combine_tree.specs.Plain.{plain_kind, plain_packet}
 use Rattle.core_machine.specs.declared.thread.Thread.{Thread}
-use Rattle.core_machine.specs.Held.{Loaded, StandsFor, CanBegin, HasPaused, HasReply, IsResting, Gives}
+use Rattle.core_machine.specs.Held.{Loaded, StandsFor, CanBegin, HasPaused, HasReply, Gives}
 use Rattle.core_machine.specs.Replies.{Replies_by}
 use Rattle.copy_slots.specs.declared.view.Place.TheVariants.{Out}
 use Rattle.copy_slots.specs.declared.view.Sender.{Sender}
 use Rattle.copy_slots.specs.declared.view.Taker.{Taker}
 use Rattle.copy_slots.specs.Mail.{taker_took, taker_answered}
-use Rattle.copy_slots.specs.Ports.{parent_at, child_at, on_child, on_taker, sent_by, got_by, taken_by, answered_by, IsParent, IsChild, ParentIs, ChildIs, sent, got, taken, answered}
+use Rattle.copy_slots.specs.Ports.{parent_at, child_at, on_child, on_taker, sent_by, got_by, taken_by, answered_by, IsParent, IsChild, ChildIs, sent, taken, answered}
 use Rattle.core_host.specs.declared.seat.Seat.{Seat}
 use Rattle.core_host.specs.Asking.{Replies, ArePaused, MayFollow, Asks}
-use Rattle.core_host.specs.Posts.{Mail, IsBranchOf}
-use Rattle.core_host.specs.Changes.{Extends, Grown}
+use Rattle.core_host.specs.Posts.{IsBranchOf}
+use Rattle.core_host.specs.Changes.{Extends}
 use Rattle.core_host.specs.Done.{HasDone, InJob}
-use Rattle.core_host.specs.Keeping.{State, code_in, Alike, Leaves, IsFitted, Sits, LastReply, none, last, Idle, Quiet, QuietAbove, IsCalled, IsBack}
+use Rattle.core_host.specs.Keeping.{State, code_in, Alike, Leaves, IsFitted, LastReply, none, last, QuietAbove, IsCalled, IsBack}
 use Rattle.core_host.specs.Following.{HasFollowed}
-use Rattle.core_host.proofs.Mails.{get_set, get_set_else, children_count, child_here, child_else, parent_on_child, is_child, extends_same, extends_one, alike_then}
-use Rattle.core_host.proofs.Keep.{branch_above, parent_once, has_parent, done_keeps, quiet_keeps, grown_then, leaves_then, leaves_less, fitted_keeps}
+use Rattle.core_host.proofs.Mails.{get_set, get_set_else, children_count, child_here, child_else, parent_on_child, is_child, extends_same, extends_one}
+use Rattle.core_host.proofs.Keep.{branch_above, has_parent, done_keeps, quiet_keeps, leaves_then, leaves_less, fitted_keeps}
 use Rattle.core_host.proofs.Once.{answers_once}
 use Rattle.core_host.proofs.Consulting.{jobs_once, jobs_more}
 use Rattle.core_host.proofs.Logs.{front_once, job_begins, Ends, job_ends}

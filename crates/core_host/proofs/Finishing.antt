@@ -1,6 +1,6 @@
 -- A job goes on, fork by fork.
-use Rattle.std.proofs.Common.{◌≡◌, ◌≢◌, ℕ, zero, suc, ◌+◌, ◌-◌, ◌*◌, ◌<◌, ◌≤◌, ◌^◌, List, [], ◌∷◌, ◌++◌, map, length, refl, sym, ap, ◌∙◌, subst, arith}
-use Rattle.forec_kernel.specs.Engine.{Job, allowance_of, Reply, Written, Exchange, Answered, pair_up}
+use Rattle.std.proofs.Common.{◌≡◌, ℕ, zero, suc, ◌+◌, ◌*◌, ◌<◌, ◌≤◌, ◌^◌, List, [], ◌++◌, map, length, refl, sym, ap, ◌∙◌, subst, arith}
+use Rattle.forec_kernel.specs.Engine.{Job, allowance_of, Reply, Exchange, Answered, pair_up}
 use Rattle.thread_code.specs.Plain.{PlainCode, plain_code}
 use Rattle.thread_code.specs.Alone.{block_of, units_of}
 use Rattle.core_machine.specs.declared.thread.Thread.{Thread}

@@ -1,18 +1,17 @@
 -- Where a thread of a valid code is, by what it has heard.
-use Rattle.std.proofs.Common.{◌≡◌, ℕ, zero, suc, ◌+◌, ◌-◌, ◌*◌, ◌<◌, ◌≤◌, Bool, true, false, Option, Some, None, List, [], ◌∷◌, ◌++◌, map, length, get_or, refl, sym, ap, ◌∙◌, subst, append_assoc, append-nil, arith}
+use Rattle.std.proofs.Common.{◌≡◌, ℕ, zero, suc, ◌+◌, ◌-◌, ◌<◌, ◌≤◌, true, false, Some, List, [], ◌∷◌, ◌++◌, map, length, get_or, refl, sym, ap, ◌∙◌, subst, append_assoc, append-nil, arith}
 use Rattle.std.specs.Prelude.{replicate}
-use Rattle.forec_kernel.specs.Engine.{Job, Start, Wake, allowance_of, Reply, WasOver, Seed, Written, written, View, Going, AtFork, Pausing, Ending, Trapping, Exceeding, Engine, run_for, Stops, Reaches, Rest, Asleep, Nothing, Exchange, Output, Begins, Alone, Serves, Answered, pair_up, pair_forks, pair_all, AllReply, last_reply}
+use Rattle.forec_kernel.specs.Engine.{Job, Start, Wake, allowance_of, Reply, WasOver, Seed, Written, written, AtFork, Engine, run_for, Stops, Rest, Asleep, Nothing, Exchange, Output, Begins, Serves, Answered, pair_up, pair_forks, pair_all, AllReply}
 use Rattle.forec_kernel.specs.Reached.{Position, AtRest, Inside, Reached, none, begun, stepped, joined, answered, exceeded, Closes, AloneTo}
 use Rattle.forec_kernel.proofs.Same.{IsSteady, one_stop}
-use Rattle.forec_kernel.proofs.Reach.{Ran, Went, alone_of, alone_snoc, went_answer, went_over}
+use Rattle.forec_kernel.proofs.Reach.{Went, alone_snoc, went_answer, went_over}
 use Rattle.thread_code.specs.Plain.{PlainCode}
 use Rattle.thread_code.specs.Valid.{IsValidCode}
 use Rattle.thread_code.specs.Machine.{Machine, On, Waits, Merges, Fails, Paused, Ended, Trapped, Exceeded, Stuck}
-use Rattle.thread_code.specs.Alone.{block_of, started, woken, view_of, units_of, code_engine, CodeAlone}
-use Rattle.thread_code.proofs.Steady.{code_steady}
+use Rattle.thread_code.specs.Alone.{block_of, view_of, units_of, code_engine}
 use Rattle.thread_code.proofs.Unstuck.{reached_good}
 use Rattle.core_host.specs.Writing.{Wrote}
-use Rattle.core_host.proofs.Forking.{Lively, Fine, Few, IsFork, step_fine, join_fine}
+use Rattle.core_host.proofs.Forking.{Lively, Fine, step_fine, join_fine}
 
 -- ---- runs and jobs
 

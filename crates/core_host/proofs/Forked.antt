@@ -1,20 +1,19 @@
 -- A thread comes to a fork, and goes on with the replies of its branches.
 use Rattle.std.proofs.Common.{◌≡◌, ◌≢◌, ℕ, zero, suc, ◌+◌, ◌-◌, ◌*◌, ◌<◌, ◌≤◌, ◌==◌, Bool, true, false, cond, Option, Some, None, List, [], ◌∷◌, ◌++◌, map, length, refl, sym, ap, ◌∙◌, subst, append_assoc, append-nil, arith}
-use Rattle.std.specs.Prelude.{slice_get, IsNone, ℤ}
+use Rattle.std.specs.Prelude.{slice_get, IsNone}
 use Rattle.std.proofs.lemmas.Bool.Decides.{nat_tests}
 use Rattle.std.proofs.lemmas.Option.{slice_get_within}
-use Rattle.forec_kernel.specs.declared.shape.VarCopy.{VarCopy}
-use Rattle.forec_kernel.specs.Packets.{PlainPacket, IsPaused}
+use Rattle.forec_kernel.specs.Packets.{IsPaused}
 use Rattle.forec_kernel.specs.WellFormed.{thread_of}
-use Rattle.forec_kernel.specs.Engine.{Job, Start, Wake, allowance_of, Reply, WasPaused, Seed, Starts, Wakes, Written, written, View, Going, AtFork as IsAtFork, Pausing, Ending, Trapping, Exceeding, Engine, Exchange, Nothing, Begins, Answered, pair_up, pair_forks, pair_all, jobs_to, Allowed, Answers}
-use Rattle.forec_kernel.specs.Reached.{Reached, Inside}
+use Rattle.forec_kernel.specs.Engine.{Job, Start, Wake, allowance_of, Reply, WasPaused, Seed, Starts, Wakes, Written, written, AtFork as IsAtFork, Engine, Exchange, Nothing, Begins, Answered, pair_up, pair_forks, pair_all, jobs_to, Allowed, Answers}
+use Rattle.forec_kernel.specs.Reached.{Inside}
 use Rattle.forec_kernel.proofs.Reach.{Went}
-use Rattle.thread_code.specs.Plain.{PlainCode, plain_code}
+use Rattle.thread_code.specs.Plain.{PlainCode}
 use Rattle.thread_code.specs.Valid.{IsValidCode, costs, of_shape}
 use Rattle.thread_code.specs.Machine.{Machine, On, Waits, Merges, Fails, Paused, Ended, Trapped, Exceeded, Stuck}
 use Rattle.thread_code.specs.Alone.{block_of, view_of, units_of, code_engine, CodeAlone}
 use Rattle.thread_code.proofs.Steady.{code_steady}
-use Rattle.thread_code.proofs.Unstuck.{Good, IsHere, reached_good}
+use Rattle.thread_code.proofs.Unstuck.{Good, reached_good}
 use Rattle.core_machine.specs.declared.thread.Thread.{Thread}
 use Rattle.core_machine.specs.declared.thread.Phase.TheVariants as phase
 use Rattle.core_machine.specs.Held.{branch_of, machine_in, machine_of, Waits_at, Placed, Loaded, StandsFor, HasSettled}
@@ -26,7 +25,7 @@ use Rattle.core_host.specs.Writing.{Log, heard, told, Wrote}
 use Rattle.core_host.specs.Done.{Posts, InJob}
 use Rattle.core_host.specs.Keeping.{State, code_in, IsFitted, IsJobFor, MayAsk, AtFork}
 use Rattle.core_host.proofs.Keep.{branch_above}
-use Rattle.core_host.proofs.Forking.{EndsPaused, WakesPaused, AllAbove, Rising, AllAre, IsMine, IsFork, Fine}
+use Rattle.core_host.proofs.Forking.{EndsPaused, WakesPaused, AllAbove, Rising, AllAre, IsMine, Fine}
 use Rattle.core_host.proofs.Follows.{Working, follows, wrote_of, wrote_once, wrote_count, went_join, forks_then}
 use Rattle.core_host.proofs.Consulting.{jobs_then}
 use Rattle.core_host.proofs.Logs.{IsInside, fork_in, fork_machine, begins_once, alone_to_once}

@@ -1,9 +1,9 @@
 -- What holds of a thread of a valid code at each fork: its branches are its own, one that is woken has paused, and there are not too many forks in one job.
-use Rattle.std.proofs.Common.{◌≡◌, ◌≢◌, ℕ, zero, suc, ◌+◌, ◌-◌, ◌*◌, ◌<◌, ◌≤◌, ◌==◌, ℤ, Bool, true, false, cond, not, Option, Some, None, List, [], ◌∷◌, ◌++◌, map, length, get_or, refl, sym, ap, ◌∙◌, subst, ⊎_elim, append_assoc, append-nil, arith}
-use Rattle.std.specs.Prelude.{slice_get, slice_set, replicate, nat_lt, IsTrue, ◌⊎◌}
+use Rattle.std.proofs.Common.{◌≡◌, ◌≢◌, ℕ, zero, suc, ◌+◌, ◌*◌, ◌<◌, ◌≤◌, ◌==◌, ℤ, Bool, true, false, cond, not, Option, Some, None, List, [], ◌∷◌, ◌++◌, map, length, get_or, refl, sym, ap, ◌∙◌, subst, ⊎_elim, append_assoc, append-nil, arith}
+use Rattle.std.specs.Prelude.{slice_get, slice_set, nat_lt, IsTrue}
 use Rattle.std.proofs.lemmas.Bool.{cases_lt}
 use Rattle.std.proofs.lemmas.Bool.Decides.{nat_tests}
-use Rattle.std.proofs.lemmas.Option.{slice_get_within, slice_get-get_or}
+use Rattle.std.proofs.lemmas.Option.{slice_get_within}
 use Rattle.forec_base.specs.Numbers.{is_zero, binary_of}
 use Rattle.forec_base.specs.declared.Place.{Place}
 use Rattle.forec_base.specs.declared.Trap.{Trap}
@@ -14,15 +14,14 @@ use Rattle.forec_kernel.specs.Combining.{contains, takes_part, variable_of}
 use Rattle.forec_kernel.specs.Values.{copy_of, word, index_in, place_or}
 use Rattle.forec_kernel.specs.WellFormed.{branches_of, is_par, thread_of}
 use Rattle.forec_kernel.specs.Solo.{some_reply_over, all_units}
-use Rattle.forec_kernel.specs.Engine.{Job, Start, Wake, allowance_of, Reply, WasPaused, WasEnded, WasTrapped, WasOver, Seed, Starts, Wakes, Written, written, Rest, Asleep, Nothing, View, Going, AtFork, Pausing, Ending, Trapping, Exceeding, Exchange, Output, Begins, Answered, pair_up, pair_forks, pair_all, AllReply}
-use Rattle.forec_kernel.specs.Reached.{Position, AtRest, Inside, Reached, none, begun, stepped, joined, answered, exceeded, Closes, AloneTo}
+use Rattle.forec_kernel.specs.Engine.{Reply, WasPaused, WasEnded, WasTrapped, WasOver, Seed, Starts, Wakes, written, Going, AtFork, Answered, pair_up}
 use Rattle.thread_code.specs.declared.instruction.Instruction.{Instruction}
 use Rattle.thread_code.specs.declared.instruction.Instruction.TheVariants as instruction
 use Rattle.thread_code.specs.Plain.{PlainBlock, PlainCode}
-use Rattle.thread_code.specs.Valid.{Leads, IsFine, IsParOf, IsValid, IsValidCode, costs, of_shape, branches_in, arguments_of, function_arguments}
-use Rattle.thread_code.specs.Machine.{Point, Share, Merge, Frame, Caller, Folding, Own, Awaited, Machine, On, Waits, Merges, Fails, Paused, Ended, Trapped, Exceeded, Stuck, onward, goes_to, with_top, with_arguments, unless_none, turn_taken, put_at, entered, uses_of, total_of, totalled, noted, folded, offered, merge_step, returned, living, starts, wakes, awaited, waking, act, step, is_ended, live_after, back_to, replied, join}
-use Rattle.thread_code.specs.Alone.{block_of, started, woken, view_of, code_engine}
-use Rattle.thread_code.proofs.Unstuck.{IsPlace, IsHere, Good, owner, fetched, fine_at, reached_good}
+use Rattle.thread_code.specs.Valid.{Leads, IsFine, IsParOf, IsValidCode, costs, of_shape, branches_in, arguments_of, function_arguments}
+use Rattle.thread_code.specs.Machine.{Point, Share, Merge, Frame, Caller, Folding, Own, Awaited, Machine, On, Waits, Merges, Fails, Paused, Ended, Trapped, Exceeded, Stuck, onward, with_top, with_arguments, unless_none, turn_taken, put_at, entered, uses_of, total_of, folded, offered, merge_step, returned, living, starts, wakes, awaited, waking, act, step, is_ended, live_after, back_to, replied, join}
+use Rattle.thread_code.specs.Alone.{block_of, view_of}
+use Rattle.thread_code.proofs.Unstuck.{IsHere, Good, owner, fetched, fine_at}
 use Rattle.core_machine.specs.Held.{branch_of}
 use Rattle.core_host.specs.Posts.{replies_to}
 

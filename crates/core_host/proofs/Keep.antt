@@ -1,25 +1,23 @@
 -- What stays of threads and mailboxes that a change leaves alone.
-use Rattle.std.proofs.Common.{◌≡◌, ◌≢◌, ℕ, zero, suc, ◌+◌, ◌-◌, ◌<◌, ◌≤◌, Bool, true, false, Option, Some, None, List, [], ◌∷◌, ◌++◌, length, get_or, refl, sym, ap, ◌∙◌, subst, append_assoc, arith}
+use Rattle.std.proofs.Common.{◌≡◌, ◌≢◌, ℕ, zero, suc, ◌<◌, ◌≤◌, false, Option, Some, List, ◌++◌, length, refl, sym, ap, ◌∙◌, subst, append_assoc, arith}
 use Rattle.std.specs.Prelude.{slice_get}
 use Rattle.forec_kernel.specs.Packets.{PlainPacket}
 use Rattle.forec_kernel.specs.Packed.{AreJobs, HasRoom}
 use Rattle.forec_kernel.specs.Engine.{Job, Answered, jobs_to}
-use Rattle.forec_kernel.specs.WellFormed.{thread_of, FineChild}
-use Rattle.thread_code.specs.declared.instruction.CodeParts.{CodeParts}
 use Rattle.thread_code.specs.Plain.{PlainCode, plain_code}
 use Rattle.thread_code.specs.Valid.{of_shape, IsValidCode}
 use Rattle.combine_tree.specs.declared.packet.Packet.{Packet}
 use Rattle.combine_tree.specs.Plain.{plain_packet}
 use Rattle.core_machine.specs.declared.thread.Thread.{Thread}
 use Rattle.core_machine.specs.Held.{Loaded}
-use Rattle.copy_slots.specs.declared.view.Place.TheVariants.{Fresh, Held, Out}
+use Rattle.copy_slots.specs.declared.view.Place.TheVariants.{Fresh, Held}
 use Rattle.copy_slots.specs.declared.view.Sender.{Sender}
 use Rattle.copy_slots.specs.declared.view.Taker.{Taker}
-use Rattle.copy_slots.specs.Ports.{parent_at, child_at, sent_by, got_by, taken_by, answered_by, IsParent, IsChild, ParentIs, ChildIs, sent, got, taken, answered}
+use Rattle.copy_slots.specs.Ports.{parent_at, child_at, sent_by, got_by, taken_by, answered_by, IsParent, IsChild, sent, got, taken, answered}
 use Rattle.core_host.specs.Posts.{Mail, IsBranchOf, AreReplies, replies_to}
 use Rattle.core_host.specs.Changes.{Extends, Grown}
 use Rattle.core_host.specs.Done.{Posts, HasDone}
-use Rattle.core_host.specs.Keeping.{State, code_in, Alike, Leaves, IsFitted, Sits, LastReply, Idle, Ready, blank, reply, Quiet, QuietAbove, IsCalled, IsBack}
+use Rattle.core_host.specs.Keeping.{State, code_in, Leaves, IsFitted, LastReply, Idle, Ready, blank, reply, Quiet}
 use Rattle.core_host.specs.Moving.{Moves}
 use Rattle.core_host.proofs.Mails.{alike_then, extends_same}
 

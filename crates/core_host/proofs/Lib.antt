@@ -1,6 +1,5 @@
 pub mod Copies
 pub mod Rooms
-pub mod One
 pub mod KeptCopies
 pub mod SumCode
 pub mod Once
@@ -24,3 +23,4 @@ pub mod Ticking
 pub mod Loading
 pub mod Newly
 pub mod Locally
+pub mod FoldedCode

@@ -1,14 +1,12 @@
 -- How a job begins, goes on at a fork, and ends, for the jobs and replies of a thread.
-use Rattle.std.proofs.Common.{◌≡◌, ◌≢◌, ℕ, zero, suc, ◌+◌, ◌-◌, ◌*◌, ◌<◌, ◌≤◌, ◌==◌, Bool, true, false, cond, Option, Some, None, List, [], ◌∷◌, ◌++◌, map, length, refl, sym, ap, ◌∙◌, subst, append_assoc, append-nil, arith}
-use Rattle.std.specs.Prelude.{slice_get}
+use Rattle.std.proofs.Common.{◌≡◌, ℕ, ◌-◌, ◌<◌, ◌==◌, true, Some, None, List, [], ◌∷◌, ◌++◌, map, length, refl, sym, ap, ◌∙◌, subst, append-nil, arith}
 use Rattle.std.proofs.lemmas.Bool.Decides.{nat_tests}
-use Rattle.forec_kernel.specs.declared.shape.VarCopy.{VarCopy}
 use Rattle.forec_kernel.specs.Packets.{PlainPacket}
-use Rattle.forec_kernel.specs.Packed.{IsJob, AreJobs, IsReply, PacketAnswers}
-use Rattle.forec_kernel.specs.Engine.{Job, Start, Wake, allowance_of, Reply, WasPaused, WasEnded, WasTrapped, WasOver, Seed, Written, written, View, Going, AtFork, Pausing, Ending, Trapping, Exceeding, Engine, Stops, Reaches, Passes, Rest, Asleep, Nothing, Exchange, Output, answers_with, ends_at, first_jobs, AtEvent, Goes, over, event, Either, Serves, Begins, Alone, Answered, pair_up, pair_forks, pair_all, jobs_to, Allowed, AllReply, last_reply, AnswersBy, Answers}
+use Rattle.forec_kernel.specs.Packed.{IsReply}
+use Rattle.forec_kernel.specs.Engine.{Job, Start, Wake, allowance_of, Reply, Seed, Written, written, View, Going, AtFork, Pausing, Ending, Trapping, Exceeding, Engine, Reaches, Rest, Asleep, Nothing, Exchange, Output, ends_at, first_jobs, AtEvent, Goes, over, event, Either, Serves, Begins, Alone, Answered, pair_forks, pair_all, Allowed, last_reply, Answers}
 use Rattle.forec_kernel.specs.Reached.{Reached, Inside, AloneTo}
 use Rattle.forec_kernel.proofs.Same.{IsSteady, one_stop, not_both, serves_one}
-use Rattle.forec_kernel.proofs.Reach.{alone_of, Went}
+use Rattle.forec_kernel.proofs.Reach.{alone_of}
 use Rattle.forec_kernel.proofs.Agree.{answers_join}
 use Rattle.thread_code.specs.Plain.{PlainCode}
 use Rattle.thread_code.specs.Valid.{IsValidCode}
@@ -18,13 +16,11 @@ use Rattle.thread_code.proofs.Steady.{code_steady}
 use Rattle.core_machine.specs.declared.thread.Thread.{Thread}
 use Rattle.core_machine.specs.declared.thread.Phase.TheVariants as phase
 use Rattle.core_machine.specs.Held.{StandsFor, never, since, settling, joining, machine_of, Gives, HasSettled, machine_in, Stands_in, Stands_at}
-use Rattle.core_machine.specs.Forks.{next_replies, with_replies}
 use Rattle.core_host.specs.Posts.{Mail}
-use Rattle.core_host.specs.Writing.{Wrote, Log, heard, told}
+use Rattle.core_host.specs.Writing.{Wrote, heard, told}
 use Rattle.core_host.specs.Done.{AreAbove, Posts, HasDone, InJob}
 use Rattle.core_host.proofs.Replying.{alone_one}
-use Rattle.core_host.proofs.Consulting.{jobs_once, jobs_more}
-use Rattle.core_host.proofs.Follows.{Working, follows, wrote_of, wrote_once, wrote_count, went_join, forks_then, all_then, reply_then, alone_count}
+use Rattle.core_host.proofs.Follows.{follows, all_then, reply_then, alone_count}
 
 -- ---- lists that end with one more
 

@@ -1,24 +1,24 @@
 -- What one call of a port leaves of a host's state.
-use Rattle.std.proofs.Common.{◌≡◌, ◌≢◌, ℕ, zero, suc, ◌+◌, ◌-◌, ◌<◌, ◌≤◌, Bool, true, false, Option, Some, None, List, [], ◌∷◌, ◌++◌, length, get_or, refl, sym, ap, ◌∙◌, subst, append-nil, arith}
+use Rattle.std.proofs.Common.{◌≡◌, ◌≢◌, ℕ, zero, suc, ◌<◌, Bool, Option, Some, None, List, [], ◌∷◌, ◌++◌, length, refl, sym, ap, ◌∙◌, subst, append-nil, arith}
 use Rattle.std.specs.Prelude.{slice_get, slice_set, slice_index_or}
 use Rattle.std.proofs.lemmas.List.{length-set}
-use Rattle.std.proofs.lemmas.Option.{slice_get_within, get_or_from_slice_get}
+use Rattle.std.proofs.lemmas.Option.{get_or_from_slice_get}
 use Rattle.forec_kernel.specs.Packets.{PlainPacket}
 use Rattle.forec_kernel.specs.Packed.{HasRoom}
 use Rattle.thread_code.specs.Valid.{of_shape}
 use Rattle.combine_tree.specs.declared.packet.Packet.{Packet}
 use Rattle.combine_tree.specs.Plain.{plain_packet}
 use Rattle.copy_slots.specs.declared.view.Place.{Place}
-use Rattle.copy_slots.specs.declared.view.Place.TheVariants.{Fresh, Held, Out}
+use Rattle.copy_slots.specs.declared.view.Place.TheVariants.{Fresh, Held}
 use Rattle.copy_slots.specs.declared.view.Sender.{Sender}
 use Rattle.copy_slots.specs.declared.view.Taker.{Taker}
-use Rattle.copy_slots.specs.Mail.{sender_opened, sender_got, sender_sent, taker_took, taker_answered}
-use Rattle.copy_slots.specs.Ports.{Ends, parent_at, child_at, on_sender, on_taker, on_parent, on_child, sent_by, got_by, taken_by, answered_by, IsParent, IsChild, ParentIs, ChildIs, sent, got, taken, answered}
+use Rattle.copy_slots.specs.Mail.{sender_opened}
+use Rattle.copy_slots.specs.Ports.{Ends, parent_at, child_at, on_sender, on_taker, on_parent, on_child, sent_by, got_by, IsParent, IsChild, ParentIs, sent, got}
 use Rattle.thread_code.specs.declared.instruction.CodeParts.{CodeParts}
 use Rattle.core_host.specs.declared.seat.Seat.{Seat}
-use Rattle.core_host.specs.Posts.{Mail, IsBranchOf}
-use Rattle.core_host.specs.Changes.{Extends, Grown}
-use Rattle.core_host.specs.Keeping.{State, code_in, Alike, Leaves, IsFitted, Sits, Idle, Ready, blank, reply, Quiet, IsCalled, IsBack}
+use Rattle.core_host.specs.Posts.{Mail}
+use Rattle.core_host.specs.Changes.{Extends}
+use Rattle.core_host.specs.Keeping.{State, code_in, Alike, IsFitted, Ready, blank, reply, Quiet}
 use Rattle.core_host.specs.Moving.{Moves}
 
 abbrev pub state : CodeParts → List ℕ → Mail → List Seat → List (Option Packet) → State

@@ -1,14 +1,12 @@
 -- A host that was just made.
-use Rattle.std.proofs.Common.{◌≡◌, ◌≢◌, ℕ, zero, suc, ◌+◌, ◌-◌, ◌<◌, ◌≤◌, Bool, true, false, Option, Some, None, List, [], ◌∷◌, length, get_or, refl, sym, ap, ◌∙◌, subst, ⊎_elim, arith}
-use Rattle.std.specs.Prelude.{slice_get, All, ◌⊎◌}
+use Rattle.std.proofs.Common.{◌≡◌, ℕ, zero, suc, ◌-◌, ◌<◌, ◌≤◌, Bool, true, false, Option, Some, None, List, [], ◌∷◌, length, get_or, refl, sym, ap, ◌∙◌, subst, ⊎_elim, arith}
+use Rattle.std.specs.Prelude.{slice_get}
 use Rattle.std.proofs.lemmas.Bool.{cases_lt}
-use Rattle.std.proofs.lemmas.Option.{slice_get_within, slice_get-get_or}
+use Rattle.std.proofs.lemmas.Option.{slice_get-get_or}
 use Rattle.forec_kernel.specs.Packets.{PlainPacket}
 use Rattle.forec_kernel.specs.Packed.{HasRoom, AreJobs}
-use Rattle.forec_kernel.specs.Engine.{Job}
-use Rattle.forec_kernel.specs.Combining.{contains}
 use Rattle.thread_code.specs.declared.instruction.CodeParts.{CodeParts}
-use Rattle.thread_code.specs.Plain.{PlainCode, plain_code}
+use Rattle.thread_code.specs.Plain.{plain_code}
 use Rattle.thread_code.specs.Valid.{of_shape, IsValidCode}
 use Rattle.combine_tree.specs.declared.packet.Packet.{Packet}
 use Rattle.combine_tree.specs.declared.packet.PacketKind.TheVariants as kind
@@ -18,15 +16,15 @@ use Rattle.core_machine.specs.Held.{IsResting, StandsFor}
 use Rattle.copy_slots.specs.declared.view.Place.TheVariants.{Fresh}
 use Rattle.copy_slots.specs.declared.view.Sender.{Sender}
 use Rattle.copy_slots.specs.declared.view.Taker.{Taker}
-use Rattle.copy_slots.specs.Ports.{Ends, parent_at, child_at, sent_by, got_by, taken_by, answered_by, IsParent, IsChild, ParentIs, ChildIs, sent, got, taken, answered}
+use Rattle.copy_slots.specs.Ports.{Ends, parent_at, child_at, sent_by, got_by, taken_by, answered_by, IsParent, IsChild, sent, got}
 use Rattle.core_alloc.specs.Places.{Places}
 use Rattle.core_host.specs.declared.seat.Seat.{Seat}
 use Rattle.core_host.specs.Posts.{Mail, IsBranchOf, AreReplies}
-use Rattle.core_host.specs.Loads.{is_on, IsNewParent, IsNewChild, FitsBlank, ArePlaced, CanLoad, AreAll, IsLoaded, IsNewSeat, contains_core}
+use Rattle.core_host.specs.Loads.{is_on, IsNewParent, IsNewChild, ArePlaced, CanLoad, AreAll, IsNewSeat, contains_core}
 use Rattle.core_host.specs.Done.{HasDone}
-use Rattle.core_host.specs.Keeping.{State, code_in, Sits, Idle, none, Ready, blank, Quiet}
-use Rattle.core_host.specs.Hosted.{Hosted, hosted, state_in, code_of, is_here, IsWhole}
-use Rattle.core_host.specs.Rests.{IsReady, RootRests, IsHosted}
+use Rattle.core_host.specs.Keeping.{State, Sits, Idle, none, blank, Quiet}
+use Rattle.core_host.specs.Hosted.{Hosted, hosted, is_here, IsWhole}
+use Rattle.core_host.specs.Rests.{IsReady, IsHosted}
 use Rattle.core_host.specs.Runs.{HasJobs}
 use Rattle.core_host.proofs.Keep.{branch_above, has_parent}
 

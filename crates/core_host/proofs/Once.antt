@@ -1,7 +1,7 @@
 -- What threads answer to jobs is determined.
-use Rattle.std.proofs.Common.{◌≡◌, ℕ, zero, suc, ◌-◌, ◌==◌, Bool, true, false, cond, Option, Some, None, List, [], ◌∷◌, ◌++◌, map, length, refl, sym, ap, ◌∙◌, subst, append_assoc, append-nil, arith}
+use Rattle.std.proofs.Common.{◌≡◌, ℕ, zero, suc, ◌-◌, ◌==◌, Bool, true, false, cond, Some, None, List, [], ◌∷◌, ◌++◌, map, length, refl, sym, ap, ◌∙◌, subst, append_assoc, arith}
 use Rattle.std.proofs.lemmas.Bool.Decides.{nat_tests}
-use Rattle.forec_kernel.specs.Engine.{Job, Start, Wake, allowance_of, Reply, WasPaused, WasEnded, WasTrapped, WasOver, Seed, Written, written, View, Going, AtFork, Pausing, Ending, Trapping, Exceeding, Engine, Reaches, Rest, Asleep, Nothing, Exchange, Output, answers_with, ends_at, first_jobs, AtEvent, Goes, over, event, Either, Serves, Begins, Alone, Answered, pair_up, pair_forks, pair_all, jobs_to, Allowed, AllReply, last_reply, AnswersBy, answers_within, Answers}
+use Rattle.forec_kernel.specs.Engine.{Job, Start, Wake, allowance_of, Reply, WasPaused, WasEnded, WasTrapped, WasOver, Seed, Written, written, View, Going, AtFork, Pausing, Ending, Trapping, Exceeding, Engine, Rest, Asleep, Nothing, Exchange, Output, answers_with, ends_at, first_jobs, AtEvent, Goes, over, event, Either, Serves, Begins, Alone, Answered, pair_up, pair_forks, pair_all, jobs_to, Allowed, AllReply, last_reply, AnswersBy, answers_within, Answers}
 use Rattle.forec_kernel.proofs.Same.{IsSteady, one_stop, not_both}
 use Rattle.forec_kernel.proofs.Serving.{allowed_first, allowed_then}
 

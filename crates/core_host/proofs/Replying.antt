@@ -1,6 +1,6 @@
 -- A list of exchanges has one list of outputs.
-use Rattle.std.proofs.Common.{◌≡◌, ℕ, zero, suc, List, [], ◌∷◌, ◌++◌, map, Some, refl, sym, ap, subst, ◌∙◌}
-use Rattle.forec_kernel.specs.Engine.{Job, Start, Wake, Reply, Written, allowance_of, Engine, Rest, Asleep, Nothing, Exchange, Output, Begins, Serves, Alone, pair_forks, pair_all, Allowed, AllReply, last_reply, AnswersBy, answers_within}
+use Rattle.std.proofs.Common.{◌≡◌, List, [], ◌∷◌, refl, sym, ap, subst, ◌∙◌}
+use Rattle.forec_kernel.specs.Engine.{Job, Start, Wake, allowance_of, Engine, Rest, Asleep, Nothing, Exchange, Output, Begins, Serves, Alone}
 use Rattle.forec_kernel.proofs.Same.{IsSteady, serves_one}
 
 -- ---- a list of exchanges has one list of outputs

@@ -1,12 +1,12 @@
 -- Thread 0 does a job.
-use Rattle.std.proofs.Common.{◌≡◌, ◌≢◌, ℕ, zero, suc, ◌+◌, ◌-◌, ◌<◌, ◌≤◌, Bool, true, false, Option, Some, None, List, [], ◌∷◌, ◌++◌, length, map, refl, sym, ap, ◌∙◌, subst, arith}
-use Rattle.std.specs.Prelude.{slice_get, slice_set, slice_index_or}
+use Rattle.std.proofs.Common.{◌≡◌, ℕ, suc, ◌<◌, Option, Some, List, [], ◌∷◌, ◌++◌, length, refl, sym, ap, ◌∙◌, subst, arith}
+use Rattle.std.specs.Prelude.{slice_set, slice_index_or}
 use Rattle.std.proofs.lemmas.List.{length-set}
 use Rattle.std.proofs.lemmas.Option.{slice_get_within, get_or_from_slice_get}
-use Rattle.forec_kernel.specs.Packed.{IsJob, IsReply}
+use Rattle.forec_kernel.specs.Packed.{IsJob}
 use Rattle.forec_kernel.specs.Engine.{Job, Exchange, Answers}
 use Rattle.thread_code.specs.declared.instruction.CodeParts.{CodeParts}
-use Rattle.thread_code.specs.Plain.{PlainCode, plain_code}
+use Rattle.thread_code.specs.Plain.{plain_code}
 use Rattle.thread_code.specs.Valid.{IsValidCode}
 use Rattle.thread_code.specs.Alone.{CodeAlone}
 use Rattle.combine_tree.specs.declared.packet.Packet.{Packet}
@@ -14,9 +14,9 @@ use Rattle.combine_tree.specs.Plain.{plain_packet}
 use Rattle.core_machine.specs.declared.thread.Thread.{Thread}
 use Rattle.core_machine.specs.Held.{Loaded, StandsFor, HasReply, Gives}
 use Rattle.core_host.specs.declared.seat.Seat.{Seat}
-use Rattle.core_host.specs.Posts.{Mail, IsBranchOf}
+use Rattle.core_host.specs.Posts.{Mail}
 use Rattle.core_host.specs.Done.{HasDone, InJob}
-use Rattle.core_host.specs.Keeping.{State, code_in, Leaves, IsFitted, Sits, Quiet, QuietAbove}
+use Rattle.core_host.specs.Keeping.{State, code_in, Leaves, IsFitted, Sits, QuietAbove}
 use Rattle.core_host.specs.Following.{HasFollowed}
 use Rattle.core_host.specs.Ending.{HasReplied}
 use Rattle.core_host.specs.Rests.{RootRests}

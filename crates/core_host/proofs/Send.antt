@@ -1,28 +1,23 @@
 -- A job is sent, and a reply got.
-use Rattle.std.proofs.Common.{◌≡◌, ◌≢◌, ℕ, zero, suc, ◌+◌, ◌-◌, ◌<◌, ◌≤◌, ◌^◌, Bool, true, false, Option, Some, None, List, [], ◌∷◌, ◌++◌, length, map, get_or, refl, sym, ap, ◌∙◌, subst, arith}
+use Rattle.std.proofs.Common.{◌≡◌, ℕ, zero, suc, ◌<◌, ◌≤◌, ◌^◌, Some, List, [], ◌∷◌, ◌++◌, length, map, refl, sym, ap, ◌∙◌, subst, arith}
 use Rattle.std.specs.Prelude.{slice_get, slice_set}
 use Rattle.std.proofs.lemmas.List.{length-set}
-use Rattle.std.proofs.lemmas.Option.{get_or_from_slice_get}
-use Rattle.core_machine.specs.declared.thread.Thread.{Thread}
-use Rattle.core_machine.specs.Forks.{jobs_at, branch_at}
 use Rattle.forec_kernel.specs.Packets.{PlainPacket}
-use Rattle.forec_kernel.specs.Packets as packet
 use Rattle.forec_kernel.specs.Packed.{HasRoom, IsJob}
-use Rattle.forec_kernel.specs.Engine.{Job, Start, Wake, Written}
-use Rattle.thread_code.specs.Plain.{PlainCode, plain_code}
+use Rattle.forec_kernel.specs.Engine.{Job, Start, Wake}
+use Rattle.thread_code.specs.Plain.{PlainCode}
 use Rattle.thread_code.specs.Valid.{of_shape, IsValidCode}
 use Rattle.combine_tree.specs.declared.packet.Packet.{Packet}
 use Rattle.combine_tree.specs.Plain.{plain_packet}
-use Rattle.copy_slots.specs.declared.view.Place.TheVariants.{Fresh, Held, Out}
+use Rattle.copy_slots.specs.declared.view.Place.TheVariants.{Held, Out}
 use Rattle.copy_slots.specs.declared.view.Sender.{Sender}
-use Rattle.copy_slots.specs.Mail.{sender_opened, sender_got, sender_sent}
-use Rattle.copy_slots.specs.Ports.{parent_at, child_at, sent_by, got_by, taken_by, answered_by, IsParent, ParentIs, ChildIs, sent, got, taken, answered}
+use Rattle.copy_slots.specs.Mail.{sender_got, sender_sent}
+use Rattle.copy_slots.specs.Ports.{parent_at, taken_by, ParentIs, sent, got}
 use Rattle.core_host.specs.Asking.{Replies, ArePaused, MayFollow, Asks}
 use Rattle.core_host.specs.Posts.{Mail, IsBranchOf}
-use Rattle.core_host.specs.Changes.{Extends, Grown}
-use Rattle.core_host.specs.Keeping.{State, code_in, Leaves, IsFitted, Idle, Ready, reply, Quiet, IsCalled, IsBack, MayAsk, IsJobFor, AtFork}
+use Rattle.core_host.specs.Keeping.{State, code_in, IsFitted, reply, Quiet, IsCalled, IsBack, MayAsk}
 use Rattle.core_host.specs.Moving.{Moves, HasSent, HasGot}
-use Rattle.core_host.proofs.Mails.{with_parent, moves_parent, moves_then, parent_now, place_now, sent_now, got_now, sent_before, got_before, is_parent, get_set, get_set_else}
+use Rattle.core_host.proofs.Mails.{with_parent, moves_parent, moves_then, place_now, sent_now, got_now, sent_before, got_before, is_parent, get_set, get_set_else}
 use Rattle.core_host.proofs.Keep.{branch_above, moved_idle}
 
 -- no thread is a branch of itself

@@ -1,5 +1,5 @@
 -- What a tick comes to.
-use Rattle.std.proofs.Common.{◌≡◌, ℕ, ◌-◌, ℤ, Bool, true, List, [], ◌∷◌, ◌++◌, length, refl, sym, ap, ◌∙◌, subst}
+use Rattle.std.proofs.Common.{◌≡◌, ℕ, ℤ, true, List, [], ◌∷◌, ◌++◌, length, refl, sym, ap, ◌∙◌, subst}
 use Rattle.std.proofs.lemmas.List.{length-map}
 use Rattle.forec_kernel.specs.declared.shape.VarCopy.{VarCopy}
 use Rattle.forec_kernel.specs.Shapes.{PlainShape, PlainKernel}
@@ -7,13 +7,13 @@ use Rattle.forec_kernel.specs.Texts.{uses_in}
 use Rattle.forec_kernel.specs.WellFormed.{WellFormed}
 use Rattle.forec_kernel.specs.Ticks.{State, Fresh, After_tick, tick, goes_on, start_copies, unmarked, with_row, values_of}
 use Rattle.forec_kernel.specs.Packets.{Blank, IsPaused, IsEnded, IsTrapped, IsOver}
-use Rattle.forec_kernel.specs.Packed.{HasRoom, IsReply, IsJob}
+use Rattle.forec_kernel.specs.Packed.{HasRoom, IsReply}
 use Rattle.forec_kernel.specs.Engine.{Job, Start, Wake, Reply, WasPaused, WasEnded, WasTrapped, WasOver, Answers}
 use Rattle.forec_kernel.specs.Solo.{values_in, KernelAlone}
 use Rattle.forec_kernel.specs.Composed.{Turn, tick_job, tick_jobs, next_state, state_after, Tells}
 use Rattle.forec_kernel.proofs.Distinct.{branches_apart}
 use Rattle.forec_kernel.proofs.TickByTick.{each_tick}
-use Rattle.thread_code.specs.Plain.{PlainCode, plain_code}
+use Rattle.thread_code.specs.Plain.{PlainCode}
 use Rattle.thread_code.specs.Valid.{IsValidCode, FineShape, of_shape}
 use Rattle.thread_code.specs.Alone.{Stands, CodeAlone}
 use Rattle.thread_code.specs.Laws.{FitsThread, EachFits}

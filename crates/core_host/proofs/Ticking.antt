@@ -1,15 +1,14 @@
 -- A host runs a tick.
-use Rattle.std.proofs.Common.{◌≡◌, ℕ, zero, suc, ◌+◌, ◌<◌, ◌≤◌, ℤ, Bool, true, false, Some, List, [], ◌∷◌, ◌++◌, length, refl, sym, ap, ◌∙◌, subst, arith}
+use Rattle.std.proofs.Common.{◌≡◌, ℕ, ◌<◌, ℤ, Bool, true, List, [], ◌∷◌, ◌++◌, length, sym, ap, ◌∙◌, subst, arith}
 use Rattle.forec_kernel.specs.declared.shape.Outcome.{Outcome}
-use Rattle.forec_kernel.specs.Shapes.{PlainShape, PlainKernel}
-use Rattle.forec_kernel.specs.Texts.{uses_in}
+use Rattle.forec_kernel.specs.Shapes.{PlainKernel}
 use Rattle.forec_kernel.specs.WellFormed.{WellFormed}
 use Rattle.forec_kernel.specs.Ticks.{Fresh, goes_on}
 use Rattle.forec_kernel.specs.Packed.{HasRoom, IsJob}
 use Rattle.forec_kernel.specs.Engine.{Job, Answers}
-use Rattle.forec_kernel.specs.Composed.{Turn, tick_jobs, state_after}
+use Rattle.forec_kernel.specs.Composed.{Turn, tick_jobs}
 use Rattle.thread_code.specs.Plain.{PlainCode, plain_code}
-use Rattle.thread_code.specs.Valid.{IsValidCode, of_shape}
+use Rattle.thread_code.specs.Valid.{of_shape}
 use Rattle.thread_code.specs.Alone.{Stands, CodeAlone}
 use Rattle.thread_code.specs.Laws.{EachFits}
 use Rattle.combine_tree.specs.declared.packet.Packet.{Packet}
@@ -19,16 +18,15 @@ use Rattle.combine_tree.specs.Plain.{plain_packet}
 use Rattle.core_machine.specs.declared.thread.Thread.{Thread}
 use Rattle.core_machine.specs.Held.{CanBegin}
 use Rattle.core_machine.specs.Replies.{Replies_by}
-use Rattle.copy_slots.specs.Ports.{ChildIs}
-use Rattle.core_host.specs.Posts.{Mail, HasPosted, HasPostedTaken}
+use Rattle.core_host.specs.Posts.{HasPosted, HasPostedTaken}
 use Rattle.core_host.specs.Done.{HasDone}
 use Rattle.core_host.specs.Jobs.{IsBetween, kind_of, job_of}
 use Rattle.core_host.specs.Outcomes.{IsReplied, outcome_in}
-use Rattle.core_host.specs.Keeping.{State, code_in, IsFitted, Sits, Idle, Quiet, QuietAbove}
+use Rattle.core_host.specs.Keeping.{State, code_in, IsFitted, Sits, Idle, QuietAbove}
 use Rattle.core_host.specs.Ending.{HasReplied}
-use Rattle.core_host.specs.Hosted.{Hosted, hosted, state_in, code_of, is_here, IsWhole}
+use Rattle.core_host.specs.Hosted.{Hosted, hosted, state_in, code_of, IsWhole}
 use Rattle.core_host.specs.Rests.{IsReady, RootRests, IsHosted}
-use Rattle.core_host.specs.Runs.{HasJobs, Keeps, HasTicked, HasRun}
+use Rattle.core_host.specs.Runs.{HasJobs, HasTicked}
 use Rattle.core_host.proofs.Ticked.{Told, told, keeps_now, jobs_are, goes_on_paused, job_fits, fits_then}
 
 -- ---- before

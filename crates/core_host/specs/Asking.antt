@@ -1,5 +1,5 @@
 -- Which jobs may be sent through the mailboxes of a code, and which replies answer them.
-use Rattle.std.specs.Prelude.{ℕ, suc, ◌+◌, ◌≡◌, ◌≤◌, ◌^◌, List, [], ◌∷◌, ◌++◌, length}
+use Rattle.std.specs.Prelude.{ℕ, suc, ◌≡◌, ◌≤◌, ◌^◌, List, [], ◌∷◌, ◌++◌, length}
 use Rattle.forec_kernel.specs.Packets.{Kind, Start, Wake, IsPaused, PlainPacket}
 use Rattle.forec_kernel.specs.Packed.{HasRoom, IsJob, PacketAnswers}
 use Rattle.forec_kernel.specs.Engine.{Job}

@@ -1,7 +1,7 @@
 -- How what went through mailboxes changes in a call.
-use Rattle.std.specs.Prelude.{ℕ, suc, ◌≡◌, ◌⊎◌, ◌<◌, true, false, List, [], ◌∷◌, ◌++◌, length}
+use Rattle.std.specs.Prelude.{ℕ, suc, ◌≡◌, ◌<◌, true, false, List, [], ◌∷◌, ◌++◌, length}
 use Rattle.forec_kernel.specs.Shapes.{PlainShape}
-use Rattle.copy_slots.specs.Ports.{sent, got, taken, answered, looked_by_parent, looked_by_child, ChildIs, parent_at, child_at}
+use Rattle.copy_slots.specs.Ports.{sent, got, taken, answered, looked_by_parent, looked_by_child, ChildIs}
 use Rattle.core_host.specs.Posts.{Mail, IsBranchOf}
 
 -- a list keeps what it had, in front

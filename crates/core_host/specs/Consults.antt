@@ -1,10 +1,8 @@
 -- The first branches of a fork have done their jobs.
 use Rattle.std.specs.Prelude.{ℕ, ◌≡◌, ◌≤◌, Some, List, ◌++◌, length, slice_get}
 use Rattle.forec_kernel.specs.Engine.{Reply, Written, Answered, pair_up}
-use Rattle.thread_code.specs.Plain.{PlainCode}
 use Rattle.core_machine.specs.declared.thread.Thread.{Thread}
 use Rattle.core_machine.specs.Forks.{jobs_at}
-use Rattle.core_host.specs.Posts.{Mail}
 use Rattle.core_host.specs.Done.{Posts}
 use Rattle.core_host.specs.Keeping.{State, code_in, QuietAbove, Leaves, IsJobFor, HasHeard}
 

@@ -1,7 +1,7 @@
 -- What a thread has done for its jobs.
-use Rattle.std.specs.Prelude.{ℕ, suc, ◌≡◌, ◌<◌, List, [], ◌∷◌, ◌++◌, map, length}
+use Rattle.std.specs.Prelude.{ℕ, suc, ◌≡◌, ◌<◌, List, [], ◌∷◌, map, length}
 use Rattle.forec_kernel.specs.Packed.{AreJobs}
-use Rattle.forec_kernel.specs.Engine.{Job, Reply, Exchange, Output, AllReply, Allowed, Answers, Answered, pair_all, jobs_to}
+use Rattle.forec_kernel.specs.Engine.{Job, Exchange, Output, AllReply, Allowed, Answers, Answered, pair_all, jobs_to}
 use Rattle.thread_code.specs.Plain.{PlainCode}
 use Rattle.thread_code.specs.Alone.{CodeAlone}
 use Rattle.core_machine.specs.declared.thread.Thread.{Thread}

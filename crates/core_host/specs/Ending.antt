@@ -1,5 +1,5 @@
 -- Thread 0 has replied to one more job.
-use Rattle.std.specs.Prelude.{ℕ, ◌≡◌, List, [], ◌∷◌, ◌++◌, length}
+use Rattle.std.specs.Prelude.{List, length}
 use Rattle.forec_kernel.specs.Packets.{PlainPacket}
 use Rattle.forec_kernel.specs.Packed.{IsReply}
 use Rattle.forec_kernel.specs.Engine.{Job, Reply, Answers}

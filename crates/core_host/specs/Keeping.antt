@@ -1,6 +1,5 @@
 -- What a host keeps of its threads, their packets and mailboxes.
-use Rattle.std.specs.Prelude.{ℕ, suc, ◌+◌, ◌≡◌, ◌<◌, ◌≤◌, true, false, Option, None, Some, List, [], ◌∷◌, ◌++◌, length, map, slice_get}
-use Rattle.forec_kernel.specs.Shapes.{PlainShape}
+use Rattle.std.specs.Prelude.{ℕ, suc, ◌≡◌, ◌<◌, ◌≤◌, true, false, Option, None, Some, List, [], ◌∷◌, ◌++◌, length, map, slice_get}
 use Rattle.forec_kernel.specs.Packets.{IsPaused, PlainPacket}
 use Rattle.forec_kernel.specs.Packed.{HasRoom, AreJobs, IsReply, PacketAnswers}
 use Rattle.forec_kernel.specs.Engine.{Job, Start, Wake, Reply, Written}
@@ -14,12 +13,12 @@ use Rattle.core_machine.specs.declared.thread.Thread.{Thread}
 use Rattle.core_machine.specs.Held.{Loaded, IsResting, HasPaused, HasSettled}
 use Rattle.core_machine.specs.Forks.{jobs_at}
 use Rattle.copy_slots.specs.declared.view.Place.TheVariants.{Fresh, Held, Out}
-use Rattle.copy_slots.specs.Ports.{PortState, sent, got, taken, answered, parent_at, child_at, ParentIs, ChildIs}
+use Rattle.copy_slots.specs.Ports.{sent, taken, answered, parent_at, child_at, ParentIs, ChildIs}
 use Rattle.core_host.specs.declared.seat.Seat.{Seat}
-use Rattle.core_host.specs.Asking.{Replies, ArePaused}
+use Rattle.core_host.specs.Asking.{ArePaused}
 use Rattle.core_host.specs.Posts.{Mail, IsBranchOf}
 use Rattle.core_host.specs.Changes.{Grown}
-use Rattle.core_host.specs.Done.{HasDone, InJob}
+use Rattle.core_host.specs.Done.{HasDone}
 
 -- `hands`: at k, the packet of mailbox k in its parent's hand
 pub record State : Type 0 where

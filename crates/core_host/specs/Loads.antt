@@ -1,5 +1,5 @@
 -- What a host is made of.
-use Rattle.std.specs.Prelude.{ℕ, suc, ◌≡◌, ◌<◌, Bool, true, false, IsTrue, Option, None, Some, All, List, [], ◌∷◌, length, get_or, slice_get}
+use Rattle.std.specs.Prelude.{ℕ, suc, ◌≡◌, ◌<◌, Bool, true, false, IsTrue, Option, None, Some, All, List, [], length, get_or, slice_get}
 use Rattle.forec_kernel.specs.Packets.{PlainPacket}
 use Rattle.forec_kernel.specs.Packed.{HasRoom}
 use Rattle.forec_kernel.specs.Combining.{contains}

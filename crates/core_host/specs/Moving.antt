@@ -1,13 +1,12 @@
 -- What changes where a parent takes the packet of one mailbox into its hand, or out of it.
-use Rattle.std.specs.Prelude.{ℕ, suc, ◌≡◌, ◌≢◌, Option, Some, List, [], ◌∷◌, ◌++◌, length, slice_get}
+use Rattle.std.specs.Prelude.{ℕ, ◌≡◌, ◌≢◌, Some, [], ◌∷◌, ◌++◌, length, slice_get}
 use Rattle.forec_kernel.specs.Packets.{PlainPacket}
-use Rattle.forec_kernel.specs.Packed.{IsJob, IsReply}
+use Rattle.forec_kernel.specs.Packed.{IsJob}
 use Rattle.forec_kernel.specs.Engine.{Job}
 use Rattle.combine_tree.specs.declared.packet.Packet.{Packet}
 use Rattle.combine_tree.specs.Plain.{plain_packet}
-use Rattle.copy_slots.specs.Ports.{sent, got, taken, answered, parent_at, child_at}
+use Rattle.copy_slots.specs.Ports.{sent, got, parent_at, child_at}
 use Rattle.core_host.specs.Asking.{Replies}
-use Rattle.core_host.specs.Changes.{Grown}
 use Rattle.core_host.specs.Keeping.{State, code_in, Alike}
 
 -- all but the parent's end and hand of mailbox k stays

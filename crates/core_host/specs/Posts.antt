@@ -1,5 +1,5 @@
 -- What went through the mailboxes of a thread's branches: the jobs that the thread writes by itself, and the replies to them.
-use Rattle.std.specs.Prelude.{ℕ, suc, ◌≡◌, ◌==◌, cond, Some, List, [], ◌∷◌, ◌++◌, map}
+use Rattle.std.specs.Prelude.{ℕ, suc, ◌≡◌, ◌==◌, cond, Some, List, [], ◌∷◌, map}
 use Rattle.forec_kernel.specs.Packets.{PlainPacket}
 use Rattle.forec_kernel.specs.Packed.{AreJobs, IsReply}
 use Rattle.forec_kernel.specs.Engine.{Job, Reply, Exchange, Output, Answered, pair_all, jobs_to, AllReply}
@@ -8,7 +8,7 @@ use Rattle.forec_kernel.specs.WellFormed.{thread_of}
 use Rattle.thread_code.specs.Plain.{PlainCode}
 use Rattle.thread_code.specs.Valid.{of_shape}
 use Rattle.thread_code.specs.Alone.{CodeAlone}
-use Rattle.copy_slots.specs.Ports.{PortState, sent, got, taken, ParentIs, ChildIs}
+use Rattle.copy_slots.specs.Ports.{PortState, sent, got, taken}
 use Rattle.core_host.specs.declared.work.ForecWork.{ForecWork}
 
 -- what went through the mailboxes of a host

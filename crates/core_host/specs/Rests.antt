@@ -1,12 +1,11 @@
 -- What a host keeps between calls.
-use Rattle.std.specs.Prelude.{ℕ, suc, ◌≡◌, ◌<◌, true, false, List, [], length}
+use Rattle.std.specs.Prelude.{ℕ, suc, ◌≡◌, ◌<◌, true, false, List, length}
 use Rattle.forec_kernel.specs.Packed.{HasRoom}
 use Rattle.forec_kernel.specs.Engine.{Job}
 use Rattle.combine_tree.specs.declared.packet.PacketKind.{PacketKind}
 use Rattle.combine_tree.specs.declared.packet.PacketKind.TheVariants as kind
 use Rattle.combine_tree.specs.Plain.{plain_packet}
 use Rattle.thread_code.specs.Valid.{of_shape, IsValidCode}
-use Rattle.thread_code.specs.Laws.{EachFits}
 use Rattle.core_machine.specs.declared.thread.Thread.{Thread}
 use Rattle.core_machine.specs.Held.{IsResting, HasPaused}
 use Rattle.copy_slots.specs.Ports.{ChildIs}

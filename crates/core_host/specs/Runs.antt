@@ -1,5 +1,5 @@
 -- What a host has run.
-use Rattle.std.specs.Prelude.{◌≡◌, true, List, []}
+use Rattle.std.specs.Prelude.{◌≡◌, true, List}
 use Rattle.forec_kernel.specs.Shapes.{PlainKernel}
 use Rattle.forec_kernel.specs.Ticks.{State, Fresh, After_tick}
 use Rattle.forec_kernel.specs.WellFormed.{WellFormed}

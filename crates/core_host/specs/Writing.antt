@@ -4,7 +4,7 @@ use Rattle.forec_kernel.specs.Engine.{Job, Reply, Seed, Written, written, AtFork
 use Rattle.forec_kernel.specs.Reached.{AloneTo}
 use Rattle.thread_code.specs.Plain.{PlainCode}
 use Rattle.thread_code.specs.Machine.{Machine}
-use Rattle.thread_code.specs.Alone.{code_engine, CodeAlone}
+use Rattle.thread_code.specs.Alone.{code_engine}
 
 -- from this state, with these replies at its forks, the thread writes these jobs there
 abbrev pub Wrote : {S : Type 0} → Engine S → ℕ → S → List (List Reply) → List (List Written) → Type 0

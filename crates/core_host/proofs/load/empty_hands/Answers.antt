@@ -1,6 +1,5 @@
-use Rattle.std.proofs.Common.{◌≡◌, ℕ, ◌+◌, ◌++◌, ◌∷◌, [], Option, Some, None, length, sym, ap, ◌∙◌, subst, ⊎_elim}
+use Rattle.std.proofs.Common.{◌+◌, None, length, sym, ap, ◌∙◌, ⊎_elim}
 use Rattle.std.specs.Prelude.{slice_get}
-use Rattle.combine_tree.specs.declared.packet.Packet.{Packet}
 use Rattle.core_host.proofs.Loading.{get_then, length_then}
 use Rattle.core_host.proofs.load.empty_hands.Goals as goal
 

@@ -1,4 +1,4 @@
-use Rattle.std.proofs.Common.{◌≡◌, ℕ, suc, Some, length, ◌+◌, ◌<◌, sym, ap, ◌∙◌, ⊎_elim, arith}
+use Rattle.std.proofs.Common.{◌≡◌, suc, length, ◌+◌, ◌<◌, sym, ap, ◌∙◌, ⊎_elim, arith}
 use Rattle.std.specs.Prelude.{slice_get, map}
 use Rattle.std.proofs.lemmas.List.{length-map, length-replicate}
 use Rattle.forec_kernel.specs.Shapes.{plain_thread}

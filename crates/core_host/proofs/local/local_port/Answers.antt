@@ -1,6 +1,4 @@
 use Rattle.std.proofs.Common.{sym, subst}
-use Rattle.combine_tree.specs.Plain.{plain_packet}
-use Rattle.copy_slots.specs.Fresh.{new_state}
 use Rattle.core_host.specs.Posts.{Mail}
 use Rattle.core_host.specs.Loads.{CanLoad}
 use Rattle.core_host.proofs.Locally.{serves_all, ok_then}

@@ -1,20 +1,16 @@
-use Rattle.std.proofs.Common.{rules, ◌≡◌, ◌≤◌, ◌<◌, ◌^◌, ◌+◌, ◌-◌, ◌*◌, ◌++◌, ◌∷◌, [], ℕ, suc, List, Some, None, length, map, slice_get, true, false, refl, sym, ap, ◌∙◌, subst, arith}
+use Rattle.std.proofs.Common.{rules, ◌≡◌, ◌≤◌, ◌<◌, ◌+◌, ◌-◌, ◌*◌, Some, None, length, map, refl, sym, ap, ◌∙◌, subst, arith}
 use Rattle.std.proofs.lemmas.Option.{slice_get_within}
 use Rattle.std.proofs.Math.Facts.{Fits-of_lt}
-use Rattle.forec_kernel.specs.Engine.{Job, Exchange, allowance_of}
 use Rattle.thread_code.specs.declared.instruction.CodeParts.{CodeParts}
 use Rattle.thread_code.specs.Plain.{plain_code}
 use Rattle.thread_code.specs.Alone.{block_of}
-use Rattle.core_machine.specs.declared.thread.Event.TheVariants as event
 use Rattle.core_machine.specs.Held.{Loaded, StandsFor, Left_by}
-use Rattle.core_machine.specs.Forks.{jobs_at, with_replies}
-use Rattle.core_host.specs.Done.{Posts, InJob}
+use Rattle.core_machine.specs.Forks.{jobs_at}
 use Rattle.core_host.specs.Keeping.{State, code_in, QuietAbove, Leaves, HaveHeard}
-use Rattle.core_host.proofs.Mails.{state}
-use Rattle.core_host.proofs.Keep.{leaves_same, leaves_then, leaves_less, fitted_keeps}
+use Rattle.core_host.proofs.Keep.{leaves_same, leaves_then}
 use Rattle.core_host.proofs.Hearing.{past_end}
 use Rattle.core_host.proofs.Consults.{consulted_none, some_number, fitted_b, above_m, inside_m, can_send, quiet_m, sent_above, consulted_more, have_heard}
-use Rattle.core_host.proofs.Finishing.{Counted, fits_forks, replied_by, job_runs, allowance_is, at_fork, some_at, bound, next}
+use Rattle.core_host.proofs.Finishing.{fits_forks, replied_by, job_runs, allowance_is, at_fork, some_at, bound, next}
 use Rattle.core_host.proofs.Desks.{loaded_now, resting_now, begins_now, room_now, small_now, raw_fitted, number1, raw_above, raw_followed, reply_room, answer_held, answer_answers, end_back, end_above, end_leaves}
 use Rattle.core_host.proofs.desk.Desk.+finish.Goals as goal
 

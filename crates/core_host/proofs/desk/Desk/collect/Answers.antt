@@ -1,10 +1,10 @@
-use Rattle.std.proofs.Common.{◌≡◌, ◌<◌, suc, Some, None, length, sym, ap, ◌∙◌, subst}
+use Rattle.std.proofs.Common.{◌≡◌, Some, sym, ap, ◌∙◌, subst}
 use Rattle.std.specs.Prelude.{slice_set}
 use Rattle.thread_code.specs.declared.instruction.CodeParts.{CodeParts}
 use Rattle.thread_code.specs.Plain.{plain_code}
 use Rattle.combine_tree.specs.Plain.{plain_packet}
 use Rattle.copy_slots.specs.Mail.{sender_got}
-use Rattle.copy_slots.specs.Ports.{sent, in_plain, after_collect}
+use Rattle.copy_slots.specs.Ports.{sent}
 use Rattle.core_host.specs.Asking.{Replies}
 use Rattle.core_host.specs.Keeping.{State, code_in, Quiet}
 use Rattle.core_host.specs.Moving.{Moves, HasGot}

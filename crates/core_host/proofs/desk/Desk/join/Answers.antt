@@ -1,18 +1,15 @@
-use Rattle.std.proofs.Common.{◌≡◌, ◌≤◌, ◌<◌, ◌+◌, ◌-◌, ◌++◌, ◌∷◌, [], ℕ, suc, List, Some, None, length, take, slice_get, refl, sym, ap, ◌∙◌, subst, arith}
+use Rattle.std.proofs.Common.{◌<◌, ◌-◌, length, slice_get, refl, sym, ap, ◌∙◌, subst, arith}
 use Rattle.std.specs.Prelude.{slice_index_or}
 use Rattle.std.proofs.lemmas.Option.{slice_get_within, get_or_from_slice_get}
-use Rattle.forec_kernel.specs.Engine.{Reply, Exchange}
-use Rattle.forec_kernel.specs.Packed.{IsReply}
-use Rattle.combine_tree.specs.declared.packet.Packet.{Packet}
 use Rattle.thread_code.specs.declared.instruction.CodeParts.{CodeParts}
 use Rattle.thread_code.specs.Plain.{plain_code}
 use Rattle.combine_tree.specs.Plain.{plain_packet}
-use Rattle.core_machine.specs.Held.{Loaded, StandsFor, HasJoined, CanRun}
+use Rattle.core_machine.specs.Held.{Loaded, StandsFor}
 use Rattle.core_machine.specs.Forks.{with_replies, branch_at}
 use Rattle.forec_kernel.specs.Packed.{HasRoom}
 use Rattle.thread_code.specs.Valid.{of_shape}
-use Rattle.core_host.specs.Keeping.{State, code_in, HaveHeard}
-use Rattle.core_host.proofs.Hearing.{take_more, take_count, take_all, past_end, reply_kind, reply_at, heard_at, in_hands, some_branch, packet_is, not_empty, reply_is}
+use Rattle.core_host.specs.Keeping.{State, code_in}
+use Rattle.core_host.proofs.Hearing.{past_end, reply_at, heard_at, in_hands, some_branch, packet_is, not_empty, reply_is}
 use Rattle.core_host.proofs.desk.Desk.join.Goals as goal
 
 pub overflow_sub-branch : goal.overflow_sub-branch

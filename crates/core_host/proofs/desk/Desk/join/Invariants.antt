@@ -1,8 +1,8 @@
-use Rattle.std.proofs.Common.{◌≡◌, ◌<◌, ◌≤◌, ◌-◌, [], List, length, take}
+use Rattle.std.proofs.Common.{◌≡◌, ◌<◌, ◌≤◌, ◌-◌, List, length}
 use Rattle.forec_kernel.specs.Engine.{Reply, Exchange}
 use Rattle.core_machine.specs.Held.{Loaded, StandsFor, HasJoined, CanRun}
 use Rattle.core_machine.specs.Forks.{with_replies}
-use Rattle.core_host.specs.Keeping.{State, code_in, HaveHeard}
+use Rattle.core_host.specs.Keeping.{code_in, HaveHeard}
 use Rattle.core_host.proofs.desk.Desk.join.Given as goal
 
 abbrev pub invariant-loop-branch : goal.invariant-loop-branch

@@ -1,17 +1,13 @@
-use Rattle.std.proofs.Common.{◌≡◌, suc, None, sym, ap, ◌∙◌, subst}
-use Rattle.forec_kernel.specs.Packed.{HasRoom}
-use Rattle.thread_code.specs.Valid.{of_shape}
-use Rattle.thread_code.specs.Plain.{plain_code}
+use Rattle.std.proofs.Common.{◌≡◌, None, sym, ap, ◌∙◌, subst}
 use Rattle.combine_tree.specs.Plain.{plain_packet}
 use Rattle.copy_slots.specs.declared.view.Place.TheVariants.{Held}
 use Rattle.copy_slots.specs.Ports.{ParentIs, sent, got}
-use Rattle.core_host.specs.Posts.{Mail}
-use Rattle.core_host.specs.Keeping.{State, IsFitted, Quiet, code_in}
+use Rattle.core_host.specs.Keeping.{State}
 use Rattle.core_host.specs.Moving.{Moves}
 use Rattle.std.specs.Prelude.{slice_index_or, slice_set, slice_get}
 use Rattle.copy_slots.specs.Mail.{sender_opened}
 use Rattle.copy_slots.specs.Ports.{after_first}
-use Rattle.core_host.proofs.Mails.{state, with_parent, reply_held, reply_room, is_blank, opened, opened_moves, opened_held, opened_sent, opened_got, opened_room}
+use Rattle.core_host.proofs.Mails.{state, with_parent, reply_held, reply_room, opened_moves, opened_held, opened_sent, opened_got, opened_room}
 use Rattle.core_host.proofs.desk.Desk.packet.Goals as goal
 
 pub returns-in-Some-clause-room : goal.returns-in-Some-clause-room

@@ -1,21 +1,18 @@
-use Rattle.std.proofs.Common.{◌≡◌, ◌<◌, ◌^◌, ◌++◌, ◌∷◌, [], suc, Some, length, map, slice_get, sym, ap, ◌∙◌, subst, arith}
-use Rattle.std.proofs.lemmas.Option.{slice_get_within, get_or_from_slice_get}
-use Rattle.forec_kernel.specs.Engine.{Written}
+use Rattle.std.proofs.Common.{◌≡◌, ◌<◌, ◌++◌, ◌∷◌, [], suc, length, slice_get, sym, ap, ◌∙◌, subst}
+use Rattle.std.proofs.lemmas.Option.{get_or_from_slice_get}
 use Rattle.forec_kernel.specs.Packed.{HasRoom, IsJob}
 use Rattle.thread_code.specs.declared.instruction.CodeParts.{CodeParts}
 use Rattle.thread_code.specs.Plain.{plain_code}
 use Rattle.thread_code.specs.Valid.{of_shape}
 use Rattle.combine_tree.specs.Plain.{plain_packet}
-use Rattle.copy_slots.specs.declared.view.Place.TheVariants.{Held}
 use Rattle.copy_slots.specs.Mail.{sender_sent}
-use Rattle.copy_slots.specs.Ports.{ParentIs, sent, got}
+use Rattle.copy_slots.specs.Ports.{sent}
 use Rattle.core_machine.specs.Forks.{jobs_at, branch_at}
 use Rattle.core_host.specs.Asking.{Asks}
-use Rattle.core_host.specs.Posts.{Mail, IsBranchOf}
-use Rattle.core_host.specs.Keeping.{State, code_in, IsFitted, IsJobFor, MayAsk, IsCalled}
+use Rattle.core_host.specs.Keeping.{State, code_in, IsCalled}
 use Rattle.core_host.specs.Moving.{Moves, HasSent}
 use Rattle.core_host.proofs.Mails.{state, with_parent}
-use Rattle.core_host.proofs.Send.{asks_now, after_sent, sent_moves, sent_called, has_sent}
+use Rattle.core_host.proofs.Send.{asks_now, sent_moves, sent_called, has_sent}
 use Rattle.core_host.proofs.desk.Desk.send.Goals as goal
 
 pub offer-requires-clause-asks : goal.offer-requires-clause-asks

@@ -2,7 +2,7 @@ use Rattle.std.proofs.Common.{◌≡◌, ◌≤◌, ◌-◌, [], List, length, t
 use Rattle.forec_kernel.specs.Engine.{Reply, Exchange}
 use Rattle.core_machine.specs.Held.{Loaded, StandsFor, HasSettled}
 use Rattle.core_machine.specs.Forks.{with_replies}
-use Rattle.core_host.specs.Keeping.{State, code_in, HaveHeard}
+use Rattle.core_host.specs.Keeping.{code_in, HaveHeard}
 use Rattle.core_host.proofs.desk.Desk.settle.Given as goal
 
 abbrev pub invariant-loop-branch : goal.invariant-loop-branch

@@ -1,10 +1,8 @@
-use Rattle.std.proofs.Common.{rules, ◌≡◌, ◌<◌, ◌++◌, ◌∷◌, [], ℕ, List, length, true, sym, ap, ◌∙◌, subst, arith}
-use Rattle.forec_kernel.specs.Shapes.{PlainShape, PlainKernel, plain_shape}
+use Rattle.std.proofs.Common.{rules, ◌≡◌, ◌++◌, ◌∷◌, [], sym, ap, ◌∙◌, subst, arith}
+use Rattle.forec_kernel.specs.Shapes.{PlainShape, plain_shape}
 use Rattle.forec_kernel.specs.Texts.{uses_in}
-use Rattle.forec_kernel.specs.WellFormed.{WellFormed}
 use Rattle.forec_kernel.specs.Ticks.{goes_on, values_of}
 use Rattle.forec_kernel.specs.Packed.{IsJob}
-use Rattle.forec_kernel.specs.Composed.{Turn}
 use Rattle.thread_code.specs.declared.instruction.CodeParts.{CodeParts}
 use Rattle.thread_code.specs.Plain.{plain_code}
 use Rattle.thread_code.specs.Alone.{Stands}

@@ -1,4 +1,4 @@
-use Rattle.std.proofs.Common.{rules, ◌≡◌, ◌-◌, ℕ, [], List, length, true, sym, ap, ◌∙◌, subst, arith}
+use Rattle.std.proofs.Common.{rules, ◌≡◌, ◌-◌, [], length, true, sym, ap, ◌∙◌, subst, arith}
 use Rattle.std.specs.Prelude.{slice_get}
 use Rattle.std.proofs.lemmas.List.{length-replicate, length-map}
 use Rattle.forec_kernel.specs.declared.shape.Shape.{Shape}
@@ -9,7 +9,6 @@ use Rattle.thread_code.specs.Plain.{plain_block, plain_code}
 use Rattle.thread_code.specs.Valid.{of_shape}
 use Rattle.combine_tree.specs.Plain.{plain_packet}
 use Rattle.core_host.specs.Hosted.{Hosted, hosted, is_here, IsWhole}
-use Rattle.core_host.specs.Loads.{IsNewSeat, contains_core}
 use Rattle.core_host.specs.Rests.{IsHosted}
 use Rattle.core_host.specs.Runs.{HasJobs, HasRun}
 use Rattle.core_host.proofs.Rooms.{no_params, all_uses}
