@@ -1,0 +1,3 @@
+mod FoldedCode
+mod ForkCode
+mod SumCode

@@ -1,0 +1,609 @@
+//! A thread with three branches, whose replies are a table's: they are combined, or one of them is told.
+
+ghost use Rattle.std.specs.Prelude.{◌≡◌, ◌+◌, ◌<◌, [], ◌∷◌, map, length, true, IfOk, IfSome};
+ghost use Rattle.forec_kernel.specs.Packed.{HasRoom};
+ghost use Rattle.forec_kernel.specs.Shapes.{plain_thread, plain_shape};
+ghost use Rattle.thread_code.specs.Plain.{plain_block, plain_code};
+ghost use Rattle.thread_code.specs.Valid.{of_shape};
+ghost use Rattle.combine_tree.specs.Plain.{plain_packet};
+ghost use Rattle.core_machine.specs.Forks.{IsReplyKind};
+ghost use Rattle.core_machine.specs.Held.{Loaded, CanRun, IsResting, HasReply, HasPaused, HasSettled, HasJoined};
+ghost use Rattle.combine_tree.specs.declared.packet.PacketKind.TheVariants as kind;
+ghost use Rattle.core_rows.specs.Forked.{fork_shape, root_thread, branch_thread, root_block, branch_block, minus_block, division_block, fork_code};
+
+use core_machine::{Event, Thread};
+use combine_tree::{Packet, PacketKind};
+use forec_base::{Binary, Labels, OutOfMemory, Place, Policy, Trap};
+use forec_kernel::{FunctionShape, Shape, ThreadShape, VarCopy, Variable};
+use std::alloc::Global;
+use std::test::Fail;
+use thread_code::{Block, Code, CodeParts, Instruction};
+
+fn root(alloc: Global) -> Result<ThreadShape, OutOfMemory>
+    ensures { IfOk result (λ t. plain_thread t ≡ root_thread) }
+{
+    Ok(ThreadShape {
+        parent: None,
+        par: None,
+        name: None,
+        params: 0,
+        words: 0,
+        uses: [0, 1, 2].to_vec(alloc)?,
+    })
+}
+
+fn branch(alloc: Global) -> Result<ThreadShape, OutOfMemory>
+    ensures { IfOk result (λ t. plain_thread t ≡ branch_thread) }
+{
+    Ok(ThreadShape {
+        parent: Some(0),
+        par: Some(0),
+        name: None,
+        params: 0,
+        words: 0,
+        uses: [0, 1, 2].to_vec(alloc)?,
+    })
+}
+
+fn threads(alloc: Global) -> Result<Vec<ThreadShape>, OutOfMemory>
+    ensures { IfOk result (λ v. map plain_thread v.items ≡ root_thread ∷ branch_thread ∷ branch_thread ∷ branch_thread ∷ []) }
+{
+    let mut list = Vec::new(alloc);
+    list.push(root(alloc)?)?;
+    list.push(branch(alloc)?)?;
+    list.push(branch(alloc)?)?;
+    list.push(branch(alloc)?)?;
+    Ok(list)
+}
+
+fn names(alloc: Global) -> Result<Labels, OutOfMemory>
+    ensures { IfOk result (λ n. n ≡ (97 ∷ []) ∷ (98 ∷ []) ∷ (99 ∷ []) ∷ []) }
+{
+    let mut names = Labels::new(alloc)?;
+    names.push("a")?;
+    names.push("b")?;
+    names.push("c")?;
+    Ok(names)
+}
+
+fn shape(alloc: Global) -> Result<Shape, OutOfMemory>
+    ensures { IfOk result (λ s. plain_shape s ≡ fork_shape) }
+{
+    let all = Variable {
+        policy: Policy::All,
+        combine: Some(0),
+        start: 0,
+        input: false,
+    };
+    let new = Variable {
+        policy: Policy::New,
+        combine: Some(1),
+        start: 0,
+        input: false,
+    };
+    let modified = Variable {
+        policy: Policy::Mod,
+        combine: Some(0),
+        start: 0,
+        input: false,
+    };
+    let function = FunctionShape {
+        params: 2,
+        words: 2,
+    };
+    Ok(Shape {
+        threads: threads(alloc)?,
+        variables: [all, new, modified].to_vec(alloc)?,
+        functions: [function, function].to_vec(alloc)?,
+        tables: Vec::new(alloc),
+        inputs: Vec::new(alloc),
+        outputs: Vec::new(alloc),
+        names: names(alloc)?,
+    })
+}
+
+fn root_steps(alloc: Global) -> Result<Block, OutOfMemory>
+    ensures { IfOk result (λ b. plain_block b ≡ root_block) }
+{
+    let steps = [
+        Instruction::Fork { par: 0, to: 2 },
+        Instruction::End,
+        Instruction::Pause { to: 3 },
+        Instruction::Again { par: 0, to: 5 },
+        Instruction::End,
+        Instruction::Pause { to: 6 },
+        Instruction::End,
+    ];
+    Ok(Block {
+        steps: steps.to_vec(alloc)?,
+        params: 0,
+        words: 0,
+        counters: 0,
+        flags: 0,
+    })
+}
+
+fn branch_steps(alloc: Global) -> Result<Block, OutOfMemory>
+    ensures { IfOk result (λ b. plain_block b ≡ branch_block) }
+{
+    let steps = [Instruction::End];
+    Ok(Block {
+        steps: steps.to_vec(alloc)?,
+        params: 0,
+        words: 0,
+        counters: 0,
+        flags: 0,
+    })
+}
+
+fn minus(alloc: Global) -> Result<Block, OutOfMemory>
+    ensures { IfOk result (λ b. plain_block b ≡ minus_block) }
+{
+    let steps = [
+        Instruction::Load { slot: 0 },
+        Instruction::Load { slot: 1 },
+        Instruction::Binary {
+            op: Binary::Sub,
+            place: None,
+        },
+        Instruction::Return,
+    ];
+    Ok(Block {
+        steps: steps.to_vec(alloc)?,
+        params: 2,
+        words: 2,
+        counters: 0,
+        flags: 0,
+    })
+}
+
+fn division(alloc: Global) -> Result<Block, OutOfMemory>
+    ensures { IfOk result (λ b. plain_block b ≡ division_block) }
+{
+    let steps = [
+        Instruction::Load { slot: 0 },
+        Instruction::Load { slot: 1 },
+        Instruction::Binary {
+            op: Binary::Div,
+            place: Some(Place { line: 9, column: 3 }),
+        },
+        Instruction::Return,
+    ];
+    Ok(Block {
+        steps: steps.to_vec(alloc)?,
+        params: 2,
+        words: 2,
+        counters: 0,
+        flags: 0,
+    })
+}
+
+fn blocks(alloc: Global) -> Result<Vec<Block>, OutOfMemory>
+    ensures { IfOk result (λ v. map plain_block v.items ≡ root_block ∷ branch_block ∷ branch_block ∷ branch_block ∷ []) }
+{
+    let mut list = Vec::new(alloc);
+    list.push(root_steps(alloc)?)?;
+    list.push(branch_steps(alloc)?)?;
+    list.push(branch_steps(alloc)?)?;
+    list.push(branch_steps(alloc)?)?;
+    Ok(list)
+}
+
+fn functions(alloc: Global) -> Result<Vec<Block>, OutOfMemory>
+    ensures { IfOk result (λ v. map plain_block v.items ≡ minus_block ∷ division_block ∷ []) }
+{
+    let mut list = Vec::new(alloc);
+    list.push(minus(alloc)?)?;
+    list.push(division(alloc)?)?;
+    Ok(list)
+}
+
+/// A thread that forks three branches and ends where all have ended; else it pauses, and wakes those that
+/// live. Of its three variables the copies are combined by minus, all of them; by division, the new
+/// ones; and by minus, those that were assigned.
+fn forks(alloc: Global) -> Result<Code, OutOfMemory>
+    ensures { IfOk result (λ c. plain_code c ≡ fork_code) }
+{
+    Ok(Code::of(CodeParts {
+        shape: shape(alloc)?,
+        threads: blocks(alloc)?,
+        functions: functions(alloc)?,
+    }))
+}
+
+/// Whether the packet has that thread's room.
+fn has_room(code: &Code, thread: u32, packet: &Packet) -> bool
+    ensures { result ≡ true → HasRoom (of_shape (plain_code code.now).shape) thread (plain_packet packet.now) }
+{
+    match code.shape().threads.get(thread as usize) {
+        Some(thread) => {
+            packet.args.len() == thread.params as usize && packet.copies.len() == thread.uses.len()
+        }
+        None => false,
+    }
+}
+
+fn is_reply_kind(kind: PacketKind) -> bool
+    ensures { result ≡ true → IsReplyKind kind }
+{
+    match kind {
+        PacketKind::Blank | PacketKind::Start | PacketKind::Wake => false,
+        _ => true,
+    }
+}
+
+/// Whether the packet is a reply with that branch's room.
+fn is_reply(code: &Code, branch: u32, packet: &Packet) -> bool
+    ensures kind { result ≡ true → IsReplyKind packet.now.kind }
+    ensures room { result ≡ true → HasRoom (of_shape (plain_code code.now).shape) branch (plain_packet packet.now) }
+{
+    has_room(code, branch, packet) && is_reply_kind(packet.kind)
+}
+
+/// Settles the reply of the k-th branch.
+fn settle(thread: &mut Thread, code: &Code, k: usize, packet: &Packet) -> bool
+    requires loaded { Loaded (plain_code code.now) thread.old }
+    requires order { HasSettled thread.old k }
+    ensures loaded { Loaded (plain_code code.now) thread.new }
+    ensures number { thread.new.number ≡ thread.old.number }
+    ensures numbers { thread.new.branches.numbers ≡ thread.old.branches.numbers }
+    ensures inside { result ≡ true → k < length thread.old.branches.numbers }
+    ensures order { result ≡ true → HasSettled thread.new (k + 1) }
+{
+    let Some(branch) = thread.active(code, k) else {
+        return false;
+    };
+    if !is_reply(code, branch, packet) {
+        return false;
+    }
+    thread.settle(code, k, packet);
+    true
+}
+
+/// Joins the k-th branch.
+fn join(thread: &mut Thread, code: &Code, k: usize, packet: &Packet) -> bool
+    requires loaded { Loaded (plain_code code.now) thread.old }
+    requires order { HasJoined thread.old k }
+    requires inside { k < length thread.old.branches.numbers }
+    ensures loaded { Loaded (plain_code code.now) thread.new }
+    ensures number { thread.new.number ≡ thread.old.number }
+    ensures numbers { thread.new.branches.numbers ≡ thread.old.branches.numbers }
+    ensures order { result ≡ true → k + 1 < length thread.old.branches.numbers → HasJoined thread.new (k + 1) }
+    ensures running { result ≡ true → k + 1 ≡ length thread.old.branches.numbers → CanRun thread.new }
+{
+    let Some(branch) = thread.active(code, k) else {
+        return false;
+    };
+    if !is_reply(code, branch, packet) {
+        return false;
+    }
+    thread.joined(code, k, packet);
+    true
+}
+
+/// Settles and joins the replies of three branches.
+fn play(thread: &mut Thread, code: &Code, a: &Packet, b: &Packet, c: &Packet) -> bool
+    requires loaded { Loaded (plain_code code.now) thread.old }
+    requires order { HasSettled thread.old 0 }
+    ensures loaded { Loaded (plain_code code.now) thread.new }
+    ensures number { thread.new.number ≡ thread.old.number }
+    ensures running { result ≡ true → CanRun thread.new }
+{
+    if !settle(thread, code, 0, a) {
+        return false;
+    }
+    if !settle(thread, code, 1, b) {
+        return false;
+    }
+    if !settle(thread, code, 2, c) {
+        return false;
+    }
+    if thread.active(code, 3).is_some() {
+        return false;
+    }
+    if !join(thread, code, 0, a) {
+        return false;
+    }
+    if !join(thread, code, 1, b) {
+        return false;
+    }
+    join(thread, code, 2, c)
+}
+
+/// Runs to a fork.
+fn comes_to_fork(thread: &mut Thread, code: &Code) -> bool
+    requires loaded { Loaded (plain_code code.now) thread.old }
+    requires running { CanRun thread.old }
+    ensures loaded { Loaded (plain_code code.now) thread.new }
+    ensures number { thread.new.number ≡ thread.old.number }
+    ensures fork { result ≡ true → HasSettled thread.new 0 }
+{
+    match thread.run(code) {
+        Event::Fork => true,
+        _ => false,
+    }
+}
+
+/// Runs to the end of the job, and writes the reply.
+fn replies(thread: &mut Thread, code: &Code, packet: &mut Packet) -> Option<Event>
+    requires loaded { Loaded (plain_code code.now) thread.old }
+    requires running { CanRun thread.old }
+    requires room { HasRoom (of_shape (plain_code code.now).shape) thread.old.number (plain_packet packet.old) }
+    ensures loaded { Loaded (plain_code code.now) thread.new }
+{
+    match thread.run(code) {
+        Event::Fork => None,
+        event => {
+            thread.reply(code, packet);
+            Some(event)
+        }
+    }
+}
+
+/// Runs to a pause, and writes the reply.
+fn pauses(thread: &mut Thread, code: &Code, packet: &mut Packet) -> bool
+    requires loaded { Loaded (plain_code code.now) thread.old }
+    requires running { CanRun thread.old }
+    requires room { HasRoom (of_shape (plain_code code.now).shape) thread.old.number (plain_packet packet.old) }
+    ensures loaded { Loaded (plain_code code.now) thread.new }
+    ensures number { thread.new.number ≡ thread.old.number }
+    ensures replied { result ≡ true → HasReply thread.new }
+    ensures paused { result ≡ true → HasPaused thread.new }
+    ensures room { HasRoom (of_shape (plain_code code.now).shape) thread.old.number (plain_packet packet.new) }
+{
+    match thread.run(code) {
+        Event::Paused => {
+            thread.reply(code, packet);
+            true
+        }
+        _ => false,
+    }
+}
+
+/// Wakes a thread that has paused.
+fn wakes(thread: &mut Thread, code: &Code, packet: &mut Packet)
+    requires loaded { Loaded (plain_code code.now) thread.old }
+    requires replied { HasReply thread.old }
+    requires paused { HasPaused thread.old }
+    requires room { HasRoom (of_shape (plain_code code.now).shape) thread.old.number (plain_packet packet.old) }
+    ensures loaded { Loaded (plain_code code.now) thread.new }
+    ensures number { thread.new.number ≡ thread.old.number }
+    ensures running { CanRun thread.new }
+    ensures room { HasRoom (of_shape (plain_code code.now).shape) thread.old.number (plain_packet packet.new) }
+{
+    packet.kind = PacketKind::Wake;
+    packet.allowance = 50;
+    thread.begin(code, packet);
+}
+
+/// Settles and joins the reply of one branch.
+fn play_one(thread: &mut Thread, code: &Code, a: &Packet) -> bool
+    requires loaded { Loaded (plain_code code.now) thread.old }
+    requires order { HasSettled thread.old 0 }
+    ensures loaded { Loaded (plain_code code.now) thread.new }
+    ensures number { thread.new.number ≡ thread.old.number }
+    ensures running { result ≡ true → CanRun thread.new }
+{
+    if !settle(thread, code, 0, a) {
+        return false;
+    }
+    if thread.active(code, 1).is_some() {
+        return false;
+    }
+    join(thread, code, 0, a)
+}
+
+/// Begins a job where the packet has the thread's room.
+fn begins(thread: &mut Thread, code: &Code, packet: &Packet) -> bool
+    requires loaded { Loaded (plain_code code.now) thread.old }
+    requires resting { IsResting thread.old }
+    requires start { packet.now.kind ≡ kind.Start }
+    requires root { thread.old.number ≡ 0 }
+    ensures loaded { Loaded (plain_code code.now) thread.new }
+    ensures number { thread.new.number ≡ thread.old.number }
+    ensures running { result ≡ true → CanRun thread.new }
+    ensures room { result ≡ true → HasRoom (of_shape (plain_code code.now).shape) thread.old.number (plain_packet packet.now) }
+{
+    if packet.allowance > 1 << 62 || !has_room(code, 0, packet) {
+        return false;
+    }
+    thread.begin(code, packet);
+    true
+}
+
+/// Writes the job of the k-th branch, and gives its number.
+fn ask(thread: &Thread, code: &Code, k: usize, packet: &mut Packet) -> Option<u32>
+    requires loaded { Loaded (plain_code code.now) thread.now }
+    requires order { HasSettled thread.now 0 }
+{
+    let branch = thread.active(code, k)?;
+    if !has_room(code, branch, packet) {
+        return None;
+    }
+    thread.job(code, k, packet);
+    Some(branch)
+}
+
+/// A packet's kind, its copies and its units.
+#[derive(Clone, Copy, Debug, PartialEq, Eq)]
+struct Row {
+    kind: PacketKind,
+    copies: [(i32, bool); 3],
+    units: u64,
+}
+
+fn packet_of(alloc: Global, row: &Row) -> Result<Packet, OutOfMemory>
+    ensures { IfOk result (λ p. p.kind ≡ row.now.kind) }
+{
+    let mut packet = Packet::new(alloc, 0, 3)?;
+    packet.kind = row.kind;
+    packet.allowance = 100;
+    packet.units = row.units;
+    for (at, copy) in packet.copies.iter_mut().enumerate() {
+        if at < 3 {
+            let (value, modified) = row.copies[at];
+            *copy = VarCopy { value, modified };
+        }
+    }
+    Ok(packet)
+}
+
+fn copy_at(packet: &Packet, i: usize) -> (i32, bool) {
+    match packet.copies.get(i) {
+        Some(copy) => (copy.value, copy.modified),
+        None => (0, false),
+    }
+}
+
+fn row_of(packet: &Packet) -> Row {
+    Row {
+        kind: packet.kind,
+        copies: [copy_at(packet, 0), copy_at(packet, 1), copy_at(packet, 2)],
+        units: packet.units,
+    }
+}
+
+fn start() -> Row
+    ensures { result.kind ≡ kind.Start }
+{
+    Row {
+        kind: PacketKind::Start,
+        copies: [(4, false), (1, false), (7, false)],
+        units: 0,
+    }
+}
+
+/// A job is started, the three branches of its fork answer by the rows, and the thread goes on to its own
+/// reply.
+fn scenario(alloc: Global, code: &Code, rows: &[Row; 3]) -> Result<Option<Row>, OutOfMemory>
+    requires { 0 < length (plain_code code.now).threads }
+{
+    let mut thread = Thread::load(alloc, code, 0)?;
+    let mut packet = packet_of(alloc, &start())?;
+    let a = packet_of(alloc, &rows[0])?;
+    let b = packet_of(alloc, &rows[1])?;
+    let c = packet_of(alloc, &rows[2])?;
+    if !begins(&mut thread, code, &packet) || !comes_to_fork(&mut thread, code) {
+        return Ok(None);
+    }
+    if !play(&mut thread, code, &a, &b, &c) {
+        return Ok(None);
+    }
+    if replies(&mut thread, code, &mut packet).is_none() {
+        return Ok(None);
+    }
+    Ok(Some(row_of(&packet)))
+}
+
+fn ended(units: u64, copies: [(i32, bool); 3]) -> Row {
+    Row {
+        kind: PacketKind::Ended,
+        copies,
+        units,
+    }
+}
+
+fn told(kind: PacketKind) -> Row {
+    Row {
+        kind,
+        copies: [(0, false), (0, false), (0, false)],
+        units: 2,
+    }
+}
+
+fn trapped(line: u32, trap: Trap) -> PacketKind {
+    PacketKind::Trapped {
+        place: Place { line, column: 1 },
+        trap,
+    }
+}
+
+/// 10, 3 and 2 by minus are 5, in the order of the `par`; 8 by 4 is 2 of the new ones; and 9 is the one that
+/// was assigned.
+#[test]
+fn combines(rt: HostRuntime) -> Result<(), Fail> {
+    let code = forks(rt.alloc())?;
+    let a = ended(2, [(10, false), (1, false), (7, false)]);
+    let b = ended(2, [(3, false), (8, false), (9, true)]);
+    let c = ended(2, [(2, false), (4, false), (7, false)]);
+    let rows = [a, b, c];
+    let reply = scenario(rt.alloc(), &code, &rows)?;
+    let expected = ended(19, [(5, false), (2, false), (9, true)]);
+    assert_eq!(rt; reply, Some(expected));
+    let zero = ended(2, [(2, false), (0, false), (7, false)]);
+    let rows = [a, b, zero];
+    let reply = scenario(rt.alloc(), &code, &rows)?;
+    let place = Place { line: 9, column: 3 };
+    let kind = PacketKind::Trapped {
+        place,
+        trap: Trap::Divide,
+    };
+    assert_eq!(rt; reply.map(|row| (row.kind, row.units)), Some((kind, 19)));
+    Ok(())
+}
+
+/// What a branch tells is told, and nothing is combined.
+#[test]
+fn tells(rt: HostRuntime) -> Result<(), Fail> {
+    let code = forks(rt.alloc())?;
+    let ends = told(PacketKind::Ended);
+    let index = trapped(5, Trap::Index);
+    let turns = trapped(6, Trap::Turns);
+    let rows = [ends, told(index), told(turns)];
+    let reply = scenario(rt.alloc(), &code, &rows)?;
+    assert_eq!(rt; reply.map(|row| (row.kind, row.units)), Some((index, 7)));
+    let rows = [told(index), told(PacketKind::Over), ends];
+    let reply = scenario(rt.alloc(), &code, &rows)?;
+    assert_eq!(rt; reply.map(|row| row.kind), Some(PacketKind::Over));
+    let many = Row { units: 40, ..ends };
+    let rows = [many, many, many];
+    let reply = scenario(rt.alloc(), &code, &rows)?;
+    assert_eq!(rt; reply.map(|row| row.kind), Some(PacketKind::Over));
+    Ok(())
+}
+
+/// The branches get their jobs; those that live after a pause are woken in the next job.
+#[test]
+fn asks_and_wakes(rt: HostRuntime) -> Result<(), Fail> {
+    let code = forks(rt.alloc())?;
+    let mut thread = Thread::load(rt.alloc(), &code, 0)?;
+    let mut packet = packet_of(rt.alloc(), &start())?;
+    let mut job = packet_of(rt.alloc(), &start())?;
+    let ends = packet_of(rt.alloc(), &ended(2, [(10, false), (1, false), (7, false)]))?;
+    let held = packet_of(rt.alloc(), &told(PacketKind::Paused))?;
+    if !begins(&mut thread, &code, &packet) || !comes_to_fork(&mut thread, &code) {
+        panic!(rt; "no fork");
+    }
+    for k in 0..3 {
+        let branch = ask(&thread, &code, k, &mut job);
+        assert_eq!(rt; branch, Some(k as u32 + 1));
+        let expected = Row {
+            units: job.units,
+            ..start()
+        };
+        assert_eq!(rt; row_of(&job), expected);
+        assert_eq!(rt; job.allowance, 99);
+    }
+    if !play(&mut thread, &code, &ends, &held, &ends) {
+        panic!(rt; "no replies");
+    }
+    if !pauses(&mut thread, &code, &mut packet) {
+        panic!(rt; "no pause");
+    }
+    wakes(&mut thread, &code, &mut packet);
+    if !comes_to_fork(&mut thread, &code) {
+        panic!(rt; "no held fork");
+    }
+    let branch = ask(&thread, &code, 0, &mut job);
+    assert_eq!(rt; branch, Some(2));
+    assert_eq!(rt; job.kind, PacketKind::Wake);
+    assert_eq!(rt; job.allowance, 50);
+    let branch = ask(&thread, &code, 1, &mut job);
+    assert_eq!(rt; branch, None);
+    if !play_one(&mut thread, &code, &ends) {
+        panic!(rt; "no reply");
+    }
+    let event = replies(&mut thread, &code, &mut packet);
+    assert_eq!(rt; event, Some(Event::Ended));
+    Ok(())
+}

@@ -1,0 +1,7 @@
+//! Tests of the parser and of the check: the trees of tokens, and programs that are accepted or refused.
+#![tactic(auto)]
+
+#[cfg(test)]
+mod checked;
+#[cfg(test)]
+mod parsed;
