@@ -1,10 +1,15 @@
-//! What a thread has beside its frames: copies of variables, flags, and its living branches.
+//! What a thread has beside its frames: copies of variables, flags, its living branches, and the
+//! branches of each par.
 
 ghost use Rattle.std.specs.Prelude.{◌≡◌, ◌<◌, ◌≤◌, length, get_or, true, false, IfOk};
+ghost use Rattle.forec_kernel.specs.Shapes.{plain_shape};
+ghost use Rattle.thread_code.specs.Valid.{FineShape};
+ghost use Rattle.core_machine.specs.Pars.{HavePars};
 ghost use Rattle.core_machine.specs.Kept.{Kept, AreIndexed, place_in, no_copy, with_copy, with_copy_at, with_flag, with_live_at, begun, with_copies, HavePlaces, handed_by};
 
+use crate::pars::Pars;
 use forec_base::OutOfMemory;
-use forec_kernel::VarCopy;
+use forec_kernel::{Shape, VarCopy};
 use std::alloc::Global;
 use std::marker::Model;
 
@@ -17,6 +22,7 @@ pub struct Own {
     places: Vec<u32>,
     flags: Vec<bool>,
     live: Vec<bool>,
+    pars: Pars,
 }
 
 impl Model for Own {
@@ -24,7 +30,7 @@ impl Model for Own {
 
     ghost Value = { Kept };
 
-    ghost view = { λ k. kept_of k.copies.items k.places.items k.flags.items k.live.items };
+    ghost view = { λ k. kept_of k.copies.items k.places.items k.flags.items k.live.items k.pars };
 }
 
 /// Where the copies of these variables stand, for variable numbers from 0 on.
@@ -43,16 +49,19 @@ fn places_of(alloc: Global, uses: &[u32]) -> Result<Vec<u32>, OutOfMemory>
 }
 
 impl Own {
-    /// A copy for each of these variables, so many flags, and a note for so many threads.
+    /// A copy for each of these variables, so many flags, a note for each thread of a shape, and the
+    /// branches of its pars.
     ///
     /// # Errors
     ///
     /// Want of memory.
-    pub fn new(alloc: Global, uses: &[u32], flags: u32, threads: usize) -> Result<Own, OutOfMemory>
+    pub fn new(alloc: Global, uses: &[u32], flags: u32, shape: &Shape) -> Result<Own, OutOfMemory>
+        requires { FineShape (plain_shape shape.now) }
         ensures copies { IfOk result (λ k. length k.copies ≡ length uses.now) }
         ensures places { IfOk result (λ k. AreIndexed uses.now k.places) }
         ensures flags { IfOk result (λ k. length k.flags ≡ flags) }
-        ensures live { IfOk result (λ k. length k.live ≡ threads) }
+        ensures live { IfOk result (λ k. length k.live ≡ length (plain_shape shape.now).threads) }
+        ensures pars { IfOk result (λ k. HavePars (plain_shape shape.now) k.pars) }
     {
         let unset = VarCopy {
             value: 0,
@@ -62,7 +71,8 @@ impl Own {
             copies: vec![in alloc; unset; uses.len()]?,
             places: places_of(alloc, uses)?,
             flags: vec![in alloc; false; flags as usize]?,
-            live: vec![in alloc; false; threads]?,
+            live: vec![in alloc; false; shape.threads.len()]?,
+            pars: Pars::new(alloc, shape)?,
         })
     }
 
@@ -136,6 +146,13 @@ impl Own {
         ensures { self.new ≡ with_live_at thread live self.old }
     {
         self.live[thread as usize] = live;
+    }
+
+    /// The branches of each par.
+    pub fn pars(&self) -> &Pars
+        ensures { result.now ≡ self.now.pars }
+    {
+        &self.pars
     }
 
     /// The thread's copies, in the order of the variables that it uses.
