@@ -1,11 +1,11 @@
 -- The links from each branch of a par to the next, made from the last thread to the first.
-use Rattle.std.proofs.Common.{◌≡◌, ◌≢◌, ℕ, zero, suc, ◌+◌, ◌*◌, ◌<◌, ◌≤◌, ◌==◌, List, [], ◌∷◌, length, drop, map, get_or, replicate, Option, Some, None, Bool, true, false, cond, refl, sym, ap, ◌∙◌, subst, arith, add-one, drop-cons, length-set, get_or-set_same, get_or-set_other}
+use Rattle.std.proofs.Common.{◌≡◌, ◌≢◌, ℕ, zero, suc, ◌+◌, ◌-◌, ◌*◌, ◌<◌, ◌≤◌, ◌==◌, List, [], ◌∷◌, length, drop, map, get_or, replicate, Option, Some, None, Bool, true, false, cond, refl, sym, ap, ◌∙◌, subst, arith, add-one, drop-cons, length-set, get_or-set_same, get_or-set_other}
 use Rattle.std.specs.Prelude.{IsTrue, IfSome, slice_set, nat_lt, ◌&&◌, ◌||◌}
 use Rattle.std.proofs.lemmas.List.{length-replicate}
 use Rattle.forec_kernel.specs.Shapes.{PlainShape, PlainThread}
 use Rattle.forec_kernel.specs.Texts.{params_in}
 use Rattle.forec_kernel.specs.WellFormed.{branches_of, is_par, blank_thread, numbered}
-use Rattle.thread_code.specs.Valid.{FineShape, arguments_of}
+use Rattle.thread_code.specs.Valid.{FineShape, branches_in, arguments_of}
 use Rattle.core_machine.specs.declared.pars.Sibling.{Sibling}
 use Rattle.core_machine.specs.Pars.{Links, first_of, sibling_at, arguments_from, with_first, IsLink, Lead, HavePars}
 use Rattle.core_machine.proofs.Branching.{few_branches}
@@ -192,3 +192,47 @@ module _ (s : PlainShape) (p : Links) (i : ℕ) (lt : i < length s.threads) (l :
 
 pub linked_all : (s : PlainShape) (p : Links) → LinkedFrom s p 0 → HavePars s p
 linked_all s p l = record { threads = l.siblings; lead = l.lead }
+
+-- ---- from link to link
+
+-- a branch, and those behind it
+pub record Ahead (s : PlainShape) (ss : List Sibling) (b : ℕ) (bs : List ℕ) : Type 0 where
+  pub rest : List ℕ
+  pub is : bs ≡ b ∷ rest
+  pub link : IsLink s ss b rest
+  pub lead : Lead s ss (sibling_at ss b).next rest
+
+module _ (s : PlainShape) (ss : List Sibling) where
+  pub ahead : (o : Option ℕ) (bs : List ℕ) (b : ℕ) → Lead s ss o bs → o ≡ Some b → Ahead s ss b bs
+  ahead o [] b h e = let k : None ≡ Some b = sym h ∙ e in cc
+  ahead o (x ∷ rest) b h e =
+      let k : x ≡ b = let f : Some x ≡ Some b = sym h.0 ∙ e in cc in
+      subst (λ b. Ahead s ss b (x ∷ rest)) k (record { rest = rest; is = refl; link = h.1; lead = h.2 })
+
+  pub behind_last : (bs : List ℕ) → Lead s ss None bs → bs ≡ []
+  behind_last [] h = refl
+  behind_last (b ∷ bs) h = let k : None ≡ Some b = h.0 in cc
+
+  abbrev pub left_of : Option ℕ → ℕ
+  left_of None = 0
+  left_of (Some b) = length ss - b
+
+  pub left_falls : (b : ℕ) (bs : List ℕ) → IsLink s ss b bs → left_of (sibling_at ss b).next < left_of (Some b)
+  left_falls b bs h = by (sibling_at ss b).next h.later
+    where
+      by : (o : Option ℕ) → IfSome o (λ n. b < n) → left_of o < length ss - b
+      by None later = omega (arith, h.within)
+      by (Some n) later = omega (arith, h.within, later)
+
+  -- what the k-th link says of the arguments from it on
+  pub lead_at : (o : Option ℕ) (bs : List ℕ) (k : ℕ) → Lead s ss o bs → k < length bs → (get_or bs k 0 < length ss) × (arguments_from ss (Some (get_or bs k 0)) ≡ arguments_of s (drop k bs))
+  lead_at o [] k h lt = absurd (omega arith)
+  lead_at o (b ∷ bs) zero h lt = (h.1.within, h.1.arguments)
+  lead_at o (b ∷ bs) (suc k) h lt = lead_at (sibling_at ss b).next bs k h.2 (omega arith)
+
+-- what is noted of the arguments of the k-th of all branches of a par
+pub fork_arguments : (s : PlainShape) (p : Links) → HavePars s p → (bs : List ℕ) (j : ℕ) → bs ≡ branches_in s j → (k : ℕ) → k < length bs →
+    (get_or bs k 0 < length p.siblings) × (arguments_from p.siblings (Some (get_or bs k 0)) ≡ arguments_of s (drop k bs))
+fork_arguments s p h bs j e k lt =
+    subst (λ bs. (get_or bs k 0 < length p.siblings) × (arguments_from p.siblings (Some (get_or bs k 0)) ≡ arguments_of s (drop k bs))) (sym e)
+    (lead_at s p.siblings (first_of p j) (branches_in s j) k (h.lead j) (subst (λ bs. k < length bs) e lt))

@@ -63,6 +63,14 @@ fn are_all(notes: &[bool]) -> bool
     true
 }
 
+/// Whether a branch is asked for: each is, or those that live.
+fn is_chosen(own: &Own, again: bool, branch: u32) -> bool
+    requires { branch < length own.now.live }
+    ensures { result ≡ cond again (get_or own.now.live branch false) true }
+{
+    !again || own.is_live(branch as usize)
+}
+
 /// Writes the numbers of the branches of a par, or of those that live, and says how many there are.
 fn fill(shape: &Shape, par: u32, own: &Own, again: bool, numbers: &mut [u32]) -> usize
     requires room { length (plain_shape shape.now).threads ≤ length numbers.old }
@@ -76,7 +84,7 @@ fn fill(shape: &Shape, par: u32, own: &Own, again: bool, numbers: &mut [u32]) ->
     let mut count = 0;
     let mut next = pars.first(par);
     while let Some(branch) = next {
-        if !again || own.is_live(branch as usize) {
+        if is_chosen(own, again, branch) {
             numbers[count] = branch;
             count += 1;
         }
