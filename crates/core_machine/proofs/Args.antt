@@ -26,9 +26,9 @@ sum_within s (b ∷ bs) zero lt = omega arith
 sum_within s (b ∷ bs) (suc k) lt = omega (arith, sum_within s bs k (omega arith))
 
 pub sum_parts : (s : PlainShape) (bs : List ℕ) (k : ℕ) → arguments_of s bs ≡ arguments_of s (take k bs) + arguments_of s (drop k bs)
-sum_parts s [] zero = refl
-sum_parts s [] (suc k) = refl
-sum_parts s (b ∷ bs) zero = refl
+sum_parts s [] zero = omega arith
+sum_parts s [] (suc k) = omega arith
+sum_parts s (b ∷ bs) zero = omega arith
 sum_parts s (b ∷ bs) (suc k) = omega (arith, sum_parts s bs k)
 
 pub thread_within : (s : PlainShape) (bs : List ℕ) (k : ℕ) → AreThreads s bs → k < length bs → get_or bs k 0 < length s.threads
