@@ -1,5 +1,5 @@
 -- The branches of a fork are gathered, and their replies counted.
-use Rattle.std.proofs.Common.{◌≡◌, ℕ, zero, suc, ◌+◌, ◌-◌, ◌<◌, ◌≤◌, ◌^◌, List, [], ◌∷◌, ◌++◌, length, drop, take, map, get_or, Bool, true, false, cond, refl, sym, ap, ◌∙◌, subst, ⊎_elim, inl, inr, arith, add-one, drop-cons, append_assoc}
+use Rattle.std.proofs.Common.{◌≡◌, ℕ, suc, ◌+◌, ◌-◌, ◌<◌, ◌≤◌, ◌^◌, List, [], ◌∷◌, ◌++◌, length, drop, take, map, get_or, Bool, true, false, cond, refl, sym, ap, ◌∙◌, subst, ⊎_elim, inl, inr, arith, add-one, drop-cons, append_assoc}
 use Rattle.std.specs.Prelude.{◌⊎◌, ◌&&◌, ◌||◌, min, slice_set}
 use Rattle.std.specs.List.{list_all}
 use Rattle.std.proofs.lemmas.Bool.{cases_lt}
@@ -7,8 +7,6 @@ use Rattle.forec_base.specs.declared.Place.{Place}
 use Rattle.forec_base.specs.declared.Trap.{Trap}
 use Rattle.forec_kernel.specs.Engine.{Reply, WasPaused, WasEnded, WasTrapped, WasOver}
 use Rattle.forec_kernel.specs.Solo.{all_units, reply_units, some_reply_over, is_over_reply}
-use Rattle.forec_kernel.specs.Shapes.{PlainThread}
-use Rattle.forec_kernel.specs.WellFormed.{branches_of, is_par, blank_thread}
 use Rattle.thread_code.specs.Machine.{is_ended, living}
 use Rattle.core_machine.proofs.Lists.{take_set}
 use Rattle.core_machine.specs.declared.branches.Verdict.{Verdict}

@@ -1,5 +1,5 @@
 -- The links from each branch of a par to the next, made from the last thread to the first.
-use Rattle.std.proofs.Common.{◌≡◌, ◌≢◌, ℕ, zero, suc, ◌+◌, ◌-◌, ◌*◌, ◌<◌, ◌≤◌, ◌==◌, List, [], ◌∷◌, length, drop, map, get_or, replicate, Option, Some, None, Bool, true, false, cond, refl, sym, ap, ◌∙◌, subst, arith, add-one, drop-cons, length-set, get_or-set_same, get_or-set_other}
+use Rattle.std.proofs.Common.{◌≡◌, ◌≢◌, ℕ, zero, suc, ◌+◌, ◌-◌, ◌*◌, ◌<◌, ◌≤◌, ◌==◌, List, [], ◌∷◌, length, drop, get_or, replicate, Option, Some, None, Bool, true, false, cond, refl, sym, ap, ◌∙◌, subst, arith, add-one, drop-cons, length-set, get_or-set_same, get_or-set_other}
 use Rattle.std.specs.Prelude.{IsTrue, IfSome, slice_set, nat_lt, ◌&&◌, ◌||◌}
 use Rattle.std.proofs.lemmas.List.{length-replicate}
 use Rattle.forec_kernel.specs.Shapes.{PlainShape, PlainThread}
@@ -8,7 +8,6 @@ use Rattle.forec_kernel.specs.WellFormed.{branches_of, is_par, blank_thread, num
 use Rattle.thread_code.specs.Valid.{FineShape, branches_in, arguments_of}
 use Rattle.core_machine.specs.declared.pars.Sibling.{Sibling}
 use Rattle.core_machine.specs.Pars.{Links, first_of, sibling_at, arguments_from, with_first, IsLink, Lead, HavePars}
-use Rattle.core_machine.proofs.Branching.{few_branches}
 use Rattle.core_machine.proofs.Folds.{drop_past}
 use Rattle.core_machine.proofs.Indexed.{equal_of, differs_of}
 
@@ -100,8 +99,7 @@ module _ (s : PlainShape) (ss : List Sibling) (i : ℕ) (x : Sibling) where
       let after : i < b = subst (λ o. IfSome o (λ t. i < t)) h.0 lt in
       let other : b ≢ i = λ e. omega (arith, e, after) in
       let same : sibling_at (slice_set ss i x) b ≡ sibling_at ss b = get_or-set_other ss i b x (record { next = None; arguments = 0 }) other in
-      let later = further (sibling_at ss b).next after h.1.later in
-      (
+      let later = further (sibling_at ss b).next after h.1.later in (
         h.0,
         record {
           within = omega (arith, h.1.within, length-set ss i x);

@@ -1,10 +1,9 @@
 -- The living branches of a par.
-use Rattle.std.proofs.Common.{◌≡◌, ℕ, zero, suc, ◌+◌, ◌<◌, ◌≤◌, List, [], ◌∷◌, length, drop, map, Option, Some, None, Bool, true, false, cond, refl, sym, ap, ◌∙◌, arith, add-one, drop-cons}
+use Rattle.std.proofs.Common.{◌≡◌, ℕ, zero, suc, ◌<◌, List, [], ◌∷◌, length, map, Option, Some, None, Bool, true, false, cond, refl, sym, ap, arith}
 use Rattle.std.specs.Prelude.{get_or}
 use Rattle.std.specs.Option.{option_eq}
 use Rattle.std.proofs.Math.Dec.{eqb}
-use Rattle.forec_kernel.specs.Shapes.{PlainThread}
-use Rattle.forec_kernel.specs.WellFormed.{branches_of, is_par, blank_thread}
+use Rattle.forec_kernel.specs.WellFormed.{is_par}
 use Rattle.thread_code.specs.Machine.{living}
 use Rattle.core_machine.specs.Kept.{some_of}
 
@@ -24,4 +23,3 @@ read_plain f (y ∷ ys) (suc i) x d lt e = read_plain f ys i x d (omega arith) e
 pub same_test : (p : Option ℕ) (j : ℕ) → option_eq eqb p (Some j) ≡ is_par p j
 same_test None j = refl
 same_test (Some m) j = refl
-

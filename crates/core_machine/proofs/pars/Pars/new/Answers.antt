@@ -1,4 +1,4 @@
-use Rattle.std.proofs.Common.{◌≡◌, ◌+◌, ◌-◌, ◌<◌, ◌∙◌, ℕ, length, drop, map, get_or, Some, None, subst, sym, ap, arith}
+use Rattle.std.proofs.Common.{◌≡◌, ◌+◌, ◌-◌, ◌<◌, ◌∙◌, length, drop, subst, sym, ap, arith}
 use Rattle.std.proofs.lemmas.List.{length-map, length-drop}
 use Rattle.forec_kernel.specs.Shapes.{PlainThread, plain_shape, plain_thread}
 use Rattle.forec_kernel.specs.Texts.{params_in}
@@ -41,8 +41,15 @@ put_first-requires-clause-few c =
     let lead = c.loop-thread.invariant.linked.lead j in
     let bs = branches_of (drop i s.threads) i j in
     omega (
-      arith, t.params, t.words, read_params threads (i - 1) c.index-found.result.now lt c.index-found.ensures, lead_arguments s p.siblings (first_of p j) bs lead,
-      lead_small s c.requires p.siblings c.loop-thread.invariant.linked.siblings (first_of p j) bs lead, few_branches (drop i s.threads) i j, length-drop i s.threads, c.requires.few_threads,
+      arith,
+      t.params,
+      t.words,
+      read_params threads (i - 1) c.index-found.result.now lt c.index-found.ensures,
+      lead_arguments s p.siblings (first_of p j) bs lead,
+      lead_small s c.requires p.siblings c.loop-thread.invariant.linked.siblings (first_of p j) bs lead,
+      few_branches (drop i s.threads) i j,
+      length-drop i s.threads,
+      c.requires.few_threads,
     )
 
 pub loop-thread-preserved-in-Some : goal.loop-thread-preserved-in-Some
