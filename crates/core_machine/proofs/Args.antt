@@ -25,6 +25,12 @@ sum_within s [] k lt = absurd (omega arith)
 sum_within s (b ∷ bs) zero lt = omega arith
 sum_within s (b ∷ bs) (suc k) lt = omega (arith, sum_within s bs k (omega arith))
 
+pub sum_parts : (s : PlainShape) (bs : List ℕ) (k : ℕ) → arguments_of s bs ≡ arguments_of s (take k bs) + arguments_of s (drop k bs)
+sum_parts s [] zero = omega arith
+sum_parts s [] (suc k) = omega arith
+sum_parts s (b ∷ bs) zero = omega arith
+sum_parts s (b ∷ bs) (suc k) = omega (arith, sum_parts s bs k)
+
 pub thread_within : (s : PlainShape) (bs : List ℕ) (k : ℕ) → AreThreads s bs → k < length bs → get_or bs k 0 < length s.threads
 thread_within s [] k h lt = absurd (omega arith)
 thread_within s (b ∷ bs) zero h lt = h.0
@@ -40,6 +46,24 @@ pub args_read : (total first n : ℕ) (stack : List ℤ) (i : ℕ) → i < n →
 args_read total first zero stack i lt = absurd (omega arith)
 args_read total first (suc n) stack zero lt = let e : first ≡ first + zero = omega arith in ap (λ k. word stack (total - 1 - k)) e
 args_read total first (suc n) stack (suc i) lt = let e : suc first + i ≡ first + suc i = omega arith in args_read total (suc first) n stack i (omega arith) ∙ ap (λ k. word stack (total - 1 - k)) e
+
+-- arguments that lie so much deeper
+pub args_shift : (n total first deeper : ℕ) (stack : List ℤ) → args_from (deeper + total) (deeper + first) n stack ≡ args_from total first n stack
+args_shift zero total first deeper stack = refl
+args_shift (suc n) total first deeper stack =
+    let e : deeper + total - 1 - (deeper + first) ≡ total - 1 - first = omega arith in
+    let m : suc (deeper + first) ≡ deeper + suc first = omega arith in
+    ap (λ k. word stack k ∷ args_from (deeper + total) (suc (deeper + first)) n stack) e
+    ∙ ap (λ k. word stack (total - 1 - first) ∷ args_from (deeper + total) k n stack) m
+    ∙ ap (λ l. word stack (total - 1 - first) ∷ l) (args_shift n total (suc first) deeper stack)
+
+-- those of the k-th branch lie below those of the branches behind it
+pub args_behind : (s : PlainShape) (bs : List ℕ) (k n : ℕ) (stack : List ℤ) → args_from (arguments_of s bs) (arguments_of s (take k bs)) n stack ≡ args_from (arguments_of s (drop k bs)) 0 n stack
+args_behind s bs k n stack =
+    let first = arguments_of s (take k bs) in
+    let count = arguments_of s (drop k bs) in
+    let z : first ≡ first + 0 = omega arith in
+    ap (λ total. args_from total first n stack) (sum_parts s bs k) ∙ ap (λ from. args_from (first + count) from n stack) z ∙ args_shift n count 0 first stack
 
 pub length_args : (total first n : ℕ) (stack : List ℤ) → length (args_from total first n stack) ≡ n
 length_args total first zero stack = refl

@@ -18,6 +18,7 @@ use Rattle.thread_code.specs.Alone.{block_of, units_of}
 use Rattle.combine_tree.specs.declared.joining.Fold.{Fold}
 use Rattle.combine_tree.specs.Joins.{begun, fold_at}
 use Rattle.core_machine.specs.Frames.{Frames, arguments, without, dropped}
+use Rattle.core_machine.specs.Pars.{HavePars}
 use Rattle.core_machine.specs.Kept.{Kept, own_of, place_in, place_of, no_copy, with_live_at, HavePlaces, Serves}
 use Rattle.core_machine.specs.Stretch.{Comes, next, work, point_of}
 use Rattle.core_machine.specs.Branches.{trap_of, verdict_of}
@@ -197,6 +198,11 @@ marked_places [] es k = refl
 marked_places (b ∷ bs) [] k = refl
 marked_places (b ∷ bs) (e ∷ es) k = marked_places bs es (with_live_at b (not e) k)
 
+pub marked_pars : (bs : List ℕ) (es : List Bool) (k : Kept) → (marked_live bs es k).pars ≡ k.pars
+marked_pars [] es k = refl
+marked_pars (b ∷ bs) [] k = refl
+marked_pars (b ∷ bs) (e ∷ es) k = marked_pars bs es (with_live_at b (not e) k)
+
 pub marked_length : (bs : List ℕ) (es : List Bool) (k : Kept) → length (marked_live bs es k).live ≡ length k.live
 marked_length [] es k = refl
 marked_length (b ∷ bs) [] k = refl
@@ -208,6 +214,7 @@ marked_serves c t bs es k s = record {
   places = λ v u. ap (λ l. slice_get l v) (marked_places bs es k) ∙ s.places v u;
   flags = ap length (marked_flags bs es k) ∙ s.flags;
   live = marked_length bs es k ∙ s.live;
+  pars = subst (HavePars c.shape) (sym (marked_pars bs es k)) s.pars;
 }
 
 pub below_of : (c : PlainCode) (t : ℕ) (bs : List ℕ) → AreBranches c t bs → (b : ℕ) → IsTrue (contains b bs) → b < length c.shape.threads

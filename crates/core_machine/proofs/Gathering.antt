@@ -1,5 +1,5 @@
 -- The branches of a fork are gathered, and their replies counted.
-use Rattle.std.proofs.Common.{◌≡◌, ℕ, zero, suc, ◌+◌, ◌-◌, ◌<◌, ◌≤◌, ◌^◌, List, [], ◌∷◌, ◌++◌, length, drop, take, map, get_or, Bool, true, false, cond, refl, sym, ap, ◌∙◌, subst, ⊎_elim, inl, inr, arith, add-one, drop-cons, append_assoc}
+use Rattle.std.proofs.Common.{◌≡◌, ℕ, suc, ◌+◌, ◌-◌, ◌<◌, ◌≤◌, ◌^◌, List, [], ◌∷◌, ◌++◌, length, drop, take, map, get_or, Bool, true, false, cond, refl, sym, ap, ◌∙◌, subst, ⊎_elim, inl, inr, arith, add-one, drop-cons, append_assoc}
 use Rattle.std.specs.Prelude.{◌⊎◌, ◌&&◌, ◌||◌, min, slice_set}
 use Rattle.std.specs.List.{list_all}
 use Rattle.std.proofs.lemmas.Bool.{cases_lt}
@@ -7,8 +7,6 @@ use Rattle.forec_base.specs.declared.Place.{Place}
 use Rattle.forec_base.specs.declared.Trap.{Trap}
 use Rattle.forec_kernel.specs.Engine.{Reply, WasPaused, WasEnded, WasTrapped, WasOver}
 use Rattle.forec_kernel.specs.Solo.{all_units, reply_units, some_reply_over, is_over_reply}
-use Rattle.forec_kernel.specs.Shapes.{PlainThread}
-use Rattle.forec_kernel.specs.WellFormed.{branches_of, is_par, blank_thread}
 use Rattle.thread_code.specs.Machine.{is_ended, living}
 use Rattle.core_machine.proofs.Lists.{take_set}
 use Rattle.core_machine.specs.declared.branches.Verdict.{Verdict}
@@ -30,42 +28,22 @@ module _ (d : Bool) where
   pub all_not : (es : List Bool) (i : ℕ) → i < length es → get_or es i d ≡ false → list_all (λ e. e) (drop i es) ≡ false
   all_not es i lt h = ap (list_all (λ e. e)) (drop-cons es i d lt) ∙ ap (λ b. b && list_all (λ e. e) (drop (suc i) es)) h
 
--- ---- the branches from a thread on
+-- ---- the branches that are asked for
 
-module _ (again : Bool) (live : List Bool) (j : ℕ) where
-  abbrev pub chosen_from : List PlainThread → ℕ → List ℕ
-  chosen_from ss i = chosen again live (branches_of (drop i ss) i j)
-
-  one_thread : (s : PlainThread) (rest : List ℕ) (i : ℕ) → chosen again live (cond (is_par s.par j) (i ∷ rest) rest) ≡ cond (is_par s.par j && cond again (get_or live i false) true) (i ∷ chosen again live rest) (chosen again live rest)
-  one_thread s rest i = by_test again (is_par s.par j) (get_or live i false) refl
+module _ (again : Bool) (live : List Bool) where
+  pub chosen_next : (b : ℕ) (rest : List ℕ) (t : Bool) → cond again (get_or live b false) true ≡ t → chosen again live (b ∷ rest) ≡ cond t (b ∷ chosen again live rest) (chosen again live rest)
+  chosen_next b rest t e = by again refl
     where
-      by_test : (a p l : Bool) → get_or live i false ≡ l → chosen a live (cond p (i ∷ rest) rest) ≡ cond (p && cond a l true) (i ∷ chosen a live rest) (chosen a live rest)
-      by_test true true true e = ap (λ b. cond b (i ∷ living live rest) (living live rest)) e
-      by_test true true false e = ap (λ b. cond b (i ∷ living live rest) (living live rest)) e
-      by_test true false l e = refl
-      by_test false true l e = refl
-      by_test false false l e = refl
+      by : (a : Bool) → again ≡ a → chosen again live (b ∷ rest) ≡ cond t (b ∷ chosen again live rest) (chosen again live rest)
+      by true is = ap (λ a. chosen a live (b ∷ rest)) is ∙ ap (λ x. cond x (b ∷ living live rest) (living live rest)) (ap (λ a. cond a (get_or live b false) true) (sym is) ∙ e) ∙ ap (λ a. cond t (b ∷ chosen a live rest) (chosen a live rest)) (sym is)
+      by false is = ap (λ a. chosen a live (b ∷ rest)) is ∙ ap (λ x. cond x (b ∷ rest) rest) (ap (λ a. cond a (get_or live b false) true) (sym is) ∙ e) ∙ ap (λ a. cond t (b ∷ chosen a live rest) (chosen a live rest)) (sym is)
 
-  pub chosen_next : (ss : List PlainThread) (i : ℕ) → i < length ss → (b : Bool) → (is_par (get_or ss i blank_thread).par j && cond again (get_or live i false) true) ≡ b →
-      chosen_from ss i ≡ cond b (i ∷ chosen_from ss (i + 1)) (chosen_from ss (i + 1))
-  chosen_next ss i lt b e =
-      ap (λ l. chosen again live (branches_of l i j)) (drop-cons ss i blank_thread lt)
-      ∙ one_thread (get_or ss i blank_thread) (branches_of (drop (suc i) ss) (suc i) j) i
-      ∙ ap (λ b. cond b (i ∷ chosen again live (branches_of (drop (suc i) ss) (suc i) j)) (chosen again live (branches_of (drop (suc i) ss) (suc i) j))) e
-      ∙ ap (λ k. cond b (i ∷ chosen again live (branches_of (drop k ss) k j)) (chosen again live (branches_of (drop k ss) k j))) (sym (add-one i))
-
-  none_left : (ss : List PlainThread) (i : ℕ) → length ss ≤ i → drop i ss ≡ []
-  none_left [] zero le = refl
-  none_left [] (suc i) le = refl
-  none_left (x ∷ ss) zero le = absurd (omega arith)
-  none_left (x ∷ ss) (suc i) le = none_left ss i (omega arith)
-
-  pub chosen_end : (ss : List PlainThread) (i : ℕ) → length ss ≤ i → chosen_from ss i ≡ []
-  chosen_end ss i le = ap (λ l. chosen again live (branches_of l i j)) (none_left ss i le) ∙ by_again again
+  pub chosen_none : chosen again live [] ≡ []
+  chosen_none = by again
     where
-      by_again : (a : Bool) → chosen a live [] ≡ []
-      by_again true = refl
-      by_again false = refl
+      by : (a : Bool) → chosen a live [] ≡ []
+      by true = refl
+      by false = refl
 
 -- ---- replies
 

@@ -79,6 +79,7 @@ module _ (c : PlainCode) (valid : IsValidCode c) (h : Thread) (l : Loaded c h) (
     places = l.serves.places;
     flags = length-replicate (length h.own.flags) false ∙ l.serves.flags;
     live = length-replicate (length h.own.live) false ∙ l.serves.live;
+    pars = l.serves.pars;
   }
 
   start_works : Works false c h.number l.needs None (work 0 frames kept 0)
@@ -150,7 +151,7 @@ module _ (c : PlainCode) (h : Thread) (l : Loaded c h) (asleep : HasPaused h) (p
   placed_here = subst (Placed c l.needs h) asleep.phase l.placed
 
   woken_serves : Serves c h.number (with_copies p.copies.items h.own)
-  woken_serves = record { copies = room.copies; places = l.serves.places; flags = l.serves.flags; live = l.serves.live }
+  woken_serves = record { copies = room.copies; places = l.serves.places; flags = l.serves.flags; live = l.serves.live; pars = l.serves.pars }
 
   woken_works : Works false c h.number l.needs None (work h.at h.stack (with_copies p.copies.items h.own) 0)
   woken_works =

@@ -25,3 +25,5 @@ pub mod Starting
 pub mod Finishing
 pub mod Joined
 pub mod ForkCode
+pub mod Links
+pub mod Starts

@@ -1,4 +1,5 @@
 pub mod Frames
+pub mod Pars
 pub mod Kept
 pub mod Branches
 pub mod Acts

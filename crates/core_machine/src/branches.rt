@@ -7,7 +7,7 @@ ghost use Rattle.forec_kernel.specs.Packed.{IsReply};
 ghost use Rattle.forec_kernel.specs.Shapes.{plain_shape};
 ghost use Rattle.combine_tree.specs.Plain.{plain_packet};
 ghost use Rattle.thread_code.specs.Valid.{branches_in};
-ghost use Rattle.forec_kernel.specs.WellFormed.{is_par, blank_thread};
+ghost use Rattle.core_machine.specs.Pars.{HavePars};
 ghost use Rattle.core_machine.specs.Branches.{no_branches, with_branches, with_verdict, one_joined, first_trap, noted, counted, chosen, Settles};
 
 use crate::own::Own;
@@ -63,30 +63,32 @@ fn are_all(notes: &[bool]) -> bool
     true
 }
 
-/// Whether a thread is a branch of a par, and lives where only those that live are asked for.
-fn is_chosen(shape: &Shape, par: u32, own: &Own, again: bool, thread: usize) -> bool
-    requires thread { thread < length (plain_shape shape.now).threads }
-    requires live { length own.now.live ≡ length (plain_shape shape.now).threads }
-    ensures { result ≡ (is_par (get_or (plain_shape shape.now).threads thread blank_thread).par par && cond again (get_or own.now.live thread false) true) }
+/// Whether a branch is asked for: each is, or those that live.
+fn is_chosen(own: &Own, again: bool, branch: u32) -> bool
+    requires { branch < length own.now.live }
+    ensures { result ≡ cond again (get_or own.now.live branch false) true }
 {
-    shape.threads[thread].par == Some(par) && (!again || own.is_live(thread))
+    !again || own.is_live(branch as usize)
 }
 
 /// Writes the numbers of the branches of a par, or of those that live, and says how many there are.
 fn fill(shape: &Shape, par: u32, own: &Own, again: bool, numbers: &mut [u32]) -> usize
     requires room { length (plain_shape shape.now).threads ≤ length numbers.old }
     requires live { length own.now.live ≡ length (plain_shape shape.now).threads }
-    requires few { length (plain_shape shape.now).threads ≤ 256 }
+    requires pars { HavePars (plain_shape shape.now) own.now.pars }
     ensures long { length numbers.new ≡ length numbers.old }
     ensures count { result ≤ length numbers.old }
     ensures front { take result numbers.new ≡ chosen again own.now.live (branches_in (plain_shape shape.now) par) }
 {
+    let pars = own.pars();
     let mut count = 0;
-    for thread in 0..shape.threads.len() {
-        if is_chosen(shape, par, own, again, thread) {
-            numbers[count] = thread as u32;
+    let mut next = pars.first(par);
+    while let Some(branch) = next {
+        if is_chosen(own, again, branch) {
+            numbers[count] = branch;
             count += 1;
         }
+        next = pars.next(branch);
     }
     count
 }
@@ -192,7 +194,7 @@ impl Branches {
     pub fn gather(&mut self, shape: &Shape, par: u32, own: &Own, again: bool)
         requires room { length (plain_shape shape.now).threads ≤ self.old.room }
         requires live { length own.now.live ≡ length (plain_shape shape.now).threads }
-        requires few { length (plain_shape shape.now).threads ≤ 256 }
+        requires pars { HavePars (plain_shape shape.now) own.now.pars }
         ensures { self.new ≡ with_branches (chosen again own.now.live (branches_in (plain_shape shape.now) par)) self.old }
     {
         self.count = fill(shape, par, own, again, &mut self.numbers);

@@ -8,6 +8,7 @@ mod fork;
 mod fork_tests;
 mod merging;
 mod own;
+mod pars;
 mod room;
 mod stack;
 mod stretch;

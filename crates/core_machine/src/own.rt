@@ -1,30 +1,41 @@
-//! What a thread has beside its frames: copies of variables, flags, and its living branches.
+//! What a thread has beside its frames: copies of variables, flags, its living branches, and the
+//! branches of each par.
 
-ghost use Rattle.std.specs.Prelude.{◌≡◌, ◌<◌, ◌≤◌, length, get_or, true, false, IfOk};
-ghost use Rattle.core_machine.specs.Kept.{Kept, AreIndexed, place_in, no_copy, with_copy, with_copy_at, with_flag, with_live_at, begun, with_copies, HavePlaces, handed_by};
+ghost use Rattle.std.specs.Prelude.{◌≡◌, ◌<◌, ◌≤◌, length, get_or, true, false, cond, IfOk};
+ghost use Rattle.forec_kernel.specs.Shapes.{plain_shape};
+ghost use Rattle.thread_code.specs.Valid.{FineShape};
+ghost use Rattle.core_machine.specs.Pars.{HavePars};
+ghost use Rattle.core_machine.specs.Kept.{Kept, AreIndexed, place_in, no_copy, with_copy, with_copy_at, with_flag, with_live_at, without_branches, begun, with_copies, HavePlaces, handed_by};
 
+use crate::pars::Pars;
 use forec_base::OutOfMemory;
-use forec_kernel::VarCopy;
+use forec_kernel::{Shape, VarCopy};
 use std::alloc::Global;
 use std::marker::Model;
 
 /// The copies stand in the order of the variables that the thread uses, and `places` has, for variable
-/// numbers from 0 on, where a copy stands. `live` tells of each thread whether it is a branch of this
-/// one that was forked since the last start and has not ended.
+/// numbers from 0 on, where a copy stands. The thread's starts are numbered from 1 on. `live` has for each
+/// thread the present start's number where it is a branch of this one that was forked since then and has
+/// not ended; else a smaller one.
 #[derive(Drop)]
 pub struct Own {
     copies: Vec<VarCopy>,
     places: Vec<u32>,
     flags: Vec<bool>,
-    live: Vec<bool>,
+    live: Vec<u32>,
+    start: u32,
+    pars: Pars,
 }
 
 impl Model for Own {
-    ghost use Rattle.core_machine.specs.Kept.{Kept, kept_of};
+    ghost use Rattle.std.specs.Prelude.{◌<◌};
+    ghost use Rattle.core_machine.specs.Kept.{Kept, kept_of, lives_in, AreUpTo};
 
     ghost Value = { Kept };
 
-    ghost view = { λ k. kept_of k.copies.items k.places.items k.flags.items k.live.items };
+    ghost view = { λ k. kept_of k.copies.items k.places.items k.flags.items (lives_in k.start k.live.items) k.pars };
+
+    ghost invariant = { λ k. (0 < k.start) × AreUpTo k.start k.live.items };
 }
 
 /// Where the copies of these variables stand, for variable numbers from 0 on.
@@ -42,17 +53,27 @@ fn places_of(alloc: Global, uses: &[u32]) -> Result<Vec<u32>, OutOfMemory>
     Ok(places)
 }
 
+/// What is noted of a thread at a start.
+fn note(start: u32, live: bool) -> u32
+    ensures { result ≡ cond live start 0 }
+{
+    if live { start } else { 0 }
+}
+
 impl Own {
-    /// A copy for each of these variables, so many flags, and a note for so many threads.
+    /// A copy for each of these variables, so many flags, a note for each thread of a shape, and the
+    /// branches of its pars.
     ///
     /// # Errors
     ///
     /// Want of memory.
-    pub fn new(alloc: Global, uses: &[u32], flags: u32, threads: usize) -> Result<Own, OutOfMemory>
+    pub fn new(alloc: Global, uses: &[u32], flags: u32, shape: &Shape) -> Result<Own, OutOfMemory>
+        requires { FineShape (plain_shape shape.now) }
         ensures copies { IfOk result (λ k. length k.copies ≡ length uses.now) }
         ensures places { IfOk result (λ k. AreIndexed uses.now k.places) }
         ensures flags { IfOk result (λ k. length k.flags ≡ flags) }
-        ensures live { IfOk result (λ k. length k.live ≡ threads) }
+        ensures live { IfOk result (λ k. length k.live ≡ length (plain_shape shape.now).threads) }
+        ensures pars { IfOk result (λ k. HavePars (plain_shape shape.now) k.pars) }
     {
         let unset = VarCopy {
             value: 0,
@@ -62,7 +83,9 @@ impl Own {
             copies: vec![in alloc; unset; uses.len()]?,
             places: places_of(alloc, uses)?,
             flags: vec![in alloc; false; flags as usize]?,
-            live: vec![in alloc; false; threads]?,
+            live: vec![in alloc; 0; shape.threads.len()]?,
+            start: 1,
+            pars: Pars::new(alloc, shape)?,
         })
     }
 
@@ -128,14 +151,22 @@ impl Own {
         requires { thread < length self.now.live }
         ensures { result ≡ get_or self.now.live thread false }
     {
-        self.live[thread]
+        self.live[thread] == self.start
     }
 
     pub fn set_live(&mut self, thread: u32, live: bool)
         requires { thread < length self.old.live }
         ensures { self.new ≡ with_live_at thread live self.old }
     {
-        self.live[thread as usize] = live;
+        let note = note(self.start, live);
+        self.live[thread as usize] = note;
+    }
+
+    /// The branches of each par.
+    pub fn pars(&self) -> &Pars
+        ensures { result.now ≡ self.now.pars }
+    {
+        &self.pars
     }
 
     /// The thread's copies, in the order of the variables that it uses.
@@ -174,6 +205,18 @@ impl Own {
     {
         self.copies.copy_from_slice(copies);
         self.flags.fill(false);
-        self.live.fill(false);
+        self.forget_branches();
+    }
+
+    /// No branch lives: another start begins.
+    fn forget_branches(&mut self)
+        ensures { self.new ≡ without_branches self.old }
+    {
+        if self.start < u32::MAX {
+            self.start += 1;
+            return;
+        }
+        self.live.fill(0);
+        self.start = 1;
     }
 }

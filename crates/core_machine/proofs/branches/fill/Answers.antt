@@ -1,37 +1,103 @@
-use Rattle.std.proofs.Common.{◌+◌, ◌<◌, ◌++◌, ◌∙◌, ap, sym, arith, length, take, length-set, map, true, false}
-use Rattle.std.proofs.lemmas.List.{length-map}
-use Rattle.forec_kernel.specs.Shapes.{plain_thread}
-use Rattle.core_machine.proofs.Gathering.{chosen_from, chosen_next, one_chosen}
+use Rattle.std.proofs.Common.{◌≡◌, ◌+◌, ◌<◌, ◌++◌, ◌∷◌, [], ◌∙◌, ℕ, List, ap, sym, subst, refl, arith, length, take, length-set, true, false, append-nil}
+use Rattle.forec_kernel.specs.Shapes.{plain_shape}
+use Rattle.thread_code.specs.Valid.{branches_in}
+use Rattle.core_machine.specs.Pars.{Links, first_of, sibling_at, Lead}
+use Rattle.core_machine.specs.Branches.{chosen}
+use Rattle.core_machine.proofs.Branching.{few_branches}
+use Rattle.core_machine.proofs.Gathering.{chosen_next, chosen_none, one_chosen}
+use Rattle.core_machine.proofs.Links.{ahead, behind_last, left_of, left_falls}
 use Rattle.core_machine.proofs.branches.fill.Goals as goal
 use Rattle.core_machine.proofs.branches.fill.Goals.{then-is_chosen, else-is_chosen}
 
-pub loop-thread-preserved : goal.loop-thread-preserved
-loop-thread-preserved c =
-    let ss = map plain_thread c.args.shape.now.threads.items in
-    let i = c.loop-thread.thread in
-    let lt : i < length ss = omega (arith, length-map c.args.shape.now.threads.items plain_thread) in
+take_none : (xs : List ℕ) → take 0 xs ≡ []
+take_none [] = refl
+take_none (x ∷ xs) = refl
+
+pub loop-next-init : goal.loop-next-init
+loop-next-init c =
+    let s = plain_shape c.args.shape.now in
+    let j = c.args.par in
+    let p = c.pars-pars.result.now in
+    let bs = branches_in s j in
+    record {
+      rest = bs;
+      lead = subst (λ o. Lead s p.siblings o bs) (sym c.first-next.ensures) (subst (λ (p : Links). Lead s p.siblings (first_of p j) bs) (sym c.pars-pars.ensures) (c.requires.pars.lead j));
+      long = refl;
+      count = omega (arith, few_branches s.threads 0 j, c.requires.room);
+      front = ap (λ l. l ++ chosen c.args.again c.args.own.now.live bs) (take_none c.args.numbers.now);
+    }
+
+pub is_chosen-requires : goal.is_chosen-requires
+is_chosen-requires c =
+    let s = plain_shape c.args.shape.now in
+    let p = c.pars-pars.result.now in
+    let inv = c.loop-next.invariant in
+    let a = ahead s p.siblings c.loop-next.next inv.rest c.in-Some.branch inv.lead c.in-Some.is in
+    let n = ap (λ (p : Links). length p.siblings) c.pars-pars.ensures in
+    omega (arith, a.link.within, n, c.requires.pars.threads, c.requires.live)
+
+pub next-next-requires : goal.next-next-requires
+next-next-requires c =
+    let s = plain_shape c.args.shape.now in
+    let p = c.pars-pars.result.now in
+    let inv = c.loop-next.invariant in
+    (ahead s p.siblings c.loop-next.next inv.rest c.in-Some.branch inv.lead c.in-Some.is).link.within
+
+pub loop-next-smaller : goal.loop-next-smaller
+loop-next-smaller c =
+    let s = plain_shape c.args.shape.now in
+    let ss = c.pars-pars.result.now.siblings in
+    let b = c.in-Some.branch in
+    let inv = c.loop-next.invariant in
+    let a = ahead s ss c.loop-next.next inv.rest b inv.lead c.in-Some.is in
+    subst (λ o. left_of s ss o < left_of s ss c.loop-next.next) (sym c.next-next.ensures)
+    (subst (λ o. left_of s ss (sibling_at ss b).next < left_of s ss o) (sym c.in-Some.is) (left_falls s ss b a.rest a.link))
+
+pub loop-next-preserved : goal.loop-next-preserved
+loop-next-preserved c =
+    let s = plain_shape c.args.shape.now in
+    let ss = c.pars-pars.result.now.siblings in
+    let b = c.in-Some.branch in
     let again = c.args.again in
     let live = c.args.own.now.live in
-    let j = c.args.par in
-    let numbers = c.loop-thread.numbers in
-    let n = c.loop-thread.count in
-    let here = c.is_chosen.ensures in
+    let inv = c.loop-next.invariant in
+    let a = ahead s ss c.loop-next.next inv.rest b inv.lead c.in-Some.is in
+    let lead = subst (λ o. Lead s ss o a.rest) (sym c.next-next.ensures) a.lead in
+    let numbers = c.loop-next.numbers in
+    let n = c.loop-next.count in
+    let all = chosen again live (branches_in s c.args.par) in
+    let more = ap (λ l. length l) a.is in
     elim c.if-is_chosen.branch [
       | then-is_chosen w ↦
-          let yes = chosen_next again live j ss i lt true (sym here ∙ w.if-is_chosen.true) in
-          let room : n < length numbers = omega (arith, c.loop-thread.invariant.count, c.loop-thread.invariant.long, lt, c.requires.room) in
-          let front = one_chosen numbers n i (chosen_from again live j ss 0) (chosen_from again live j ss (i + 1)) room (ap (λ l. take n numbers ++ l) (sym yes) ∙ c.loop-thread.invariant.front) in
+          let yes = ap (chosen again live) a.is ∙ chosen_next again live b a.rest true (sym c.is_chosen.ensures ∙ w.if-is_chosen.true) in
+          let room : n < length numbers = omega (arith, inv.count, inv.long, more) in
+          let front = one_chosen numbers n b all (chosen again live a.rest) room (ap (λ l. take n numbers ++ l) (sym yes) ∙ inv.front) in
           record {
-            long = ap length w.numbers-is ∙ length-set numbers n i ∙ c.loop-thread.invariant.long;
-            count = omega (arith, w.count-is, c.loop-thread.invariant.count);
-            front = ap (λ m. take m c.if-is_chosen.numbers ++ chosen_from again live j ss (i + 1)) w.count-is ∙ ap (λ l. take (n + 1) l ++ chosen_from again live j ss (i + 1)) w.numbers-is ∙ front;
+            rest = a.rest;
+            lead = lead;
+            long = ap length w.numbers-is ∙ length-set numbers n b ∙ inv.long;
+            count = omega (arith, w.count-is, inv.count, more);
+            front = ap (λ m. take m c.if-is_chosen.numbers ++ chosen again live a.rest) w.count-is ∙ ap (λ l. take (n + 1) l ++ chosen again live a.rest) w.numbers-is ∙ front;
           }
       | else-is_chosen w ↦
-          let not = chosen_next again live j ss i lt false (sym here ∙ w.if-is_chosen.false) in
+          let not = ap (chosen again live) a.is ∙ chosen_next again live b a.rest false (sym c.is_chosen.ensures ∙ w.if-is_chosen.false) in
           record {
-            long = ap length w.numbers-is ∙ c.loop-thread.invariant.long;
-            count = omega (arith, w.count-is, c.loop-thread.invariant.count);
-            front = ap (λ m. take m c.if-is_chosen.numbers ++ chosen_from again live j ss (i + 1)) w.count-is ∙ ap (λ l. take n l ++ chosen_from again live j ss (i + 1)) w.numbers-is
-                ∙ ap (λ l. take n numbers ++ l) (sym not) ∙ c.loop-thread.invariant.front;
+            rest = a.rest;
+            lead = lead;
+            long = ap length w.numbers-is ∙ inv.long;
+            count = omega (arith, w.count-is, inv.count, more);
+            front = ap (λ m. take m c.if-is_chosen.numbers ++ chosen again live a.rest) w.count-is ∙ ap (λ l. take n l ++ chosen again live a.rest) w.numbers-is
+                ∙ ap (λ l. take n numbers ++ l) (sym not) ∙ inv.front;
           }
     ]
+
+pub returns-clause-front : goal.returns-clause-front
+returns-clause-front c =
+    let s = plain_shape c.args.shape.now in
+    let ss = c.pars-pars.result.now.siblings in
+    let again = c.args.again in
+    let live = c.args.own.now.live in
+    let inv = c.loop-next.invariant in
+    let none = behind_last s ss inv.rest (subst (λ o. Lead s ss o inv.rest) c.in_default.is inv.lead) in
+    let front = take c.loop-next.count c.loop-next.numbers in
+    sym (append-nil front) ∙ ap (λ l. front ++ l) (sym (ap (chosen again live) none ∙ chosen_none again live)) ∙ inv.front

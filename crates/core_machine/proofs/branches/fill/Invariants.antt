@@ -1,11 +1,19 @@
-use Rattle.std.proofs.Common.{◌≡◌, ◌≤◌, ◌++◌, length, take, map}
-use Rattle.forec_kernel.specs.Shapes.{plain_thread}
-use Rattle.core_machine.proofs.Gathering.{chosen_from}
+use Rattle.std.proofs.Common.{◌≡◌, ◌≤◌, ◌+◌, ◌++◌, List, ℕ, length, take}
+use Rattle.forec_kernel.specs.Shapes.{plain_shape}
+use Rattle.thread_code.specs.Valid.{branches_in}
+use Rattle.core_machine.specs.Pars.{Lead}
+use Rattle.core_machine.specs.Branches.{chosen}
+use Rattle.core_machine.proofs.Links.{left_of}
 use Rattle.core_machine.proofs.branches.fill.Given as goal
 
-abbrev pub invariant-loop-thread : goal.invariant-loop-thread
-invariant-loop-thread l = record {
+abbrev pub invariant-loop-next : goal.invariant-loop-next
+invariant-loop-next l = record {
+  rest : List ℕ;
+  lead : Lead (plain_shape l.shape) l.pars.siblings l.next rest;
   long : length l.numbers ≡ length l.fn.numbers;
-  count : l.count ≤ l.thread;
-  front : take l.count l.numbers ++ chosen_from l.again l.own.live l.par (map plain_thread l.shape.threads.items) l.thread ≡ chosen_from l.again l.own.live l.par (map plain_thread l.shape.threads.items) 0;
+  count : l.count + length rest ≤ length l.fn.numbers;
+  front : take l.count l.numbers ++ chosen l.again l.own.live rest ≡ chosen l.again l.own.live (branches_in (plain_shape l.shape) l.par);
 }
+
+abbrev pub decreases-loop-next : goal.decreases-loop-next
+decreases-loop-next l = left_of (plain_shape l.shape) l.pars.siblings l.next
