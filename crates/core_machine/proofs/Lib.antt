@@ -25,3 +25,4 @@ pub mod Starting
 pub mod Finishing
 pub mod Joined
 pub mod ForkCode
+pub mod Leaping
