@@ -26,3 +26,4 @@ pub mod Finishing
 pub mod Joined
 pub mod ForkCode
 pub mod Leaping
+pub mod Nearing
