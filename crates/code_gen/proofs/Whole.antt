@@ -1,5 +1,5 @@
 -- The parts that are written are those of the kernel's code.
-use Rattle.std.proofs.Common.{◌≡◌, map, ap, sym, ◌∙◌, subst}
+use Rattle.std.proofs.Common.{◌≡◌, map, ap, sym, ◌∙◌, subst, Result, Ok, Err, IfOk}
 use Rattle.forec_kernel.specs.Plain.{stmt}
 use Rattle.forec_kernel.specs.Shapes.{PlainShape, plain_kernel, plain_shape}
 use Rattle.forec_kernel.specs.WellFormed.{WellFormed}
@@ -11,6 +11,9 @@ use Rattle.thread_code.specs.Alone.{Stands}
 use Rattle.code_gen.specs.Blocks.{thread_block, function_block, blocks_from, kernel_code}
 use Rattle.code_gen.proofs.Valid.{kernel_code_valid}
 use Rattle.code_gen.proofs.Stands.{kernel_code_stands}
+pub ok_too : {T E : Type 0} {P Q : T → Type 0} → (r : Result T E) → ((x : T) → P x → Q x) → IfOk r P → IfOk r Q
+ok_too (Ok x) f h = f x h
+ok_too (Err e) f h = h
 
 module _ (k parts : KernelParts) (code : CodeParts) (same : parts ≡ k) (shape : plain_shape code.shape ≡ plain_shape parts.shape) (threads : map plain_block code.threads.items ≡ blocks_from (thread_block (plain_kernel parts)) 0 (map stmt parts.threads.items)) (functions : map plain_block code.functions.items ≡ blocks_from (function_block (plain_kernel parts)) 0 (map stmt parts.functions.items)) where
   code_is : plain_code code ≡ kernel_code (plain_kernel k)

@@ -221,9 +221,12 @@ pub fn generate(alloc: Global, kernel: &Kernel) -> Result<Code, OutOfMemory>
     let threads = thread_blocks(alloc, parts, &mut room)?;
     let functions = function_blocks(alloc, parts, &mut room)?;
     let shape = copy_shape(alloc, &parts.shape)?;
-    Ok(Code::of(CodeParts {
-        shape,
-        threads,
-        functions,
-    }))
+    Code::decoded(
+        alloc,
+        CodeParts {
+            shape,
+            threads,
+            functions,
+        },
+    )
 }

@@ -27,3 +27,5 @@ pub mod Joined
 pub mod ForkCode
 pub mod Links
 pub mod Starts
+pub mod Leaping
+pub mod Nearing

@@ -10,3 +10,4 @@ pub mod Forks
 pub mod Merging
 pub mod Replies
 pub mod Worked
+pub mod Fused

@@ -4,6 +4,7 @@
 mod acts;
 mod branches;
 mod fork;
+mod fused;
 #[cfg(test)]
 mod fork_tests;
 mod merging;

@@ -5,3 +5,4 @@ pub mod Machine
 pub mod Alone
 pub mod Worked
 pub mod Laws
+pub mod Fused

@@ -3,6 +3,7 @@
 #![tactic(auto)]
 
 mod code;
+mod fused;
 mod instruction;
 mod laws;
 mod printing;
@@ -10,6 +11,7 @@ mod printing;
 mod tests;
 
 pub use code::Code;
+pub use fused::Fused;
 pub use instruction::{Block, CodeParts, Instruction};
 pub use laws::{code_answers_as_its_kernel, jobs_and_replies_fit, valid_code_is_never_stuck};
 pub use printing::listing;
