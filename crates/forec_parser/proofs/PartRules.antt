@@ -202,18 +202,18 @@ module _ (limit : ℕ) where
   start_reads (declared_start {int = t} id hi h m s) small n e =
       reads_by a_start (off (rw hi) (on (is_so fixed.Int t hi) (both (tok hi) (both (part (name_is id h) tt) (both (tok m) (mapped (value_reads limit s small e)))))))
 
-  a_test : Exact limit (st.test limit) (Part Any Tests) (If fixed.Semicolon (Done None) (Map (λ x. Some x) (Reading limit (st.value limit))))
-  unfolding st.test
+  a_test : Exact limit (st.loop_test limit) (Part Any Tests) (If fixed.Semicolon (Done None) (Map (λ x. Some x) (Reading limit (st.value limit))))
+  unfolding st.loop_test
   a_test = convert of (λ v w x ls k q. q) (either fixed.Semicolon (done_at None) (map_to (λ x. Some x) (a_value limit)))
     where
       of : (v w : ℕ) (x : Option Term) (ls : List Spelt) (k : Option TokenKind) → If fixed.Semicolon (Done None) (Map (λ x. Some x) (Part Any Whole)) v x w ls k → Part Any Tests v x w ls k
       of v w x ls k (on e done) = part no_test tt
       of v w x ls k (off e (mapped (part s c))) = part (some_test s) tt
 
-  test_by : Exact limit (st.test limit) (Part Any Tests) (Reading limit (st.test limit))
+  test_by : Exact limit (st.loop_test limit) (Part Any Tests) (Reading limit (st.loop_test limit))
   test_by = by_reading a_test.sound
 
-  test_reads : {v : ℕ} {x : Option Term} {ls : List Spelt} {k : Option TokenKind} → Tests x v ls → v ≤ limit → is_fixed fixed.Semicolon k ≡ true → ends k ≡ true → Reading limit (st.test limit) v x v ls k
+  test_reads : {v : ℕ} {x : Option Term} {ls : List Spelt} {k : Option TokenKind} → Tests x v ls → v ≤ limit → is_fixed fixed.Semicolon k ≡ true → ends k ≡ true → Reading limit (st.loop_test limit) v x v ls k
   test_reads no_test small n e = reads_by a_test (on n done)
   test_reads {ls = ls} {k = k} (some_test s) small n e = reads_by a_test (off (begun_semicolon ls k (begun_whole s)) (mapped (value_reads limit s small e)))
 
@@ -235,11 +235,11 @@ module _ (limit : ℕ) where
   abbrev Triple : Lang Perhaps → Lang (Option Term) → Lang Perhaps → Lang Head
   Triple A T S = Bind A (λ first. Bind (Tok fixed.Semicolon) (λ _. Bind T (λ second. Bind (Tok fixed.Semicolon) (λ _. Map (λ third. head_of first second third) S))))
 
-  head_parts_by : Exact limit (st.head_parts limit) (Triple (Part Any Starts) (Part Any Tests) (Part Any Steps)) (Triple (Reading limit (st.start limit)) (Reading limit (st.test limit)) (Reading limit (st.step limit)))
+  head_parts_by : Exact limit (st.head_parts limit) (Triple (Part Any Starts) (Part Any Tests) (Part Any Steps)) (Triple (Reading limit (st.start limit)) (Reading limit (st.loop_test limit)) (Reading limit (st.step limit)))
   unfolding st.head_parts
   head_parts_by = bind start_by (λ first. bind (token limit fixed.Semicolon) (λ _. bind test_by (λ second. bind (token limit fixed.Semicolon) (λ _. map_to (λ third. head_of first second third) step_by))))
 
-  a_head : Exact limit (st.head limit) (Part Any Heads) (Enclosed fixed.LeftRound fixed.RightRound (λ _ h. h) (Triple (Reading limit (st.start limit)) (Reading limit (st.test limit)) (Reading limit (st.step limit))))
+  a_head : Exact limit (st.head limit) (Part Any Heads) (Enclosed fixed.LeftRound fixed.RightRound (λ _ h. h) (Triple (Reading limit (st.start limit)) (Reading limit (st.loop_test limit)) (Reading limit (st.step limit))))
   unfolding st.head
   a_head = convert of (λ v w x ls k q. q) (enclosing fixed.LeftRound fixed.RightRound (λ _ h. h) head_parts_by)
     where
@@ -256,7 +256,7 @@ module _ (limit : ℕ) where
   round_ends t h = rw h
 
   parts_read : {v : ℕ} {x : Head} {ls : List Spelt} {k : Option TokenKind} → HeadParts x v ls → v ≤ limit → is_fixed fixed.RightRound k ≡ true → ends k ≡ true
-      → Triple (Reading limit (st.start limit)) (Reading limit (st.test limit)) (Reading limit (st.step limit)) v x v ls k
+      → Triple (Reading limit (st.start limit)) (Reading limit (st.loop_test limit)) (Reading limit (st.step limit)) v x v ls k
   parts_read (head_parts first second a m b n s) small r e =
       both (start_reads a small (is_so fixed.Semicolon first m) (semicolon_ends first m)) (both (tok m)
       (both (test_reads b small (is_so fixed.Semicolon second n) (semicolon_ends second n)) (both (tok n) (mapped (step_reads s small r e)))))

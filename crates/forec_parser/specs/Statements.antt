@@ -159,8 +159,8 @@ module _ (limit : ℕ) where
   unfoldable pub start : Parser Perhaps
   start = λ i. if next_is fixed.Semicolon i then pure absent i else some_start i
 
-  unfoldable pub test : Parser (Option Term)
-  test = λ i. if next_is fixed.Semicolon i then pure None i else (value >>= λ x. pure (Some x)) i
+  unfoldable pub loop_test : Parser (Option Term)
+  loop_test = λ i. if next_is fixed.Semicolon i then pure None i else (value >>= λ x. pure (Some x)) i
 
   unfoldable pub step : Parser Perhaps
   step = λ i. if next_is fixed.RightRound i then pure absent i else (simple >>= λ x. pure (present x)) i
@@ -169,7 +169,7 @@ module _ (limit : ℕ) where
   head_parts = do
     first ← start
     close fixed.Semicolon
-    second ← test
+    second ← loop_test
     close fixed.Semicolon
     third ← step
     pure (head_of first second third)

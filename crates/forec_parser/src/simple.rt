@@ -335,9 +335,9 @@ fn start(alloc: Global, tokens: &mut Tokens<'_>) -> Result<Option<Stmt>, Fault>
     }
 }
 
-#[tactic(auto, unfolding(crate::specs::Statements::test))]
+#[tactic(auto, unfolding(crate::specs::Statements::loop_test))]
 fn test(alloc: Global, tokens: &mut Tokens<'_>) -> Result<Option<Expr>, Fault>
-    ensures { Reads optional_term (spec.test max_level tokens.old) result tokens.new }
+    ensures { Reads optional_term (spec.loop_test max_level tokens.old) result tokens.new }
 {
     if tokens.next_is(Fixed::Semicolon) {
         Ok(None)
