@@ -24,4 +24,3 @@ pub mod Back
 pub mod Starting
 pub mod Finishing
 pub mod Joined
-pub mod ForkCode

@@ -8,4 +8,3 @@ pub mod Held
 pub mod Forks
 pub mod Merging
 pub mod Replies
-pub mod Worked

@@ -4,15 +4,11 @@
 mod acts;
 mod branches;
 mod fork;
-#[cfg(test)]
-mod fork_tests;
 mod merging;
 mod own;
 mod room;
 mod stack;
 mod stretch;
-#[cfg(test)]
-mod tests;
 mod thread;
 
 pub use thread::{Event, Thread};
