@@ -1,7 +1,6 @@
 pub mod Copies
 pub mod Rooms
 pub mod KeptCopies
-pub mod SumCode
 pub mod Once
 pub mod Forking
 pub mod Follows
@@ -23,4 +22,3 @@ pub mod Ticking
 pub mod Loading
 pub mod Newly
 pub mod Locally
-pub mod FoldedCode

@@ -7,11 +7,7 @@ mod job;
 mod load;
 mod local;
 mod outcome;
-#[cfg(test)]
-mod par_tests;
 mod seat;
-#[cfg(test)]
-mod tests;
 mod work;
 
 pub use host::Host;

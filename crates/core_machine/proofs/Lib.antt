@@ -24,7 +24,6 @@ pub mod Back
 pub mod Starting
 pub mod Finishing
 pub mod Joined
-pub mod ForkCode
 pub mod Links
 pub mod Starts
 pub mod Leaping

@@ -9,5 +9,4 @@ pub mod Held
 pub mod Forks
 pub mod Merging
 pub mod Replies
-pub mod Worked
 pub mod Fused

@@ -5,16 +5,12 @@ mod acts;
 mod branches;
 mod fork;
 mod fused;
-#[cfg(test)]
-mod fork_tests;
 mod merging;
 mod own;
 mod pars;
 mod room;
 mod stack;
 mod stretch;
-#[cfg(test)]
-mod tests;
 mod thread;
 
 pub use thread::{Event, Thread};

@@ -5,8 +5,8 @@ ghost use Rattle.forec_kernel.specs.Shapes.{plain_shape};
 ghost use Rattle.thread_code.specs.Plain.{plain_block, plain_code};
 ghost use Rattle.thread_code.specs.Worked.{small_shape, small_main, small_function, small_code};
 
-use core_machine::{Event, Thread};
 use combine_tree::{Packet, PacketKind};
+use core_machine::{Event, Thread};
 use forec_base::{Labels, OutOfMemory};
 use forec_kernel::{FunctionShape, Shape, ThreadShape};
 use std::alloc::Global;

@@ -11,8 +11,8 @@ ghost use Rattle.core_machine.specs.Held.{Loaded, CanRun, IsResting, HasReply, H
 ghost use Rattle.combine_tree.specs.declared.packet.PacketKind.TheVariants as kind;
 ghost use Rattle.core_rows.specs.Forked.{fork_shape, root_thread, branch_thread, root_block, branch_block, minus_block, division_block, fork_code};
 
-use core_machine::{Event, Thread};
 use combine_tree::{Packet, PacketKind};
+use core_machine::{Event, Thread};
 use forec_base::{Binary, Labels, OutOfMemory, Place, Policy, Trap};
 use forec_kernel::{FunctionShape, Shape, ThreadShape, VarCopy, Variable};
 use std::alloc::Global;
