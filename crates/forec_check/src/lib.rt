@@ -26,8 +26,6 @@ mod spread;
 mod stack;
 mod statement;
 mod term;
-#[cfg(test)]
-mod tests;
 mod threads;
 mod uses;
 

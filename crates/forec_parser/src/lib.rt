@@ -15,6 +15,3 @@ mod whole;
 
 pub use fault::ParseFault;
 pub use whole::{one_program, parse};
-
-#[cfg(test)]
-mod tests;

@@ -395,6 +395,3 @@ pub fn rewrite_tick(
         }
     }
 }
-
-#[cfg(test)]
-mod tests;

@@ -22,8 +22,15 @@ fn ticks(
     for input in inputs {
         let row = [*input];
         let mut outputs = vec![in alloc; 0; kernel.shape().outputs.len()]?;
-        let (outcome, next) =
-            rewrite_tick(alloc, kernel, &state, &row, order, budget, &mut outputs)?;
+        let (outcome, next) = rewrite_tick(
+            alloc,
+            kernel,
+            &state,
+            &row,
+            order,
+            budget,
+            &mut outputs,
+        )?;
         seen.push((outcome, outputs.first().copied().unwrap_or(0)))?;
         if outcome != Outcome::Paused {
             return Ok(seen);
@@ -33,8 +40,7 @@ fn ticks(
     Ok(seen)
 }
 
-const COUNTING: &[u8] =
-    b"output int o = 0; void main(void) { while (1) { o = o + 1; pause; } }";
+const COUNTING: &[u8] = b"output int o = 0; void main(void) { while (1) { o = o + 1; pause; } }";
 
 #[test]
 fn a_tick_of_seven_units(rt: HostRuntime) -> Result<(), Fail> {
