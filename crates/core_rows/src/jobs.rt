@@ -5,6 +5,7 @@ ghost use Rattle.forec_kernel.specs.Shapes.{plain_shape};
 ghost use Rattle.thread_code.specs.Plain.{plain_block, plain_code};
 ghost use Rattle.thread_code.specs.Worked.{small_shape, small_main, small_function, small_code};
 
+use crate::hosting::one;
 use combine_tree::{Packet, PacketKind};
 use core_machine::{Event, Thread};
 use forec_base::{Labels, OutOfMemory};
@@ -12,14 +13,6 @@ use forec_kernel::{FunctionShape, Shape, ThreadShape};
 use std::alloc::Global;
 use std::test::Fail;
 use thread_code::{Block, Code, CodeParts, Instruction};
-
-fn one<T: Drop>(alloc: Global, item: T) -> Result<Vec<T>, OutOfMemory>
-    ensures { IfOk result (λ v. v.items ≡ item ∷ []) }
-{
-    let mut list = Vec::new(alloc);
-    list.push(item)?;
-    Ok(list)
-}
 
 fn shape(alloc: Global) -> Result<Shape, OutOfMemory>
     ensures { IfOk result (λ s. plain_shape s ≡ small_shape) }

@@ -4,6 +4,8 @@
 #[cfg(test)]
 mod folding;
 #[cfg(test)]
+mod forked;
+#[cfg(test)]
 mod hosting;
 #[cfg(test)]
 mod jobs;

@@ -19,3 +19,4 @@ pub mod Tables
 pub mod Counted
 pub mod Single
 pub mod Spreading
+pub mod NamesBelow

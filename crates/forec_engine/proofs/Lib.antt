@@ -11,7 +11,6 @@ mod Splitting
 mod TickLines
 mod Told
 mod Lexing
-mod NamesBelow
 mod Picking
 mod LeastFault
 mod Limits

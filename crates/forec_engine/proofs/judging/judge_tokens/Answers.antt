@@ -3,7 +3,7 @@ use Rattle.forec_tree.specs.Plain as tree
 use Rattle.forec_parser.specs.declared.fault.ParseFault.{ParseFault}
 use Rattle.forec_parser.specs.declared.fault.ParseFault.TheVariants.{Unfit, OutOfMemory}
 use Rattle.forec_engine.specs.Judging.{most_levels, OnProgram, OnTokens, spelled, unspelled}
-use Rattle.forec_engine.proofs.NamesBelow.{distinct_names, names_below}
+use Rattle.forec_check.proofs.NamesBelow.{distinct_names, names_below}
 use Rattle.forec_engine.proofs.Verdicts.{says_too}
 use Rattle.forec_engine.proofs.judging.judge_tokens.Goals as goal
 

@@ -2,7 +2,7 @@ use Rattle.std.proofs.Common.{sym, subst}
 use Rattle.thread_code.specs.declared.instruction.CodeParts.{CodeParts}
 use Rattle.thread_code.specs.Valid.{IsValidCode}
 use Rattle.core_rows.proofs.ForkCode.{fork_valid, parts_are}
-use Rattle.core_rows.proofs.joining.forks.Goals as goal
+use Rattle.core_rows.proofs.forked.forks.Goals as goal
 
 pub of-requires : goal.of-requires
 of-requires c =
