@@ -1,5 +1,7 @@
 use Rattle.std.proofs.Common.{◌∙◌, refl, sym, subst}
 use Rattle.thread_code.specs.Plain.{plain_code}
+use Rattle.thread_code.specs.Fused.{AreFused, steps_for}
+use Rattle.core_machine.proofs.Nearing.{fused_block}
 use Rattle.core_machine.specs.Held.{over, Stops_in}
 use Rattle.core_machine.proofs.Moving.{moved_then, comes_then}
 use Rattle.core_machine.proofs.thread.Thread.run_on.Goals as goal
@@ -50,3 +52,9 @@ returns-in-Over c =
       stops = subst Stops_in (sym (c.run_frame.ensures.phase ∙ c.loop-function.invariant.running)) refl;
       none = λ before e. let k = sym e ∙ (c.run_frame.ensures.phase ∙ c.loop-function.invariant.running) in cc;
     }
+
+pub run_frame-requires-clause-fused : goal.run_frame-requires-clause-fused
+run_frame-requires-clause-fused c =
+    let h = c.loop-function.self in
+    fused_block (plain_code c.args.code.now) h.number h.function c.fused-fused.result.now
+    (subst (λ d. AreFused (steps_for (plain_code d) h.number h.function) c.fused-fused.result.now) c.requires.same c.fused-fused.ensures)
