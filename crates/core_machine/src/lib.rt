@@ -4,9 +4,9 @@
 mod acts;
 mod branches;
 mod fork;
-mod fused;
 #[cfg(test)]
 mod fork_tests;
+mod fused;
 mod merging;
 mod own;
 mod room;
