@@ -186,8 +186,8 @@ module _ (s0 s1 s2 s3 : State) (t m : ℕ) (fitted : IsFitted s0) (inside : m < 
       let count3 = last_leaves.alike.count in
       let q0 = above j from (omega (arith, lt, count, count2, count3)) in
       let q1 = moved_quiet s0 s1 m sending j (λ e. omega (arith, e, less)) (other s0 mine j from) q0 in
-      let threads = fitted1.mailboxes in
-      let q2 = quiet_below s1 s2 m j fitted1 working less (omega (arith, less, inside, count, threads)) q1 in
+      let threads = fitted1.seated.mailboxes in
+      let q2 = quiet_below s1 s2 m j fitted1.seated working less (omega (arith, less, inside, count, threads)) q1 in
       moved_quiet s2 s3 m getting j (λ e. omega (arith, e, less)) (other s2 mine2 j from) q2)
       (λ e. subst (Quiet s3) (sym e) quiet_now)
       (λ more.

@@ -4,7 +4,7 @@ ghost use Rattle.std.specs.Prelude.{◌≡◌, ◌<◌, ◌≤◌, ◌+◌, ℕ,
 ghost use Rattle.thread_code.specs.Plain.{plain_code};
 ghost use Rattle.combine_tree.specs.declared.packet.Packet.{Packet as PlainPacketState};
 ghost use Rattle.core_host.specs.declared.seat.Seat.{Seat as SeatState};
-ghost use Rattle.core_host.specs.Loads.{ArePlaced, IsNewSeat, contains_core};
+ghost use Rattle.core_host.specs.Loads.{ArePlaced, AreOwn, IsNewSeat, contains_core};
 
 use crate::seat::Seat;
 use combine_tree::Packet;
@@ -73,6 +73,24 @@ pub fn seats_of(
         seats.push(seat_of(alloc, code, thread as u32, is_here)?)?;
     }
     Ok(seats)
+}
+
+/// The mailboxes of the threads of these cores, in order.
+pub fn own_mailboxes(
+    alloc: Global,
+    places: &[u32],
+    cores: &[u32],
+) -> Result<Vec<u32>, OutOfMemory>
+    requires few { length places.now ≤ 256 }
+    ensures { IfOk result (λ own. AreOwn places.now cores.now own.items) }
+{
+    let mut own = Vec::new(alloc);
+    for mailbox in 0..places.len() - 1 {
+        if is_among(places[mailbox + 1], cores) {
+            own.push(mailbox as u32)?;
+        }
+    }
+    Ok(own)
 }
 
 /// So many empty hands.
