@@ -23,7 +23,7 @@ use Rattle.core_host.proofs.Keep.{leaves_same, leaves_then, seated_keeps, moved_
 use Rattle.core_host.proofs.Send.{called_now, quiet_now, at_map}
 use Rattle.core_host.proofs.Consulting.{all_leaves, quiet_all, parent_else, hand_else, its_reply, heard_now, posts_now, pairs_more}
 
-no_pairs : (ws : List Written) → pair_up ws [] ≡ []
+pub no_pairs : (ws : List Written) → pair_up ws [] ≡ []
 no_pairs [] = refl
 no_pairs (w ∷ ws) = refl
 
@@ -43,7 +43,7 @@ consulted_none a h fork above = record {
     none_there zero r e = cc
     none_there (suc i) r e = cc
 
-may_keeps : (c : PlainCode) (m m' : Mail) (k : ℕ) (j : Job) → sent m' k ≡ sent m k → MayAsk c m k j → MayAsk c m' k j
+pub may_keeps : (c : PlainCode) (m m' : Mail) (k : ℕ) (j : Job) → sent m' k ≡ sent m k → MayAsk c m k j → MayAsk c m' k j
 may_keeps c m m' k (Start args values a) e h = tt
 may_keeps c m m' k (Wake values a) e h = subst (ArePaused c k) (sym e) h
 

@@ -29,7 +29,7 @@ use Rattle.core_host.specs.Changes.{Extends}
 use Rattle.core_host.specs.Done.{HasDone, InJob}
 use Rattle.core_host.specs.Keeping.{State, code_in, Alike, Leaves, IsSeated, LastReply, none, last, Idle, QuietAbove, LacksPacket, IsBack}
 use Rattle.core_host.specs.Following.{HasFollowed}
-use Rattle.core_host.proofs.Mails.{get_set, get_set_else, children_count, child_here, child_else, parent_on_child, is_child, extends_same, extends_one}
+use Rattle.core_host.proofs.Mails.{by_equal, get_set, get_set_else, children_count, child_here, child_else, parent_on_child, is_child, extends_same, extends_one}
 use Rattle.core_host.proofs.Keep.{same_child, branch_above, has_parent, done_keeps, quiet_keeps, leaves_then, leaves_less, seated_keeps}
 use Rattle.core_host.proofs.Once.{answers_once}
 use Rattle.core_host.proofs.Consulting.{jobs_once, jobs_more}
@@ -76,10 +76,10 @@ works_leaves m a b w t d l = record {
   grown = record {
     sent = λ k. extends_same _ _ (ap sent_by (w.parents k));
     got = λ k. extends_same _ _ (ap got_by (w.parents k));
-    taken = λ k. by_case k m (λ n. extends_same _ _ (ap taken_by (w.children k n))) (λ e. subst (λ i. Extends (taken a.mail i) (taken b.mail i)) (sym e) t);
-    answered = λ k. by_case k m (λ n. extends_same _ _ (ap answered_by (w.children k n))) (λ e. subst (λ i. Extends (answered a.mail i) (answered b.mail i)) (sym e) d);
+    taken = λ k. by_equal k m (λ n. extends_same _ _ (ap taken_by (w.children k n))) (λ e. subst (λ i. Extends (taken a.mail i) (taken b.mail i)) (sym e) t);
+    answered = λ k. by_equal k m (λ n. extends_same _ _ (ap answered_by (w.children k n))) (λ e. subst (λ i. Extends (answered a.mail i) (answered b.mail i)) (sym e) d);
     looked_by_parent = λ k. extends_same _ _ (ap words_of_parent (w.parents k));
-    looked_by_child = λ k. by_case k m (λ n. extends_same _ _ (ap words_of_child (w.children k n))) (λ e. subst (λ i. Extends (looked_by_child a.mail i) (looked_by_child b.mail i)) (sym e) l);
+    looked_by_child = λ k. by_equal k m (λ n. extends_same _ _ (ap words_of_child (w.children k n))) (λ e. subst (λ i. Extends (looked_by_child a.mail i) (looked_by_child b.mail i)) (sym e) l);
   };
   seats = λ j lt. w.seats j (λ e. omega (arith, e, lt));
   seat_count = w.seat_count;
@@ -88,12 +88,6 @@ works_leaves m a b w t d l = record {
   parents = λ k p mine lt. w.parents k;
   children = λ k lt. w.children k (λ e. omega (arith, e, lt));
 }
-  where
-    by_case : (i j : ℕ) {A : Type 0} → (i ≢ j → A) → (i ≡ j → A) → A
-    by_case zero zero f g = g refl
-    by_case zero (suc j) f g = f (λ e. omega (arith, e))
-    by_case (suc i) zero f g = f (λ e. omega (arith, e))
-    by_case (suc i) (suc j) f g = by_case i j (λ n. f (λ e. n (omega (arith, e)))) (λ e. g (ap suc e))
 
 -- ---- the job
 

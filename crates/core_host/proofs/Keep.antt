@@ -19,7 +19,7 @@ use Rattle.core_host.specs.Changes.{Extends, Grown}
 use Rattle.core_host.specs.Done.{Posts, HasDone}
 use Rattle.core_host.specs.Keeping.{State, code_in, Alike, Leaves, IsSeated, IsFitted, LastReply, Idle, Ready, blank, reply, HasPacket, Quiet}
 use Rattle.core_host.specs.Moving.{Moves}
-use Rattle.core_host.proofs.Mails.{alike_then, extends_same, extends_then}
+use Rattle.core_host.proofs.Mails.{by_equal, alike_then, extends_same, extends_then}
 
 -- ---- the tree of threads
 
@@ -159,20 +159,8 @@ module _ (a b : State) (k : ℕ) (moves : Moves k a b) where
     looked_by_child = λ j. extends_same (looked_by_child a.mail j) (looked_by_child b.mail j) (ap words_of_child (moves.children j));
   }
     where
-      equal_or : (i j : ℕ) {A : Type 0} → (i ≢ j → A) → (i ≡ j → A) → A
-      equal_or zero zero f g = g refl
-      equal_or zero (suc j) f g = f (λ e. zero_suc j e)
-        where
-          zero_suc : (j : ℕ) → zero ≡ suc j → ⊥
-          zero_suc j e = cc
-      equal_or (suc i) zero f g = f (λ e. suc_zero i e)
-        where
-          suc_zero : (i : ℕ) → suc i ≡ zero → ⊥
-          suc_zero i e = cc
-      equal_or (suc i) (suc j) f g = equal_or i j (λ n. f (λ e. n (omega (arith, e)))) (λ e. g (ap suc e))
-
       by_test : (j : ℕ) {A : Type 0} → (j ≢ k → A) → (j ≡ k → A) → A
-      by_test j f g = equal_or j k f g
+      by_test j f g = by_equal j k f g
 
   pub moved_leaves : (p t u : ℕ) → IsBranchOf (code_in a).shape p k → t ≤ p → Grown a.mail b.mail → Leaves t u a b
   moved_leaves p t u mine le grown = record {

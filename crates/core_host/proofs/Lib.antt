@@ -18,6 +18,11 @@ pub mod Forked
 pub mod Finishing
 pub mod Desks
 pub mod Rooted
+pub mod Telling
+pub mod Waits
+pub mod Tells
+pub mod Gathers
+pub mod Advancing
 pub mod Ticked
 pub mod Ticking
 pub mod Loading

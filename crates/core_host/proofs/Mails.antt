@@ -100,6 +100,12 @@ module _ {Q : Type 0} where
   is_child None b h = absurd h
   is_child (Some y) b h = (y, refl, h)
 
+pub by_equal : (i j : ℕ) {A : Type 0} → (i ≢ j → A) → (i ≡ j → A) → A
+by_equal zero zero f g = g refl
+by_equal zero (suc j) f g = f (λ e. omega (arith, e))
+by_equal (suc i) zero f g = f (λ e. omega (arith, e))
+by_equal (suc i) (suc j) f g = by_equal i j (λ n. f (λ e. n (omega (arith, e)))) (λ e. g (ap suc e))
+
 -- ---- growing
 
 pub extends_same : {A : Type 0} (l m : List A) → m ≡ l → Extends l m

@@ -1,15 +1,15 @@
 //! One mailbox is served.
-ghost use Rattle.std.specs.Prelude.{◌≡◌, ◌≢◌, ◌<◌, [], ℕ, suc, List, Some, None, length, slice_get, slice_set, true, false};
+ghost use Rattle.std.specs.Prelude.{◌≡◌, ◌≢◌, ◌<◌, [], ℕ, suc, List, Some, None, IfSome, length, slice_get, slice_set, true, false};
 ghost use Rattle.forec_kernel.specs.Engine.{Answered};
 ghost use Rattle.forec_kernel.specs.Packed.{HasRoom};
 ghost use Rattle.thread_code.specs.Plain.{plain_code};
 ghost use Rattle.thread_code.specs.Valid.{of_shape};
 ghost use Rattle.combine_tree.specs.declared.packet.Packet.{Packet as PlainPacketState};
 ghost use Rattle.combine_tree.specs.Plain.{plain_packet};
-ghost use Rattle.copy_slots.specs.Ports.{taken, turn, after_answer, ChildIs};
+ghost use Rattle.copy_slots.specs.Ports.{taken, turn, after_take, after_answer, in_plain, ChildIs};
 ghost use Rattle.core_machine.specs.Held.{Loaded, CanRun};
 ghost use Rattle.core_machine.specs.Forks.{jobs_at};
-ghost use Rattle.core_host.specs.Asking.{Replies};
+ghost use Rattle.core_host.specs.Asking.{Asks, Replies};
 ghost use Rattle.core_host.specs.Changes.{HasWorked, Awaits};
 ghost use Rattle.core_host.specs.Keeping.{code_in, IsSeated, HasPacket, LacksPacket, AtFork, Quiet};
 ghost use Rattle.core_host.specs.Moving.{Moves, HasGot, HasLooked};
@@ -43,6 +43,16 @@ impl<'c, P: Port<ForecWork> + Drop> Desk<'c, P> {
         ensures { self.new ≡ record self.old { seats = slice_set self.old.seats number seat } }
     {
         self.seats[number as usize] = seat;
+    }
+
+    /// Looks for a job.
+    fn take(&mut self, mailbox: u32) -> Option<Packet>
+        requires { ChildIs self.old.mail mailbox false }
+        ensures state { self.new ≡ record self.old { mail = after_take mailbox (in_plain plain_packet result) self.old.mail } }
+        ensures job { IfSome result (λ r. Asks (plain_code self.old.mail.work.code.value) mailbox (taken self.new.mail mailbox)) }
+        ensures turn { self.old.mail.tells ≡ true → IfSome result (λ r. turn self.old.mail mailbox ≢ 0) }
+    {
+        self.port.take(mailbox)
     }
 
     /// Sends the reply of a thread.
@@ -157,7 +167,7 @@ impl<'c, P: Port<ForecWork> + Drop> Desk<'c, P> {
         ensures turn { self.old.mail.tells ≡ true → result ≡ true → turn self.old.mail mailbox ≢ 0 }
     {
         let number = mailbox + 1;
-        let Some(packet) = self.port.take(mailbox) else {
+        let Some(packet) = self.take(mailbox) else {
             return false;
         };
         gate.pass(self.places[number as usize], number, Point::Begun);
