@@ -25,7 +25,7 @@ use Rattle.core_host.proofs.Mails.{state, some_once, child_here, is_child, paren
 use Rattle.core_host.proofs.Employing.{job_can_begin, job_room, job_small, at_work, seated_work, above_work, in_job, followed, its_replies, holds3, at_end, leaves_all, above_end, back}
 
 -- what a child's end has taken
-took : (m : Mail) (k : ℕ) (q : PlainPacket) → ChildIs m k false → taken (record m { ends = on_child m.ends k (taker_took q) }) k ≡ taken m k ++ q ∷ []
+pub took : (m : Mail) (k : ℕ) (q : PlainPacket) → ChildIs m k false → taken (record m { ends = on_child m.ends k (taker_took q) }) k ≡ taken m k ++ q ∷ []
 took m k q is =
     let y = is_child (child_at m.ends k) false is in
     ap taken_by (child_here m.ends k (taker_took q) ∙ ap (on_taker (taker_took q)) y.1) ∙ ap (λ l. l ++ q ∷ []) (sym (ap taken_by y.1))

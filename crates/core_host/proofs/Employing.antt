@@ -177,7 +177,7 @@ module _ (s0 : State) (m : ℕ) (seated : IsSeated s0) (inside : m < length s0.m
     pub taken_now : taken at_work.mail m ≡ taken s0.mail m ++ q ∷ []
     taken_now = ap taken_by child_now ∙ ap (λ l. l ++ q ∷ []) (sym (ap taken_by taker.1))
 
-    answered_same : answered at_work.mail m ≡ answered s0.mail m
+    pub answered_same : answered at_work.mail m ≡ answered s0.mail m
     answered_same = ap answered_by child_now ∙ sym (ap answered_by taker.1)
 
     looked_now : looked_by_child at_work.mail m ≡ looked_by_child s0.mail m ++ 1 ∷ []

@@ -23,6 +23,8 @@ pub mod Waits
 pub mod Tells
 pub mod Gathers
 pub mod Advancing
+pub mod Beginning
+pub mod Resuming
 pub mod Ticked
 pub mod Ticking
 pub mod Loading

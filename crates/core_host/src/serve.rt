@@ -171,7 +171,8 @@ impl<'c, P: Port<ForecWork> + Drop> Desk<'c, P> {
             return false;
         };
         gate.pass(self.places[number as usize], number, Point::Begun);
-        let Some(mut thread) = self.rise(number).thread else {
+        let Seat { thread, .. } = self.rise(number);
+        let Some(mut thread) = thread else {
             unreachable!()
         };
         thread.begin(self.code, &packet);
@@ -191,11 +192,20 @@ impl<'c, P: Port<ForecWork> + Drop> Desk<'c, P> {
     {
         let number = mailbox + 1;
         let Seat { thread, job } = self.rise(number);
-        let (Some(mut thread), Some(packet)) = (thread, job) else {
+        let Some(mut thread) = thread else {
+            unreachable!()
+        };
+        let Some(packet) = job else {
             unreachable!()
         };
         if !self.gather(&thread) {
-            self.sit(number, Seat { thread: Some(thread), job: Some(packet) });
+            self.sit(
+                number,
+                Seat {
+                    thread: Some(thread),
+                    job: Some(packet),
+                },
+            );
             return false;
         }
         self.settle(&mut thread);
