@@ -25,6 +25,8 @@ pub mod Gathers
 pub mod Advancing
 pub mod Beginning
 pub mod Resuming
+pub mod Serves
+pub mod Hosting
 pub mod Ticked
 pub mod Ticking
 pub mod Loading

@@ -1,5 +1,5 @@
 -- A thread that waits looks for the replies of its branches, and goes on with them.
-use Rattle.std.proofs.Common.{◌≡◌, ◌≢◌, ℕ, suc, ◌+◌, ◌<◌, ◌≤◌, Bool, true, false, Option, Some, None, List, [], ◌∷◌, ◌++◌, length, map, refl, sym, ap, ◌∙◌, subst, arith}
+use Rattle.std.proofs.Common.{◌≡◌, ◌≢◌, ℕ, zero, suc, ◌+◌, ◌<◌, ◌≤◌, Bool, true, false, Option, Some, None, List, [], ◌∷◌, ◌++◌, length, map, refl, sym, ap, ◌∙◌, subst, arith}
 use Rattle.std.specs.Prelude.{slice_get, slice_set, drop}
 use Rattle.std.proofs.lemmas.List.{length-set, length-map}
 use Rattle.forec_kernel.specs.Packets.{PlainPacket}
@@ -181,12 +181,9 @@ module _ (s : State) (seated : IsSeated s) (h : Thread) (r : HasReplies s h) (h2
   pairs = told (code_in s) h.number k.jobs k.job k.log
 
   nothing_left : (l : List Written) (n : ℕ) → length l ≤ n → drop n l ≡ []
-  nothing_left [] n le = empty n
-    where
-      empty : (n : ℕ) → drop n [] ≡ []
-      empty 0 = refl
-      empty (suc n) = refl
-  nothing_left (v ∷ l) 0 le = absurd (omega (arith, le))
+  nothing_left [] zero le = refl
+  nothing_left [] (suc n) le = refl
+  nothing_left (v ∷ l) zero le = absurd (omega (arith, le))
   nothing_left (v ∷ l) (suc n) le = nothing_left l n (omega (arith, le))
 
   all_told : HasTold s h.number (pairs ++ pair_up ws rs) []

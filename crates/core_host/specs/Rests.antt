@@ -1,5 +1,5 @@
 -- What a host keeps between calls.
-use Rattle.std.specs.Prelude.{ℕ, suc, ◌≡◌, ◌<◌, Bool, true, List, length}
+use Rattle.std.specs.Prelude.{ℕ, suc, ◌≡◌, ◌<◌, true, List, length}
 use Rattle.forec_kernel.specs.Packed.{HasRoom}
 use Rattle.forec_kernel.specs.Engine.{Job}
 use Rattle.combine_tree.specs.declared.packet.PacketKind.{PacketKind}
@@ -8,11 +8,9 @@ use Rattle.combine_tree.specs.Plain.{plain_packet}
 use Rattle.thread_code.specs.Valid.{of_shape, IsValidCode}
 use Rattle.core_machine.specs.declared.thread.Thread.{Thread}
 use Rattle.core_machine.specs.Held.{IsResting, HasPaused}
-use Rattle.copy_slots.specs.Ports.{ChildIs}
-use Rattle.core_host.specs.Posts.{Mail}
 use Rattle.core_host.specs.Done.{HasDone}
 use Rattle.core_host.specs.Keeping.{State, code_in, Sits, Quiet}
-use Rattle.core_host.specs.Waiting.{IsBetween}
+use Rattle.core_host.specs.Waiting.{HasChild, IsBetween}
 use Rattle.core_host.specs.Hosted.{Hosted, state_in, code_of, is_here, IsWhole}
 
 -- the next tick can begin: no tick was run, or the last one paused
@@ -20,10 +18,6 @@ abbrev pub IsReady : Thread → PacketKind → Type 0
 IsReady h kind.Blank = Unit {0}
 IsReady h kind.Paused = HasPaused h
 IsReady h _ = ⊥
-
--- the child's end of mailbox k is there
-abbrev pub HasChild : Mail → ℕ → Type 0
-HasChild m k = (b : Bool) × ChildIs m k b
 
 -- thread 0 rests, and has replied to the jobs of some ticks
 pub record RootRests (s : State) : Type 0 where

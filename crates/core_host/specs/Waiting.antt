@@ -1,5 +1,5 @@
 -- A thread that is at work on a job while its branches do theirs.
-use Rattle.std.specs.Prelude.{ℕ, suc, ◌≡◌, ◌<◌, ◌≤◌, ◌+◌, ◌==◌, ◌⊎◌, cond, true, Some, List, [], ◌∷◌, ◌++◌, length, map, slice_get, drop}
+use Rattle.std.specs.Prelude.{ℕ, suc, ◌≡◌, ◌<◌, ◌≤◌, ◌+◌, ◌==◌, ◌⊎◌, cond, Bool, true, Some, List, [], ◌∷◌, ◌++◌, length, map, slice_get, drop}
 use Rattle.forec_kernel.specs.Packed.{HasRoom, AreJobs}
 use Rattle.forec_kernel.specs.Engine.{Job, Reply, Written, Answers, Answered, Allowed, jobs_to, pair_up}
 use Rattle.thread_code.specs.Plain.{PlainCode}
@@ -11,7 +11,7 @@ use Rattle.core_machine.specs.declared.thread.Thread.{Thread}
 use Rattle.core_machine.specs.Held.{Loaded, StandsFor, HasSettled}
 use Rattle.core_machine.specs.Forks.{jobs_at}
 use Rattle.copy_slots.specs.Ports.{sent, got, taken, answered, ChildIs}
-use Rattle.core_host.specs.Posts.{IsBranchOf, AreReplies, replies_to}
+use Rattle.core_host.specs.Posts.{Mail, IsBranchOf, AreReplies, replies_to}
 use Rattle.core_host.specs.Done.{AreAbove}
 use Rattle.core_host.specs.Writing.{Log, heard, told}
 use Rattle.core_host.specs.Keeping.{State, code_in, Sits, Idle, HasPacket, LacksPacket, HasHeard}
@@ -96,6 +96,10 @@ pub record HasReplies (s : State) (h : Thread) : Type 0 where
   pub all : length waiting.replies ≡ length h.branches.numbers
 
 -- ---- between calls
+
+-- the child's end of mailbox k is there
+abbrev pub HasChild : Mail → ℕ → Type 0
+HasChild m k = (b : Bool) × ChildIs m k b
 
 -- thread k + 1 rests, and each of its branches' packets is its own
 pub record IsAtRest (s : State) (k : ℕ) : Type 0 where

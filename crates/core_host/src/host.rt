@@ -52,6 +52,7 @@ pub struct Host<'c, P: Port<ForecWork> + Drop> {
     root: Packet,
     live: bool,
     ghost own_are: { AreOwn desk.places cores.items own.items },
+    ghost next_within: { next ≤ length own.items },
 }
 
 impl<'c, P: Port<ForecWork> + Drop> Model for Host<'c, P> {
@@ -187,28 +188,24 @@ impl<'c, P: Port<ForecWork> + Drop> Host<'c, P> {
         ensures jobs { (jobs : List Job) → HasJobs self.old jobs → HasJobs self.new jobs }
         ensures whole { IsWhole self.old → IsWhole self.new }
     {
-        let first = self.next;
-        let count = self.own.len();
-        if let Some(k) = self.serve_some(gate, first, count) {
-            return Served::Worked { k };
+        let Host {
+            desk,
+            own,
+            next,
+            ..
+        } = self;
+        let (before, after) = own.split_at(*next);
+        if let Some(i) = desk.serve_first(gate, after) {
+            *next += i + 1;
+            return Served::Worked { k: after[i] };
         }
-        match self.serve_some(gate, 0, first) {
-            Some(k) => Served::Worked { k },
+        match desk.serve_first(gate, before) {
+            Some(i) => {
+                *next = i + 1;
+                Served::Worked { k: before[i] }
+            }
             None => Served::Nothing,
         }
-    }
-
-    /// Serves the first of these mailboxes of `own` where there is something to do.
-    fn serve_some<G: Gate>(&mut self, gate: &G, from: usize, to: usize) -> Option<u32>
-    {
-        for i in from..to {
-            let mailbox = self.own[i];
-            if self.desk.serve(gate, mailbox) {
-                self.next = i + 1;
-                return Some(mailbox);
-            }
-        }
-        None
     }
 
     /// What a host keeps: the branches of a thread were told and have told exactly what the thread writes by

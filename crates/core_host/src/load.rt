@@ -81,6 +81,7 @@ pub fn own_mailboxes(
     places: &[u32],
     cores: &[u32],
 ) -> Result<Vec<u32>, OutOfMemory>
+    requires some { 0 < length places.now }
     requires few { length places.now ≤ 256 }
     ensures { IfOk result (λ own. AreOwn places.now cores.now own.items) }
 {

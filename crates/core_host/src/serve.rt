@@ -1,4 +1,4 @@
-//! One mailbox is served.
+//! Mailboxes are served.
 ghost use Rattle.std.specs.Prelude.{◌≡◌, ◌≢◌, ◌<◌, [], ℕ, suc, List, Some, None, IfSome, length, slice_get, slice_set, true, false};
 ghost use Rattle.forec_kernel.specs.Engine.{Answered};
 ghost use Rattle.forec_kernel.specs.Packed.{HasRoom};
@@ -10,11 +10,11 @@ ghost use Rattle.copy_slots.specs.Ports.{taken, turn, after_take, after_answer, 
 ghost use Rattle.core_machine.specs.Held.{Loaded, CanRun};
 ghost use Rattle.core_machine.specs.Forks.{jobs_at};
 ghost use Rattle.core_host.specs.Asking.{Asks, Replies};
-ghost use Rattle.core_host.specs.Changes.{HasWorked, Awaits};
+ghost use Rattle.core_host.specs.Changes.{HasWorked, Awaits, IsIdle};
 ghost use Rattle.core_host.specs.Keeping.{code_in, IsSeated, HasPacket, LacksPacket, AtFork, Quiet};
 ghost use Rattle.core_host.specs.Moving.{Moves, HasGot, HasLooked};
 ghost use Rattle.core_host.specs.Waiting.{HasTold, IsWorking, IsWaiting, HasReplies, IsAtRest, WaitsAt, IsBetween};
-ghost use Rattle.core_host.specs.Serving.{MovesBranches, Touches, OnlyLooks, HasMissed};
+ghost use Rattle.core_host.specs.Serving.{MovesBranches, Touches, OnlyLooks, HasMissed, AllMissed, KeepsServing};
 
 use crate::desk::Desk;
 use crate::seat::Seat;
@@ -216,7 +216,7 @@ impl<'c, P: Port<ForecWork> + Drop> Desk<'c, P> {
 
     /// Takes one job of this mailbox, or goes on with its thread where that waits at a fork and its branches
     /// have all replied, and runs the thread to its next event. Whether it did.
-    pub fn serve<G: Gate>(&mut self, gate: &G, mailbox: u32) -> bool
+    fn serve<G: Gate>(&mut self, gate: &G, mailbox: u32) -> bool
         requires inside { mailbox < length self.old.mail.ends }
         requires seated { IsSeated self.old }
         requires between { IsBetween self.old mailbox }
@@ -232,5 +232,23 @@ impl<'c, P: Port<ForecWork> + Drop> Desk<'c, P> {
         } else {
             self.begin(gate, mailbox)
         }
+    }
+
+    /// Serves the first of these mailboxes where there is something to do, and answers its place.
+    pub fn serve_first<G: Gate>(&mut self, gate: &G, mailboxes: &[u32]) -> Option<usize>
+        requires seated { IsSeated self.old }
+        requires each { (i k : ℕ) → slice_get mailboxes.now i ≡ Some k → (k < length self.old.mail.ends) × IsBetween self.old k }
+        ensures keeps { KeepsServing self.old self.new }
+        ensures place { IfSome result (λ i. i < length mailboxes.now) }
+        ensures worked { IfSome result (λ i. (k : ℕ) → slice_get mailboxes.now i ≡ Some k → HasWorked (code_in self.old).shape self.old.mail self.new.mail k) }
+        ensures missed { result ≡ None → AllMissed self.old self.new }
+        ensures idle { result ≡ None → (i k : ℕ) → slice_get mailboxes.now i ≡ Some k → IsIdle (code_in self.old).shape self.old.mail self.new.mail k }
+    {
+        for i in 0..mailboxes.len() {
+            if self.serve(gate, mailboxes[i]) {
+                return Some(i);
+            }
+        }
+        None
     }
 }
