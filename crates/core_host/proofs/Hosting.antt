@@ -1,7 +1,6 @@
 -- A host serves mailboxes.
-use Rattle.std.proofs.Common.{◌≡◌, ◌≢◌, ℕ, zero, suc, ◌+◌, ◌-◌, ◌<◌, ◌≤◌, ◌==◌, Bool, true, false, cond, Option, Some, None, List, [], ◌∷◌, length, take, refl, sym, ap, ◌∙◌, subst, ⊎_elim, arith}
-use Rattle.std.specs.Prelude.{slice_get, drop}
-use Rattle.std.proofs.lemmas.Bool.{cases_lt}
+use Rattle.std.proofs.Common.{◌≡◌, ◌≢◌, ℕ, zero, suc, ◌+◌, ◌-◌, ◌<◌, ◌≤◌, ◌==◌, Bool, true, false, cond, Option, Some, None, List, [], ◌∷◌, length, refl, sym, ap, ◌∙◌, subst, arith}
+use Rattle.std.specs.Prelude.{slice_get}
 use Rattle.std.proofs.lemmas.Bool.Decides.{nat_tests}
 use Rattle.forec_kernel.specs.Combining.{contains}
 use Rattle.forec_kernel.specs.Shapes.{PlainKernel}
@@ -31,6 +30,19 @@ use Rattle.core_host.specs.Runs.{HasJobs, HasTicked, HasRun}
 use Rattle.core_host.proofs.Mails.{some_once}
 use Rattle.core_host.proofs.Keep.{done_keeps}
 use Rattle.core_host.proofs.Serves.{keeps_seated, both_held}
+
+-- ---- lists
+
+is_it : (a b : ℕ) → (a == b) ≡ true → a ≡ b
+is_it a b e = grind (arith, nat_tests)
+
+contains_where : (l : List ℕ) (k : ℕ) → contains k l ≡ true → (i : ℕ) × (slice_get l i ≡ Some k)
+contains_where [] k e = cc
+contains_where (x ∷ l) k e = pick (x == k) refl e (contains_where l k)
+  where
+    pick : (t : Bool) → (x == k) ≡ t → cond t true (contains k l) ≡ true → (contains k l ≡ true → (i : ℕ) × (slice_get l i ≡ Some k)) → (i : ℕ) × (slice_get (x ∷ l) i ≡ Some k)
+    pick true q e ih = (0, ap Some (is_it x k q))
+    pick false q e ih = let r = ih e in (suc r.0, r.1)
 
 -- ---- what a host keeps
 
@@ -122,85 +134,17 @@ module _ (s0 s1 : State) (cores : List ℕ) (root : Packet) (live : Bool) (keeps
 
 -- ---- its mailboxes
 
-got_from : (l : List ℕ) (n i k : ℕ) → slice_get (drop n l) i ≡ Some k → slice_get l (n + i) ≡ Some k
-got_from [] zero i k e = absurd (none i e)
-  where
-    none : (i : ℕ) → slice_get [] i ≡ Some k → ⊥
-    none zero e = cc
-    none (suc i) e = cc
-got_from [] (suc n) i k e = absurd (none i e)
-  where
-    none : (i : ℕ) → slice_get [] i ≡ Some k → ⊥
-    none zero e = cc
-    none (suc i) e = cc
-got_from (x ∷ l) zero i k e = let z : 0 + i ≡ i = omega arith in ap (λ j. slice_get (x ∷ l) j) z ∙ e
-got_from (x ∷ l) (suc n) i k e = let z : suc n + i ≡ suc (n + i) = omega arith in ap (λ j. slice_get (x ∷ l) j) z ∙ got_from l n i k e
-
-got_before : (l : List ℕ) (n i k : ℕ) → slice_get (take n l) i ≡ Some k → slice_get l i ≡ Some k
-got_before [] zero i k e = e
-got_before [] (suc n) i k e = e
-got_before (x ∷ l) zero zero k e = cc
-got_before (x ∷ l) zero (suc i) k e = cc
-got_before (x ∷ l) (suc n) zero k e = e
-got_before (x ∷ l) (suc n) (suc i) k e = got_before l n i k e
-
-is_it : (a b : ℕ) → (a == b) ≡ true → a ≡ b
-is_it a b e = grind (arith, nat_tests)
-
--- where a number is in a list that is split
-pub data IsSplit (l : List ℕ) (n k : ℕ) : Type 0 where
-  front : (i : ℕ) → slice_get (take n l) i ≡ Some k → IsSplit l n k
-  behind : (i : ℕ) → slice_get (drop n l) i ≡ Some k → IsSplit l n k
-
-split_at : (l : List ℕ) (n k : ℕ) → contains k l ≡ true → IsSplit l n k
-split_at [] n k e = cc
-split_at (x ∷ l) n k e = pick (x == k) refl e
-  where
-    found : (n : ℕ) → x ≡ k → IsSplit (x ∷ l) n k
-    found zero same = behind 0 (ap Some same)
-    found (suc n) same = front 0 (ap Some same)
-
-    later : (n : ℕ) → contains k l ≡ true → IsSplit (x ∷ l) n k
-    later zero e = from_start (split_at l 0 k e)
-      where
-        from_start : IsSplit l 0 k → IsSplit (x ∷ l) 0 k
-        from_start (front i at) = behind (suc i) (got_before l 0 i k at)
-        from_start (behind i at) = behind (suc i) (got_from l 0 i k at)
-    later (suc n) e = one_more (split_at l n k e)
-      where
-        one_more : IsSplit l n k → IsSplit (x ∷ l) (suc n) k
-        one_more (front i at) = front (suc i) at
-        one_more (behind i at) = behind i at
-
-    pick : (t : Bool) → (x == k) ≡ t → cond t true (contains k l) ≡ true → IsSplit (x ∷ l) n k
-    pick true q e = found n (is_it x k q)
-    pick false q e = later n e
-
--- ---- who has something to do
-
-module _ (s : State) (cores : List ℕ) (root : Packet) (live : Bool) (inv : IsHosted (hosted s cores root live)) (own : List ℕ) (are : AreOwn s.places cores own) (n : ℕ) where
-  its_own : (i k : ℕ) → slice_get own i ≡ Some k → (k < length s.mail.ends) × (is_here (hosted s cores root live) (suc k) ≡ true)
+module _ (s : State) (cores : List ℕ) (root : Packet) (live : Bool) (inv : IsHosted (hosted s cores root live)) (own : List ℕ) (are : AreOwn s.places cores own) where
+  pub its_own : (i k : ℕ) → slice_get own i ≡ Some k → (k < length s.mail.ends) × (is_here (hosted s cores root live) (suc k) ≡ true)
   its_own i k at =
       let o = are.here i k at in
       let lt = o.0 in (omega (arith, lt, inv.places, inv.mailboxes), o.1)
 
-  each : (i k : ℕ) → slice_get own i ≡ Some k → (k < length s.mail.ends) × IsBetween s k
-  each i k at = let o = its_own i k at in (o.0, inv.between k o.0 (inv.here k o.0 o.1))
+  pub each_between : (i k : ℕ) → slice_get own i ≡ Some k → (k < length s.mail.ends) × IsBetween s k
+  each_between i k at = let o = its_own i k at in (o.0, inv.between k o.0 (inv.here k o.0 o.1))
 
-  pub after_own : (i k : ℕ) → slice_get (drop n own) i ≡ Some k → (k < length s.mail.ends) × (is_here (hosted s cores root live) (suc k) ≡ true)
-  after_own i k at = its_own (n + i) k (got_from own n i k at)
-
-  pub before_own : (i k : ℕ) → slice_get (take n own) i ≡ Some k → (k < length s.mail.ends) × (is_here (hosted s cores root live) (suc k) ≡ true)
-  before_own i k at = its_own i k (got_before own n i k at)
-
-  pub after_each : (i k : ℕ) → slice_get (drop n own) i ≡ Some k → (k < length s.mail.ends) × IsBetween s k
-  after_each i k at = each (n + i) k (got_from own n i k at)
-
-  pub before_each : (i k : ℕ) → slice_get (take n own) i ≡ Some k → (k < length s.mail.ends) × IsBetween s k
-  before_each i k at = each i k (got_before own n i k at)
-
-  pub where_own : (k : ℕ) → k < length s.mail.ends → is_here (hosted s cores root live) (suc k) ≡ true → IsSplit own n k
-  where_own k lt on = split_at own n k (are.all k (omega (arith, lt, inv.places, inv.mailboxes)) on)
+  pub where_own : (k : ℕ) → k < length s.mail.ends → is_here (hosted s cores root live) (suc k) ≡ true → (i : ℕ) × (slice_get own i ≡ Some k)
+  where_own k lt on = contains_where own k (are.all k (omega (arith, lt, inv.places, inv.mailboxes)) on)
 
 -- ---- a thread that rests
 

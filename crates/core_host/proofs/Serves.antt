@@ -1,6 +1,6 @@
 -- Mailboxes are served, one after the other.
-use Rattle.std.proofs.Common.{◌≡◌, ◌≢◌, ℕ, zero, suc, ◌+◌, ◌-◌, ◌<◌, ◌≤◌, Bool, true, false, Option, Some, None, List, [], ◌∷◌, ◌++◌, length, refl, sym, ap, ◌∙◌, subst, append_assoc, arith}
-use Rattle.std.specs.Prelude.{slice_get, slice_index_or}
+use Rattle.std.proofs.Common.{◌≡◌, ◌≢◌, ℕ, zero, suc, ◌+◌, ◌-◌, ◌<◌, ◌≤◌, Bool, true, false, Option, Some, None, List, [], ◌∷◌, ◌++◌, length, take, refl, sym, ap, ◌∙◌, subst, append_assoc, arith}
+use Rattle.std.specs.Prelude.{slice_get, slice_index_or, drop, IfSome}
 use Rattle.std.specs.Option.{is_some}
 use Rattle.std.proofs.lemmas.Option.{get_or_from_slice_get}
 use Rattle.forec_kernel.specs.Packets.{PlainPacket}
@@ -232,3 +232,44 @@ missed_more a b c mailboxes n k seated inside done at before t after looks m =
           subst (IsIdle (code_in a).shape a.mail c.mail) same
           (idle_from (code_in a).shape a.mail b.mail c.mail k done.keeps.grown (subst (λ x. IsIdle (plain_code x).shape b.mail c.mail k) done.keeps.code m.idle)));
     }
+
+-- ---- a list in two parts
+
+pub got_behind : (l : List ℕ) (n i k : ℕ) → slice_get (drop n l) i ≡ Some k → slice_get l (n + i) ≡ Some k
+got_behind [] n i k e = absurd (none n i e)
+  where
+    none : (n i : ℕ) → slice_get (drop n []) i ≡ Some k → ⊥
+    none zero zero e = cc
+    none zero (suc i) e = cc
+    none (suc n) zero e = cc
+    none (suc n) (suc i) e = cc
+got_behind (x ∷ l) zero i k e = let z : 0 + i ≡ i = omega arith in ap (λ j. slice_get (x ∷ l) j) z ∙ e
+got_behind (x ∷ l) (suc n) i k e = let z : suc n + i ≡ suc (n + i) = omega arith in ap (λ j. slice_get (x ∷ l) j) z ∙ got_behind l n i k e
+
+pub got_front : (l : List ℕ) (n i k : ℕ) → slice_get (take n l) i ≡ Some k → slice_get l i ≡ Some k
+got_front [] zero i k e = e
+got_front [] (suc n) i k e = e
+got_front (x ∷ l) zero zero k e = cc
+got_front (x ∷ l) zero (suc i) k e = cc
+got_front (x ∷ l) (suc n) zero k e = e
+got_front (x ∷ l) (suc n) (suc i) k e = got_front l n i k e
+
+pub get_behind : (l : List ℕ) (n i k : ℕ) → slice_get l (n + i) ≡ Some k → slice_get (drop n l) i ≡ Some k
+get_behind [] n i k e = absurd (none (n + i) e)
+  where
+    none : (j : ℕ) → slice_get [] j ≡ Some k → ⊥
+    none zero e = cc
+    none (suc j) e = cc
+get_behind (x ∷ l) zero i k e = let z : 0 + i ≡ i = omega arith in ap (λ j. slice_get (x ∷ l) j) (sym z) ∙ e
+get_behind (x ∷ l) (suc n) i k e = let z : suc n + i ≡ suc (n + i) = omega arith in get_behind l n i k (ap (λ j. slice_get (x ∷ l) j) (sym z) ∙ e)
+
+pub get_front : (l : List ℕ) (n i k : ℕ) → i < n → slice_get l i ≡ Some k → slice_get (take n l) i ≡ Some k
+get_front [] zero i k lt e = e
+get_front [] (suc n) i k lt e = e
+get_front (x ∷ l) zero i k lt e = absurd (omega (arith, lt))
+get_front (x ∷ l) (suc n) zero k lt e = e
+get_front (x ∷ l) (suc n) (suc i) k lt e = get_front l n i k (omega (arith, lt)) e
+
+pub some_both : (o : Option ℕ) {P Q R : ℕ → Type 0} → ((i : ℕ) → P i → Q i → R i) → IfSome o P → IfSome o Q → IfSome o R
+some_both None f p q = tt
+some_both (Some x) f p q = f x p q

@@ -194,18 +194,11 @@ impl<'c, P: Port<ForecWork> + Drop> Host<'c, P> {
             next,
             ..
         } = self;
-        let (before, after) = own.split_at(*next);
-        if let Some(i) = desk.serve_first(gate, after) {
-            *next += i + 1;
-            return Served::Worked { k: after[i] };
-        }
-        match desk.serve_first(gate, before) {
-            Some(i) => {
-                *next = i + 1;
-                Served::Worked { k: before[i] }
-            }
-            None => Served::Nothing,
-        }
+        let Some(i) = desk.serve_round(gate, own, *next) else {
+            return Served::Nothing;
+        };
+        *next = i + 1;
+        Served::Worked { k: own[i] }
     }
 
     /// What a host keeps: the branches of a thread were told and have told exactly what the thread writes by

@@ -1,6 +1,6 @@
 //! What a host is made of.
 
-ghost use Rattle.std.specs.Prelude.{◌≡◌, ◌<◌, ◌≤◌, ◌+◌, ℕ, suc, All, IfOk, Some, None, Option, length, slice_get, replicate, true};
+ghost use Rattle.std.specs.Prelude.{◌≡◌, ◌<◌, ◌≤◌, ◌+◌, ◌++◌, ◌∷◌, [], ℕ, suc, cond, All, IfOk, OnOk, Some, None, Option, length, slice_get, replicate, true};
 ghost use Rattle.thread_code.specs.Plain.{plain_code};
 ghost use Rattle.combine_tree.specs.declared.packet.Packet.{Packet as PlainPacketState};
 ghost use Rattle.core_host.specs.declared.seat.Seat.{Seat as SeatState};
@@ -75,6 +75,16 @@ pub fn seats_of(
     Ok(seats)
 }
 
+/// The mailbox goes to the end of the list, where it is to be there.
+fn push_if(own: &mut Vec<u32>, mailbox: u32, is_here: bool) -> Result<(), OutOfMemory>
+    ensures { OnOk result (own.new.items ≡ cond is_here (own.old.items ++ mailbox ∷ []) own.old.items) }
+{
+    if is_here {
+        own.push(mailbox)?;
+    }
+    Ok(())
+}
+
 /// The mailboxes of the threads of these cores, in order.
 pub fn own_mailboxes(
     alloc: Global,
@@ -87,9 +97,8 @@ pub fn own_mailboxes(
 {
     let mut own = Vec::new(alloc);
     for mailbox in 0..places.len() - 1 {
-        if is_among(places[mailbox + 1], cores) {
-            own.push(mailbox as u32)?;
-        }
+        let is_here = is_among(places[mailbox + 1], cores);
+        push_if(&mut own, mailbox as u32, is_here)?;
     }
     Ok(own)
 }

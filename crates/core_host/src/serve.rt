@@ -1,5 +1,5 @@
 //! Mailboxes are served.
-ghost use Rattle.std.specs.Prelude.{◌≡◌, ◌≢◌, ◌<◌, [], ℕ, suc, List, Some, None, IfSome, length, slice_get, slice_set, true, false};
+ghost use Rattle.std.specs.Prelude.{◌≡◌, ◌≢◌, ◌≤◌, ◌<◌, [], ℕ, suc, List, Some, None, IfSome, length, slice_get, slice_set, true, false};
 ghost use Rattle.forec_kernel.specs.Engine.{Answered};
 ghost use Rattle.forec_kernel.specs.Packed.{HasRoom};
 ghost use Rattle.thread_code.specs.Plain.{plain_code};
@@ -235,7 +235,7 @@ impl<'c, P: Port<ForecWork> + Drop> Desk<'c, P> {
     }
 
     /// Serves the first of these mailboxes where there is something to do, and answers its place.
-    pub fn serve_first<G: Gate>(&mut self, gate: &G, mailboxes: &[u32]) -> Option<usize>
+    fn serve_first<G: Gate>(&mut self, gate: &G, mailboxes: &[u32]) -> Option<usize>
         requires seated { IsSeated self.old }
         requires each { (i k : ℕ) → slice_get mailboxes.now i ≡ Some k → (k < length self.old.mail.ends) × IsBetween self.old k }
         ensures keeps { KeepsServing self.old self.new }
@@ -250,5 +250,28 @@ impl<'c, P: Port<ForecWork> + Drop> Desk<'c, P> {
             }
         }
         None
+    }
+
+    /// Serves the first of these mailboxes where there is something to do, from one of them on and round, and
+    /// answers its place.
+    pub fn serve_round<G: Gate>(
+        &mut self,
+        gate: &G,
+        mailboxes: &[u32],
+        first: usize,
+    ) -> Option<usize>
+        requires seated { IsSeated self.old }
+        requires first { first ≤ length mailboxes.now }
+        requires each { (i k : ℕ) → slice_get mailboxes.now i ≡ Some k → (k < length self.old.mail.ends) × IsBetween self.old k }
+        ensures keeps { KeepsServing self.old self.new }
+        ensures place { IfSome result (λ i. i < length mailboxes.now) }
+        ensures worked { IfSome result (λ i. (k : ℕ) → slice_get mailboxes.now i ≡ Some k → HasWorked (code_in self.old).shape self.old.mail self.new.mail k) }
+        ensures idle { result ≡ None → (i k : ℕ) → slice_get mailboxes.now i ≡ Some k → IsIdle (code_in self.old).shape self.old.mail self.new.mail k }
+    {
+        let (before, after) = mailboxes.split_at(first);
+        if let Some(i) = self.serve_first(gate, after) {
+            return Some(first + i);
+        }
+        self.serve_first(gate, before)
     }
 }
