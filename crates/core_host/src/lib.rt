@@ -8,8 +8,9 @@ mod load;
 mod local;
 mod outcome;
 mod seat;
+mod serve;
 mod work;
 
-pub use host::Host;
+pub use host::{Host, Served};
 pub use local::{blanks, local_port};
 pub use work::{ForecWork, Told};
