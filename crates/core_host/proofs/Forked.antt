@@ -224,7 +224,6 @@ in_job_by c h' m' jobs job t number =
 
 module _ (c : PlainCode) (valid : IsValidCode c) (h : Thread) (loaded : Loaded c h) (settled : HasSettled h 0) (numbers : h.branches.numbers ≡ map (λ w. w.branch) (jobs_at c h)) (jobs : List Job) (job : Job)
     (l : Log c h.number jobs job) (stands_before : StandsFor c h (heard c h.number jobs job l)) where
-
   abbrev t : ℕ
   t = h.number
 

@@ -132,17 +132,19 @@ module _ (s : State) (mail : Mail) (seats : List Seat) (hands : List (Option Pac
           (get_then rs r i q there)
 
       pub waits_got : (w' : IsWaiting s' h) × (length w'.replies ≡ n + 1)
-      waits_got =
-          (record {
-            work = work_moves w.work;
-            forked = w.forked;
-            replies = rs ++ r ∷ [];
-            gathered = record {
-              within = let lt = slice_get_within h.branches.numbers n (suc m) number in let c = length_then rs r in omega (arith, lt, c, next);
-              heard = heard_all;
-              told = told_now;
-            };
-          }, (let c = length_then rs r in omega (arith, c, next)))
+      waits_got = (
+        record {
+          work = work_moves w.work;
+          forked = w.forked;
+          replies = rs ++ r ∷ [];
+          gathered = record {
+            within = let lt = slice_get_within h.branches.numbers n (suc m) number in let c = length_then rs r in omega (arith, lt, c, next);
+            heard = heard_all;
+            told = told_now;
+          };
+        },
+        (let c = length_then rs r in omega (arith, c, next)),
+      )
 
     -- it isn't
     module _ (missed : HasLooked s s' m) where

@@ -39,8 +39,8 @@ pub enum Served {
 /// made once.
 ///
 /// A thread but thread 0 takes its jobs from its mailbox, tells its branches theirs, and answers. Between
-/// two calls what went through the mailboxes of its branches are the jobs that it writes by itself, and the
-/// replies to them.
+/// two calls it rests, or it waits at a fork for replies. Where it rests, what went through the mailboxes of
+/// its branches are the jobs that it writes by itself, and the replies to them.
 #[derive(Drop)]
 pub struct Host<'c, P: Port<ForecWork> + Drop> {
     desk: Desk<'c, P>,

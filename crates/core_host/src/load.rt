@@ -86,11 +86,7 @@ fn push_if(own: &mut Vec<u32>, mailbox: u32, is_here: bool) -> Result<(), OutOfM
 }
 
 /// The mailboxes of the threads of these cores, in order.
-pub fn own_mailboxes(
-    alloc: Global,
-    places: &[u32],
-    cores: &[u32],
-) -> Result<Vec<u32>, OutOfMemory>
+pub fn own_mailboxes(alloc: Global, places: &[u32], cores: &[u32]) -> Result<Vec<u32>, OutOfMemory>
     requires some { 0 < length places.now }
     requires few { length places.now ≤ 256 }
     ensures { IfOk result (λ own. AreOwn places.now cores.now own.items) }

@@ -195,9 +195,7 @@ impl<'c, P: Port<ForecWork> + Drop> Desk<'c, P> {
         let Some(mut thread) = thread else {
             unreachable!()
         };
-        let Some(packet) = job else {
-            unreachable!()
-        };
+        let Some(packet) = job else { unreachable!() };
         if !self.gather(&thread) {
             self.sit(
                 number,

@@ -7,7 +7,7 @@ ghost use Rattle.core_rows.specs.Folded.{fold_thread, fold_shape, fold_main, fol
 
 use crate::hosting::one;
 use core_alloc::given;
-use core_host::{Host, local_port};
+use core_host::{Host, Served, local_port};
 use forec_base::{Binary, Labels, OpenGate, OutOfMemory, Policy};
 use forec_kernel::{FunctionShape, Outcome, Shape, ThreadShape, Variable};
 use std::alloc::Global;
@@ -159,6 +159,7 @@ fn folds_three_branches(rt: HostRuntime) -> Result<(), Fail> {
         let outcome = host.alone(&[], 100, &OpenGate, &mut outputs);
         assert_eq!(rt; outcome, Outcome::Paused);
         assert_eq!(rt; outputs, [5]);
+        assert_eq!(rt; host.serve(&OpenGate), Served::Nothing);
     }
     outputs[0] = 7;
     assert!(rt; host.live());

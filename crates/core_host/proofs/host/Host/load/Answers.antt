@@ -19,9 +19,11 @@ use Rattle.core_host.proofs.host.Host.load.Goals as goal
 
 pub invariant_of-result : goal.invariant_of-result
 invariant_of-result g c =
-    let cores : c.in_ok-cores.cores.items ≡ c.args.cores.now = search rules in
-    (subst (λ l. AreOwn c.in_ok-places.places.items l c.in_ok-own.own.items) (sym cores)
-    (subst (λ l. AreOwn l c.args.cores.now c.in_ok-own.own.items) c.deref-2.ensures.value c.in_ok-own.ensures), (omega arith, tt))
+    let cores : c.in_ok-cores.cores.items ≡ c.args.cores.now = search rules in (
+      subst (λ l. AreOwn c.in_ok-places.places.items l c.in_ok-own.own.items) (sym cores)
+          (subst (λ l. AreOwn l c.args.cores.now c.in_ok-own.own.items) c.deref-2.ensures.value c.in_ok-own.ensures),
+      (omega arith, tt),
+    )
 
 pub invariant_of-result-2 : goal.invariant_of-result-2
 invariant_of-result-2 g c =

@@ -1,5 +1,5 @@
 use Rattle.std.proofs.Common.{◌≡◌, ℕ, ◌+◌, ◌<◌, ◌≤◌, suc, true, Some, length, refl, sym, ap, ◌∙◌, subst, arith}
-use Rattle.std.specs.Prelude.{slice_get, slice_index_or}
+use Rattle.std.specs.Prelude.{slice_get}
 use Rattle.std.proofs.lemmas.Option.{slice_get-get_or}
 use Rattle.core_host.specs.declared.host.Served.TheVariants.{Worked}
 use Rattle.core_host.specs.Changes.{Grown, HasWorked, IsIdle}
@@ -38,19 +38,17 @@ returns-clause-worked g c k is =
     let lt = c.in-Some.ensures.place in
     let value = c.deref.ensures.value in
     let len = ap length value in
-    let j = slice_index_or c.self.inside.own.items c.in-Some.i 0 in
-    let at : slice_get c.self.inside.own.items c.in-Some.i ≡ Some j = slice_get-get_or c.self.inside.own.items c.in-Some.i 0 (omega (arith, lt, len)) in
+    let at = slice_get-get_or c.self.inside.own.items c.in-Some.i c.index.result.now (omega (arith, lt, len)) ∙ ap Some (sym c.index.ensures ∙ worked_once c.index.result.now k is) in
     subst (λ (h : Hosted). HasWorked (code_of h).shape h.mail c.serve_round.new.self.mail k) c.self.view_is
-    (c.in-Some.ensures.worked k (ap (λ l. slice_get l c.in-Some.i) value ∙ at ∙ ap Some (worked_once j k is)))
+    (c.in-Some.ensures.worked k (ap (λ l. slice_get l c.in-Some.i) value ∙ at))
 
 pub returns-clause-mine : goal.returns-clause-mine
 returns-clause-mine g c k is =
     let lt = c.in-Some.ensures.place in
     let value = c.deref.ensures.value in
     let len = ap length value in
-    let j = slice_index_or c.self.inside.own.items c.in-Some.i 0 in
-    let at : slice_get c.self.inside.own.items c.in-Some.i ≡ Some j = slice_get-get_or c.self.inside.own.items c.in-Some.i 0 (omega (arith, lt, len)) in
-    subst (λ (h : Hosted). (k < length h.mail.ends) × (is_here h (suc k) ≡ true)) c.self.view_is (its_own c.self.inside.desk c.self.inside.cores.items c.self.inside.root c.self.inside.live c.self.invariant c.self.inside.own.items c.self.inside.own_are c.in-Some.i k (at ∙ ap Some (worked_once j k is)))
+    let at = slice_get-get_or c.self.inside.own.items c.in-Some.i c.index.result.now (omega (arith, lt, len)) ∙ ap Some (sym c.index.ensures ∙ worked_once c.index.result.now k is) in
+    subst (λ (h : Hosted). (k < length h.mail.ends) × (is_here h (suc k) ≡ true)) c.self.view_is (its_own c.self.inside.desk c.self.inside.cores.items c.self.inside.root c.self.inside.live c.self.invariant c.self.inside.own.items c.self.inside.own_are c.in-Some.i k at)
 
 pub returns-clause-turns : goal.returns-clause-turns
 returns-clause-turns g c turns run = run_keeps c.self.inside.desk c.serve_round.new.self c.self.inside.cores.items c.self.inside.root c.self.inside.live c.serve_round.ensures.keeps turns (subst (λ (h : Hosted). HasRun h turns) (sym c.self.view_is) run)
