@@ -10,9 +10,10 @@ use Rattle.thread_code.specs.Plain.{plain_code}
 use Rattle.thread_code.specs.Valid.{IsValidCode}
 use Rattle.thread_code.specs.Alone.{CodeAlone}
 use Rattle.combine_tree.specs.declared.packet.Packet.{Packet}
+use Rattle.combine_tree.specs.declared.packet.PacketKind.{PacketKind}
 use Rattle.combine_tree.specs.Plain.{plain_packet}
 use Rattle.core_machine.specs.declared.thread.Thread.{Thread}
-use Rattle.core_machine.specs.Held.{Loaded, StandsFor, HasReply, Gives}
+use Rattle.core_machine.specs.Held.{Loaded, CanBegin, StandsFor, HasReply, Gives}
 use Rattle.core_host.specs.declared.seat.Seat.{Seat}
 use Rattle.core_host.specs.Posts.{Mail}
 use Rattle.core_host.specs.Done.{HasDone, InJob}
@@ -47,6 +48,12 @@ module _ (s0 : State) (fitted : IsFitted s0) (quiet : QuietAbove s0 0) (root : R
 
   valid : IsValidCode (plain_code code)
   valid = subst (λ (z : CodeParts). IsValidCode (plain_code z)) (sym (ap (λ (s : State). s.code) view)) fitted.seated.valid
+
+  pub root_loaded : Loaded (plain_code code) h
+  root_loaded = subst (Loaded (plain_code code)) (same_thread root.thread root.sits) (subst (λ s. Loaded (code_in s) root.thread) (sym view) root.sits.loaded)
+
+  pub root_begins : (k : PacketKind) → ((t : Thread) → Sits s0 0 t → CanBegin t k) → CanBegin h k
+  root_begins k can = subst (λ t. CanBegin t k) (same_thread root.thread root.sits) (can root.thread root.sits)
 
   module _ (y : Seat) where
     abbrev pub raw1 : State

@@ -1,6 +1,15 @@
 use Rattle.std.proofs.Common.{Some, refl}
-use Rattle.core_host.proofs.Rooted.{root_followed, root_above, root_quiet, root_rests, root_replies}
+use Rattle.core_host.proofs.Rooted.{root_loaded, root_begins, root_followed, root_above, root_quiet, root_rests, root_replies}
 use Rattle.core_host.proofs.desk.Desk.work.Goals as goal
+
+pub begin-requires-clause-loaded : goal.begin-requires-clause-loaded
+begin-requires-clause-loaded g c =
+    root_loaded c.args.self.now c.requires.fitted c.requires.quiet c.requires.root c.self.inside.code.now c.self.inside.places.items (g.P.Port.state c.self.inside.port) c.self.inside.seats.items c.self.inside.hands.items c.self.view_is c.index_mut.result.now c.index_mut.ensures.value c.take.result c.take.ensures.value c.in-Some.thread c.in-Some.is
+
+pub begin-requires-clause-job : goal.begin-requires-clause-job
+begin-requires-clause-job g c =
+    root_begins c.args.self.now c.requires.fitted c.requires.quiet c.requires.root c.self.inside.code.now c.self.inside.places.items (g.P.Port.state c.self.inside.port) c.self.inside.seats.items c.self.inside.hands.items c.self.view_is c.index_mut.result.now c.index_mut.ensures.value c.take.result c.take.ensures.value c.in-Some.thread c.in-Some.is
+    c.args.packet.now.kind c.requires.job
 
 pub finish-requires-clause-begun : goal.finish-requires-clause-begun
 finish-requires-clause-begun g c κs within =
