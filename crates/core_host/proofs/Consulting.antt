@@ -50,7 +50,7 @@ jobs_more [] (i ∷ js) q j h g = absurd h
 jobs_more (p ∷ ps) [] q j h g = absurd h
 jobs_more (p ∷ ps) (i ∷ js) q j h g = (h.0, jobs_more ps js q j h.1 g)
 
-replies_more : (ps : List PlainPacket) (rs : List Reply) (q : PlainPacket) (r : Reply) → AreReplies ps rs → IsReply q r → AreReplies (ps ++ q ∷ []) (rs ++ r ∷ [])
+pub replies_more : (ps : List PlainPacket) (rs : List Reply) (q : PlainPacket) (r : Reply) → AreReplies ps rs → IsReply q r → AreReplies (ps ++ q ∷ []) (rs ++ r ∷ [])
 replies_more [] [] q r h g = (g, tt)
 replies_more [] (i ∷ rs) q r h g = absurd h
 replies_more (p ∷ ps) [] q r h g = absurd h
@@ -58,7 +58,7 @@ replies_more (p ∷ ps) (i ∷ rs) q r h g = (h.0, replies_more ps rs q r h.1 g)
 
 -- ---- one more pair
 
-jobs_first : {A : Type 0} → (test : Bool) (x : A) (l m k : List A) → l ≡ m ++ k → cond test (x ∷ l) l ≡ cond test (x ∷ m) m ++ k
+pub jobs_first : {A : Type 0} → (test : Bool) (x : A) (l m k : List A) → l ≡ m ++ k → cond test (x ∷ l) l ≡ cond test (x ∷ m) m ++ k
 jobs_first true x l m k e = ap (λ l. x ∷ l) e
 jobs_first false x l m k e = e
 
@@ -70,10 +70,10 @@ pub replies_then : (b : ℕ) (xs ys : List Answered) → replies_to b (xs ++ ys)
 replies_then b [] ys = refl
 replies_then b (x ∷ xs) ys = jobs_first (x.branch == b) x.reply _ _ _ (replies_then b xs ys)
 
-same_test : (a b : ℕ) → a ≡ b → (a == b) ≡ true
+pub same_test : (a b : ℕ) → a ≡ b → (a == b) ≡ true
 same_test a b h = grind (arith, nat_tests)
 
-other_test : (a b : ℕ) → a ≢ b → (a == b) ≡ false
+pub other_test : (a b : ℕ) → a ≢ b → (a == b) ≡ false
 other_test a b h = by_test (a == b) refl
   where
     is_it : (a b : ℕ) → (a == b) ≡ true → a ≡ b
@@ -83,7 +83,7 @@ other_test a b h = by_test (a == b) refl
     by_test true e = absurd (h (is_it a b e))
     by_test false e = refl
 
-allowed_more : (Sub : ℕ → List Job → Reply → Type 0) (past xs : List Answered) (x : Answered) → Allowed Sub past xs → Sub x.branch (jobs_to x.branch ((past ++ xs) ++ x ∷ [])) x.reply → Allowed Sub past (xs ++ x ∷ [])
+pub allowed_more : (Sub : ℕ → List Job → Reply → Type 0) (past xs : List Answered) (x : Answered) → Allowed Sub past xs → Sub x.branch (jobs_to x.branch ((past ++ xs) ++ x ∷ [])) x.reply → Allowed Sub past (xs ++ x ∷ [])
 allowed_more Sub past [] x h g = (subst (λ l. Sub x.branch (jobs_to x.branch (l ++ x ∷ [])) x.reply) (append-nil past) g, tt)
 allowed_more Sub past (y ∷ xs) x h g =
     (h.0, allowed_more Sub (past ++ y ∷ []) xs x h.1 (subst (λ l. Sub x.branch (jobs_to x.branch (l ++ x ∷ [])) x.reply) (sym (append_assoc past (y ∷ []) xs)) g))
@@ -186,8 +186,8 @@ module _ (s0 s1 s2 s3 : State) (t m : ℕ) (fitted : IsFitted s0) (inside : m < 
       let count3 = last_leaves.alike.count in
       let q0 = above j from (omega (arith, lt, count, count2, count3)) in
       let q1 = moved_quiet s0 s1 m sending j (λ e. omega (arith, e, less)) (other s0 mine j from) q0 in
-      let threads = fitted1.mailboxes in
-      let q2 = quiet_below s1 s2 m j fitted1 working less (omega (arith, less, inside, count, threads)) q1 in
+      let threads = fitted1.seated.mailboxes in
+      let q2 = quiet_below s1 s2 m j fitted1.seated working less (omega (arith, less, inside, count, threads)) q1 in
       moved_quiet s2 s3 m getting j (λ e. omega (arith, e, less)) (other s2 mine2 j from) q2)
       (λ e. subst (Quiet s3) (sym e) quiet_now)
       (λ more.

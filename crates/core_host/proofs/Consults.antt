@@ -15,15 +15,15 @@ use Rattle.copy_slots.specs.Ports.{parent_at, sent_by, sent}
 use Rattle.core_host.specs.Asking.{ArePaused}
 use Rattle.core_host.specs.Posts.{Mail, IsBranchOf}
 use Rattle.core_host.specs.Done.{Posts}
-use Rattle.core_host.specs.Keeping.{State, code_in, Leaves, IsFitted, Quiet, QuietAbove, MayAsk, IsJobFor, AtFork, CanSend, HasHeard, HaveHeard}
+use Rattle.core_host.specs.Keeping.{State, code_in, Leaves, IsSeated, IsFitted, HasPacket, LacksPacket, Quiet, QuietAbove, IsCalled, IsBack, MayAsk, IsJobFor, AtFork, CanSend, HasHeard, HaveHeard}
 use Rattle.core_host.specs.Moving.{Moves, HasSent, HasGot}
 use Rattle.core_host.specs.Consults.{Consulted}
 use Rattle.core_host.proofs.Mails.{some_once}
-use Rattle.core_host.proofs.Keep.{leaves_same, leaves_then, fitted_keeps, moved_quiet, parent_once}
-use Rattle.core_host.proofs.Send.{at_map}
+use Rattle.core_host.proofs.Keep.{leaves_same, leaves_then, seated_keeps, moved_seated, fitted_keeps, moved_quiet, parent_once}
+use Rattle.core_host.proofs.Send.{called_now, quiet_now, at_map}
 use Rattle.core_host.proofs.Consulting.{all_leaves, quiet_all, parent_else, hand_else, its_reply, heard_now, posts_now, pairs_more}
 
-no_pairs : (ws : List Written) → pair_up ws [] ≡ []
+pub no_pairs : (ws : List Written) → pair_up ws [] ≡ []
 no_pairs [] = refl
 no_pairs (w ∷ ws) = refl
 
@@ -43,7 +43,7 @@ consulted_none a h fork above = record {
     none_there zero r e = cc
     none_there (suc i) r e = cc
 
-may_keeps : (c : PlainCode) (m m' : Mail) (k : ℕ) (j : Job) → sent m' k ≡ sent m k → MayAsk c m k j → MayAsk c m' k j
+pub may_keeps : (c : PlainCode) (m m' : Mail) (k : ℕ) (j : Job) → sent m' k ≡ sent m k → MayAsk c m k j → MayAsk c m' k j
 may_keeps c m m' k (Start args values a) e h = tt
 may_keeps c m m' k (Wake values a) e h = subst (ArePaused c k) (sym e) h
 
@@ -89,7 +89,7 @@ module _ (a b : State) (h : Thread) (k number : ℕ) (fitted : IsFitted a) (fork
   inside_m =
       let e = m_is in
       let f = for_it.inside in
-      let n = fitted_b.mailboxes in
+      let n = fitted_b.seated.mailboxes in
       let same = ap (λ x. length (plain_code x).threads) done.leaves.code in omega (arith, e, f, n, same)
 
   pub can_send : CanSend b h k m
@@ -106,7 +106,13 @@ module _ (a b : State) (h : Thread) (k number : ℕ) (fitted : IsFitted a) (fork
   pub quiet_m : Quiet b m
   quiet_m = done.above m above_m inside_m
 
+  pub some_packet : HasPacket b m
+  some_packet = quiet_m.packet
+
   module _ (s1 : State) (sending : Moves m b s1) where
+    pub is_called : LacksPacket s1 m → ((w : Written) → slice_get (jobs_at (code_in b) h) k ≡ Some w → HasSent b s1 m w.job) → IsCalled s1 m
+    is_called lacks sent = called_now b s1 m fitted_b.seated inside_m quiet_m sending lacks can_send.job.job (sent can_send.job can_send.at)
+
     pub sent_above : QuietAbove s1 (suc m)
     sent_above j from lt =
         let count = sending.alike.count in
@@ -115,15 +121,21 @@ module _ (a b : State) (h : Thread) (k number : ℕ) (fitted : IsFitted a) (fork
         (done.above j (omega (arith, from, above_m)) (omega (arith, lt, count)))
 
     module _ (s2 s3 : State) (sent_now : (w : Written) → slice_get (jobs_at (code_in b) h) k ≡ Some w → HasSent b s1 m w.job) (working : Leaves (suc m) m s1 s2) (above_now : QuietAbove s2 (suc m))
-        (getting : Moves m s2 s3) (quiet_now : Quiet s3 m) (got_now : HasGot s2 s3 m) where
+        (back : IsBack s2 m) (getting : Moves m s2 s3) (got_now : HasGot s2 s3 m) where
       sent1 : HasSent b s1 m job.0.job
       sent1 = sent_now job.0 (subst (λ x. slice_get (jobs_at (plain_code x) h) k ≡ Some job.0) (sym done.leaves.code) job.1)
 
+      seated2 : IsSeated s2
+      seated2 = seated_keeps (suc m) m s1 s2 working (moved_seated b s1 m sending fitted_b.seated)
+
+      its_quiet : Quiet s3 m
+      its_quiet = quiet_now s2 s3 m seated2 (let x = inside_m in let y = sending.alike.count in let z = working.alike.count in omega (arith, x, y, z)) back getting got_now
+
       abbrev r : Reply
-      r = its_reply b s1 s2 s3 h.number m fitted_b inside_m mine_b above_m job.0.job done.above sending sent1 working above_now getting quiet_now got_now
+      r = its_reply b s1 s2 s3 h.number m fitted_b inside_m mine_b above_m job.0.job done.above sending sent1 working above_now getting its_quiet got_now
 
       leaves_b : Leaves h.number h.number b s3
-      leaves_b = all_leaves b s1 s2 s3 h.number m fitted_b inside_m mine_b above_m job.0.job done.above sending sent1 working above_now getting quiet_now got_now
+      leaves_b = all_leaves b s1 s2 s3 h.number m fitted_b inside_m mine_b above_m job.0.job done.above sending sent1 working above_now getting its_quiet got_now
 
       leaves_a : Leaves h.number h.number a s3
       leaves_a = leaves_then h.number h.number a b s3 done.leaves leaves_b
@@ -140,10 +152,10 @@ module _ (a b : State) (h : Thread) (k number : ℕ) (fitted : IsFitted a) (fork
       in_b j is = subst (λ x. IsBranchOf (plain_code x).shape h.number j) (sym done.leaves.code) is
 
       else_parent : (j : ℕ) → j ≢ m → IsBranchOf (code_in a).shape h.number j → parent_at s3.mail.ends j ≡ parent_at b.mail.ends j
-      else_parent j n is = parent_else b s1 s2 s3 h.number m fitted_b inside_m mine_b above_m job.0.job done.above sending sent1 working above_now getting quiet_now got_now j n (in_b j is)
+      else_parent j n is = parent_else b s1 s2 s3 h.number m fitted_b inside_m mine_b above_m job.0.job done.above sending sent1 working above_now getting its_quiet got_now j n (in_b j is)
 
       else_hand : (j : ℕ) → j ≢ m → IsBranchOf (code_in a).shape h.number j → slice_get s3.hands j ≡ slice_get b.hands j
-      else_hand j n is = hand_else b s1 s2 s3 h.number m fitted_b inside_m mine_b above_m job.0.job done.above sending sent1 working above_now getting quiet_now got_now j n (in_b j is)
+      else_hand j n is = hand_else b s1 s2 s3 h.number m fitted_b inside_m mine_b above_m job.0.job done.above sending sent1 working above_now getting its_quiet got_now j n (in_b j is)
 
       kept_heard : (i j : ℕ) (w : Written) (q : Reply) → i ≢ k → slice_get (jobs_at (code_in a) h) i ≡ Some w → HasHeard b w.branch q → HasHeard s3 w.branch q
       kept_heard i j w q n at' old =
@@ -172,7 +184,7 @@ module _ (a b : State) (h : Thread) (k number : ℕ) (fitted : IsFitted a) (fork
           (λ p. let same : i ≡ k = p.0 ∙ done.count in
           let branch : suc m ≡ n = sym is_suc ∙ some_once number n (sym at ∙ ap (λ z. slice_get h.branches.numbers z) (sym same) ∙ at') in
           subst (λ z. HasHeard s3 z q) branch (subst (HasHeard s3 (suc m)) (sym p.1)
-          (heard_now b s1 s2 s3 h.number m fitted_b inside_m mine_b above_m job.0.job done.above sending sent1 working above_now getting quiet_now got_now)))
+          (heard_now b s1 s2 s3 h.number m fitted_b inside_m mine_b above_m job.0.job done.above sending sent1 working above_now getting its_quiet got_now)))
           (λ old. let lt = slice_get_within done.replies i q old in
           let w = at_map (λ w. w.branch) (jobs_at (code_in a) h) i n (ap (λ l. slice_get l i) (sym fork.numbers) ∙ at') in
           subst (λ z. HasHeard s3 z q) w.2 (kept_heard i 0 w.0 q (λ e. omega (arith, e, lt, done.count)) w.1 (subst (λ z. HasHeard b z q) (sym w.2) (done.heard i n q at' old))))
@@ -186,14 +198,14 @@ module _ (a b : State) (h : Thread) (k number : ℕ) (fitted : IsFitted a) (fork
       consulted_more = record {
         within = let lt = slice_get_within h.branches.numbers k number at in omega (arith, lt);
         leaves = leaves_a;
-        above = quiet_all b s1 s2 s3 h.number m fitted_b inside_m mine_b above_m job.0.job done.above sending sent1 working above_now getting quiet_now got_now;
+        above = quiet_all b s1 s2 s3 h.number m fitted_b inside_m mine_b above_m job.0.job done.above sending sent1 working above_now getting its_quiet got_now;
         replies = done.replies ++ r ∷ [];
         count = count_then done.replies ∙ ap (λ n. n + 1) done.count;
         heard = more_heard;
         posts = λ pairs posts.
             let old = done.posts pairs posts in
             let all = pairs ++ pair_up (jobs_at (code_in a) h) done.replies in
-            let new = posts_now b s1 s2 s3 h.number m fitted_b inside_m mine_b above_m job.0.job done.above sending sent1 working above_now getting quiet_now got_now all
+            let new = posts_now b s1 s2 s3 h.number m fitted_b inside_m mine_b above_m job.0.job done.above sending sent1 working above_now getting its_quiet got_now all
             (subst (λ x. Posts (plain_code x) h.number b.mail all) (sym done.leaves.code) old) in
             let here = subst (λ x. Posts (plain_code x) h.number s3.mail (all ++ record { branch = suc m; job = job.0.job; reply = r } ∷ [])) done.leaves.code new in
             let named : all ++ record { branch = suc m; job = job.0.job; reply = r } ∷ [] ≡ pairs ++ pair_up (jobs_at (code_in a) h) (done.replies ++ r ∷ []) =

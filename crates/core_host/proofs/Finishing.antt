@@ -60,19 +60,19 @@ module _ (a b : State) (fitted : IsFitted a) (h0 h h1 : Thread) (number : h.numb
   now = job_runs (code_in b) h h1 b.mail jobs job n number1 stands1 (subst (λ x. Counted (plain_code x) h b.mail jobs job n) (sym leaves.code) i)
 
   pub at_fork : AtFork b h1
-  at_fork = fork_at b fitted_b h1 loaded1 settled numbers jobs job now.0
+  at_fork = fork_at b fitted_b.seated.valid h1 loaded1 settled numbers jobs job now.0
 
   pub some_at : 0 < length h1.branches.numbers
-  some_at = some_branches b fitted_b h1 loaded1 settled numbers jobs job now.0
+  some_at = some_branches (code_in b) fitted_b.seated.valid h1 loaded1 settled numbers jobs job now.0.log now.0.stands
 
   same_steps : length (block_of (code_in b) h1.number).steps ≡ length (block_of (code_in a) h0.number).steps
   same_steps = ap (λ x. length (block_of (plain_code x) h1.number).steps) leaves.code ∙ ap (λ t. length (block_of (code_in a) t).steps) (number1 ∙ number)
 
   pub bound : allowance_of job ≡ h0.allowance → n + 1 ≤ (length (block_of (code_in a) h0.number).steps + 2) * h0.allowance + (length (block_of (code_in a) h0.number).steps + 1)
   bound allow =
-      let within = units_within b fitted_b h1 loaded1 settled numbers jobs job now.0 in
-      let at = inside b fitted_b h1 loaded1 settled numbers jobs job now.0 in
-      let first = forks_bound b fitted_b h1 loaded1 settled numbers jobs job now.0 in
+      let within = units_within (code_in b) fitted_b.seated.valid h1 loaded1 settled numbers jobs job now.0.log now.0.stands in
+      let at = inside (code_in b) fitted_b.seated.valid h1 loaded1 settled numbers jobs job now.0.log now.0.stands in
+      let first = forks_bound (code_in b) fitted_b.seated.valid h1 loaded1 settled numbers jobs job now.0.log now.0.stands in
       let steps = length (block_of (code_in a) h0.number).steps in
       let named = subst (λ l. length now.0.log.before + 1 ≤ (l + 2) * units_of at.machine + (l + 1)) same_steps first in
       let more = times_grow (steps + 2) (units_of at.machine) h0.allowance (omega (arith, within, at.allowance, allow)) in
@@ -90,5 +90,5 @@ module _ (a b : State) (fitted : IsFitted a) (h0 h h1 : Thread) (number : h.numb
         let here = subst (λ x. StandsFor (plain_code x) h1 (with_replies xs [])) (sym leaves'.code) before in
         let after = joins xs (settles xs here) in
         let there = subst (λ x. StandsFor (plain_code x) h3 (with_replies xs rs)) leaves'.code after in
-        let j = in_job_now b fitted_b h1 loaded1 settled numbers jobs job now.0 h3 (number3 ∙ number2) b'.mail rs heard_all.count (posts (told (code_in b) h1.number jobs job l) now.0.posts) there in
+        let j = in_job_now (code_in b) fitted_b.seated.valid h1 loaded1 settled numbers jobs job now.0.log now.0.stands h3 (number3 ∙ number2) b'.mail rs heard_all.count (posts (told (code_in b) h1.number jobs job l) now.0.posts) there in
         subst (λ x. Counted (plain_code x) h3 b'.mail jobs job (n + 1)) leaves.code (j.0, j.1 ∙ ap (λ k. k + 1) now.1)

@@ -23,7 +23,8 @@ use Rattle.core_host.specs.Asking.{ArePaused}
 use Rattle.core_host.specs.Posts.{Mail, IsBranchOf, replies_to}
 use Rattle.core_host.specs.Writing.{Log, heard, told, Wrote}
 use Rattle.core_host.specs.Done.{Posts, InJob}
-use Rattle.core_host.specs.Keeping.{State, code_in, IsFitted, IsJobFor, MayAsk, AtFork}
+use Rattle.core_host.specs.Keeping.{State, code_in, IsJobFor, MayAsk, AtFork}
+use Rattle.core_host.specs.Waiting.{IsForked}
 use Rattle.core_host.proofs.Keep.{branch_above}
 use Rattle.core_host.proofs.Forking.{EndsPaused, WakesPaused, AllAbove, Rising, AllAre, IsMine, Fine}
 use Rattle.core_host.proofs.Follows.{Working, follows, wrote_of, wrote_once, wrote_count, went_join, forks_then}
@@ -221,22 +222,16 @@ in_job_by c h' m' jobs job t number =
     subst (λ n. (log : Log c n jobs job) → Posts c n m' (told c n jobs job log) → StandsFor c h' (heard c n jobs job log) → (j : InJob c h' m' jobs job) × (length j.log.before ≡ length log.before)) number
     (λ log posts stands. (record { log = log; stands = stands; posts = posts }, refl))
 
-module _ (s : State) (fitted : IsFitted s) (h : Thread) (loaded : Loaded (code_in s) h) (settled : HasSettled h 0) (numbers : h.branches.numbers ≡ map (λ w. w.branch) (jobs_at (code_in s) h)) (jobs : List Job) (job : Job)
-    (i : InJob (code_in s) h s.mail jobs job) where
-  abbrev c : PlainCode
-  c = code_in s
-
+module _ (c : PlainCode) (valid : IsValidCode c) (h : Thread) (loaded : Loaded c h) (settled : HasSettled h 0) (numbers : h.branches.numbers ≡ map (λ w. w.branch) (jobs_at c h)) (jobs : List Job) (job : Job)
+    (l : Log c h.number jobs job) (stands_before : StandsFor c h (heard c h.number jobs job l)) where
   abbrev t : ℕ
   t = h.number
 
   abbrev e : Engine Machine
   e = code_engine c t
 
-  abbrev l : Log c t jobs job
-  l = i.log
-
   pub inside : IsInside c h l.exchanges job l.before
-  inside = fork_in c h l.exchanges job l.before (heard c t jobs job l) i.stands refl settled
+  inside = fork_in c h l.exchanges job l.before (heard c t jobs job l) stands_before refl settled
 
   at : inside.machine ≡ machine_of c h
   at = fork_machine c h inside.machine inside.stands settled
@@ -256,8 +251,8 @@ module _ (s : State) (fitted : IsFitted s) (h : Thread) (loaded : Loaded (code_i
   ws_are : jobs_at c h ≡ map (written (h.allowance - h.units)) waits.seeds
   ws_are = ap (λ v. map (written (h.allowance - h.units)) (seeds_in v)) (ap view_of here ∙ waits.view)
 
-  working : Working c fitted.valid t loaded.thread l.exchanges job l.before inside.machine
-  working = follows c fitted.valid t loaded.thread l.exchanges (Inside job l.before inside.machine) inside.reached
+  working : Working c valid t loaded.thread l.exchanges job l.before inside.machine
+  working = follows c valid t loaded.thread l.exchanges (Inside job l.before inside.machine) inside.reached
 
   same_outputs : (working.outputs ≡ l.outputs) × (working.rest ≡ l.rest)
   same_outputs = alone_to_once Machine e (code_steady c t) l.exchanges Nothing working.rest l.rest working.outputs l.outputs working.alone l.alone
@@ -274,24 +269,23 @@ module _ (s : State) (fitted : IsFitted s) (h : Thread) (loaded : Loaded (code_i
   same_pairs : pair_all l.exchanges working.outputs ++ pair_forks working.forks l.before ≡ told c t jobs job l
   same_pairs = ap (λ os. pair_all l.exchanges os ++ pair_forks working.forks l.before) same_outputs.0 ∙ ap (λ fs. pair_all l.exchanges l.outputs ++ pair_forks fs l.before) same_forks
 
-  facts : ForkFacts c fitted.valid t loaded.thread (length l.before) (told c t jobs job l) inside.machine waits.seeds
+  facts : ForkFacts c valid t loaded.thread (length l.before) (told c t jobs job l) inside.machine waits.seeds
   facts =
-      subst (λ p. ForkFacts c fitted.valid t loaded.thread (length l.before) p inside.machine waits.seeds) same_pairs
-      (fork_facts c fitted.valid t loaded.thread (length l.before) (pair_all l.exchanges working.outputs ++ pair_forks working.forks l.before) inside.machine waits.seeds view
-      (reached_good c fitted.valid t loaded.thread l.exchanges (Inside job l.before inside.machine) inside.reached) working.fine)
+      subst (λ p. ForkFacts c valid t loaded.thread (length l.before) p inside.machine waits.seeds) same_pairs
+      (fork_facts c valid t loaded.thread (length l.before) (pair_all l.exchanges working.outputs ++ pair_forks working.forks l.before) inside.machine waits.seeds view
+      (reached_good c valid t loaded.thread l.exchanges (Inside job l.before inside.machine) inside.reached) working.fine)
 
   branches : map (λ w. w.branch) (jobs_at c h) ≡ map branch_of waits.seeds
   branches = ap (map (λ w. w.branch)) ws_are ∙ branches_written (h.allowance - h.units) waits.seeds
 
-  pub fork_at : AtFork s h
-  fork_at = record {
-    loaded = loaded;
-    settled = settled;
-    few = let n = few_of c t (map branch_of waits.seeds) facts.rising facts.mine in let m = ap length (numbers ∙ branches) in omega (arith, n, m, fitted.valid.shape.few_threads);
-    numbers = numbers;
-    order = λ a b v w less va wb. in_order (jobs_at c h) a b v w (subst Rising (sym branches) facts.rising) less va wb;
-    each = λ a w wa. each_job c fitted.valid t s.mail (told c t jobs job l) i.posts (h.allowance - h.units) waits.seeds a w facts.mine facts.wakes (ap (λ z. slice_get z a) (sym ws_are) ∙ wa);
-  }
+  pub few_branches : length h.branches.numbers ≤ 256
+  few_branches = let n = few_of c t (map branch_of waits.seeds) facts.rising facts.mine in let m = ap length (numbers ∙ branches) in omega (arith, n, m, valid.shape.few_threads)
+
+  pub its_order : (i j : ℕ) (v w : Written) → i < j → slice_get (jobs_at c h) i ≡ Some v → slice_get (jobs_at c h) j ≡ Some w → v.branch < w.branch
+  its_order i j v w less vi wj = in_order (jobs_at c h) i j v w (subst Rising (sym branches) facts.rising) less vi wj
+
+  pub its_jobs : (m : Mail) → Posts c t m (told c t jobs job l) → (i : ℕ) (w : Written) → slice_get (jobs_at c h) i ≡ Some w → IsJobFor c m t w
+  its_jobs m posts i w wi = each_job c valid t m (told c t jobs job l) posts (h.allowance - h.units) waits.seeds i w facts.mine facts.wakes (ap (λ z. slice_get z i) (sym ws_are) ∙ wi)
 
   pub some_branches : 0 < length h.branches.numbers
   some_branches = let n = some_of (map branch_of waits.seeds) facts.some in let m = ap length (numbers ∙ branches) in omega (arith, n, m)
@@ -354,3 +348,27 @@ module _ (s : State) (fitted : IsFitted s) (h : Thread) (loaded : Loaded (code_i
         one_longer : {A : Type 0} (xs : List A) (x : A) → length (xs ++ x ∷ []) ≡ length xs + 1
         one_longer [] x = refl
         one_longer (y ∷ xs) x = let ih = one_longer xs x in omega (arith, ih)
+
+-- ---- at a fork
+
+pub fork_at : (s : State) (valid : IsValidCode (code_in s)) (h : Thread) → Loaded (code_in s) h → HasSettled h 0 → h.branches.numbers ≡ map (λ w. w.branch) (jobs_at (code_in s) h) → (jobs : List Job) (job : Job) → InJob (code_in s) h s.mail jobs job → AtFork s h
+fork_at s valid h loaded settled numbers jobs job i = record {
+  loaded = loaded;
+  settled = settled;
+  few = few_branches (code_in s) valid h loaded settled numbers jobs job i.log i.stands;
+  numbers = numbers;
+  order = its_order (code_in s) valid h loaded settled numbers jobs job i.log i.stands;
+  each = its_jobs (code_in s) valid h loaded settled numbers jobs job i.log i.stands s.mail i.posts;
+}
+
+pub is_forked : (c : PlainCode) (valid : IsValidCode c) (h : Thread) → Loaded c h → HasSettled h 0 → h.branches.numbers ≡ map (λ w. w.branch) (jobs_at c h) → (m : Mail) (jobs : List Job) (job : Job) → InJob c h m jobs job → IsForked c h
+is_forked c valid h loaded settled numbers m jobs job i = record {
+  settled = settled;
+  some = some_branches c valid h loaded settled numbers jobs job i.log i.stands;
+  few = few_branches c valid h loaded settled numbers jobs job i.log i.stands;
+  numbers = numbers;
+  order = its_order c valid h loaded settled numbers jobs job i.log i.stands;
+  each = λ k w at.
+      let it = its_jobs c valid h loaded settled numbers jobs job i.log i.stands m i.posts k w at in
+      record { mailbox = it.mailbox; branch = it.branch; mine = it.mine; inside = it.inside; above = it.above };
+}

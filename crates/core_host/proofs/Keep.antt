@@ -13,13 +13,13 @@ use Rattle.core_machine.specs.Held.{Loaded}
 use Rattle.copy_slots.specs.declared.view.Place.TheVariants.{Fresh, Held}
 use Rattle.copy_slots.specs.declared.view.Sender.{Sender}
 use Rattle.copy_slots.specs.declared.view.Taker.{Taker}
-use Rattle.copy_slots.specs.Ports.{parent_at, child_at, sent_by, got_by, taken_by, answered_by, IsParent, IsChild, sent, got, taken, answered}
+use Rattle.copy_slots.specs.Ports.{parent_at, child_at, sent_by, got_by, taken_by, answered_by, words_of_parent, words_of_child, looked_by_parent, looked_by_child, IsParent, IsChild, ChildIs, sent, got, taken, answered}
 use Rattle.core_host.specs.Posts.{Mail, IsBranchOf, AreReplies, replies_to}
 use Rattle.core_host.specs.Changes.{Extends, Grown}
 use Rattle.core_host.specs.Done.{Posts, HasDone}
-use Rattle.core_host.specs.Keeping.{State, code_in, Leaves, IsFitted, LastReply, Idle, Ready, blank, reply, Quiet}
+use Rattle.core_host.specs.Keeping.{State, code_in, Alike, Leaves, IsSeated, IsFitted, LastReply, Idle, Ready, blank, reply, HasPacket, Quiet}
 use Rattle.core_host.specs.Moving.{Moves}
-use Rattle.core_host.proofs.Mails.{alike_then, extends_same}
+use Rattle.core_host.proofs.Mails.{by_equal, alike_then, extends_same, extends_then}
 
 -- ---- the tree of threads
 
@@ -65,10 +65,19 @@ done_keeps c h m m' jobs same d = record {
 
 -- ---- a thread and its mailbox
 
+-- what went through the child's end stays, and where the thread rests it still does
+pub record SameChild (k : ℕ) (a b : Mail) : Type 0 where
+  pub taken : taken b k ≡ taken a k
+  pub answered : answered b k ≡ answered a k
+  pub rests : ChildIs a k false → ChildIs b k false
+
+pub same_child : (k : ℕ) (a b : Mail) → child_at b.ends k ≡ child_at a.ends k → SameChild k a b
+same_child k a b e = record { taken = ap taken_by e; answered = ap answered_by e; rests = subst (λ (o : Option (Taker PlainPacket)). IsChild o false) (sym e) }
+
 pub record SameThread (k : ℕ) (a b : State) : Type 0 where
   pub code : b.code ≡ a.code
   pub seat : slice_get b.seats (suc k) ≡ slice_get a.seats (suc k)
-  pub child : child_at b.mail.ends k ≡ child_at a.mail.ends k
+  pub child : SameChild k a.mail b.mail
   pub branches : (j : ℕ) → IsBranchOf (code_in a).shape (suc k) j → parent_at b.mail.ends j ≡ parent_at a.mail.ends j
 
 pub record SameParent (k : ℕ) (a b : State) : Type 0 where
@@ -78,7 +87,7 @@ pub record SameParent (k : ℕ) (a b : State) : Type 0 where
 
 pub idle_keeps : (k : ℕ) (a b : State) → SameThread k a b → Idle a k → Idle b k
 idle_keeps k a b s i =
-    let same_taken : taken b.mail k ≡ taken a.mail k = ap taken_by s.child in
+    let same_taken = s.child.taken in
     let number = i.sits.number in
     record {
       thread = i.thread;
@@ -89,14 +98,15 @@ idle_keeps k a b s i =
         loaded = subst (λ x. Loaded (plain_code x) i.thread) (sym s.code) i.sits.loaded;
         number = number;
       };
+      free = i.free;
       resting = i.resting;
-      child = subst (λ (o : Option (Taker PlainPacket)). IsChild o false) (sym s.child) i.child;
+      child = s.child.rests i.child;
       jobs = i.jobs;
       are = subst (λ l. AreJobs l i.jobs) (sym same_taken) i.are;
       done = subst (λ x. HasDone (plain_code x) i.thread b.mail i.jobs) (sym s.code)
           (done_keeps (code_in a) i.thread a.mail b.mail i.jobs (λ j mine. s.branches j (subst (λ n. IsBranchOf (code_in a).shape n j) number mine)) i.done);
       last = subst (λ x. LastReply (plain_code x) k (taken b.mail k) i.thread) (sym s.code) (subst (λ l. LastReply (code_in a) k l i.thread) (sym same_taken) i.last);
-      even = ap length (ap answered_by s.child) ∙ i.even ∙ ap length (sym same_taken);
+      even = ap length s.child.answered ∙ i.even ∙ ap length (sym same_taken);
     }
 
 ready_keeps : (k : ℕ) (a b : State) → b.code ≡ a.code → SameParent k a b → (h : Option Packet) → Ready a k h → Ready b k h
@@ -107,13 +117,14 @@ ready_keeps k a b code s h (reply held p room) =
     reply (subst (λ (o : Option (Sender PlainPacket)). IsParent o Held) (sym s.parent) held) p
     (subst (λ x. HasRoom (of_shape (plain_code x).shape) (suc k) (plain_packet p)) (sym code) room)
 
+pub packet_keeps : (k : ℕ) (a b : State) → b.code ≡ a.code → SameParent k a b → HasPacket a k → HasPacket b k
+packet_keeps k a b code s h = record { hand = h.hand; at = s.hand ∙ h.at; ready = ready_keeps k a b code s h.hand h.ready }
+
 pub quiet_keeps : (k : ℕ) (a b : State) → SameThread k a b → SameParent k a b → Quiet a k → Quiet b k
 quiet_keeps k a b s t q = record {
   idle = idle_keeps k a b s q.idle;
-  all = ap taken_by s.child ∙ q.all ∙ sym (ap sent_by t.parent);
-  hand = q.hand;
-  at = t.hand ∙ q.at;
-  ready = ready_keeps k a b s.code t q.hand q.ready;
+  all = s.child.taken ∙ q.all ∙ sym (ap sent_by t.parent);
+  packet = packet_keeps k a b s.code t q.packet;
 }
 
 -- ---- changes of one parent's end
@@ -123,7 +134,7 @@ module _ (a b : State) (k : ℕ) (moves : Moves k a b) where
   moved_thread j other = record {
     code = moves.code;
     seat = ap (λ l. slice_get l (suc j)) moves.seats;
-    child = moves.children j;
+    child = same_child j a.mail b.mail (moves.children j);
     branches = λ i mine. moves.parents i (λ e. other (subst (λ n. IsBranchOf (code_in a).shape (suc j) n) e mine));
   }
 
@@ -142,22 +153,14 @@ module _ (a b : State) (k : ℕ) (moves : Moves k a b) where
     got = λ j. by_test j (λ n. extends_same (got a.mail j) (got b.mail j) (ap got_by (moves.parents j n))) (λ e. subst (λ n. Extends (got a.mail n) (got b.mail n)) (sym e) g);
     taken = λ j. extends_same (taken a.mail j) (taken b.mail j) (ap taken_by (moves.children j));
     answered = λ j. extends_same (answered a.mail j) (answered b.mail j) (ap answered_by (moves.children j));
+    looked_by_parent = λ j.
+        by_test j (λ n. extends_same (looked_by_parent a.mail j) (looked_by_parent b.mail j) (ap words_of_parent (moves.parents j n)))
+        (λ e. subst (λ n. Extends (looked_by_parent a.mail n) (looked_by_parent b.mail n)) (sym e) moves.looked);
+    looked_by_child = λ j. extends_same (looked_by_child a.mail j) (looked_by_child b.mail j) (ap words_of_child (moves.children j));
   }
     where
-      equal_or : (i j : ℕ) {A : Type 0} → (i ≢ j → A) → (i ≡ j → A) → A
-      equal_or zero zero f g = g refl
-      equal_or zero (suc j) f g = f (λ e. zero_suc j e)
-        where
-          zero_suc : (j : ℕ) → zero ≡ suc j → ⊥
-          zero_suc j e = cc
-      equal_or (suc i) zero f g = f (λ e. suc_zero i e)
-        where
-          suc_zero : (i : ℕ) → suc i ≡ zero → ⊥
-          suc_zero i e = cc
-      equal_or (suc i) (suc j) f g = equal_or i j (λ n. f (λ e. n (omega (arith, e)))) (λ e. g (ap suc e))
-
       by_test : (j : ℕ) {A : Type 0} → (j ≢ k → A) → (j ≡ k → A) → A
-      by_test j f g = equal_or j k f g
+      by_test j f g = by_equal j k f g
 
   pub moved_leaves : (p t u : ℕ) → IsBranchOf (code_in a).shape p k → t ≤ p → Grown a.mail b.mail → Leaves t u a b
   moved_leaves p t u mine le grown = record {
@@ -179,15 +182,14 @@ module _ (a b : State) (k : ℕ) (moves : Moves k a b) where
 
 -- ---- changes above a thread
 
-extends_then : {A : Type 0} (l m n : List A) → Extends l m → Extends m n → Extends l n
-extends_then l m n h g = record { more = h.more ++ g.more; is = g.is ∙ ap (λ x. x ++ g.more) h.is ∙ append_assoc l h.more g.more }
-
 pub grown_then : (a b c : Mail) → Grown a b → Grown b c → Grown a c
 grown_then a b c h g = record {
   sent = λ k. extends_then _ _ _ (h.sent k) (g.sent k);
   got = λ k. extends_then _ _ _ (h.got k) (g.got k);
   taken = λ k. extends_then _ _ _ (h.taken k) (g.taken k);
   answered = λ k. extends_then _ _ _ (h.answered k) (g.answered k);
+  looked_by_parent = λ k. extends_then _ _ _ (h.looked_by_parent k) (g.looked_by_parent k);
+  looked_by_child = λ k. extends_then _ _ _ (h.looked_by_child k) (g.looked_by_child k);
 }
 
 pub grown_same : (a : Mail) → Grown a a
@@ -196,6 +198,8 @@ grown_same a = record {
   got = λ k. extends_same _ _ refl;
   taken = λ k. extends_same _ _ refl;
   answered = λ k. extends_same _ _ refl;
+  looked_by_parent = λ k. extends_same _ _ refl;
+  looked_by_child = λ k. extends_same _ _ refl;
 }
 
 pub leaves_same : (t u : ℕ) (a : State) → Leaves t u a a
@@ -240,25 +244,33 @@ leaves_less t u t' u' a b le le' h = record {
   children = λ k lt. h.children k (omega (arith, lt, le'));
 }
 
-pub fitted_keeps : (t u : ℕ) (a b : State) → Leaves t u a b → IsFitted a → IsFitted b
-fitted_keeps t u a b h f =
-    let count = ap (λ x. length (plain_code x).threads) h.code in
+pub seated_by : (a b : State) → b.code ≡ a.code → b.places ≡ a.places → Alike a.mail b.mail → length b.seats ≡ length a.seats → length b.hands ≡ length a.hands → IsSeated a → IsSeated b
+seated_by a b code places alike seats hands f =
+    let count = ap (λ x. length (plain_code x).threads) code in
     record {
-      valid = subst (λ x. IsValidCode (plain_code x)) (sym h.code) f.valid;
-      work = ap (λ w. w.code.value) h.alike.work ∙ f.work ∙ sym h.code;
-      tells = h.alike.tells ∙ f.tells;
-      mailboxes = ap suc h.alike.count ∙ f.mailboxes ∙ sym count;
-      seats = h.seat_count ∙ f.seats ∙ sym count;
-      hands = ap suc h.hand_count ∙ f.hands ∙ sym count;
-      places = ap length h.places ∙ f.places ∙ sym count;
+      valid = subst (λ x. IsValidCode (plain_code x)) (sym code) f.valid;
+      work = ap (λ w. w.code.value) alike.work ∙ f.work ∙ sym code;
+      mailboxes = ap suc alike.count ∙ f.mailboxes ∙ sym count;
+      seats = seats ∙ f.seats ∙ sym count;
+      hands = ap suc hands ∙ f.hands ∙ sym count;
+      places = ap length places ∙ f.places ∙ sym count;
     }
 
+pub seated_keeps : (t u : ℕ) (a b : State) → Leaves t u a b → IsSeated a → IsSeated b
+seated_keeps t u a b h f = seated_by a b h.code h.places h.alike h.seat_count h.hand_count f
+
+pub moved_seated : (a b : State) (k : ℕ) → Moves k a b → IsSeated a → IsSeated b
+moved_seated a b k h f = seated_by a b h.code h.places h.alike (ap length h.seats) h.hand_count f
+
+pub fitted_keeps : (t u : ℕ) (a b : State) → Leaves t u a b → IsFitted a → IsFitted b
+fitted_keeps t u a b h f = record { seated = seated_keeps t u a b h f.seated; tells = h.alike.tells ∙ f.tells }
+
 -- a mailbox below the change stays quiet
-pub quiet_below : (a b : State) (m j : ℕ) → IsFitted a → Leaves (suc m) m a b → j < m → suc j < length (code_in a).threads → Quiet a j → Quiet b j
+pub quiet_below : (a b : State) (m j : ℕ) → IsSeated a → Leaves (suc m) m a b → j < m → suc j < length (code_in a).threads → Quiet a j → Quiet b j
 quiet_below a b m j f h lt inside q =
     let up = has_parent (code_in a) f.valid j inside in
     let low = branch_above (code_in a) f.valid up.0 j inside up.1 in
     quiet_keeps j a b
-    (record { code = h.code; seat = h.seats (suc j) (omega (arith, lt)); child = h.children j lt; branches = λ i mine. h.parents i (suc j) mine (omega (arith, lt)) })
+    (record { code = h.code; seat = h.seats (suc j) (omega (arith, lt)); child = same_child j a.mail b.mail (h.children j lt); branches = λ i mine. h.parents i (suc j) mine (omega (arith, lt)) })
     (record { parent = h.parents j up.0 up.1 (omega (arith, low, lt)); hand = h.hands j up.0 up.1 (omega (arith, low, lt)); blanks = h.alike.blanks })
     q

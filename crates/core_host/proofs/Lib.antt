@@ -18,6 +18,15 @@ pub mod Forked
 pub mod Finishing
 pub mod Desks
 pub mod Rooted
+pub mod Telling
+pub mod Waits
+pub mod Tells
+pub mod Gathers
+pub mod Advancing
+pub mod Beginning
+pub mod Resuming
+pub mod Serves
+pub mod Hosting
 pub mod Ticked
 pub mod Ticking
 pub mod Loading

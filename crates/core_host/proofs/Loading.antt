@@ -4,7 +4,8 @@ use Rattle.std.specs.Prelude.{slice_get, get_or, All, ◌⊎◌}
 use Rattle.std.proofs.lemmas.Bool.{cases_lt}
 use Rattle.std.proofs.lemmas.Bool.Decides.{nat_tests}
 use Rattle.forec_kernel.specs.Combining.{contains}
-use Rattle.core_host.proofs.Mails.{some_once}
+use Rattle.core_host.specs.Loads.{is_on, AreOwn}
+use Rattle.core_host.proofs.Mails.{by_equal, some_once}
 use Rattle.core_host.proofs.Hearing.{take_more, take_all}
 
 pub get_then : {A : Type 0} (l : List A) (x : A) (i : ℕ) (y : A) → slice_get (l ++ x ∷ []) i ≡ Some y → ((i ≡ length l) × (y ≡ x)) ⊎ (slice_get l i ≡ Some y)
@@ -70,3 +71,38 @@ contains_at v (y ∷ l) (suc i) e = ap (λ b. cond (y == v) true b) (contains_at
     either : (t : Bool) → cond t true true ≡ true
     either true = refl
     either false = refl
+
+contains_front : (v : ℕ) (l : List ℕ) (x : ℕ) → contains v l ≡ true → contains v (l ++ x ∷ []) ≡ true
+contains_front v [] x h = cc
+contains_front v (y ∷ l) x h = pick (y == v) h (contains_front v l x)
+  where
+    pick : (t : Bool) → cond t true (contains v l) ≡ true → (contains v l ≡ true → contains v (l ++ x ∷ []) ≡ true) → cond t true (contains v (l ++ x ∷ [])) ≡ true
+    pick true h ih = refl
+    pick false h ih = ih h
+
+contains_last : (v : ℕ) (l : List ℕ) → contains v (l ++ v ∷ []) ≡ true
+contains_last v [] = ap (λ b. cond b true false) (same_it v)
+contains_last v (y ∷ l) = ap (λ b. cond (y == v) true b) (contains_last v l) ∙ either (y == v)
+  where
+    either : (t : Bool) → cond t true true ≡ true
+    either true = refl
+    either false = refl
+
+-- of the first n mailboxes, these are those of the threads on these cores
+pub record OwnBelow (places cores own : List ℕ) (n : ℕ) : Type 0 where
+  pub here : (i k : ℕ) → slice_get own i ≡ Some k → (suc k < length places) × (is_on places cores (suc k) ≡ true)
+  pub all : (k : ℕ) → k < n → is_on places cores (suc k) ≡ true → contains k own ≡ true
+
+pub own_step : (places cores own : List ℕ) (n : ℕ) → OwnBelow places cores own n → n + 1 < length places → (b : Bool) → b ≡ is_on places cores (suc n) → OwnBelow places cores (cond b (own ++ n ∷ []) own) (n + 1)
+own_step places cores own n h lt true e = record {
+  here = λ i k at.
+      ⊎_elim (λ p. subst (λ j. (suc j < length places) × (is_on places cores (suc j) ≡ true)) (sym p.1) (omega (arith, lt), sym e)) (λ old. h.here i k old) (get_then own n i k at);
+  all = λ k less on. by_equal k n (λ other. contains_front k own n (h.all k (omega (arith, less, other)) on)) (λ same. subst (λ j. contains j (own ++ n ∷ []) ≡ true) (sym same) (contains_last n own));
+}
+own_step places cores own n h lt false e = record {
+  here = h.here;
+  all = λ k less on. by_equal k n (λ other. h.all k (omega (arith, less, other)) on) (λ same. let no = e ∙ ap (λ j. is_on places cores (suc j)) (sym same) ∙ on in cc);
+}
+
+pub own_all : (places cores own : List ℕ) (n : ℕ) → OwnBelow places cores own n → length places ≤ n + 1 → AreOwn places cores own
+own_all places cores own n h le = record { here = h.here; all = λ k lt on. h.all k (omega (arith, lt, le)) on }

@@ -1,5 +1,5 @@
 -- What one call of a port leaves of a host's state.
-use Rattle.std.proofs.Common.{◌≡◌, ◌≢◌, ℕ, zero, suc, ◌<◌, Bool, Option, Some, None, List, [], ◌∷◌, ◌++◌, length, refl, sym, ap, ◌∙◌, subst, append-nil, arith}
+use Rattle.std.proofs.Common.{◌≡◌, ◌≢◌, ℕ, zero, suc, ◌<◌, Bool, Option, Some, None, List, [], ◌∷◌, ◌++◌, length, refl, sym, ap, ◌∙◌, subst, append_assoc, append-nil, arith}
 use Rattle.std.specs.Prelude.{slice_get, slice_set, slice_index_or}
 use Rattle.std.proofs.lemmas.List.{length-set}
 use Rattle.std.proofs.lemmas.Option.{get_or_from_slice_get}
@@ -13,12 +13,12 @@ use Rattle.copy_slots.specs.declared.view.Place.TheVariants.{Fresh, Held}
 use Rattle.copy_slots.specs.declared.view.Sender.{Sender}
 use Rattle.copy_slots.specs.declared.view.Taker.{Taker}
 use Rattle.copy_slots.specs.Mail.{sender_opened}
-use Rattle.copy_slots.specs.Ports.{Ends, parent_at, child_at, on_sender, on_taker, on_parent, on_child, sent_by, got_by, IsParent, IsChild, ParentIs, sent, got}
+use Rattle.copy_slots.specs.Ports.{Ends, parent_at, child_at, on_sender, on_taker, on_parent, on_child, sent_by, got_by, words_of_parent, looked_by_parent, IsParent, IsChild, ParentIs, sent, got}
 use Rattle.thread_code.specs.declared.instruction.CodeParts.{CodeParts}
 use Rattle.core_host.specs.declared.seat.Seat.{Seat}
 use Rattle.core_host.specs.Posts.{Mail}
 use Rattle.core_host.specs.Changes.{Extends}
-use Rattle.core_host.specs.Keeping.{State, code_in, Alike, IsFitted, Ready, blank, reply, Quiet}
+use Rattle.core_host.specs.Keeping.{State, code_in, Alike, IsSeated, Ready, blank, reply, HasPacket}
 use Rattle.core_host.specs.Moving.{Moves}
 
 abbrev pub state : CodeParts → List ℕ → Mail → List Seat → List (Option Packet) → State
@@ -100,10 +100,19 @@ module _ {Q : Type 0} where
   is_child None b h = absurd h
   is_child (Some y) b h = (y, refl, h)
 
+pub by_equal : (i j : ℕ) {A : Type 0} → (i ≢ j → A) → (i ≡ j → A) → A
+by_equal zero zero f g = g refl
+by_equal zero (suc j) f g = f (λ e. omega (arith, e))
+by_equal (suc i) zero f g = f (λ e. omega (arith, e))
+by_equal (suc i) (suc j) f g = by_equal i j (λ n. f (λ e. n (omega (arith, e)))) (λ e. g (ap suc e))
+
 -- ---- growing
 
 pub extends_same : {A : Type 0} (l m : List A) → m ≡ l → Extends l m
 extends_same l m e = record { more = []; is = e ∙ sym (append-nil l) }
+
+pub extends_then : {A : Type 0} (l m n : List A) → Extends l m → Extends m n → Extends l n
+extends_then l m n h g = record { more = h.more ++ g.more; is = g.is ∙ ap (λ x. x ++ g.more) h.is ∙ append_assoc l h.more g.more }
 
 pub extends_one : {A : Type 0} (l m : List A) (a : A) → m ≡ l ++ a ∷ [] → Extends l m
 extends_one l m a e = record { more = a ∷ []; is = e }
@@ -114,13 +123,18 @@ module _ (s : State) (k : ℕ) (f : Sender PlainPacket → Sender PlainPacket) (
   abbrev pub with_parent : State
   with_parent = record s { mail = record s.mail { ends = on_parent s.mail.ends k f }; hands = hands }
 
-  pub moves_parent : ((j : ℕ) → j ≢ k → slice_get hands j ≡ slice_get s.hands j) → length hands ≡ length s.hands → Moves k s with_parent
-  moves_parent else count = record {
+  looks_on : ((x : Sender PlainPacket) → Extends x.looked (f x).looked) → (o : Option (Sender PlainPacket)) → Extends (words_of_parent o) (words_of_parent (on_sender f o))
+  looks_on look None = extends_same [] [] refl
+  looks_on look (Some x) = look x
+
+  pub moves_parent : ((x : Sender PlainPacket) → Extends x.looked (f x).looked) → ((j : ℕ) → j ≢ k → slice_get hands j ≡ slice_get s.hands j) → length hands ≡ length s.hands → Moves k s with_parent
+  moves_parent look else count = record {
     code = refl;
     places = refl;
     seats = refl;
     alike = record { work = refl; blanks = refl; tells = refl; root = refl; count = parents_count s.mail.ends k f };
     parents = λ j n. parent_else s.mail.ends k j f n;
+    looked = subst (λ o. Extends (looked_by_parent s.mail k) (words_of_parent o)) (sym (parent_here s.mail.ends k f)) (looks_on look (parent_at s.mail.ends k));
     children = λ j. child_on_parent s.mail.ends k j f;
     hands = else;
     hand_count = count;
@@ -155,6 +169,7 @@ moves_then k a b c h g = record {
   seats = g.seats ∙ h.seats;
   alike = alike_then a.mail b.mail c.mail h.alike g.alike;
   parents = λ j n. g.parents j n ∙ h.parents j n;
+  looked = extends_then _ _ _ h.looked g.looked;
   children = λ j. g.children j ∙ h.children j;
   hands = λ j n. g.hands j n ∙ h.hands j n;
   hand_count = g.hand_count ∙ h.hand_count;
@@ -162,25 +177,45 @@ moves_then k a b c h g = record {
 
 -- ---- the packet of a mailbox
 
-module _ (s : State) (k : ℕ) (fitted : IsFitted s) (inside : k < length s.mail.ends) (quiet : Quiet s k) where
+-- where it was taken out of its parent's hand
+abbrev pub handed : State → ℕ → State
+handed s k = record s { hands = slice_set s.hands k None }
+
+pub handed_moves : (s : State) (k : ℕ) → Moves k s (handed s k)
+handed_moves s k = record {
+  code = refl;
+  places = refl;
+  seats = refl;
+  alike = record { work = refl; blanks = refl; tells = refl; root = refl; count = refl };
+  parents = λ j n. refl;
+  looked = extends_same _ _ refl;
+  children = λ j. refl;
+  hands = λ j n. get_set_else s.hands k j None n;
+  hand_count = length-set s.hands k None;
+}
+
+module _ (s : State) (k : ℕ) (seated : IsSeated s) (inside : k < length s.mail.ends) (has : HasPacket s k) where
   in_hands : k < length s.hands
-  in_hands = omega (arith, inside, fitted.mailboxes, fitted.hands)
+  in_hands = omega (arith, inside, seated.mailboxes, seated.hands)
 
   emptied_else : (j : ℕ) → j ≢ k → slice_get (slice_set s.hands k None) j ≡ slice_get s.hands j
   emptied_else j n = get_set_else s.hands k j None n
 
-  hand_is : (d : Option Packet) → slice_index_or s.hands k d ≡ quiet.hand
-  hand_is d = get_or_from_slice_get s.hands k quiet.hand d quiet.at
+  hand_is : (d : Option Packet) → slice_index_or s.hands k d ≡ has.hand
+  hand_is d = get_or_from_slice_get s.hands k has.hand d has.at
+
+  pub handed_empty : slice_get (slice_set s.hands k None) k ≡ Some None
+  handed_empty = get_set s.hands k None in_hands
 
   pub reply_room : (p : Packet) (d : Option Packet) → d ≡ slice_index_or s.hands k d → d ≡ Some p → HasRoom (of_shape (code_in s).shape) (suc k) (plain_packet p)
-  reply_room p d e is = pick quiet.hand quiet.ready (sym (hand_is d) ∙ sym e ∙ is)
+  reply_room p d e is = pick has.hand has.ready (sym (hand_is d) ∙ sym e ∙ is)
     where
       pick : (h : Option Packet) → Ready s k h → h ≡ Some p → HasRoom (of_shape (code_in s).shape) (suc k) (plain_packet p)
       pick None r q = cc
       pick (Some x) (reply held y room) q = subst (λ z. HasRoom (of_shape (code_in s).shape) (suc k) (plain_packet z)) (some_once x p q) room
 
   pub reply_held : (p : Packet) (d : Option Packet) → d ≡ slice_index_or s.hands k d → d ≡ Some p → ParentIs s.mail k Held
-  reply_held p d e is = pick quiet.hand quiet.ready (sym (hand_is d) ∙ sym e ∙ is)
+  reply_held p d e is = pick has.hand has.ready (sym (hand_is d) ∙ sym e ∙ is)
     where
       pick : (h : Option Packet) → Ready s k h → h ≡ Some p → ParentIs s.mail k Held
       pick None r q = cc
@@ -194,7 +229,7 @@ module _ (s : State) (k : ℕ) (fitted : IsFitted s) (inside : k < length s.mail
       pub room : HasRoom (of_shape (code_in s).shape) (suc k) q
 
     pub is_blank : IsBlank
-    is_blank = pick quiet.hand quiet.ready (sym (hand_is d) ∙ sym e ∙ nothing)
+    is_blank = pick has.hand has.ready (sym (hand_is d) ∙ sym e ∙ nothing)
       where
         pick : (h : Option Packet) → Ready s k h → h ≡ None → IsBlank
         pick None (blank fresh q at room) n = record { fresh = fresh; q = q; at = at; room = room }
@@ -207,7 +242,7 @@ module _ (s : State) (k : ℕ) (fitted : IsFitted s) (inside : k < length s.mail
     opened = with_parent s k sender_opened (slice_set s.hands k None)
 
     pub opened_moves : Moves k s opened
-    opened_moves = moves_parent s k sender_opened (slice_set s.hands k None) emptied_else (length-set s.hands k None)
+    opened_moves = moves_parent s k sender_opened (slice_set s.hands k None) (λ x. extends_one x.looked _ 0 refl) emptied_else (length-set s.hands k None)
 
     pub opened_held : ParentIs opened.mail k Held
     opened_held = place_now s k sender_opened (slice_set s.hands k None) sender.0 sender.1

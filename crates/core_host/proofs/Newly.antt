@@ -22,7 +22,8 @@ use Rattle.core_host.specs.declared.seat.Seat.{Seat}
 use Rattle.core_host.specs.Posts.{Mail, IsBranchOf, AreReplies}
 use Rattle.core_host.specs.Loads.{is_on, IsNewParent, IsNewChild, ArePlaced, CanLoad, AreAll, IsNewSeat, contains_core}
 use Rattle.core_host.specs.Done.{HasDone}
-use Rattle.core_host.specs.Keeping.{State, Sits, Idle, none, blank, Quiet}
+use Rattle.core_host.specs.Keeping.{State, Sits, Idle, none, blank, HasPacket, Quiet}
+use Rattle.core_host.specs.Waiting.{HasChild, IsBetween, rests}
 use Rattle.core_host.specs.Hosted.{Hosted, hosted, is_here, IsWhole}
 use Rattle.core_host.specs.Rests.{IsReady, IsHosted}
 use Rattle.core_host.specs.Runs.{HasJobs}
@@ -44,10 +45,10 @@ child_new true (Some y) h e = h
 child_new true None h e = absurd h
 child_new false o h e = cc
 
-child_there : (b : Bool) (o : Option (Taker PlainPacket)) → IsNewChild b o → IsChild o false → b ≡ true
-child_there true o h c = refl
-child_there false None h c = absurd c
-child_there false (Some y) h c = absurd h
+child_there : (b : Bool) (o : Option (Taker PlainPacket)) (x : Bool) → IsNewChild b o → IsChild o x → b ≡ true
+child_there true o x h c = refl
+child_there false None x h c = absurd c
+child_there false (Some y) x h c = absurd h
 
 -- nothing was sent or got at the ends of a thread's branches
 no_sent : (b : Bool) (o : Option (Sender PlainPacket)) → IsNewParent b o → (sent_by o ≡ []) × (got_by o ≡ [])
@@ -82,6 +83,7 @@ module _ (code : CodeParts) (valid : IsValidCode (plain_code code)) (placement :
   pub record NewThread (t : ℕ) : Type 0 where
     pub thread : Thread
     pub sits : Sits st t thread
+    pub free : sits.seat.job ≡ None
     pub resting : IsResting thread
     pub stands : StandsFor (plain_code code) thread []
 
@@ -92,6 +94,7 @@ module _ (code : CodeParts) (valid : IsValidCode (plain_code code)) (placement :
       record {
         thread = l.thread;
         sits = record { seat = s.0; at = s.1; is = l.is; loaded = l.loaded; number = l.number };
+        free = s.2.job;
         resting = l.resting;
         stands = l.stands;
       }
@@ -127,6 +130,7 @@ module _ (code : CodeParts) (valid : IsValidCode (plain_code code)) (placement :
       record {
         thread = n.thread;
         sits = n.sits;
+        free = n.free;
         resting = n.resting;
         child = c.0;
         jobs = [];
@@ -136,6 +140,15 @@ module _ (code : CodeParts) (valid : IsValidCode (plain_code code)) (placement :
         even = ap length c.2 ∙ ap length (sym c.1);
       }
 
+  new_packet : (t k : ℕ) → k < length mail.ends → IsBranchOf (plain_code code).shape t k → on t ≡ true → HasPacket st k
+  new_packet t k lt mine here =
+      let p = parent_new (on t) (parent_at mail.ends k) (can.parents placed k t lt mine) here in
+      let b = can.blanks k lt in
+      let h = get_or hands k None in
+      let at : slice_get hands k ≡ Some h = slice_get-get_or hands k None (omega (arith, lt, can.mailboxes, hand_count)) in
+      let nothing : h ≡ None = empty k h at in
+      record { hand = None; at = at ∙ ap Some nothing; ready = blank p.0 b.blank b.is b.room }
+
   new_quiet : IsWhole new_host → (k : ℕ) → k < length mail.ends → Quiet st k
   new_quiet whole k lt =
       let here = whole.all (suc k) (in_threads k lt) in
@@ -143,17 +156,12 @@ module _ (code : CodeParts) (valid : IsValidCode (plain_code code)) (placement :
       let c = child_new (on (suc k)) (child_at mail.ends k) (can.children placed k lt) here in
       let up_lt : up.0 < length (plain_code code).threads = let less = branch_above (plain_code code) valid up.0 k (in_threads k lt) up.1 in let n = in_threads k lt in omega (arith, less, n) in
       let p = parent_new (on up.0) (parent_at mail.ends k) (can.parents placed k up.0 lt up.1) (whole.all up.0 up_lt) in
-      let b = can.blanks k lt in
-      let h = get_or hands k None in
-      let at : slice_get hands k ≡ Some h = slice_get-get_or hands k None (omega (arith, lt, can.mailboxes, hand_count)) in
-      let nothing : h ≡ None = empty k h at in
-      record {
-        idle = new_idle k lt here;
-        all = c.1 ∙ sym p.1;
-        hand = None;
-        at = at ∙ ap Some nothing;
-        ready = blank p.0 b.blank b.is b.room;
-      }
+      record { idle = new_idle k lt here; all = c.1 ∙ sym p.1; packet = new_packet up.0 k lt up.1 (whole.all up.0 up_lt) }
+
+  new_between : (k : ℕ) → k < length mail.ends → HasChild mail k → IsBetween st k
+  new_between k lt there =
+      let here = child_there (on (suc k)) (child_at mail.ends k) there.0 (can.children placed k lt) there.1 in
+      rests (record { idle = new_idle k lt here; has = λ j less mine. new_packet (suc k) j less mine here })
 
   pub new_hosted : IsHosted new_host
   new_hosted = record {
@@ -166,7 +174,8 @@ module _ (code : CodeParts) (valid : IsValidCode (plain_code code)) (placement :
     room = room;
     root = λ here. let n = thread_at 0 some_threads here in record { thread = n.thread; sits = n.sits; resting = n.resting; jobs = []; done = new_done 0 n };
     ready = λ e t sits. subst (IsReady t) (sym is_blank) tt;
-    idle = λ k lt rests. new_idle k lt (child_there (on (suc k)) (child_at mail.ends k) (can.children placed k lt) rests);
+    here = λ k lt here. (false, (child_new (on (suc k)) (child_at mail.ends k) (can.children placed k lt) here).0);
+    between = new_between;
     whole = new_quiet;
   }
 

@@ -21,14 +21,14 @@ use Rattle.core_host.specs.Following.{HasFollowed}
 use Rattle.core_host.specs.Ending.{HasReplied}
 use Rattle.core_host.specs.Rests.{RootRests}
 use Rattle.core_host.proofs.Mails.{state, some_once, get_set, get_set_else}
-use Rattle.core_host.proofs.Keep.{quiet_keeps}
+use Rattle.core_host.proofs.Keep.{same_child, quiet_keeps}
 use Rattle.core_host.proofs.Logs.{job_begins, job_ends}
 
 -- another thread in the seat of thread 0
 pub seat_quiet : (s : State) (y : Seat) → QuietAbove s 0 → QuietAbove (record s { seats = slice_set s.seats 0 y }) 0
 seat_quiet s y quiet j from lt =
     quiet_keeps j s (record s { seats = slice_set s.seats 0 y })
-    (record { code = refl; seat = get_set_else s.seats 0 (suc j) y (λ e. omega (arith, e)); child = refl; branches = λ i mine. refl })
+    (record { code = refl; seat = get_set_else s.seats 0 (suc j) y (λ e. omega (arith, e)); child = same_child j s.mail s.mail refl; branches = λ i mine. refl })
     (record { parent = refl; hand = refl; blanks = refl })
     (quiet j from lt)
 
@@ -46,7 +46,7 @@ module _ (s0 : State) (fitted : IsFitted s0) (quiet : QuietAbove s0 0) (root : R
   number_h = ap (λ (z : Thread). z.number) (sym (same_thread root.thread root.sits)) ∙ root.sits.number
 
   valid : IsValidCode (plain_code code)
-  valid = subst (λ (z : CodeParts). IsValidCode (plain_code z)) (sym (ap (λ (s : State). s.code) view)) fitted.valid
+  valid = subst (λ (z : CodeParts). IsValidCode (plain_code z)) (sym (ap (λ (s : State). s.code) view)) fitted.seated.valid
 
   module _ (y : Seat) where
     abbrev pub raw1 : State

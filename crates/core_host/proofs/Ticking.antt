@@ -1,5 +1,5 @@
 -- A host runs a tick.
-use Rattle.std.proofs.Common.{◌≡◌, ℕ, ◌<◌, ℤ, Bool, true, List, [], ◌∷◌, ◌++◌, length, sym, ap, ◌∙◌, subst, arith}
+use Rattle.std.proofs.Common.{◌≡◌, ℕ, ◌<◌, ℤ, Bool, true, false, List, [], ◌∷◌, ◌++◌, length, sym, ap, ◌∙◌, subst, arith}
 use Rattle.forec_kernel.specs.declared.shape.Outcome.{Outcome}
 use Rattle.forec_kernel.specs.Shapes.{PlainKernel}
 use Rattle.forec_kernel.specs.WellFormed.{WellFormed}
@@ -23,6 +23,7 @@ use Rattle.core_host.specs.Done.{HasDone}
 use Rattle.core_host.specs.Jobs.{IsBetween, kind_of, job_of}
 use Rattle.core_host.specs.Outcomes.{IsReplied, outcome_in}
 use Rattle.core_host.specs.Keeping.{State, code_in, IsFitted, Sits, Idle, QuietAbove}
+use Rattle.core_host.specs.Waiting.{rests}
 use Rattle.core_host.specs.Ending.{HasReplied}
 use Rattle.core_host.specs.Hosted.{Hosted, hosted, state_in, code_of, IsWhole}
 use Rattle.core_host.specs.Rests.{IsReady, RootRests, IsHosted}
@@ -98,16 +99,17 @@ module _ (s0 s1 : State) (cores : List ℕ) (p0 p1 pj : Packet) (live0 live1 : B
 
   pub now_hosted : IsHosted h1
   now_hosted = record {
-    valid = fitted1.valid;
-    work = fitted1.work;
-    mailboxes = fitted1.mailboxes;
-    seats = fitted1.seats;
-    hands = fitted1.hands;
-    places = fitted1.places;
+    valid = fitted1.seated.valid;
+    work = fitted1.seated.work;
+    mailboxes = fitted1.seated.mailboxes;
+    seats = fitted1.seated.seats;
+    hands = fitted1.seated.hands;
+    places = fitted1.seated.places;
     room = subst (λ x. HasRoom (of_shape (plain_code x).shape) 0 (plain_packet p1)) (sym code1) room1;
     root = λ here. root1;
     ready = λ e t sits. subst (IsReady t) (sym (paused_of e)) (subst (Replies_by t) (paused_of e) (kind1 t sits));
-    idle = λ k lt rests. (quiet1 k (omega arith) lt).idle;
+    here = λ k lt on. (false, (quiet1 k (omega arith) lt).idle.child);
+    between = λ k lt there. rests (record { idle = (quiet1 k (omega arith) lt).idle; has = λ j less mine. (quiet1 j (omega arith) less).packet });
     whole = λ w k lt. quiet1 k (omega arith) lt;
   }
 

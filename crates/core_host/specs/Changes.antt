@@ -19,12 +19,14 @@ pub record Looked (word : ℕ) (before after : List ℕ) : Type 0 where
   pub words : List ℕ
   pub is : after ≡ before ++ words ++ word ∷ []
 
--- nothing that went through a mailbox is forgotten
+-- nothing that went through a mailbox, or was seen there, is forgotten
 pub record Grown (before after : Mail) : Type 0 where
   pub sent : (k : ℕ) → Extends (sent before k) (sent after k)
   pub got : (k : ℕ) → Extends (got before k) (got after k)
   pub taken : (k : ℕ) → Extends (taken before k) (taken after k)
   pub answered : (k : ℕ) → Extends (answered before k) (answered after k)
+  pub looked_by_parent : (k : ℕ) → Extends (looked_by_parent before k) (looked_by_parent after k)
+  pub looked_by_child : (k : ℕ) → Extends (looked_by_child before k) (looked_by_child after k)
 
 -- thread k + 1 has answered a job, or a job was sent to a branch of it
 pub data HasWorked (s : PlainShape) (before after : Mail) (k : ℕ) : Type 0 where

@@ -31,15 +31,19 @@ pub record State : Type 0 where
 abbrev pub code_in : State → PlainCode
 code_in s = plain_code s.code
 
--- the port is one for the code, has both ends of each mailbox, and tells whose turn it is
-pub record IsFitted (s : State) : Type 0 where
+-- the port is one for the code, each thread has a seat and a place, and each mailbox a hand for its packet
+pub record IsSeated (s : State) : Type 0 where
   pub valid : IsValidCode (code_in s)
   pub work : s.mail.work.code.value ≡ s.code
-  pub tells : s.mail.tells ≡ true
   pub mailboxes : suc (length s.mail.ends) ≡ length (code_in s).threads
   pub seats : length s.seats ≡ length (code_in s).threads
   pub hands : suc (length s.hands) ≡ length (code_in s).threads
   pub places : length s.places ≡ length (code_in s).threads
+
+-- the port also has both ends of each mailbox, and tells whose turn it is
+pub record IsFitted (s : State) : Type 0 where
+  pub seated : IsSeated s
+  pub tells : s.mail.tells ≡ true
 
 -- the thread sits in its seat
 pub record Sits (s : State) (t : ℕ) (h : Thread) : Type 0 where
@@ -54,10 +58,11 @@ pub data LastReply (c : PlainCode) (k : ℕ) (jobs : List PlainPacket) (h : Thre
   none : jobs ≡ [] → LastReply c k jobs h
   last : (reply : PlainPacket) → PacketAnswers (CodeAlone c) (length c.threads) (suc k) jobs reply → (reply.kind ≡ IsPaused → HasPaused h) → LastReply c k jobs h
 
--- thread k + 1 rests, and has answered all jobs that it took
+-- thread k + 1 rests, with no job in its hand, and has answered all jobs that it took
 pub record Idle (s : State) (k : ℕ) : Type 0 where
   pub thread : Thread
   pub sits : Sits s (suc k) thread
+  pub free : sits.seat.job ≡ None
   pub resting : IsResting thread
   pub child : ChildIs s.mail k false
   pub jobs : List Job
@@ -71,29 +76,37 @@ pub data Ready (s : State) (k : ℕ) : Option Packet → Type 0 where
   blank : ParentIs s.mail k Fresh → (q : PlainPacket) → slice_get s.mail.blanks k ≡ Some q → HasRoom (of_shape (code_in s).shape) (suc k) q → Ready s k None
   reply : ParentIs s.mail k Held → (p : Packet) → HasRoom (of_shape (code_in s).shape) (suc k) (plain_packet p) → Ready s k (Some p)
 
+pub record HasPacket (s : State) (k : ℕ) : Type 0 where
+  pub hand : Option Packet
+  pub at : slice_get s.hands k ≡ Some hand
+  pub ready : Ready s k hand
+
 -- nothing is under way at mailbox k
 pub record Quiet (s : State) (k : ℕ) : Type 0 where
   pub idle : Idle s k
   pub all : taken s.mail k ≡ sent s.mail k
-  pub hand : Option Packet
-  pub at : slice_get s.hands k ≡ Some hand
-  pub ready : Ready s k hand
+  pub packet : HasPacket s k
 
 -- nor at any mailbox of a thread above t
 abbrev pub QuietAbove : State → ℕ → Type 0
 QuietAbove s t = (k : ℕ) → t ≤ k → k < length s.mail.ends → Quiet s k
 
+-- the packet of mailbox k was sent, and not got back
+pub record LacksPacket (s : State) (k : ℕ) : Type 0 where
+  pub out : ParentIs s.mail k Out
+  pub empty : slice_get s.hands k ≡ Some None
+
 -- the jobs of thread k + 1 that it did not take yet
 pub record IsCalled (s : State) (k : ℕ) : Type 0 where
   pub idle : Idle s k
-  pub out : ParentIs s.mail k Out
+  pub lacks : LacksPacket s k
   pub job : PlainPacket
   pub one : sent s.mail k ≡ taken s.mail k ++ job ∷ []
 
 -- it has answered all, and its parent did not look yet
 pub record IsBack (s : State) (k : ℕ) : Type 0 where
   pub idle : Idle s k
-  pub out : ParentIs s.mail k Out
+  pub lacks : LacksPacket s k
   pub all : taken s.mail k ≡ sent s.mail k
 
 -- ---- what calls leave alone

@@ -77,3 +77,8 @@ pub record IsNewSeat (c : PlainCode) (t : ℕ) (is_here : Bool) (s : Seat) : Typ
   pub job : s.job ≡ None
   pub here : is_here ≡ true → IsLoaded c t s
   pub else : is_here ≡ false → s.thread ≡ None
+
+-- these are the mailboxes of the threads on these cores
+pub record AreOwn (places cores own : List ℕ) : Type 0 where
+  pub here : (i k : ℕ) → slice_get own i ≡ Some k → (suc k < length places) × (is_on places cores (suc k) ≡ true)
+  pub all : (k : ℕ) → suc k < length places → is_on places cores (suc k) ≡ true → contains k own ≡ true

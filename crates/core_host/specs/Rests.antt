@@ -1,5 +1,5 @@
 -- What a host keeps between calls.
-use Rattle.std.specs.Prelude.{ℕ, suc, ◌≡◌, ◌<◌, true, false, List, length}
+use Rattle.std.specs.Prelude.{ℕ, suc, ◌≡◌, ◌<◌, true, List, length}
 use Rattle.forec_kernel.specs.Packed.{HasRoom}
 use Rattle.forec_kernel.specs.Engine.{Job}
 use Rattle.combine_tree.specs.declared.packet.PacketKind.{PacketKind}
@@ -8,9 +8,9 @@ use Rattle.combine_tree.specs.Plain.{plain_packet}
 use Rattle.thread_code.specs.Valid.{of_shape, IsValidCode}
 use Rattle.core_machine.specs.declared.thread.Thread.{Thread}
 use Rattle.core_machine.specs.Held.{IsResting, HasPaused}
-use Rattle.copy_slots.specs.Ports.{ChildIs}
 use Rattle.core_host.specs.Done.{HasDone}
-use Rattle.core_host.specs.Keeping.{State, code_in, Sits, Idle, Quiet}
+use Rattle.core_host.specs.Keeping.{State, code_in, Sits, Quiet}
+use Rattle.core_host.specs.Waiting.{HasChild, IsBetween}
 use Rattle.core_host.specs.Hosted.{Hosted, state_in, code_of, is_here, IsWhole}
 
 -- the next tick can begin: no tick was run, or the last one paused
@@ -37,7 +37,8 @@ pub record IsHosted (h : Hosted) : Type 0 where
   pub room : HasRoom (of_shape (code_of h).shape) 0 (plain_packet h.root)
   pub root : is_here h 0 ≡ true → RootRests (state_in h)
   pub ready : h.live ≡ true → (t : Thread) → Sits (state_in h) 0 t → IsReady t h.root.kind
-  -- each other thread that rests has answered all jobs that it took
-  pub idle : (k : ℕ) → k < length h.mail.ends → ChildIs h.mail k false → Idle (state_in h) k
+  -- the child's end of the mailbox of each other thread of its cores is there, and the thread rests, or waits at a fork
+  pub here : (k : ℕ) → k < length h.mail.ends → is_here h (suc k) ≡ true → HasChild h.mail k
+  pub between : (k : ℕ) → k < length h.mail.ends → HasChild h.mail k → IsBetween (state_in h) k
   -- where it has all threads, nothing is under way
   pub whole : IsWhole h → (k : ℕ) → k < length h.mail.ends → Quiet (state_in h) k

@@ -1,20 +1,20 @@
 //! Threads at work, one after the other.
-ghost use Rattle.std.specs.Prelude.{◌≡◌, ◌≤◌, ◌<◌, ◌^◌, ◌+◌, ◌++◌, ◌∷◌, [], ℕ, suc, List, Some, None, length, slice_get, true, false};
+ghost use Rattle.std.specs.Prelude.{◌≡◌, ◌≢◌, ◌≤◌, ◌<◌, ◌^◌, ◌+◌, ◌++◌, ◌∷◌, [], ℕ, suc, List, Some, None, length, slice_get, true, false};
 ghost use Rattle.forec_kernel.specs.Engine.{Job, Reply, Written, Answered, Exchange, pair_up};
 ghost use Rattle.forec_kernel.specs.Packed.{HasRoom, IsJob};
 ghost use Rattle.thread_code.specs.Plain.{plain_code};
 ghost use Rattle.thread_code.specs.Valid.{of_shape};
 ghost use Rattle.combine_tree.specs.Plain.{plain_packet};
 ghost use Rattle.copy_slots.specs.declared.view.Place.TheVariants.{Held};
-ghost use Rattle.copy_slots.specs.Ports.{sent, got, ParentIs, ChildIs};
+ghost use Rattle.copy_slots.specs.Ports.{sent, got, turn, ParentIs};
 ghost use Rattle.core_machine.specs.Held.{Loaded, StandsFor, CanBegin, CanRun, HasReply, HasSettled, HasJoined};
 ghost use Rattle.core_machine.specs.Forks.{jobs_at, with_replies};
 ghost use Rattle.core_machine.specs.declared.thread.Thread.{Thread as PlainThread};
 ghost use Rattle.core_machine.specs.Replies.{Replies_by};
 ghost use Rattle.core_host.specs.Changes.{Grown};
 ghost use Rattle.core_host.specs.Done.{Posts, HasDone, InJob};
-ghost use Rattle.core_host.specs.Keeping.{State, code_in, IsFitted, Sits, Quiet, QuietAbove, CanSend, IsCalled, IsBack, Leaves, AtFork, HaveHeard};
-ghost use Rattle.core_host.specs.Moving.{Moves, HasSent, HasGot};
+ghost use Rattle.core_host.specs.Keeping.{State, code_in, IsSeated, IsFitted, Sits, QuietAbove, HasPacket, LacksPacket, CanSend, IsCalled, IsBack, Leaves, AtFork, HaveHeard};
+ghost use Rattle.core_host.specs.Moving.{Moves, HasSent, HasGot, HasLooked};
 
 use crate::seat::Seat;
 use crate::work::ForecWork;
@@ -50,13 +50,14 @@ impl<'c, P: Port<ForecWork> + Drop> Desk<'c, P> {
     ghost use Rattle.core_host.specs.Following.{HasFollowed};
     ghost use Rattle.core_host.specs.Rests.{RootRests};
 
-    /// The packet of a mailbox with nothing under way, out of its parent's hand or its slot.
+    /// The packet of a mailbox, out of its parent's hand or its slot.
     fn packet(&mut self, mailbox: u32) -> Packet
         requires inside { mailbox < length self.old.mail.ends }
-        requires fitted { IsFitted self.old }
-        requires quiet { Quiet self.old mailbox }
+        requires seated { IsSeated self.old }
+        requires has { HasPacket self.old mailbox }
         ensures moves { Moves mailbox self.old self.new }
         ensures held { ParentIs self.new.mail mailbox Held }
+        ensures empty { slice_get self.new.hands mailbox ≡ Some None }
         ensures room { HasRoom (of_shape (code_in self.old).shape) (suc mailbox) (plain_packet result) }
         ensures sent { sent self.new.mail mailbox ≡ sent self.old.mail mailbox }
         ensures got { got self.new.mail mailbox ≡ got self.old.mail mailbox }
@@ -68,12 +69,12 @@ impl<'c, P: Port<ForecWork> + Drop> Desk<'c, P> {
     }
 
     /// Sends its job to the k-th branch of the thread's fork.
-    fn send(&mut self, thread: &Thread, k: usize, mailbox: u32)
-        requires fitted { IsFitted self.old }
+    pub(crate) fn send(&mut self, thread: &Thread, k: usize, mailbox: u32)
+        requires seated { IsSeated self.old }
         requires job { CanSend self.old thread.now k mailbox }
-        requires quiet { Quiet self.old mailbox }
+        requires has { HasPacket self.old mailbox }
         ensures moves { Moves mailbox self.old self.new }
-        ensures called { IsCalled self.new mailbox }
+        ensures lacks { LacksPacket self.new mailbox }
         ensures sent { (w : Written) → slice_get (jobs_at (code_in self.old) thread.now) k ≡ Some w → HasSent self.old self.new mailbox w.job }
     {
         let mut packet = self.packet(mailbox);
@@ -81,19 +82,23 @@ impl<'c, P: Port<ForecWork> + Drop> Desk<'c, P> {
         self.port.offer(mailbox, packet);
     }
 
-    /// Looks for the reply of a branch that is back.
-    fn collect(&mut self, mailbox: u32)
+    /// Looks for the reply of a branch that was told a job. Whether it is there.
+    pub(crate) fn collect(&mut self, mailbox: u32) -> bool
         requires inside { mailbox < length self.old.mail.ends }
-        requires fitted { IsFitted self.old }
-        requires back { IsBack self.old mailbox }
+        requires seated { IsSeated self.old }
+        requires lacks { LacksPacket self.old mailbox }
         ensures moves { Moves mailbox self.old self.new }
-        ensures quiet { Quiet self.new mailbox }
-        ensures got { HasGot self.old self.new mailbox }
+        ensures there { result ≡ true → HasGot self.old self.new mailbox }
+        ensures awaited { result ≡ false → HasLooked self.old self.new mailbox }
+        ensures turn { self.old.mail.tells ≡ true → result ≡ false → turn self.old.mail mailbox ≢ 0 }
     {
-        let Some(packet) = self.port.collect(mailbox) else {
-            unreachable!()
-        };
-        self.hands[mailbox as usize] = Some(packet);
+        match self.port.collect(mailbox) {
+            Some(packet) => {
+                self.hands[mailbox as usize] = Some(packet);
+                true
+            }
+            None => false,
+        }
     }
 
     /// Takes the job of a branch that was called, does it, and answers.
@@ -119,7 +124,10 @@ impl<'c, P: Port<ForecWork> + Drop> Desk<'c, P> {
         thread.begin(self.code, &packet);
         self.finish(gate, &mut thread);
         thread.reply(self.code, &mut packet);
-        self.seats[number as usize].thread = Some(thread);
+        self.seats[number as usize] = Seat {
+            thread: Some(thread),
+            job: None,
+        };
         self.port.answer(mailbox, packet);
         gate.pass(core, number, Point::Answered);
     }
@@ -140,13 +148,15 @@ impl<'c, P: Port<ForecWork> + Drop> Desk<'c, P> {
             let mailbox = branch - 1;
             self.send(thread, k, mailbox);
             self.employ(gate, mailbox);
-            self.collect(mailbox);
+            if !self.collect(mailbox) {
+                unreachable!()
+            }
             k += 1;
         }
     }
 
     /// Settles the replies of the thread's branches.
-    fn settle(&self, thread: &mut Thread)
+    pub(crate) fn settle(&self, thread: &mut Thread)
         requires loaded { Loaded (code_in self.now) thread.old }
         requires fork { HasSettled thread.old 0 }
         requires few { length thread.old.branches.numbers ≤ 256 }
@@ -168,7 +178,7 @@ impl<'c, P: Port<ForecWork> + Drop> Desk<'c, P> {
     }
 
     /// Joins the thread's branches.
-    fn join(&self, thread: &mut Thread)
+    pub(crate) fn join(&self, thread: &mut Thread)
         requires loaded { Loaded (code_in self.now) thread.old }
         requires some { 0 < length thread.old.branches.numbers }
         requires few { length thread.old.branches.numbers ≤ 256 }

@@ -8,12 +8,12 @@ ghost use Rattle.forec_kernel.specs.WellFormed.{WellFormed};
 ghost use Rattle.thread_code.specs.Alone.{Stands};
 ghost use Rattle.copy_slots.specs.Ports.{sent, taken, ChildIs};
 ghost use Rattle.core_host.specs.Jobs.{job_of};
-ghost use Rattle.core_host.specs.Loads.{CanLoad, AreAll};
+ghost use Rattle.core_host.specs.Loads.{CanLoad, AreAll, AreOwn};
 ghost use Rattle.core_host.specs.Outcomes.{HasOutputs, LacksOutputs};
 
 use crate::desk::Desk;
 use crate::job::write_job;
-use crate::load::{empty_hands, places_of, seats_of};
+use crate::load::{empty_hands, own_mailboxes, places_of, seats_of};
 use crate::outcome::write_outcome;
 use crate::work::ForecWork;
 use combine_tree::Packet;
@@ -25,18 +25,34 @@ use std::alloc::Global;
 use std::marker::Model;
 use thread_code::Code;
 
+/// What one call of [`Host::serve`] came to.
+#[derive(Clone, Copy, Debug, PartialEq, Eq)]
+pub enum Served {
+    /// A thread ran to its next event: it told its branches their jobs, or it answered its own. Its
+    /// mailbox is number k.
+    Worked { k: u32 },
+    /// No thread can go on.
+    Nothing,
+}
+
 /// The threads of a code that run on some cores, with the ends of the mailboxes there, in memory that is
 /// made once.
 ///
 /// A thread but thread 0 takes its jobs from its mailbox, tells its branches theirs, and answers. Between
-/// two calls what went through the mailboxes of its branches are the jobs that it writes by itself, and the
-/// replies to them.
+/// two calls it rests, or it waits at a fork for replies. Where it rests, what went through the mailboxes of
+/// its branches are the jobs that it writes by itself, and the replies to them.
 #[derive(Drop)]
 pub struct Host<'c, P: Port<ForecWork> + Drop> {
     desk: Desk<'c, P>,
     cores: Vec<u32>,
+    /// The mailboxes of its threads.
+    own: Vec<u32>,
+    /// Where in `own` the next serving starts: behind the mailbox that was served last.
+    next: usize,
     root: Packet,
     live: bool,
+    ghost own_are: { AreOwn desk.places cores.items own.items },
+    ghost next_within: { next ≤ length own.items },
 }
 
 impl<'c, P: Port<ForecWork> + Drop> Model for Host<'c, P> {
@@ -51,7 +67,7 @@ impl<'c, P: Port<ForecWork> + Drop> Model for Host<'c, P> {
 }
 
 impl<'c, P: Port<ForecWork> + Drop> Host<'c, P> {
-    ghost use Rattle.core_host.specs.Changes.{Grown};
+    ghost use Rattle.core_host.specs.Changes.{Grown, HasWorked, IsIdle};
     ghost use Rattle.core_host.specs.Hosted.{code_of, is_live, is_here, IsWhole};
     ghost use Rattle.core_host.specs.Posts.{HasPosted, HasPostedTaken};
     ghost use Rattle.core_host.specs.Runs.{HasJobs, HasRun};
@@ -84,6 +100,7 @@ impl<'c, P: Port<ForecWork> + Drop> Host<'c, P> {
         let seats = seats_of(alloc, code, &places, cores)?;
         let hands = empty_hands(alloc, threads - 1)?;
         let root = Packet::new(alloc, 0, code.shape().variables.len())?;
+        let own = own_mailboxes(alloc, &places, cores)?;
         let cores = cores.to_vec(alloc)?;
         let desk = Desk {
             code,
@@ -95,6 +112,8 @@ impl<'c, P: Port<ForecWork> + Drop> Host<'c, P> {
         Ok(Host {
             desk,
             cores,
+            own,
+            next: 0,
             root,
             live: true,
         })
@@ -150,6 +169,36 @@ impl<'c, P: Port<ForecWork> + Drop> Host<'c, P> {
         let outcome = write_outcome(root, code.shape(), outputs);
         *live = matches!(outcome, Outcome::Paused);
         outcome
+    }
+
+    /// Takes one job, or goes on with one thread that waits at a fork and whose branches have all replied,
+    /// and runs that thread to its next event. It takes no memory, and doesn't wait.
+    ///
+    /// Thread 0 works in ticks alone; its branches' replies stay where they are.
+    pub fn serve<G: Gate>(&mut self, gate: &G) -> Served
+        ensures worked { (k : ℕ) → result ≡ Served.Worked k → HasWorked (code_of self.old).shape self.old.mail self.new.mail k }
+        ensures mine { (k : ℕ) → result ≡ Served.Worked k → (k < length self.old.mail.ends) × (is_here self.old (suc k) ≡ true) }
+        ensures nothing { result ≡ Served.Nothing → (k : ℕ) → k < length self.old.mail.ends → is_here self.old (suc k) ≡ true → IsIdle (code_of self.old).shape self.old.mail self.new.mail k }
+        ensures code { self.new.code ≡ self.old.code }
+        ensures places { self.new.places ≡ self.old.places }
+        ensures cores { self.new.cores ≡ self.old.cores }
+        ensures live { is_live self.new ≡ is_live self.old }
+        ensures grown { Grown self.old.mail self.new.mail }
+        ensures turns { (turns : List Turn) → HasRun self.old turns → HasRun self.new turns }
+        ensures jobs { (jobs : List Job) → HasJobs self.old jobs → HasJobs self.new jobs }
+        ensures whole { IsWhole self.old → IsWhole self.new }
+    {
+        let Host {
+            desk,
+            own,
+            next,
+            ..
+        } = self;
+        let Some(i) = desk.serve_round(gate, own, *next) else {
+            return Served::Nothing;
+        };
+        *next = i + 1;
+        Served::Worked { k: own[i] }
     }
 
     /// What a host keeps: the branches of a thread were told and have told exactly what the thread writes by

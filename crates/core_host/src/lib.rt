@@ -10,10 +10,11 @@ mod outcome;
 #[cfg(test)]
 mod par_tests;
 mod seat;
+mod serve;
 #[cfg(test)]
 mod tests;
 mod work;
 
-pub use host::Host;
+pub use host::{Host, Served};
 pub use local::{blanks, local_port};
 pub use work::{ForecWork, Told};

@@ -1,10 +1,10 @@
 //! What a host is made of.
 
-ghost use Rattle.std.specs.Prelude.{◌≡◌, ◌<◌, ◌≤◌, ◌+◌, ℕ, suc, All, IfOk, Some, None, Option, length, slice_get, replicate, true};
+ghost use Rattle.std.specs.Prelude.{◌≡◌, ◌<◌, ◌≤◌, ◌+◌, ◌++◌, ◌∷◌, [], ℕ, suc, cond, All, IfOk, OnOk, Some, None, Option, length, slice_get, replicate, true};
 ghost use Rattle.thread_code.specs.Plain.{plain_code};
 ghost use Rattle.combine_tree.specs.declared.packet.Packet.{Packet as PlainPacketState};
 ghost use Rattle.core_host.specs.declared.seat.Seat.{Seat as SeatState};
-ghost use Rattle.core_host.specs.Loads.{ArePlaced, IsNewSeat, contains_core};
+ghost use Rattle.core_host.specs.Loads.{ArePlaced, AreOwn, IsNewSeat, contains_core};
 
 use crate::seat::Seat;
 use combine_tree::Packet;
@@ -73,6 +73,30 @@ pub fn seats_of(
         seats.push(seat_of(alloc, code, thread as u32, is_here)?)?;
     }
     Ok(seats)
+}
+
+/// The mailbox goes to the end of the list, where it is to be there.
+fn push_if(own: &mut Vec<u32>, mailbox: u32, is_here: bool) -> Result<(), OutOfMemory>
+    ensures { OnOk result (own.new.items ≡ cond is_here (own.old.items ++ mailbox ∷ []) own.old.items) }
+{
+    if is_here {
+        own.push(mailbox)?;
+    }
+    Ok(())
+}
+
+/// The mailboxes of the threads of these cores, in order.
+pub fn own_mailboxes(alloc: Global, places: &[u32], cores: &[u32]) -> Result<Vec<u32>, OutOfMemory>
+    requires some { 0 < length places.now }
+    requires few { length places.now ≤ 256 }
+    ensures { IfOk result (λ own. AreOwn places.now cores.now own.items) }
+{
+    let mut own = Vec::new(alloc);
+    for mailbox in 0..places.len() - 1 {
+        let is_here = is_among(places[mailbox + 1], cores);
+        push_if(&mut own, mailbox as u32, is_here)?;
+    }
+    Ok(own)
 }
 
 /// So many empty hands.

@@ -5,7 +5,7 @@ ghost use Rattle.forec_kernel.specs.Shapes.{plain_shape, plain_thread};
 ghost use Rattle.thread_code.specs.Plain.{plain_block, plain_code};
 ghost use Rattle.core_host.specs.Folded.{fold_thread, fold_shape, fold_main, fold_branch, block_of, fold_minus, fold_code};
 
-use crate::host::Host;
+use crate::host::{Host, Served};
 use crate::local::local_port;
 use crate::tests::one;
 use core_alloc::given;
@@ -160,6 +160,7 @@ fn folds_three_branches(rt: HostRuntime) -> Result<(), Fail> {
         let outcome = host.alone(&[], 100, &OpenGate, &mut outputs);
         assert_eq!(rt; outcome, Outcome::Paused);
         assert_eq!(rt; outputs, [5]);
+        assert_eq!(rt; host.serve(&OpenGate), Served::Nothing);
     }
     outputs[0] = 7;
     assert!(rt; host.live());

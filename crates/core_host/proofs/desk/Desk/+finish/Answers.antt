@@ -9,7 +9,7 @@ use Rattle.core_machine.specs.Forks.{jobs_at}
 use Rattle.core_host.specs.Keeping.{State, code_in, QuietAbove, Leaves, HaveHeard}
 use Rattle.core_host.proofs.Keep.{leaves_same, leaves_then}
 use Rattle.core_host.proofs.Hearing.{past_end}
-use Rattle.core_host.proofs.Consults.{consulted_none, some_number, fitted_b, above_m, inside_m, can_send, quiet_m, sent_above, consulted_more, have_heard}
+use Rattle.core_host.proofs.Consults.{consulted_none, some_number, fitted_b, above_m, inside_m, can_send, some_packet, is_called, sent_above, consulted_more, have_heard}
 use Rattle.core_host.proofs.Finishing.{fits_forks, replied_by, job_runs, allowance_is, at_fork, some_at, bound, next}
 use Rattle.core_host.proofs.Desks.{loaded_now, resting_now, begins_now, room_now, small_now, raw_fitted, number1, raw_above, raw_followed, reply_room, answer_held, answer_answers, end_back, end_above, end_leaves}
 use Rattle.core_host.proofs.desk.Desk.+finish.Goals as goal
@@ -28,9 +28,9 @@ pub consult-send-requires-clause-job : goal.consult-send-requires-clause-job
 consult-send-requires-clause-job g t c =
     can_send c.args.self.now c.loop-branch.self c.args.thread.now c.loop-branch.k c.in-Some.branch c.requires.fitted c.requires.fork c.loop-branch.invariant (sym c.active.ensures ∙ c.in-Some.is)
 
-pub consult-send-requires-clause-quiet : goal.consult-send-requires-clause-quiet
-consult-send-requires-clause-quiet g t c =
-    quiet_m c.args.self.now c.loop-branch.self c.args.thread.now c.loop-branch.k c.in-Some.branch c.requires.fitted c.requires.fork c.loop-branch.invariant (sym c.active.ensures ∙ c.in-Some.is)
+pub consult-send-requires-clause-has : goal.consult-send-requires-clause-has
+consult-send-requires-clause-has g t c =
+    some_packet c.args.self.now c.loop-branch.self c.args.thread.now c.loop-branch.k c.in-Some.branch c.requires.fitted c.requires.fork c.loop-branch.invariant (sym c.active.ensures ∙ c.in-Some.is)
 
 pub consult-loop-branch-smaller : goal.consult-loop-branch-smaller
 consult-loop-branch-smaller g t c =
@@ -39,7 +39,7 @@ consult-loop-branch-smaller g t c =
 pub consult-loop-branch-preserved : goal.consult-loop-branch-preserved
 consult-loop-branch-preserved g t c =
     consulted_more c.args.self.now c.loop-branch.self c.args.thread.now c.loop-branch.k c.in-Some.branch c.requires.fitted c.requires.fork c.loop-branch.invariant (sym c.active.ensures ∙ c.in-Some.is)
-    c.send.new.self c.send.ensures.moves c.employ.new.self c.collect.new.self c.send.ensures.sent c.employ.ensures.leaves c.employ.ensures.above c.collect.ensures.moves c.collect.ensures.quiet c.collect.ensures.got
+    c.send.new.self c.send.ensures.moves c.employ.new.self c.collect.new.self c.send.ensures.sent c.employ.ensures.leaves c.employ.ensures.above c.employ.ensures.back c.collect.ensures.moves (c.collect.ensures.there c.if-not-collect.false)
 
 pub consult-returns-clause-heard : goal.consult-returns-clause-heard
 consult-returns-clause-heard g t c =
@@ -50,95 +50,95 @@ consult-returns-clause-heard g t c =
 
 pub employ-begin-requires-clause-loaded : goal.employ-begin-requires-clause-loaded
 employ-begin-requires-clause-loaded g t c =
-    loaded_now c.args.self.now c.args.mailbox c.requires.fitted c.requires.inside c.requires.called c.requires.above c.self.inside.code.now c.self.inside.places.items (g.P.Port.state c.self.inside.port) (g.P.Port.state c.take.new.self)
-    c.self.inside.seats.items c.self.inside.hands.items c.self.view_is c.in-Some.packet c.in-Some.ensures.state c.in-Some.ensures.job c.in-Some.ensures.turn c.index_mut.result.now c.index_mut.ensures.value c.take-2.result c.take-2.ensures.value
+    loaded_now c.args.self.now c.args.mailbox c.requires.fitted.seated c.requires.inside c.requires.called.idle c.self.inside.code.now c.self.inside.places.items (g.P.Port.state c.self.inside.port) (g.P.Port.state c.take.new.self)
+    c.self.inside.seats.items c.self.inside.hands.items c.self.view_is c.in-Some.packet c.in-Some.ensures.state c.in-Some.ensures.job c.index_mut.result.now c.index_mut.ensures.value c.take-2.result c.take-2.ensures.value
     c.in-Some-take.thread c.in-Some-take.is
 
 pub employ-begin-requires-clause-resting : goal.employ-begin-requires-clause-resting
 employ-begin-requires-clause-resting g t c =
-    resting_now c.args.self.now c.args.mailbox c.requires.fitted c.requires.inside c.requires.called c.requires.above c.self.inside.code.now c.self.inside.places.items (g.P.Port.state c.self.inside.port) (g.P.Port.state c.take.new.self)
-    c.self.inside.seats.items c.self.inside.hands.items c.self.view_is c.in-Some.packet c.in-Some.ensures.state c.in-Some.ensures.job c.in-Some.ensures.turn c.index_mut.result.now c.index_mut.ensures.value c.take-2.result c.take-2.ensures.value
+    resting_now c.args.self.now c.args.mailbox c.requires.fitted.seated c.requires.inside c.requires.called.idle c.self.inside.code.now c.self.inside.places.items (g.P.Port.state c.self.inside.port) (g.P.Port.state c.take.new.self)
+    c.self.inside.seats.items c.self.inside.hands.items c.self.view_is c.in-Some.packet c.in-Some.ensures.state c.in-Some.ensures.job c.index_mut.result.now c.index_mut.ensures.value c.take-2.result c.take-2.ensures.value
     c.in-Some-take.thread c.in-Some-take.is
 
 pub employ-begin-requires-clause-job : goal.employ-begin-requires-clause-job
 employ-begin-requires-clause-job g t c =
-    begins_now c.args.self.now c.args.mailbox c.requires.fitted c.requires.inside c.requires.called c.requires.above c.self.inside.code.now c.self.inside.places.items (g.P.Port.state c.self.inside.port) (g.P.Port.state c.take.new.self)
-    c.self.inside.seats.items c.self.inside.hands.items c.self.view_is c.in-Some.packet c.in-Some.ensures.state c.in-Some.ensures.job c.in-Some.ensures.turn c.index_mut.result.now c.index_mut.ensures.value c.take-2.result c.take-2.ensures.value
+    begins_now c.args.self.now c.args.mailbox c.requires.fitted.seated c.requires.inside c.requires.called.idle c.self.inside.code.now c.self.inside.places.items (g.P.Port.state c.self.inside.port) (g.P.Port.state c.take.new.self)
+    c.self.inside.seats.items c.self.inside.hands.items c.self.view_is c.in-Some.packet c.in-Some.ensures.state c.in-Some.ensures.job c.index_mut.result.now c.index_mut.ensures.value c.take-2.result c.take-2.ensures.value
     c.in-Some-take.thread c.in-Some-take.is
 
 pub employ-begin-requires-clause-room : goal.employ-begin-requires-clause-room
 employ-begin-requires-clause-room g t c =
-    room_now c.args.self.now c.args.mailbox c.requires.fitted c.requires.inside c.requires.called c.requires.above c.self.inside.code.now c.self.inside.places.items (g.P.Port.state c.self.inside.port) (g.P.Port.state c.take.new.self)
-    c.self.inside.seats.items c.self.inside.hands.items c.self.view_is c.in-Some.packet c.in-Some.ensures.state c.in-Some.ensures.job c.in-Some.ensures.turn c.index_mut.result.now c.index_mut.ensures.value c.take-2.result c.take-2.ensures.value
+    room_now c.args.self.now c.args.mailbox c.requires.fitted.seated c.requires.inside c.requires.called.idle c.self.inside.code.now c.self.inside.places.items (g.P.Port.state c.self.inside.port) (g.P.Port.state c.take.new.self)
+    c.self.inside.seats.items c.self.inside.hands.items c.self.view_is c.in-Some.packet c.in-Some.ensures.state c.in-Some.ensures.job c.index_mut.result.now c.index_mut.ensures.value c.take-2.result c.take-2.ensures.value
     c.in-Some-take.thread c.in-Some-take.is
 
 pub employ-begin-requires-clause-small : goal.employ-begin-requires-clause-small
 employ-begin-requires-clause-small g t c =
-    small_now c.args.self.now c.args.mailbox c.requires.fitted c.requires.inside c.requires.called c.requires.above c.self.inside.code.now c.self.inside.places.items (g.P.Port.state c.self.inside.port) (g.P.Port.state c.take.new.self)
-    c.self.inside.seats.items c.self.inside.hands.items c.self.view_is c.in-Some.packet c.in-Some.ensures.state c.in-Some.ensures.job c.in-Some.ensures.turn c.index_mut.result.now c.index_mut.ensures.value c.take-2.result c.take-2.ensures.value
+    small_now c.args.self.now c.args.mailbox c.requires.fitted.seated c.requires.inside c.requires.called.idle c.self.inside.code.now c.self.inside.places.items (g.P.Port.state c.self.inside.port) (g.P.Port.state c.take.new.self)
+    c.self.inside.seats.items c.self.inside.hands.items c.self.view_is c.in-Some.packet c.in-Some.ensures.state c.in-Some.ensures.job c.index_mut.result.now c.index_mut.ensures.value c.take-2.result c.take-2.ensures.value
     c.in-Some-take.thread c.in-Some-take.is
 
 pub employ-reply-requires-clause-room : goal.employ-reply-requires-clause-room
 employ-reply-requires-clause-room g t c =
-    reply_room c.args.self.now c.args.mailbox c.requires.fitted c.requires.inside c.requires.called c.requires.above c.self.inside.code.now c.self.inside.places.items (g.P.Port.state c.self.inside.port) (g.P.Port.state c.take.new.self)
-    c.self.inside.seats.items c.self.inside.hands.items c.self.view_is c.in-Some.packet c.in-Some.ensures.state c.in-Some.ensures.job c.in-Some.ensures.turn c.index_mut.result.now c.index_mut.ensures.value c.take-2.result c.take-2.ensures.value
+    reply_room c.args.self.now c.args.mailbox c.requires.fitted.seated c.requires.inside c.requires.called.idle c.self.inside.code.now c.self.inside.places.items (g.P.Port.state c.self.inside.port) (g.P.Port.state c.take.new.self)
+    c.self.inside.seats.items c.self.inside.hands.items c.self.view_is c.in-Some.packet c.in-Some.ensures.state c.in-Some.ensures.job c.index_mut.result.now c.index_mut.ensures.value c.take-2.result c.take-2.ensures.value
     c.in-Some-take.thread c.in-Some-take.is
     (record { thread = c.take-2.new.self; job = c.index_mut.result.now.job }) c.begin.new.self c.begin.ensures.number c.begin.ensures.stands
-    c.finish.new.self c.finish.new.thread c.finish.ensures.number c.finish.ensures.loaded c.finish.ensures.reply c.finish.ensures.above c.finish.ensures.leaves c.finish.ensures.done
+    c.requires.fitted.tells c.in-Some.ensures.turn c.finish.new.self c.finish.new.thread c.finish.ensures.number c.finish.ensures.loaded c.finish.ensures.reply c.finish.ensures.above c.finish.ensures.leaves c.finish.ensures.done
     c.self-2.inside.code.now c.self-2.inside.places.items (g.P.Port.state c.self-2.inside.port) c.self-2.inside.seats.items c.self-2.inside.hands.items c.self-2.view_is
 
 pub employ-answer-requires-clause-held : goal.employ-answer-requires-clause-held
 employ-answer-requires-clause-held g t c =
-    answer_held c.args.self.now c.args.mailbox c.requires.fitted c.requires.inside c.requires.called c.requires.above c.self.inside.code.now c.self.inside.places.items (g.P.Port.state c.self.inside.port) (g.P.Port.state c.take.new.self)
-    c.self.inside.seats.items c.self.inside.hands.items c.self.view_is c.in-Some.packet c.in-Some.ensures.state c.in-Some.ensures.job c.in-Some.ensures.turn c.index_mut.result.now c.index_mut.ensures.value c.take-2.result c.take-2.ensures.value
+    answer_held c.args.self.now c.args.mailbox c.requires.fitted.seated c.requires.inside c.requires.called.idle c.self.inside.code.now c.self.inside.places.items (g.P.Port.state c.self.inside.port) (g.P.Port.state c.take.new.self)
+    c.self.inside.seats.items c.self.inside.hands.items c.self.view_is c.in-Some.packet c.in-Some.ensures.state c.in-Some.ensures.job c.index_mut.result.now c.index_mut.ensures.value c.take-2.result c.take-2.ensures.value
     c.in-Some-take.thread c.in-Some-take.is
     (record { thread = c.take-2.new.self; job = c.index_mut.result.now.job }) c.begin.new.self c.begin.ensures.number c.begin.ensures.stands
-    c.finish.new.self c.finish.new.thread c.finish.ensures.number c.finish.ensures.loaded c.finish.ensures.reply c.finish.ensures.above c.finish.ensures.leaves c.finish.ensures.done
+    c.requires.fitted.tells c.in-Some.ensures.turn c.finish.new.self c.finish.new.thread c.finish.ensures.number c.finish.ensures.loaded c.finish.ensures.reply c.finish.ensures.above c.finish.ensures.leaves c.finish.ensures.done
     c.self-2.inside.code.now c.self-2.inside.places.items (g.P.Port.state c.self-2.inside.port) c.self-2.inside.seats.items c.self-2.inside.hands.items c.self-2.view_is
     c.reply.new.packet c.reply.ensures.room c.reply.ensures.kind c.reply.ensures.gives
 
 pub employ-answer-requires-clause-answers : goal.employ-answer-requires-clause-answers
 employ-answer-requires-clause-answers g t c =
-    answer_answers c.args.self.now c.args.mailbox c.requires.fitted c.requires.inside c.requires.called c.requires.above c.self.inside.code.now c.self.inside.places.items (g.P.Port.state c.self.inside.port) (g.P.Port.state c.take.new.self)
-    c.self.inside.seats.items c.self.inside.hands.items c.self.view_is c.in-Some.packet c.in-Some.ensures.state c.in-Some.ensures.job c.in-Some.ensures.turn c.index_mut.result.now c.index_mut.ensures.value c.take-2.result c.take-2.ensures.value
+    answer_answers c.args.self.now c.args.mailbox c.requires.fitted.seated c.requires.inside c.requires.called.idle c.self.inside.code.now c.self.inside.places.items (g.P.Port.state c.self.inside.port) (g.P.Port.state c.take.new.self)
+    c.self.inside.seats.items c.self.inside.hands.items c.self.view_is c.in-Some.packet c.in-Some.ensures.state c.in-Some.ensures.job c.index_mut.result.now c.index_mut.ensures.value c.take-2.result c.take-2.ensures.value
     c.in-Some-take.thread c.in-Some-take.is
     (record { thread = c.take-2.new.self; job = c.index_mut.result.now.job }) c.begin.new.self c.begin.ensures.number c.begin.ensures.stands
-    c.finish.new.self c.finish.new.thread c.finish.ensures.number c.finish.ensures.loaded c.finish.ensures.reply c.finish.ensures.above c.finish.ensures.leaves c.finish.ensures.done
+    c.requires.fitted.tells c.in-Some.ensures.turn c.finish.new.self c.finish.new.thread c.finish.ensures.number c.finish.ensures.loaded c.finish.ensures.reply c.finish.ensures.above c.finish.ensures.leaves c.finish.ensures.done
     c.self-2.inside.code.now c.self-2.inside.places.items (g.P.Port.state c.self-2.inside.port) c.self-2.inside.seats.items c.self-2.inside.hands.items c.self-2.view_is
     c.reply.new.packet c.reply.ensures.room c.reply.ensures.kind c.reply.ensures.gives
 
 pub employ-returns-clause-back : goal.employ-returns-clause-back
 employ-returns-clause-back g t c =
-    end_back c.args.self.now c.args.mailbox c.requires.fitted c.requires.inside c.requires.called c.requires.above c.self.inside.code.now c.self.inside.places.items (g.P.Port.state c.self.inside.port) (g.P.Port.state c.take.new.self)
-    c.self.inside.seats.items c.self.inside.hands.items c.self.view_is c.in-Some.packet c.in-Some.ensures.state c.in-Some.ensures.job c.in-Some.ensures.turn c.index_mut.result.now c.index_mut.ensures.value c.take-2.result c.take-2.ensures.value
+    end_back c.args.self.now c.args.mailbox c.requires.fitted.seated c.requires.inside c.requires.called.idle c.self.inside.code.now c.self.inside.places.items (g.P.Port.state c.self.inside.port) (g.P.Port.state c.take.new.self)
+    c.self.inside.seats.items c.self.inside.hands.items c.self.view_is c.in-Some.packet c.in-Some.ensures.state c.in-Some.ensures.job c.index_mut.result.now c.index_mut.ensures.value c.take-2.result c.take-2.ensures.value
     c.in-Some-take.thread c.in-Some-take.is
     (record { thread = c.take-2.new.self; job = c.index_mut.result.now.job }) c.begin.new.self c.begin.ensures.number c.begin.ensures.stands
-    c.finish.new.self c.finish.new.thread c.finish.ensures.number c.finish.ensures.loaded c.finish.ensures.reply c.finish.ensures.above c.finish.ensures.leaves c.finish.ensures.done
+    c.requires.fitted.tells c.in-Some.ensures.turn c.finish.new.self c.finish.new.thread c.finish.ensures.number c.finish.ensures.loaded c.finish.ensures.reply c.finish.ensures.above c.finish.ensures.leaves c.finish.ensures.done
     c.self-2.inside.code.now c.self-2.inside.places.items (g.P.Port.state c.self-2.inside.port) c.self-2.inside.seats.items c.self-2.inside.hands.items c.self-2.view_is
     c.reply.new.packet c.reply.ensures.room c.reply.ensures.kind c.reply.ensures.gives
-    (record { thread = Some c.finish.new.thread; job = c.index_mut-2.result.now.job }) refl (g.P.Port.state c.answer.new.self) c.answer.ensures
+    (record { thread = Some c.finish.new.thread; job = None }) refl refl (g.P.Port.state c.answer.new.self) c.answer.ensures c.requires.called.lacks
 
 pub employ-returns-clause-above : goal.employ-returns-clause-above
 employ-returns-clause-above g t c =
-    end_above c.args.self.now c.args.mailbox c.requires.fitted c.requires.inside c.requires.called c.requires.above c.self.inside.code.now c.self.inside.places.items (g.P.Port.state c.self.inside.port) (g.P.Port.state c.take.new.self)
-    c.self.inside.seats.items c.self.inside.hands.items c.self.view_is c.in-Some.packet c.in-Some.ensures.state c.in-Some.ensures.job c.in-Some.ensures.turn c.index_mut.result.now c.index_mut.ensures.value c.take-2.result c.take-2.ensures.value
+    end_above c.args.self.now c.args.mailbox c.requires.fitted.seated c.requires.inside c.requires.called.idle c.self.inside.code.now c.self.inside.places.items (g.P.Port.state c.self.inside.port) (g.P.Port.state c.take.new.self)
+    c.self.inside.seats.items c.self.inside.hands.items c.self.view_is c.in-Some.packet c.in-Some.ensures.state c.in-Some.ensures.job c.index_mut.result.now c.index_mut.ensures.value c.take-2.result c.take-2.ensures.value
     c.in-Some-take.thread c.in-Some-take.is
     (record { thread = c.take-2.new.self; job = c.index_mut.result.now.job }) c.begin.new.self c.begin.ensures.number c.begin.ensures.stands
-    c.finish.new.self c.finish.new.thread c.finish.ensures.number c.finish.ensures.loaded c.finish.ensures.reply c.finish.ensures.above c.finish.ensures.leaves c.finish.ensures.done
+    c.requires.fitted.tells c.in-Some.ensures.turn c.finish.new.self c.finish.new.thread c.finish.ensures.number c.finish.ensures.loaded c.finish.ensures.reply c.finish.ensures.above c.finish.ensures.leaves c.finish.ensures.done
     c.self-2.inside.code.now c.self-2.inside.places.items (g.P.Port.state c.self-2.inside.port) c.self-2.inside.seats.items c.self-2.inside.hands.items c.self-2.view_is
     c.reply.new.packet c.reply.ensures.room c.reply.ensures.kind c.reply.ensures.gives
-    (record { thread = Some c.finish.new.thread; job = c.index_mut-2.result.now.job }) refl (g.P.Port.state c.answer.new.self) c.answer.ensures
+    (record { thread = Some c.finish.new.thread; job = None }) refl refl (g.P.Port.state c.answer.new.self) c.answer.ensures
 
 pub employ-returns-clause-leaves : goal.employ-returns-clause-leaves
 employ-returns-clause-leaves g t c =
-    end_leaves c.args.self.now c.args.mailbox c.requires.fitted c.requires.inside c.requires.called c.requires.above c.self.inside.code.now c.self.inside.places.items (g.P.Port.state c.self.inside.port) (g.P.Port.state c.take.new.self)
-    c.self.inside.seats.items c.self.inside.hands.items c.self.view_is c.in-Some.packet c.in-Some.ensures.state c.in-Some.ensures.job c.in-Some.ensures.turn c.index_mut.result.now c.index_mut.ensures.value c.take-2.result c.take-2.ensures.value
+    end_leaves c.args.self.now c.args.mailbox c.requires.fitted.seated c.requires.inside c.requires.called.idle c.self.inside.code.now c.self.inside.places.items (g.P.Port.state c.self.inside.port) (g.P.Port.state c.take.new.self)
+    c.self.inside.seats.items c.self.inside.hands.items c.self.view_is c.in-Some.packet c.in-Some.ensures.state c.in-Some.ensures.job c.index_mut.result.now c.index_mut.ensures.value c.take-2.result c.take-2.ensures.value
     c.in-Some-take.thread c.in-Some-take.is
     (record { thread = c.take-2.new.self; job = c.index_mut.result.now.job }) c.begin.new.self c.begin.ensures.number c.begin.ensures.stands
-    c.finish.new.self c.finish.new.thread c.finish.ensures.number c.finish.ensures.loaded c.finish.ensures.reply c.finish.ensures.above c.finish.ensures.leaves c.finish.ensures.done
+    c.requires.fitted.tells c.in-Some.ensures.turn c.finish.new.self c.finish.new.thread c.finish.ensures.number c.finish.ensures.loaded c.finish.ensures.reply c.finish.ensures.above c.finish.ensures.leaves c.finish.ensures.done
     c.self-2.inside.code.now c.self-2.inside.places.items (g.P.Port.state c.self-2.inside.port) c.self-2.inside.seats.items c.self-2.inside.hands.items c.self-2.view_is
     c.reply.new.packet c.reply.ensures.room c.reply.ensures.kind c.reply.ensures.gives
-    (record { thread = Some c.finish.new.thread; job = c.index_mut-2.result.now.job }) refl (g.P.Port.state c.answer.new.self) c.answer.ensures
+    (record { thread = Some c.finish.new.thread; job = None }) refl refl (g.P.Port.state c.answer.new.self) c.answer.ensures
 
 -- ---- finish
 
@@ -264,32 +264,33 @@ consult-employ-requires g t c κs within =
     let le = above_m c.args.self.now c.loop-branch.self c.args.thread.now c.loop-branch.k c.in-Some.branch c.requires.fitted c.requires.fork c.loop-branch.invariant (sym c.active.ensures ∙ c.in-Some.is) in
     let lt = inside_m c.args.self.now c.loop-branch.self c.args.thread.now c.loop-branch.k c.in-Some.branch c.requires.fitted c.requires.fork c.loop-branch.invariant (sym c.active.ensures ∙ c.in-Some.is) in
     let fitted = fitted_b c.args.self.now c.loop-branch.self c.args.thread.now c.loop-branch.k c.in-Some.branch c.requires.fitted c.requires.fork c.loop-branch.invariant (sym c.active.ensures ∙ c.in-Some.is) in
-    let few = fitted.valid.shape.few_threads in
-    let same = fitted.valid.threads in
-    let boxes = fitted.mailboxes in
+    let few = fitted.seated.valid.shape.few_threads in
+    let same = fitted.seated.valid.threads in
+    let boxes = fitted.seated.mailboxes in
     let smaller : 3 * (256 - (c.in-Some.branch - 1)) + 3 < 3 * (257 - c.args.thread.now.number) + 1 = omega (arith, le, lt, few, same, boxes) in
     let above = sent_above c.args.self.now c.loop-branch.self c.args.thread.now c.loop-branch.k c.in-Some.branch c.requires.fitted c.requires.fork c.loop-branch.invariant (sym c.active.ensures ∙ c.in-Some.is) c.send.new.self c.send.ensures.moves in
     let count = c.send.ensures.moves.alike.count in
     let inside : c.in-Some.branch - 1 < length c.send.new.self.mail.ends = omega (arith, lt, count) in
-    (search rules, (within.0, (within.1, (search rules, (inside, (search rules, (c.send.ensures.called, above)))))))
+    let called = is_called c.args.self.now c.loop-branch.self c.args.thread.now c.loop-branch.k c.in-Some.branch c.requires.fitted c.requires.fork c.loop-branch.invariant (sym c.active.ensures ∙ c.in-Some.is) c.send.new.self c.send.ensures.moves c.send.ensures.lacks c.send.ensures.sent in
+    (search rules, (within.0, (within.1, (search rules, (inside, (search rules, (called, above)))))))
 
 pub employ-finish-requires : goal.employ-finish-requires
 employ-finish-requires g t c κs within =
-    let number = number1 c.args.self.now c.args.mailbox c.requires.fitted c.requires.inside c.requires.called c.requires.above c.self.inside.code.now c.self.inside.places.items (g.P.Port.state c.self.inside.port) (g.P.Port.state c.take.new.self)
-    c.self.inside.seats.items c.self.inside.hands.items c.self.view_is c.in-Some.packet c.in-Some.ensures.state c.in-Some.ensures.job c.in-Some.ensures.turn c.index_mut.result.now c.index_mut.ensures.value c.take-2.result c.take-2.ensures.value
+    let number = number1 c.args.self.now c.args.mailbox c.requires.fitted.seated c.requires.inside c.requires.called.idle c.self.inside.code.now c.self.inside.places.items (g.P.Port.state c.self.inside.port) (g.P.Port.state c.take.new.self)
+    c.self.inside.seats.items c.self.inside.hands.items c.self.view_is c.in-Some.packet c.in-Some.ensures.state c.in-Some.ensures.job c.index_mut.result.now c.index_mut.ensures.value c.take-2.result c.take-2.ensures.value
     c.in-Some-take.thread c.in-Some-take.is
     (record { thread = c.take-2.new.self; job = c.index_mut.result.now.job }) c.begin.new.self c.begin.ensures.number c.begin.ensures.stands in
     let smaller : 3 * (257 - c.begin.new.self.number) + 2 < 3 * (256 - c.args.mailbox) + 3 = omega (arith, number) in
-    let fitted = raw_fitted c.args.self.now c.args.mailbox c.requires.fitted c.requires.inside c.requires.called c.requires.above c.self.inside.code.now c.self.inside.places.items (g.P.Port.state c.self.inside.port) (g.P.Port.state c.take.new.self)
-    c.self.inside.seats.items c.self.inside.hands.items c.self.view_is c.in-Some.packet c.in-Some.ensures.state c.in-Some.ensures.job c.in-Some.ensures.turn c.index_mut.result.now c.index_mut.ensures.value c.take-2.result c.take-2.ensures.value
+    let fitted = raw_fitted c.args.self.now c.args.mailbox c.requires.fitted.seated c.requires.inside c.requires.called.idle c.self.inside.code.now c.self.inside.places.items (g.P.Port.state c.self.inside.port) (g.P.Port.state c.take.new.self)
+    c.self.inside.seats.items c.self.inside.hands.items c.self.view_is c.in-Some.packet c.in-Some.ensures.state c.in-Some.ensures.job c.index_mut.result.now c.index_mut.ensures.value c.take-2.result c.take-2.ensures.value
     c.in-Some-take.thread c.in-Some-take.is
-    (record { thread = c.take-2.new.self; job = c.index_mut.result.now.job }) in
-    let begun = raw_followed c.args.self.now c.args.mailbox c.requires.fitted c.requires.inside c.requires.called c.requires.above c.self.inside.code.now c.self.inside.places.items (g.P.Port.state c.self.inside.port) (g.P.Port.state c.take.new.self)
-    c.self.inside.seats.items c.self.inside.hands.items c.self.view_is c.in-Some.packet c.in-Some.ensures.state c.in-Some.ensures.job c.in-Some.ensures.turn c.index_mut.result.now c.index_mut.ensures.value c.take-2.result c.take-2.ensures.value
-    c.in-Some-take.thread c.in-Some-take.is
-    (record { thread = c.take-2.new.self; job = c.index_mut.result.now.job }) c.begin.new.self c.begin.ensures.number c.begin.ensures.stands in
-    let above = raw_above c.args.self.now c.args.mailbox c.requires.fitted c.requires.inside c.requires.called c.requires.above c.self.inside.code.now c.self.inside.places.items (g.P.Port.state c.self.inside.port) (g.P.Port.state c.take.new.self)
-    c.self.inside.seats.items c.self.inside.hands.items c.self.view_is c.in-Some.packet c.in-Some.ensures.state c.in-Some.ensures.job c.in-Some.ensures.turn c.index_mut.result.now c.index_mut.ensures.value c.take-2.result c.take-2.ensures.value
+    (record { thread = c.take-2.new.self; job = c.index_mut.result.now.job }) c.requires.fitted.tells in
+    let begun = raw_followed c.args.self.now c.args.mailbox c.requires.fitted.seated c.requires.inside c.requires.called.idle c.self.inside.code.now c.self.inside.places.items (g.P.Port.state c.self.inside.port) (g.P.Port.state c.take.new.self)
+    c.self.inside.seats.items c.self.inside.hands.items c.self.view_is c.in-Some.packet c.in-Some.ensures.state c.in-Some.ensures.job c.index_mut.result.now c.index_mut.ensures.value c.take-2.result c.take-2.ensures.value
     c.in-Some-take.thread c.in-Some-take.is
     (record { thread = c.take-2.new.self; job = c.index_mut.result.now.job }) c.begin.new.self c.begin.ensures.number c.begin.ensures.stands in
+    let above = raw_above c.args.self.now c.args.mailbox c.requires.fitted.seated c.requires.inside c.requires.called.idle c.self.inside.code.now c.self.inside.places.items (g.P.Port.state c.self.inside.port) (g.P.Port.state c.take.new.self)
+    c.self.inside.seats.items c.self.inside.hands.items c.self.view_is c.in-Some.packet c.in-Some.ensures.state c.in-Some.ensures.job c.index_mut.result.now c.index_mut.ensures.value c.take-2.result c.take-2.ensures.value
+    c.in-Some-take.thread c.in-Some-take.is
+    (record { thread = c.take-2.new.self; job = c.index_mut.result.now.job }) c.begin.new.self c.begin.ensures.number c.begin.ensures.stands c.requires.above in
     (search rules, (within.0, (within.1, (search rules, (fitted, (c.begin.ensures.loaded, (c.begin.ensures.running, (begun, above))))))))

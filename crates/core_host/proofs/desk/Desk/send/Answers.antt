@@ -9,10 +9,10 @@ use Rattle.copy_slots.specs.Mail.{sender_sent}
 use Rattle.copy_slots.specs.Ports.{sent}
 use Rattle.core_machine.specs.Forks.{jobs_at, branch_at}
 use Rattle.core_host.specs.Asking.{Asks}
-use Rattle.core_host.specs.Keeping.{State, code_in, IsCalled}
+use Rattle.core_host.specs.Keeping.{State, code_in, LacksPacket}
 use Rattle.core_host.specs.Moving.{Moves, HasSent}
 use Rattle.core_host.proofs.Mails.{state, with_parent}
-use Rattle.core_host.proofs.Send.{asks_now, sent_moves, sent_called, has_sent}
+use Rattle.core_host.proofs.Send.{asks_now, sent_moves, sent_lacks, has_sent}
 use Rattle.core_host.proofs.desk.Desk.send.Goals as goal
 
 pub offer-requires-clause-asks : goal.offer-requires-clause-asks
@@ -23,7 +23,7 @@ offer-requires-clause-asks g c =
     let port = g.P.Port.state c.self.inside.port in
     let code : c.self.inside.code.now ≡ s.code = ap (λ (s : State). s.code) c.self.view_is ∙ c.packet-packet.ensures.moves.code in
     let work : port.work.code.value ≡ s.code =
-    ap (λ (s : State). s.mail.work.code.value) c.self.view_is ∙ ap (λ w. w.code.value) c.packet-packet.ensures.moves.alike.work ∙ c.requires.fitted.work in
+    ap (λ (s : State). s.mail.work.code.value) c.self.view_is ∙ ap (λ w. w.code.value) c.packet-packet.ensures.moves.alike.work ∙ c.requires.seated.work in
     let job = c.requires.job in
     let is : IsJob q job.job.job = (c.job.ensures.job job.job (ap (λ (x : CodeParts). slice_get (jobs_at (plain_code x) c.args.thread.now) c.args.k) code ∙ job.at)).1 in
     let sent_same : sent port m ≡ sent s.mail m = ap (λ (s : State). sent s.mail m) c.self.view_is ∙ c.packet-packet.ensures.sent in
@@ -41,19 +41,16 @@ now_is g c =
     ap (λ m. state c.self.inside.code.now c.self.inside.places.items m c.self.inside.seats.items c.self.inside.hands.items) c.offer.ensures
     ∙ ap (λ (s : State). with_parent s c.args.mailbox (sender_sent (plain_packet c.job.new.packet)) s.hands) c.self.view_is
 
-inside : (g : _) (c : goal.After-offer g) → c.args.mailbox < length c.args.self.now.mail.ends
-inside g c = c.requires.job.inside
-
 pub returns-clause-moves : goal.returns-clause-moves
 returns-clause-moves g c =
     subst (Moves c.args.mailbox c.args.self.now) (sym (now_is g c))
-    (sent_moves c.args.self.now c.packet-packet.new.self c.args.mailbox c.requires.fitted (inside g c) c.requires.quiet c.packet-packet.ensures.moves c.packet-packet.ensures.held c.packet-packet.ensures.sent
+    (sent_moves c.args.self.now c.packet-packet.new.self c.args.mailbox c.packet-packet.ensures.moves c.packet-packet.ensures.held c.packet-packet.ensures.empty c.packet-packet.ensures.sent
     c.packet-packet.ensures.got (plain_packet c.job.new.packet))
 
-pub returns-clause-called : goal.returns-clause-called
-returns-clause-called g c =
-    subst (λ (s : State). IsCalled s c.args.mailbox) (sym (now_is g c))
-    (sent_called c.args.self.now c.packet-packet.new.self c.args.mailbox c.requires.fitted (inside g c) c.requires.quiet c.packet-packet.ensures.moves c.packet-packet.ensures.held c.packet-packet.ensures.sent
+pub returns-clause-lacks : goal.returns-clause-lacks
+returns-clause-lacks g c =
+    subst (λ (s : State). LacksPacket s c.args.mailbox) (sym (now_is g c))
+    (sent_lacks c.args.self.now c.packet-packet.new.self c.args.mailbox c.packet-packet.ensures.moves c.packet-packet.ensures.held c.packet-packet.ensures.empty c.packet-packet.ensures.sent
     c.packet-packet.ensures.got (plain_packet c.job.new.packet))
 
 pub returns-clause-sent : goal.returns-clause-sent
@@ -61,5 +58,5 @@ returns-clause-sent g c w at =
     let code : c.self.inside.code.now ≡ c.args.self.now.code = ap (λ (s : State). s.code) c.self.view_is ∙ c.packet-packet.ensures.moves.code in
     let is = (c.job.ensures.job w (ap (λ (x : CodeParts). slice_get (jobs_at (plain_code x) c.args.thread.now) c.args.k) code ∙ at)).1 in
     subst (λ (s : State). HasSent c.args.self.now s c.args.mailbox w.job) (sym (now_is g c))
-    (has_sent c.args.self.now c.packet-packet.new.self c.args.mailbox c.requires.fitted (inside g c) c.requires.quiet c.packet-packet.ensures.moves c.packet-packet.ensures.held c.packet-packet.ensures.sent
+    (has_sent c.args.self.now c.packet-packet.new.self c.args.mailbox c.packet-packet.ensures.moves c.packet-packet.ensures.held c.packet-packet.ensures.empty c.packet-packet.ensures.sent
     c.packet-packet.ensures.got (plain_packet c.job.new.packet) w.job is)

@@ -8,6 +8,7 @@ use Rattle.thread_code.specs.declared.instruction.CodeParts.{CodeParts}
 use Rattle.thread_code.specs.Plain.{plain_block, plain_code}
 use Rattle.thread_code.specs.Valid.{of_shape}
 use Rattle.combine_tree.specs.Plain.{plain_packet}
+use Rattle.core_host.specs.Loads.{AreOwn}
 use Rattle.core_host.specs.Hosted.{Hosted, hosted, is_here, IsWhole}
 use Rattle.core_host.specs.Rests.{IsHosted}
 use Rattle.core_host.specs.Runs.{HasJobs, HasRun}
@@ -18,6 +19,14 @@ use Rattle.core_host.proofs.host.Host.load.Goals as goal
 
 pub invariant_of-result : goal.invariant_of-result
 invariant_of-result g c =
+    let cores : c.in_ok-cores.cores.items ≡ c.args.cores.now = search rules in (
+      subst (λ l. AreOwn c.in_ok-places.places.items l c.in_ok-own.own.items) (sym cores)
+          (subst (λ l. AreOwn l c.args.cores.now c.in_ok-own.own.items) c.deref-2.ensures.value c.in_ok-own.ensures),
+      (omega arith, tt),
+    )
+
+pub invariant_of-result-2 : goal.invariant_of-result-2
+invariant_of-result-2 g c =
     let s = (plain_code c.args.code.now).shape in
     let valid = c.parts.ensures.valid in
     let fine = valid.shape in
@@ -42,6 +51,17 @@ invariant_of-result g c =
     ∙ ap (λ l. hosted (record { code = c.args.code.now; places = c.in_ok-places.places.items; mail = g.P.Port.state c.args.port; seats = c.in_ok-seats.seats.items; hands = c.in_ok-hands.hands.items }) l c.in_ok-root.root true) (sym cores) in
     subst IsHosted host (new_hosted c.args.code.now valid c.args.placement.now c.args.cores.now (g.P.Port.state c.args.port) c.requires c.in_ok-places.ensures.placed c.in_ok-seats.seats.items count
     (λ t core z place at. c.in_ok-seats.ensures.each t core z (ap (λ l. slice_get l t) read ∙ place) at) c.in_ok-hands.hands.items hands c.in_ok-hands.ensures.each c.in_ok-root.root room kind)
+
+pub own_mailboxes-requires : goal.own_mailboxes-requires
+own_mailboxes-requires g c =
+    let valid = c.parts.ensures.valid in
+    let some = valid.shape.some in
+    let threads = valid.threads in
+    let placed = c.requires.placed in
+    let same = c.in_ok-places.ensures.same in
+    let read = c.deref-2.ensures.value in
+    let few = valid.shape.few_threads in
+    let count = ap length (read ∙ same) in record { some = omega (arith, some, threads, placed, count); few = omega (arith, few, threads, placed, count) }
 
 pub returns-clause-jobs : goal.returns-clause-jobs
 returns-clause-jobs g c here =

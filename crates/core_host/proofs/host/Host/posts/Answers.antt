@@ -3,6 +3,7 @@ use Rattle.copy_slots.specs.Ports.{ChildIs}
 use Rattle.core_host.specs.Hosted.{Hosted, code_of}
 use Rattle.core_host.specs.Posts.{HasPostedTaken}
 use Rattle.core_host.proofs.Ticking.{root_posted, idle_posted}
+use Rattle.core_host.proofs.Hosting.{idle_between}
 use Rattle.core_host.proofs.host.Host.posts.Goals as goal
 
 pub returns-clause-root : goal.returns-clause-root
@@ -11,5 +12,5 @@ returns-clause-root g c jobs j = root_posted c.args.self.now jobs j
 pub returns-clause-taken : goal.returns-clause-taken
 returns-clause-taken g c k lt rests =
     subst (λ (h : Hosted). HasPostedTaken (code_of h) h.mail k) c.self.view_is
-    (idle_posted c.self.inside.desk k
-    (c.self.invariant.idle k (subst (λ (h : Hosted). k < length h.mail.ends) (sym c.self.view_is) lt) (subst (λ (h : Hosted). ChildIs h.mail k false) (sym c.self.view_is) rests)))
+    (let rest = subst (λ (h : Hosted). ChildIs h.mail k false) (sym c.self.view_is) rests in
+    idle_posted c.self.inside.desk k (idle_between c.self.inside.desk k (c.self.invariant.between k (subst (λ (h : Hosted). k < length h.mail.ends) (sym c.self.view_is) lt) (false, rest)) rest))

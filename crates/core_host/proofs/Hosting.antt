@@ -1,0 +1,156 @@
+-- A host serves mailboxes.
+use Rattle.std.proofs.Common.{◌≡◌, ◌≢◌, ℕ, zero, suc, ◌+◌, ◌-◌, ◌<◌, ◌≤◌, ◌==◌, Bool, true, false, cond, Option, Some, None, List, [], ◌∷◌, length, refl, sym, ap, ◌∙◌, subst, arith}
+use Rattle.std.specs.Prelude.{slice_get}
+use Rattle.std.proofs.lemmas.Bool.Decides.{nat_tests}
+use Rattle.forec_kernel.specs.Combining.{contains}
+use Rattle.forec_kernel.specs.Shapes.{PlainKernel}
+use Rattle.forec_kernel.specs.WellFormed.{WellFormed}
+use Rattle.forec_kernel.specs.Packed.{HasRoom}
+use Rattle.forec_kernel.specs.Engine.{Job}
+use Rattle.forec_kernel.specs.Composed.{Turn}
+use Rattle.thread_code.specs.Plain.{PlainCode, plain_code}
+use Rattle.thread_code.specs.Valid.{of_shape, IsValidCode}
+use Rattle.thread_code.specs.Alone.{Stands}
+use Rattle.thread_code.specs.Laws.{EachFits}
+use Rattle.combine_tree.specs.declared.packet.Packet.{Packet}
+use Rattle.combine_tree.specs.Plain.{plain_packet}
+use Rattle.core_machine.specs.declared.thread.Thread.{Thread}
+use Rattle.core_machine.specs.Held.{Loaded}
+use Rattle.copy_slots.specs.declared.view.Taker.{Taker}
+use Rattle.copy_slots.specs.Ports.{child_at, IsChild, ChildIs}
+use Rattle.core_host.specs.Posts.{IsBranchOf}
+use Rattle.core_host.specs.Loads.{is_on, AreOwn}
+use Rattle.core_host.specs.Done.{HasDone}
+use Rattle.core_host.specs.Keeping.{State, code_in, IsSeated, Sits, Idle}
+use Rattle.core_host.specs.Waiting.{HasChild, IsBetween, rests, waits}
+use Rattle.core_host.specs.Serving.{KeepsServing}
+use Rattle.core_host.specs.Hosted.{Hosted, hosted, state_in, code_of, is_here, IsWhole}
+use Rattle.core_host.specs.Rests.{RootRests, IsHosted}
+use Rattle.core_host.specs.Runs.{HasJobs, HasTicked, HasRun}
+use Rattle.core_host.proofs.Mails.{some_once}
+use Rattle.core_host.proofs.Keep.{done_keeps}
+use Rattle.core_host.proofs.Serves.{keeps_seated, both_held}
+
+-- ---- lists
+
+is_it : (a b : ℕ) → (a == b) ≡ true → a ≡ b
+is_it a b e = grind (arith, nat_tests)
+
+contains_where : (l : List ℕ) (k : ℕ) → contains k l ≡ true → (i : ℕ) × (slice_get l i ≡ Some k)
+contains_where [] k e = cc
+contains_where (x ∷ l) k e = pick (x == k) refl e (contains_where l k)
+  where
+    pick : (t : Bool) → (x == k) ≡ t → cond t true (contains k l) ≡ true → (contains k l ≡ true → (i : ℕ) × (slice_get l i ≡ Some k)) → (i : ℕ) × (slice_get (x ∷ l) i ≡ Some k)
+    pick true q e ih = (0, ap Some (is_it x k q))
+    pick false q e ih = let r = ih e in (suc r.0, r.1)
+
+-- ---- what a host keeps
+
+pub hosted_seated : (s : State) (cores : List ℕ) (root : Packet) (live : Bool) → IsHosted (hosted s cores root live) → IsSeated s
+hosted_seated s cores root live inv = record { valid = inv.valid; work = inv.work; mailboxes = inv.mailboxes; seats = inv.seats; hands = inv.hands; places = inv.places }
+
+module _ (s0 s1 : State) (cores : List ℕ) (root : Packet) (live : Bool) (keeps : KeepsServing s0 s1) where
+  abbrev h0 : Hosted
+  h0 = hosted s0 cores root live
+
+  abbrev h1 : Hosted
+  h1 = hosted s1 cores root live
+
+  back : (t : ℕ) → is_here h1 t ≡ true → is_here h0 t ≡ true
+  back t on = ap (λ l. is_on l cores t) (sym keeps.places) ∙ on
+
+  whole_back : IsWhole h1 → IsWhole h0
+  whole_back w = record {
+    tells = sym keeps.alike.tells ∙ w.tells;
+    all = λ t lt. back t (w.all t (subst (λ x. t < length (plain_code x).threads) (sym keeps.code) lt));
+  }
+
+  pub whole_keeps : IsWhole h0 → IsWhole h1
+  whole_keeps w = record {
+    tells = keeps.alike.tells ∙ w.tells;
+    all = λ t lt. ap (λ l. is_on l cores t) keeps.places ∙ w.all t (subst (λ x. t < length (plain_code x).threads) keeps.code lt);
+  }
+
+  sits_back : (t : Thread) → Sits s1 0 t → Sits s0 0 t
+  sits_back t sits = record {
+    seat = sits.seat;
+    at = sym keeps.seat ∙ sits.at;
+    is = sits.is;
+    loaded = subst (λ x. Loaded (plain_code x) t) keeps.code sits.loaded;
+    number = sits.number;
+  }
+
+  sits_still : (t : Thread) → Sits s0 0 t → Sits s1 0 t
+  sits_still t sits = record {
+    seat = sits.seat;
+    at = keeps.seat ∙ sits.at;
+    is = sits.is;
+    loaded = subst (λ x. Loaded (plain_code x) t) (sym keeps.code) sits.loaded;
+    number = sits.number;
+  }
+
+  done_still : (t : Thread) (jobs : List Job) → t.number ≡ 0 → HasDone (code_in s0) t s0.mail jobs → HasDone (code_in s1) t s1.mail jobs
+  done_still t jobs number done =
+      subst (λ x. HasDone (plain_code x) t s1.mail jobs) (sym keeps.code)
+      (done_keeps (code_in s0) t s0.mail s1.mail jobs (λ j mine. keeps.root j (subst (λ n. IsBranchOf (code_in s0).shape n j) number mine)) done)
+
+  pub jobs_keep : (jobs : List Job) → HasJobs h0 jobs → HasJobs h1 jobs
+  jobs_keep jobs j = record {
+    thread = j.thread;
+    sits = sits_still j.thread j.sits;
+    fit = subst (λ x. EachFits (plain_code x).shape 0 jobs) (sym keeps.code) j.fit;
+    done = done_still j.thread jobs j.sits.number j.done;
+  }
+
+  pub run_keeps : (turns : List Turn) → HasRun h0 turns → HasRun h1 turns
+  unfolding HasRun
+  run_keeps turns run k fine stands =
+      let t = run k fine (subst (λ x. Stands (plain_code x) k) keeps.code stands) in record { jobs = jobs_keep _ t.jobs; keeps = t.keeps }
+
+  module _ (inv : IsHosted h0) where
+    within : (k : ℕ) → k < length s1.mail.ends → k < length s0.mail.ends
+    within k lt = let count = keeps.alike.count in omega (arith, lt, count)
+
+    root_still : RootRests s0 → RootRests s1
+    root_still r = record { thread = r.thread; sits = sits_still r.thread r.sits; resting = r.resting; jobs = r.jobs; done = done_still r.thread r.jobs r.sits.number r.done }
+
+    pub served_hosted : IsHosted h1
+    served_hosted =
+        let seated = keeps_seated s0 s1 keeps (hosted_seated s0 cores root live inv) in
+        record {
+          valid = seated.valid;
+          work = seated.work;
+          mailboxes = seated.mailboxes;
+          seats = seated.seats;
+          hands = seated.hands;
+          places = seated.places;
+          room = subst (λ x. HasRoom (of_shape (plain_code x).shape) 0 (plain_packet root)) (sym keeps.code) inv.room;
+          root = λ on. root_still (inv.root (back 0 on));
+          ready = λ e t sits. inv.ready e t (sits_back t sits);
+          here = λ k lt on. keeps.here k (inv.here k (within k lt) (back (suc k) on));
+          between = λ k lt there. keeps.between k (inv.between k (within k lt) (keeps.was_here k there));
+          whole = λ w k lt. keeps.quiet (whole_back w).tells (λ j less. inv.whole (whole_back w) j less) k (within k lt);
+        }
+
+-- ---- its mailboxes
+
+module _ (s : State) (cores : List ℕ) (root : Packet) (live : Bool) (inv : IsHosted (hosted s cores root live)) (own : List ℕ) (are : AreOwn s.places cores own) where
+  pub its_own : (i k : ℕ) → slice_get own i ≡ Some k → (k < length s.mail.ends) × (is_here (hosted s cores root live) (suc k) ≡ true)
+  its_own i k at =
+      let o = are.here i k at in
+      let lt = o.0 in (omega (arith, lt, inv.places, inv.mailboxes), o.1)
+
+  pub each_between : (i k : ℕ) → slice_get own i ≡ Some k → (k < length s.mail.ends) × IsBetween s k
+  each_between i k at = let o = its_own i k at in (o.0, inv.between k o.0 (inv.here k o.0 o.1))
+
+  pub where_own : (k : ℕ) → k < length s.mail.ends → is_here (hosted s cores root live) (suc k) ≡ true → (i : ℕ) × (slice_get own i ≡ Some k)
+  where_own k lt on = contains_where own k (are.all k (omega (arith, lt, inv.places, inv.mailboxes)) on)
+
+-- ---- a thread that rests
+
+pub idle_between : (s : State) (k : ℕ) → IsBetween s k → ChildIs s.mail k false → Idle s k
+idle_between s k (rests r) rest = r.idle
+idle_between s k (waits w) rest =
+    let n = w.waiting.work.number in
+    let t = w.sits.number in
+    let at : w.waiting.work.mailbox ≡ k = omega (arith, n, t) in absurd (both_held (child_at s.mail.ends k) rest (subst (λ i. ChildIs s.mail i true) at w.waiting.work.child))

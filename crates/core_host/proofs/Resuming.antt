@@ -1,0 +1,208 @@
+-- A thread that waits looks for the replies of its branches, and goes on with them.
+use Rattle.std.proofs.Common.{◌≡◌, ◌≢◌, ℕ, zero, suc, ◌+◌, ◌<◌, ◌≤◌, Bool, true, false, Option, Some, None, List, [], ◌∷◌, ◌++◌, length, map, refl, sym, ap, ◌∙◌, subst, arith}
+use Rattle.std.specs.Prelude.{slice_get, slice_set, drop}
+use Rattle.std.proofs.lemmas.List.{length-set, length-map}
+use Rattle.forec_kernel.specs.Packets.{PlainPacket}
+use Rattle.forec_kernel.specs.Packed.{HasRoom}
+use Rattle.forec_kernel.specs.Engine.{Job, Reply, Written, Exchange, Answered, pair_up}
+use Rattle.thread_code.specs.Plain.{PlainCode, plain_code}
+use Rattle.thread_code.specs.Valid.{of_shape}
+use Rattle.combine_tree.specs.declared.packet.Packet.{Packet}
+use Rattle.combine_tree.specs.Plain.{plain_packet}
+use Rattle.core_machine.specs.declared.thread.Thread.{Thread}
+use Rattle.core_machine.specs.Held.{Loaded, StandsFor}
+use Rattle.core_machine.specs.Forks.{jobs_at, with_replies}
+use Rattle.copy_slots.specs.declared.view.Taker.{Taker}
+use Rattle.copy_slots.specs.Ports.{parent_at, child_at, answered_by, IsChild, ChildIs, answered}
+use Rattle.core_host.specs.declared.seat.Seat.{Seat}
+use Rattle.core_host.specs.Posts.{Mail, IsBranchOf}
+use Rattle.core_host.specs.Changes.{Grown, Awaits, IsIdle}
+use Rattle.core_host.specs.Writing.{heard, told}
+use Rattle.core_host.specs.Done.{Posts, InJob}
+use Rattle.core_host.specs.Keeping.{State, code_in, Alike, IsSeated, Sits, HaveHeard}
+use Rattle.core_host.specs.Waiting.{HasTold, IsAtWork, IsWorking, IsWaiting, HasReplies, WaitsAt, IsBetween, waits}
+use Rattle.core_host.specs.Serving.{MovesBranches, Touches, HasMissed}
+use Rattle.core_host.proofs.Mails.{get_set, get_set_else, some_once}
+use Rattle.core_host.proofs.Forked.{with_none, in_job_now}
+use Rattle.core_host.proofs.Telling.{told_posts, posts_told}
+use Rattle.core_host.proofs.Waits.{waiting_keeps}
+use Rattle.core_host.proofs.Gathers.{all_heard}
+
+-- ---- out of its seat
+
+module _ (s0 : State) (m : ℕ) (inside : m < length s0.mail.ends) (seated : IsSeated s0) (w : WaitsAt s0 m) (x : Seat) (found : slice_get s0.seats (m + 1) ≡ Some x) (s1 : State) (rising : s1 ≡ record s0 { seats = slice_set s0.seats (m + 1) (record { thread = None; job = None }) })
+    (h : Thread) (is : x.thread ≡ Some h) (p : Packet) (holds : x.job ≡ Some p) where
+  abbrev empty : Seat
+  empty = record { thread = None; job = None }
+
+  one : m + 1 ≡ suc m
+  one = omega arith
+
+  seat_is : w.sits.seat ≡ x
+  seat_is = some_once w.sits.seat x (sym w.sits.at ∙ ap (λ n. slice_get s0.seats n) (sym one) ∙ found)
+
+  same_thread : w.thread ≡ h
+  same_thread = some_once w.thread h (sym w.sits.is ∙ ap (λ (z : Seat). z.thread) seat_is ∙ is)
+
+  same_packet : w.packet ≡ p
+  same_packet = some_once w.packet p (sym w.holds ∙ ap (λ (z : Seat). z.job) seat_is ∙ holds)
+
+  pub its_number : h.number ≡ suc m
+  its_number = ap (λ (t : Thread). t.number) (sym same_thread) ∙ w.sits.number
+
+  pub up_waits : IsWaiting s1 h
+  up_waits =
+      subst (λ s. IsWaiting s h) (sym rising)
+      (subst (IsWaiting (record s0 { seats = slice_set s0.seats (m + 1) empty })) same_thread
+      (waiting_keeps s0 s0.mail (slice_set s0.seats (m + 1) empty) s0.hands refl refl w.thread (λ j mine. refl) (λ j mine. refl) w.waiting refl))
+
+  mail_is : s1.mail ≡ s0.mail
+  mail_is = ap (λ (s : State). s.mail) rising
+
+  code_is : s1.code ≡ s0.code
+  code_is = ap (λ (s : State). s.code) rising
+
+  child_0 : ChildIs s0.mail m true
+  child_0 =
+      let n = w.waiting.work.number in
+      let k = w.sits.number in
+      let at : w.waiting.work.mailbox ≡ m = omega (arith, n, k) in subst (λ i. ChildIs s0.mail i true) at w.waiting.work.child
+
+  module _ (s2 : State) (moves : MovesBranches h.number s1 s2) where
+    code2 : s2.code ≡ s0.code
+    code2 = moves.code ∙ code_is
+
+    child2 : (j : ℕ) → child_at s2.mail.ends j ≡ child_at s0.mail.ends j
+    child2 j = moves.children j ∙ ap (λ (s : State). child_at s.mail.ends j) rising
+
+    pub same_answered : answered s2.mail m ≡ answered s0.mail m
+    same_answered = ap answered_by (child2 m)
+
+    not_mine : (j : ℕ) → (IsBranchOf (code_in s0).shape (suc m) j → ⊥) → IsBranchOf (code_in s1).shape h.number j → ⊥
+    not_mine j n mine = n (subst (λ t. IsBranchOf (code_in s0).shape t j) its_number (subst (λ c. IsBranchOf (plain_code c).shape h.number j) code_is mine))
+
+    seat_else : (j : ℕ) → j ≢ suc m → slice_get s1.seats j ≡ slice_get s0.seats j
+    seat_else j n = ap (λ (s : State). slice_get s.seats j) rising ∙ get_set_else s0.seats (m + 1) j empty (λ e. n (e ∙ one))
+
+    pub up_touches : Touches m s0 s2
+    up_touches = record {
+      code = code2;
+      places = moves.places ∙ ap (λ (s : State). s.places) rising;
+      alike = subst (λ (mail : Mail). Alike mail s2.mail) mail_is moves.alike;
+      grown = subst (λ (mail : Mail). Grown mail s2.mail) mail_is moves.grown;
+      seats = λ j n. ap (λ l. slice_get l j) moves.seats ∙ seat_else j n;
+      seat_count = ap length moves.seats ∙ ap (λ (s : State). length s.seats) rising ∙ length-set s0.seats (m + 1) empty;
+      children = λ j n. child2 j;
+      parents = λ j n. moves.parents j (not_mine j n) ∙ ap (λ (s : State). parent_at s.mail.ends j) rising;
+      hands = λ j n. moves.hands j (not_mine j n) ∙ ap (λ (s : State). slice_get s.hands j) rising;
+      hand_count = moves.hand_count ∙ ap (λ (s : State). length s.hands) rising;
+    }
+
+    pub up_room : HasRoom (of_shape (code_in s2).shape) (suc m) (plain_packet p)
+    up_room = subst (λ c. HasRoom (of_shape (plain_code c).shape) (suc m) (plain_packet p)) (sym code2) (subst (λ q. HasRoom (of_shape (code_in s0).shape) (suc m) (plain_packet q)) same_packet w.room)
+
+    in_seats : m + 1 < length s2.seats
+    in_seats =
+        let count = ap length moves.seats in
+        let rise = ap (λ (s : State). length s.seats) rising in
+        let set = length-set s0.seats (m + 1) empty in omega (arith, inside, count, rise, set, seated.seats, seated.mailboxes)
+
+    -- ---- back into it
+
+    module _ (waiting : IsWaiting s2 h) (s3 : State) (sitting : s3 ≡ record s2 { seats = slice_set s2.seats (m + 1) (record { thread = Some h; job = Some p }) }) where
+      abbrev seat : Seat
+      seat = record { thread = Some h; job = Some p }
+
+      abbrev s3' : State
+      s3' = record s2 { seats = slice_set s2.seats (m + 1) seat }
+
+      pub down_between : IsBetween s3 m
+      down_between =
+          subst (λ s. IsBetween s m) (sym sitting) (waits (record {
+            thread = h;
+            sits = record { seat = seat; at = ap (λ n. slice_get s3'.seats n) (sym one) ∙ get_set s2.seats (m + 1) seat in_seats; is = refl; loaded = waiting.work.loaded; number = its_number };
+            packet = p;
+            holds = refl;
+            room = up_room;
+            waiting = waiting_keeps s2 s2.mail (slice_set s2.seats (m + 1) seat) s2.hands refl refl h (λ j mine. refl) (λ j mine. refl) waiting refl;
+          }))
+
+      pub down_touches : Touches m s0 s3
+      down_touches =
+          let t = up_touches in
+          subst (Touches m s0) (sym sitting) (record {
+            code = t.code;
+            places = t.places;
+            alike = t.alike;
+            grown = t.grown;
+            seats = λ j n. get_set_else s2.seats (m + 1) j seat (λ e. n (e ∙ one)) ∙ t.seats j n;
+            seat_count = length-set s2.seats (m + 1) seat ∙ t.seat_count;
+            children = t.children;
+            parents = t.parents;
+            hands = t.hands;
+            hand_count = t.hand_count;
+          })
+
+      pub down_missed : ((k : ℕ) → h.number ≡ suc k → Awaits (code_in s1).shape s1.mail s2.mail k) → HasMissed m s0 s3
+      down_missed awaits =
+          subst (HasMissed m s0) (sym sitting) (record {
+            idle = record {
+              rests = λ rest. absurd (both (child_at s2.mail.ends m) (subst (λ (o : Option (Taker PlainPacket)). IsChild o true) (sym (child2 m)) child_0) rest);
+              forked = λ _. subst (λ (s : State). Awaits (code_in s).shape s.mail s2.mail m) rising (awaits m its_number);
+            };
+            answered = same_answered;
+          })
+        where
+          never : (b : Bool) → b ≡ true → b ≡ false → ⊥
+          never b e f = let g = sym e ∙ f in cc
+
+          both : (o : Option (Taker PlainPacket)) → IsChild o true → IsChild o false → ⊥
+          both None e f = e
+          both (Some z) e f = never z.holds e f
+
+-- ---- on with the replies
+
+module _ (s : State) (seated : IsSeated s) (h : Thread) (r : HasReplies s h) (h2 h3 : Thread) (loaded3 : Loaded (code_in s) h3) (number2 : h2.number ≡ h.number) (number3 : h3.number ≡ h2.number) (branches2 : h2.branches.numbers ≡ h.branches.numbers)
+    (settles : (rs : List Reply) (xs : List Exchange) → HaveHeard s h.branches.numbers rs → StandsFor (code_in s) h (with_replies xs []) → StandsFor (code_in s) h2 (with_replies xs rs))
+    (joins : (rs : List Reply) (xs : List Exchange) → HaveHeard s h2.branches.numbers rs → StandsFor (code_in s) h2 (with_replies xs rs) → StandsFor (code_in s) h3 (with_replies xs rs)) where
+  abbrev w : IsWaiting s h
+  w = r.waiting
+
+  abbrev k : IsAtWork s h
+  k = r.waiting.work
+
+  abbrev rs : List Reply
+  rs = r.waiting.replies
+
+  abbrev ws : List Written
+  ws = jobs_at (code_in s) h
+
+  abbrev pairs : List Answered
+  pairs = told (code_in s) h.number k.jobs k.job k.log
+
+  nothing_left : (l : List Written) (n : ℕ) → length l ≤ n → drop n l ≡ []
+  nothing_left [] zero le = refl
+  nothing_left [] (suc n) le = refl
+  nothing_left (v ∷ l) zero le = absurd (omega (arith, le))
+  nothing_left (v ∷ l) (suc n) le = nothing_left l n (omega (arith, le))
+
+  all_told : HasTold s h.number (pairs ++ pair_up ws rs) []
+  all_told =
+      let count = ap length w.forked.numbers ∙ length-map ws (λ v. v.branch) in
+      subst (HasTold s h.number (pairs ++ pair_up ws rs)) (nothing_left ws (length rs) (let a = r.all in omega (arith, a, count))) w.gathered.told
+
+  stands3 : StandsFor (code_in s) h3 (with_replies (heard (code_in s) h.number k.jobs k.job k.log) rs)
+  stands3 =
+      let xs = heard (code_in s) h.number k.jobs k.job k.log in
+      let heard_all = all_heard s h r in
+      joins rs xs (subst (λ l. HaveHeard s l rs) (sym branches2) heard_all)
+      (settles rs xs heard_all (subst (StandsFor (code_in s) h) (sym (with_none k.log.exchanges (record { job = k.job; replies = k.log.before }))) k.stands))
+
+  pub goes_on : IsWorking s h3
+  goes_on =
+      let number = number3 ∙ number2 in
+      let j = in_job_now (code_in s) seated.valid h k.loaded w.forked.settled w.forked.numbers k.jobs k.job k.log k.stands h3 number s.mail rs r.all (told_posts s h.number (pairs ++ pair_up ws rs) all_told) stands3 in
+      record {
+        work = record { mailbox = k.mailbox; number = number ∙ k.number; loaded = loaded3; child = k.child; jobs = k.jobs; job = k.job; are = k.are; even = k.even; log = j.0.log; stands = j.0.stands };
+        told = posts_told s h3.number (told (code_in s) h3.number k.jobs k.job j.0.log) j.0.posts (λ i lt is. all_told.has i lt (subst (λ t. IsBranchOf (code_in s).shape t i) number is) (λ o. o));
+      }

@@ -1,0 +1,275 @@
+//! Mailboxes are served.
+ghost use Rattle.std.specs.Prelude.{◌≡◌, ◌≢◌, ◌≤◌, ◌<◌, [], ℕ, suc, List, Some, None, IfSome, length, slice_get, slice_set, true, false};
+ghost use Rattle.forec_kernel.specs.Engine.{Answered};
+ghost use Rattle.forec_kernel.specs.Packed.{HasRoom};
+ghost use Rattle.thread_code.specs.Plain.{plain_code};
+ghost use Rattle.thread_code.specs.Valid.{of_shape};
+ghost use Rattle.combine_tree.specs.declared.packet.Packet.{Packet as PlainPacketState};
+ghost use Rattle.combine_tree.specs.Plain.{plain_packet};
+ghost use Rattle.copy_slots.specs.Ports.{taken, turn, after_take, after_answer, in_plain, ChildIs};
+ghost use Rattle.core_machine.specs.Held.{Loaded, CanRun};
+ghost use Rattle.core_machine.specs.Forks.{jobs_at};
+ghost use Rattle.core_host.specs.Asking.{Asks, Replies};
+ghost use Rattle.core_host.specs.Changes.{HasWorked, Awaits, IsIdle};
+ghost use Rattle.core_host.specs.Keeping.{code_in, IsSeated, HasPacket, LacksPacket, AtFork, Quiet};
+ghost use Rattle.core_host.specs.Moving.{Moves, HasGot, HasLooked};
+ghost use Rattle.core_host.specs.Waiting.{HasTold, IsWorking, IsWaiting, HasReplies, IsAtRest, WaitsAt, IsBetween};
+ghost use Rattle.core_host.specs.Serving.{MovesBranches, Touches, OnlyLooks, HasMissed, AllMissed, KeepsServing};
+
+use crate::desk::Desk;
+use crate::seat::Seat;
+use crate::work::ForecWork;
+use combine_tree::Packet;
+use copy_slots::Port;
+use core_machine::{Event, Thread};
+use forec_base::{Gate, Point};
+
+impl<'c, P: Port<ForecWork> + Drop> Desk<'c, P> {
+    /// What sits in a seat, which is then empty.
+    fn rise(&mut self, number: u32) -> Seat
+        requires { number < length self.old.seats }
+        ensures seat { slice_get self.old.seats number ≡ Some result }
+        ensures rest { self.new ≡ record self.old { seats = slice_set self.old.seats number (record { thread = None; job = None }) } }
+    {
+        let seat = &mut self.seats[number as usize];
+        Seat {
+            thread: seat.thread.take(),
+            job: seat.job.take(),
+        }
+    }
+
+    fn sit(&mut self, number: u32, seat: Seat)
+        requires { number < length self.old.seats }
+        ensures { self.new ≡ record self.old { seats = slice_set self.old.seats number seat } }
+    {
+        self.seats[number as usize] = seat;
+    }
+
+    /// Looks for a job.
+    fn take(&mut self, mailbox: u32) -> Option<Packet>
+        requires { ChildIs self.old.mail mailbox false }
+        ensures state { self.new ≡ record self.old { mail = after_take mailbox (in_plain plain_packet result) self.old.mail } }
+        ensures job { IfSome result (λ r. Asks (plain_code self.old.mail.work.code.value) mailbox (taken self.new.mail mailbox)) }
+        ensures turn { self.old.mail.tells ≡ true → IfSome result (λ r. turn self.old.mail mailbox ≢ 0) }
+    {
+        self.port.take(mailbox)
+    }
+
+    /// Sends the reply of a thread.
+    fn answer(&mut self, mailbox: u32, packet: Packet)
+        requires held { ChildIs self.old.mail mailbox true }
+        requires replies { Replies (plain_code self.old.mail.work.code.value) mailbox (taken self.old.mail mailbox) (plain_packet packet) }
+        ensures { self.new ≡ record self.old { mail = after_answer mailbox (plain_packet packet) self.old.mail } }
+    {
+        self.port.answer(mailbox, packet);
+    }
+
+    /// Tells the branches of the thread's fork their jobs.
+    fn tell(&mut self, thread: &Thread)
+        requires seated { IsSeated self.old }
+        requires fork { AtFork self.old thread.now }
+        requires told { (pairs : List Answered) × HasTold self.old thread.now.number pairs [] }
+        ensures moves { MovesBranches thread.now.number self.old self.new }
+        ensures told { (pairs : List Answered) → HasTold self.old thread.now.number pairs [] → HasTold self.new thread.now.number pairs (jobs_at (code_in self.old) thread.now) }
+    {
+        let mut k = 0;
+        while let Some(branch) = thread.active(self.code, k) {
+            self.send(thread, k, branch - 1);
+            k += 1;
+        }
+    }
+
+    /// Whether the reply of a branch is in hand, now or before.
+    fn hears(&mut self, mailbox: u32) -> bool
+        requires inside { mailbox < length self.old.mail.ends }
+        requires seated { IsSeated self.old }
+        requires lacks { slice_get self.old.hands mailbox ≡ Some None → LacksPacket self.old mailbox }
+        ensures moves { Moves mailbox self.old self.new }
+        ensures before { (p : PlainPacketState) → slice_get self.old.hands mailbox ≡ Some (Some p) → (result ≡ true) × (self.new ≡ self.old) }
+        ensures there { result ≡ true → slice_get self.old.hands mailbox ≡ Some None → HasGot self.old self.new mailbox }
+        ensures awaited { result ≡ false → HasLooked self.old self.new mailbox }
+    {
+        if self.hands[mailbox as usize].is_some() {
+            return true;
+        }
+        self.collect(mailbox)
+    }
+
+    /// Looks for the replies of the branches of the thread's fork, in their order. Whether all are in hand.
+    fn gather(&mut self, thread: &Thread) -> bool
+        requires seated { IsSeated self.old }
+        requires waiting { IsWaiting self.old thread.now }
+        ensures moves { MovesBranches thread.now.number self.old self.new }
+        ensures waiting { result ≡ false → IsWaiting self.new thread.now }
+        ensures all { result ≡ true → HasReplies self.new thread.now }
+        ensures missing { result ≡ false → (k : ℕ) → thread.now.number ≡ suc k → Awaits (code_in self.old).shape self.old.mail self.new.mail k }
+    {
+        let mut k = 0;
+        while let Some(branch) = thread.active(self.code, k) {
+            if !self.hears(branch - 1) {
+                return false;
+            }
+            k += 1;
+        }
+        true
+    }
+
+    /// Runs a thread to its next event. Where that is a fork, its branches are told their jobs, and else
+    /// the thread has answered its own.
+    fn advance<G: Gate>(&mut self, gate: &G, mailbox: u32, thread: Thread, packet: Packet)
+        requires inside { mailbox < length self.old.mail.ends }
+        requires seated { IsSeated self.old }
+        requires number { thread.number ≡ suc mailbox }
+        requires loaded { Loaded (code_in self.old) thread }
+        requires running { CanRun thread }
+        requires working { IsWorking self.old thread }
+        requires room { HasRoom (of_shape (code_in self.old).shape) (suc mailbox) (plain_packet packet) }
+        ensures touches { Touches mailbox self.old self.new }
+        ensures between { IsBetween self.new mailbox }
+        ensures worked { HasWorked (code_in self.old).shape self.old.mail self.new.mail mailbox }
+    {
+        let number = mailbox + 1;
+        let mut thread = thread;
+        let mut packet = packet;
+        if let Event::Fork = thread.run(self.code) {
+            self.tell(&thread);
+            self.sit(
+                number,
+                Seat {
+                    thread: Some(thread),
+                    job: Some(packet),
+                },
+            );
+            return;
+        }
+        thread.reply(self.code, &mut packet);
+        self.sit(
+            number,
+            Seat {
+                thread: Some(thread),
+                job: None,
+            },
+        );
+        self.answer(mailbox, packet);
+        gate.pass(self.places[number as usize], number, Point::Answered);
+    }
+
+    /// Takes the job of a thread that rests, and runs the thread to its next event. Whether there was a job.
+    fn begin<G: Gate>(&mut self, gate: &G, mailbox: u32) -> bool
+        requires inside { mailbox < length self.old.mail.ends }
+        requires seated { IsSeated self.old }
+        requires rests { IsAtRest self.old mailbox }
+        ensures touches { Touches mailbox self.old self.new }
+        ensures between { IsBetween self.new mailbox }
+        ensures worked { result ≡ true → HasWorked (code_in self.old).shape self.old.mail self.new.mail mailbox }
+        ensures nothing { result ≡ false → HasMissed mailbox self.old self.new }
+        ensures looks { result ≡ false → OnlyLooks mailbox self.old self.new }
+        ensures turn { self.old.mail.tells ≡ true → result ≡ true → turn self.old.mail mailbox ≢ 0 }
+    {
+        let number = mailbox + 1;
+        let Some(packet) = self.take(mailbox) else {
+            return false;
+        };
+        gate.pass(self.places[number as usize], number, Point::Begun);
+        let Seat { thread, .. } = self.rise(number);
+        let Some(mut thread) = thread else {
+            unreachable!()
+        };
+        thread.begin(self.code, &packet);
+        self.advance(gate, mailbox, thread, packet);
+        true
+    }
+
+    /// Goes on with a thread that waits at a fork, where its branches have all replied. Whether they have.
+    fn resume<G: Gate>(&mut self, gate: &G, mailbox: u32) -> bool
+        requires inside { mailbox < length self.old.mail.ends }
+        requires seated { IsSeated self.old }
+        requires waits { WaitsAt self.old mailbox }
+        ensures touches { Touches mailbox self.old self.new }
+        ensures between { IsBetween self.new mailbox }
+        ensures worked { result ≡ true → HasWorked (code_in self.old).shape self.old.mail self.new.mail mailbox }
+        ensures nothing { result ≡ false → HasMissed mailbox self.old self.new }
+    {
+        let number = mailbox + 1;
+        let Seat { thread, job } = self.rise(number);
+        let Some(mut thread) = thread else {
+            unreachable!()
+        };
+        let Some(packet) = job else { unreachable!() };
+        if !self.gather(&thread) {
+            self.sit(
+                number,
+                Seat {
+                    thread: Some(thread),
+                    job: Some(packet),
+                },
+            );
+            return false;
+        }
+        self.settle(&mut thread);
+        self.join(&mut thread);
+        self.advance(gate, mailbox, thread, packet);
+        true
+    }
+
+    /// Takes one job of this mailbox, or goes on with its thread where that waits at a fork and its branches
+    /// have all replied, and runs the thread to its next event. Whether it did.
+    fn serve<G: Gate>(&mut self, gate: &G, mailbox: u32) -> bool
+        requires inside { mailbox < length self.old.mail.ends }
+        requires seated { IsSeated self.old }
+        requires between { IsBetween self.old mailbox }
+        ensures touches { Touches mailbox self.old self.new }
+        ensures between { IsBetween self.new mailbox }
+        ensures worked { result ≡ true → HasWorked (code_in self.old).shape self.old.mail self.new.mail mailbox }
+        ensures nothing { result ≡ false → HasMissed mailbox self.old self.new }
+        ensures quiet { self.old.mail.tells ≡ true → Quiet self.old mailbox → OnlyLooks mailbox self.old self.new }
+    {
+        let number = mailbox as usize + 1;
+        if self.seats[number].job.is_some() {
+            self.resume(gate, mailbox)
+        } else {
+            self.begin(gate, mailbox)
+        }
+    }
+
+    /// Serves the first of these mailboxes where there is something to do, and answers its place.
+    fn serve_first<G: Gate>(&mut self, gate: &G, mailboxes: &[u32]) -> Option<usize>
+        requires seated { IsSeated self.old }
+        requires each { (i k : ℕ) → slice_get mailboxes.now i ≡ Some k → (k < length self.old.mail.ends) × IsBetween self.old k }
+        ensures keeps { KeepsServing self.old self.new }
+        ensures place { IfSome result (λ i. i < length mailboxes.now) }
+        ensures worked { IfSome result (λ i. (k : ℕ) → slice_get mailboxes.now i ≡ Some k → HasWorked (code_in self.old).shape self.old.mail self.new.mail k) }
+        ensures missed { result ≡ None → AllMissed self.old self.new }
+        ensures idle { result ≡ None → (i k : ℕ) → slice_get mailboxes.now i ≡ Some k → IsIdle (code_in self.old).shape self.old.mail self.new.mail k }
+    {
+        for i in 0..mailboxes.len() {
+            if self.serve(gate, mailboxes[i]) {
+                return Some(i);
+            }
+        }
+        None
+    }
+
+    /// Serves the first of these mailboxes where there is something to do, from one of them on and round, and
+    /// answers its place.
+    pub fn serve_round<G: Gate>(
+        &mut self,
+        gate: &G,
+        mailboxes: &[u32],
+        first: usize,
+    ) -> Option<usize>
+        requires seated { IsSeated self.old }
+        requires first { first ≤ length mailboxes.now }
+        requires each { (i k : ℕ) → slice_get mailboxes.now i ≡ Some k → (k < length self.old.mail.ends) × IsBetween self.old k }
+        ensures keeps { KeepsServing self.old self.new }
+        ensures place { IfSome result (λ i. i < length mailboxes.now) }
+        ensures worked { IfSome result (λ i. (k : ℕ) → slice_get mailboxes.now i ≡ Some k → HasWorked (code_in self.old).shape self.old.mail self.new.mail k) }
+        ensures idle { result ≡ None → (i k : ℕ) → slice_get mailboxes.now i ≡ Some k → IsIdle (code_in self.old).shape self.old.mail self.new.mail k }
+    {
+        let (before, after) = mailboxes.split_at(first);
+        if let Some(i) = self.serve_first(gate, after) {
+            return Some(first + i);
+        }
+        self.serve_first(gate, before)
+    }
+}
