@@ -11,6 +11,7 @@ use Rattle.thread_code.specs.Alone.{Stands}
 use Rattle.code_gen.specs.Blocks.{thread_block, function_block, blocks_from, kernel_code}
 use Rattle.code_gen.proofs.Valid.{kernel_code_valid}
 use Rattle.code_gen.proofs.Stands.{kernel_code_stands}
+
 pub ok_too : {T E : Type 0} {P Q : T → Type 0} → (r : Result T E) → ((x : T) → P x → Q x) → IfOk r P → IfOk r Q
 ok_too (Ok x) f h = f x h
 ok_too (Err e) f h = h
