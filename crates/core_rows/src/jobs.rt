@@ -11,6 +11,7 @@ use core_machine::{Event, Thread};
 use forec_base::{Labels, OutOfMemory};
 use forec_kernel::{FunctionShape, Shape, ThreadShape};
 use std::alloc::Global;
+use std::process::Abort;
 use std::test::Fail;
 use thread_code::{Block, Code, CodeParts, Instruction};
 
@@ -73,35 +74,55 @@ fn function_block(alloc: Global) -> Result<Block, OutOfMemory>
 }
 
 /// A thread that calls a function, and pauses, round and round; 4 units each time.
-fn small(alloc: Global) -> Result<Code, OutOfMemory>
-    ensures { IfOk result (λ c. plain_code c ≡ small_code) }
+fn parts(alloc: Global) -> Result<CodeParts, OutOfMemory>
+    ensures { IfOk result (λ p. plain_code p ≡ small_code) }
 {
-    Ok(Code::of(CodeParts {
+    Ok(CodeParts {
         shape: shape(alloc)?,
         threads: one(alloc, main_block(alloc)?)?,
         functions: one(alloc, function_block(alloc)?)?,
-    }))
+    })
 }
 
-#[test]
-fn does_its_jobs(rt: HostRuntime) -> Result<(), Fail> {
-    let code = small(rt.alloc())?;
-    let mut thread = Thread::load(rt.alloc(), &code, 0)?;
-    let mut packet = Packet::new(rt.alloc(), 0, 0)?;
+fn small(alloc: Global) -> Result<Code, OutOfMemory>
+    ensures { IfOk result (λ c. plain_code c ≡ small_code) }
+{
+    Ok(Code::of(parts(alloc)?))
+}
+
+fn decoded(alloc: Global) -> Result<Code, OutOfMemory>
+    ensures { IfOk result (λ c. plain_code c ≡ small_code) }
+{
+    let code = Code::decoded(alloc, parts(alloc)?)?;
+    Ok(code)
+}
+
+fn pauses_then_passes(rt: &impl Abort, alloc: Global, code: &Code) -> Result<(), Fail>
+    requires { plain_code code.now ≡ small_code }
+{
+    let mut thread = Thread::load(alloc, code, 0)?;
+    let mut packet = Packet::new(alloc, 0, 0)?;
     packet.kind = PacketKind::Start;
     packet.allowance = 4;
-    thread.begin(&code, &packet);
-    let event = thread.run(&code);
+    thread.begin(code, &packet);
+    let event = thread.run(code);
     assert_eq!(rt; event, Event::Paused);
-    thread.reply(&code, &mut packet);
+    thread.reply(code, &mut packet);
     assert_eq!(rt; packet.kind, PacketKind::Paused);
     assert_eq!(rt; packet.units, 4);
     packet.kind = PacketKind::Wake;
     packet.allowance = 3;
-    thread.begin(&code, &packet);
-    let event = thread.run(&code);
+    thread.begin(code, &packet);
+    let event = thread.run(code);
     assert_eq!(rt; event, Event::Over);
-    thread.reply(&code, &mut packet);
+    thread.reply(code, &mut packet);
     assert_eq!(rt; packet.kind, PacketKind::Over);
     Ok(())
+}
+
+/// A code does the same with fused steps and without.
+#[test]
+fn does_its_jobs(rt: HostRuntime) -> Result<(), Fail> {
+    pauses_then_passes(&rt, rt.alloc(), &small(rt.alloc())?)?;
+    pauses_then_passes(&rt, rt.alloc(), &decoded(rt.alloc())?)
 }

@@ -6,11 +6,13 @@ ghost use Rattle.thread_code.specs.Plain.{plain_block, plain_code};
 ghost use Rattle.thread_code.specs.Worked.{small_shape, small_main, small_function, small_code};
 
 use crate::code::Code;
+use crate::fused::Fused;
 use crate::instruction::{Block, CodeParts, Instruction};
 use crate::printing::listing;
 use forec_base::{Binary, Labels, OutOfMemory, Place, Unary};
 use forec_kernel::{FunctionShape, Shape, ThreadShape};
 use std::alloc::Global;
+use std::mem::size_of;
 use std::test::Fail;
 
 fn one<T: Drop>(alloc: Global, item: T) -> Result<Vec<T>, OutOfMemory>
@@ -187,5 +189,12 @@ fn prints_each_instruction(rt: HostRuntime) -> Result<(), Fail> {
         let line = format!(in rt.alloc(); "{step}")?;
         assert_eq!(rt; line.as_str(), text);
     }
+    Ok(())
+}
+
+/// A block of the most instructions has 134 MB of fused steps.
+#[test]
+fn fused_steps_are_small(rt: HostRuntime) -> Result<(), Fail> {
+    assert_eq!(rt; size_of::<Fused>(), 16);
     Ok(())
 }
