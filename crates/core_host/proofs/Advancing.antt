@@ -1,5 +1,5 @@
 -- A thread runs to its next event, and waits at a fork or answers.
-use Rattle.std.proofs.Common.{◌≡◌, ◌≢◌, ℕ, zero, suc, ◌+◌, ◌<◌, ◌≤◌, ◌==◌, Bool, true, false, cond, Option, Some, None, List, [], ◌∷◌, ◌++◌, length, map, refl, sym, ap, ◌∙◌, subst, append-nil, arith}
+use Rattle.std.proofs.Common.{◌≡◌, ℕ, zero, suc, ◌+◌, ◌<◌, true, false, cond, Option, Some, None, List, [], ◌∷◌, ◌++◌, length, map, refl, sym, ap, ◌∙◌, subst, append-nil, arith}
 use Rattle.std.specs.Prelude.{slice_get, slice_set, drop}
 use Rattle.std.proofs.lemmas.List.{length-set, length-append}
 use Rattle.forec_kernel.specs.Packets.{PlainPacket, IsPaused}
@@ -18,19 +18,19 @@ use Rattle.core_machine.specs.Forks.{jobs_at}
 use Rattle.core_machine.specs.Replies.{Replies_by}
 use Rattle.copy_slots.specs.declared.view.Taker.{Taker}
 use Rattle.copy_slots.specs.Mail.{taker_answered}
-use Rattle.copy_slots.specs.Ports.{parent_at, child_at, on_child, on_taker, sent_by, got_by, taken_by, answered_by, words_of_parent, words_of_child, IsChild, ChildIs, sent, taken, answered, looked_by_child}
+use Rattle.copy_slots.specs.Ports.{child_at, on_child, on_taker, sent_by, got_by, taken_by, answered_by, words_of_parent, words_of_child, IsChild, ChildIs, sent, taken, answered, looked_by_child}
 use Rattle.core_host.specs.declared.seat.Seat.{Seat}
 use Rattle.core_host.specs.Asking.{Replies}
-use Rattle.core_host.specs.Posts.{Mail, IsBranchOf}
-use Rattle.core_host.specs.Changes.{Extends, Grown, HasWorked, replied, forked}
+use Rattle.core_host.specs.Posts.{IsBranchOf}
+use Rattle.core_host.specs.Changes.{Extends, HasWorked, replied, forked}
 use Rattle.core_host.specs.Writing.{Log, heard, told}
-use Rattle.core_host.specs.Done.{HasDone, InJob}
-use Rattle.core_host.specs.Keeping.{State, code_in, Alike, IsSeated, Sits, LastReply, last, AtFork}
-use Rattle.core_host.specs.Waiting.{jobs_out, HasTold, IsForked, IsAtWork, IsWorking, IsWaiting, IsAtRest, WaitsAt, IsBetween, rests, waits}
+use Rattle.core_host.specs.Done.{InJob}
+use Rattle.core_host.specs.Keeping.{State, code_in, IsSeated, LastReply, last, AtFork}
+use Rattle.core_host.specs.Waiting.{jobs_out, HasTold, IsForked, IsWorking, IsWaiting, IsAtRest, IsBetween, rests, waits}
 use Rattle.core_host.specs.Serving.{MovesBranches, Touches}
 use Rattle.core_host.proofs.Mails.{by_equal, get_set, get_set_else, children_count, child_here, child_else, parent_on_child, is_child, extends_same, extends_one}
 use Rattle.core_host.proofs.Keep.{done_keeps}
-use Rattle.core_host.proofs.Consulting.{jobs_more, same_test}
+use Rattle.core_host.proofs.Consulting.{same_test}
 use Rattle.core_host.proofs.Consults.{no_pairs}
 use Rattle.core_host.proofs.Loading.{length_then}
 use Rattle.core_host.proofs.Logs.{Ends, job_ends}

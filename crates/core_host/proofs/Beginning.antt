@@ -1,5 +1,5 @@
 -- A thread that rests looks for a job, and begins it.
-use Rattle.std.proofs.Common.{◌≡◌, ◌≢◌, ℕ, suc, ◌+◌, ◌<◌, ◌≤◌, ◌^◌, Bool, true, false, Option, Some, None, List, [], ◌∷◌, ◌++◌, length, refl, sym, ap, ◌∙◌, subst, append-nil, arith}
+use Rattle.std.proofs.Common.{◌≡◌, ℕ, suc, ◌+◌, ◌<◌, ◌≤◌, ◌^◌, Bool, true, false, Option, Some, None, List, [], ◌∷◌, ◌++◌, length, refl, sym, ap, ◌∙◌, subst, append-nil, arith}
 use Rattle.std.specs.Prelude.{slice_get, slice_set}
 use Rattle.std.proofs.lemmas.List.{length-append}
 use Rattle.forec_kernel.specs.Packets.{PlainPacket}
@@ -11,19 +11,19 @@ use Rattle.thread_code.specs.Valid.{of_shape}
 use Rattle.combine_tree.specs.declared.packet.Packet.{Packet}
 use Rattle.combine_tree.specs.Plain.{plain_packet}
 use Rattle.core_machine.specs.declared.thread.Thread.{Thread}
-use Rattle.core_machine.specs.Held.{Loaded, StandsFor, CanBegin, IsResting}
+use Rattle.core_machine.specs.Held.{Loaded, StandsFor, CanBegin}
 use Rattle.copy_slots.specs.declared.view.Taker.{Taker}
-use Rattle.copy_slots.specs.Mail.{taker_looked, taker_took}
-use Rattle.copy_slots.specs.Ports.{parent_at, child_at, on_child, on_taker, sent_by, got_by, taken_by, answered_by, words_of_parent, words_of_child, IsChild, ChildIs, sent, got, taken, answered, looked_by_child, after_take}
+use Rattle.copy_slots.specs.Mail.{taker_looked}
+use Rattle.copy_slots.specs.Ports.{child_at, on_taker, sent_by, got_by, taken_by, answered_by, words_of_parent, words_of_child, IsChild, ChildIs, sent, taken, answered, looked_by_child, after_take}
 use Rattle.core_host.specs.declared.seat.Seat.{Seat}
 use Rattle.core_host.specs.Asking.{Asks}
 use Rattle.core_host.specs.Posts.{Mail, IsBranchOf}
-use Rattle.core_host.specs.Changes.{Extends, Grown, HasWorked, replied, forked, IsIdle}
+use Rattle.core_host.specs.Changes.{Extends, Grown, HasWorked, replied, forked}
 use Rattle.core_host.specs.Writing.{told}
-use Rattle.core_host.specs.Keeping.{State, code_in, Alike, IsSeated, Idle}
+use Rattle.core_host.specs.Keeping.{State, code_in, Alike, IsSeated}
 use Rattle.core_host.specs.Waiting.{IsWorking, IsAtRest, IsBetween, rests}
 use Rattle.core_host.specs.Serving.{Touches, OnlyLooks, HasMissed}
-use Rattle.core_host.proofs.Mails.{by_equal, alike_then, get_set, get_set_else, children_count, child_here, child_else, parent_on_child, is_child, extends_same, extends_one, extends_then, some_once}
+use Rattle.core_host.proofs.Mails.{by_equal, alike_then, children_count, child_here, child_else, parent_on_child, is_child, extends_same, extends_one, extends_then, some_once}
 use Rattle.core_host.proofs.Keep.{idle_keeps, grown_then, seated_by}
 use Rattle.core_host.proofs.Consulting.{jobs_more}
 use Rattle.core_host.proofs.Loading.{length_then}

@@ -1,26 +1,23 @@
 -- The replies at a fork are got, branch by branch.
-use Rattle.std.proofs.Common.{◌≡◌, ◌≢◌, ℕ, zero, suc, ◌+◌, ◌-◌, ◌<◌, ◌≤◌, true, false, Option, Some, None, List, [], ◌∷◌, ◌++◌, length, refl, sym, ap, ◌∙◌, subst, append_assoc, inl, inr, ⊎_elim, arith}
+use Rattle.std.proofs.Common.{◌≡◌, ◌≢◌, ℕ, zero, suc, ◌+◌, ◌-◌, ◌<◌, ◌≤◌, Option, Some, None, List, [], ◌∷◌, ◌++◌, length, refl, sym, ap, ◌∙◌, subst, append_assoc, inl, inr, ⊎_elim, arith}
 use Rattle.std.specs.Prelude.{slice_get, drop, ◌⊎◌}
 use Rattle.std.proofs.lemmas.Bool.{cases_lt}
-use Rattle.std.proofs.lemmas.List.{length-map}
 use Rattle.std.proofs.lemmas.Option.{slice_get_within}
-use Rattle.forec_kernel.specs.Packets.{PlainPacket}
 use Rattle.forec_kernel.specs.Packed.{AreJobs}
 use Rattle.forec_kernel.specs.Engine.{Answered, Reply, Written, jobs_to, pair_up}
-use Rattle.thread_code.specs.Plain.{PlainCode, plain_code}
+use Rattle.thread_code.specs.Plain.{plain_code}
 use Rattle.combine_tree.specs.declared.packet.Packet.{Packet}
 use Rattle.combine_tree.specs.Plain.{plain_packet}
 use Rattle.core_machine.specs.declared.thread.Thread.{Thread}
 use Rattle.core_machine.specs.Forks.{jobs_at}
-use Rattle.copy_slots.specs.declared.view.Taker.{Taker}
-use Rattle.copy_slots.specs.Ports.{child_at, sent_by, got_by, taken_by, answered_by, looked_by_parent, IsChild, sent, got, taken, answered}
+use Rattle.copy_slots.specs.Ports.{sent_by, got_by, sent, got}
 use Rattle.core_host.specs.declared.seat.Seat.{Seat}
 use Rattle.core_host.specs.Posts.{Mail, IsBranchOf, AreReplies, replies_to}
-use Rattle.core_host.specs.Changes.{Extends, Looked, Awaits}
+use Rattle.core_host.specs.Changes.{Extends, Awaits}
 use Rattle.core_host.specs.Writing.{told}
-use Rattle.core_host.specs.Keeping.{State, code_in, IsSeated, HasPacket, LacksPacket, HasHeard, HaveHeard}
+use Rattle.core_host.specs.Keeping.{State, code_in, IsSeated, LacksPacket, HasHeard, HaveHeard}
 use Rattle.core_host.specs.Moving.{Moves, HasGot, HasLooked}
-use Rattle.core_host.specs.Waiting.{jobs_out, IsOut, HasTold, IsFor, IsForked, HasGathered, IsAtWork, IsWaiting, HasReplies}
+use Rattle.core_host.specs.Waiting.{jobs_out, IsOut, HasTold, IsFor, IsAtWork, IsWaiting, HasReplies}
 use Rattle.core_host.specs.Serving.{MovesBranches}
 use Rattle.core_host.proofs.Mails.{by_equal, extends_one, extends_same, some_once}
 use Rattle.core_host.proofs.Keep.{packet_keeps}

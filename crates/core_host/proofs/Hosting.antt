@@ -1,33 +1,29 @@
 -- A host serves mailboxes.
-use Rattle.std.proofs.Common.{◌≡◌, ◌≢◌, ℕ, zero, suc, ◌+◌, ◌-◌, ◌<◌, ◌≤◌, ◌==◌, Bool, true, false, cond, Option, Some, None, List, [], ◌∷◌, length, refl, sym, ap, ◌∙◌, subst, arith}
+use Rattle.std.proofs.Common.{◌≡◌, ℕ, suc, ◌<◌, ◌==◌, Bool, true, false, cond, Some, List, [], ◌∷◌, length, refl, sym, ap, ◌∙◌, subst, arith}
 use Rattle.std.specs.Prelude.{slice_get}
 use Rattle.std.proofs.lemmas.Bool.Decides.{nat_tests}
 use Rattle.forec_kernel.specs.Combining.{contains}
-use Rattle.forec_kernel.specs.Shapes.{PlainKernel}
-use Rattle.forec_kernel.specs.WellFormed.{WellFormed}
 use Rattle.forec_kernel.specs.Packed.{HasRoom}
 use Rattle.forec_kernel.specs.Engine.{Job}
 use Rattle.forec_kernel.specs.Composed.{Turn}
-use Rattle.thread_code.specs.Plain.{PlainCode, plain_code}
-use Rattle.thread_code.specs.Valid.{of_shape, IsValidCode}
+use Rattle.thread_code.specs.Plain.{plain_code}
+use Rattle.thread_code.specs.Valid.{of_shape}
 use Rattle.thread_code.specs.Alone.{Stands}
 use Rattle.thread_code.specs.Laws.{EachFits}
 use Rattle.combine_tree.specs.declared.packet.Packet.{Packet}
 use Rattle.combine_tree.specs.Plain.{plain_packet}
 use Rattle.core_machine.specs.declared.thread.Thread.{Thread}
 use Rattle.core_machine.specs.Held.{Loaded}
-use Rattle.copy_slots.specs.declared.view.Taker.{Taker}
-use Rattle.copy_slots.specs.Ports.{child_at, IsChild, ChildIs}
+use Rattle.copy_slots.specs.Ports.{child_at, ChildIs}
 use Rattle.core_host.specs.Posts.{IsBranchOf}
 use Rattle.core_host.specs.Loads.{is_on, AreOwn}
 use Rattle.core_host.specs.Done.{HasDone}
 use Rattle.core_host.specs.Keeping.{State, code_in, IsSeated, Sits, Idle}
-use Rattle.core_host.specs.Waiting.{HasChild, IsBetween, rests, waits}
+use Rattle.core_host.specs.Waiting.{IsBetween, rests, waits}
 use Rattle.core_host.specs.Serving.{KeepsServing}
-use Rattle.core_host.specs.Hosted.{Hosted, hosted, state_in, code_of, is_here, IsWhole}
+use Rattle.core_host.specs.Hosted.{Hosted, hosted, is_here, IsWhole}
 use Rattle.core_host.specs.Rests.{RootRests, IsHosted}
-use Rattle.core_host.specs.Runs.{HasJobs, HasTicked, HasRun}
-use Rattle.core_host.proofs.Mails.{some_once}
+use Rattle.core_host.specs.Runs.{HasJobs, HasRun}
 use Rattle.core_host.proofs.Keep.{done_keeps}
 use Rattle.core_host.proofs.Serves.{keeps_seated, both_held}
 

@@ -1,11 +1,11 @@
 -- A thread that waits looks for the replies of its branches, and goes on with them.
-use Rattle.std.proofs.Common.{◌≡◌, ◌≢◌, ℕ, zero, suc, ◌+◌, ◌<◌, ◌≤◌, Bool, true, false, Option, Some, None, List, [], ◌∷◌, ◌++◌, length, map, refl, sym, ap, ◌∙◌, subst, arith}
+use Rattle.std.proofs.Common.{◌≡◌, ◌≢◌, ℕ, zero, suc, ◌+◌, ◌<◌, ◌≤◌, Bool, true, false, Option, Some, None, List, [], ◌∷◌, ◌++◌, length, refl, sym, ap, ◌∙◌, subst, arith}
 use Rattle.std.specs.Prelude.{slice_get, slice_set, drop}
 use Rattle.std.proofs.lemmas.List.{length-set, length-map}
 use Rattle.forec_kernel.specs.Packets.{PlainPacket}
 use Rattle.forec_kernel.specs.Packed.{HasRoom}
-use Rattle.forec_kernel.specs.Engine.{Job, Reply, Written, Exchange, Answered, pair_up}
-use Rattle.thread_code.specs.Plain.{PlainCode, plain_code}
+use Rattle.forec_kernel.specs.Engine.{Reply, Written, Exchange, Answered, pair_up}
+use Rattle.thread_code.specs.Plain.{plain_code}
 use Rattle.thread_code.specs.Valid.{of_shape}
 use Rattle.combine_tree.specs.declared.packet.Packet.{Packet}
 use Rattle.combine_tree.specs.Plain.{plain_packet}
@@ -16,10 +16,9 @@ use Rattle.copy_slots.specs.declared.view.Taker.{Taker}
 use Rattle.copy_slots.specs.Ports.{parent_at, child_at, answered_by, IsChild, ChildIs, answered}
 use Rattle.core_host.specs.declared.seat.Seat.{Seat}
 use Rattle.core_host.specs.Posts.{Mail, IsBranchOf}
-use Rattle.core_host.specs.Changes.{Grown, Awaits, IsIdle}
+use Rattle.core_host.specs.Changes.{Grown, Awaits}
 use Rattle.core_host.specs.Writing.{heard, told}
-use Rattle.core_host.specs.Done.{Posts, InJob}
-use Rattle.core_host.specs.Keeping.{State, code_in, Alike, IsSeated, Sits, HaveHeard}
+use Rattle.core_host.specs.Keeping.{State, code_in, Alike, IsSeated, HaveHeard}
 use Rattle.core_host.specs.Waiting.{HasTold, IsAtWork, IsWorking, IsWaiting, HasReplies, WaitsAt, IsBetween, waits}
 use Rattle.core_host.specs.Serving.{MovesBranches, Touches, HasMissed}
 use Rattle.core_host.proofs.Mails.{get_set, get_set_else, some_once}

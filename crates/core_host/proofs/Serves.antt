@@ -1,24 +1,24 @@
 -- Mailboxes are served, one after the other.
-use Rattle.std.proofs.Common.{◌≡◌, ◌≢◌, ℕ, zero, suc, ◌+◌, ◌-◌, ◌<◌, ◌≤◌, Bool, true, false, Option, Some, None, List, [], ◌∷◌, ◌++◌, length, take, refl, sym, ap, ◌∙◌, subst, append_assoc, arith}
+use Rattle.std.proofs.Common.{◌≡◌, ◌≢◌, ℕ, zero, suc, ◌+◌, ◌<◌, Bool, true, false, Option, Some, None, List, [], ◌∷◌, ◌++◌, length, take, refl, sym, ap, ◌∙◌, subst, append_assoc, arith}
 use Rattle.std.specs.Prelude.{slice_get, slice_index_or, drop, IfSome}
 use Rattle.std.specs.Option.{is_some}
 use Rattle.std.proofs.lemmas.Option.{get_or_from_slice_get}
 use Rattle.forec_kernel.specs.Packets.{PlainPacket}
 use Rattle.forec_kernel.specs.Shapes.{PlainShape}
-use Rattle.thread_code.specs.Plain.{PlainCode, plain_code}
+use Rattle.thread_code.specs.Plain.{plain_code}
 use Rattle.combine_tree.specs.declared.packet.Packet.{Packet}
 use Rattle.copy_slots.specs.declared.view.Place.TheVariants.{Fresh, Held}
 use Rattle.copy_slots.specs.declared.view.Sender.{Sender}
 use Rattle.copy_slots.specs.declared.view.Taker.{Taker}
-use Rattle.copy_slots.specs.Ports.{parent_at, child_at, sent_by, answered_by, words_of_parent, words_of_child, turn_of, IsChild, ChildIs, taken, sent, answered, turn, looked_by_child, looked_by_parent}
+use Rattle.copy_slots.specs.Ports.{parent_at, child_at, sent_by, answered_by, words_of_parent, words_of_child, turn_of, IsChild, ChildIs, taken, answered, turn, looked_by_child, looked_by_parent}
 use Rattle.core_host.specs.declared.seat.Seat.{Seat}
 use Rattle.core_host.specs.Posts.{Mail, IsBranchOf}
-use Rattle.core_host.specs.Changes.{Extends, Looked, Grown, Awaits, IsIdle}
+use Rattle.core_host.specs.Changes.{Extends, Looked, Grown, IsIdle}
 use Rattle.core_host.specs.Keeping.{State, code_in, IsSeated, Ready, blank, reply, Quiet}
 use Rattle.core_host.specs.Waiting.{HasChild, IsAtRest, WaitsAt, IsBetween, rests, waits}
 use Rattle.core_host.specs.Serving.{Touches, OnlyLooks, HasMissed, AllMissed, KeepsServing}
 use Rattle.core_host.proofs.Mails.{by_equal, some_once, alike_then, is_parent, is_child}
-use Rattle.core_host.proofs.Keep.{branch_above, grown_same, grown_then, seated_by, same_child, quiet_keeps}
+use Rattle.core_host.proofs.Keep.{grown_same, grown_then, seated_by, same_child, quiet_keeps}
 use Rattle.core_host.proofs.Waits.{between_still}
 
 -- ---- a thread at rest has no job in its hand, and one that waits has

@@ -1,22 +1,21 @@
 -- The jobs of a fork are sent, branch by branch.
-use Rattle.std.proofs.Common.{◌≡◌, ◌≢◌, ℕ, zero, suc, ◌+◌, ◌-◌, ◌<◌, ◌≤◌, Some, List, [], ◌∷◌, ◌++◌, length, take, refl, sym, ap, ◌∙◌, subst, append-nil, ⊎_elim, arith}
+use Rattle.std.proofs.Common.{◌≡◌, ◌≢◌, ℕ, zero, suc, ◌+◌, ◌-◌, ◌<◌, ◌≤◌, Some, List, [], ◌∷◌, ◌++◌, length, take, refl, sym, ap, ◌∙◌, subst, ⊎_elim, arith}
 use Rattle.std.specs.Prelude.{slice_get}
-use Rattle.std.proofs.lemmas.Bool.{cases_lt}
 use Rattle.std.proofs.lemmas.List.{length-map}
 use Rattle.std.proofs.lemmas.Option.{slice_get_within}
 use Rattle.forec_kernel.specs.Engine.{Answered, Written}
-use Rattle.thread_code.specs.Plain.{PlainCode, plain_code}
+use Rattle.thread_code.specs.Plain.{plain_code}
 use Rattle.core_machine.specs.declared.thread.Thread.{Thread}
 use Rattle.core_machine.specs.Held.{Loaded}
 use Rattle.core_machine.specs.Forks.{jobs_at}
-use Rattle.copy_slots.specs.Ports.{parent_at, sent_by, sent, got}
+use Rattle.copy_slots.specs.Ports.{sent_by, sent, got}
 use Rattle.core_host.specs.Posts.{IsBranchOf}
 use Rattle.core_host.specs.Changes.{Extends}
 use Rattle.core_host.specs.Keeping.{State, code_in, IsSeated, HasPacket, LacksPacket, MayAsk, IsJobFor, AtFork, CanSend}
 use Rattle.core_host.specs.Moving.{Moves, HasSent}
 use Rattle.core_host.specs.Waiting.{IsOut, HasTold}
 use Rattle.core_host.specs.Serving.{MovesBranches}
-use Rattle.core_host.proofs.Mails.{alike_then, extends_one, extends_same, some_once}
+use Rattle.core_host.proofs.Mails.{alike_then, extends_one, extends_same}
 use Rattle.core_host.proofs.Keep.{grown_same, grown_then, moved_grown, seated_by}
 use Rattle.core_host.proofs.Hearing.{take_all}
 use Rattle.core_host.proofs.Loading.{take_next}

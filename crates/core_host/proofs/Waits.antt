@@ -1,19 +1,18 @@
 -- What stays of a thread that rests or waits, where a change leaves its seat, its mailbox and its branches alone.
-use Rattle.std.proofs.Common.{◌≡◌, ◌≢◌, ℕ, suc, ◌+◌, ◌<◌, true, Option, Some, List, [], ◌∷◌, ◌++◌, length, map, refl, sym, ap, ◌∙◌, subst, arith}
+use Rattle.std.proofs.Common.{◌≡◌, ◌≢◌, ℕ, suc, ◌+◌, true, Option, Some, List, [], ◌∷◌, ◌++◌, length, refl, sym, ap, ◌∙◌, subst, arith}
 use Rattle.std.specs.Prelude.{slice_get}
 use Rattle.forec_kernel.specs.Packets.{PlainPacket}
 use Rattle.forec_kernel.specs.Packed.{AreJobs}
 use Rattle.forec_kernel.specs.Engine.{Answered, Reply, jobs_to}
-use Rattle.thread_code.specs.Plain.{PlainCode, plain_code}
 use Rattle.combine_tree.specs.declared.packet.Packet.{Packet}
 use Rattle.core_machine.specs.declared.thread.Thread.{Thread}
 use Rattle.core_machine.specs.Forks.{jobs_at}
 use Rattle.copy_slots.specs.declared.view.Taker.{Taker}
-use Rattle.copy_slots.specs.Ports.{parent_at, child_at, sent_by, got_by, taken_by, answered_by, IsChild, sent, got, taken, answered}
+use Rattle.copy_slots.specs.Ports.{parent_at, child_at, sent_by, got_by, taken_by, answered_by, IsChild}
 use Rattle.core_host.specs.declared.seat.Seat.{Seat}
 use Rattle.core_host.specs.Posts.{Mail, IsBranchOf, AreReplies, replies_to}
-use Rattle.core_host.specs.Keeping.{State, code_in, Sits, HasPacket, HasHeard}
-use Rattle.core_host.specs.Waiting.{jobs_out, HasTold, IsForked, HasGathered, IsAtWork, IsWaiting, IsAtRest, WaitsAt, IsBetween, rests, waits}
+use Rattle.core_host.specs.Keeping.{State, code_in, HasPacket, HasHeard}
+use Rattle.core_host.specs.Waiting.{jobs_out, HasTold, IsForked, IsAtWork, IsWaiting, IsAtRest, WaitsAt, IsBetween, rests, waits}
 use Rattle.core_host.specs.Serving.{Touches}
 use Rattle.core_host.proofs.Keep.{same_child, idle_keeps, packet_keeps, parent_once}
 use Rattle.core_host.proofs.Send.{at_map}

@@ -16,6 +16,7 @@ ghost use Rattle.core_host.specs.Done.{Posts, HasDone, InJob};
 ghost use Rattle.core_host.specs.Keeping.{State, code_in, IsSeated, IsFitted, Sits, QuietAbove, HasPacket, LacksPacket, CanSend, IsCalled, IsBack, Leaves, AtFork, HaveHeard};
 ghost use Rattle.core_host.specs.Moving.{Moves, HasSent, HasGot, HasLooked};
 
+use crate::boxed::Boxed;
 use crate::seat::Seat;
 use crate::work::ForecWork;
 use combine_tree::Packet;
@@ -34,7 +35,7 @@ pub struct Desk<'c, P: Port<ForecWork> + Drop> {
     pub port: P,
     pub seats: Vec<Seat>,
     /// At k, the packet of mailbox k, in its parent's hand.
-    pub hands: Vec<Option<Packet>>,
+    pub hands: Vec<Option<Boxed<Packet>>>,
 }
 
 impl<'c, P: Port<ForecWork> + Drop> Model for Desk<'c, P> {
@@ -51,7 +52,7 @@ impl<'c, P: Port<ForecWork> + Drop> Desk<'c, P> {
     ghost use Rattle.core_host.specs.Rests.{RootRests};
 
     /// The packet of a mailbox, out of its parent's hand or its slot.
-    fn packet(&mut self, mailbox: u32) -> Packet
+    fn packet(&mut self, mailbox: u32) -> Boxed<Packet>
         requires inside { mailbox < length self.old.mail.ends }
         requires seated { IsSeated self.old }
         requires has { HasPacket self.old mailbox }
@@ -118,14 +119,15 @@ impl<'c, P: Port<ForecWork> + Drop> Desk<'c, P> {
             unreachable!()
         };
         gate.pass(core, number, Point::Begun);
-        let Some(mut thread) = self.seats[number as usize].thread.take() else {
+        let Some(mut seated) = self.seats[number as usize].thread.take() else {
             unreachable!()
         };
+        let thread: &mut Thread = &mut seated;
         thread.begin(self.code, &packet);
-        self.finish(gate, &mut thread);
+        self.finish(gate, thread);
         thread.reply(self.code, &mut packet);
         self.seats[number as usize] = Seat {
-            thread: Some(thread),
+            thread: Some(seated),
             job: None,
         };
         self.port.answer(mailbox, packet);
@@ -243,12 +245,13 @@ impl<'c, P: Port<ForecWork> + Drop> Desk<'c, P> {
         ensures replied { (t u : PlainThread) (jobs : List Job) (job : Job) → Sits self.old 0 t → Sits self.new 0 u → HasDone (code_in self.old) t self.old.mail jobs
             → IsJob (plain_packet packet.old) job → HasReplied self.new u (jobs ++ job ∷ []) (plain_packet packet.new) }
     {
-        let Some(mut thread) = self.seats[0].thread.take() else {
+        let Some(mut seated) = self.seats[0].thread.take() else {
             unreachable!()
         };
+        let thread: &mut Thread = &mut seated;
         thread.begin(self.code, packet);
-        self.finish(gate, &mut thread);
+        self.finish(gate, thread);
         thread.reply(self.code, packet);
-        self.seats[0].thread = Some(thread);
+        self.seats[0].thread = Some(seated);
     }
 }

@@ -1,6 +1,7 @@
 //! The host of a program's threads: it runs a tick.
 #![tactic(auto)]
 
+mod boxed;
 mod desk;
 mod host;
 mod job;
@@ -11,6 +12,7 @@ mod seat;
 mod serve;
 mod work;
 
+pub use boxed::Boxed;
 pub use host::{Host, Served};
 pub use local::{blanks, local_port};
 pub use work::{ForecWork, Told};

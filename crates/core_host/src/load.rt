@@ -6,6 +6,7 @@ ghost use Rattle.combine_tree.specs.declared.packet.Packet.{Packet as PlainPacke
 ghost use Rattle.core_host.specs.declared.seat.Seat.{Seat as SeatState};
 ghost use Rattle.core_host.specs.Loads.{ArePlaced, AreOwn, IsNewSeat, contains_core};
 
+use crate::boxed::Boxed;
 use crate::seat::Seat;
 use combine_tree::Packet;
 use core_alloc::Placement;
@@ -50,7 +51,7 @@ fn seat_of(alloc: Global, code: &Code, thread: u32, is_here: bool) -> Result<Sea
     }
     let loaded = Thread::load(alloc, code, thread)?;
     Ok(Seat {
-        thread: Some(loaded),
+        thread: Some(Boxed::new(alloc, loaded)?),
         job: None,
     })
 }
@@ -100,7 +101,7 @@ pub fn own_mailboxes(alloc: Global, places: &[u32], cores: &[u32]) -> Result<Vec
 }
 
 /// So many empty hands.
-pub fn empty_hands(alloc: Global, count: usize) -> Result<Vec<Option<Packet>>, OutOfMemory>
+pub fn empty_hands(alloc: Global, count: usize) -> Result<Vec<Option<Boxed<Packet>>>, OutOfMemory>
     ensures count { IfOk result (λ hands. length hands.items ≡ count) }
     ensures each { IfOk result (λ hands. (k : ℕ) (h : Option PlainPacketState) → slice_get hands.items k ≡ Some h → h ≡ None) }
 {

@@ -9,6 +9,7 @@ ghost use Rattle.combine_tree.specs.Plain.{plain_packet};
 ghost use Rattle.core_alloc.specs.Places.{Places};
 ghost use Rattle.core_host.specs.Loads.{CanLoad, AreAll};
 
+use crate::boxed::Boxed;
 use crate::work::ForecWork;
 use combine_tree::Packet;
 use copy_slots::{LocalPort, Port};
@@ -21,7 +22,7 @@ use thread_code::Code;
 /// # Errors
 ///
 /// Want of memory.
-pub fn blanks(alloc: Global, code: &Code) -> Result<Vec<Packet>, OutOfMemory>
+pub fn blanks(alloc: Global, code: &Code) -> Result<Vec<Boxed<Packet>>, OutOfMemory>
     ensures count { IfOk result (λ packets. suc (length packets.items) ≡ length (plain_code code.now).threads) }
     ensures few { IfOk result (λ packets. length packets.items < 2 ^ 16) }
     ensures each { IfOk result (λ packets. (k : ℕ) (p : PacketState) → slice_get packets.items k ≡ Some p → HasRoom (of_shape (plain_code code.now).shape) (suc k) (plain_packet p)) }
@@ -31,7 +32,7 @@ pub fn blanks(alloc: Global, code: &Code) -> Result<Vec<Packet>, OutOfMemory>
     for mailbox in 0..threads.len() - 1 {
         let own = &threads[mailbox + 1];
         let packet = Packet::new(alloc, own.params as usize, own.uses.len())?;
-        packets.push(packet)?;
+        packets.push(Boxed::new(alloc, packet)?)?;
     }
     Ok(packets)
 }

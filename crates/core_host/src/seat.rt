@@ -1,5 +1,6 @@
 //! A thread's seat.
 
+use crate::boxed::Boxed;
 use combine_tree::Packet;
 use core_machine::Thread;
 
@@ -7,7 +8,7 @@ use core_machine::Thread;
 #[derive(Drop)]
 pub struct Seat {
     /// None where the thread's core is another host's, and while the thread is at work.
-    pub thread: Option<Thread>,
+    pub thread: Option<Boxed<Thread>>,
     /// The job that the thread is at, where it waits for its branches.
-    pub job: Option<Packet>,
+    pub job: Option<Boxed<Packet>>,
 }

@@ -16,6 +16,7 @@ ghost use Rattle.core_host.specs.Moving.{Moves, HasGot, HasLooked};
 ghost use Rattle.core_host.specs.Waiting.{HasTold, IsWorking, IsWaiting, HasReplies, IsAtRest, WaitsAt, IsBetween};
 ghost use Rattle.core_host.specs.Serving.{MovesBranches, Touches, OnlyLooks, HasMissed, AllMissed, KeepsServing};
 
+use crate::boxed::Boxed;
 use crate::desk::Desk;
 use crate::seat::Seat;
 use crate::work::ForecWork;
@@ -46,7 +47,7 @@ impl<'c, P: Port<ForecWork> + Drop> Desk<'c, P> {
     }
 
     /// Looks for a job.
-    fn take(&mut self, mailbox: u32) -> Option<Packet>
+    fn take(&mut self, mailbox: u32) -> Option<Boxed<Packet>>
         requires { ChildIs self.old.mail mailbox false }
         ensures state { self.new ≡ record self.old { mail = after_take mailbox (in_plain plain_packet result) self.old.mail } }
         ensures job { IfSome result (λ r. Asks (plain_code self.old.mail.work.code.value) mailbox (taken self.new.mail mailbox)) }
@@ -56,7 +57,7 @@ impl<'c, P: Port<ForecWork> + Drop> Desk<'c, P> {
     }
 
     /// Sends the reply of a thread.
-    fn answer(&mut self, mailbox: u32, packet: Packet)
+    fn answer(&mut self, mailbox: u32, packet: Boxed<Packet>)
         requires held { ChildIs self.old.mail mailbox true }
         requires replies { Replies (plain_code self.old.mail.work.code.value) mailbox (taken self.old.mail mailbox) (plain_packet packet) }
         ensures { self.new ≡ record self.old { mail = after_answer mailbox (plain_packet packet) self.old.mail } }
@@ -116,7 +117,13 @@ impl<'c, P: Port<ForecWork> + Drop> Desk<'c, P> {
 
     /// Runs a thread to its next event. Where that is a fork, its branches are told their jobs, and else
     /// the thread has answered its own.
-    fn advance<G: Gate>(&mut self, gate: &G, mailbox: u32, thread: Thread, packet: Packet)
+    fn advance<G: Gate>(
+        &mut self,
+        gate: &G,
+        mailbox: u32,
+        thread: Boxed<Thread>,
+        packet: Boxed<Packet>,
+    )
         requires inside { mailbox < length self.old.mail.ends }
         requires seated { IsSeated self.old }
         requires number { thread.number ≡ suc mailbox }
@@ -129,14 +136,15 @@ impl<'c, P: Port<ForecWork> + Drop> Desk<'c, P> {
         ensures worked { HasWorked (code_in self.old).shape self.old.mail self.new.mail mailbox }
     {
         let number = mailbox + 1;
-        let mut thread = thread;
+        let mut seated = thread;
         let mut packet = packet;
+        let thread: &mut Thread = &mut seated;
         if let Event::Fork = thread.run(self.code) {
-            self.tell(&thread);
+            self.tell(thread);
             self.sit(
                 number,
                 Seat {
-                    thread: Some(thread),
+                    thread: Some(seated),
                     job: Some(packet),
                 },
             );
@@ -146,7 +154,7 @@ impl<'c, P: Port<ForecWork> + Drop> Desk<'c, P> {
         self.sit(
             number,
             Seat {
-                thread: Some(thread),
+                thread: Some(seated),
                 job: None,
             },
         );
@@ -172,11 +180,12 @@ impl<'c, P: Port<ForecWork> + Drop> Desk<'c, P> {
         };
         gate.pass(self.places[number as usize], number, Point::Begun);
         let Seat { thread, .. } = self.rise(number);
-        let Some(mut thread) = thread else {
+        let Some(mut seated) = thread else {
             unreachable!()
         };
+        let thread: &mut Thread = &mut seated;
         thread.begin(self.code, &packet);
-        self.advance(gate, mailbox, thread, packet);
+        self.advance(gate, mailbox, seated, packet);
         true
     }
 
@@ -192,23 +201,24 @@ impl<'c, P: Port<ForecWork> + Drop> Desk<'c, P> {
     {
         let number = mailbox + 1;
         let Seat { thread, job } = self.rise(number);
-        let Some(mut thread) = thread else {
+        let Some(mut seated) = thread else {
             unreachable!()
         };
         let Some(packet) = job else { unreachable!() };
-        if !self.gather(&thread) {
+        let thread: &mut Thread = &mut seated;
+        if !self.gather(thread) {
             self.sit(
                 number,
                 Seat {
-                    thread: Some(thread),
+                    thread: Some(seated),
                     job: Some(packet),
                 },
             );
             return false;
         }
-        self.settle(&mut thread);
-        self.join(&mut thread);
-        self.advance(gate, mailbox, thread, packet);
+        self.settle(thread);
+        self.join(thread);
+        self.advance(gate, mailbox, seated, packet);
         true
     }
 

@@ -2,6 +2,7 @@
 
 ghost use Rattle.std.specs.Prelude.{◌≡◌};
 
+use crate::boxed::Boxed;
 use combine_tree::Packet;
 use copy_slots::Work;
 use std::marker::Model;
@@ -44,7 +45,7 @@ impl Work for ForecWork {
     ghost use Rattle.thread_code.specs.Plain.{plain_code};
     ghost use Rattle.core_host.specs.Asking.{Asks, Replies};
 
-    type Packet = Packet;
+    type Packet = Boxed<Packet>;
 
     type Plain = Told;
 

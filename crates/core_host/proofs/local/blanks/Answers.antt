@@ -5,6 +5,7 @@ use Rattle.forec_kernel.specs.Shapes.{plain_thread}
 use Rattle.forec_kernel.specs.Texts.{uses_in, params_in}
 use Rattle.forec_kernel.specs.Packets.{PlainPacket}
 use Rattle.forec_kernel.specs.declared.shape.Shape.{Shape}
+use Rattle.combine_tree.specs.Plain.{plain_packet}
 use Rattle.combine_tree.specs.declared.packet.Packet.{Packet as PacketState}
 use Rattle.core_host.proofs.Loading.{get_then, length_then}
 use Rattle.core_host.proofs.Locally.{params_index, uses_index}
@@ -13,8 +14,8 @@ use Rattle.core_host.proofs.local.blanks.Goals as goal
 pub loop-mailbox-preserved : goal.loop-mailbox-preserved
 loop-mailbox-preserved c =
     let items = c.in_ok-push.ensures.items in
-    let packet = c.in_ok-packet.packet in
-    let is = c.in_ok-packet.ensures in
+    let packet = c.in_ok-new.field-0 in
+    let is = ap plain_packet c.in_ok-new.ensures ∙ c.in_ok-packet.ensures in
     let threads = c.shape.result.now.threads.items in
     let one : c.loop-mailbox.mailbox + 1 ≡ suc c.loop-mailbox.mailbox = omega arith in
     let within : c.loop-mailbox.mailbox + 1 < length threads = omega (arith, c.loop-mailbox-test.true, c.len-mailbox-end.ensures) in

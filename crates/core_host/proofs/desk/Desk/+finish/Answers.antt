@@ -1,10 +1,14 @@
-use Rattle.std.proofs.Common.{rules, ◌≡◌, ◌≤◌, ◌<◌, ◌+◌, ◌-◌, ◌*◌, Some, None, length, map, refl, sym, ap, ◌∙◌, subst, arith}
+use Rattle.std.proofs.Common.{rules, ◌≡◌, ◌≤◌, ◌^◌, ◌<◌, ◌+◌, ◌-◌, ◌*◌, Some, None, length, map, refl, sym, ap, ◌∙◌, subst, arith}
 use Rattle.std.proofs.lemmas.Option.{slice_get_within}
 use Rattle.std.proofs.Math.Facts.{Fits-of_lt}
 use Rattle.thread_code.specs.declared.instruction.CodeParts.{CodeParts}
 use Rattle.thread_code.specs.Plain.{plain_code}
 use Rattle.thread_code.specs.Alone.{block_of}
-use Rattle.core_machine.specs.Held.{Loaded, StandsFor, Left_by}
+use Rattle.core_machine.specs.Held.{Loaded, StandsFor, Left_by, CanBegin}
+use Rattle.forec_kernel.specs.Packed.{HasRoom, IsJob}
+use Rattle.thread_code.specs.Valid.{of_shape}
+use Rattle.combine_tree.specs.declared.packet.Packet.{Packet}
+use Rattle.combine_tree.specs.Plain.{plain_packet}
 use Rattle.core_machine.specs.Forks.{jobs_at}
 use Rattle.core_host.specs.Keeping.{State, code_in, QuietAbove, Leaves, HaveHeard}
 use Rattle.core_host.proofs.Keep.{leaves_same, leaves_then}
@@ -52,47 +56,51 @@ pub employ-begin-requires-clause-loaded : goal.employ-begin-requires-clause-load
 employ-begin-requires-clause-loaded g t c =
     loaded_now c.args.self.now c.args.mailbox c.requires.fitted.seated c.requires.inside c.requires.called.idle c.self.inside.code.now c.self.inside.places.items (g.P.Port.state c.self.inside.port) (g.P.Port.state c.take.new.self)
     c.self.inside.seats.items c.self.inside.hands.items c.self.view_is c.in-Some.packet c.in-Some.ensures.state c.in-Some.ensures.job c.index_mut.result.now c.index_mut.ensures.value c.take-2.result c.take-2.ensures.value
-    c.in-Some-take.thread c.in-Some-take.is
+    c.deref_mut-thread.result.now (c.in-Some-take.is ∙ ap Some (sym c.deref_mut-thread.ensures.value))
 
 pub employ-begin-requires-clause-resting : goal.employ-begin-requires-clause-resting
 employ-begin-requires-clause-resting g t c =
     resting_now c.args.self.now c.args.mailbox c.requires.fitted.seated c.requires.inside c.requires.called.idle c.self.inside.code.now c.self.inside.places.items (g.P.Port.state c.self.inside.port) (g.P.Port.state c.take.new.self)
     c.self.inside.seats.items c.self.inside.hands.items c.self.view_is c.in-Some.packet c.in-Some.ensures.state c.in-Some.ensures.job c.index_mut.result.now c.index_mut.ensures.value c.take-2.result c.take-2.ensures.value
-    c.in-Some-take.thread c.in-Some-take.is
+    c.deref_mut-thread.result.now (c.in-Some-take.is ∙ ap Some (sym c.deref_mut-thread.ensures.value))
 
 pub employ-begin-requires-clause-job : goal.employ-begin-requires-clause-job
 employ-begin-requires-clause-job g t c =
-    begins_now c.args.self.now c.args.mailbox c.requires.fitted.seated c.requires.inside c.requires.called.idle c.self.inside.code.now c.self.inside.places.items (g.P.Port.state c.self.inside.port) (g.P.Port.state c.take.new.self)
+    subst (λ (p : Packet). CanBegin c.deref_mut-thread.result.now p.kind) (sym c.deref.ensures)
+    (begins_now c.args.self.now c.args.mailbox c.requires.fitted.seated c.requires.inside c.requires.called.idle c.self.inside.code.now c.self.inside.places.items (g.P.Port.state c.self.inside.port) (g.P.Port.state c.take.new.self)
     c.self.inside.seats.items c.self.inside.hands.items c.self.view_is c.in-Some.packet c.in-Some.ensures.state c.in-Some.ensures.job c.index_mut.result.now c.index_mut.ensures.value c.take-2.result c.take-2.ensures.value
-    c.in-Some-take.thread c.in-Some-take.is
+    c.deref_mut-thread.result.now (c.in-Some-take.is ∙ ap Some (sym c.deref_mut-thread.ensures.value)))
 
 pub employ-begin-requires-clause-room : goal.employ-begin-requires-clause-room
 employ-begin-requires-clause-room g t c =
-    room_now c.args.self.now c.args.mailbox c.requires.fitted.seated c.requires.inside c.requires.called.idle c.self.inside.code.now c.self.inside.places.items (g.P.Port.state c.self.inside.port) (g.P.Port.state c.take.new.self)
+    subst (λ (p : Packet). HasRoom (of_shape (plain_code c.self.inside.code.now).shape) c.deref_mut-thread.result.now.number (plain_packet p)) (sym c.deref.ensures)
+    (room_now c.args.self.now c.args.mailbox c.requires.fitted.seated c.requires.inside c.requires.called.idle c.self.inside.code.now c.self.inside.places.items (g.P.Port.state c.self.inside.port) (g.P.Port.state c.take.new.self)
     c.self.inside.seats.items c.self.inside.hands.items c.self.view_is c.in-Some.packet c.in-Some.ensures.state c.in-Some.ensures.job c.index_mut.result.now c.index_mut.ensures.value c.take-2.result c.take-2.ensures.value
-    c.in-Some-take.thread c.in-Some-take.is
+    c.deref_mut-thread.result.now (c.in-Some-take.is ∙ ap Some (sym c.deref_mut-thread.ensures.value)))
 
 pub employ-begin-requires-clause-small : goal.employ-begin-requires-clause-small
 employ-begin-requires-clause-small g t c =
-    small_now c.args.self.now c.args.mailbox c.requires.fitted.seated c.requires.inside c.requires.called.idle c.self.inside.code.now c.self.inside.places.items (g.P.Port.state c.self.inside.port) (g.P.Port.state c.take.new.self)
+    subst (λ (p : Packet). p.allowance ≤ 2 ^ 62) (sym c.deref.ensures)
+    (small_now c.args.self.now c.args.mailbox c.requires.fitted.seated c.requires.inside c.requires.called.idle c.self.inside.code.now c.self.inside.places.items (g.P.Port.state c.self.inside.port) (g.P.Port.state c.take.new.self)
     c.self.inside.seats.items c.self.inside.hands.items c.self.view_is c.in-Some.packet c.in-Some.ensures.state c.in-Some.ensures.job c.index_mut.result.now c.index_mut.ensures.value c.take-2.result c.take-2.ensures.value
-    c.in-Some-take.thread c.in-Some-take.is
+    c.deref_mut-thread.result.now (c.in-Some-take.is ∙ ap Some (sym c.deref_mut-thread.ensures.value)))
 
 pub employ-reply-requires-clause-room : goal.employ-reply-requires-clause-room
 employ-reply-requires-clause-room g t c =
-    reply_room c.args.self.now c.args.mailbox c.requires.fitted.seated c.requires.inside c.requires.called.idle c.self.inside.code.now c.self.inside.places.items (g.P.Port.state c.self.inside.port) (g.P.Port.state c.take.new.self)
+    subst (λ (p : Packet). HasRoom (of_shape (plain_code c.self-2.inside.code.now).shape) c.finish.new.thread.number (plain_packet p)) (sym c.deref_mut.ensures.value)
+    (reply_room c.args.self.now c.args.mailbox c.requires.fitted.seated c.requires.inside c.requires.called.idle c.self.inside.code.now c.self.inside.places.items (g.P.Port.state c.self.inside.port) (g.P.Port.state c.take.new.self)
     c.self.inside.seats.items c.self.inside.hands.items c.self.view_is c.in-Some.packet c.in-Some.ensures.state c.in-Some.ensures.job c.index_mut.result.now c.index_mut.ensures.value c.take-2.result c.take-2.ensures.value
-    c.in-Some-take.thread c.in-Some-take.is
-    (record { thread = c.take-2.new.self; job = c.index_mut.result.now.job }) c.begin.new.self c.begin.ensures.number c.begin.ensures.stands
+    c.deref_mut-thread.result.now (c.in-Some-take.is ∙ ap Some (sym c.deref_mut-thread.ensures.value))
+    (record { thread = c.take-2.new.self; job = c.index_mut.result.now.job }) c.begin.new.self c.begin.ensures.number (λ xs job is. c.begin.ensures.stands xs job (subst (λ (p : Packet). IsJob (plain_packet p) job) (sym c.deref.ensures) is))
     c.requires.fitted.tells c.in-Some.ensures.turn c.finish.new.self c.finish.new.thread c.finish.ensures.number c.finish.ensures.loaded c.finish.ensures.reply c.finish.ensures.above c.finish.ensures.leaves c.finish.ensures.done
-    c.self-2.inside.code.now c.self-2.inside.places.items (g.P.Port.state c.self-2.inside.port) c.self-2.inside.seats.items c.self-2.inside.hands.items c.self-2.view_is
+    c.self-2.inside.code.now c.self-2.inside.places.items (g.P.Port.state c.self-2.inside.port) c.self-2.inside.seats.items c.self-2.inside.hands.items c.self-2.view_is)
 
 pub employ-answer-requires-clause-held : goal.employ-answer-requires-clause-held
 employ-answer-requires-clause-held g t c =
     answer_held c.args.self.now c.args.mailbox c.requires.fitted.seated c.requires.inside c.requires.called.idle c.self.inside.code.now c.self.inside.places.items (g.P.Port.state c.self.inside.port) (g.P.Port.state c.take.new.self)
     c.self.inside.seats.items c.self.inside.hands.items c.self.view_is c.in-Some.packet c.in-Some.ensures.state c.in-Some.ensures.job c.index_mut.result.now c.index_mut.ensures.value c.take-2.result c.take-2.ensures.value
-    c.in-Some-take.thread c.in-Some-take.is
-    (record { thread = c.take-2.new.self; job = c.index_mut.result.now.job }) c.begin.new.self c.begin.ensures.number c.begin.ensures.stands
+    c.deref_mut-thread.result.now (c.in-Some-take.is ∙ ap Some (sym c.deref_mut-thread.ensures.value))
+    (record { thread = c.take-2.new.self; job = c.index_mut.result.now.job }) c.begin.new.self c.begin.ensures.number (λ xs job is. c.begin.ensures.stands xs job (subst (λ (p : Packet). IsJob (plain_packet p) job) (sym c.deref.ensures) is))
     c.requires.fitted.tells c.in-Some.ensures.turn c.finish.new.self c.finish.new.thread c.finish.ensures.number c.finish.ensures.loaded c.finish.ensures.reply c.finish.ensures.above c.finish.ensures.leaves c.finish.ensures.done
     c.self-2.inside.code.now c.self-2.inside.places.items (g.P.Port.state c.self-2.inside.port) c.self-2.inside.seats.items c.self-2.inside.hands.items c.self-2.view_is
     c.reply.new.packet c.reply.ensures.room c.reply.ensures.kind c.reply.ensures.gives
@@ -101,8 +109,8 @@ pub employ-answer-requires-clause-answers : goal.employ-answer-requires-clause-a
 employ-answer-requires-clause-answers g t c =
     answer_answers c.args.self.now c.args.mailbox c.requires.fitted.seated c.requires.inside c.requires.called.idle c.self.inside.code.now c.self.inside.places.items (g.P.Port.state c.self.inside.port) (g.P.Port.state c.take.new.self)
     c.self.inside.seats.items c.self.inside.hands.items c.self.view_is c.in-Some.packet c.in-Some.ensures.state c.in-Some.ensures.job c.index_mut.result.now c.index_mut.ensures.value c.take-2.result c.take-2.ensures.value
-    c.in-Some-take.thread c.in-Some-take.is
-    (record { thread = c.take-2.new.self; job = c.index_mut.result.now.job }) c.begin.new.self c.begin.ensures.number c.begin.ensures.stands
+    c.deref_mut-thread.result.now (c.in-Some-take.is ∙ ap Some (sym c.deref_mut-thread.ensures.value))
+    (record { thread = c.take-2.new.self; job = c.index_mut.result.now.job }) c.begin.new.self c.begin.ensures.number (λ xs job is. c.begin.ensures.stands xs job (subst (λ (p : Packet). IsJob (plain_packet p) job) (sym c.deref.ensures) is))
     c.requires.fitted.tells c.in-Some.ensures.turn c.finish.new.self c.finish.new.thread c.finish.ensures.number c.finish.ensures.loaded c.finish.ensures.reply c.finish.ensures.above c.finish.ensures.leaves c.finish.ensures.done
     c.self-2.inside.code.now c.self-2.inside.places.items (g.P.Port.state c.self-2.inside.port) c.self-2.inside.seats.items c.self-2.inside.hands.items c.self-2.view_is
     c.reply.new.packet c.reply.ensures.room c.reply.ensures.kind c.reply.ensures.gives
@@ -111,8 +119,8 @@ pub employ-returns-clause-back : goal.employ-returns-clause-back
 employ-returns-clause-back g t c =
     end_back c.args.self.now c.args.mailbox c.requires.fitted.seated c.requires.inside c.requires.called.idle c.self.inside.code.now c.self.inside.places.items (g.P.Port.state c.self.inside.port) (g.P.Port.state c.take.new.self)
     c.self.inside.seats.items c.self.inside.hands.items c.self.view_is c.in-Some.packet c.in-Some.ensures.state c.in-Some.ensures.job c.index_mut.result.now c.index_mut.ensures.value c.take-2.result c.take-2.ensures.value
-    c.in-Some-take.thread c.in-Some-take.is
-    (record { thread = c.take-2.new.self; job = c.index_mut.result.now.job }) c.begin.new.self c.begin.ensures.number c.begin.ensures.stands
+    c.deref_mut-thread.result.now (c.in-Some-take.is ∙ ap Some (sym c.deref_mut-thread.ensures.value))
+    (record { thread = c.take-2.new.self; job = c.index_mut.result.now.job }) c.begin.new.self c.begin.ensures.number (λ xs job is. c.begin.ensures.stands xs job (subst (λ (p : Packet). IsJob (plain_packet p) job) (sym c.deref.ensures) is))
     c.requires.fitted.tells c.in-Some.ensures.turn c.finish.new.self c.finish.new.thread c.finish.ensures.number c.finish.ensures.loaded c.finish.ensures.reply c.finish.ensures.above c.finish.ensures.leaves c.finish.ensures.done
     c.self-2.inside.code.now c.self-2.inside.places.items (g.P.Port.state c.self-2.inside.port) c.self-2.inside.seats.items c.self-2.inside.hands.items c.self-2.view_is
     c.reply.new.packet c.reply.ensures.room c.reply.ensures.kind c.reply.ensures.gives
@@ -122,8 +130,8 @@ pub employ-returns-clause-above : goal.employ-returns-clause-above
 employ-returns-clause-above g t c =
     end_above c.args.self.now c.args.mailbox c.requires.fitted.seated c.requires.inside c.requires.called.idle c.self.inside.code.now c.self.inside.places.items (g.P.Port.state c.self.inside.port) (g.P.Port.state c.take.new.self)
     c.self.inside.seats.items c.self.inside.hands.items c.self.view_is c.in-Some.packet c.in-Some.ensures.state c.in-Some.ensures.job c.index_mut.result.now c.index_mut.ensures.value c.take-2.result c.take-2.ensures.value
-    c.in-Some-take.thread c.in-Some-take.is
-    (record { thread = c.take-2.new.self; job = c.index_mut.result.now.job }) c.begin.new.self c.begin.ensures.number c.begin.ensures.stands
+    c.deref_mut-thread.result.now (c.in-Some-take.is ∙ ap Some (sym c.deref_mut-thread.ensures.value))
+    (record { thread = c.take-2.new.self; job = c.index_mut.result.now.job }) c.begin.new.self c.begin.ensures.number (λ xs job is. c.begin.ensures.stands xs job (subst (λ (p : Packet). IsJob (plain_packet p) job) (sym c.deref.ensures) is))
     c.requires.fitted.tells c.in-Some.ensures.turn c.finish.new.self c.finish.new.thread c.finish.ensures.number c.finish.ensures.loaded c.finish.ensures.reply c.finish.ensures.above c.finish.ensures.leaves c.finish.ensures.done
     c.self-2.inside.code.now c.self-2.inside.places.items (g.P.Port.state c.self-2.inside.port) c.self-2.inside.seats.items c.self-2.inside.hands.items c.self-2.view_is
     c.reply.new.packet c.reply.ensures.room c.reply.ensures.kind c.reply.ensures.gives
@@ -133,8 +141,8 @@ pub employ-returns-clause-leaves : goal.employ-returns-clause-leaves
 employ-returns-clause-leaves g t c =
     end_leaves c.args.self.now c.args.mailbox c.requires.fitted.seated c.requires.inside c.requires.called.idle c.self.inside.code.now c.self.inside.places.items (g.P.Port.state c.self.inside.port) (g.P.Port.state c.take.new.self)
     c.self.inside.seats.items c.self.inside.hands.items c.self.view_is c.in-Some.packet c.in-Some.ensures.state c.in-Some.ensures.job c.index_mut.result.now c.index_mut.ensures.value c.take-2.result c.take-2.ensures.value
-    c.in-Some-take.thread c.in-Some-take.is
-    (record { thread = c.take-2.new.self; job = c.index_mut.result.now.job }) c.begin.new.self c.begin.ensures.number c.begin.ensures.stands
+    c.deref_mut-thread.result.now (c.in-Some-take.is ∙ ap Some (sym c.deref_mut-thread.ensures.value))
+    (record { thread = c.take-2.new.self; job = c.index_mut.result.now.job }) c.begin.new.self c.begin.ensures.number (λ xs job is. c.begin.ensures.stands xs job (subst (λ (p : Packet). IsJob (plain_packet p) job) (sym c.deref.ensures) is))
     c.requires.fitted.tells c.in-Some.ensures.turn c.finish.new.self c.finish.new.thread c.finish.ensures.number c.finish.ensures.loaded c.finish.ensures.reply c.finish.ensures.above c.finish.ensures.leaves c.finish.ensures.done
     c.self-2.inside.code.now c.self-2.inside.places.items (g.P.Port.state c.self-2.inside.port) c.self-2.inside.seats.items c.self-2.inside.hands.items c.self-2.view_is
     c.reply.new.packet c.reply.ensures.room c.reply.ensures.kind c.reply.ensures.gives
@@ -278,19 +286,19 @@ pub employ-finish-requires : goal.employ-finish-requires
 employ-finish-requires g t c κs within =
     let number = number1 c.args.self.now c.args.mailbox c.requires.fitted.seated c.requires.inside c.requires.called.idle c.self.inside.code.now c.self.inside.places.items (g.P.Port.state c.self.inside.port) (g.P.Port.state c.take.new.self)
     c.self.inside.seats.items c.self.inside.hands.items c.self.view_is c.in-Some.packet c.in-Some.ensures.state c.in-Some.ensures.job c.index_mut.result.now c.index_mut.ensures.value c.take-2.result c.take-2.ensures.value
-    c.in-Some-take.thread c.in-Some-take.is
-    (record { thread = c.take-2.new.self; job = c.index_mut.result.now.job }) c.begin.new.self c.begin.ensures.number c.begin.ensures.stands in
+    c.deref_mut-thread.result.now (c.in-Some-take.is ∙ ap Some (sym c.deref_mut-thread.ensures.value))
+    (record { thread = c.take-2.new.self; job = c.index_mut.result.now.job }) c.begin.new.self c.begin.ensures.number (λ xs job is. c.begin.ensures.stands xs job (subst (λ (p : Packet). IsJob (plain_packet p) job) (sym c.deref.ensures) is)) in
     let smaller : 3 * (257 - c.begin.new.self.number) + 2 < 3 * (256 - c.args.mailbox) + 3 = omega (arith, number) in
     let fitted = raw_fitted c.args.self.now c.args.mailbox c.requires.fitted.seated c.requires.inside c.requires.called.idle c.self.inside.code.now c.self.inside.places.items (g.P.Port.state c.self.inside.port) (g.P.Port.state c.take.new.self)
     c.self.inside.seats.items c.self.inside.hands.items c.self.view_is c.in-Some.packet c.in-Some.ensures.state c.in-Some.ensures.job c.index_mut.result.now c.index_mut.ensures.value c.take-2.result c.take-2.ensures.value
-    c.in-Some-take.thread c.in-Some-take.is
+    c.deref_mut-thread.result.now (c.in-Some-take.is ∙ ap Some (sym c.deref_mut-thread.ensures.value))
     (record { thread = c.take-2.new.self; job = c.index_mut.result.now.job }) c.requires.fitted.tells in
     let begun = raw_followed c.args.self.now c.args.mailbox c.requires.fitted.seated c.requires.inside c.requires.called.idle c.self.inside.code.now c.self.inside.places.items (g.P.Port.state c.self.inside.port) (g.P.Port.state c.take.new.self)
     c.self.inside.seats.items c.self.inside.hands.items c.self.view_is c.in-Some.packet c.in-Some.ensures.state c.in-Some.ensures.job c.index_mut.result.now c.index_mut.ensures.value c.take-2.result c.take-2.ensures.value
-    c.in-Some-take.thread c.in-Some-take.is
-    (record { thread = c.take-2.new.self; job = c.index_mut.result.now.job }) c.begin.new.self c.begin.ensures.number c.begin.ensures.stands in
+    c.deref_mut-thread.result.now (c.in-Some-take.is ∙ ap Some (sym c.deref_mut-thread.ensures.value))
+    (record { thread = c.take-2.new.self; job = c.index_mut.result.now.job }) c.begin.new.self c.begin.ensures.number (λ xs job is. c.begin.ensures.stands xs job (subst (λ (p : Packet). IsJob (plain_packet p) job) (sym c.deref.ensures) is)) in
     let above = raw_above c.args.self.now c.args.mailbox c.requires.fitted.seated c.requires.inside c.requires.called.idle c.self.inside.code.now c.self.inside.places.items (g.P.Port.state c.self.inside.port) (g.P.Port.state c.take.new.self)
     c.self.inside.seats.items c.self.inside.hands.items c.self.view_is c.in-Some.packet c.in-Some.ensures.state c.in-Some.ensures.job c.index_mut.result.now c.index_mut.ensures.value c.take-2.result c.take-2.ensures.value
-    c.in-Some-take.thread c.in-Some-take.is
-    (record { thread = c.take-2.new.self; job = c.index_mut.result.now.job }) c.begin.new.self c.begin.ensures.number c.begin.ensures.stands c.requires.above in
+    c.deref_mut-thread.result.now (c.in-Some-take.is ∙ ap Some (sym c.deref_mut-thread.ensures.value))
+    (record { thread = c.take-2.new.self; job = c.index_mut.result.now.job }) c.begin.new.self c.begin.ensures.number (λ xs job is. c.begin.ensures.stands xs job (subst (λ (p : Packet). IsJob (plain_packet p) job) (sym c.deref.ensures) is)) c.requires.above in
     (search rules, (within.0, (within.1, (search rules, (fitted, (c.begin.ensures.loaded, (c.begin.ensures.running, (begun, above))))))))

@@ -12,7 +12,8 @@ use Rattle.copy_slots.specs.Ports.{ChildIs, taken, after_answer}
 use Rattle.core_host.specs.Asking.{Replies}
 use Rattle.core_host.specs.Changes.{HasWorked}
 use Rattle.core_host.specs.Keeping.{State, code_in}
-use Rattle.core_host.specs.Waiting.{IsBetween}
+use Rattle.core_host.specs.Waiting.{IsBetween, IsWorking}
+use Rattle.core_machine.specs.declared.thread.Thread.{Thread}
 use Rattle.core_host.specs.Serving.{Touches}
 use Rattle.core_host.proofs.Finishing.{replied_by}
 use Rattle.core_host.proofs.Advancing.{has_run, its_fork, s2, fork_between, fork_touches, fork_worked, its_replies, its_child, at_end, end_between, end_worked, end_touches}
@@ -21,9 +22,9 @@ use Rattle.core_host.proofs.desk.Desk.advance.Goals as goal
 pub tell-requires-clause-fork : goal.tell-requires-clause-fork
 tell-requires-clause-fork g c =
     let code : c.self.inside.code.now ≡ c.args.self.now.code = ap (λ (s : State). s.code) c.self.view_is in
-    let working = has_run c.args.self.now c.args.thread c.run.new.self c.requires.working (subst (λ (x : CodeParts). Loaded (plain_code x) c.run.new.self) code c.run.ensures.loaded) c.run.ensures.number
-    (λ xs st. subst (λ (x : CodeParts). StandsFor (plain_code x) c.run.new.self xs) code (c.run.ensures.stands xs (subst (λ (x : CodeParts). StandsFor (plain_code x) c.args.thread xs) (sym code) st))) in
-    let number = c.run.ensures.number ∙ c.requires.number in
+    let working = has_run c.args.self.now c.deref_mut-thread.result.now c.run.new.self (subst (IsWorking c.args.self.now) (sym c.deref_mut-thread.ensures.value) c.requires.working) (subst (λ (x : CodeParts). Loaded (plain_code x) c.run.new.self) code c.run.ensures.loaded) c.run.ensures.number
+    (λ xs st. subst (λ (x : CodeParts). StandsFor (plain_code x) c.run.new.self xs) code (c.run.ensures.stands xs (subst (λ (x : CodeParts). StandsFor (plain_code x) c.deref_mut-thread.result.now xs) (sym code) st))) in
+    let number = c.run.ensures.number ∙ ap (λ (t : Thread). t.number) c.deref_mut-thread.ensures.value ∙ c.requires.number in
     let one : c.args.mailbox + 1 ≡ suc c.args.mailbox = omega arith in
     let settled = subst (Left_by c.run.new.self) c.in-Fork.is c.run.ensures.left in
     let numbers = subst (λ (x : CodeParts). c.run.new.self.branches.numbers ≡ map (λ w. w.branch) (jobs_at (plain_code x) c.run.new.self)) code (c.run.ensures.branches c.in-Fork.is) in
@@ -32,9 +33,9 @@ tell-requires-clause-fork g c =
 pub returns-in-Fork-clause-touches : goal.returns-in-Fork-clause-touches
 returns-in-Fork-clause-touches g c =
     let code : c.self.inside.code.now ≡ c.args.self.now.code = ap (λ (s : State). s.code) c.self.view_is in
-    let working = has_run c.args.self.now c.args.thread c.run.new.self c.requires.working (subst (λ (x : CodeParts). Loaded (plain_code x) c.run.new.self) code c.run.ensures.loaded) c.run.ensures.number
-    (λ xs st. subst (λ (x : CodeParts). StandsFor (plain_code x) c.run.new.self xs) code (c.run.ensures.stands xs (subst (λ (x : CodeParts). StandsFor (plain_code x) c.args.thread xs) (sym code) st))) in
-    let number = c.run.ensures.number ∙ c.requires.number in
+    let working = has_run c.args.self.now c.deref_mut-thread.result.now c.run.new.self (subst (IsWorking c.args.self.now) (sym c.deref_mut-thread.ensures.value) c.requires.working) (subst (λ (x : CodeParts). Loaded (plain_code x) c.run.new.self) code c.run.ensures.loaded) c.run.ensures.number
+    (λ xs st. subst (λ (x : CodeParts). StandsFor (plain_code x) c.run.new.self xs) code (c.run.ensures.stands xs (subst (λ (x : CodeParts). StandsFor (plain_code x) c.deref_mut-thread.result.now xs) (sym code) st))) in
+    let number = c.run.ensures.number ∙ ap (λ (t : Thread). t.number) c.deref_mut-thread.ensures.value ∙ c.requires.number in
     let one : c.args.mailbox + 1 ≡ suc c.args.mailbox = omega arith in
     let settled = subst (Left_by c.run.new.self) c.in-Fork.is c.run.ensures.left in
     let numbers = subst (λ (x : CodeParts). c.run.new.self.branches.numbers ≡ map (λ w. w.branch) (jobs_at (plain_code x) c.run.new.self)) code (c.run.ensures.branches c.in-Fork.is) in
@@ -45,9 +46,9 @@ returns-in-Fork-clause-touches g c =
 pub returns-in-Fork-clause-between : goal.returns-in-Fork-clause-between
 returns-in-Fork-clause-between g c =
     let code : c.self.inside.code.now ≡ c.args.self.now.code = ap (λ (s : State). s.code) c.self.view_is in
-    let working = has_run c.args.self.now c.args.thread c.run.new.self c.requires.working (subst (λ (x : CodeParts). Loaded (plain_code x) c.run.new.self) code c.run.ensures.loaded) c.run.ensures.number
-    (λ xs st. subst (λ (x : CodeParts). StandsFor (plain_code x) c.run.new.self xs) code (c.run.ensures.stands xs (subst (λ (x : CodeParts). StandsFor (plain_code x) c.args.thread xs) (sym code) st))) in
-    let number = c.run.ensures.number ∙ c.requires.number in
+    let working = has_run c.args.self.now c.deref_mut-thread.result.now c.run.new.self (subst (IsWorking c.args.self.now) (sym c.deref_mut-thread.ensures.value) c.requires.working) (subst (λ (x : CodeParts). Loaded (plain_code x) c.run.new.self) code c.run.ensures.loaded) c.run.ensures.number
+    (λ xs st. subst (λ (x : CodeParts). StandsFor (plain_code x) c.run.new.self xs) code (c.run.ensures.stands xs (subst (λ (x : CodeParts). StandsFor (plain_code x) c.deref_mut-thread.result.now xs) (sym code) st))) in
+    let number = c.run.ensures.number ∙ ap (λ (t : Thread). t.number) c.deref_mut-thread.ensures.value ∙ c.requires.number in
     let one : c.args.mailbox + 1 ≡ suc c.args.mailbox = omega arith in
     let settled = subst (Left_by c.run.new.self) c.in-Fork.is c.run.ensures.left in
     let numbers = subst (λ (x : CodeParts). c.run.new.self.branches.numbers ≡ map (λ w. w.branch) (jobs_at (plain_code x) c.run.new.self)) code (c.run.ensures.branches c.in-Fork.is) in
@@ -58,9 +59,9 @@ returns-in-Fork-clause-between g c =
 pub returns-in-Fork-clause-worked : goal.returns-in-Fork-clause-worked
 returns-in-Fork-clause-worked g c =
     let code : c.self.inside.code.now ≡ c.args.self.now.code = ap (λ (s : State). s.code) c.self.view_is in
-    let working = has_run c.args.self.now c.args.thread c.run.new.self c.requires.working (subst (λ (x : CodeParts). Loaded (plain_code x) c.run.new.self) code c.run.ensures.loaded) c.run.ensures.number
-    (λ xs st. subst (λ (x : CodeParts). StandsFor (plain_code x) c.run.new.self xs) code (c.run.ensures.stands xs (subst (λ (x : CodeParts). StandsFor (plain_code x) c.args.thread xs) (sym code) st))) in
-    let number = c.run.ensures.number ∙ c.requires.number in
+    let working = has_run c.args.self.now c.deref_mut-thread.result.now c.run.new.self (subst (IsWorking c.args.self.now) (sym c.deref_mut-thread.ensures.value) c.requires.working) (subst (λ (x : CodeParts). Loaded (plain_code x) c.run.new.self) code c.run.ensures.loaded) c.run.ensures.number
+    (λ xs st. subst (λ (x : CodeParts). StandsFor (plain_code x) c.run.new.self xs) code (c.run.ensures.stands xs (subst (λ (x : CodeParts). StandsFor (plain_code x) c.deref_mut-thread.result.now xs) (sym code) st))) in
+    let number = c.run.ensures.number ∙ ap (λ (t : Thread). t.number) c.deref_mut-thread.ensures.value ∙ c.requires.number in
     let one : c.args.mailbox + 1 ≡ suc c.args.mailbox = omega arith in
     let settled = subst (Left_by c.run.new.self) c.in-Fork.is c.run.ensures.left in
     let numbers = subst (λ (x : CodeParts). c.run.new.self.branches.numbers ≡ map (λ w. w.branch) (jobs_at (plain_code x) c.run.new.self)) code (c.run.ensures.branches c.in-Fork.is) in
@@ -71,9 +72,9 @@ returns-in-Fork-clause-worked g c =
 pub answer-requires : goal.answer-requires
 answer-requires g c =
     let code : c.self.inside.code.now ≡ c.args.self.now.code = ap (λ (s : State). s.code) c.self.view_is in
-    let working = has_run c.args.self.now c.args.thread c.run.new.self c.requires.working (subst (λ (x : CodeParts). Loaded (plain_code x) c.run.new.self) code c.run.ensures.loaded) c.run.ensures.number
-    (λ xs st. subst (λ (x : CodeParts). StandsFor (plain_code x) c.run.new.self xs) code (c.run.ensures.stands xs (subst (λ (x : CodeParts). StandsFor (plain_code x) c.args.thread xs) (sym code) st))) in
-    let number = c.run.ensures.number ∙ c.requires.number in
+    let working = has_run c.args.self.now c.deref_mut-thread.result.now c.run.new.self (subst (IsWorking c.args.self.now) (sym c.deref_mut-thread.ensures.value) c.requires.working) (subst (λ (x : CodeParts). Loaded (plain_code x) c.run.new.self) code c.run.ensures.loaded) c.run.ensures.number
+    (λ xs st. subst (λ (x : CodeParts). StandsFor (plain_code x) c.run.new.self xs) code (c.run.ensures.stands xs (subst (λ (x : CodeParts). StandsFor (plain_code x) c.deref_mut-thread.result.now xs) (sym code) st))) in
+    let number = c.run.ensures.number ∙ ap (λ (t : Thread). t.number) c.deref_mut-thread.ensures.value ∙ c.requires.number in
     let one : c.args.mailbox + 1 ≡ suc c.args.mailbox = omega arith in
     let room = subst (λ t. HasRoom (of_shape (code_in c.args.self.now).shape) t (plain_packet c.reply.new.packet)) number
     (subst (λ (x : CodeParts). HasRoom (of_shape (plain_code x).shape) c.run.new.self.number (plain_packet c.reply.new.packet)) code c.reply.ensures.room) in
@@ -89,9 +90,9 @@ answer-requires g c =
 pub returns : goal.returns
 returns g c =
     let code : c.self.inside.code.now ≡ c.args.self.now.code = ap (λ (s : State). s.code) c.self.view_is in
-    let working = has_run c.args.self.now c.args.thread c.run.new.self c.requires.working (subst (λ (x : CodeParts). Loaded (plain_code x) c.run.new.self) code c.run.ensures.loaded) c.run.ensures.number
-    (λ xs st. subst (λ (x : CodeParts). StandsFor (plain_code x) c.run.new.self xs) code (c.run.ensures.stands xs (subst (λ (x : CodeParts). StandsFor (plain_code x) c.args.thread xs) (sym code) st))) in
-    let number = c.run.ensures.number ∙ c.requires.number in
+    let working = has_run c.args.self.now c.deref_mut-thread.result.now c.run.new.self (subst (IsWorking c.args.self.now) (sym c.deref_mut-thread.ensures.value) c.requires.working) (subst (λ (x : CodeParts). Loaded (plain_code x) c.run.new.self) code c.run.ensures.loaded) c.run.ensures.number
+    (λ xs st. subst (λ (x : CodeParts). StandsFor (plain_code x) c.run.new.self xs) code (c.run.ensures.stands xs (subst (λ (x : CodeParts). StandsFor (plain_code x) c.deref_mut-thread.result.now xs) (sym code) st))) in
+    let number = c.run.ensures.number ∙ ap (λ (t : Thread). t.number) c.deref_mut-thread.ensures.value ∙ c.requires.number in
     let one : c.args.mailbox + 1 ≡ suc c.args.mailbox = omega arith in
     let room = subst (λ t. HasRoom (of_shape (code_in c.args.self.now).shape) t (plain_packet c.reply.new.packet)) number
     (subst (λ (x : CodeParts). HasRoom (of_shape (plain_code x).shape) c.run.new.self.number (plain_packet c.reply.new.packet)) code c.reply.ensures.room) in

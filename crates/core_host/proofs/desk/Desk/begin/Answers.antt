@@ -1,11 +1,12 @@
-use Rattle.std.proofs.Common.{◌≡◌, ◌<◌, ◌++◌, ◌∷◌, [], suc, length, sym, ap, ◌∙◌, subst}
-use Rattle.forec_kernel.specs.Packed.{HasRoom}
+use Rattle.std.proofs.Common.{◌≡◌, ◌<◌, ◌≤◌, ◌^◌, Some, ◌++◌, ◌∷◌, [], suc, length, sym, ap, ◌∙◌, subst}
+use Rattle.forec_kernel.specs.Packed.{HasRoom, IsJob}
+use Rattle.combine_tree.specs.declared.packet.Packet.{Packet}
 use Rattle.thread_code.specs.declared.instruction.CodeParts.{CodeParts}
 use Rattle.thread_code.specs.Plain.{plain_code}
 use Rattle.thread_code.specs.Valid.{of_shape}
 use Rattle.combine_tree.specs.Plain.{plain_packet}
 use Rattle.core_machine.specs.declared.thread.Thread.{Thread}
-use Rattle.core_machine.specs.Held.{Loaded, StandsFor, CanBegin}
+use Rattle.core_machine.specs.Held.{Loaded, StandsFor, CanBegin, IsResting}
 use Rattle.copy_slots.specs.Ports.{answered}
 use Rattle.core_host.specs.Changes.{HasWorked}
 use Rattle.core_host.specs.Keeping.{State, code_in, IsSeated}
@@ -28,28 +29,34 @@ returns-in_default-clause-looks g c _ = subst (OnlyLooks c.args.mailbox c.args.s
 
 pub begin-requires-clause-loaded : goal.begin-requires-clause-loaded
 begin-requires-clause-loaded g c =
-    let same = same_thread c.args.self.now c.args.mailbox c.requires.inside c.requires.seated c.requires.rests c.in-Some.packet c.take.new.self c.in-Some.ensures.state c.in-Some.ensures.job c.rise-thread.result c.rise-thread.ensures.seat c.rise-thread.new.self c.rise-thread.ensures.rest c.in-Some-thread.thread c.in-Some-thread.is in
+    let same = same_thread c.args.self.now c.args.mailbox c.requires.inside c.requires.seated c.requires.rests c.in-Some.packet c.take.new.self c.in-Some.ensures.state c.in-Some.ensures.job c.rise-thread.result c.rise-thread.ensures.seat c.rise-thread.new.self c.rise-thread.ensures.rest c.deref_mut-thread.result.now (c.in-Some-thread.is ∙ ap Some (sym c.deref_mut-thread.ensures.value)) in
     let rise : c.rise-thread.new.self.code ≡ c.args.self.now.code = same_code c.args.self.now c.args.mailbox c.requires.inside c.requires.seated c.requires.rests c.in-Some.packet c.take.new.self c.in-Some.ensures.state c.in-Some.ensures.job c.rise-thread.result c.rise-thread.ensures.seat c.rise-thread.new.self c.rise-thread.ensures.rest in
     let code : c.self-2.inside.code.now ≡ c.args.self.now.code = ap (λ (s : State). s.code) c.self-2.view_is ∙ rise in
-    subst (λ (x : CodeParts). Loaded (plain_code x) c.in-Some-thread.thread) (sym code) (subst (Loaded (code_in c.args.self.now)) same c.requires.rests.idle.sits.loaded)
+    subst (λ (x : CodeParts). Loaded (plain_code x) c.deref_mut-thread.result.now) (sym code) (subst (Loaded (code_in c.args.self.now)) same c.requires.rests.idle.sits.loaded)
+
+pub begin-requires-clause-resting : goal.begin-requires-clause-resting
+begin-requires-clause-resting g c =
+    let same = same_thread c.args.self.now c.args.mailbox c.requires.inside c.requires.seated c.requires.rests c.in-Some.packet c.take.new.self c.in-Some.ensures.state c.in-Some.ensures.job c.rise-thread.result c.rise-thread.ensures.seat c.rise-thread.new.self c.rise-thread.ensures.rest c.deref_mut-thread.result.now (c.in-Some-thread.is ∙ ap Some (sym c.deref_mut-thread.ensures.value)) in
+    subst IsResting same c.requires.rests.idle.resting
 
 pub begin-requires-clause-job : goal.begin-requires-clause-job
 begin-requires-clause-job g c =
-    let same = same_thread c.args.self.now c.args.mailbox c.requires.inside c.requires.seated c.requires.rests c.in-Some.packet c.take.new.self c.in-Some.ensures.state c.in-Some.ensures.job c.rise-thread.result c.rise-thread.ensures.seat c.rise-thread.new.self c.rise-thread.ensures.rest c.in-Some-thread.thread c.in-Some-thread.is in
+    let same = same_thread c.args.self.now c.args.mailbox c.requires.inside c.requires.seated c.requires.rests c.in-Some.packet c.take.new.self c.in-Some.ensures.state c.in-Some.ensures.job c.rise-thread.result c.rise-thread.ensures.seat c.rise-thread.new.self c.rise-thread.ensures.rest c.deref_mut-thread.result.now (c.in-Some-thread.is ∙ ap Some (sym c.deref_mut-thread.ensures.value)) in
     let rise : c.rise-thread.new.self.code ≡ c.args.self.now.code = same_code c.args.self.now c.args.mailbox c.requires.inside c.requires.seated c.requires.rests c.in-Some.packet c.take.new.self c.in-Some.ensures.state c.in-Some.ensures.job c.rise-thread.result c.rise-thread.ensures.seat c.rise-thread.new.self c.rise-thread.ensures.rest in
     let code : c.self-2.inside.code.now ≡ c.args.self.now.code = ap (λ (s : State). s.code) c.self-2.view_is ∙ rise in
-    subst (λ t. CanBegin t c.in-Some.packet.kind) same (its_start c.args.self.now c.args.mailbox c.requires.inside c.requires.seated c.requires.rests c.in-Some.packet (its_asks c.args.self.now c.args.mailbox c.requires.inside c.requires.seated c.requires.rests c.in-Some.packet c.take.new.self c.in-Some.ensures.state c.in-Some.ensures.job))
+    subst (λ (p : Packet). CanBegin c.deref_mut-thread.result.now p.kind) (sym c.deref.ensures) (subst (λ t. CanBegin t c.in-Some.packet.kind) same (its_start c.args.self.now c.args.mailbox c.requires.inside c.requires.seated c.requires.rests c.in-Some.packet (its_asks c.args.self.now c.args.mailbox c.requires.inside c.requires.seated c.requires.rests c.in-Some.packet c.take.new.self c.in-Some.ensures.state c.in-Some.ensures.job)))
 
 pub begin-requires-clause-room : goal.begin-requires-clause-room
 begin-requires-clause-room g c =
-    let same = same_thread c.args.self.now c.args.mailbox c.requires.inside c.requires.seated c.requires.rests c.in-Some.packet c.take.new.self c.in-Some.ensures.state c.in-Some.ensures.job c.rise-thread.result c.rise-thread.ensures.seat c.rise-thread.new.self c.rise-thread.ensures.rest c.in-Some-thread.thread c.in-Some-thread.is in
+    let same = same_thread c.args.self.now c.args.mailbox c.requires.inside c.requires.seated c.requires.rests c.in-Some.packet c.take.new.self c.in-Some.ensures.state c.in-Some.ensures.job c.rise-thread.result c.rise-thread.ensures.seat c.rise-thread.new.self c.rise-thread.ensures.rest c.deref_mut-thread.result.now (c.in-Some-thread.is ∙ ap Some (sym c.deref_mut-thread.ensures.value)) in
     let rise : c.rise-thread.new.self.code ≡ c.args.self.now.code = same_code c.args.self.now c.args.mailbox c.requires.inside c.requires.seated c.requires.rests c.in-Some.packet c.take.new.self c.in-Some.ensures.state c.in-Some.ensures.job c.rise-thread.result c.rise-thread.ensures.seat c.rise-thread.new.self c.rise-thread.ensures.rest in
     let code : c.self-2.inside.code.now ≡ c.args.self.now.code = ap (λ (s : State). s.code) c.self-2.view_is ∙ rise in
-    subst (λ (x : CodeParts). HasRoom (of_shape (plain_code x).shape) c.in-Some-thread.thread.number (plain_packet c.in-Some.packet)) (sym code)
-    (subst (λ n. HasRoom (of_shape (code_in c.args.self.now).shape) n (plain_packet c.in-Some.packet)) (sym c.requires.rests.idle.sits.number ∙ ap (λ (t : Thread). t.number) same) (its_room c.args.self.now c.args.mailbox c.requires.inside c.requires.seated c.requires.rests c.in-Some.packet (its_asks c.args.self.now c.args.mailbox c.requires.inside c.requires.seated c.requires.rests c.in-Some.packet c.take.new.self c.in-Some.ensures.state c.in-Some.ensures.job)))
+    subst (λ (p : Packet). HasRoom (of_shape (plain_code c.self-2.inside.code.now).shape) c.deref_mut-thread.result.now.number (plain_packet p)) (sym c.deref.ensures)
+    (subst (λ (x : CodeParts). HasRoom (of_shape (plain_code x).shape) c.deref_mut-thread.result.now.number (plain_packet c.in-Some.packet)) (sym code)
+    (subst (λ n. HasRoom (of_shape (code_in c.args.self.now).shape) n (plain_packet c.in-Some.packet)) (sym c.requires.rests.idle.sits.number ∙ ap (λ (t : Thread). t.number) same) (its_room c.args.self.now c.args.mailbox c.requires.inside c.requires.seated c.requires.rests c.in-Some.packet (its_asks c.args.self.now c.args.mailbox c.requires.inside c.requires.seated c.requires.rests c.in-Some.packet c.take.new.self c.in-Some.ensures.state c.in-Some.ensures.job))))
 
 pub begin-requires-clause-small : goal.begin-requires-clause-small
-begin-requires-clause-small g c = its_allowance c.args.self.now c.args.mailbox c.requires.inside c.requires.seated c.requires.rests c.in-Some.packet (its_asks c.args.self.now c.args.mailbox c.requires.inside c.requires.seated c.requires.rests c.in-Some.packet c.take.new.self c.in-Some.ensures.state c.in-Some.ensures.job)
+begin-requires-clause-small g c = subst (λ (p : Packet). p.allowance ≤ 2 ^ 62) (sym c.deref.ensures) (its_allowance c.args.self.now c.args.mailbox c.requires.inside c.requires.seated c.requires.rests c.in-Some.packet (its_asks c.args.self.now c.args.mailbox c.requires.inside c.requires.seated c.requires.rests c.in-Some.packet c.take.new.self c.in-Some.ensures.state c.in-Some.ensures.job))
 
 pub advance-requires-clause-inside : goal.advance-requires-clause-inside
 advance-requires-clause-inside g c κs within =
@@ -61,14 +68,14 @@ advance-requires-clause-seated g c κs within = subst IsSeated (sym (begun_is c.
 
 pub advance-requires-clause-working : goal.advance-requires-clause-working
 advance-requires-clause-working g c κs within =
-    let same = same_thread c.args.self.now c.args.mailbox c.requires.inside c.requires.seated c.requires.rests c.in-Some.packet c.take.new.self c.in-Some.ensures.state c.in-Some.ensures.job c.rise-thread.result c.rise-thread.ensures.seat c.rise-thread.new.self c.rise-thread.ensures.rest c.in-Some-thread.thread c.in-Some-thread.is in
+    let same = same_thread c.args.self.now c.args.mailbox c.requires.inside c.requires.seated c.requires.rests c.in-Some.packet c.take.new.self c.in-Some.ensures.state c.in-Some.ensures.job c.rise-thread.result c.rise-thread.ensures.seat c.rise-thread.new.self c.rise-thread.ensures.rest c.deref_mut-thread.result.now (c.in-Some-thread.is ∙ ap Some (sym c.deref_mut-thread.ensures.value)) in
     let rise : c.rise-thread.new.self.code ≡ c.args.self.now.code = same_code c.args.self.now c.args.mailbox c.requires.inside c.requires.seated c.requires.rests c.in-Some.packet c.take.new.self c.in-Some.ensures.state c.in-Some.ensures.job c.rise-thread.result c.rise-thread.ensures.seat c.rise-thread.new.self c.rise-thread.ensures.rest in
     let code : c.self-2.inside.code.now ≡ c.args.self.now.code = ap (λ (s : State). s.code) c.self-2.view_is ∙ rise in
     let asks = its_asks c.args.self.now c.args.mailbox c.requires.inside c.requires.seated c.requires.rests c.in-Some.packet c.take.new.self c.in-Some.ensures.state c.in-Some.ensures.job in
     let now = begun_is c.args.self.now c.args.mailbox c.requires.inside c.requires.seated c.requires.rests c.in-Some.packet c.take.new.self c.in-Some.ensures.state c.in-Some.ensures.job c.rise-thread.result c.rise-thread.ensures.seat c.rise-thread.new.self c.rise-thread.ensures.rest in
     let working = begun_working c.args.self.now c.args.mailbox c.requires.inside c.requires.seated c.requires.rests c.in-Some.packet asks c.begin.new.self (subst (λ (x : CodeParts). Loaded (plain_code x) c.begin.new.self) code c.begin.ensures.loaded) (c.begin.ensures.number ∙ ap (λ (t : Thread). t.number) (sym same))
     (λ xs job is st. subst (λ (x : CodeParts). StandsFor (plain_code x) c.begin.new.self (xs ++ record { job = job; replies = [] } ∷ [])) code
-    (c.begin.ensures.stands xs job is (subst (λ (x : CodeParts). StandsFor (plain_code x) c.in-Some-thread.thread xs) (sym code) (subst (λ t. StandsFor (code_in c.args.self.now) t xs) same st)))) in
+    (c.begin.ensures.stands xs job (subst (λ (p : Packet). IsJob (plain_packet p) job) (sym c.deref.ensures) is) (subst (λ (x : CodeParts). StandsFor (plain_code x) c.deref_mut-thread.result.now xs) (sym code) (subst (λ t. StandsFor (code_in c.args.self.now) t xs) same st)))) in
     subst (λ (s : State). IsWorking s c.begin.new.self) (sym now) working
 
 pub advance-requires-clause-room : goal.advance-requires-clause-room

@@ -1,12 +1,11 @@
-use Rattle.std.proofs.Common.{◌≡◌, ◌≢◌, ℕ, Some, None, sym, ap, ◌∙◌, subst}
+use Rattle.std.proofs.Common.{◌≡◌, Some, sym, ap, ◌∙◌, subst}
 use Rattle.std.specs.Prelude.{slice_set}
 use Rattle.thread_code.specs.declared.instruction.CodeParts.{CodeParts}
 use Rattle.thread_code.specs.Plain.{plain_code}
 use Rattle.combine_tree.specs.Plain.{plain_packet}
 use Rattle.copy_slots.specs.Mail.{sender_got, sender_looked}
-use Rattle.copy_slots.specs.Ports.{sent, turn, after_collect}
+use Rattle.copy_slots.specs.Ports.{sent}
 use Rattle.core_host.specs.Asking.{Replies}
-use Rattle.core_host.specs.Posts.{Mail}
 use Rattle.core_host.specs.Keeping.{State, code_in}
 use Rattle.core_host.specs.Moving.{Moves, HasGot, HasLooked}
 use Rattle.core_host.proofs.Mails.{state, with_parent}

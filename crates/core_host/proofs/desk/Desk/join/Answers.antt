@@ -6,7 +6,8 @@ use Rattle.thread_code.specs.Plain.{plain_code}
 use Rattle.combine_tree.specs.Plain.{plain_packet}
 use Rattle.core_machine.specs.Held.{Loaded, StandsFor}
 use Rattle.core_machine.specs.Forks.{with_replies, branch_at}
-use Rattle.forec_kernel.specs.Packed.{HasRoom}
+use Rattle.forec_kernel.specs.Packed.{HasRoom, IsReply}
+use Rattle.combine_tree.specs.declared.packet.Packet.{Packet}
 use Rattle.thread_code.specs.Valid.{of_shape}
 use Rattle.core_host.specs.Keeping.{State, code_in}
 use Rattle.core_host.proofs.Hearing.{past_end, reply_at, heard_at, in_hands, some_branch, packet_is, not_empty, reply_is}
@@ -48,9 +49,10 @@ joined-requires-clause-room g c =
     let same = packet_is c.args.self.now c.args.thread.now.branches.numbers c.requires.heard.0 c.requires.heard.1 c.loop-branch.k c.in-Some.branch at d read c.in-Some-index.packet c.in-Some-index.is in
     let room = (heard_at c.args.self.now c.args.thread.now.branches.numbers c.requires.heard.0 c.requires.heard.1 c.loop-branch.k c.in-Some.branch at).room in
     let branch = get_or_from_slice_get c.loop-branch.thread.branches.numbers c.loop-branch.k c.in-Some.branch 0 (sym c.active.ensures ∙ c.in-Some.is) in
-    subst (λ (x : CodeParts). HasRoom (of_shape (plain_code x).shape) (branch_at c.loop-branch.thread c.loop-branch.k) (plain_packet c.in-Some-index.packet)) (sym code)
+    subst (λ (p : Packet). HasRoom (of_shape (plain_code c.self.inside.code.now).shape) (branch_at c.loop-branch.thread c.loop-branch.k) (plain_packet p)) (sym c.deref.ensures)
+    (subst (λ (x : CodeParts). HasRoom (of_shape (plain_code x).shape) (branch_at c.loop-branch.thread c.loop-branch.k) (plain_packet c.in-Some-index.packet)) (sym code)
     (subst (λ t. HasRoom (of_shape (code_in c.args.self.now).shape) t (plain_packet c.in-Some-index.packet)) (sym branch)
-    (subst (λ p. HasRoom (of_shape (code_in c.args.self.now).shape) c.in-Some.branch (plain_packet p)) same room))
+    (subst (λ p. HasRoom (of_shape (code_in c.args.self.now).shape) c.in-Some.branch (plain_packet p)) same room)))
 
 pub loop-branch-smaller : goal.loop-branch-smaller
 loop-branch-smaller g c =
@@ -87,7 +89,7 @@ loop-branch-preserved g c =
           let is = reply_is c.args.self.now c.args.thread.now.branches.numbers rs heard c.loop-branch.k c.in-Some.branch at c.index.result.now
           (c.index.ensures ∙ ap (λ (s : State). slice_index_or s.hands (c.in-Some.branch - 1) c.index.result.now) c.self.view_is) c.in-Some-index.packet c.in-Some-index.is in
           let old = subst (λ (x : CodeParts). StandsFor (plain_code x) c.loop-branch.thread (with_replies xs rs)) (sym code) (c.loop-branch.invariant.stands rs xs heard before) in
-          let new = c.joined.ensures.stands xs rs r.0 (heard.count ∙ sym count) r.1 is old in
+          let new = c.joined.ensures.stands xs rs r.0 (heard.count ∙ sym count) r.1 (subst (λ (p : Packet). IsReply (plain_packet p) r.0) (sym c.deref.ensures) is) old in
           subst (λ (x : CodeParts). StandsFor (plain_code x) c.joined.new.self (with_replies xs rs)) code new;
     }
 

@@ -1,44 +1,44 @@
-use Rattle.std.proofs.Common.{◌≡◌, ap, sym, subst, ◌∙◌}
+use Rattle.std.proofs.Common.{Some, ap, sym, subst, ◌∙◌}
 use Rattle.thread_code.specs.declared.instruction.CodeParts.{CodeParts}
 use Rattle.thread_code.specs.Plain.{plain_code}
 use Rattle.core_host.specs.Changes.{HasWorked}
-use Rattle.core_host.specs.Keeping.{State, code_in, HaveHeard}
+use Rattle.core_host.specs.Keeping.{code_in, HaveHeard}
 use Rattle.core_host.proofs.Beginning.{touches_then, touches_seated, worked_from}
 use Rattle.core_host.proofs.Gathers.{all_heard}
 use Rattle.core_host.proofs.Resuming.{up_waits, same_answered, up_touches, up_room, down_between, down_touches, down_missed, goes_on}
 use Rattle.core_host.proofs.desk.Desk.resume.Goals as goal
 
 pub gather-requires-clause-waiting : goal.gather-requires-clause-waiting
-gather-requires-clause-waiting g c = up_waits c.args.self.now c.args.mailbox c.requires.inside c.requires.seated c.requires.waits c.rise-thread.result c.rise-thread.ensures.seat c.rise-thread.new.self c.rise-thread.ensures.rest c.in-Some.thread c.in-Some.is c.in-Some-job.packet c.in-Some-job.is
+gather-requires-clause-waiting g c = up_waits c.args.self.now c.args.mailbox c.requires.inside c.requires.seated c.requires.waits c.rise-thread.result c.rise-thread.ensures.seat c.rise-thread.new.self c.rise-thread.ensures.rest c.deref_mut-thread.result.now (c.in-Some.is ∙ ap Some (sym c.deref_mut-thread.ensures.value)) c.in-Some-job.packet c.in-Some-job.is
 
 pub returns-then-not-gather-clause-touches : goal.returns-then-not-gather-clause-touches
-returns-then-not-gather-clause-touches g c = down_touches c.args.self.now c.args.mailbox c.requires.inside c.requires.seated c.requires.waits c.rise-thread.result c.rise-thread.ensures.seat c.rise-thread.new.self c.rise-thread.ensures.rest c.in-Some.thread c.in-Some.is c.in-Some-job.packet c.in-Some-job.is c.gather.new.self c.gather.ensures.moves (c.gather.ensures.waiting c.if-not-gather.true) c.sit.new.self c.sit.ensures
+returns-then-not-gather-clause-touches g c = down_touches c.args.self.now c.args.mailbox c.requires.inside c.requires.seated c.requires.waits c.rise-thread.result c.rise-thread.ensures.seat c.rise-thread.new.self c.rise-thread.ensures.rest c.deref_mut-thread.result.now (c.in-Some.is ∙ ap Some (sym c.deref_mut-thread.ensures.value)) c.in-Some-job.packet c.in-Some-job.is c.gather.new.self c.gather.ensures.moves (c.gather.ensures.waiting c.if-not-gather.true) c.sit.new.self c.sit.ensures
 
 pub returns-then-not-gather-clause-between : goal.returns-then-not-gather-clause-between
-returns-then-not-gather-clause-between g c = down_between c.args.self.now c.args.mailbox c.requires.inside c.requires.seated c.requires.waits c.rise-thread.result c.rise-thread.ensures.seat c.rise-thread.new.self c.rise-thread.ensures.rest c.in-Some.thread c.in-Some.is c.in-Some-job.packet c.in-Some-job.is c.gather.new.self c.gather.ensures.moves (c.gather.ensures.waiting c.if-not-gather.true) c.sit.new.self c.sit.ensures
+returns-then-not-gather-clause-between g c = down_between c.args.self.now c.args.mailbox c.requires.inside c.requires.seated c.requires.waits c.rise-thread.result c.rise-thread.ensures.seat c.rise-thread.new.self c.rise-thread.ensures.rest c.deref_mut-thread.result.now (c.in-Some.is ∙ ap Some (sym c.deref_mut-thread.ensures.value)) c.in-Some-job.packet c.in-Some-job.is c.gather.new.self c.gather.ensures.moves (c.gather.ensures.waiting c.if-not-gather.true) c.sit.new.self c.sit.ensures
 
 pub returns-then-not-gather-clause-nothing : goal.returns-then-not-gather-clause-nothing
-returns-then-not-gather-clause-nothing g c _ = down_missed c.args.self.now c.args.mailbox c.requires.inside c.requires.seated c.requires.waits c.rise-thread.result c.rise-thread.ensures.seat c.rise-thread.new.self c.rise-thread.ensures.rest c.in-Some.thread c.in-Some.is c.in-Some-job.packet c.in-Some-job.is c.gather.new.self c.gather.ensures.moves (c.gather.ensures.waiting c.if-not-gather.true) c.sit.new.self c.sit.ensures (c.gather.ensures.missing c.if-not-gather.true)
+returns-then-not-gather-clause-nothing g c _ = down_missed c.args.self.now c.args.mailbox c.requires.inside c.requires.seated c.requires.waits c.rise-thread.result c.rise-thread.ensures.seat c.rise-thread.new.self c.rise-thread.ensures.rest c.deref_mut-thread.result.now (c.in-Some.is ∙ ap Some (sym c.deref_mut-thread.ensures.value)) c.in-Some-job.packet c.in-Some-job.is c.gather.new.self c.gather.ensures.moves (c.gather.ensures.waiting c.if-not-gather.true) c.sit.new.self c.sit.ensures (c.gather.ensures.missing c.if-not-gather.true)
 
 pub join-requires-clause-heard : goal.join-requires-clause-heard
 join-requires-clause-heard g c =
     let replies = c.gather.ensures.all c.if-not-gather.false in
-    (replies.waiting.replies, subst (λ l. HaveHeard c.gather.new.self l replies.waiting.replies) (sym c.settle.ensures.branches) (all_heard c.gather.new.self c.in-Some.thread replies))
+    (replies.waiting.replies, subst (λ l. HaveHeard c.gather.new.self l replies.waiting.replies) (sym c.settle.ensures.branches) (all_heard c.gather.new.self c.deref_mut-thread.result.now replies))
 
 pub advance-requires-clause-working : goal.advance-requires-clause-working
 advance-requires-clause-working g c κs within =
-    let first = up_touches c.args.self.now c.args.mailbox c.requires.inside c.requires.seated c.requires.waits c.rise-thread.result c.rise-thread.ensures.seat c.rise-thread.new.self c.rise-thread.ensures.rest c.in-Some.thread c.in-Some.is c.in-Some-job.packet c.in-Some-job.is c.gather.new.self c.gather.ensures.moves in
-    goes_on c.gather.new.self (touches_seated c.args.mailbox c.args.self.now c.gather.new.self first c.requires.seated) c.in-Some.thread (c.gather.ensures.all c.if-not-gather.false) c.settle.new.thread c.join.new.thread c.join.ensures.loaded c.settle.ensures.number c.join.ensures.number c.settle.ensures.branches
+    let first = up_touches c.args.self.now c.args.mailbox c.requires.inside c.requires.seated c.requires.waits c.rise-thread.result c.rise-thread.ensures.seat c.rise-thread.new.self c.rise-thread.ensures.rest c.deref_mut-thread.result.now (c.in-Some.is ∙ ap Some (sym c.deref_mut-thread.ensures.value)) c.in-Some-job.packet c.in-Some-job.is c.gather.new.self c.gather.ensures.moves in
+    goes_on c.gather.new.self (touches_seated c.args.mailbox c.args.self.now c.gather.new.self first c.requires.seated) c.deref_mut-thread.result.now (c.gather.ensures.all c.if-not-gather.false) c.settle.new.thread c.join.new.thread c.join.ensures.loaded c.settle.ensures.number c.join.ensures.number c.settle.ensures.branches
     c.settle.ensures.stands c.join.ensures.stands
 
 pub advance-requires-clause-room : goal.advance-requires-clause-room
-advance-requires-clause-room g c κs within = up_room c.args.self.now c.args.mailbox c.requires.inside c.requires.seated c.requires.waits c.rise-thread.result c.rise-thread.ensures.seat c.rise-thread.new.self c.rise-thread.ensures.rest c.in-Some.thread c.in-Some.is c.in-Some-job.packet c.in-Some-job.is c.gather.new.self c.gather.ensures.moves
+advance-requires-clause-room g c κs within = up_room c.args.self.now c.args.mailbox c.requires.inside c.requires.seated c.requires.waits c.rise-thread.result c.rise-thread.ensures.seat c.rise-thread.new.self c.rise-thread.ensures.rest c.deref_mut-thread.result.now (c.in-Some.is ∙ ap Some (sym c.deref_mut-thread.ensures.value)) c.in-Some-job.packet c.in-Some-job.is c.gather.new.self c.gather.ensures.moves
 
 pub returns-clause-touches : goal.returns-clause-touches
-returns-clause-touches g c = touches_then c.args.mailbox c.args.self.now c.gather.new.self c.advance.new.self (up_touches c.args.self.now c.args.mailbox c.requires.inside c.requires.seated c.requires.waits c.rise-thread.result c.rise-thread.ensures.seat c.rise-thread.new.self c.rise-thread.ensures.rest c.in-Some.thread c.in-Some.is c.in-Some-job.packet c.in-Some-job.is c.gather.new.self c.gather.ensures.moves) c.advance.ensures.touches
+returns-clause-touches g c = touches_then c.args.mailbox c.args.self.now c.gather.new.self c.advance.new.self (up_touches c.args.self.now c.args.mailbox c.requires.inside c.requires.seated c.requires.waits c.rise-thread.result c.rise-thread.ensures.seat c.rise-thread.new.self c.rise-thread.ensures.rest c.deref_mut-thread.result.now (c.in-Some.is ∙ ap Some (sym c.deref_mut-thread.ensures.value)) c.in-Some-job.packet c.in-Some-job.is c.gather.new.self c.gather.ensures.moves) c.advance.ensures.touches
 
 pub returns-clause-worked : goal.returns-clause-worked
 returns-clause-worked g c _ =
-    let first = up_touches c.args.self.now c.args.mailbox c.requires.inside c.requires.seated c.requires.waits c.rise-thread.result c.rise-thread.ensures.seat c.rise-thread.new.self c.rise-thread.ensures.rest c.in-Some.thread c.in-Some.is c.in-Some-job.packet c.in-Some-job.is c.gather.new.self c.gather.ensures.moves in
-    worked_from (code_in c.args.self.now).shape c.args.self.now.mail c.gather.new.self.mail c.advance.new.self.mail c.args.mailbox first.grown (same_answered c.args.self.now c.args.mailbox c.requires.inside c.requires.seated c.requires.waits c.rise-thread.result c.rise-thread.ensures.seat c.rise-thread.new.self c.rise-thread.ensures.rest c.in-Some.thread c.in-Some.is c.in-Some-job.packet c.in-Some-job.is c.gather.new.self c.gather.ensures.moves)
+    let first = up_touches c.args.self.now c.args.mailbox c.requires.inside c.requires.seated c.requires.waits c.rise-thread.result c.rise-thread.ensures.seat c.rise-thread.new.self c.rise-thread.ensures.rest c.deref_mut-thread.result.now (c.in-Some.is ∙ ap Some (sym c.deref_mut-thread.ensures.value)) c.in-Some-job.packet c.in-Some-job.is c.gather.new.self c.gather.ensures.moves in
+    worked_from (code_in c.args.self.now).shape c.args.self.now.mail c.gather.new.self.mail c.advance.new.self.mail c.args.mailbox first.grown (same_answered c.args.self.now c.args.mailbox c.requires.inside c.requires.seated c.requires.waits c.rise-thread.result c.rise-thread.ensures.seat c.rise-thread.new.self c.rise-thread.ensures.rest c.deref_mut-thread.result.now (c.in-Some.is ∙ ap Some (sym c.deref_mut-thread.ensures.value)) c.in-Some-job.packet c.in-Some-job.is c.gather.new.self c.gather.ensures.moves)
     (subst (λ (x : CodeParts). HasWorked (plain_code x).shape c.gather.new.self.mail c.advance.new.self.mail c.args.mailbox) first.code c.advance.ensures.worked)

@@ -4,7 +4,10 @@ use Rattle.std.proofs.lemmas.Option.{slice_get_within}
 use Rattle.thread_code.specs.declared.instruction.CodeParts.{CodeParts}
 use Rattle.thread_code.specs.Plain.{plain_code}
 use Rattle.core_machine.specs.Held.{Loaded, StandsFor, HasSettled}
-use Rattle.core_machine.specs.Forks.{with_replies}
+use Rattle.core_machine.specs.Forks.{with_replies, IsReplyKind}
+use Rattle.forec_kernel.specs.Packed.{IsReply}
+use Rattle.combine_tree.specs.declared.packet.Packet.{Packet}
+use Rattle.combine_tree.specs.Plain.{plain_packet}
 use Rattle.core_host.specs.Keeping.{State, code_in}
 use Rattle.core_host.proofs.Hearing.{take_more, take_count, take_all, past_end, reply_kind, reply_at, in_hands, some_branch, not_empty, reply_is}
 use Rattle.core_host.proofs.desk.Desk.settle.Goals as goal
@@ -34,10 +37,11 @@ settle-requires-clause-branch g c = slice_get_within c.loop-branch.thread.branch
 pub settle-requires-clause-reply : goal.settle-requires-clause-reply
 settle-requires-clause-reply g c =
     let at = ap (λ l. slice_get l c.loop-branch.k) (sym c.loop-branch.invariant.branches) ∙ sym c.active.ensures ∙ c.in-Some.is in
-    reply_kind c.in-Some-index.packet.kind c.in-Some-index.packet
+    subst (λ (p : Packet). IsReplyKind p.kind) (sym c.deref.ensures)
+    (reply_kind c.in-Some-index.packet.kind c.in-Some-index.packet
     (reply_at c.args.self.now c.args.thread.now.branches.numbers c.requires.heard.0 c.requires.heard.1 c.loop-branch.k c.in-Some.branch at).0 refl
     (reply_is c.args.self.now c.args.thread.now.branches.numbers c.requires.heard.0 c.requires.heard.1 c.loop-branch.k c.in-Some.branch at c.index.result.now
-    (c.index.ensures ∙ ap (λ (s : State). slice_index_or s.hands (c.in-Some.branch - 1) c.index.result.now) c.self.view_is) c.in-Some-index.packet c.in-Some-index.is)
+    (c.index.ensures ∙ ap (λ (s : State). slice_index_or s.hands (c.in-Some.branch - 1) c.index.result.now) c.self.view_is) c.in-Some-index.packet c.in-Some-index.is))
 
 same_code : (g : _) (c : goal.After-settle g) → c.self.inside.code.now ≡ c.args.self.now.code
 same_code g c = ap (λ (s : State). s.code) c.self.view_is
@@ -58,7 +62,7 @@ loop-branch-preserved g c =
           let is = reply_is c.args.self.now c.args.thread.now.branches.numbers rs heard c.loop-branch.k c.in-Some.branch at c.index.result.now
           (c.index.ensures ∙ ap (λ (s : State). slice_index_or s.hands (c.in-Some.branch - 1) c.index.result.now) c.self.view_is) c.in-Some-index.packet c.in-Some-index.is in
           let old = subst (λ (x : CodeParts). StandsFor (plain_code x) c.loop-branch.thread (with_replies xs (take c.loop-branch.k rs))) (sym code) (c.loop-branch.invariant.stands rs xs heard before) in
-          let new = c.settle.ensures.stands xs (take c.loop-branch.k rs) r.0 (take_count rs c.loop-branch.k (omega (arith, lt, heard.count))) is old in
+          let new = c.settle.ensures.stands xs (take c.loop-branch.k rs) r.0 (take_count rs c.loop-branch.k (omega (arith, lt, heard.count))) (subst (λ (p : Packet). IsReply (plain_packet p) r.0) (sym c.deref.ensures) is) old in
           let one : suc c.loop-branch.k ≡ c.loop-branch.k + 1 = omega arith in
           let more = sym (take_more rs c.loop-branch.k r.0 r.1) ∙ ap (λ n. take n rs) one in
           subst (λ l. StandsFor (code_in c.args.self.now) c.settle.new.self (with_replies xs l)) more

@@ -1,9 +1,6 @@
-use Rattle.std.proofs.Common.{◌≡◌, ◌<◌, ◌-◌, length, ap, sym, subst, ◌∙◌, arith}
+use Rattle.std.proofs.Common.{sym, ◌∙◌, arith}
 use Rattle.std.proofs.lemmas.Option.{slice_get_within}
-use Rattle.core_machine.specs.Forks.{jobs_at}
-use Rattle.core_host.specs.Keeping.{code_in}
-use Rattle.core_host.specs.Waiting.{HasTold}
-use Rattle.core_host.proofs.Hearing.{past_end, take_all}
+use Rattle.core_host.proofs.Hearing.{past_end}
 use Rattle.core_host.proofs.Tells.{sent_none, some_number, seated_b, can_send, its_packet, sent_more, all_sent}
 use Rattle.core_host.proofs.desk.Desk.tell.Goals as goal
 
