@@ -174,7 +174,8 @@ impl<'c, P: Port<ForecWork> + Drop> Host<'c, P> {
     /// Takes one job, or goes on with one thread that waits at a fork and whose branches have all replied,
     /// and runs that thread to its next event. It takes no memory, and doesn't wait.
     ///
-    /// Thread 0 works in ticks alone; its branches' replies stay where they are.
+    /// It begins behind the mailbox that was served last, so that each has its turn; no clause says so. Thread 0
+    /// works in ticks alone; its branches' replies stay where they are.
     pub fn serve<G: Gate>(&mut self, gate: &G) -> Served
         ensures worked { (k : ℕ) → result ≡ Served.Worked k → HasWorked (code_of self.old).shape self.old.mail self.new.mail k }
         ensures mine { (k : ℕ) → result ≡ Served.Worked k → (k < length self.old.mail.ends) × (is_here self.old (suc k) ≡ true) }
