@@ -3,6 +3,7 @@
 #![tactic(auto)]
 
 mod code;
+mod decoding;
 mod fused;
 mod instruction;
 mod laws;
