@@ -192,9 +192,9 @@ fn prints_each_instruction(rt: HostRuntime) -> Result<(), Fail> {
     Ok(())
 }
 
-/// A block of the most instructions has 134 MB of fused steps.
+/// A block of the most instructions has 168 MB of fused steps.
 #[test]
 fn fused_steps_are_small(rt: HostRuntime) -> Result<(), Fail> {
-    assert_eq!(rt; size_of::<Fused>(), 16);
+    assert_eq!(rt; size_of::<Fused>(), 20);
     Ok(())
 }
