@@ -3,10 +3,10 @@ use Rattle.std.proofs.Common.{◌≡◌, ◌⊎◌, inl, inr, ℕ, ◌<◌, Bool
 use Rattle.forec_kernel.specs.Shapes.{PlainKernel}
 use Rattle.forec_tree.specs.Terms.{Text}
 use Rattle.forec_tree.specs.Faults.{Member, here, later}
-use Rattle.kernel_lower.specs.Kernels.{kernel_of}
-use Rattle.kernel_lower.specs.Limits.{amount, limit_of, earlier, Fits, WithinLimits, IsLimit}
-use Rattle.kernel_lower.specs.declared.limits.Quantity.{Quantity}
-use Rattle.kernel_lower.specs.declared.limits.Quantity.TheVariants.{Threads, Words, Globals, Tables, Terms, Depth}
+use Rattle.text_kernel.specs.Kernels.{kernel_of}
+use Rattle.text_kernel.specs.Limits.{amount, limit_of, earlier, Fits, WithinLimits, IsLimit}
+use Rattle.text_kernel.specs.declared.limits.Quantity.{Quantity}
+use Rattle.text_kernel.specs.declared.limits.Quantity.TheVariants.{Threads, Words, Globals, Tables, Terms, Depth}
 
 -- of two quantities one is tested before the other
 data Order (p q : Quantity) : Type 0 where

@@ -15,9 +15,9 @@ use Rattle.forec_lexer.specs.Answers.{HasCause}
 use Rattle.forec_lexer.specs.declared.fault.LexFault.{LexFault}
 use Rattle.forec_lexer.specs.declared.fault.LexFault.TheVariants as lexer
 use Rattle.forec_lexer.proofs.OneWay.{one_lexed, lexed_not_bad, lexed_not_many, bad_not_many, one_bad, one_many}
-use Rattle.kernel_lower.specs.Kernels.{kernel_of}
-use Rattle.kernel_lower.specs.Limits.{limit_of, WithinLimits, IsLimit}
-use Rattle.kernel_lower.specs.declared.limits.Quantity.{Quantity}
+use Rattle.text_kernel.specs.Kernels.{kernel_of}
+use Rattle.text_kernel.specs.Limits.{limit_of, WithinLimits, IsLimit}
+use Rattle.text_kernel.specs.declared.limits.Quantity.{Quantity}
 use Rattle.kernel_lower.specs.Refusals as refusals
 use Rattle.kernel_lower.specs.declared.lower_fault.LowerFault.{LowerFault}
 use Rattle.kernel_lower.specs.declared.lower_fault.LowerFault.TheVariants as lower

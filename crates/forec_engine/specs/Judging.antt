@@ -12,12 +12,12 @@ use Rattle.forec_check.specs.declared.check_fault.CheckFault.{CheckFault}
 use Rattle.forec_check.specs.declared.check_fault.CheckFault.TheVariants as check
 use Rattle.forec_lexer.specs.declared.fault.LexFault.{LexFault}
 use Rattle.forec_lexer.specs.declared.fault.LexFault.TheVariants as lexer
-use Rattle.kernel_lower.specs.Kernels.{kernel_of}
-use Rattle.kernel_lower.specs.Limits.{WithinLimits, IsLimit}
+use Rattle.text_kernel.specs.Kernels.{kernel_of}
+use Rattle.text_kernel.specs.Limits.{WithinLimits, IsLimit}
 use Rattle.kernel_lower.specs.declared.lower_fault.LowerFault.{LowerFault}
 use Rattle.kernel_lower.specs.declared.lower_fault.LowerFault.TheVariants as lower
-use Rattle.kernel_lower.specs.declared.limits.Quantity.{Quantity}
-use Rattle.kernel_lower.specs.declared.limits.Quantity.TheVariants.{Threads, Words, Globals, Tables, Terms, Depth}
+use Rattle.text_kernel.specs.declared.limits.Quantity.{Quantity}
+use Rattle.text_kernel.specs.declared.limits.Quantity.TheVariants.{Threads, Words, Globals, Tables, Terms, Depth}
 use Rattle.forec_engine.specs.Counting.{counts_of}
 use Rattle.forec_engine.specs.declared.counts.Counts.{Counts}
 use Rattle.forec_engine.specs.declared.judging.Accepted.{Accepted}

@@ -1,7 +1,7 @@
 // Why a text doesn't run.
 
 use forec_base::Place;
-use kernel_lower::Quantity;
+use text_kernel::Quantity;
 
 /// Why a text is refused, in the order in which causes are looked for.
 #[derive(Clone, Copy, Debug, PartialEq, Eq)]

@@ -16,8 +16,8 @@ use crate::status::Status;
 use forec_base::{Failed, Labels, OutOfMemory, Place, Sink, Trap};
 use forec_kernel::Outcome;
 use itoa::Buffer;
-use kernel_lower::Quantity;
 use std::alloc::Global;
+use text_kernel::Quantity;
 use trace_rows::{RowFault, line, line_room};
 
 // Room for the lines of a tick, that of its outputs apart.

@@ -1,6 +1,6 @@
 -- Steps of the loops that put a kernel together.
 use Rattle.std.proofs.Common.{ℕ, zero, suc, ◌+◌, ◌-◌, ◌^◌, ◌<◌, ◌≤◌, ◌≡◌, ◌∙◌, min, max, sum, sym, ap, refl, subst, ℤ, pos, Option, Some, None, List, [], ◌∷◌, ◌++◌, append_assoc, length, length-drop, map, take, drop, get_or, arith}
-use Rattle.std.proofs.lemmas.List.{map-append, drop-map, take-map, get_or-map}
+use Rattle.std.proofs.lemmas.List.{map-append, drop-map, take-map}
 use Rattle.std.specs.Borrow.{Bor}
 use Rattle.std.specs.Prelude.{slice_get}
 use Rattle.forec_tree.specs.declared.tree.Global.{Global}
@@ -11,17 +11,17 @@ use Rattle.forec_kernel.specs.declared.shape.ThreadShape.{ThreadShape}
 use Rattle.forec_kernel.specs.Shapes.{PlainThread, plain_thread}
 use Rattle.std.specs.declared.vec.Vec.{Vec}
 use Rattle.std.specs.declared.alloc.Global.{Global as Alloc}
-use Rattle.kernel_lower.specs.declared.state.State.{State}
-use Rattle.kernel_lower.specs.declared.state.Thread.{Thread}
-use Rattle.kernel_lower.specs.Bindings.{params_at, first_value}
-use Rattle.kernel_lower.specs.Lowering.{Next, Lowered, as_one, body_in_place, nothing_in_place, in_place_step}
-use Rattle.kernel_lower.specs.Kernels.{padded, function_body, filter_in}
-use Rattle.kernel_lower.specs.Views.{Bare, of_thread, called_within, next_of, Does, threads_of}
-use Rattle.kernel_lower.specs.Drafts.{bare_shape, bare_shapes, named_at, part_at, marked_from, main_shape, function_shape, function_text, blank_bare}
-use Rattle.kernel_lower.specs.Items.{globals_of, array_length, array_table}
+use Rattle.body_lower.specs.declared.state.State.{State}
+use Rattle.body_lower.specs.declared.state.Thread.{Thread}
+use Rattle.text_kernel.specs.Bindings.{first_value}
+use Rattle.text_kernel.specs.Lowering.{Next, as_one, body_in_place}
+use Rattle.text_kernel.specs.Kernels.{padded, function_body}
+use Rattle.body_lower.specs.Views.{Bare, of_thread, called_within, next_of, Does}
+use Rattle.kernel_lower.specs.Drafts.{bare_shapes, named_at, part_at, marked_from}
+use Rattle.text_kernel.specs.Items.{globals_of}
 use Rattle.kernel_lower.specs.Marks.{row_uses, shape_uses, with_uses, MarksOf}
 use Rattle.kernel_lower.proofs.Drafted.{marks_uses}
-use Rattle.kernel_lower.proofs.Statements.{drop_next}
+use Rattle.body_lower.proofs.Statements.{drop_next}
 
 -- ---- int functions
 

@@ -1,21 +1,19 @@
 -- The parts of a draft are those of the kernel.
-use Rattle.std.proofs.Common.{ℕ, zero, suc, ◌+◌, ◌-◌, ◌<◌, ◌≤◌, ◌≡◌, ◌∙◌, ◌||◌, sym, ap, refl, Bool, true, false, cond, Option, Some, None, List, [], ◌∷◌, ◌++◌, length, length-drop, map, take, drop, get_or, arith}
+use Rattle.std.proofs.Common.{ℕ, zero, suc, ◌+◌, ◌-◌, ◌<◌, ◌≡◌, ◌∙◌, sym, ap, refl, Bool, cond, Option, Some, None, List, [], ◌∷◌, ◌++◌, length, length-drop, map, take, drop, arith}
 use Rattle.std.proofs.lemmas.List.{take-map, drop-map}
-use Rattle.std.proofs.Math.Seq.{drop-cons}
 use Rattle.forec_tree.specs.Terms.{Text}
 use Rattle.forec_tree.specs.Faults.{is_in}
-use Rattle.forec_kernel.specs.Terms.{Stmt}
 use Rattle.forec_kernel.specs.Plain.{stmt}
 use Rattle.forec_kernel.specs.Shapes.{PlainThread}
 use Rattle.forec_kernel.specs.WellFormed.{count_up}
-use Rattle.kernel_lower.specs.declared.state.Thread.{Thread}
-use Rattle.kernel_lower.specs.Lowering.{Made, vars_of, vars_made}
-use Rattle.kernel_lower.specs.Kernels.{filter_in, thread_shape, variable_count}
-use Rattle.kernel_lower.specs.Views.{Bare, bare, of_thread}
+use Rattle.body_lower.specs.declared.state.Thread.{Thread}
+use Rattle.text_kernel.specs.Lowering.{Made, vars_of, vars_made}
+use Rattle.text_kernel.specs.Kernels.{filter_in, thread_shape, variable_count}
+use Rattle.body_lower.specs.Views.{Bare, bare, of_thread}
 use Rattle.kernel_lower.specs.Drafts.{vars_bare, named_at, name_of, bare_shape, bare_shapes, marked_from}
 use Rattle.kernel_lower.specs.Marks.{is_marked, MarksOf}
-use Rattle.kernel_lower.proofs.Forks.{blank_made, at}
-use Rattle.kernel_lower.proofs.Segments.{Segment, Segments, part}
+use Rattle.text_kernel.proofs.Forks.{at}
+use Rattle.text_kernel.proofs.Segments.{Segments}
 
 -- ---- marks
 
@@ -66,7 +64,7 @@ module _ (text : Text) (names : List (List ℕ)) (whole : List Made) (segments :
       ∙ (ap (λ k. vars_made (take k (drop i whole))) n
       ∙ (ap (λ (x : Made). vars_made (take (x.behind - (1 + i)) (drop i whole))) (sym is) ∙ (sym s.named ∙ ap (λ (x : Made). x.named) is)))))
 
-  names_are : (o : Option ℕ) → name_of names o ≡ Rattle.kernel_lower.specs.Kernels.name_bytes text names o
+  names_are : (o : Option ℕ) → name_of names o ≡ Rattle.text_kernel.specs.Kernels.name_bytes text names o
   names_are None = refl
   names_are (Some id) = refl
 
@@ -76,7 +74,7 @@ module _ (text : Text) (names : List (List ℕ)) (whole : List Made) (segments :
   shape_is : (m : Made) (rest : List Made) (i : ℕ) → drop i whole ≡ m ∷ rest → bare_shape names (variable_count text names) (map bare whole) i (bare m) ≡ thread_shape text names m
   shape_is m rest i e =
       ap (λ n. with_name m n (filter_in (named_at (map bare whole) i (bare m)) (count_up 0 (variable_count text names)))) (names_are m.name)
-      ∙ ap (λ l. with_name m (Rattle.kernel_lower.specs.Kernels.name_bytes text names m.name) (filter_in l (count_up 0 (variable_count text names)))) (named_is m rest i e)
+      ∙ ap (λ l. with_name m (Rattle.text_kernel.specs.Kernels.name_bytes text names m.name) (filter_in l (count_up 0 (variable_count text names)))) (named_is m rest i e)
 
   shapes_from : (rest : List Made) (i : ℕ) → drop i whole ≡ rest → bare_shapes names (variable_count text names) (map bare whole) i (map bare rest) ≡ map (thread_shape text names) rest
   shapes_from [] i e = refl

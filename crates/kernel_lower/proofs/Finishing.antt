@@ -3,47 +3,38 @@ use Rattle.std.proofs.Common.{ℕ, zero, suc, ◌+◌, ◌-◌, ◌^◌, ◌<◌
 use Rattle.std.proofs.lemmas.List.{length-map}
 use Rattle.forec_base.specs.declared.Policy.TheVariants.{Mod}
 use Rattle.forec_tree.specs.declared.tree.Number.{Number}
-use Rattle.forec_tree.specs.Terms.{Text, PlainItem, PlainGlobal, PlainFunction, IsGlobal, IsFunction}
+use Rattle.forec_tree.specs.Terms.{Text, PlainGlobal, PlainFunction, IsGlobal, IsFunction}
 use Rattle.forec_tree.specs.Rules.{is_constant}
-use Rattle.forec_tree.specs.Faults.{Member}
-use Rattle.forec_tree.specs.Pauses.{within}
-use Rattle.forec_tree.specs.Threads.{below_step, instances}
 use Rattle.forec_kernel.specs.declared.shape.Variable.{Variable}
 use Rattle.forec_kernel.specs.declared.shape.FunctionShape.{FunctionShape}
 use Rattle.forec_kernel.specs.Terms as kernel
 use Rattle.forec_kernel.specs.Terms.{Stmt}
-use Rattle.forec_kernel.specs.Plain.{stmt}
-use Rattle.forec_kernel.specs.Shapes.{PlainKernel, PlainShape, PlainThread, plain_thread}
+use Rattle.forec_kernel.specs.Shapes.{PlainKernel, PlainShape, PlainThread}
 use Rattle.forec_kernel.specs.Combining.{contains, variable_of}
 use Rattle.forec_kernel.specs.Values.{function_words}
 use Rattle.forec_kernel.specs.Texts.{uses_in, uses_of, words_in, words_of, body_of}
-use Rattle.forec_kernel.specs.WellFormed.{greatest, count_up, stmt_calls, stmt_depth, stmt_terms, bodies_terms, function_body, chain, users, combine_calls, par_calls, pars_of, thread_calls, Ranked}
-use Rattle.forec_check.specs.Instances.{threads_of, start_of}
-use Rattle.kernel_lower.specs.declared.limits.Quantity.{Quantity}
-use Rattle.kernel_lower.specs.declared.limits.Quantity.TheVariants.{Threads, Words, Globals, Tables, Terms, Depth}
+use Rattle.forec_kernel.specs.WellFormed.{greatest, count_up, stmt_calls, stmt_depth, function_body, chain, users, combine_calls, par_calls, pars_of, thread_calls, Ranked}
+use Rattle.forec_check.specs.Instances.{threads_of}
+use Rattle.text_kernel.specs.declared.limits.Quantity.{Quantity}
+use Rattle.text_kernel.specs.declared.limits.Quantity.TheVariants.{Threads, Words, Globals, Tables, Terms, Depth}
 use Rattle.kernel_lower.specs.declared.lower_fault.LowerFault.{LowerFault}
 use Rattle.kernel_lower.specs.declared.lower_fault.LowerFault.TheVariants as fault
 use Rattle.kernel_lower.specs.declared.measure.Draft.{Draft}
-use Rattle.kernel_lower.specs.declared.extents.Extent.{Extent}
-use Rattle.kernel_lower.specs.Bindings.{number_of}
-use Rattle.kernel_lower.specs.Lowering.{Made, Lowered, sequence, nothing_in_place, in_place_step}
-use Rattle.kernel_lower.specs.Kernels.{kernel_of, root, main_id, variable_count, variable_items, variable_shape, int_functions, tables_of, table_of, padded, thread_shape, root_shape}
-use Rattle.kernel_lower.specs.Kernels as kernels
-use Rattle.kernel_lower.specs.Views.{Bare, bare, of_thread}
+use Rattle.text_kernel.specs.Bindings.{number_of}
+use Rattle.text_kernel.specs.Lowering.{Lowered}
+use Rattle.text_kernel.specs.Kernels.{kernel_of, root, main_id, variable_count, variable_items, variable_shape, int_functions, tables_of, table_of, padded, thread_shape, root_shape}
+use Rattle.text_kernel.specs.Kernels as kernels
+use Rattle.body_lower.specs.Views.{Bare, bare}
 use Rattle.kernel_lower.specs.Drafts.{root_of, main_shape, bare_shapes, function_text, function_shape}
-use Rattle.kernel_lower.specs.Extents.{extent_value, extent_step, exact, own_at, counts_of}
-use Rattle.kernel_lower.specs.Items.{array_items, array_in, array_length, array_table, listed}
-use Rattle.kernel_lower.specs.Limits.{amount, limit_of, earlier, thread_words, thread_depth, function_depth, WithinLimits, IsLimit}
-use Rattle.kernel_lower.specs.Measures.{plain_draft, IsDraft, Fits, CallsLow}
+use Rattle.text_kernel.specs.Items.{array_items, array_in, array_length, array_table, listed}
+use Rattle.text_kernel.specs.Limits.{amount, limit_of, thread_words, thread_depth, function_depth, WithinLimits}
+use Rattle.kernel_lower.specs.Measures.{plain_draft, IsDraft, CallsLow}
 use Rattle.kernel_lower.specs.declared.judge.Amounts.{Amounts}
-use Rattle.kernel_lower.specs.Refusals.{amount_in, First, IsFirst, Causes, Passes}
-use Rattle.kernel_lower.proofs.Counted.{sequence_as, all_is, length_is}
-use Rattle.kernel_lower.proofs.Sized.{place_threads, made_terms}
-use Rattle.kernel_lower.proofs.Placed.{root_grown}
-use Rattle.kernel_lower.proofs.Segments.{segments}
+use Rattle.kernel_lower.specs.Refusals.{amount_in, First, Causes, Passes}
+use Rattle.text_sizes.proofs.Sized.{place_threads}
+use Rattle.text_kernel.proofs.Placed.{root_grown}
+use Rattle.text_kernel.proofs.Segments.{segments}
 use Rattle.kernel_lower.proofs.Drafted.{shapes_are}
-use Rattle.kernel_lower.proofs.Functions.{nothing}
-use Rattle.kernel_lower.proofs.Extending.{value_capped, has_terms, nothing_known}
 
 -- ---- the threads
 
@@ -269,40 +260,6 @@ pub threads_amount : (text : Text) (names : List (List ℕ)) (n : ℕ) → n ≡
 unfolding amount kernel_of
 threads_amount text names n e =
     e ∙ ap (λ m. min (suc m) (2 ^ 64 - 1)) (sym (place_threads text (length text) (main_id text names) 0 0 (record { slot = 0; thread = 1; par = 0 })) ∙ sym (length-map (root text names).made (λ m. m.body)))
-
-bodies_made : (a : List Made) → bodies_terms (map (λ m. m.body) a) ≡ made_terms a
-bodies_made [] = refl
-bodies_made (m ∷ a) = ap (λ n. stmt_terms m.body + n) (bodies_made a)
-
-functions_terms : (text : Text) (names : List (List ℕ)) (fs : List PlainFunction) → bodies_terms (map (function_text text names) fs) ≡ counts_of fs
-functions_terms text names [] = refl
-functions_terms text names (f ∷ rest) =
-    let right = λ (id first t : ℕ) (n : Rattle.kernel_lower.specs.Lowering.Next). ap (λ (x : Extent). x.own) (sym (nothing_known id)) in
-    let n : Rattle.kernel_lower.specs.Lowering.Next = record { slot = length f.params; thread = 1; par = 0 } in
-    let s = Rattle.kernel_lower.specs.Bindings.params_at 0 f.params in
-    let one =
-    sequence_as (kernels.function_body text names f).list _ _ (length_is text nothing (own_at []) right 0 s n f.body) (all_is text nothing (own_at []) right 0 s n f.body) in
-    let rest_is = functions_terms text names rest in
-    omega (arith, one, rest_is)
-
-pub terms_amount : (text : Text) (names : List (List ℕ)) (first own under functions main whole : ℕ) (fs : List PlainFunction) → first ≡ main_id text names → fs ≡ int_functions text names text → own ≡ (extent_value text first).own →
-    under ≡ (extent_value text first).under → functions ≡ min (counts_of fs) (2 ^ 64 - 1) → main ≡ min (own + under) (2 ^ 64 - 1) → whole ≡ min (main + functions) (2 ^ 64 - 1) →
-    whole ≡ min (amount Terms (kernel_of text names)) (2 ^ 64 - 1)
-unfolding amount kernel_of
-terms_amount text names first own under functions main whole fs f i o u g m w =
-    let kept = value_capped text (main_id text names) in
-    let ko = kept.own in
-    let ku = kept.under in
-    let all = has_terms text (length text) (main_id text names) in
-    let from : Rattle.kernel_lower.specs.Lowering.Next = record { slot = 0; thread = 1; par = 0 } in
-    let a = all.own 0 0 from in
-    let b = all.under 0 0 from in
-    let oo = o ∙ ap (λ n. (extent_value text n).own) f in
-    let uu = u ∙ ap (λ n. (extent_value text n).under) f in
-    let made = bodies_made (root text names).made in
-    let fn = functions_terms text names (int_functions text names text) in
-    let same = ap counts_of i in
-    omega (arith, ko, ku, a, b, oo, uu, g, m, w, made, fn, same)
 
 -- ---- limits
 

@@ -2,22 +2,21 @@
 use Rattle.std.proofs.Common.{ℕ, zero, suc, ◌+◌, ◌<◌, ◌≤◌, ◌≡◌, ◌∙◌, ◌==◌, sym, ap, refl, subst, ◌⊎◌, inl, inr, ⊎_elim, Bool, true, false, cond, nat_lt, Option, Some, None, List, [], ◌∷◌, ◌++◌, append_assoc, length, get_or, arith}
 use Rattle.std.proofs.lemmas.Bool.Decides.{nat_tests}
 use Rattle.forec_tree.specs.Terms.{Text}
-use Rattle.forec_kernel.specs.Terms as kernel
 use Rattle.forec_kernel.specs.Terms.{Expr, Num, Local, LocalAt, Var, TableAt, Un, Bin, And, Or, Choose, Call, Exprs, no_exprs, more_exprs, Branch, Stmt, Nop, Set, SetAt, Clear, Seq, If, While, Pause, Par, Enter, Return, Stmts, no_stmts, more_stmts}
 use Rattle.forec_kernel.specs.Shapes.{PlainKernel}
 use Rattle.forec_kernel.specs.Combining.{contains, variable_of}
 use Rattle.forec_kernel.specs.Texts.{body_of, uses_of, words_of}
 use Rattle.forec_kernel.specs.WellFormed.{Scope, FineExpr, FineExprs, FineBranches, FineStmt, FineStmts, calls_of, calls_in, branch_calls, stmt_calls, stmts_calls, pars_of, users, combine_calls, par_calls, thread_calls, function_body, count_up}
 use Rattle.loop_check.proofs.Indexed.{split}
-use Rattle.kernel_lower.specs.Kernels.{kernel_of, root, variable_count}
+use Rattle.text_kernel.specs.Kernels.{kernel_of, root, variable_count}
 use Rattle.kernel_lower.specs.Measures.{CallsLow}
-use Rattle.kernel_lower.proofs.Called.{in_two}
-use Rattle.kernel_lower.proofs.Fields as fields
-use Rattle.kernel_lower.proofs.Forks.{at}
-use Rattle.kernel_lower.proofs.Faultless.{Clean, void_clean}
-use Rattle.kernel_lower.proofs.Functions.{int_function, int_at, function_low, body_of_function, body_fine, variable_fine}
-use Rattle.kernel_lower.proofs.Main.{main_fine}
-use Rattle.kernel_lower.proofs.Whole.{main_runs, made_fine}
+use Rattle.text_kernel.proofs.Called.{in_two}
+use Rattle.text_kernel.proofs.Fields as fields
+use Rattle.text_kernel.proofs.Forks.{at}
+use Rattle.text_kernel.proofs.Faultless.{Clean, void_clean}
+use Rattle.text_kernel.proofs.Functions.{int_function, int_at, function_low, body_of_function, body_fine, variable_fine}
+use Rattle.text_kernel.proofs.Main.{main_fine}
+use Rattle.text_kernel.proofs.Whole.{main_runs, made_fine}
 
 module _ (s : Scope) (g : ℕ) where
   abbrev Low : Type 0
@@ -121,7 +120,7 @@ module _ (text : Text) (names : List (List ℕ)) (clean : Clean text names) wher
       let low = function_low text names f l in
       let at = int_at text names text f low in
       let own = int_function text names f in
-      stmt_low (record { kernel = k; words = (Rattle.kernel_lower.specs.Kernels.function_body text names own).next.slot; uses = [] }) g true (Rattle.kernel_lower.specs.Lowering.sequence (Rattle.kernel_lower.specs.Kernels.function_body text names own).list)
+      stmt_low (record { kernel = k; words = (Rattle.text_kernel.specs.Kernels.function_body text names own).next.slot; uses = [] }) g true (Rattle.text_kernel.specs.Lowering.sequence (Rattle.text_kernel.specs.Kernels.function_body text names own).list)
       (body_fine text names clean own at.member at.gives) (sym (ap (λ x. contains g (stmt_calls x)) (body_of_function text names f low)) ∙ i)
 
   threads_low : (t g : ℕ) → t < length k.threads → contains g (thread_calls k t) ≡ true → g < length k.functions

@@ -1,7 +1,6 @@
 -- What is measured of a draft is what its kernel has.
-use Rattle.std.proofs.Common.{ℕ, zero, suc, ◌+◌, ◌-◌, ◌^◌, ◌<◌, ◌≤◌, ◌≡◌, ◌∙◌, ◌==◌, min, max, sym, ap, refl, subst, Bool, true, false, cond, IsTrue, nat_lt, Option, Some, None, List, [], ◌∷◌, ◌++◌, length, map, get_or, arith}
+use Rattle.std.proofs.Common.{ℕ, zero, suc, ◌+◌, ◌-◌, ◌^◌, ◌<◌, ◌≤◌, ◌≡◌, ◌∙◌, ◌==◌, min, max, sym, ap, refl, Bool, true, false, cond, nat_lt, Option, Some, None, List, [], ◌∷◌, ◌++◌, length, map, get_or, arith}
 use Rattle.std.proofs.lemmas.Bool.Decides.{nat_tests}
-use Rattle.std.specs.Prelude.{slice_get}
 use Rattle.std.specs.declared.vec.Vec.{Vec}
 use Rattle.std.specs.declared.alloc.Global.{Global}
 use Rattle.forec_tree.specs.Pauses.{within}
@@ -16,18 +15,18 @@ use Rattle.forec_kernel.specs.Plain.{stmt}
 use Rattle.forec_kernel.specs.Shapes.{PlainKernel, plain_thread}
 use Rattle.forec_kernel.specs.Combining.{contains, variable_of}
 use Rattle.forec_kernel.specs.Values.{function_words}
-use Rattle.forec_kernel.specs.Texts.{uses_in, uses_of, words_in, words_of, body_of}
+use Rattle.forec_kernel.specs.Texts.{uses_in, uses_of, words_in, body_of}
 use Rattle.forec_kernel.specs.WellFormed.{greatest, count_up, stmt_calls, stmt_depth, function_body, chain, users, combine_calls, par_calls, thread_calls, pars_of, Ranked}
 use Rattle.loop_check.specs.Graph.{callees}
 use Rattle.loop_check.proofs.Indexed.{split}
-use Rattle.kernel_lower.specs.Reach.{value_at, chain_step, chain_value, list_items, has, marked_in, combine_at, combine_in, users_by, combine_by, pars_by}
+use Rattle.kernel_lower.specs.Reach.{value_at, chain_step, chain_value, list_items, has, combine_at, users_by, combine_by, pars_by}
 use Rattle.kernel_lower.specs.Drafts.{marked_from}
 use Rattle.kernel_lower.specs.Marks.{is_marked, row_uses, shape_uses}
 use Rattle.kernel_lower.specs.Measures.{plain_draft, words_of_shape, depth_of_body, Fits, CallsLow, HasChains}
 use Rattle.kernel_lower.specs.declared.measure.Draft.{Draft}
 use Rattle.kernel_lower.specs.declared.measure.Chains.{Chains}
-use Rattle.kernel_lower.specs.Limits.{thread_words, thread_depth, function_depth, amount, longest}
-use Rattle.kernel_lower.specs.declared.limits.Quantity.TheVariants.{Words, Depth}
+use Rattle.text_kernel.specs.Limits.{thread_words, thread_depth, function_depth, amount, longest}
+use Rattle.text_kernel.specs.declared.limits.Quantity.TheVariants.{Words, Depth}
 use Rattle.std.proofs.lemmas.List.{length-map, get_or-map}
 
 -- ---- the greatest of values at a cap

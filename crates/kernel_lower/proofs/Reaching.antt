@@ -1,13 +1,10 @@
 -- Sums along chains of calls, computed in an order in which each function stands behind those that it calls.
-use Rattle.std.proofs.Common.{ℕ, zero, suc, ◌+◌, ◌-◌, ◌^◌, ◌<◌, ◌≤◌, ◌≡◌, ◌∙◌, ◌==◌, min, max, sym, ap, refl, subst, Bool, true, false, cond, not, Option, Some, None, List, [], ◌∷◌, ◌++◌, length, map, set, get_or, arith, get_or-set_same, get_or-set_other}
+use Rattle.std.proofs.Common.{ℕ, zero, suc, ◌+◌, ◌-◌, ◌^◌, ◌<◌, ◌≤◌, ◌≡◌, ◌∙◌, ◌==◌, min, max, sym, ap, refl, true, false, cond, List, [], ◌∷◌, ◌++◌, length, set, get_or, arith, get_or-set_same, get_or-set_other}
 use Rattle.std.proofs.lemmas.Bool.{eqb-true}
 use Rattle.std.proofs.lemmas.Bool.Decides.{nat_tests}
-use Rattle.std.specs.Prelude.{slice_get}
 use Rattle.std.specs.declared.vec.Vec.{Vec}
 use Rattle.std.specs.declared.alloc.Global.{Global}
-use Rattle.forec_tree.specs.Pauses.{within}
 use Rattle.forec_tree.specs.Faults.{is_in, Leads}
-use Rattle.forec_tree.proofs.Fixed.{IsLocal}
 use Rattle.forec_kernel.specs.WellFormed.{greatest, count_up}
 use Rattle.loop_check.specs.Graph.{IsOrder, callees}
 use Rattle.loop_check.proofs.Indexed.{split}

@@ -4,34 +4,29 @@ use Rattle.std.proofs.lemmas.Bool.Decides.{nat_tests}
 use Rattle.std.proofs.lemmas.List.{length-map}
 use Rattle.std.specs.Result.{IfErr}
 use Rattle.forec_tree.specs.Terms.{Text, PlainGlobal}
-use Rattle.forec_tree.specs.Pauses.{within}
 use Rattle.forec_tree.specs.Faults.{Member, later}
 use Rattle.forec_kernel.specs.Terms as kernel
 use Rattle.forec_kernel.specs.Terms.{Stmt}
-use Rattle.forec_kernel.specs.Plain.{stmt}
 use Rattle.forec_kernel.specs.Shapes.{PlainKernel, PlainThread}
 use Rattle.forec_kernel.specs.Combining.{contains}
 use Rattle.forec_kernel.specs.Values.{function_words}
-use Rattle.forec_kernel.specs.Texts.{words_of, body_of, words_in}
+use Rattle.forec_kernel.specs.Texts.{body_of, words_in}
 use Rattle.forec_kernel.specs.WellFormed.{greatest, count_up, stmt_calls, stmt_depth, function_body, chain, thread_calls, Ranked}
 use Rattle.loop_check.proofs.Indexed.{split}
-use Rattle.kernel_lower.specs.declared.limits.Quantity.{Quantity}
-use Rattle.kernel_lower.specs.declared.limits.Quantity.TheVariants.{Threads, Words, Globals, Tables, Terms, Depth}
+use Rattle.text_kernel.specs.declared.limits.Quantity.{Quantity}
+use Rattle.text_kernel.specs.declared.limits.Quantity.TheVariants.{Threads, Words, Globals, Tables, Terms, Depth}
 use Rattle.kernel_lower.specs.declared.lower_fault.LowerFault.{LowerFault}
 use Rattle.kernel_lower.specs.declared.lower_fault.LowerFault.TheVariants as fault
-use Rattle.kernel_lower.specs.declared.measure.Draft.{Draft}
-use Rattle.kernel_lower.specs.declared.spans.Span.{Span}
-use Rattle.kernel_lower.specs.Lowering.{Made}
-use Rattle.kernel_lower.specs.Kernels.{kernel_of, variable_items, variable_shape, root, root_shape, thread_shape, main_id}
-use Rattle.kernel_lower.specs.Extents.{exact}
-use Rattle.kernel_lower.specs.Spans.{no_span, span_step, span_value}
-use Rattle.kernel_lower.specs.Limits.{amount, limit_of, earlier, thread_words, thread_depth, function_depth, widest, longest, IsLimit}
-use Rattle.kernel_lower.specs.Measures.{plain_draft, CallsLow}
+use Rattle.text_kernel.specs.Lowering.{Made}
+use Rattle.text_kernel.specs.Kernels.{kernel_of, variable_items, variable_shape, root, thread_shape, main_id}
+use Rattle.text_sizes.specs.Spans.{span_value}
+use Rattle.text_kernel.specs.Limits.{amount, limit_of, earlier, thread_words, thread_depth, widest, longest}
+use Rattle.kernel_lower.specs.Measures.{CallsLow}
 use Rattle.kernel_lower.specs.declared.judge.Amounts.{Amounts}
 use Rattle.kernel_lower.specs.Refusals.{amount_in, First, Causes}
-use Rattle.kernel_lower.proofs.Widening.{span_kept}
-use Rattle.kernel_lower.proofs.Heights.{all_told, depth_in}
-use Rattle.kernel_lower.proofs.Heights as heights
+use Rattle.text_sizes.proofs.Widening.{span_kept}
+use Rattle.text_sizes.proofs.Heights.{all_told, depth_in}
+use Rattle.text_sizes.proofs.Heights as heights
 
 -- ---- the greatest of values
 

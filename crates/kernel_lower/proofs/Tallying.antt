@@ -1,32 +1,21 @@
--- A fact of an expression or a statement whose kind is known, counts at a cap, and marks.
-use Rattle.std.proofs.Common.{ℕ, zero, suc, ◌+◌, ◌-◌, ◌^◌, ◌<◌, ◌≤◌, ◌≡◌, ◌∙◌, ◌||◌, ◌==◌, min, sym, ap, refl, subst, Bool, true, false, cond, Option, Some, None, List, [], ◌∷◌, ◌++◌, append_assoc, length, length-append, map, take, drop, get_or, arith, Vec, Global}
-use Rattle.std.proofs.Math.Seq.{take-append_seam, take-suc}
-use Rattle.std.proofs.lemmas.Bool.Decides.{nat_tests}
+-- A fact of an expression or a statement whose kind is known, marks, and limits.
+use Rattle.std.proofs.Common.{ℕ, zero, suc, ◌+◌, ◌<◌, ◌≤◌, ◌≡◌, ◌∙◌, ◌||◌, ◌==◌, sym, ap, refl, subst, Bool, true, false, cond, List, [], ◌∷◌, ◌++◌, length, take, get_or, arith, Vec, Global}
+use Rattle.std.proofs.Math.Seq.{take-append_seam}
 use Rattle.std.specs.Result.{IsErrAnd, IfErr}
 use Rattle.std.specs.Prelude.{Result, Ok, Err}
-use Rattle.forec_tree.specs.declared.tree.Name.{Name}
-use Rattle.forec_tree.specs.declared.tree.Expr as tree_expr
-use Rattle.forec_tree.specs.declared.tree.ExprKind as tree_kind
-use Rattle.forec_tree.specs.declared.tree.Stmt.{Stmt}
-use Rattle.forec_tree.specs.Plain as tree_plain
-use Rattle.forec_tree.specs.Terms as tree
 use Rattle.forec_tree.specs.Faults.{is_in, Member, here, later}
-use Rattle.forec_tree.proofs.Rows.{term-call}
 use Rattle.forec_kernel.specs.Terms as kernel
 use Rattle.forec_kernel.specs.Plain.{expr, exprs, stmt, stmts}
 use Rattle.forec_kernel.specs.declared.terms.Expression as rust_expr
 use Rattle.forec_kernel.specs.declared.terms.Statement as rust_stmt
 use Rattle.forec_kernel.specs.WellFormed.{count_up}
 use Rattle.forec_kernel.proofs.VecTerms.{expr-call, stmt-sequence}
-use Rattle.kernel_lower.specs.declared.limits.Quantity.{Quantity}
+use Rattle.text_kernel.specs.declared.limits.Quantity.{Quantity}
 use Rattle.kernel_lower.specs.declared.lower_fault.LowerFault.{LowerFault}
-use Rattle.kernel_lower.specs.declared.lower_fault.LowerFault.TheVariants as fault
-use Rattle.kernel_lower.specs.Counts.{sequence_count, statement_count}
 use Rattle.kernel_lower.specs.Drafts.{marked_from}
-use Rattle.kernel_lower.specs.Limits.{limit_of, earlier}
+use Rattle.text_kernel.specs.Limits.{limit_of, earlier}
 use Rattle.kernel_lower.specs.Marks.{is_marked, Marks}
 use Rattle.kernel_lower.specs.Refusals.{Passes, First}
-use Rattle.kernel_lower.proofs.Nearby.{sequence_near}
 
 -- ---- kinds
 
@@ -37,24 +26,6 @@ of_call F e f args slice is same = ap (λ l. F (kernel.Call f (exprs l))) same �
 pub of_sequence : {A : Type 0} (F : kernel.Stmt → A) (s : rust_stmt.Statement) (list : Vec rust_stmt.Statement Global) (slice : List rust_stmt.Statement) → s ≡ rust_stmt.Sequence list → slice ≡ list.items →
     F (kernel.Seq (stmts slice)) ≡ F (stmt s)
 of_sequence F s list slice is same = ap (λ l. F (kernel.Seq (stmts l))) same ∙ ap F (sym (ap stmt is ∙ stmt-sequence list))
-
-pub of_tree_call : {A : Type 0} (F : tree.Term → A) (e : tree_expr.Expr) (name : Name) (args slice : List tree_expr.Expr) → e.what ≡ tree_kind.Call name args → slice ≡ args →
-    F (tree.Call e.place name (tree_plain.terms slice)) ≡ F (tree_plain.term e)
-of_tree_call F e name args slice is same =
-    ap (λ l. F (tree.Call e.place name (tree_plain.terms l))) same ∙ ap F (sym (term-call name args e.place)) ∙ ap (λ w. F (tree_plain.term_at w e.place)) (sym is)
-
--- ---- counts
-
-pub sequence_as_near : (r n k x y : ℕ) → r ≡ min (sequence_count n x) (2 ^ 64 - 1) → n ≡ k → min x (2 ^ 64 - 1) ≡ min y (2 ^ 64 - 1) → r ≡ min (sequence_count k y) (2 ^ 64 - 1)
-sequence_as_near r n k x y e d h = e ∙ (ap (λ m. min (sequence_count m x) (2 ^ 64 - 1)) d ∙ sequence_near (2 ^ 64 - 1) k x y h)
-
-pub terms_length : (es : List tree_expr.Expr) → length es ≡ tree.count_terms (tree_plain.terms es)
-terms_length [] = refl
-terms_length (e ∷ es) = ap suc (terms_length es)
-
-pub statements_length : (ss : List Stmt) → length ss ≡ statement_count (tree_plain.statements ss)
-statements_length [] = refl
-statements_length (s ∷ ss) = ap suc (statements_length ss)
 
 -- ---- marks
 

@@ -8,10 +8,10 @@ use Rattle.forec_kernel.specs.Shapes.{PlainThread}
 use Rattle.forec_kernel.specs.WellFormed.{count_up}
 use Rattle.forec_kernel.specs.declared.shape.FunctionShape.{FunctionShape}
 use Rattle.kernel_lower.specs.declared.expand.Bodies.{Bodies}
-use Rattle.kernel_lower.specs.declared.state.Thread.{Thread}
-use Rattle.kernel_lower.specs.Lowering.{Lowered, sequence, vars_of, in_place}
-use Rattle.kernel_lower.specs.Kernels.{function_body, filter_in}
-use Rattle.kernel_lower.specs.Views.{Bare, bare, of_thread}
+use Rattle.body_lower.specs.declared.state.Thread.{Thread}
+use Rattle.text_kernel.specs.Lowering.{Lowered, sequence, vars_of, in_place}
+use Rattle.text_kernel.specs.Kernels.{function_body, filter_in}
+use Rattle.body_lower.specs.Views.{Bare, bare, of_thread}
 
 abbrev pub function_shape : Text → List (List ℕ) → PlainFunction → FunctionShape
 function_shape text names f = record { params = length f.params; words = (function_body text names f).next.slot }
@@ -74,7 +74,7 @@ marked_from v [] = []
 marked_from v (m ∷ rest) = cond m (v ∷ marked_from (suc v) rest) (marked_from (suc v) rest)
 
 abbrev pub blank_bare : Bare
-blank_bare = Rattle.kernel_lower.specs.Views.blank
+blank_bare = Rattle.body_lower.specs.Views.blank
 
 abbrev pub thread_body : Thread → Stmt
 thread_body t = stmt t.body

@@ -1,5 +1,5 @@
 -- The parts of a kernel on which words and depth depend.
-use Rattle.std.specs.Prelude.{ℕ, ◌≡◌, ◌<◌, ◌-◌, ◌^◌, min, true, List, [], map, length}
+use Rattle.std.specs.Prelude.{ℕ, ◌≡◌, ◌<◌, ◌-◌, ◌^◌, min, true, [], map, length}
 use Rattle.forec_kernel.specs.declared.shape.FunctionShape.{FunctionShape}
 use Rattle.forec_kernel.specs.declared.terms.Statement.{Statement}
 use Rattle.forec_kernel.specs.Plain.{stmt}
@@ -9,7 +9,7 @@ use Rattle.forec_kernel.specs.Values.{function_words}
 use Rattle.forec_kernel.specs.WellFormed.{stmt_calls, stmt_depth, function_body, thread_calls, chain}
 use Rattle.kernel_lower.specs.declared.measure.Draft.{Draft}
 use Rattle.kernel_lower.specs.declared.measure.Chains.{Chains}
-use Rattle.kernel_lower.specs.Limits.{function_depth}
+use Rattle.text_kernel.specs.Limits.{function_depth}
 use Rattle.kernel_lower.specs.Marks.{row_uses, shape_uses}
 use Rattle.kernel_lower.specs.Reach.{value_at}
 

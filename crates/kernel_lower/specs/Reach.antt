@@ -1,5 +1,5 @@
 -- What bodies call, by tables of what threads use and what variables are combined by, and sums along chains of calls.
-use Rattle.std.specs.Prelude.{ℕ, ℤ, zero, suc, ◌+◌, ◌-◌, ◌^◌, min, Bool, false, cond, nat_lt, Option, Some, None, List, [], ◌∷◌, ◌++◌, length, slice_get, slice_index_or}
+use Rattle.std.specs.Prelude.{ℕ, ℤ, suc, ◌+◌, ◌-◌, ◌^◌, min, Bool, false, cond, nat_lt, Option, Some, None, List, [], ◌∷◌, ◌++◌, length, slice_get, slice_index_or}
 use Rattle.std.specs.declared.vec.Vec.{Vec}
 use Rattle.std.specs.declared.alloc.Global.{Global}
 use Rattle.forec_tree.specs.Pauses.{within}

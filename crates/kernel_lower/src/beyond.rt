@@ -6,28 +6,26 @@ ghost use Rattle.forec_tree.specs.Faults.{Leads};
 ghost use Rattle.forec_tree.specs.Pauses.{starts};
 ghost use Rattle.forec_kernel.specs.WellFormed.{Ranked};
 ghost use Rattle.loop_check.specs.Views.{text_of};
-ghost use Rattle.kernel_lower.specs.Kernels.{kernel_of, int_functions, main_id};
-ghost use Rattle.kernel_lower.specs.Items.{functions_of};
-ghost use Rattle.kernel_lower.specs.Limits as limits;
-ghost use Rattle.kernel_lower.specs.declared.limits.Quantity.TheVariants as quantity;
+ghost use Rattle.text_kernel.specs.Kernels.{kernel_of, int_functions, main_id};
+ghost use Rattle.text_kernel.specs.Items.{functions_of};
+ghost use Rattle.text_kernel.specs.Limits as limits;
+ghost use Rattle.text_kernel.specs.declared.limits.Quantity.TheVariants as quantity;
 ghost use Rattle.kernel_lower.specs.Measures.{CallsLow};
 ghost use Rattle.kernel_lower.specs.Refusals.{Causes};
-ghost use Rattle.kernel_lower.specs.Views.{OneText};
+ghost use Rattle.body_lower.specs.Views.{OneText};
 
 use crate::int_functions::lowered_functions;
 use crate::judge::{Amounts, judge};
 use crate::lower_fault::LowerFault;
 use crate::measure::{Draft, longest};
-use crate::source::Source;
-use crate::spans::span_of;
 use crate::tables::{arrays, table_words};
-use crate::tally::add;
 use crate::variables::variables;
-use crate::widths::spans;
+use body_lower::Source;
 use forec_base::{Labels, OutOfMemory};
 use forec_tree::{Function, Item};
 use loop_check::Index;
 use std::alloc::Global;
+use text_sizes::{add, span_of, spans};
 
 /// The words of the widest thread, and how many statements at least stand in one another in some thread.
 #[derive(Clone, Copy)]

@@ -4,8 +4,8 @@ ghost use Rattle.std.specs.Prelude.{◌≡◌, ◌+◌, ◌-◌, ◌^◌, min, m
 ghost use Rattle.forec_kernel.specs.Plain as kernel;
 ghost use Rattle.forec_kernel.specs.WellFormed as of;
 
-use crate::tally::add;
 use forec_kernel::{Expression, Launch, Statement};
+use text_sizes::add;
 
 /// The depth of an expression.
 #[cycle(expression_depth)]

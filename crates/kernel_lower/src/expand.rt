@@ -2,12 +2,10 @@
 
 ghost use Rattle.std.specs.Prelude.{◌≡◌, length, IfOk};
 ghost use Rattle.loop_check.specs.Views.{text_of};
-ghost use Rattle.kernel_lower.specs.Views.{OneText};
+ghost use Rattle.body_lower.specs.Views.{OneText};
 ghost use Rattle.kernel_lower.specs.Drafts.{Expanded};
 
-use crate::body::{FUEL, in_place};
-use crate::source::Source;
-use crate::state::{State, Thread};
+use body_lower::{FUEL, Source, State, Thread, in_place};
 use forec_base::OutOfMemory;
 use forec_kernel::Statement;
 use std::alloc::Global;

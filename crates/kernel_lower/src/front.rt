@@ -3,25 +3,25 @@
 ghost use Rattle.std.specs.Prelude.{◌≡◌, ◌-◌, ◌^◌, min, IfOk, IfErr, OnOk};
 ghost use Rattle.forec_kernel.specs.Shapes.{plain_kernel};
 ghost use Rattle.forec_check.specs.Checked.{text_of, names_of};
-ghost use Rattle.kernel_lower.specs.Kernels.{kernel_of};
-ghost use Rattle.kernel_lower.specs.Limits.{WithinLimits, amount};
-ghost use Rattle.kernel_lower.specs.declared.limits.Quantity.TheVariants.{Threads};
+ghost use Rattle.text_kernel.specs.Kernels.{kernel_of};
+ghost use Rattle.text_kernel.specs.Limits.{WithinLimits, amount};
+ghost use Rattle.text_kernel.specs.declared.limits.Quantity.TheVariants.{Threads};
 ghost use Rattle.kernel_lower.specs.Refusals.{Causes};
 
 use crate::beyond::{beyond, foresee};
 use crate::draft::{complete, draft};
-use crate::extents::program_terms;
 use crate::int_functions::int_functions;
 use crate::judge::{Amounts, judge, within};
-use crate::limits::Quantity;
 use crate::lower_fault::LowerFault;
 use crate::measure::most;
-use crate::source::Source;
 use crate::tables::{arrays, table_words};
+use body_lower::Source;
 use forec_base::Labels;
 use forec_check::Checked;
 use forec_kernel::{Kernel, KernelParts};
 use std::alloc::Global;
+use text_kernel::Quantity;
+use text_sizes::program_terms;
 
 /// The parts of the kernel of a program of so many threads.
 fn parts_of(

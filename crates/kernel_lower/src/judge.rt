@@ -1,12 +1,12 @@
 // The limits, in their order.
 
 ghost use Rattle.std.specs.Prelude.{◌≡◌, ◌≤◌, OnOk, IfErr};
-ghost use Rattle.kernel_lower.specs.Limits as limits;
-ghost use Rattle.kernel_lower.specs.declared.limits.Quantity.{Quantity};
+ghost use Rattle.text_kernel.specs.Limits as limits;
+ghost use Rattle.text_kernel.specs.declared.limits.Quantity.{Quantity};
 ghost use Rattle.kernel_lower.specs.Refusals.{Passes, amount_in, First};
 
-use crate::limits::Quantity;
 use crate::lower_fault::LowerFault;
+use text_kernel::Quantity;
 
 /// How much of each quantity there is.
 #[derive(Clone, Copy)]

@@ -1,7 +1,7 @@
 // Why a program has no kernel.
 
-use crate::limits::Quantity;
 use forec_base::OutOfMemory;
+use text_kernel::Quantity;
 use thiserror::Error;
 
 /// Why a program has no kernel.

@@ -2,7 +2,7 @@
 
 ghost use Rattle.std.specs.Prelude.{◌≡◌, map};
 ghost use Rattle.forec_kernel.specs.Plain as kernel;
-ghost use Rattle.kernel_lower.specs.Lowering as lowering;
+ghost use Rattle.text_kernel.specs.Lowering as lowering;
 ghost use Rattle.kernel_lower.specs.Marks.{Marks};
 ghost use Rattle.std.specs.Prelude.{◌∷◌, []};
 

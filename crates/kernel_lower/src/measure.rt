@@ -2,17 +2,17 @@
 
 ghost use Rattle.std.specs.Prelude.{◌≡◌, ◌+◌, ◌-◌, ◌^◌, ◌<◌, ℕ, min, map, length, IfOk};
 ghost use Rattle.forec_kernel.specs.WellFormed.{Ranked};
-ghost use Rattle.kernel_lower.specs.Limits as limits;
-ghost use Rattle.kernel_lower.specs.declared.limits.Quantity.TheVariants as quantity;
+ghost use Rattle.text_kernel.specs.Limits as limits;
+ghost use Rattle.text_kernel.specs.declared.limits.Quantity.TheVariants as quantity;
 ghost use Rattle.kernel_lower.specs.Measures.{plain_draft, CallsLow, Fits, words_of_shape, depth_of_body, HasChains};
 
 use crate::depths::statement_depth;
 use crate::int_functions::Functions;
 use crate::reach::{body_calls, chains, greatest, numbers, thread_calls};
-use crate::tally::add;
 use forec_base::OutOfMemory;
 use forec_kernel::{FunctionShape, Statement, ThreadShape, Variable};
 use std::alloc::Global;
+use text_sizes::add;
 
 /// The parts of a kernel on which words and depth depend, and for each thread the marks of the variables
 /// of which it has copies.

@@ -9,11 +9,11 @@ ghost use Rattle.forec_check.specs.Table.{put_at, Settles};
 ghost use Rattle.kernel_lower.specs.Reach.{has, users_by, combine_by, pars_by, combine_at, value_at, chain_step, chain_value, list_items};
 
 use crate::calls::{pars, statement_calls};
-use crate::tally::add;
 use forec_base::OutOfMemory;
 use forec_kernel::{Statement, Variable};
 use loop_check::order;
 use std::alloc::Global;
+use text_sizes::add;
 
 /// Whether a thread has a copy of a variable.
 fn has_copy(rows: &[Vec<bool>], thread: u32, variable: u32) -> bool

@@ -3,13 +3,13 @@
 ghost use Rattle.std.specs.Prelude.{◌≡◌, ◌<◌, ◌-◌, ◌∷◌, min, max, ◌++◌, [], ℕ, Option, None, Some, Bool, true, map, length, slice_index_or, IfOk, OnOk};
 ghost use Rattle.forec_kernel.specs.Shapes.{plain_thread, named};
 ghost use Rattle.forec_tree.specs.Rules.{bytes_of};
-ghost use Rattle.kernel_lower.specs.Views.{of_thread};
+ghost use Rattle.body_lower.specs.Views.{of_thread};
 ghost use Rattle.kernel_lower.specs.Drafts.{vars_bare, named_at, name_of, bare_shapes, main_shape, marked_from, blank_bare};
 ghost use Rattle.kernel_lower.specs.Marks.{MarksOf, row_uses, shape_uses, with_uses};
 
 use crate::expand::Bodies;
 use crate::marks::mark_statement;
-use crate::state::Thread;
+use body_lower::Thread;
 use forec_base::{Labels, OutOfMemory};
 use forec_kernel::ThreadShape;
 use std::alloc::Global;

@@ -2,17 +2,17 @@
 
 ghost use Rattle.std.specs.Prelude.{◌≡◌, ◌-◌, ◌^◌, min, sum, map, drop, IfOk};
 ghost use Rattle.forec_tree.specs.Plain.{plain_item, plain_global};
-ghost use Rattle.kernel_lower.specs.Bindings.{first_value};
-ghost use Rattle.kernel_lower.specs.Kernels.{padded};
-ghost use Rattle.kernel_lower.specs.Items.{globals_of, array_items, array_length, array_table, IsArray};
+ghost use Rattle.text_kernel.specs.Bindings.{first_value};
+ghost use Rattle.text_kernel.specs.Kernels.{padded};
+ghost use Rattle.text_kernel.specs.Items.{globals_of, array_items, array_length, array_table, IsArray};
 ghost use Rattle.kernel_lower.specs.Reach.{table_items};
 
-use crate::assign::number_of;
-use crate::globals::{first_number, is_constant};
-use crate::tally::add;
+use body_lower::{first_number, is_constant};
 use forec_base::OutOfMemory;
 use forec_tree::{Global as Declared, Item, Number};
 use std::alloc::Global;
+use text_kernel::number_of;
+use text_sizes::add;
 
 /// The constant array that an item declares.
 fn array(item: &Item) -> Option<&Declared>

@@ -4,11 +4,10 @@ ghost use Rattle.std.specs.Prelude.{◌≡◌, ◌+◌, ◌-◌, ◌^◌, ◌++�
 ghost use Rattle.forec_tree.specs.Plain.{plain_item, plain_global};
 ghost use Rattle.forec_tree.specs.Rules as rules;
 ghost use Rattle.loop_check.specs.Views.{text_of};
-ghost use Rattle.kernel_lower.specs.Kernels as kernels;
-ghost use Rattle.kernel_lower.specs.Items.{globals_of, IsVariable};
+ghost use Rattle.text_kernel.specs.Kernels as kernels;
+ghost use Rattle.text_kernel.specs.Items.{globals_of, IsVariable};
 
-use crate::globals::{Globals, first_value, is_constant};
-use crate::parts::sum;
+use body_lower::{Globals, first_value, is_constant, sum};
 use forec_base::{Labels, OutOfMemory, Policy};
 use forec_kernel::Variable;
 use forec_tree::{Combine, Global as Declared, GlobalKind, Item};

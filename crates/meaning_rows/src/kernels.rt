@@ -7,9 +7,10 @@ use forec_check::check;
 use forec_kernel::{Expression, FunctionShape, Kernel, Spot, Statement, ThreadShape, Variable};
 use forec_lexer::lex;
 use forec_parser::parse;
-use kernel_lower::{LowerFault, Quantity, lower};
+use kernel_lower::{LowerFault, lower};
 use std::alloc::Global;
 use std::test::Fail;
+use text_kernel::Quantity;
 
 /// The kernel of a text that breaks no rule, or the limit that it passes first.
 pub fn lowered(alloc: Global, text: &[u8]) -> Result<Result<Kernel, LowerFault>, Fail>

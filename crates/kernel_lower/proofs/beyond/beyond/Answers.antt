@@ -1,11 +1,10 @@
 use Rattle.std.proofs.Common.{◌≡◌, ◌∙◌, ◌-◌, ◌^◌, min, sum, ap, map, length, Result, Ok, Err}
 use Rattle.forec_tree.specs.Plain as plain
-use Rattle.forec_tree.specs.Terms.{PlainGlobal}
 use Rattle.loop_check.specs.Views.{text_of}
 use Rattle.kernel_lower.specs.declared.judge.Amounts.{Amounts}
-use Rattle.kernel_lower.specs.Items.{globals_of, array_items, array_length}
-use Rattle.kernel_lower.specs.Kernels as kernels
-use Rattle.kernel_lower.specs.Kernels.{kernel_of}
+use Rattle.text_kernel.specs.Items.{globals_of, array_items, array_length}
+use Rattle.text_kernel.specs.Kernels as kernels
+use Rattle.text_kernel.specs.Kernels.{kernel_of}
 use Rattle.kernel_lower.specs.Refusals.{amount_in, Causes}
 use Rattle.kernel_lower.proofs.Finishing.{tables_amount, as_many}
 use Rattle.kernel_lower.proofs.Reckoning.{tells, told_causes, variables_amount, err_more}

@@ -1,6 +1,6 @@
-use Rattle.std.proofs.Common.{◌≡◌, ◌∙◌, ap}
-use Rattle.kernel_lower.specs.declared.spans.Span.{Span}
-use Rattle.kernel_lower.specs.Spans.{span_at, span_value}
+use Rattle.std.proofs.Common.{◌∙◌, ap}
+use Rattle.text_sizes.specs.declared.span.Span.{Span}
+use Rattle.text_sizes.specs.Spans.{span_at}
 use Rattle.loop_check.specs.Views.{text_of}
 use Rattle.kernel_lower.proofs.Reckoning.{words_told, levels_told}
 use Rattle.kernel_lower.proofs.beyond.foresee.Goals as goal

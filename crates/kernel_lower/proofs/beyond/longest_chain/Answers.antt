@@ -2,8 +2,8 @@ use Rattle.std.proofs.Common.{◌≡◌, ◌∙◌, ◌-◌, ◌^◌, min, ap, m
 use Rattle.forec_kernel.specs.Plain.{stmt}
 use Rattle.loop_check.specs.Views.{text_of}
 use Rattle.kernel_lower.specs.declared.measure.Draft.{Draft}
-use Rattle.kernel_lower.specs.Items.{functions_of}
-use Rattle.kernel_lower.specs.Kernels.{kernel_of}
+use Rattle.text_kernel.specs.Items.{functions_of}
+use Rattle.text_kernel.specs.Kernels.{kernel_of}
 use Rattle.kernel_lower.specs.Measures.{plain_draft}
 use Rattle.kernel_lower.proofs.Finishing.{draft_shapes, draft_bodies}
 use Rattle.kernel_lower.proofs.Reckoning.{longest_same, ranked_too, low_too}

@@ -1,12 +1,11 @@
-use Rattle.std.proofs.Common.{◌≡◌, ◌∙◌, sym, ap, refl, map}
-use Rattle.forec_tree.specs.Plain.{plain_item}
+use Rattle.std.proofs.Common.{◌≡◌, ◌∙◌, ap, map}
 use Rattle.forec_tree.specs.Rules as rules
 use Rattle.forec_kernel.specs.Plain.{stmt}
 use Rattle.forec_kernel.specs.Shapes.{plain_thread}
 use Rattle.loop_check.specs.Views.{text_of}
-use Rattle.kernel_lower.specs.Kernels as kernels
-use Rattle.kernel_lower.specs.Kernels.{kernel_of}
-use Rattle.kernel_lower.specs.Items.{globals_of}
+use Rattle.text_kernel.specs.Kernels as kernels
+use Rattle.text_kernel.specs.Kernels.{kernel_of}
+use Rattle.text_kernel.specs.Items.{globals_of}
 use Rattle.kernel_lower.specs.Reach.{table_items}
 use Rattle.kernel_lower.proofs.Finishing.{by_parts, draft_tables, draft_inputs, draft_outputs, draft_names}
 use Rattle.kernel_lower.proofs.draft.complete.Goals as goal

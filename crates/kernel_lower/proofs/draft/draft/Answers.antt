@@ -1,15 +1,15 @@
 use Rattle.std.proofs.Common.{◌≡◌, ◌∙◌, ◌∷◌, sym, ap, refl, map, length}
 use Rattle.std.proofs.lemmas.List.{length-map}
-use Rattle.forec_tree.specs.Terms.{PlainGlobal, PlainFunction}
+use Rattle.forec_tree.specs.Terms.{PlainGlobal}
 use Rattle.forec_tree.specs.Plain.{plain_item}
 use Rattle.forec_kernel.specs.Plain.{stmt}
 use Rattle.forec_kernel.specs.Shapes.{plain_thread}
 use Rattle.loop_check.specs.Views.{text_of}
-use Rattle.kernel_lower.specs.Kernels as kernels
-use Rattle.kernel_lower.specs.Kernels.{kernel_of, variable_count}
-use Rattle.kernel_lower.specs.Views.{of_thread}
+use Rattle.text_kernel.specs.Kernels as kernels
+use Rattle.text_kernel.specs.Kernels.{kernel_of, variable_count}
+use Rattle.body_lower.specs.Views.{of_thread}
 use Rattle.kernel_lower.specs.Drafts.{function_shape, function_text, root_of, thread_body}
-use Rattle.kernel_lower.specs.Items.{globals_of, functions_of}
+use Rattle.text_kernel.specs.Items.{globals_of, functions_of}
 use Rattle.kernel_lower.proofs.Drafted.{bodies_are}
 use Rattle.kernel_lower.proofs.Finishing.{draft_threads, draft_texts, draft_variables, draft_shapes, draft_bodies, as_many, as_many_functions}
 use Rattle.kernel_lower.proofs.draft.draft.Goals as goal

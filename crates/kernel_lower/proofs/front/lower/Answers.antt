@@ -1,11 +1,10 @@
-use Rattle.std.proofs.Common.{◌≡◌, ◌∙◌, sym, ap, refl, subst}
+use Rattle.std.proofs.Common.{sym, subst}
 use Rattle.forec_kernel.specs.WellFormed.{WellFormed}
 use Rattle.forec_check.specs.Checked.{text_of, names_of}
-use Rattle.kernel_lower.specs.Kernels.{kernel_of}
 use Rattle.kernel_lower.specs.Refusals.{Causes}
 use Rattle.kernel_lower.proofs.Finishing.{threads_amount, threads_cause}
 use Rattle.kernel_lower.proofs.Tallying.{err_passed}
-use Rattle.kernel_lower.proofs.Whole.{well_formed}
+use Rattle.text_kernel.proofs.Whole.{well_formed}
 use Rattle.kernel_lower.proofs.front.lower.Goals as goal
 
 pub returns-in_err-within-clause-fault : goal.returns-in_err-within-clause-fault

@@ -1,5 +1,4 @@
-use Rattle.std.proofs.Common.{◌≡◌, ◌∙◌, ◌≤◌, ◌<◌, ◌-◌, ◌^◌, min, sum, sym, ap, refl, subst, map, length, inl, arith}
-use Rattle.forec_tree.specs.Terms.{Text}
+use Rattle.std.proofs.Common.{◌≡◌, ◌∙◌, ◌-◌, ◌^◌, min, sum, sym, ap, subst, map, inl}
 use Rattle.forec_tree.specs.Plain as plain
 use Rattle.forec_tree.specs.Pauses.{starts}
 use Rattle.forec_tree.specs.Faults.{Leads}
@@ -7,16 +6,16 @@ use Rattle.forec_kernel.specs.WellFormed.{Ranked}
 use Rattle.forec_check.specs.Checked.{text_of, names_of}
 use Rattle.forec_check.proofs.Acyclic.{no_circle}
 use Rattle.loop_check.specs.Views as views
-use Rattle.kernel_lower.specs.Kernels.{kernel_of}
+use Rattle.text_kernel.specs.Kernels.{kernel_of}
 use Rattle.kernel_lower.specs.declared.judge.Amounts.{Amounts}
-use Rattle.kernel_lower.specs.declared.limits.Quantity.TheVariants.{Terms}
-use Rattle.kernel_lower.specs.Limits.{amount}
+use Rattle.text_kernel.specs.declared.limits.Quantity.TheVariants.{Terms}
+use Rattle.text_kernel.specs.Limits.{amount}
 use Rattle.kernel_lower.specs.Refusals.{amount_in, Causes}
-use Rattle.kernel_lower.specs.Items.{globals_of, array_items, array_length}
+use Rattle.text_kernel.specs.Items.{globals_of, array_items, array_length}
 use Rattle.kernel_lower.specs.Measures.{CallsLow, IsDraft, plain_draft}
-use Rattle.kernel_lower.proofs.Called.{ranked}
+use Rattle.text_kernel.proofs.Called.{ranked}
 use Rattle.kernel_lower.proofs.InRange.{calls_low}
-use Rattle.kernel_lower.proofs.Faultless.{clean_of}
+use Rattle.text_kernel.proofs.Faultless.{clean_of}
 use Rattle.kernel_lower.proofs.Finishing.{draft_alike, ranked_same, low_same, words_amounts, depth_amounts, globals_amount, tables_amount, all_amounts, first_causes, within_limits}
 use Rattle.kernel_lower.proofs.Tallying.{err_passed}
 use Rattle.kernel_lower.proofs.front.parts_of.Goals as goal

@@ -2,7 +2,7 @@ use Rattle.std.proofs.Common.{◌≡◌, ◌++◌, map, drop}
 use Rattle.forec_kernel.specs.Plain as kernel
 use Rattle.loop_check.specs.Views.{text_of}
 use Rattle.kernel_lower.specs.Drafts.{function_shape, function_text}
-use Rattle.kernel_lower.specs.Items.{functions_of}
+use Rattle.text_kernel.specs.Items.{functions_of}
 use Rattle.kernel_lower.proofs.int_functions.lowered_functions.Given as goal
 
 abbrev pub invariant-loop-function : goal.invariant-loop-function

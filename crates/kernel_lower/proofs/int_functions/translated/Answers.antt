@@ -1,10 +1,10 @@
-use Rattle.std.proofs.Common.{◌≡◌, ◌∙◌, ℕ, sym, ap, length}
+use Rattle.std.proofs.Common.{◌∙◌, ℕ, ap, length}
 use Rattle.forec_tree.specs.Plain.{plain_function}
 use Rattle.forec_kernel.specs.Plain.{stmt}
 use Rattle.forec_kernel.specs.declared.shape.FunctionShape.{FunctionShape}
 use Rattle.loop_check.specs.Views.{text_of}
-use Rattle.kernel_lower.specs.declared.state.State.{State}
-use Rattle.kernel_lower.specs.Lowering.{Next}
+use Rattle.body_lower.specs.declared.state.State.{State}
+use Rattle.text_kernel.specs.Lowering.{Next}
 use Rattle.kernel_lower.proofs.Assembled.{translated}
 use Rattle.kernel_lower.proofs.int_functions.translated.Goals as goal
 

@@ -1,9 +1,6 @@
-use Rattle.std.proofs.Common.{◌≡◌, ◌∙◌, ◌≤◌, sym, ap, subst}
-use Rattle.kernel_lower.specs.declared.limits.Quantity.{Quantity}
-use Rattle.kernel_lower.specs.declared.limits.Quantity.TheVariants.{Threads, Words, Globals, Tables, Terms, Depth}
-use Rattle.kernel_lower.specs.declared.lower_fault.LowerFault.{LowerFault}
-use Rattle.kernel_lower.specs.Limits.{limit_of}
-use Rattle.kernel_lower.specs.Refusals.{Passes, First, amount_in}
+use Rattle.std.proofs.Common.{sym, subst}
+use Rattle.text_kernel.specs.declared.limits.Quantity.TheVariants.{Threads, Words, Globals, Tables, Terms, Depth}
+use Rattle.kernel_lower.specs.Refusals.{First, amount_in}
 use Rattle.kernel_lower.proofs.Tallying.{first_at, err_passed}
 use Rattle.kernel_lower.proofs.judge.judge.Goals as goal
 

@@ -1,11 +1,11 @@
-use Rattle.std.proofs.Common.{◌∙◌, sym, ap, refl, ◌++◌, append_assoc}
+use Rattle.std.proofs.Common.{◌∙◌, sym, ap, refl, ◌++◌}
 use Rattle.forec_tree.specs.Faults.{is_in}
 use Rattle.forec_kernel.specs.Plain.{expr, exprs}
-use Rattle.kernel_lower.specs.Lowering.{vars_in, vars_all}
-use Rattle.kernel_lower.specs.Marks.{is_marked, Marks}
-use Rattle.kernel_lower.proofs.Statements.{drop_next}
+use Rattle.text_kernel.specs.Lowering.{vars_in, vars_all}
+use Rattle.kernel_lower.specs.Marks.{is_marked}
+use Rattle.body_lower.proofs.Statements.{drop_next}
 use Rattle.kernel_lower.proofs.Tallying.{of_call, marks_two, marks_as, marks_step}
-use Rattle.std.proofs.Common.{◌≡◌, ◌+◌, ◌||◌, ◌∷◌, drop, length, arith}
+use Rattle.std.proofs.Common.{◌+◌, ◌||◌, drop, length, arith}
 use Rattle.kernel_lower.proofs.marks.+mark_expression.Goals as goal
 
 pub mark_all-loop-e-preserved : goal.mark_all-loop-e-preserved

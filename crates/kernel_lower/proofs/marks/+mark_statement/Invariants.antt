@@ -1,7 +1,7 @@
 use Rattle.std.proofs.Common.{◌≡◌, ◌<◌, ◌||◌, ℕ, length, drop}
 use Rattle.forec_kernel.specs.Plain as kernel
 use Rattle.forec_tree.specs.Faults.{is_in}
-use Rattle.kernel_lower.specs.Lowering as lowering
+use Rattle.text_kernel.specs.Lowering as lowering
 use Rattle.kernel_lower.specs.Marks.{is_marked}
 use Rattle.kernel_lower.proofs.marks.+mark_statement.Given as goal
 

@@ -1,9 +1,9 @@
-use Rattle.std.proofs.Common.{◌≡◌, ◌∙◌, ◌+◌, ◌||◌, sym, ap, ◌++◌, ◌∷◌, map, drop, length, arith}
+use Rattle.std.proofs.Common.{◌+◌, ◌||◌, sym, ap, map, drop, length, arith}
 use Rattle.forec_tree.specs.Faults.{is_in}
 use Rattle.forec_kernel.specs.Plain.{exprs, branch}
-use Rattle.kernel_lower.specs.Lowering.{vars_all, vars_launches}
-use Rattle.kernel_lower.specs.Marks.{is_marked, Marks}
-use Rattle.kernel_lower.proofs.Statements.{drop_next}
+use Rattle.text_kernel.specs.Lowering.{vars_all, vars_launches}
+use Rattle.kernel_lower.specs.Marks.{is_marked}
+use Rattle.body_lower.proofs.Statements.{drop_next}
 use Rattle.kernel_lower.proofs.Tallying.{marks_as, marks_step}
 use Rattle.kernel_lower.proofs.marks.mark_launches.Goals as goal
 

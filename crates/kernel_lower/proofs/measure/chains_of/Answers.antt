@@ -1,9 +1,9 @@
-use Rattle.std.proofs.Common.{◌≡◌, ◌∙◌, sym, ap, subst, map}
+use Rattle.std.proofs.Common.{◌∙◌, ap, subst, map}
 use Rattle.forec_tree.specs.Faults.{Leads}
 use Rattle.forec_kernel.specs.Plain.{stmt}
 use Rattle.forec_kernel.specs.WellFormed.{stmt_calls}
 use Rattle.loop_check.specs.Graph.{callees}
-use Rattle.kernel_lower.specs.Reach.{value_at, chain_value}
+use Rattle.kernel_lower.specs.Reach.{chain_value}
 use Rattle.kernel_lower.specs.Measures.{words_of_shape, depth_of_body}
 use Rattle.kernel_lower.proofs.Measuring.{draft_leads, draft_chains}
 use Rattle.kernel_lower.proofs.measure.chains_of.Goals as goal

@@ -1,5 +1,4 @@
-use Rattle.std.proofs.Common.{◌≡◌, ◌∙◌, ◌-◌, ◌^◌, min, sym, ap, length}
-use Rattle.forec_kernel.specs.Plain.{stmt}
+use Rattle.std.proofs.Common.{◌∙◌, ap}
 use Rattle.forec_kernel.specs.WellFormed.{count_up, greatest}
 use Rattle.kernel_lower.specs.Reach.{value_at}
 use Rattle.kernel_lower.proofs.Measuring.{longest_amount}

@@ -1,6 +1,6 @@
-use Rattle.std.proofs.Common.{◌≡◌, ◌∙◌, ◌-◌, ◌^◌, ◌≤◌, min, sym, ap, length, arith}
+use Rattle.std.proofs.Common.{◌∙◌, ap, length, arith}
 use Rattle.forec_kernel.specs.WellFormed.{count_up}
-use Rattle.kernel_lower.specs.Limits.{thread_words, thread_depth}
+use Rattle.text_kernel.specs.Limits.{thread_words, thread_depth}
 use Rattle.kernel_lower.specs.Measures.{plain_draft}
 use Rattle.kernel_lower.proofs.Measuring.{most_next, most_end, words_amount, depth_amount}
 use Rattle.kernel_lower.proofs.measure.most.Goals as goal

@@ -1,6 +1,6 @@
 use Rattle.std.proofs.Common.{◌≡◌, ◌-◌, ◌^◌, ◌≤◌, min, max, length}
 use Rattle.forec_kernel.specs.WellFormed.{greatest, count_up}
-use Rattle.kernel_lower.specs.Limits.{thread_words, thread_depth}
+use Rattle.text_kernel.specs.Limits.{thread_words, thread_depth}
 use Rattle.kernel_lower.specs.Measures.{plain_draft}
 use Rattle.kernel_lower.proofs.measure.most.Given as goal
 

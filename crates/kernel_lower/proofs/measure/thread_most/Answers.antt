@@ -1,4 +1,4 @@
-use Rattle.std.proofs.Common.{◌≡◌, ◌∙◌, ◌++◌, sym, ap}
+use Rattle.std.proofs.Common.{◌∙◌, ◌++◌, ap}
 use Rattle.forec_kernel.specs.Plain.{stmt}
 use Rattle.forec_kernel.specs.WellFormed.{stmt_calls, pars_of}
 use Rattle.kernel_lower.specs.Reach.{has, combine_at, pars_by}

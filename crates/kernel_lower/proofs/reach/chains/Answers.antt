@@ -1,4 +1,4 @@
-use Rattle.std.proofs.Common.{◌≡◌, ◌∙◌, sym, ap, subst, length, arith}
+use Rattle.std.proofs.Common.{sym, subst, length, arith}
 use Rattle.forec_kernel.specs.WellFormed.{count_up}
 use Rattle.loop_check.specs.Graph.{callees, IsOrder}
 use Rattle.forec_check.specs.Table.{Settles}

@@ -1,4 +1,4 @@
-use Rattle.std.proofs.Common.{◌≡◌, ◌∙◌, ◌+◌, ◌-◌, ◌^◌, min, sym, ap, get_or}
+use Rattle.std.proofs.Common.{◌∙◌, ◌+◌, ◌-◌, ◌^◌, min, ap, get_or}
 use Rattle.forec_kernel.specs.WellFormed.{greatest}
 use Rattle.loop_check.specs.Graph.{callees}
 use Rattle.forec_check.proofs.Tables.{agrees_next}

@@ -1,4 +1,4 @@
-use Rattle.std.proofs.Common.{◌≡◌, ◌∙◌, ℕ, List, ap, Some, None}
+use Rattle.std.proofs.Common.{◌∙◌, ℕ, List, ap, Some, None}
 use Rattle.forec_kernel.specs.Shapes.{PlainThread}
 use Rattle.forec_kernel.specs.WellFormed.{count_up}
 use Rattle.forec_tree.specs.Rules.{bytes_of}

@@ -1,11 +1,11 @@
-use Rattle.std.proofs.Common.{◌≡◌, ◌∙◌, ◌+◌, ◌||◌, ◌<◌, ℕ, sym, ap, subst, ◌++◌, ◌∷◌, map, drop, take, length, arith}
+use Rattle.std.proofs.Common.{◌∙◌, ◌+◌, ◌||◌, sym, ap, subst, map, drop, length, arith}
 use Rattle.forec_tree.specs.Faults.{is_in}
 use Rattle.forec_kernel.specs.Plain.{stmt}
-use Rattle.kernel_lower.specs.Lowering.{vars_of}
-use Rattle.kernel_lower.specs.Views.{of_thread}
+use Rattle.text_kernel.specs.Lowering.{vars_of}
+use Rattle.body_lower.specs.Views.{of_thread}
 use Rattle.kernel_lower.specs.Drafts.{vars_bare}
 use Rattle.kernel_lower.specs.Marks.{is_marked, Marks}
-use Rattle.kernel_lower.proofs.Statements.{drop_next}
+use Rattle.body_lower.proofs.Statements.{drop_next}
 use Rattle.kernel_lower.proofs.Tallying.{marks_step, written_back}
 use Rattle.kernel_lower.proofs.shapes.marks_of.Goals as goal
 

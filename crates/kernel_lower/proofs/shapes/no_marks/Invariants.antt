@@ -1,4 +1,4 @@
-use Rattle.std.proofs.Common.{ℕ, ◌≡◌, ◌<◌, false, length}
+use Rattle.std.proofs.Common.{ℕ, ◌≡◌, false, length}
 use Rattle.kernel_lower.specs.Marks.{is_marked}
 use Rattle.kernel_lower.proofs.shapes.no_marks.Given as goal
 

@@ -1,6 +1,6 @@
 use Rattle.std.proofs.Common.{◌≡◌, ◌++◌, map, drop}
 use Rattle.forec_tree.specs.Plain.{plain_item}
-use Rattle.kernel_lower.specs.Items.{globals_of, array_items}
+use Rattle.text_kernel.specs.Items.{globals_of, array_items}
 use Rattle.kernel_lower.proofs.tables.arrays.Given as goal
 
 abbrev pub invariant-loop-item : goal.invariant-loop-item

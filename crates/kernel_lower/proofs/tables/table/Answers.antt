@@ -1,6 +1,6 @@
-use Rattle.std.proofs.Common.{◌≡◌, ◌∙◌, ◌+◌, ◌-◌, drop, SFits, w32, rules}
+use Rattle.std.proofs.Common.{◌+◌, ◌-◌, drop, SFits, w32, rules}
 use Rattle.std.proofs.lemmas.Int.{to_z-of_z}
-use Rattle.kernel_lower.specs.Kernels.{padded}
+use Rattle.text_kernel.specs.Kernels.{padded}
 use Rattle.kernel_lower.proofs.Assembled.{padded_next, appended_more}
 use Rattle.kernel_lower.proofs.tables.table.Goals as goal
 

@@ -1,5 +1,5 @@
 use Rattle.std.proofs.Common.{◌≡◌, ◌-◌, ◌++◌, drop}
-use Rattle.kernel_lower.specs.Kernels.{padded}
+use Rattle.text_kernel.specs.Kernels.{padded}
 use Rattle.kernel_lower.proofs.tables.table.Given as goal
 
 abbrev pub invariant-loop-i : goal.invariant-loop-i

@@ -1,6 +1,6 @@
-use Rattle.std.proofs.Common.{◌≡◌, ◌∙◌, ◌+◌, ◌∷◌, sum, map, sym, ap, drop, arith}
+use Rattle.std.proofs.Common.{◌≡◌, ◌∙◌, ◌+◌, sum, map, sym, ap, drop, arith}
 use Rattle.forec_tree.specs.Plain.{plain_global}
-use Rattle.kernel_lower.specs.Items.{globals_of, array_length}
+use Rattle.text_kernel.specs.Items.{globals_of, array_length}
 use Rattle.std.proofs.lemmas.List.Sums.{sum_by-cons}
 use Rattle.kernel_lower.proofs.Assembled.{globals_next}
 use Rattle.kernel_lower.proofs.tables.table_words.Goals as goal

@@ -1,5 +1,5 @@
 use Rattle.std.proofs.Common.{◌≡◌, ◌+◌, ◌-◌, ◌^◌, ◌≤◌, min, sum, map, drop}
-use Rattle.kernel_lower.specs.Items.{globals_of, array_length}
+use Rattle.text_kernel.specs.Items.{globals_of, array_length}
 use Rattle.kernel_lower.proofs.tables.table_words.Given as goal
 
 abbrev pub invariant-loop-global : goal.invariant-loop-global

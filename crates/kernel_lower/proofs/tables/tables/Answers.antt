@@ -1,7 +1,7 @@
-use Rattle.std.proofs.Common.{◌≡◌, ◌∙◌, ◌+◌, ◌∷◌, map, sym, ap, drop}
+use Rattle.std.proofs.Common.{◌∙◌, ◌+◌, map, sym, ap, drop}
 use Rattle.forec_tree.specs.Plain.{plain_global}
-use Rattle.kernel_lower.specs.Kernels.{padded}
-use Rattle.kernel_lower.specs.Items.{globals_of, array_length, array_table}
+use Rattle.text_kernel.specs.Kernels.{padded}
+use Rattle.text_kernel.specs.Items.{globals_of, array_length, array_table}
 use Rattle.kernel_lower.specs.Reach.{table_items}
 use Rattle.kernel_lower.proofs.Assembled.{globals_next, mapped_more}
 use Rattle.kernel_lower.proofs.tables.tables.Goals as goal

@@ -1,5 +1,5 @@
 use Rattle.std.proofs.Common.{◌≡◌, ◌++◌, map, drop}
-use Rattle.kernel_lower.specs.Items.{globals_of, array_table}
+use Rattle.text_kernel.specs.Items.{globals_of, array_table}
 use Rattle.kernel_lower.specs.Reach.{table_items}
 use Rattle.kernel_lower.proofs.tables.tables.Given as goal
 

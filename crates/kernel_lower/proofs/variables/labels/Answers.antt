@@ -1,7 +1,6 @@
-use Rattle.std.proofs.Common.{◌≡◌, ◌∙◌, ◌+◌, ◌∷◌, map, sym, ap, drop, get_or, []}
-use Rattle.forec_tree.specs.Plain.{plain_global}
+use Rattle.std.proofs.Common.{◌+◌, map, sym, ap, drop}
 use Rattle.forec_tree.specs.Rules.{bytes_of}
-use Rattle.kernel_lower.specs.Items.{globals_of}
+use Rattle.text_kernel.specs.Items.{globals_of}
 use Rattle.kernel_lower.proofs.Assembled.{globals_next, appended_more, name_at}
 use Rattle.kernel_lower.proofs.variables.labels.Goals as goal
 

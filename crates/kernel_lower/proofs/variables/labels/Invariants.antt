@@ -1,6 +1,6 @@
 use Rattle.std.proofs.Common.{◌≡◌, ◌++◌, map, drop}
 use Rattle.forec_tree.specs.Rules as rules
-use Rattle.kernel_lower.specs.Items.{globals_of}
+use Rattle.text_kernel.specs.Items.{globals_of}
 use Rattle.kernel_lower.proofs.variables.labels.Given as goal
 
 abbrev pub invariant-loop-global : goal.invariant-loop-global

@@ -1,8 +1,8 @@
 use Rattle.std.proofs.Common.{◌≡◌, ◌++◌, drop}
 use Rattle.forec_tree.specs.Rules as rules
 use Rattle.loop_check.specs.Views.{text_of}
-use Rattle.kernel_lower.specs.Kernels as kernels
-use Rattle.kernel_lower.specs.Items.{globals_of}
+use Rattle.text_kernel.specs.Kernels as kernels
+use Rattle.text_kernel.specs.Items.{globals_of}
 use Rattle.kernel_lower.proofs.variables.outputs.Given as goal
 
 abbrev pub invariant-loop-global : goal.invariant-loop-global

@@ -1,8 +1,8 @@
 use Rattle.std.proofs.Common.{◌≡◌, ◌++◌, map, drop}
 use Rattle.forec_tree.specs.Plain.{plain_item}
 use Rattle.loop_check.specs.Views.{text_of}
-use Rattle.kernel_lower.specs.Kernels as kernels
-use Rattle.kernel_lower.specs.Items.{globals_of}
+use Rattle.text_kernel.specs.Kernels as kernels
+use Rattle.text_kernel.specs.Items.{globals_of}
 use Rattle.kernel_lower.proofs.variables.variables.Given as goal
 
 abbrev pub invariant-loop-item : goal.invariant-loop-item

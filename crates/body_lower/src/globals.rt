@@ -1,0 +1,192 @@
+// What the names of a program's items stand for.
+
+ghost use Rattle.std.specs.Prelude.{◌≡◌, ℕ, map, None, slice_index_or, IfOk, OnOk};
+ghost use Rattle.forec_tree.specs.Plain.{plain_item, plain_global};
+ghost use Rattle.forec_tree.specs.Scopes.{find_item};
+ghost use Rattle.loop_check.specs.Views.{text_of};
+ghost use Rattle.text_kernel.specs.Bindings as bindings;
+ghost use Rattle.body_lower.specs.Numbering as numbering;
+
+use forec_base::OutOfMemory;
+use forec_tree::{Global as Variable, GlobalKind, Item, Number};
+use loop_check::{Index, item_name};
+use std::alloc::Global;
+use text_kernel::Stands;
+
+/// How many variables, constant arrays and int functions stand before an item.
+#[derive(Clone, Copy)]
+pub struct Counts {
+    pub variables: u32,
+    pub tables: u32,
+    pub functions: u32,
+}
+
+/// The items of a program by name, with how many of each sort stand before the first one of the name.
+#[derive(Drop)]
+pub struct Globals<'p> {
+    pub index: Index<'p>,
+    before: Vec<Option<Counts>>,
+    pub total: Counts,
+    ghost right: { (id : ℕ) → numbering.given (slice_index_or before.items id None) total ≡ numbering.before_name id numbering.none (text_of index) },
+}
+
+fn one_more(count: u32, more: bool) -> Result<u32, OutOfMemory>
+    ensures { IfOk result (λ n. n ≡ numbering.more_if count more) }
+{
+    if !more {
+        return Ok(count);
+    }
+    match count.checked_add(1) {
+        None => Err(OutOfMemory),
+        Some(next) => Ok(next),
+    }
+}
+
+/// Whether a global is a constant.
+pub fn is_constant(kind: GlobalKind) -> bool
+    ensures { result ≡ Rattle.forec_tree.specs.Scopes.is_constant kind }
+{
+    matches!(kind, GlobalKind::Const)
+}
+
+fn is_variable(item: &Item) -> bool
+    ensures { result ≡ bindings.is_variable (plain_item item.now) }
+{
+    match item {
+        Item::Global { global } => !is_constant(global.kind),
+        Item::Function { .. } => false,
+    }
+}
+
+fn is_table(item: &Item) -> bool
+    ensures { result ≡ bindings.is_table (plain_item item.now) }
+{
+    match item {
+        Item::Global { global } => is_constant(global.kind) && global.length.is_some(),
+        Item::Function { .. } => false,
+    }
+}
+
+fn is_int_function(item: &Item) -> bool
+    ensures { result ≡ bindings.is_int_function (plain_item item.now) }
+{
+    match item {
+        Item::Global { .. } => false,
+        Item::Function { function } => function.gives,
+    }
+}
+
+/// The counts behind an item.
+fn counted(counts: Counts, item: &Item) -> Result<Counts, OutOfMemory>
+    ensures { IfOk result (λ c. c ≡ numbering.counted counts (plain_item item.now)) }
+{
+    Ok(Counts {
+        variables: one_more(counts.variables, is_variable(item))?,
+        tables: one_more(counts.tables, is_table(item))?,
+        functions: one_more(counts.functions, is_int_function(item))?,
+    })
+}
+
+/// Puts counts at a name that has none.
+fn note(before: &mut Vec<Option<Counts>>, id: u32, counts: Counts) -> Result<(), OutOfMemory>
+    ensures { OnOk result ((g : ℕ) → slice_index_or before.new.items g None ≡ numbering.noted id g counts (slice_index_or before.old.items g None)) }
+{
+    let at = id as usize;
+    'room: while before.len() <= at {
+        before.push(None)?;
+    }
+    if before[at].is_none() {
+        before[at] = Some(counts);
+    }
+    Ok(())
+}
+
+/// The first of some numbers; 0 where there is none.
+pub fn first_number(values: &[Number]) -> i32
+    ensures { result ≡ bindings.first_value values.now }
+{
+    match values.first() {
+        None => 0,
+        Some(number) => number.value,
+    }
+}
+
+/// The first value of a global; 0 where none is given.
+pub fn first_value(global: &Variable) -> i32
+    ensures { result ≡ bindings.first_value global.now.values }
+{
+    first_number(global.values.as_slice())
+}
+
+/// What a global stands for, with the counts before it.
+fn global_stands(counts: Counts, global: &Variable) -> Stands
+    ensures { result ≡ numbering.global_stands counts (plain_global global.now) }
+{
+    if !is_constant(global.kind) {
+        return Stands::AsVariable {
+            variable: counts.variables,
+        };
+    }
+    match global.length {
+        None => Stands::AsNumber {
+            value: first_value(global),
+        },
+        Some(_) => Stands::AsTable {
+            table: counts.tables,
+        },
+    }
+}
+
+impl<'p> Globals<'p> {
+    /// Looks at each item once.
+    ///
+    /// # Errors
+    ///
+    /// Want of memory.
+    pub fn of(alloc: Global, items: &'p [Item]) -> Result<Globals<'p>, OutOfMemory>
+        ensures { IfOk result (λ g. text_of g.index ≡ map plain_item items.now) }
+    {
+        let index = Index::of(alloc, items)?;
+        let mut before = Vec::new(alloc);
+        let mut total = Counts {
+            variables: 0,
+            tables: 0,
+            functions: 0,
+        };
+        for item in items {
+            note(&mut before, item_name(item).id, total)?;
+            total = counted(total, item)?;
+        }
+        Ok(Globals {
+            index,
+            before,
+            total,
+        })
+    }
+
+    fn counts(&self, id: u32) -> Counts
+        ensures { result ≡ numbering.before_name id numbering.none (text_of self.now.index) }
+    {
+        match self.before.get(id as usize) {
+            Some(Some(counts)) => *counts,
+            _ => self.total,
+        }
+    }
+
+    /// The number of the int function of a name.
+    pub fn function(&self, id: u32) -> u32
+        ensures { result ≡ bindings.number_among bindings.is_int_function id (text_of self.now.index) }
+    {
+        self.counts(id).functions
+    }
+
+    /// What the first item of a name stands for.
+    pub fn stands(&self, id: u32) -> Stands
+        ensures { result ≡ bindings.item_stands (text_of self.now.index) (find_item id (text_of self.now.index)) }
+    {
+        match self.index.find(id) {
+            Some(Item::Global { global }) => global_stands(self.counts(global.name.id), global),
+            _ => Stands::AsNothing,
+        }
+    }
+}

@@ -1,0 +1,21 @@
+//! From the statements of a function's body to those of the kernel.
+#![tactic(auto)]
+
+mod assign;
+mod body;
+mod globals;
+mod loops;
+mod parts;
+mod scope;
+mod source;
+mod state;
+mod term;
+mod threads;
+mod trail;
+
+pub use body::{FUEL, in_function, in_place};
+pub use globals::{Counts, Globals, first_number, first_value, is_constant};
+pub use parts::{count, sum};
+pub use scope::Scope;
+pub use source::Source;
+pub use state::{State, Thread};

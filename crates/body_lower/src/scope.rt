@@ -1,0 +1,102 @@
+// The locals that a statement sees.
+
+ghost use Rattle.std.specs.Prelude.{◌≡◌, ◌≤◌, ◌++◌, ◌∷◌, [], ℕ, map, length, drop, take, None, OnOk};
+ghost use Rattle.body_lower.specs.Trail.{id_of};
+ghost use Rattle.text_kernel.specs.Bindings as bindings;
+
+use crate::trail::Trail;
+use forec_base::OutOfMemory;
+use std::alloc::Global;
+use text_kernel::Slot;
+
+/// Locals in the order of declaration, of which those behind the first `base` are seen.
+#[derive(Drop)]
+pub struct Scope {
+    trail: Trail,
+    pub slots: Vec<Slot>,
+    pub base: usize,
+    ghost same: { map id_of trail.steps.items ≡ map bindings.slot_id slots.items },
+    ghost within: { base ≤ length slots.items },
+}
+
+impl Scope {
+    ghost use Rattle.body_lower.specs.Views.{seen, Kept};
+
+    /// No locals.
+    pub fn new(alloc: Global) -> Scope
+        ensures { seen result ≡ [] }
+    {
+        Scope {
+            trail: Trail::new(alloc),
+            slots: Vec::new(alloc),
+            base: 0,
+        }
+    }
+
+    /// How many locals there are, those that aren't seen among them.
+    pub fn len(&self) -> usize
+        ensures { result ≡ length self.now.slots.items }
+    {
+        self.slots.len()
+    }
+
+    /// The innermost local of a name.
+    pub fn find(&self, id: u32) -> Option<Slot>
+        ensures { result ≡ bindings.find_slot id None (seen self.now) }
+    {
+        let last = self.trail.last(id);
+        if last <= self.base {
+            return None;
+        }
+        let slot = self.slots[last - 1];
+        Some(slot)
+    }
+
+    /// Declares a local.
+    pub fn declare(&mut self, slot: Slot) -> Result<(), OutOfMemory>
+        ensures seen { OnOk result (seen self.new ≡ seen self.old ++ slot ∷ []) }
+        ensures kept { OnOk result (Kept self.old self.new) }
+    {
+        self.slots.push(slot)?;
+        if let Err(e) = self.trail.push(slot.id) {
+            let _ = self.slots.pop();
+            return Err(e);
+        }
+        Ok(())
+    }
+
+    /// Keeps the first so many locals.
+    pub fn forget(&mut self, len: usize)
+        requires seen { self.old.base ≤ len }
+        requires within { len ≤ length self.old.slots.items }
+        ensures slots { self.new.slots.items ≡ take len self.old.slots.items }
+        ensures base { self.new.base ≡ self.old.base }
+    {
+        self.trail.truncate(len);
+        self.slots.truncate(len);
+    }
+
+    /// Hides all locals, and answers how many were hidden before; the answer is handed to `show`.
+    pub fn hide(&mut self) -> usize
+        ensures before { result ≡ self.old.base }
+        ensures seen { seen self.new ≡ [] }
+        ensures base { self.new.base ≡ length self.old.slots.items }
+        ensures slots { self.new.slots.items ≡ self.old.slots.items }
+    {
+        let before = self.base;
+        self.base = self.slots.len();
+        before
+    }
+
+    /// Forgets the locals that are seen, and sees those from `base` on again.
+    pub fn show(&mut self, base: usize)
+        requires { base ≤ self.old.base }
+        ensures slots { self.new.slots.items ≡ take self.old.base self.old.slots.items }
+        ensures base { self.new.base ≡ base }
+    {
+        let len = self.base;
+        self.base = base;
+        self.trail.truncate(len);
+        self.slots.truncate(len);
+    }
+}

@@ -1,0 +1,49 @@
+// The program that is translated.
+
+ghost use Rattle.std.specs.Prelude.{◌≡◌, ℕ, None, Some, option_map, map, IfOk};
+ghost use Rattle.forec_tree.specs.Plain as plain;
+ghost use Rattle.forec_tree.specs.Pauses as pauses;
+ghost use Rattle.forec_tree.specs.Faults.{Leads};
+ghost use Rattle.loop_check.specs.Views.{text_of};
+ghost use Rattle.loop_check.specs.Known.{FunctionOf};
+ghost use Rattle.body_lower.specs.Views.{OneText};
+
+use crate::globals::Globals;
+use forec_base::OutOfMemory;
+use forec_tree::{Function, Item};
+use loop_check::Pauses;
+use std::alloc::Global;
+
+/// A program, with what its names stand for and the turns of its loops.
+#[derive(Drop)]
+pub struct Source<'p> {
+    pub globals: Globals<'p>,
+    pub pauses: Pauses<'p>,
+}
+
+impl<'p> Source<'p> {
+    /// Reads a program in which no function reaches itself.
+    ///
+    /// # Errors
+    ///
+    /// Want of memory.
+    pub fn of(alloc: Global, items: &'p [Item]) -> Result<Source<'p>, OutOfMemory>
+        requires { (f : ℕ) → Leads (pauses.starts (map plain.plain_item items.now)) f f → ⊥ }
+        ensures text { IfOk result (λ s. text_of s.globals.index ≡ map plain.plain_item items.now) }
+        ensures same { IfOk result OneText }
+    {
+        let globals = Globals::of(alloc, items)?;
+        let pauses = Pauses::of(alloc, items)?;
+        Ok(Source { globals, pauses })
+    }
+
+    /// The function of a name.
+    pub fn function(&self, id: u32) -> Option<&'p Function>
+        ensures { FunctionOf result (pauses.find_function id (text_of self.now.globals.index)) }
+    {
+        match self.globals.index.find(id) {
+            Some(Item::Function { function }) => Some(function),
+            _ => None,
+        }
+    }
+}

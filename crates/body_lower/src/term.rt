@@ -1,0 +1,175 @@
+// Expressions of the kernel.
+
+ghost use Rattle.std.specs.Prelude.{◌≡◌, map, IfOk};
+ghost use Rattle.forec_tree.specs.Plain as plain;
+ghost use Rattle.forec_kernel.specs.Plain as kernel;
+ghost use Rattle.text_kernel.specs.Lowering as lowering;
+ghost use Rattle.loop_check.specs.Views.{text_of};
+ghost use Rattle.body_lower.specs.Views.{seen};
+
+use crate::globals::Globals;
+use crate::scope::Scope;
+use forec_base::{Binary, OutOfMemory, Place};
+use forec_kernel::Expression;
+use forec_tree::{Expr, ExprKind};
+use std::alloc::Global;
+use text_kernel::{Stands, slot_stands};
+
+fn boxed(alloc: Global, e: Expression) -> Result<Box<Expression>, OutOfMemory>
+    ensures { IfOk result (λ b. b.value ≡ e) }
+{
+    match Box::new(alloc, e) {
+        Ok(b) => Ok(b),
+        Err(_) => Err(OutOfMemory),
+    }
+}
+
+/// The place of an operator that can trap.
+pub fn place_if(op: Binary, place: Place) -> Option<Place>
+    ensures { result ≡ lowering.place_if op place }
+{
+    match op {
+        Binary::Div | Binary::Rem => Some(place),
+        _ => None,
+    }
+}
+
+/// What a name stands for: a local hides a global.
+pub fn stands(globals: &Globals<'_>, scope: &Scope, id: u32) -> Stands
+    ensures { result ≡ lowering.stands (text_of globals.now.index) (seen scope.now) id }
+{
+    match scope.find(id) {
+        Some(slot) => slot_stands(slot),
+        None => globals.stands(id),
+    }
+}
+
+fn read_as(stands: Stands) -> Expression
+    ensures { kernel.expr result ≡ lowering.read_as stands }
+{
+    match stands {
+        Stands::AtSlot { slot } => Expression::Local { slot },
+        Stands::AsVariable { variable } => Expression::Variable { variable },
+        Stands::AsNumber { value } => Expression::Number { value },
+        _ => Expression::Number { value: 0 },
+    }
+}
+
+/// An element of what a name stands for.
+pub fn element_as(
+    alloc: Global,
+    stands: Stands,
+    index: Expression,
+    place: Place,
+) -> Result<Expression, OutOfMemory>
+    ensures { IfOk result (λ e. kernel.expr e ≡ lowering.element_as stands (kernel.expr index) place) }
+{
+    let index = boxed(alloc, index)?;
+    Ok(match stands {
+        Stands::AtSlots { slot, size } => Expression::LocalAt {
+            slot,
+            length: size,
+            index,
+            place,
+        },
+        Stands::AsTable { table } => Expression::TableAt {
+            table,
+            index,
+            place,
+        },
+        _ => Expression::TableAt {
+            table: 0,
+            index,
+            place,
+        },
+    })
+}
+
+/// The expression of the kernel, where these locals are seen.
+#[cycle(term)]
+pub fn lower_term(
+    alloc: Global,
+    globals: &Globals<'_>,
+    scope: &Scope,
+    e: &Expr,
+) -> Result<Expression, OutOfMemory>
+    ensures { IfOk result (λ k. kernel.expr k ≡ lowering.lower_term (text_of globals.now.index) (seen scope.now) (plain.term e.now)) }
+{
+    match &e.what {
+        ExprKind::Number { value } => Ok(Expression::Number { value: *value }),
+        ExprKind::Read { name } => Ok(read_as(stands(globals, scope, name.id))),
+        ExprKind::Element { name, index } => {
+            let index = lower_term(alloc, globals, scope, index)?;
+            let to = stands(globals, scope, name.id);
+            element_as(alloc, to, index, name.place)
+        }
+        ExprKind::Unary { op, of } => {
+            let of = lower_term(alloc, globals, scope, of)?;
+            Ok(Expression::Unary {
+                op: *op,
+                of: boxed(alloc, of)?,
+            })
+        }
+        ExprKind::Binary { op, left, right } => {
+            let left = lower_term(alloc, globals, scope, left)?;
+            let right = lower_term(alloc, globals, scope, right)?;
+            let place = place_if(*op, e.place);
+            Ok(Expression::Binary {
+                op: *op,
+                left: boxed(alloc, left)?,
+                right: boxed(alloc, right)?,
+                place,
+            })
+        }
+        ExprKind::And { left, right } => {
+            let left = lower_term(alloc, globals, scope, left)?;
+            let right = lower_term(alloc, globals, scope, right)?;
+            Ok(Expression::And {
+                left: boxed(alloc, left)?,
+                right: boxed(alloc, right)?,
+            })
+        }
+        ExprKind::Or { left, right } => {
+            let left = lower_term(alloc, globals, scope, left)?;
+            let right = lower_term(alloc, globals, scope, right)?;
+            Ok(Expression::Or {
+                left: boxed(alloc, left)?,
+                right: boxed(alloc, right)?,
+            })
+        }
+        ExprKind::Choose { test, yes, no } => {
+            let test = lower_term(alloc, globals, scope, test)?;
+            let yes = lower_term(alloc, globals, scope, yes)?;
+            let no = lower_term(alloc, globals, scope, no)?;
+            Ok(Expression::Choose {
+                test: boxed(alloc, test)?,
+                yes: boxed(alloc, yes)?,
+                no: boxed(alloc, no)?,
+            })
+        }
+        ExprKind::Call { name, args } => {
+            let args = lower_terms(alloc, globals, scope, args.as_slice())?;
+            Ok(Expression::Call {
+                function: globals.function(name.id),
+                args,
+            })
+        }
+    }
+}
+
+/// The expressions of a list, in order.
+#[cycle(term)]
+pub fn lower_terms(
+    alloc: Global,
+    globals: &Globals<'_>,
+    scope: &Scope,
+    list: &[Expr],
+) -> Result<Vec<Expression>, OutOfMemory>
+    ensures { IfOk result (λ k. kernel.exprs k.items ≡ lowering.lower_terms (text_of globals.now.index) (seen scope.now) (plain.terms list.now)) }
+{
+    let mut terms = Vec::new(alloc);
+    for e in list {
+        terms.push(lower_term(alloc, globals, scope, e)?)?;
+    }
+    Ok(terms)
+}

@@ -1,8 +1,0 @@
-use Rattle.std.proofs.Common.{◌∙◌, ap}
-use Rattle.loop_check.specs.Views.{text_of}
-use Rattle.kernel_lower.specs.declared.globals.Counts.{Counts}
-use Rattle.kernel_lower.proofs.Numbered.{functions_are}
-use Rattle.kernel_lower.proofs.globals.Globals.function.Goals as goal
-
-pub returns : goal.returns
-returns c = ap (λ (x : Counts). x.functions) c.counts.ensures ∙ functions_are c.args.id (text_of c.args.self.now.index)

@@ -1,0 +1,6 @@
+pub mod Bindings
+pub mod Lowering
+pub mod Kernels
+pub mod Limits
+pub mod Items
+pub mod Laws

@@ -1,0 +1,8 @@
+pub mod Counted
+pub mod Sized
+pub mod Nearby
+pub mod Extending
+pub mod Widening
+pub mod Heights
+pub mod Tallied
+pub mod Amounts

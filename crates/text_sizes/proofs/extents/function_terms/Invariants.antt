@@ -1,0 +1,11 @@
+use Rattle.std.proofs.Common.{◌≡◌, ◌+◌, ◌-◌, ◌^◌, ◌≤◌, min, drop}
+use Rattle.text_sizes.specs.Extents.{counts_of}
+use Rattle.text_kernel.specs.Items.{functions_of}
+use Rattle.text_sizes.proofs.extents.function_terms.Given as goal
+
+abbrev pub invariant-loop-function : goal.invariant-loop-function
+invariant-loop-function l =
+    record {
+      small : l.total ≤ 2 ^ 64 - 1;
+      told : min (l.total + counts_of (functions_of (drop l.function-index l.functions))) (2 ^ 64 - 1) ≡ min (counts_of (functions_of l.functions)) (2 ^ 64 - 1);
+    }

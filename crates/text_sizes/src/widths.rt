@@ -1,0 +1,216 @@
+// The widest and the deepest of the threads below text, up to the greatest `u64`.
+
+ghost use Rattle.std.specs.Prelude.{◌≡◌, ◌-◌, ◌^◌, ℕ, min, IfOk, OnOk};
+ghost use Rattle.forec_tree.specs.Plain as plain;
+ghost use Rattle.forec_tree.specs.Faults.{Leads};
+ghost use Rattle.forec_tree.specs.Pauses.{starts};
+ghost use Rattle.forec_tree.proofs.Rows.{perhaps_of};
+ghost use Rattle.loop_check.specs.Views.{text_of};
+ghost use Rattle.forec_check.specs.Table.{put_at, Settles};
+ghost use Rattle.text_sizes.specs.Counts as counts;
+ghost use Rattle.text_sizes.specs.Extents.{capped};
+ghost use Rattle.text_sizes.specs.Spans as of;
+
+use crate::span::{Span, all_slots, arguments, block_levels, no_span, span_of};
+use crate::tally::add;
+use forec_base::OutOfMemory;
+use forec_tree::{Branch, Stmt, StmtKind};
+use loop_check::{Index, find_function, order, read_calls};
+use std::alloc::Global;
+
+/// The words of the widest thread below a statement.
+#[cycle(widest)]
+fn widest(table: &[Span], s: &Stmt) -> u64
+    ensures { result ≡ min (of.most (of.words_by (of.slots_at table.now)) (counts.slots_all (of.slots_at table.now)) (of.widest_at table.now) (plain.statement s.now)) (2 ^ 64 - 1) }
+{
+    match &s.what {
+        StmtKind::Group { body } => all_widest(table, body.as_slice()),
+        StmtKind::Call { name, .. } => span_of(table, name.id).widest,
+        StmtKind::If { yes, no, .. } => {
+            let yes = widest(table, yes);
+            yes.max(optional_widest(table, no))
+        }
+        StmtKind::While { body, .. } => widest(table, body),
+        StmtKind::For {
+            start,
+            step,
+            body,
+            ..
+        } => {
+            let start = optional_widest(table, start);
+            let step = optional_widest(table, step);
+            start.max(step.max(widest(table, body)))
+        }
+        StmtKind::Par { branches } => branches_widest(table, branches.as_slice()),
+        StmtKind::Abort { body, .. } => all_widest(table, body.as_slice()),
+        _ => 0,
+    }
+}
+
+#[cycle(widest)]
+fn optional_widest(table: &[Span], s: &Option<Box<Stmt>>) -> u64
+    ensures { result ≡ min (of.most_perhaps (of.words_by (of.slots_at table.now)) (counts.slots_all (of.slots_at table.now)) (of.widest_at table.now) (perhaps_of s.now)) (2 ^ 64 - 1) }
+{
+    match s {
+        None => 0,
+        Some(there) => widest(table, there),
+    }
+}
+
+#[cycle(widest)]
+fn all_widest(table: &[Span], list: &[Stmt]) -> u64
+    ensures { result ≡ min (of.most_all (of.words_by (of.slots_at table.now)) (counts.slots_all (of.slots_at table.now)) (of.widest_at table.now) (plain.statements list.now)) (2 ^ 64 - 1) }
+{
+    let mut most = 0u64;
+    for s in list {
+        most = most.max(widest(table, s));
+    }
+    most
+}
+
+#[cycle(widest)]
+fn branches_widest(table: &[Span], list: &[Branch]) -> u64
+    ensures { result ≡ min (of.most_branches (of.words_by (of.slots_at table.now)) (counts.slots_all (of.slots_at table.now)) (of.widest_at table.now) (plain.branches list.now)) (2 ^ 64 - 1) }
+{
+    let mut most = 0u64;
+    for branch in list {
+        let inside = match branch {
+            Branch::Call { name, args } => {
+                let known = span_of(table, name.id);
+                add(arguments(args.as_slice()), known.slots).max(known.widest)
+            }
+            Branch::Group { body, .. } => {
+                let body = body.as_slice();
+                let own = all_slots(table, body);
+                own.max(all_widest(table, body))
+            }
+        };
+        most = most.max(inside);
+    }
+    most
+}
+
+/// How many statements stand in one another in the deepest thread below a statement.
+#[cycle(deepest)]
+fn deepest(table: &[Span], s: &Stmt) -> u64
+    ensures { result ≡ min (of.most (of.levels_by (of.levels_at table.now)) (of.block_levels (of.levels_at table.now)) (of.deepest_at table.now) (plain.statement s.now)) (2 ^ 64 - 1) }
+{
+    match &s.what {
+        StmtKind::Group { body } => all_deepest(table, body.as_slice()),
+        StmtKind::Call { name, .. } => span_of(table, name.id).deepest,
+        StmtKind::If { yes, no, .. } => {
+            let yes = deepest(table, yes);
+            yes.max(optional_deepest(table, no))
+        }
+        StmtKind::While { body, .. } => deepest(table, body),
+        StmtKind::For {
+            start,
+            step,
+            body,
+            ..
+        } => {
+            let start = optional_deepest(table, start);
+            let step = optional_deepest(table, step);
+            start.max(step.max(deepest(table, body)))
+        }
+        StmtKind::Par { branches } => branches_deepest(table, branches.as_slice()),
+        StmtKind::Abort { body, .. } => all_deepest(table, body.as_slice()),
+        _ => 0,
+    }
+}
+
+#[cycle(deepest)]
+fn optional_deepest(table: &[Span], s: &Option<Box<Stmt>>) -> u64
+    ensures { result ≡ min (of.most_perhaps (of.levels_by (of.levels_at table.now)) (of.block_levels (of.levels_at table.now)) (of.deepest_at table.now) (perhaps_of s.now)) (2 ^ 64 - 1) }
+{
+    match s {
+        None => 0,
+        Some(there) => deepest(table, there),
+    }
+}
+
+#[cycle(deepest)]
+fn all_deepest(table: &[Span], list: &[Stmt]) -> u64
+    ensures { result ≡ min (of.most_all (of.levels_by (of.levels_at table.now)) (of.block_levels (of.levels_at table.now)) (of.deepest_at table.now) (plain.statements list.now)) (2 ^ 64 - 1) }
+{
+    let mut most = 0u64;
+    for s in list {
+        most = most.max(deepest(table, s));
+    }
+    most
+}
+
+#[cycle(deepest)]
+fn branches_deepest(table: &[Span], list: &[Branch]) -> u64
+    ensures { result ≡ min (of.most_branches (of.levels_by (of.levels_at table.now)) (of.block_levels (of.levels_at table.now)) (of.deepest_at table.now) (plain.branches list.now)) (2 ^ 64 - 1) }
+{
+    let mut most = 0u64;
+    for branch in list {
+        let inside = match branch {
+            Branch::Call { name, .. } => {
+                let known = span_of(table, name.id);
+                known.levels.max(known.deepest)
+            }
+            Branch::Group { body, .. } => {
+                let body = body.as_slice();
+                let own = block_levels(table, body);
+                own.max(all_deepest(table, body))
+            }
+        };
+        most = most.max(inside);
+    }
+    most
+}
+
+/// What is known of a function by its text, by its number.
+fn function_span(index: &Index<'_>, table: &[Span], id: u32) -> Span
+    ensures { result ≡ of.span_step capped (text_of index.now) (of.span_at table.now) id }
+{
+    match find_function(index, id) {
+        None => no_span(),
+        Some(function) => {
+            let body = function.body.as_slice();
+            Span {
+                slots: all_slots(table, body),
+                widest: all_widest(table, body),
+                levels: block_levels(table, body),
+                deepest: all_deepest(table, body),
+            }
+        }
+    }
+}
+
+fn put(table: &mut Vec<Span>, id: u32, known: Span) -> Result<(), OutOfMemory>
+    ensures { OnOk result ((h : ℕ) → of.span_at table.new.items h ≡ put_at id h known (of.span_at table.old.items h)) }
+{
+    let place = id as usize;
+    'room: while table.len() <= place {
+        table.push(no_span())?;
+    }
+    table[place] = known;
+    Ok(())
+}
+
+/// What is known of each function, each after those that it calls or starts.
+fn table_of(alloc: Global, index: &Index<'_>, order: &[u32]) -> Result<Vec<Span>, OutOfMemory>
+    requires { Settles of.no_span (of.span_step capped (text_of index.now)) (of.span_value (text_of index.now)) order.now }
+    ensures { IfOk result (λ table. (id : ℕ) → of.span_at table.items id ≡ of.span_value (text_of index.now) id) }
+{
+    let mut table = Vec::new(alloc);
+    for f in order {
+        let known = function_span(index, &table, *f);
+        put(&mut table, *f, known)?;
+    }
+    Ok(table)
+}
+
+/// What is known of the functions of a program in which none reaches itself by statements and branches.
+pub fn spans(alloc: Global, index: &Index<'_>) -> Result<Vec<Span>, OutOfMemory>
+    requires { (f : ℕ) → Leads (starts (text_of index.now)) f f → ⊥ }
+    ensures { IfOk result (λ table. (id : ℕ) → of.span_at table.items id ≡ of.span_value (text_of index.now) id) }
+{
+    let calls = read_calls(alloc, index)?;
+    let order = order(alloc, &calls.functions, &calls.lists)?;
+    let table = table_of(alloc, index, &order)?;
+    Ok(table)
+}
