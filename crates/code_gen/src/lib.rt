@@ -15,5 +15,3 @@ mod writing;
 
 pub use generator::generate;
 
-#[cfg(test)]
-mod tests;

@@ -5,8 +5,6 @@
 mod joining;
 mod laws;
 mod packet;
-#[cfg(test)]
-mod tests;
 
 pub use joining::{Joining, take_part};
 pub use laws::joins_combine_as_defined;

@@ -8,8 +8,6 @@ mod make;
 mod port;
 mod rule;
 mod steps;
-#[cfg(test)]
-mod tests;
 mod view;
 mod work;
 

@@ -4,8 +4,6 @@
 mod fault;
 mod list;
 mod placement;
-#[cfg(test)]
-mod tests;
 
 pub use fault::PlaceFault;
 pub use list::given;

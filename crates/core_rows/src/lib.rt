@@ -2,12 +2,22 @@
 #![tactic(auto)]
 
 #[cfg(test)]
+mod combined;
+#[cfg(test)]
 mod folding;
 #[cfg(test)]
 mod forked;
+#[cfg(test)]
+mod generated;
 #[cfg(test)]
 mod hosting;
 #[cfg(test)]
 mod jobs;
 #[cfg(test)]
 mod joining;
+#[cfg(test)]
+mod listed;
+#[cfg(test)]
+mod mailbox;
+#[cfg(test)]
+mod placed;

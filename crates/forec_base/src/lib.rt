@@ -8,8 +8,6 @@ mod memory;
 mod named;
 mod operators;
 mod outside;
-#[cfg(test)]
-mod tests;
 
 pub use arithmetic::{binary, unary};
 pub use labels::{Labels, OutOfMemory};

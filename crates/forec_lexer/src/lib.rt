@@ -9,8 +9,6 @@ mod marks;
 mod names;
 mod numbers;
 mod pieces;
-#[cfg(test)]
-mod tests;
 mod text;
 mod words;
 

@@ -11,3 +11,5 @@ mod gate;
 mod memory;
 #[cfg(test)]
 mod one_thread;
+#[cfg(test)]
+mod rows;

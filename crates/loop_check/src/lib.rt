@@ -13,8 +13,6 @@ mod runs;
 mod search;
 mod starts;
 mod table;
-#[cfg(test)]
-mod tests;
 mod touch;
 
 pub use graph::{is_waiting, marked, order};

@@ -2,6 +2,12 @@
 #![tactic(auto)]
 
 #[cfg(test)]
+mod base;
+#[cfg(test)]
 mod checked;
+#[cfg(test)]
+mod lexed;
+#[cfg(test)]
+mod loops;
 #[cfg(test)]
 mod parsed;

@@ -8,8 +8,6 @@ mod fused;
 mod instruction;
 mod laws;
 mod printing;
-#[cfg(test)]
-mod tests;
 
 pub use code::Code;
 pub use fused::Fused;

@@ -15,8 +15,6 @@ mod lines;
 mod numbers;
 mod rows;
 mod steps;
-#[cfg(test)]
-mod tests;
 mod tick_line;
 mod values;
 mod words;

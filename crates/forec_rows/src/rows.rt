@@ -1,0 +1,247 @@
+// Worked traces, out of sources in memory that give their bytes in pieces, and worked lines.
+ghost use Rattle.std.specs.Prelude.{◌≡◌, ◌≤◌, length, IfOk};
+
+use trace_rows::{Next, RowFault, Rows, line, line_room};
+use forec_base::{Labels, MemSource, OutOfMemory};
+use std::alloc::Global;
+use std::process::Abort;
+use std::test::Fail;
+
+// What a trace of the inputs `a` and `b` is to give: the values of its rows, one behind the other, and the last answer.
+const TWO: [(&[u8], &[i32], Result<Next, RowFault>); 31] = [
+    (b"", &[], Err(RowFault::Bad)),
+    (b"\n1 2\n", &[], Err(RowFault::Bad)),
+    (b"a\n1\n", &[], Err(RowFault::Bad)),
+    (b"a a\n", &[], Err(RowFault::Bad)),
+    (b"a b a\n", &[], Err(RowFault::Bad)),
+    (b"a b c\n", &[], Err(RowFault::Bad)),
+    (b"a c\n", &[], Err(RowFault::Bad)),
+    (b"A b\n", &[], Err(RowFault::Bad)),
+    (b"a\0b\n", &[], Err(RowFault::Bad)),
+    (b"a b\xff\n", &[], Err(RowFault::Bad)),
+    (b"a b", &[], Ok(Next::End)),
+    (b" b\ta \r\n", &[], Ok(Next::End)),
+    (b"b a\n3 5\n3\n", &[5, 3], Err(RowFault::Bad)),
+    (b"b a\n 3\t5\r\n-1  0", &[5, 3, 0, -1], Ok(Next::End)),
+    (b"b a\n3 5\n3 ", &[5, 3], Err(RowFault::Bad)),
+    (b"b a\n3 5\n\n", &[5, 3], Err(RowFault::Bad)),
+    (b"a b\n1 2 3\n", &[], Err(RowFault::Bad)),
+    (b"a b\n007 -0\n", &[7, 0], Ok(Next::End)),
+    (
+        b"a b\n-2147483648 2147483647\n",
+        &[i32::MIN, i32::MAX],
+        Ok(Next::End),
+    ),
+    (b"a b\n1 2147483648\n", &[], Err(RowFault::Bad)),
+    (b"a b\n-2147483649 1\n", &[], Err(RowFault::Bad)),
+    (b"a b\n00000000000000000007 1\n", &[7, 1], Ok(Next::End)),
+    (b"a b\n18446744073709551617 1\n", &[], Err(RowFault::Bad)),
+    (b"a b\n+1 2\n", &[], Err(RowFault::Bad)),
+    (b"a b\n--1 2\n", &[], Err(RowFault::Bad)),
+    (b"a b\n- 2\n", &[], Err(RowFault::Bad)),
+    (b"a b\n1- 2\n", &[], Err(RowFault::Bad)),
+    (b"a b\n1,2\n", &[], Err(RowFault::Bad)),
+    (b"a b\n1\0 2\n", &[], Err(RowFault::Bad)),
+    (b"a b\n1 \xb2\n", &[], Err(RowFault::Bad)),
+    (b"a b\n1\x0b2\n", &[], Err(RowFault::Bad)),
+];
+
+// How many rows a trace of no inputs and at most two rows is to give, and the last answer.
+const NONE: [(&[u8], u32, Result<Next, RowFault>); 7] = [
+    (b"", 0, Err(RowFault::Bad)),
+    (b"\n", 0, Ok(Next::End)),
+    (b"\n \n\t\r\n", 2, Ok(Next::End)),
+    (b"\n\n\n\n", 2, Err(RowFault::Many)),
+    (b"\n\n\nx", 2, Err(RowFault::Many)),
+    (b"\n\nx\n", 1, Err(RowFault::Bad)),
+    (b"x\n", 0, Err(RowFault::Bad)),
+];
+
+// What the calls on a trace gave.
+#[derive(Drop)]
+struct Given {
+    rows: u32,
+    values: Vec<i32>,
+    last: Result<Next, RowFault>,
+    live: bool,
+}
+
+// Reads at most nine rows.
+fn read(
+    alloc: Global,
+    inputs: &Labels,
+    limit: u64,
+    source: &mut MemSource,
+    row: &mut [i32],
+) -> Result<Given, OutOfMemory>
+    requires { length row.old ≡ length inputs.now }
+{
+    let mut values = Vec::new(alloc);
+    let mut rows = match Rows::start(alloc, source, inputs, limit) {
+        Ok(rows) => rows,
+        Err(fault) => {
+            return Ok(Given {
+                rows: 0,
+                values,
+                last: Err(fault),
+                live: false,
+            });
+        }
+    };
+    let mut last = Ok(Next::Row);
+    let mut count = 0u32;
+    'rows: for _ in 0..9 {
+        last = rows.next(source, row);
+        if last != Ok(Next::Row) {
+            break;
+        }
+        values.extend_from_slice(row)?;
+        count = count.saturating_add(1);
+    }
+    Ok(Given {
+        rows: count,
+        values,
+        last,
+        live: rows.live(),
+    })
+}
+
+// The same of bytes that come in pieces of a size, where the read of number `fails` does.
+fn read_pieces(
+    alloc: Global,
+    inputs: &Labels,
+    trace: &[u8],
+    size: usize,
+    fails: u64,
+    row: &mut [i32],
+) -> Result<Given, OutOfMemory>
+    requires row { length row.old ≡ length inputs.now }
+    requires size { 1 ≤ size }
+{
+    let bytes = trace.to_vec(alloc)?;
+    let mut source = MemSource::pieces(bytes, vec![in alloc; fails]?, size);
+    read(alloc, inputs, 2, &mut source, row)
+}
+
+fn two_inputs(alloc: Global) -> Result<Labels, OutOfMemory>
+    ensures { IfOk result (λ l. length l ≡ 2) }
+{
+    let mut inputs = Labels::new(alloc)?;
+    inputs.push("a")?;
+    inputs.push("b")?;
+    Ok(inputs)
+}
+
+#[test]
+fn rows_of_two_inputs(rt: HostRuntime) -> Result<(), Fail> {
+    let alloc = rt.alloc();
+    let Ok(inputs) = two_inputs(alloc) else {
+        return Ok(assert!(rt; false));
+    };
+    for (trace, values, last) in TWO {
+        for size in [1, 3, 1000] {
+            let Ok(given) = read_pieces(alloc, &inputs, trace, size, 0, &mut [0, 0]) else {
+                return Ok(assert!(rt; false));
+            };
+            assert_eq!(rt; given.values.as_slice(), values, "{trace:?}");
+            assert_eq!(rt; given.last, last, "{trace:?}");
+            assert!(rt; !given.live);
+        }
+    }
+    Ok(())
+}
+
+#[test]
+fn rows_without_inputs(rt: HostRuntime) -> Result<(), Fail> {
+    let alloc = rt.alloc();
+    let Ok(inputs) = Labels::new(alloc) else {
+        return Ok(assert!(rt; false));
+    };
+    for (trace, rows, last) in NONE {
+        for size in [1, 2, 1000] {
+            let Ok(given) = read_pieces(alloc, &inputs, trace, size, 0, &mut []) else {
+                return Ok(assert!(rt; false));
+            };
+            assert_eq!(rt; given.rows, rows, "{trace:?}");
+            assert_eq!(rt; given.last, last, "{trace:?}");
+        }
+    }
+    Ok(())
+}
+
+// How a header of so many spaces is answered.
+fn spaces(alloc: Global, count: usize, size: usize) -> Result<Given, OutOfMemory>
+    requires { 1 ≤ size }
+{
+    let inputs = Labels::new(alloc)?;
+    let mut trace = vec![in alloc; 32u8; count]?;
+    trace.push(10)?;
+    read_pieces(alloc, &inputs, &trace, size, 0, &mut [])
+}
+
+#[test]
+fn long_lines(rt: HostRuntime) -> Result<(), Fail> {
+    let alloc = rt.alloc();
+    for size in [100, 100_000] {
+        let Ok(longest) = spaces(alloc, 8192, size) else {
+            return Ok(assert!(rt; false));
+        };
+        assert_eq!(rt; longest.last, Ok(Next::End));
+        let Ok(long) = spaces(alloc, 8193, size) else {
+            return Ok(assert!(rt; false));
+        };
+        assert_eq!(rt; long.last, Err(RowFault::Long));
+    }
+    Ok(())
+}
+
+// Rows that came whole are given before the fault; behind the end no read is made.
+#[test]
+fn reads_that_fail(rt: HostRuntime) -> Result<(), Fail> {
+    let alloc = rt.alloc();
+    let Ok(inputs) = two_inputs(alloc) else {
+        return Ok(assert!(rt; false));
+    };
+    let table: [(usize, u64, &[i32], Result<Next, RowFault>); 9] = [
+        (1, 1, &[], Err(RowFault::ReadFault)),
+        (1, 4, &[], Err(RowFault::ReadFault)),
+        (1, 5, &[], Err(RowFault::ReadFault)),
+        (1, 8, &[], Err(RowFault::ReadFault)),
+        (1, 9, &[1, 2], Err(RowFault::ReadFault)),
+        (1, 12, &[1, 2], Err(RowFault::ReadFault)),
+        (1, 13, &[1, 2, 3, 4], Err(RowFault::ReadFault)),
+        (1, 14, &[1, 2, 3, 4], Ok(Next::End)),
+        (1000, 2, &[1, 2, 3, 4], Err(RowFault::ReadFault)),
+    ];
+    for (size, fails, values, last) in table {
+        let Ok(given) = read_pieces(alloc, &inputs, b"a b\n1 2\n3 4\n", size, fails, &mut [0, 0])
+        else {
+            return Ok(assert!(rt; false));
+        };
+        assert_eq!(rt; given.values.as_slice(), values, "{fails}");
+        assert_eq!(rt; given.last, last, "{fails}");
+        assert!(rt; !given.live);
+    }
+    Ok(())
+}
+
+#[test]
+fn lines(rt: HostRuntime) -> Result<(), Fail> {
+    let alloc = rt.alloc();
+    let Ok(names) = two_inputs(alloc) else {
+        return Ok(assert!(rt; false));
+    };
+    assert_eq!(rt; line_room(&names), 54);
+    let mut buffer = [0; 54];
+    let count = line(u64::MAX, &names, &[i32::MIN, 0], &mut buffer);
+    assert_eq!(rt;
+        &buffer[..count],
+        b"tick 18446744073709551615 a=-2147483648 b=0\n".as_slice()
+    );
+    let Ok(none) = Labels::new(alloc) else {
+        return Ok(assert!(rt; false));
+    };
+    let count = line(1, &none, &[], &mut buffer);
+    assert_eq!(rt; &buffer[..count], b"tick 1\n".as_slice());
+    Ok(())
+}
