@@ -9,7 +9,7 @@ ghost use Rattle.core_machine.specs.Forks.{IsReplyKind};
 ghost use Rattle.core_machine.specs.Held.{Loaded, CanRun, IsResting, HasReply, HasPaused, HasSettled, HasJoined};
 ghost use Rattle.combine_tree.specs.declared.packet.PacketKind.TheVariants as kind;
 
-use crate::forked::forks;
+use crate::compiled::compiled;
 use combine_tree::{Packet, PacketKind};
 use core_machine::{Event, Thread};
 use forec_base::{OutOfMemory, Place, Trap};
@@ -17,6 +17,15 @@ use forec_kernel::VarCopy;
 use std::alloc::Global;
 use std::test::Fail;
 use thread_code::Code;
+
+const FORKS: &[u8] = b"shared int a combine all with minus;
+shared int b combine new with quotient;
+shared int c combine mod with minus;
+int minus(int x, int y) { return x - y; }
+int quotient(int x, int y) { return x / y; }
+void branch(void) { a = b; b = c; c = a; }
+void main(void) { par(branch, branch, branch); }
+";
 
 /// Whether the packet has that thread's room.
 fn has_room(code: &Code, thread: u32, packet: &Packet) -> bool
@@ -200,6 +209,18 @@ fn play_one(thread: &mut Thread, code: &Code, a: &Packet) -> bool
     join(thread, code, 0, a)
 }
 
+/// Thread 0, which was never started.
+fn first_thread(alloc: Global, code: &Code) -> Result<Thread, OutOfMemory>
+    ensures loaded { IfOk result (λ h. Loaded (plain_code code.now) h) }
+    ensures number { IfOk result (λ h. h.number ≡ 0) }
+    ensures resting { IfOk result (λ h. IsResting h) }
+{
+    if code.parts().threads.is_empty() {
+        return Err(OutOfMemory);
+    }
+    Thread::load(alloc, code, 0)
+}
+
 /// Begins a job where the packet has the thread's room.
 fn begins(thread: &mut Thread, code: &Code, packet: &Packet) -> bool
     requires loaded { Loaded (plain_code code.now) thread.old }
@@ -282,10 +303,8 @@ fn start() -> Row
 
 /// A job is started, the three branches of its fork answer by the rows, and the thread goes on to its own
 /// reply.
-fn scenario(alloc: Global, code: &Code, rows: &[Row; 3]) -> Result<Option<Row>, OutOfMemory>
-    requires { 0 < length (plain_code code.now).threads }
-{
-    let mut thread = Thread::load(alloc, code, 0)?;
+fn scenario(alloc: Global, code: &Code, rows: &[Row; 3]) -> Result<Option<Row>, OutOfMemory> {
+    let mut thread = first_thread(alloc, code)?;
     let mut packet = packet_of(alloc, &start())?;
     let a = packet_of(alloc, &rows[0])?;
     let b = packet_of(alloc, &rows[1])?;
@@ -329,7 +348,7 @@ fn trapped(line: u32, trap: Trap) -> PacketKind {
 /// was assigned.
 #[test]
 fn combines(rt: HostRuntime) -> Result<(), Fail> {
-    let code = forks(rt.alloc())?;
+    let code = compiled(rt.alloc(), FORKS)?;
     let a = ended(2, [(10, false), (1, false), (7, false)]);
     let b = ended(2, [(3, false), (8, false), (9, true)]);
     let c = ended(2, [(2, false), (4, false), (7, false)]);
@@ -340,7 +359,10 @@ fn combines(rt: HostRuntime) -> Result<(), Fail> {
     let zero = ended(2, [(2, false), (0, false), (7, false)]);
     let rows = [a, b, zero];
     let reply = scenario(rt.alloc(), &code, &rows)?;
-    let place = Place { line: 9, column: 3 };
+    let place = Place {
+        line: 5,
+        column: 39,
+    };
     let kind = PacketKind::Trapped {
         place,
         trap: Trap::Divide,
@@ -352,7 +374,7 @@ fn combines(rt: HostRuntime) -> Result<(), Fail> {
 /// What a branch tells is told, and nothing is combined.
 #[test]
 fn tells(rt: HostRuntime) -> Result<(), Fail> {
-    let code = forks(rt.alloc())?;
+    let code = compiled(rt.alloc(), FORKS)?;
     let ends = told(PacketKind::Ended);
     let index = trapped(5, Trap::Index);
     let turns = trapped(6, Trap::Turns);
@@ -372,8 +394,8 @@ fn tells(rt: HostRuntime) -> Result<(), Fail> {
 /// The branches get their jobs; those that live after a pause are woken in the next job.
 #[test]
 fn asks_and_wakes(rt: HostRuntime) -> Result<(), Fail> {
-    let code = forks(rt.alloc())?;
-    let mut thread = Thread::load(rt.alloc(), &code, 0)?;
+    let code = compiled(rt.alloc(), FORKS)?;
+    let mut thread = first_thread(rt.alloc(), &code)?;
     let mut packet = packet_of(rt.alloc(), &start())?;
     let mut job = packet_of(rt.alloc(), &start())?;
     let ends = packet_of(rt.alloc(), &ended(2, [(10, false), (1, false), (7, false)]))?;
