@@ -1,9 +1,7 @@
 // Aborts, strong and weak, immediate or not, in one another and round branches.
 
-use crate::memory::{counts, prints, run, whole};
+use crate::memory::{Row, counts, print};
 use forec_engine::Status;
-use std::alloc::Global;
-use std::process::Abort;
 use std::test::Fail;
 
 const STRONG: &[u8] =
@@ -38,58 +36,7 @@ void b(void) { s = 2; pause; s = 20; pause; s = 200; pause; }
 void main(void) { while (1) { weak abort { par(a, b); } when (r); pause; } }
 ";
 
-#[test]
-fn aborts(rt: HostRuntime) -> Result<(), Fail> {
-    let alloc = rt.alloc();
-    for (text, trace, want, status) in [
-        (
-            STRONG,
-            b"r\n0\n0\n1\n0\n".as_slice(),
-            b"tick 1 o=1\ntick 2 o=2\ntick 3 o=102\ntick 4 o=103\nrows 4\n".as_slice(),
-            Status::Done,
-        ),
-        (
-            WEAK,
-            b"r\n0\n0\n1\n0\n",
-            b"tick 1 o=1\ntick 2 o=2\ntick 3 o=103\ntick 4 o=104\nrows 4\n",
-            Status::Done,
-        ),
-        (
-            STRONG_IMMEDIATE,
-            b"r\n1\n",
-            b"tick 1 o=100\nrows 1\n",
-            Status::Done,
-        ),
-        (
-            WEAK_IMMEDIATE,
-            b"r\n1\n0\n",
-            b"tick 1 o=101\ntick 2 o=102\nrows 2\n",
-            Status::Done,
-        ),
-        (
-            NESTED,
-            b"q p\n0 0\n1 0\n0 0\n0 0\n1 1\n",
-            b"tick 1 o=1\ntick 2 o=12\ntick 3 o=112\ntick 4 o=113\ntick 5 o=213\nrows 5\n",
-            Status::Done,
-        ),
-        (
-            TRAPS,
-            b"q p\n0 0\n0 0\n",
-            b"tick 1\ntrap 2 4:10 divide\n",
-            Status::Trapped,
-        ),
-        (
-            LEAVES,
-            b"r\n0\n1\n0\n0\n",
-            b"tick 1 s=3\ntick 2 s=30\ntick 3 s=3\ntick 4 s=30\nrows 4\n",
-            Status::Done,
-        ),
-    ] {
-        prints(&rt, alloc, text, trace, want, status)?;
-    }
-    Ok(())
-}
-
+// Two sensors and two motors, each a thread, and an emergency stop.
 const ROBOT: &[u8] = b"/* Two distance sensors, two motors, an emergency stop. */
 input int left, right, stop;
 shared output int motor_l = 0 combine mod with lower;
@@ -168,20 +115,55 @@ tick 6 motor_l=45 motor_r=45 alarm=1
 rows 6
 ";
 
-// Two sensors and two motors, each a thread, and an emergency stop.
-#[test]
-fn robot(rt: HostRuntime) -> Result<(), Fail> {
-    let alloc = rt.alloc();
-    prints(&rt, alloc, ROBOT, DRIVE, DRIVEN, Status::Done)?;
-    counts(
-        &rt,
-        alloc,
-        ROBOT,
-        b"ok threads 5 inputs 3 outputs 3\n",
+const ABORTS: [Row; 8] = [
+    (
+        STRONG,
+        b"r\n0\n0\n1\n0\n",
+        b"tick 1 o=1\ntick 2 o=2\ntick 3 o=102\ntick 4 o=103\nrows 4\n",
         Status::Done,
-    )?;
-    let end = run(&rt, alloc, &["code", "P"], ROBOT, b"", whole(alloc))?;
-    assert!(rt; end.held.starts_with(b"thread 0\n"));
-    assert_eq!(rt; end.status, Status::Done);
-    Ok(())
+    ),
+    (
+        WEAK,
+        b"r\n0\n0\n1\n0\n",
+        b"tick 1 o=1\ntick 2 o=2\ntick 3 o=103\ntick 4 o=104\nrows 4\n",
+        Status::Done,
+    ),
+    (
+        STRONG_IMMEDIATE,
+        b"r\n1\n",
+        b"tick 1 o=100\nrows 1\n",
+        Status::Done,
+    ),
+    (
+        WEAK_IMMEDIATE,
+        b"r\n1\n0\n",
+        b"tick 1 o=101\ntick 2 o=102\nrows 2\n",
+        Status::Done,
+    ),
+    (
+        NESTED,
+        b"q p\n0 0\n1 0\n0 0\n0 0\n1 1\n",
+        b"tick 1 o=1\ntick 2 o=12\ntick 3 o=112\ntick 4 o=113\ntick 5 o=213\nrows 5\n",
+        Status::Done,
+    ),
+    (
+        TRAPS,
+        b"q p\n0 0\n0 0\n",
+        b"tick 1\ntrap 2 4:10 divide\n",
+        Status::Trapped,
+    ),
+    (
+        LEAVES,
+        b"r\n0\n1\n0\n0\n",
+        b"tick 1 s=3\ntick 2 s=30\ntick 3 s=3\ntick 4 s=30\nrows 4\n",
+        Status::Done,
+    ),
+    (ROBOT, DRIVE, DRIVEN, Status::Done),
+];
+
+#[test]
+fn aborts(rt: HostRuntime) -> Result<(), Fail> {
+    print(&rt, rt.alloc(), &ABORTS)?;
+    let want = b"ok threads 5 inputs 3 outputs 3\n";
+    counts(&rt, rt.alloc(), ROBOT, (want, Status::Done))
 }

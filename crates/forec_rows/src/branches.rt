@@ -1,9 +1,7 @@
 // Threads that run side by side, and shared variables that are combined.
 
-use crate::memory::{counts, prints};
+use crate::memory::{Row, counts, print};
 use forec_engine::Status;
-use std::alloc::Global;
-use std::process::Abort;
 use std::test::Fail;
 
 // Two branches set the shared output in two ticks.
@@ -61,38 +59,6 @@ void b(void) { s = 2 / s; }
 void main(void) { par(a, b); }
 ";
 
-#[test]
-fn branches(rt: HostRuntime) -> Result<(), Fail> {
-    let alloc = rt.alloc();
-    for (text, trace, want, status) in [
-        (
-            ALL,
-            b"\n\n\n".as_slice(),
-            b"tick 1 s=5\ntick 2 s=10\nend 2\n".as_slice(),
-            Status::Done,
-        ),
-        (
-            NEW,
-            b"\n\n\n",
-            b"tick 1 s=5\ntick 2 s=5\nend 2\n",
-            Status::Done,
-        ),
-        (
-            MOD,
-            b"\n\n\n",
-            b"tick 1 s=5\ntick 2 s=5\nend 2\n",
-            Status::Done,
-        ),
-        (MINUS, b"\n\n", b"tick 1 s=5\nend 1\n", Status::Done),
-        (NESTED, b"\n\n", b"tick 1 s=21\nend 1\n", Status::Done),
-        (AGAIN, b"\n\n", b"tick 1 s=14\nend 1\n", Status::Done),
-        (DIVIDES, b"\n\n", b"trap 1 3:22 divide\n", Status::Trapped),
-    ] {
-        prints(&rt, alloc, text, trace, want, status)?;
-    }
-    Ok(())
-}
-
 // Each function starts the next one twice: 510 branches.
 const EIGHT_LEVELS: &[u8] = b"void t8(void) { }
 void t7(void) { par(t8, t8); }
@@ -116,30 +82,41 @@ void t1(void) { par(t2, t2); }
 void main(void) { par(t1, t1); }
 ";
 
-#[test]
-fn many_threads(rt: HostRuntime) -> Result<(), Fail> {
-    let alloc = rt.alloc();
-    prints(
-        &rt,
-        alloc,
+const BRANCHES: [Row; 9] = [
+    (
+        ALL,
+        b"\n\n\n",
+        b"tick 1 s=5\ntick 2 s=10\nend 2\n",
+        Status::Done,
+    ),
+    (
+        NEW,
+        b"\n\n\n",
+        b"tick 1 s=5\ntick 2 s=5\nend 2\n",
+        Status::Done,
+    ),
+    (
+        MOD,
+        b"\n\n\n",
+        b"tick 1 s=5\ntick 2 s=5\nend 2\n",
+        Status::Done,
+    ),
+    (MINUS, b"\n\n", b"tick 1 s=5\nend 1\n", Status::Done),
+    (NESTED, b"\n\n", b"tick 1 s=21\nend 1\n", Status::Done),
+    (AGAIN, b"\n\n", b"tick 1 s=14\nend 1\n", Status::Done),
+    (DIVIDES, b"\n\n", b"trap 1 3:22 divide\n", Status::Trapped),
+    (
         EIGHT_LEVELS,
         b"\n\n",
         b"refused limit threads 256\n",
         Status::Refused,
-    )?;
-    prints(
-        &rt,
-        alloc,
-        SEVEN_LEVELS,
-        b"\n\n",
-        b"tick 1\nend 1\n",
-        Status::Done,
-    )?;
-    counts(
-        &rt,
-        alloc,
-        SEVEN_LEVELS,
-        b"ok threads 255 inputs 0 outputs 0\n",
-        Status::Done,
-    )
+    ),
+    (SEVEN_LEVELS, b"\n\n", b"tick 1\nend 1\n", Status::Done),
+];
+
+#[test]
+fn branches(rt: HostRuntime) -> Result<(), Fail> {
+    print(&rt, rt.alloc(), &BRANCHES)?;
+    let want = b"ok threads 255 inputs 0 outputs 0\n";
+    counts(&rt, rt.alloc(), SEVEN_LEVELS, (want, Status::Done))
 }

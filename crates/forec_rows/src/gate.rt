@@ -46,9 +46,10 @@ fn each_job_passes_the_gate(rt: HostRuntime) -> Result<(), Fail> {
         whole(alloc),
         &gate,
     )?;
-    assert_eq!(rt; end.held.as_slice(), b"tick 1\ntick 2\nend 2\n".as_slice());
-    assert_eq!(rt; end.status, Status::Done);
-    assert_eq!(rt; gate.begun.load(Ordering::SeqCst), 4);
-    assert_eq!(rt; gate.answered.load(Ordering::SeqCst), 4);
+    let report = b"tick 1\ntick 2\nend 2\n".as_slice();
+    assert_eq!(rt; (end.held.as_slice(), end.status), (report, Status::Done));
+    let begun = gate.begun.load(Ordering::SeqCst);
+    let answered = gate.answered.load(Ordering::SeqCst);
+    assert_eq!(rt; (begun, answered), (4, 4));
     Ok(())
 }

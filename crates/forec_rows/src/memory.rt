@@ -84,33 +84,40 @@ pub fn run_past<G: Gate>(
     })
 }
 
-/// Runs a text over a trace, once by large pieces and once by single bytes: each time this is held in the end.
-pub fn prints(
+/// Runs words over a store with one text, named `P`: this is held in the end, and this is the status.
+pub fn shows(
     rt: &impl Abort,
     alloc: Global,
+    words: &[&str],
     text: &[u8],
     trace: &[u8],
-    want: &[u8],
-    status: Status,
+    streams: Streams,
+    want: (&[u8], Status),
 ) -> Result<(), Fail> {
-    for streams in [whole(alloc), single(alloc, 0, 0)?] {
-        let end = run(rt, alloc, &["run", "P"], text, trace, streams)?;
-        assert_eq!(rt; end.held.as_slice(), want);
-        assert_eq!(rt; end.status, status);
+    let end = run(rt, alloc, words, text, trace, streams)?;
+    assert_eq!(rt; (end.held.as_slice(), end.status), want);
+    Ok(())
+}
+
+/// A text, a trace, what is held in the end, and the status.
+pub type Row = (&'static [u8], &'static [u8], &'static [u8], Status);
+
+/// Runs the text of each row over its trace, once by large pieces and once by single bytes.
+pub fn print(rt: &impl Abort, alloc: Global, rows: &[Row]) -> Result<(), Fail> {
+    for (text, trace, want, status) in rows {
+        for streams in [whole(alloc), single(alloc, 0, 0)?] {
+            shows(rt, alloc, &["run", "P"], text, trace, streams, (want, *status))?;
+        }
     }
     Ok(())
 }
 
-/// Judges a text: this is held in the end.
+/// Judges a text: this is held in the end. The trace would fail at its first read.
 pub fn counts(
     rt: &impl Abort,
     alloc: Global,
     text: &[u8],
-    want: &[u8],
-    status: Status,
+    want: (&[u8], Status),
 ) -> Result<(), Fail> {
-    let end = run(rt, alloc, &["check", "P"], text, b"", single(alloc, 1, 0)?)?;
-    assert_eq!(rt; end.held.as_slice(), want);
-    assert_eq!(rt; end.status, status);
-    Ok(())
+    shows(rt, alloc, &["check", "P"], text, b"", single(alloc, 1, 0)?, want)
 }

@@ -1,9 +1,7 @@
 // Programs of one thread, the words, the sizes, and how it ends where streams fail.
 
-use crate::memory::{counts, prints, run, single, whole};
+use crate::memory::{Row, counts, print, run, shows, single, whole};
 use forec_engine::Status;
-use std::alloc::Global;
-use std::process::Abort;
 use std::test::Fail;
 
 // One output, which a loop raises in each tick.
@@ -33,284 +31,240 @@ const NUMBERS: &[u8] =
 const FACTORIAL: &[u8] =
     b"int f(int n) { int r = 1; for (int i = 2; i <= n; i++) #20 { r *= i; } return r; } output int o = 0; void main(void) { o = f(13); }";
 
+const ROWS: [Row; 23] = [
+    (
+        COUNTER,
+        b"\n\n\n",
+        b"tick 1 o=1\ntick 2 o=2\nrows 2\n",
+        Status::Done,
+    ),
+    (COUNTER, b"", b"row 0 bad\n", Status::Trace),
+    (COUNTER, b"\n", b"rows 0\n", Status::Done),
+    (COUNTER, b"\n \n", b"tick 1 o=1\nrows 1\n", Status::Done),
+    (
+        COUNTER,
+        b"\n\n ",
+        b"tick 1 o=1\ntick 2 o=2\nrows 2\n",
+        Status::Done,
+    ),
+    (COUNTER, b"a\n", b"row 0 bad\n", Status::Trace),
+    (COUNTER, b"\n\n1", b"tick 1 o=1\nrow 2 bad\n", Status::Trace),
+    (TURNS, b"\n\n", b"trap 1 1:48 turns\n", Status::Trapped),
+    (
+        DIFFERENCE,
+        b"b a\n3 5\n3\n",
+        b"tick 1 o=2\nrow 2 bad\n",
+        Status::Trace,
+    ),
+    (
+        DIFFERENCE,
+        b"b a\n1 2147483648\n",
+        b"row 1 bad\n",
+        Status::Trace,
+    ),
+    (DIFFERENCE, b"a a\n", b"row 0 bad\n", Status::Trace),
+    (
+        DIFFERENCE,
+        b"b a\n 3\t5\r\n-1  0",
+        b"tick 1 o=2\ntick 2 o=1\nrows 2\n",
+        Status::Done,
+    ),
+    (
+        NUMBERS,
+        b"\n\n\n\n\n",
+        b"tick 1 o=-2147483648\ntick 2 o=2\ntick 3 o=-3\ntick 4 o=-1\nend 4\n",
+        Status::Done,
+    ),
+    (
+        b"void main(void) { int a[3]; a[3] = 1; }",
+        b"\n\n",
+        b"trap 1 1:29 index\n",
+        Status::Trapped,
+    ),
+    (
+        b"void main(void) { int a[3]; a[2] = 1; }",
+        b"\n\n",
+        b"tick 1\nend 1\n",
+        Status::Done,
+    ),
+    (
+        FACTORIAL,
+        b"\n\n",
+        b"tick 1 o=1932053504\nend 1\n",
+        Status::Done,
+    ),
+    (
+        b"void main(void) { int a[65536]; int b; }",
+        b"\n\n",
+        b"refused limit words 65536\n",
+        Status::Refused,
+    ),
+    (
+        WRAPS,
+        b"\n\n",
+        b"tick 1 o=-2147483648\nend 1\n",
+        Status::Done,
+    ),
+    (HEXADECIMAL, b"\n\n", b"tick 1 o=1\nrows 1\n", Status::Done),
+    (b"", b"", b"refused 1:1 rule 3\n", Status::Refused),
+    (
+        b"output int o = 0; void main(void) { o = ; }",
+        b"",
+        b"refused syntax\n",
+        Status::Refused,
+    ),
+    (b"int @", b"", b"refused 1:5 lex\n", Status::Refused),
+    (b"/* a", b"", b"refused 1:1 lex\n", Status::Refused),
+];
+
 #[test]
 fn rows(rt: HostRuntime) -> Result<(), Fail> {
-    let alloc = rt.alloc();
-    for (text, trace, want, status) in [
-        (
-            COUNTER,
-            b"\n\n\n".as_slice(),
-            b"tick 1 o=1\ntick 2 o=2\nrows 2\n".as_slice(),
-            Status::Done,
-        ),
-        (COUNTER, b"", b"row 0 bad\n", Status::Trace),
-        (COUNTER, b"\n", b"rows 0\n", Status::Done),
-        (COUNTER, b"\n \n", b"tick 1 o=1\nrows 1\n", Status::Done),
-        (
-            COUNTER,
-            b"\n\n ",
-            b"tick 1 o=1\ntick 2 o=2\nrows 2\n",
-            Status::Done,
-        ),
-        (COUNTER, b"a\n", b"row 0 bad\n", Status::Trace),
-        (COUNTER, b"\n\n1", b"tick 1 o=1\nrow 2 bad\n", Status::Trace),
-        (TURNS, b"\n\n", b"trap 1 1:48 turns\n", Status::Trapped),
-        (
-            DIFFERENCE,
-            b"b a\n3 5\n3\n",
-            b"tick 1 o=2\nrow 2 bad\n",
-            Status::Trace,
-        ),
-        (
-            DIFFERENCE,
-            b"b a\n1 2147483648\n",
-            b"row 1 bad\n",
-            Status::Trace,
-        ),
-        (DIFFERENCE, b"a a\n", b"row 0 bad\n", Status::Trace),
-        (
-            DIFFERENCE,
-            b"b a\n 3\t5\r\n-1  0",
-            b"tick 1 o=2\ntick 2 o=1\nrows 2\n",
-            Status::Done,
-        ),
-        (
-            NUMBERS,
-            b"\n\n\n\n\n",
-            b"tick 1 o=-2147483648\ntick 2 o=2\ntick 3 o=-3\ntick 4 o=-1\nend 4\n",
-            Status::Done,
-        ),
-        (
-            b"void main(void) { int a[3]; a[3] = 1; }",
-            b"\n\n",
-            b"trap 1 1:29 index\n",
-            Status::Trapped,
-        ),
-        (
-            b"void main(void) { int a[3]; a[2] = 1; }",
-            b"\n\n",
-            b"tick 1\nend 1\n",
-            Status::Done,
-        ),
-        (
-            FACTORIAL,
-            b"\n\n",
-            b"tick 1 o=1932053504\nend 1\n",
-            Status::Done,
-        ),
-        (
-            b"void main(void) { int a[65536]; int b; }",
-            b"\n\n",
-            b"refused limit words 65536\n",
-            Status::Refused,
-        ),
-        (
-            WRAPS,
-            b"\n\n",
-            b"tick 1 o=-2147483648\nend 1\n",
-            Status::Done,
-        ),
-        (HEXADECIMAL, b"\n\n", b"tick 1 o=1\nrows 1\n", Status::Done),
-        (b"", b"", b"refused 1:1 rule 3\n", Status::Refused),
-        (
-            b"output int o = 0; void main(void) { o = ; }",
-            b"",
-            b"refused syntax\n",
-            Status::Refused,
-        ),
-        (b"int @", b"", b"refused 1:5 lex\n", Status::Refused),
-        (b"/* a", b"", b"refused 1:1 lex\n", Status::Refused),
-    ] {
-        prints(&rt, alloc, text, trace, want, status)?;
-    }
-    Ok(())
+    print(&rt, rt.alloc(), &ROWS)
 }
 
-// Runs a program with a budget, over three rows without words.
+/// A text, the word of its budget, what is held in the end over three rows without words, and the status.
+const BUDGETS: [(&[u8], &str, &[u8], Status); 5] = [
+    (
+        COUNTER,
+        "7",
+        b"tick 1 o=1\ntick 2 o=2\nrows 2\n",
+        Status::Done,
+    ),
+    (
+        COUNTER,
+        "0000000000000000007",
+        b"tick 1 o=1\ntick 2 o=2\nrows 2\n",
+        Status::Done,
+    ),
+    (COUNTER, "6", b"over 1 budget 6\n", Status::Over),
+    (GROWS, "8", b"tick 1 o=1\nover 2 budget 8\n", Status::Over),
+    (
+        COUNTER,
+        "4611686018427387904",
+        b"tick 1 o=1\ntick 2 o=2\nrows 2\n",
+        Status::Done,
+    ),
+];
+
 #[test]
 fn budgets(rt: HostRuntime) -> Result<(), Fail> {
     let alloc = rt.alloc();
-    for (text, budget, want, status) in [
-        (
-            COUNTER,
-            "7",
-            b"tick 1 o=1\ntick 2 o=2\nrows 2\n".as_slice(),
-            Status::Done,
-        ),
-        (
-            COUNTER,
-            "0000000000000000007",
-            b"tick 1 o=1\ntick 2 o=2\nrows 2\n",
-            Status::Done,
-        ),
-        (COUNTER, "6", b"over 1 budget 6\n", Status::Over),
-        (GROWS, "8", b"tick 1 o=1\nover 2 budget 8\n", Status::Over),
-        (
-            COUNTER,
-            "4611686018427387904",
-            b"tick 1 o=1\ntick 2 o=2\nrows 2\n",
-            Status::Done,
-        ),
-    ] {
+    for (text, budget, want, status) in &BUDGETS {
         let words = ["run", "P", "--budget", budget];
-        let end = run(&rt, alloc, &words, text, b"\n\n\n", whole(alloc))?;
-        assert_eq!(rt; end.held.as_slice(), want);
-        assert_eq!(rt; end.status, status);
+        let streams = whole(alloc);
+        shows(&rt, alloc, &words, text, b"\n\n\n", streams, (want, *status))?;
     }
     Ok(())
 }
 
-// `code` asks for no trace either.
+// Neither `check` nor `code` asks for a trace: this one fails at its first read.
 #[test]
-fn lists_a_code(rt: HostRuntime) -> Result<(), Fail> {
+fn counts_and_lists(rt: HostRuntime) -> Result<(), Fail> {
     let alloc = rt.alloc();
-    let end = run(
-        &rt,
-        alloc,
-        &["code", "P"],
-        COUNTER,
-        b"",
-        single(alloc, 1, 0)?,
-    )?;
-    assert!(rt; end.held.starts_with(b"thread 0\n"));
-    assert_eq!(rt; end.status, Status::Done);
+    let one = b"ok threads 1 inputs 0 outputs 1\n";
+    counts(&rt, alloc, COUNTER, (one, Status::Done))?;
+    let endless = b"output int o = 0; void main(void) { while (1) { o = 1; } }";
+    let refused = b"refused 1:37 rule 20\n";
+    counts(&rt, alloc, endless, (refused, Status::Refused))?;
+    let fails = single(alloc, 0, 4)?;
+    let front = (b"ok ".as_slice(), Status::WriteFault);
+    shows(&rt, alloc, &["check", "P"], COUNTER, b"", fails, front)?;
+    let fails = single(alloc, 1, 0)?;
+    let end = run(&rt, alloc, &["code", "P"], COUNTER, b"", fails)?;
+    assert!(rt; end.held.starts_with(b"thread 0\n") && end.status == Status::Done);
     Ok(())
 }
 
-// `check` asks for no trace: this one fails at its first read.
-#[test]
-fn checks(rt: HostRuntime) -> Result<(), Fail> {
-    let alloc = rt.alloc();
-    for (text, want, status) in [
-        (
-            COUNTER,
-            b"ok threads 1 inputs 0 outputs 1\n".as_slice(),
-            Status::Done,
-        ),
-        (
-            b"output int o = 0; void main(void) { while (1) { o = 1; } }",
-            b"refused 1:37 rule 20\n",
-            Status::Refused,
-        ),
-    ] {
-        counts(&rt, alloc, text, want, status)?;
-    }
-    let end = run(
-        &rt,
-        alloc,
-        &["check", "P"],
-        COUNTER,
-        b"",
-        single(alloc, 0, 4)?,
-    )?;
-    assert_eq!(rt; end.held.as_slice(), b"ok ".as_slice());
-    assert_eq!(rt; end.status, Status::WriteFault);
-    Ok(())
-}
+const USAGE: &[u8] =
+    b"usage: forec run|check|threads|code|explain|gen PROGRAM [--cores N] [--place LIST] [--budget B] [--order N]\n";
 
 // These words are no command.
-fn shows_usage(rt: &impl Abort, alloc: Global, words: &[&str]) -> Result<(), Fail> {
-    let usage =
-        b"usage: forec run|check|threads|code|explain|gen PROGRAM [--cores N] [--place LIST] [--budget B] [--order N]\n";
-    let end = run(rt, alloc, words, COUNTER, b"\n\n", whole(alloc))?;
-    assert_eq!(rt; end.held.as_slice(), usage.as_slice());
-    assert_eq!(rt; end.status, Status::Usage);
-    Ok(())
-}
+const NO_COMMANDS: [&[&str]; 12] = [
+    &["run"],
+    &["ran", "P"],
+    &["run", "P", "P"],
+    &["run", "P", "--budget", "0"],
+    &["run", "P", "--budget", "4611686018427387905"],
+    &["run", "P", "--budget", "00000000000000000007"],
+    &["run", "P", "--budget", "7 "],
+    &["run", "P", "--budget", "-7"],
+    &["run", "P", "--budget", ""],
+    &["run", "P", "--budget"],
+    &["run", "--budget", "7", "P"],
+    &["check", "P", "--budget", "7"],
+];
 
 #[test]
 fn words(rt: HostRuntime) -> Result<(), Fail> {
     let alloc = rt.alloc();
-    shows_usage(&rt, alloc, &["run"])?;
-    shows_usage(&rt, alloc, &["ran", "P"])?;
-    shows_usage(&rt, alloc, &["run", "P", "P"])?;
-    for budget in [
-        "0",
-        "4611686018427387905",
-        "00000000000000000007",
-        "7 ",
-        "-7",
-        "",
-    ] {
-        shows_usage(&rt, alloc, &["run", "P", "--budget", budget])?;
+    let usage = (USAGE, Status::Usage);
+    for words in &NO_COMMANDS {
+        shows(&rt, alloc, words, COUNTER, b"\n\n", whole(alloc), usage)?;
     }
-    shows_usage(&rt, alloc, &["run", "P", "--budget"])?;
-    shows_usage(&rt, alloc, &["run", "--budget", "7", "P"])?;
-    shows_usage(&rt, alloc, &["check", "P", "--budget", "7"])?;
-    let end = run(&rt, alloc, &["run", "Q"], COUNTER, b"\n\n", whole(alloc))?;
-    assert_eq!(rt; end.held.as_slice(), b"".as_slice());
-    assert_eq!(rt; end.status, Status::ReadFault);
-    Ok(())
+    let missing = (b"".as_slice(), Status::ReadFault);
+    let streams = whole(alloc);
+    shows(&rt, alloc, &["run", "Q"], COUNTER, b"\n\n", streams, missing)
 }
+
+/// A byte, how many of them a text has, and what is held in the end.
+const TEXTS: [(u8, usize, &[u8]); 4] = [
+    (b' ', 1_048_576, b"refused 1:1 rule 3\n"),
+    (b' ', 1_048_577, b"refused long\n"),
+    (b';', 200_000, b"refused syntax\n"),
+    (b';', 200_001, b"refused 1:200001 many\n"),
+];
+
+/// How many spaces the header has, what is held in the end, and the status.
+const HEADERS: [(usize, &[u8], Status); 3] = [
+    (8192, b"rows 0\n", Status::Done),
+    (8193, b"row 0 long\n", Status::Trace),
+    (65536, b"row 0 long\n", Status::Trace),
+];
 
 #[test]
 fn sizes(rt: HostRuntime) -> Result<(), Fail> {
     let alloc = rt.alloc();
-    let text = vec![in alloc; b' '; 1_048_576]?;
-    let end = run(&rt, alloc, &["run", "P"], &text, b"", whole(alloc))?;
-    assert_eq!(rt; end.held.as_slice(), b"refused 1:1 rule 3\n".as_slice());
-    let text = vec![in alloc; b' '; 1_048_577]?;
-    let end = run(&rt, alloc, &["run", "P"], &text, b"", whole(alloc))?;
-    assert_eq!(rt; end.held.as_slice(), b"refused long\n".as_slice());
-    for (tokens, want) in [
-        (200_000, b"refused syntax\n".as_slice()),
-        (200_001, b"refused 1:200001 many\n"),
-    ] {
-        let text = vec![in alloc; b';'; tokens]?;
-        let end = run(&rt, alloc, &["run", "P"], &text, b"", whole(alloc))?;
-        assert_eq!(rt; end.held.as_slice(), want);
-        assert_eq!(rt; end.status, Status::Refused);
+    let words = ["run", "P"];
+    for (byte, count, want) in &TEXTS {
+        let text = vec![in alloc; *byte; *count]?;
+        let refused = (*want, Status::Refused);
+        shows(&rt, alloc, &words, &text, b"", whole(alloc), refused)?;
     }
-    for (bytes, want, status) in [
-        (8192, b"rows 0\n".as_slice(), Status::Done),
-        (8193, b"row 0 long\n", Status::Trace),
-        (65536, b"row 0 long\n", Status::Trace),
-    ] {
-        let trace = vec![in alloc; b' '; bytes]?;
-        let end = run(&rt, alloc, &["run", "P"], COUNTER, &trace, whole(alloc))?;
-        assert_eq!(rt; end.held.as_slice(), want);
-        assert_eq!(rt; end.status, status);
+    for (count, want, status) in &HEADERS {
+        let trace = vec![in alloc; b' '; *count]?;
+        let streams = whole(alloc);
+        shows(&rt, alloc, &words, COUNTER, &trace, streams, (want, *status))?;
     }
     Ok(())
 }
+
+/// The numbers of the read and of the write that fails, or 0; what is held in the end, and the status.
+const FAILS: [(u64, u64, &[u8], Status); 9] = [
+    (1, 0, b"", Status::ReadFault),
+    (2, 0, b"", Status::ReadFault),
+    (3, 0, b"tick 1 o=1\n", Status::ReadFault),
+    (4, 0, b"tick 1 o=1\ntick 2 o=2\n", Status::ReadFault),
+    (5, 0, b"tick 1 o=1\ntick 2 o=2\nrows 2\n", Status::Done),
+    (0, 1, b"", Status::WriteFault),
+    (0, 12, b"tick 1 o=1\n", Status::WriteFault),
+    (3, 11, b"tick 1 o=1", Status::WriteFault),
+    (3, 12, b"tick 1 o=1\n", Status::ReadFault),
+];
+
+const REPORT: &[u8] = b"tick 1 o=1\ntick 2 o=2\nrows 2\n";
 
 #[test]
 fn failing_streams(rt: HostRuntime) -> Result<(), Fail> {
     let alloc = rt.alloc();
-    for (read, write, want, status) in [
-        (1u64, 0u64, b"".as_slice(), Status::ReadFault),
-        (2, 0, b"", Status::ReadFault),
-        (3, 0, b"tick 1 o=1\n", Status::ReadFault),
-        (4, 0, b"tick 1 o=1\ntick 2 o=2\n", Status::ReadFault),
-        (5, 0, b"tick 1 o=1\ntick 2 o=2\nrows 2\n", Status::Done),
-        (0, 1, b"", Status::WriteFault),
-        (0, 12, b"tick 1 o=1\n", Status::WriteFault),
-        (3, 11, b"tick 1 o=1", Status::WriteFault),
-        (3, 12, b"tick 1 o=1\n", Status::ReadFault),
-    ] {
-        let end = run(
-            &rt,
-            alloc,
-            &["run", "P"],
-            COUNTER,
-            b"\n\n\n",
-            single(alloc, read, write)?,
-        )?;
-        assert_eq!(rt; end.held.as_slice(), want);
-        assert_eq!(rt; end.status, status);
+    let words = ["run", "P"];
+    for (read, write, want, status) in &FAILS {
+        let streams = single(alloc, *read, *write)?;
+        shows(&rt, alloc, &words, COUNTER, b"\n\n\n", streams, (want, *status))?;
     }
-    Ok(())
-}
-
-#[test]
-fn each_write_fails(rt: HostRuntime) -> Result<(), Fail> {
-    let alloc = rt.alloc();
-    let report = b"tick 1 o=1\ntick 2 o=2\nrows 2\n";
-    for call in 1..=report.len() {
-        let streams = single(alloc, 0, call as u64)?;
-        let end = run(&rt, alloc, &["run", "P"], COUNTER, b"\n\n\n", streams)?;
-        assert_eq!(rt; end.held.as_slice(), &report[..call - 1]);
-        assert_eq!(rt; end.status, Status::WriteFault);
+    for written in 0..REPORT.len() {
+        let streams = single(alloc, 0, written as u64 + 1)?;
+        let front = (&REPORT[..written], Status::WriteFault);
+        shows(&rt, alloc, &words, COUNTER, b"\n\n\n", streams, front)?;
     }
     Ok(())
 }
@@ -321,8 +275,7 @@ fn many_ticks(rt: HostRuntime) -> Result<(), Fail> {
     let alloc = rt.alloc();
     let trace = vec![in alloc; 10u8; 10_001]?;
     let end = run(&rt, alloc, &["run", "P"], COUNTER, &trace, whole(alloc))?;
-    assert_eq!(rt; end.held.len(), 167_799);
+    assert_eq!(rt; (end.held.len(), end.status), (167_799, Status::Done));
     assert!(rt; end.held.ends_with(b"\ntick 10000 o=10000\nrows 10000\n"));
-    assert_eq!(rt; end.status, Status::Done);
     Ok(())
 }

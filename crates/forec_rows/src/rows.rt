@@ -135,17 +135,12 @@ fn two_inputs(alloc: Global) -> Result<Labels, OutOfMemory>
 #[test]
 fn rows_of_two_inputs(rt: HostRuntime) -> Result<(), Fail> {
     let alloc = rt.alloc();
-    let Ok(inputs) = two_inputs(alloc) else {
-        return Ok(assert!(rt; false));
-    };
-    for (trace, values, last) in TWO {
+    let inputs = two_inputs(alloc)?;
+    for (trace, values, last) in &TWO {
         for size in [1, 3, 1000] {
-            let Ok(given) = read_pieces(alloc, &inputs, trace, size, 0, &mut [0, 0]) else {
-                return Ok(assert!(rt; false));
-            };
-            assert_eq!(rt; given.values.as_slice(), values, "{trace:?}");
-            assert_eq!(rt; given.last, last, "{trace:?}");
-            assert!(rt; !given.live);
+            let given = read_pieces(alloc, &inputs, trace, size, 0, &mut [0, 0])?;
+            let found = (given.values.as_slice(), given.last, given.live);
+            assert_eq!(rt; found, (*values, *last, false), "{trace:?}");
         }
     }
     Ok(())
@@ -154,16 +149,11 @@ fn rows_of_two_inputs(rt: HostRuntime) -> Result<(), Fail> {
 #[test]
 fn rows_without_inputs(rt: HostRuntime) -> Result<(), Fail> {
     let alloc = rt.alloc();
-    let Ok(inputs) = Labels::new(alloc) else {
-        return Ok(assert!(rt; false));
-    };
-    for (trace, rows, last) in NONE {
+    let inputs = Labels::new(alloc)?;
+    for (trace, rows, last) in &NONE {
         for size in [1, 2, 1000] {
-            let Ok(given) = read_pieces(alloc, &inputs, trace, size, 0, &mut []) else {
-                return Ok(assert!(rt; false));
-            };
-            assert_eq!(rt; given.rows, rows, "{trace:?}");
-            assert_eq!(rt; given.last, last, "{trace:?}");
+            let given = read_pieces(alloc, &inputs, trace, size, 0, &mut [])?;
+            assert_eq!(rt; (given.rows, given.last), (*rows, *last), "{trace:?}");
         }
     }
     Ok(())
@@ -183,44 +173,37 @@ fn spaces(alloc: Global, count: usize, size: usize) -> Result<Given, OutOfMemory
 fn long_lines(rt: HostRuntime) -> Result<(), Fail> {
     let alloc = rt.alloc();
     for size in [100, 100_000] {
-        let Ok(longest) = spaces(alloc, 8192, size) else {
-            return Ok(assert!(rt; false));
-        };
-        assert_eq!(rt; longest.last, Ok(Next::End));
-        let Ok(long) = spaces(alloc, 8193, size) else {
-            return Ok(assert!(rt; false));
-        };
-        assert_eq!(rt; long.last, Err(RowFault::Long));
+        let longest = spaces(alloc, 8192, size)?.last;
+        let long = spaces(alloc, 8193, size)?.last;
+        assert_eq!(rt; (longest, long), (Ok(Next::End), Err(RowFault::Long)));
     }
     Ok(())
 }
+
+// The bytes of a read, the number of the read that fails, the values of the rows that are given, and the last answer.
+const FAILS: [(usize, u64, &[i32], Result<Next, RowFault>); 9] = [
+    (1, 1, &[], Err(RowFault::ReadFault)),
+    (1, 4, &[], Err(RowFault::ReadFault)),
+    (1, 5, &[], Err(RowFault::ReadFault)),
+    (1, 8, &[], Err(RowFault::ReadFault)),
+    (1, 9, &[1, 2], Err(RowFault::ReadFault)),
+    (1, 12, &[1, 2], Err(RowFault::ReadFault)),
+    (1, 13, &[1, 2, 3, 4], Err(RowFault::ReadFault)),
+    (1, 14, &[1, 2, 3, 4], Ok(Next::End)),
+    (1000, 2, &[1, 2, 3, 4], Err(RowFault::ReadFault)),
+];
 
 // Rows that came whole are given before the fault; behind the end no read is made.
 #[test]
 fn reads_that_fail(rt: HostRuntime) -> Result<(), Fail> {
     let alloc = rt.alloc();
-    let Ok(inputs) = two_inputs(alloc) else {
-        return Ok(assert!(rt; false));
-    };
-    let table: [(usize, u64, &[i32], Result<Next, RowFault>); 9] = [
-        (1, 1, &[], Err(RowFault::ReadFault)),
-        (1, 4, &[], Err(RowFault::ReadFault)),
-        (1, 5, &[], Err(RowFault::ReadFault)),
-        (1, 8, &[], Err(RowFault::ReadFault)),
-        (1, 9, &[1, 2], Err(RowFault::ReadFault)),
-        (1, 12, &[1, 2], Err(RowFault::ReadFault)),
-        (1, 13, &[1, 2, 3, 4], Err(RowFault::ReadFault)),
-        (1, 14, &[1, 2, 3, 4], Ok(Next::End)),
-        (1000, 2, &[1, 2, 3, 4], Err(RowFault::ReadFault)),
-    ];
-    for (size, fails, values, last) in table {
-        let Ok(given) = read_pieces(alloc, &inputs, b"a b\n1 2\n3 4\n", size, fails, &mut [0, 0])
-        else {
-            return Ok(assert!(rt; false));
-        };
-        assert_eq!(rt; given.values.as_slice(), values, "{fails}");
-        assert_eq!(rt; given.last, last, "{fails}");
-        assert!(rt; !given.live);
+    let inputs = two_inputs(alloc)?;
+    let trace = b"a b\n1 2\n3 4\n";
+    for (size, fails, values, last) in FAILS {
+        assert!(rt; size > 0);
+        let given = read_pieces(alloc, &inputs, trace, size, fails, &mut [0, 0])?;
+        let found = (given.values.as_slice(), given.last, given.live);
+        assert_eq!(rt; found, (values, last, false), "{fails}");
     }
     Ok(())
 }
@@ -228,9 +211,7 @@ fn reads_that_fail(rt: HostRuntime) -> Result<(), Fail> {
 #[test]
 fn lines(rt: HostRuntime) -> Result<(), Fail> {
     let alloc = rt.alloc();
-    let Ok(names) = two_inputs(alloc) else {
-        return Ok(assert!(rt; false));
-    };
+    let names = two_inputs(alloc)?;
     assert_eq!(rt; line_room(&names), 54);
     let mut buffer = [0; 54];
     let count = line(u64::MAX, &names, &[i32::MIN, 0], &mut buffer);
@@ -238,9 +219,7 @@ fn lines(rt: HostRuntime) -> Result<(), Fail> {
         &buffer[..count],
         b"tick 18446744073709551615 a=-2147483648 b=0\n".as_slice()
     );
-    let Ok(none) = Labels::new(alloc) else {
-        return Ok(assert!(rt; false));
-    };
+    let none = Labels::new(alloc)?;
     let count = line(1, &none, &[], &mut buffer);
     assert_eq!(rt; &buffer[..count], b"tick 1\n".as_slice());
     Ok(())
