@@ -4,7 +4,7 @@ use Rattle.std.specs.List.{All}
 use Rattle.core_host.specs.Hosted.{IsWhole}
 use Rattle.core_host.specs.Loads.{AreAll}
 use Rattle.thread_code.specs.Plain.{plain_code, plain_block}
-use Rattle.forec_engine.proofs.placed_tests.hosted.Goals as goal
+use Rattle.core_rows.proofs.hosted.hosted.Goals as goal
 
 all_below : (cores : ℕ) → cores ≡ 3 → All (λ core. core < cores) (0 ∷ 1 ∷ 2 ∷ [])
 all_below cores e = grind (arith, e)
