@@ -1,9 +1,9 @@
 -- What a parser reads from, and the steps that every rule is made of.
-use Rattle.std.specs.Prelude.{◌≡◌, ◌≢◌, ℕ, suc, ◌+◌, if◌then◌else◌, nat_lt, List, [], ◌∷◌, length, Option, Some, None, Result, Ok, Err}
+use Rattle.std.specs.Prelude.{◌≡◌, ◌≢◌, ℕ, suc, ◌+◌, Bool, true, false, if◌then◌else◌, nat_lt, List, [], ◌∷◌, length, Option, Some, None, Result, Ok, Err}
 use Rattle.forec_tree.specs.declared.token.Token.{Token}
 use Rattle.forec_tree.specs.declared.token.TokenKind.{TokenKind}
-use Rattle.forec_parser.specs.declared.fault.Fault.{Fault}
-use Rattle.forec_parser.specs.declared.fault.Fault.TheVariants.{Syntax, Deep, OutOfMemory}
+use Rattle.expr_parser.specs.declared.fault.Fault.{Fault}
+use Rattle.expr_parser.specs.declared.fault.Fault.TheVariants.{Syntax, Deep, OutOfMemory}
 
 pub record Input : Type 0 where
   -- the tokens from the next one on
@@ -50,6 +50,11 @@ scoped p = λ i. and_then (p i) (λ x j. Ok (x, input j.rest i.level))
 abbrev pub kind_ahead : List Token → Option TokenKind
 kind_ahead [] = None
 kind_ahead (t ∷ ts) = Some t.kind
+
+-- whether no token is left
+abbrev pub at_end : Option TokenKind → Bool
+at_end None = true
+at_end (Some k) = false
 
 abbrev pub take_from : List Token → ℕ → Outcome Token
 take_from [] v = Err (Syntax 0)

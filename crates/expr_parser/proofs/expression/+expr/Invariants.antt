@@ -1,8 +1,9 @@
 use Rattle.std.proofs.Common.{◌≡◌, ◌+◌, ◌-◌, ◌*◌, map}
 use Rattle.forec_tree.specs.Plain.{term}
-use Rattle.forec_parser.specs.Input.{max_level}
-use Rattle.forec_parser.specs.Reading as spec
-use Rattle.forec_parser.proofs.expression.+expr.Given as goal
+use Rattle.expr_parser.specs.Input.{max_level}
+use Rattle.expr_parser.specs.Reading as spec
+use Rattle.expr_parser.specs.Boxes.{term_in}
+use Rattle.expr_parser.proofs.expression.+expr.Given as goal
 
 abbrev pub decreases-expr : goal.decreases-expr
 decreases-expr l = 8 * l.depth
@@ -39,7 +40,7 @@ decreases-value l = 8 * l.depth + 1
 
 abbrev pub invariant-climbing-loop-turn : goal.invariant-climbing-loop-turn
 invariant-climbing-loop-turn l =
-    spec.climbing max_level (spec.expr max_level l.depth) l.least l.fn.tokens ≡ spec.climb max_level (spec.expr max_level l.depth) l.least (l._turn-end - l._turn) (term l.left) l.tokens
+    spec.climbing max_level (spec.expr max_level l.depth) l.least l.fn.tokens ≡ spec.climb max_level (spec.expr max_level l.depth) l.least (l._turn-end - l._turn) (term_in l.left) l.tokens
 
 abbrev pub invariant-values-loop-turn : goal.invariant-values-loop-turn
 invariant-values-loop-turn l =

@@ -4,10 +4,9 @@ ghost use Rattle.std.specs.Prelude.{◌≡◌, length};
 ghost use Rattle.forec_tree.specs.declared.token.Token.{Token};
 ghost use Rattle.forec_tree.specs.declared.tree.Name.{Name};
 ghost use Rattle.forec_tree.specs.declared.tree.Number.{Number};
-ghost use Rattle.forec_parser.specs.Input as spec;
-ghost use Rattle.forec_parser.specs.Input.{Reads};
-ghost use Rattle.forec_parser.specs.Reading as reading;
-ghost use Rattle.forec_parser.specs.Items as items;
+ghost use Rattle.expr_parser.specs.Input as spec;
+ghost use Rattle.expr_parser.specs.Input.{Reads};
+ghost use Rattle.expr_parser.specs.Reading as reading;
 
 use crate::fault::Fault;
 use crate::fixed::{Fixed, is_fixed};
@@ -26,11 +25,11 @@ pub struct Tokens<'t> {
 }
 
 impl<'t> Model for Tokens<'t> {
-    ghost use Rattle.forec_parser.specs.Input.{Input};
+    ghost use Rattle.expr_parser.specs.Input.{Input};
 
     ghost Value = { Input };
 
-    ghost use Rattle.forec_parser.specs.Cursor.{input_of};
+    ghost use Rattle.expr_parser.specs.Cursor.{input_of};
 
     ghost view = { input_of };
 }
@@ -62,7 +61,7 @@ impl<'t> Tokens<'t> {
 
     /// Whether no token is left.
     pub fn at_end(&self) -> bool
-        ensures { result ≡ items.at_end (spec.kind_ahead self.now.rest) }
+        ensures { result ≡ spec.at_end (spec.kind_ahead self.now.rest) }
     {
         match self.kind() {
             None => true,

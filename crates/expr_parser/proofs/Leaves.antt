@@ -8,16 +8,16 @@ use Rattle.forec_tree.specs.declared.tree.Name.{Name}
 use Rattle.forec_tree.specs.declared.tree.Number.{Number}
 use Rattle.forec_tree.specs.Spelling.{Spelt, at, tokens, IsWithin, IsName, IsNumber, name_at}
 use Rattle.forec_tree.specs.Parts.{number_at}
-use Rattle.forec_parser.specs.declared.fault.Fault.TheVariants.{Syntax}
-use Rattle.forec_parser.specs.declared.fixed.Fixed.{Fixed}
-use Rattle.forec_parser.specs.declared.fixed.Fixed.TheVariants as fixed
-use Rattle.forec_parser.specs.Input.{Input, input, Parser, and_then, kind_ahead, take, raise}
-use Rattle.forec_parser.specs.Meaning.{is_fixed, name_of, number_of}
-use Rattle.forec_parser.specs.Reading as reading
-use Rattle.forec_parser.specs.Reading.{close, enter, name, number, name_by, number_by, separated, separated_from}
-use Rattle.forec_parser.proofs.Spans.{tokens_append, longer, within_front, within_back, within_join, Step, step, ok_of, ok_pair, Took, Raised, took, raised, head_kind, raise_ok, take_ok}
-use Rattle.forec_parser.proofs.Closers.{kind_of, fixed-kind, kind-fixed}
-use Rattle.forec_parser.proofs.Exact.{Lang, Read, Exact, Part, part, Any, convert}
+use Rattle.expr_parser.specs.declared.fault.Fault.TheVariants.{Syntax}
+use Rattle.expr_parser.specs.declared.fixed.Fixed.{Fixed}
+use Rattle.expr_parser.specs.declared.fixed.Fixed.TheVariants as fixed
+use Rattle.expr_parser.specs.Input.{Input, input, Parser, and_then, kind_ahead, take, raise}
+use Rattle.expr_parser.specs.Meaning.{is_fixed, name_of, number_of}
+use Rattle.expr_parser.specs.Reading as reading
+use Rattle.expr_parser.specs.Reading.{close, enter, name, number, name_by, number_by, separated, separated_from}
+use Rattle.expr_parser.proofs.Spans.{tokens_append, longer, within_front, within_back, within_join, Step, step, ok_of, ok_pair, Took, Raised, took, raised, head_kind, raise_ok, take_ok}
+use Rattle.expr_parser.proofs.Closers.{kind_of, fixed-kind, kind-fixed}
+use Rattle.expr_parser.proofs.Exact.{Lang, Read, Exact, Part, part, Any, convert}
 
 abbrev pub Is : Fixed → Token → Type 0
 Is f t = t.kind ≡ kind_of f

@@ -2,8 +2,9 @@
 
 ghost use Rattle.std.specs.Prelude.{◌≡◌, nat_lt, map};
 ghost use Rattle.forec_tree.specs.Plain.{term};
-ghost use Rattle.forec_parser.specs.Input.{Reads, max_level};
-ghost use Rattle.forec_parser.specs.Reading as spec;
+ghost use Rattle.expr_parser.specs.Boxes.{term_in};
+ghost use Rattle.expr_parser.specs.Input.{Reads, max_level};
+ghost use Rattle.expr_parser.specs.Reading as spec;
 
 use crate::fault::Fault;
 use crate::fixed::Fixed;
@@ -24,8 +25,13 @@ fn ends(tokens: &Tokens<'_>, least: u8) -> bool
 /// An expression that goes on with operators of level `least` and above.
 #[cycle(expr)]
 #[tactic(auto, unfolding(crate::specs::Reading::expr))]
-pub fn expr(alloc: Global, tokens: &mut Tokens<'_>, depth: usize, least: u8) -> Result<Expr, Fault>
-    ensures { Reads term (spec.expr max_level depth least tokens.old) result tokens.new }
+pub fn expr(
+    alloc: Global,
+    tokens: &mut Tokens<'_>,
+    depth: usize,
+    least: u8,
+) -> Result<Box<Expr>, Fault>
+    ensures { Reads term_in (spec.expr max_level depth least tokens.old) result tokens.new }
 {
     if depth == 0 {
         return Err(tokens.too_deep());
@@ -35,8 +41,13 @@ pub fn expr(alloc: Global, tokens: &mut Tokens<'_>, depth: usize, least: u8) -> 
 
 #[cycle(expr)]
 #[tactic(auto, unfolding(crate::specs::Reading::climbing, crate::specs::Reading::operations, crate::specs::Reading::climb))]
-fn climbing(alloc: Global, tokens: &mut Tokens<'_>, depth: usize, least: u8) -> Result<Expr, Fault>
-    ensures { Reads term (spec.climbing max_level (spec.expr max_level depth) least tokens.old) result tokens.new }
+fn climbing(
+    alloc: Global,
+    tokens: &mut Tokens<'_>,
+    depth: usize,
+    least: u8,
+) -> Result<Box<Expr>, Fault>
+    ensures { Reads term_in (spec.climbing max_level (spec.expr max_level depth) least tokens.old) result tokens.new }
 {
     let mut left = prefix(alloc, tokens, depth)?;
     for _turn in 0..tokens.left() {
@@ -57,22 +68,24 @@ fn operation(
     alloc: Global,
     tokens: &mut Tokens<'_>,
     depth: usize,
-    left: Expr,
-) -> Result<Expr, Fault>
-    ensures { Reads term (spec.operation max_level (spec.expr max_level depth) (term left) tokens.old) result tokens.new }
+    left: Box<Expr>,
+) -> Result<Box<Expr>, Fault>
+    ensures { Reads term_in (spec.operation max_level (spec.expr max_level depth) (term_in left) tokens.old) result tokens.new }
 {
     match infix_of(tokens.kind()) {
         Infix::Joins { op } => {
             let token = tokens.raise()?;
             let right = expr(alloc, tokens, depth, level_of(op) + 1)?;
-            Ok(nodes::join(alloc, token.place, op, left, right)?)
+            let node = nodes::join(token.place, op, left, right);
+            Ok(nodes::boxed(alloc, node)?)
         }
         Infix::Question => {
             let token = tokens.raise()?;
             let yes = expr(alloc, tokens, depth, 1)?;
             tokens.close(Fixed::Colon)?;
             let no = expr(alloc, tokens, depth, 1)?;
-            Ok(nodes::choose(alloc, token.place, left, yes, no)?)
+            let node = nodes::choose(token.place, left, yes, no);
+            Ok(nodes::boxed(alloc, node)?)
         }
         Infix::Nothing => Err(tokens.refuse()),
     }
@@ -80,19 +93,19 @@ fn operation(
 
 #[cycle(expr)]
 #[tactic(auto, unfolding(crate::specs::Reading::prefix))]
-fn prefix(alloc: Global, tokens: &mut Tokens<'_>, depth: usize) -> Result<Expr, Fault>
-    ensures { Reads term (spec.prefix max_level (spec.expr max_level depth) tokens.old) result tokens.new }
+fn prefix(alloc: Global, tokens: &mut Tokens<'_>, depth: usize) -> Result<Box<Expr>, Fault>
+    ensures { Reads term_in (spec.prefix max_level (spec.expr max_level depth) tokens.old) result tokens.new }
 {
     match start_of(tokens.kind()) {
         Start::Literal => {
             let number = tokens.number()?;
-            Ok(nodes::number(number))
+            Ok(nodes::boxed(alloc, nodes::number(number))?)
         }
         Start::Named => named(alloc, tokens, depth),
         Start::Sign { op } => {
             let token = tokens.raise()?;
             let part = expr(alloc, tokens, depth, 12)?;
-            Ok(nodes::unary(alloc, token.place, op, part)?)
+            Ok(nodes::boxed(alloc, nodes::unary(token.place, op, part))?)
         }
         Start::Round => bracketed(alloc, tokens, depth),
         Start::Nothing => Err(tokens.refuse()),
@@ -101,28 +114,28 @@ fn prefix(alloc: Global, tokens: &mut Tokens<'_>, depth: usize) -> Result<Expr, 
 
 #[cycle(expr)]
 #[tactic(auto, unfolding(crate::specs::Reading::named))]
-fn named(alloc: Global, tokens: &mut Tokens<'_>, depth: usize) -> Result<Expr, Fault>
-    ensures { Reads term (spec.named max_level (spec.expr max_level depth) tokens.old) result tokens.new }
+fn named(alloc: Global, tokens: &mut Tokens<'_>, depth: usize) -> Result<Box<Expr>, Fault>
+    ensures { Reads term_in (spec.named max_level (spec.expr max_level depth) tokens.old) result tokens.new }
 {
     let name = tokens.name()?;
     match behind_of(tokens.kind()) {
         Behind::Index => {
             let index = indexed(alloc, tokens, depth)?;
-            Ok(nodes::element(alloc, name, index)?)
+            Ok(nodes::boxed(alloc, nodes::element(name, index))?)
         }
         Behind::Arguments => {
             let args = passed(alloc, tokens, depth)?;
-            Ok(nodes::call(name, args))
+            Ok(nodes::boxed(alloc, nodes::call(name, args))?)
         }
-        Behind::Nothing => Ok(nodes::read(name)),
+        Behind::Nothing => Ok(nodes::boxed(alloc, nodes::read(name))?),
     }
 }
 
 /// An expression between round brackets.
 #[cycle(expr)]
 #[tactic(auto, unfolding(crate::specs::Reading::bracketed))]
-pub fn bracketed(alloc: Global, tokens: &mut Tokens<'_>, depth: usize) -> Result<Expr, Fault>
-    ensures { Reads term (spec.bracketed max_level (spec.expr max_level depth) tokens.old) result tokens.new }
+pub fn bracketed(alloc: Global, tokens: &mut Tokens<'_>, depth: usize) -> Result<Box<Expr>, Fault>
+    ensures { Reads term_in (spec.bracketed max_level (spec.expr max_level depth) tokens.old) result tokens.new }
 {
     let outer = tokens.level();
     tokens.enter(Fixed::LeftRound)?;
@@ -135,8 +148,8 @@ pub fn bracketed(alloc: Global, tokens: &mut Tokens<'_>, depth: usize) -> Result
 /// An index, with its square brackets.
 #[cycle(expr)]
 #[tactic(auto, unfolding(crate::specs::Reading::indexed))]
-pub fn indexed(alloc: Global, tokens: &mut Tokens<'_>, depth: usize) -> Result<Expr, Fault>
-    ensures { Reads term (spec.indexed max_level (spec.expr max_level depth) tokens.old) result tokens.new }
+pub fn indexed(alloc: Global, tokens: &mut Tokens<'_>, depth: usize) -> Result<Box<Expr>, Fault>
+    ensures { Reads term_in (spec.indexed max_level (spec.expr max_level depth) tokens.old) result tokens.new }
 {
     let outer = tokens.level();
     tokens.enter(Fixed::LeftSquare)?;
@@ -179,7 +192,7 @@ pub fn values(alloc: Global, tokens: &mut Tokens<'_>, depth: usize) -> Result<It
 {
     let mut found = Items::new(alloc);
     for _turn in 0..tokens.left() {
-        found.push(value(alloc, tokens, depth)?)?;
+        found.push(Box::into_inner(value(alloc, tokens, depth)?))?;
         if !tokens.next_is(Fixed::Comma) {
             return Ok(found);
         }
@@ -191,8 +204,8 @@ pub fn values(alloc: Global, tokens: &mut Tokens<'_>, depth: usize) -> Result<It
 /// An expression of its own.
 #[cycle(expr)]
 #[tactic(auto, unfolding(crate::specs::Reading::value))]
-pub fn value(alloc: Global, tokens: &mut Tokens<'_>, depth: usize) -> Result<Expr, Fault>
-    ensures { Reads term (spec.value max_level (spec.expr max_level depth) tokens.old) result tokens.new }
+pub fn value(alloc: Global, tokens: &mut Tokens<'_>, depth: usize) -> Result<Box<Expr>, Fault>
+    ensures { Reads term_in (spec.value max_level (spec.expr max_level depth) tokens.old) result tokens.new }
 {
     let outer = tokens.level();
     let found = expr(alloc, tokens, depth, 1)?;

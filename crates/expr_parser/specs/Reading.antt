@@ -7,17 +7,17 @@ use Rattle.forec_tree.specs.Terms as plain
 use Rattle.forec_tree.specs.Terms.{Term}
 use Rattle.forec_tree.specs.Spelling.{name_at, joined, listed, level_of}
 use Rattle.forec_tree.specs.Parts.{number_at}
-use Rattle.forec_parser.specs.declared.fault.Fault.TheVariants.{Deep}
-use Rattle.forec_parser.specs.declared.fixed.Fixed.{Fixed}
-use Rattle.forec_parser.specs.declared.fixed.Fixed.TheVariants as fixed
-use Rattle.forec_parser.specs.declared.meaning.Start.{Start}
-use Rattle.forec_parser.specs.declared.meaning.Start.TheVariants as beg
-use Rattle.forec_parser.specs.declared.meaning.Infix.{Infix}
-use Rattle.forec_parser.specs.declared.meaning.Infix.TheVariants as inf
-use Rattle.forec_parser.specs.declared.meaning.Behind.{Behind}
-use Rattle.forec_parser.specs.declared.meaning.Behind.TheVariants as follow
-use Rattle.forec_parser.specs.Input.{Input, Parser, ◌>>=◌, ◌>>◌, pure, refuse, scoped, kind_ahead, take, raise}
-use Rattle.forec_parser.specs.Meaning.{name_of, number_of, start_of, infix_of, behind_of, binds, is_fixed}
+use Rattle.expr_parser.specs.declared.fault.Fault.TheVariants.{Deep}
+use Rattle.expr_parser.specs.declared.fixed.Fixed.{Fixed}
+use Rattle.expr_parser.specs.declared.fixed.Fixed.TheVariants as fixed
+use Rattle.expr_parser.specs.declared.meaning.Start.{Start}
+use Rattle.expr_parser.specs.declared.meaning.Start.TheVariants as beg
+use Rattle.expr_parser.specs.declared.meaning.Infix.{Infix}
+use Rattle.expr_parser.specs.declared.meaning.Infix.TheVariants as inf
+use Rattle.expr_parser.specs.declared.meaning.Behind.{Behind}
+use Rattle.expr_parser.specs.declared.meaning.Behind.TheVariants as follow
+use Rattle.expr_parser.specs.Input.{Input, Parser, ◌>>=◌, ◌>>◌, pure, refuse, scoped, kind_ahead, take, raise}
+use Rattle.expr_parser.specs.Meaning.{name_of, number_of, start_of, infix_of, behind_of, binds, is_fixed}
 
 -- whether the next token is this one
 abbrev pub next_is : Fixed → Input → Bool

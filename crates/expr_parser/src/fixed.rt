@@ -1,7 +1,7 @@
 // Tokens that a rule asks for by themselves.
 
 ghost use Rattle.std.specs.Prelude.{◌≡◌};
-ghost use Rattle.forec_parser.specs.Meaning as spec;
+ghost use Rattle.expr_parser.specs.Meaning as spec;
 
 use forec_tree::{Mark, TokenKind, Word};
 
@@ -143,15 +143,5 @@ pub fn is_fixed(fixed: Fixed, kind: Option<TokenKind>) -> bool
     match fixed_of(kind) {
         None => false,
         Some(other) => fixed_number(fixed) == fixed_number(other),
-    }
-}
-
-/// Whether a list of statements ends here.
-pub fn ends_body(kind: Option<TokenKind>) -> bool
-    ensures { result ≡ spec.ends_body kind }
-{
-    match kind {
-        None => true,
-        Some(next) => is_fixed(Fixed::RightCurly, Some(next)),
     }
 }

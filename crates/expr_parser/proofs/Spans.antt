@@ -3,8 +3,8 @@ use Rattle.std.proofs.Common.{◌≡◌, ℕ, suc, ◌+◌, ◌≤◌, ◌<◌, 
 use Rattle.forec_tree.specs.declared.token.Token.{Token}
 use Rattle.forec_tree.specs.declared.token.TokenKind.{TokenKind}
 use Rattle.forec_tree.specs.Spelling.{Spelt, tokens, IsWithin}
-use Rattle.forec_parser.specs.declared.fault.Fault.TheVariants.{Deep}
-use Rattle.forec_parser.specs.Input.{Input, input, Parser, Outcome, and_then, kind_ahead, take, raise}
+use Rattle.expr_parser.specs.declared.fault.Fault.TheVariants.{Deep}
+use Rattle.expr_parser.specs.Input.{Input, input, Parser, Outcome, and_then, kind_ahead, take, raise}
 
 pub tokens_append : (a b : List Spelt) (r : List Token) → tokens (a ++ b) ++ r ≡ tokens a ++ (tokens b ++ r)
 tokens_append [] b r = refl

@@ -4,11 +4,19 @@ ghost use Rattle.std.specs.Prelude.{◌≡◌, IfOk, map};
 ghost use Rattle.forec_tree.specs.Terms as plain;
 ghost use Rattle.forec_tree.specs.Plain.{term};
 ghost use Rattle.forec_tree.specs.Spelling.{joined, listed};
+ghost use Rattle.expr_parser.specs.Boxes.{term_in};
 
 use forec_base::{Place, Unary};
 use forec_tree::{Expr, ExprKind, Name, Number, Operator};
 use sqlite_items::Items;
 use std::alloc::{AllocError, Global};
+
+/// A node in a box of its own.
+pub fn boxed(alloc: Global, node: Expr) -> Result<Box<Expr>, AllocError>
+    ensures { IfOk result (λ b. term_in b ≡ term node) }
+{
+    Ok(Box::new(alloc, node)?)
+}
 
 /// A number.
 pub fn number(number: Number) -> Expr
@@ -33,16 +41,13 @@ pub fn read(name: Name) -> Expr
 }
 
 /// An element of an array that is read.
-pub fn element(alloc: Global, name: Name, index: Expr) -> Result<Expr, AllocError>
-    ensures { IfOk result (λ e. term e ≡ plain.Element name.place name (term index)) }
+pub fn element(name: Name, index: Box<Expr>) -> Expr
+    ensures { term result ≡ plain.Element name.place name (term_in index) }
 {
-    Ok(Expr {
+    Expr {
         place: name.place,
-        what: ExprKind::Element {
-            name,
-            index: Box::new(alloc, index)?,
-        },
-    })
+        what: ExprKind::Element { name, index },
+    }
 }
 
 /// A call of a function that gives a number.
@@ -56,54 +61,33 @@ pub fn call(name: Name, args: Items<Expr>) -> Expr
 }
 
 /// A unary operator, at its place, before its operand.
-pub fn unary(alloc: Global, place: Place, op: Unary, part: Expr) -> Result<Expr, AllocError>
-    ensures { IfOk result (λ e. term e ≡ plain.Un place op (term part)) }
+pub fn unary(place: Place, op: Unary, part: Box<Expr>) -> Expr
+    ensures { term result ≡ plain.Un place op (term_in part) }
 {
-    Ok(Expr {
+    Expr {
         place,
-        what: ExprKind::Unary {
-            op,
-            of: Box::new(alloc, part)?,
-        },
-    })
+        what: ExprKind::Unary { op, of: part },
+    }
 }
 
 /// An operator, at its place, between its operands.
-pub fn join(
-    alloc: Global,
-    place: Place,
-    op: Operator,
-    left: Expr,
-    right: Expr,
-) -> Result<Expr, AllocError>
-    ensures { IfOk result (λ e. term e ≡ joined op place (term left) (term right)) }
+pub fn join(place: Place, op: Operator, left: Box<Expr>, right: Box<Expr>) -> Expr
+    ensures { term result ≡ joined op place (term_in left) (term_in right) }
 {
-    let left = Box::new(alloc, left)?;
-    let right = Box::new(alloc, right)?;
     let what = match op {
         Operator::Or => ExprKind::Or { left, right },
         Operator::And => ExprKind::And { left, right },
         Operator::Computes { op } => ExprKind::Binary { op, left, right },
     };
-    Ok(Expr { place, what })
+    Expr { place, what }
 }
 
 /// `test ? yes : no`, at the place of the question mark.
-pub fn choose(
-    alloc: Global,
-    place: Place,
-    test: Expr,
-    yes: Expr,
-    no: Expr,
-) -> Result<Expr, AllocError>
-    ensures { IfOk result (λ e. term e ≡ plain.Choose place (term test) (term yes) (term no)) }
+pub fn choose(place: Place, test: Box<Expr>, yes: Box<Expr>, no: Box<Expr>) -> Expr
+    ensures { term result ≡ plain.Choose place (term_in test) (term_in yes) (term_in no) }
 {
-    Ok(Expr {
+    Expr {
         place,
-        what: ExprKind::Choose {
-            test: Box::new(alloc, test)?,
-            yes: Box::new(alloc, yes)?,
-            no: Box::new(alloc, no)?,
-        },
-    })
+        what: ExprKind::Choose { test, yes, no },
+    }
 }

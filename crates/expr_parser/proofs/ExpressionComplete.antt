@@ -11,19 +11,19 @@ use Rattle.forec_tree.specs.Terms as plain
 use Rattle.forec_tree.specs.Terms.{Term}
 use Rattle.forec_tree.specs.Spelling as sp
 use Rattle.forec_tree.specs.Spelling.{Spelt, at, IsMark, IsName, IsNumber, name_at, mark_of, sign_of, level_of, joined, listed, tokens, IsWithin, Spells, Whole, Brackets, Indexes, Passes, Arguments, whole, brackets, indexes, passes_none, passes, one, more}
-use Rattle.forec_parser.specs.declared.fixed.Fixed.TheVariants as fixed
-use Rattle.forec_parser.specs.declared.meaning.Start.TheVariants as beg
-use Rattle.forec_parser.specs.declared.meaning.Infix.TheVariants as inf
-use Rattle.forec_parser.specs.declared.meaning.Behind.TheVariants as follow
-use Rattle.forec_parser.specs.Input.{Input, input, Parser, kind_ahead, raise}
-use Rattle.forec_parser.specs.Meaning.{start_of, infix_of, behind_of, binds, is_fixed}
-use Rattle.forec_parser.specs.Reading as reading
-use Rattle.forec_parser.specs.Reading.{ahead, expr, climb, prefix, operation, close}
-use Rattle.forec_parser.proofs.Spans.{tokens_append, longer, within_front, within_back, first, first-is, raise_ok}
-use Rattle.forec_parser.proofs.Exact.{part, Reading, reading, both, mapped, inside, done, on, off, map_to, reads_by, read_at}
-use Rattle.forec_parser.proofs.Leaves.{name_is, number_is, a_number, between, Listed, end_of_list, next_of_list, full_commas, Full, full, Filled, is_so, close_ok}
-use Rattle.forec_parser.proofs.Operators.{sign_start, mark_infix, mark_behind, level_bounds, binds_small, ends, ends_ahead, ends_behind}
-use Rattle.forec_parser.proofs.ExpressionSound.{sound, a_value, a_bracketed, an_indexed, a_passed, a_named, indexed_by, passed_by, value_by}
+use Rattle.expr_parser.specs.declared.fixed.Fixed.TheVariants as fixed
+use Rattle.expr_parser.specs.declared.meaning.Start.TheVariants as beg
+use Rattle.expr_parser.specs.declared.meaning.Infix.TheVariants as inf
+use Rattle.expr_parser.specs.declared.meaning.Behind.TheVariants as follow
+use Rattle.expr_parser.specs.Input.{Input, input, Parser, kind_ahead, raise}
+use Rattle.expr_parser.specs.Meaning.{start_of, infix_of, behind_of, binds, is_fixed}
+use Rattle.expr_parser.specs.Reading as reading
+use Rattle.expr_parser.specs.Reading.{ahead, expr, climb, prefix, operation, close}
+use Rattle.expr_parser.proofs.Spans.{tokens_append, longer, within_front, within_back, first, first-is, raise_ok}
+use Rattle.expr_parser.proofs.Exact.{part, Reading, reading, both, mapped, inside, done, on, off, map_to, reads_by, read_at}
+use Rattle.expr_parser.proofs.Leaves.{name_is, number_is, a_number, between, Listed, end_of_list, next_of_list, full_commas, Full, full, Filled, is_so, close_ok}
+use Rattle.expr_parser.proofs.Operators.{sign_start, mark_infix, mark_behind, level_bounds, binds_small, ends, ends_ahead, ends_behind}
+use Rattle.expr_parser.proofs.ExpressionSound.{sound, a_value, a_bracketed, an_indexed, a_passed, a_named, indexed_by, passed_by, value_by}
 
 -- What stands behind an expression of level m does not go on with it.
 pub record Stops (m : ℕ) (k : Option TokenKind) : Type 0 where

@@ -4,11 +4,11 @@ use Rattle.std.proofs.Common.{◌≡◌, ℕ, ◌≤◌, Bool, true, false, cond
 use Rattle.forec_tree.specs.declared.token.Token.{Token}
 use Rattle.forec_tree.specs.declared.token.TokenKind.{TokenKind}
 use Rattle.forec_tree.specs.Spelling.{Spelt, tokens, IsWithin}
-use Rattle.forec_parser.specs.declared.fixed.Fixed.{Fixed}
-use Rattle.forec_parser.specs.Input.{Input, input, Parser, and_then, ◌>>=◌, pure, scoped, kind_ahead}
-use Rattle.forec_parser.specs.Meaning.{is_fixed}
-use Rattle.forec_parser.specs.Reading.{next_is}
-use Rattle.forec_parser.proofs.Spans.{tokens_append, within_front, within_back, within_join, first, first-is, step, ok_of, ok_pair}
+use Rattle.expr_parser.specs.declared.fixed.Fixed.{Fixed}
+use Rattle.expr_parser.specs.Input.{Input, input, Parser, and_then, ◌>>=◌, pure, scoped, kind_ahead}
+use Rattle.expr_parser.specs.Meaning.{is_fixed}
+use Rattle.expr_parser.specs.Reading.{next_is}
+use Rattle.expr_parser.proofs.Spans.{tokens_append, within_front, within_back, within_join, first, first-is, step, ok_of, ok_pair}
 
 -- what a parser reads: the level before, the value, the level behind, the tokens, and the kind of the token behind them
 abbrev pub Lang : Type 0 → Type 1

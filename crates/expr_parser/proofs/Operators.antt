@@ -10,13 +10,13 @@ use Rattle.forec_tree.specs.declared.token.TokenKind.{TokenKind}
 use Rattle.forec_tree.specs.declared.token.TokenKind.TheVariants as kind
 use Rattle.forec_tree.specs.declared.token.Mark.TheVariants as mark
 use Rattle.forec_tree.specs.Spelling.{level_of, computing_level, mark_of, sign_of}
-use Rattle.forec_parser.specs.declared.fixed.Fixed.TheVariants as fixed
-use Rattle.forec_parser.specs.declared.meaning.Start.{Start}
-use Rattle.forec_parser.specs.declared.meaning.Start.TheVariants as beg
-use Rattle.forec_parser.specs.declared.meaning.Infix.{Infix}
-use Rattle.forec_parser.specs.declared.meaning.Infix.TheVariants as inf
-use Rattle.forec_parser.specs.declared.meaning.Behind.TheVariants as follow
-use Rattle.forec_parser.specs.Meaning.{start_of, infix_of, behind_of, binds, is_fixed}
+use Rattle.expr_parser.specs.declared.fixed.Fixed.TheVariants as fixed
+use Rattle.expr_parser.specs.declared.meaning.Start.{Start}
+use Rattle.expr_parser.specs.declared.meaning.Start.TheVariants as beg
+use Rattle.expr_parser.specs.declared.meaning.Infix.{Infix}
+use Rattle.expr_parser.specs.declared.meaning.Infix.TheVariants as inf
+use Rattle.expr_parser.specs.declared.meaning.Behind.TheVariants as follow
+use Rattle.expr_parser.specs.Meaning.{start_of, infix_of, behind_of, binds, is_fixed}
 
 -- ---- backwards
 

@@ -4,9 +4,9 @@ use Rattle.forec_tree.specs.declared.token.TokenKind.{TokenKind}
 use Rattle.forec_tree.specs.declared.token.TokenKind.TheVariants as kind
 use Rattle.forec_tree.specs.declared.token.Mark.TheVariants as mark
 use Rattle.forec_tree.specs.declared.token.Word.TheVariants as word
-use Rattle.forec_parser.specs.declared.fixed.Fixed.{Fixed}
-use Rattle.forec_parser.specs.declared.fixed.Fixed.TheVariants as fixed
-use Rattle.forec_parser.specs.Meaning.{fixed_number, fixed_of, same_fixed, is_fixed}
+use Rattle.expr_parser.specs.declared.fixed.Fixed.{Fixed}
+use Rattle.expr_parser.specs.declared.fixed.Fixed.TheVariants as fixed
+use Rattle.expr_parser.specs.Meaning.{fixed_number, fixed_of, same_fixed, is_fixed}
 
 abbrev pub kind_of : Fixed → TokenKind
 kind_of fixed.LeftRound = kind.Mark mark.LeftRound

@@ -12,22 +12,22 @@ use Rattle.forec_tree.specs.Terms.{Term}
 use Rattle.forec_tree.specs.Spelling.{Spelt, at, IsMark, mark_of, sign_of, level_of, joined, listed, tokens, IsWithin, Spells, Whole, Brackets, Indexes, Passes, Arguments, whole, brackets, indexes, passes_none, passes, one}
 use Rattle.forec_tree.specs.Spelling.{more as more'}
 use Rattle.forec_tree.specs.Spelling as sp
-use Rattle.forec_parser.specs.declared.fault.Fault.TheVariants.{Syntax}
-use Rattle.forec_parser.specs.declared.fixed.Fixed.TheVariants as fixed
-use Rattle.forec_parser.specs.declared.meaning.Start.{Start}
-use Rattle.forec_parser.specs.declared.meaning.Start.TheVariants as beg
-use Rattle.forec_parser.specs.declared.meaning.Infix.{Infix}
-use Rattle.forec_parser.specs.declared.meaning.Infix.TheVariants as inf
-use Rattle.forec_parser.specs.declared.meaning.Behind.{Behind}
-use Rattle.forec_parser.specs.declared.meaning.Behind.TheVariants as follow
-use Rattle.forec_parser.specs.Input.{Input, Parser, and_then, kind_ahead, raise}
-use Rattle.forec_parser.specs.Meaning.{start_of, infix_of, behind_of, binds}
-use Rattle.forec_parser.specs.Reading as reading
-use Rattle.forec_parser.specs.Reading.{infix_at, ahead, name, number, expr, climb, prefix, prefix_by, named_by, operation, operation_by, close}
-use Rattle.forec_parser.proofs.Spans.{first, step, ok_of, ok_pair, Raised, raised}
-use Rattle.forec_parser.proofs.Exact.{Lang, Read, Exact, Bind, both, Map, mapped, Scoped, inside, Done, done, If, on, off, Part, part, Reading, Any, bind, map_to, scope, convert, either, done_at, by_reading, then_read, read_as}
-use Rattle.forec_parser.proofs.Leaves.{Tok, tok, NameIs, name_is, NumberIs, number_is, token, a_name, a_number, Enclosed, between, enclosing, l_sound, Listed, end_of_list, next_of_list}
-use Rattle.forec_parser.proofs.Operators.{Begins, begins, Joins, joins, mark_infix, level_bounds, binds_small}
+use Rattle.expr_parser.specs.declared.fault.Fault.TheVariants.{Syntax}
+use Rattle.expr_parser.specs.declared.fixed.Fixed.TheVariants as fixed
+use Rattle.expr_parser.specs.declared.meaning.Start.{Start}
+use Rattle.expr_parser.specs.declared.meaning.Start.TheVariants as beg
+use Rattle.expr_parser.specs.declared.meaning.Infix.{Infix}
+use Rattle.expr_parser.specs.declared.meaning.Infix.TheVariants as inf
+use Rattle.expr_parser.specs.declared.meaning.Behind.{Behind}
+use Rattle.expr_parser.specs.declared.meaning.Behind.TheVariants as follow
+use Rattle.expr_parser.specs.Input.{Input, Parser, and_then, kind_ahead, raise}
+use Rattle.expr_parser.specs.Meaning.{start_of, infix_of, behind_of, binds}
+use Rattle.expr_parser.specs.Reading as reading
+use Rattle.expr_parser.specs.Reading.{infix_at, ahead, name, number, expr, climb, prefix, prefix_by, named_by, operation, operation_by, close}
+use Rattle.expr_parser.proofs.Spans.{first, step, ok_of, ok_pair, Raised, raised}
+use Rattle.expr_parser.proofs.Exact.{Lang, Read, Exact, Bind, both, Map, mapped, Scoped, inside, Done, done, If, on, off, Part, part, Reading, Any, bind, map_to, scope, convert, either, done_at, by_reading, then_read, read_as}
+use Rattle.expr_parser.proofs.Leaves.{Tok, tok, NameIs, name_is, NumberIs, number_is, token, a_name, a_number, Enclosed, between, enclosing, l_sound, Listed, end_of_list, next_of_list}
+use Rattle.expr_parser.proofs.Operators.{Begins, begins, Joins, joins, mark_infix, level_bounds, binds_small}
 
 -- an expression at a level of the operators
 pub data At (m : ℕ) : ℕ → Term → ℕ → List Spelt → Option TokenKind → Type 0 where

@@ -1,0 +1,5 @@
+pub mod Input
+pub mod Meaning
+pub mod Reading
+pub mod Cursor
+pub mod Boxes

@@ -1,0 +1,14 @@
+//! Reads expressions from tokens.
+#![tactic(auto)]
+
+mod expression;
+mod fault;
+mod fixed;
+mod meaning;
+mod nodes;
+mod tokens;
+
+pub use expression::{bracketed, indexed, passed, value, values};
+pub use fault::Fault;
+pub use fixed::{Fixed, is_fixed};
+pub use tokens::Tokens;
