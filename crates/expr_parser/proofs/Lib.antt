@@ -7,3 +7,4 @@ pub mod Leaves
 pub mod Operators
 pub mod ExpressionSound
 pub mod ExpressionComplete
+pub mod AsSpelled

@@ -17,6 +17,7 @@ use Rattle.expr_parser.specs.declared.meaning.Infix.{Infix}
 use Rattle.expr_parser.specs.declared.meaning.Infix.TheVariants as inf
 use Rattle.expr_parser.specs.declared.meaning.Behind.TheVariants as follow
 use Rattle.expr_parser.specs.Meaning.{start_of, infix_of, behind_of, binds, is_fixed}
+pub use Rattle.expr_parser.specs.Meaning.{ends}
 
 -- ---- backwards
 
@@ -139,16 +140,6 @@ binds_small inf.Question = omega arith
 binds_small inf.Nothing = omega arith
 
 -- ---- ends
-
--- what ends an expression
-abbrev pub ends : Option TokenKind → Bool
-ends (Some (kind.Mark mark.RightRound)) = true
-ends (Some (kind.Mark mark.RightSquare)) = true
-ends (Some (kind.Mark mark.RightCurly)) = true
-ends (Some (kind.Mark mark.Comma)) = true
-ends (Some (kind.Mark mark.Semicolon)) = true
-ends (Some (kind.Mark mark.Colon)) = true
-ends _ = false
 
 pub ends_ahead : (k : Option TokenKind) → ends k ≡ true → binds (infix_of k) ≡ 0
 ends_ahead (Some (kind.Mark mark.RightRound)) h = refl

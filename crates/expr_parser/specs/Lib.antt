@@ -3,3 +3,4 @@ pub mod Meaning
 pub mod Reading
 pub mod Cursor
 pub mod Boxes
+pub mod Spelled

@@ -1,5 +1,5 @@
 -- What a token means where it stands; each table is written once.
-use Rattle.std.specs.Prelude.{ℕ, ℤ, Bool, false, nat_eq, Option, Some, None}
+use Rattle.std.specs.Prelude.{ℕ, ℤ, Bool, true, false, nat_eq, Option, Some, None}
 use Rattle.forec_base.specs.declared.operators.Unary.TheVariants as un
 use Rattle.forec_base.specs.declared.operators.Binary.TheVariants as bin
 use Rattle.forec_tree.specs.declared.operators.Operator.TheVariants as oper
@@ -144,3 +144,13 @@ abbrev pub binds : Infix → ℕ
 binds (inf.Joins op) = spelling.level_of op
 binds inf.Question = 1
 binds inf.Nothing = 0
+
+-- what ends an expression
+abbrev pub ends : Option TokenKind → Bool
+ends (Some (kind.Mark mark.RightRound)) = true
+ends (Some (kind.Mark mark.RightSquare)) = true
+ends (Some (kind.Mark mark.RightCurly)) = true
+ends (Some (kind.Mark mark.Comma)) = true
+ends (Some (kind.Mark mark.Semicolon)) = true
+ends (Some (kind.Mark mark.Colon)) = true
+ends _ = false
