@@ -1,15 +1,14 @@
 -- The arguments of branches on a stack.
-use Rattle.std.proofs.Common.{◌≡◌, ℕ, zero, suc, ◌+◌, ◌-◌, ◌<◌, ◌≤◌, List, [], ◌∷◌, ◌++◌, length, take, drop, map, get_or, refl, sym, ap, ◌∙◌, ⊎_elim, arith, drop-cons}
+use Rattle.std.proofs.Common.{◌≡◌, ℕ, zero, suc, ◌+◌, ◌-◌, ◌<◌, ◌≤◌, List, [], ◌∷◌, ◌++◌, length, take, drop, get_or, refl, sym, ap, ◌∙◌, ⊎_elim, arith, drop-cons}
 use Rattle.std.specs.Prelude.{ℤ, pos}
 use Rattle.std.proofs.lemmas.Bool.{cases_lt}
-use Rattle.forec_kernel.specs.declared.shape.ThreadShape.{ThreadShape}
-use Rattle.forec_kernel.specs.Shapes.{PlainShape, plain_thread}
+use Rattle.forec_kernel.specs.Shapes.{PlainShape}
 use Rattle.forec_kernel.specs.Texts.{params_in}
 use Rattle.forec_kernel.specs.Values.{word}
 use Rattle.thread_code.specs.Valid.{arguments_of}
-use Rattle.core_machine.specs.Frames.{arguments}
+use Rattle.thread_state.specs.Frames.{arguments}
 use Rattle.core_machine.specs.Forks.{AreThreads, args_from}
-use Rattle.core_machine.proofs.Lists.{take_next}
+use Rattle.thread_state.proofs.Lists.{take_next}
 
 -- ---- how many arguments there are
 
@@ -107,8 +106,3 @@ args_are total stack (suc n) first le within =
     ap (take (suc n)) (drop-cons xs first (pos 0) lt)
     ∙ ap (λ x. x ∷ take n (drop (suc first) xs)) (argument_at total stack [] first le (omega arith))
     ∙ ap (λ l. word stack (total - 1 - first) ∷ l) (args_are total stack n (suc first) le (omega arith))
-
-pub read_params : (xs : List ThreadShape) (t : ℕ) (x : ThreadShape) → t < length xs → x ≡ get_or xs t x → params_in (map plain_thread xs) t ≡ x.params
-read_params [] t x lt e = absurd (omega arith)
-read_params (y ∷ ys) zero x lt e = ap (λ (s : ThreadShape). s.params) (sym e)
-read_params (y ∷ ys) (suc t) x lt e = read_params ys t x (omega arith) e

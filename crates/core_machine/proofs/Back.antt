@@ -17,10 +17,10 @@ use Rattle.thread_code.specs.Machine.{Point, Own, no_total, Awaited, awaited, Ma
 use Rattle.thread_code.specs.Alone.{block_of, units_of}
 use Rattle.combine_tree.specs.declared.joining.Fold.{Fold}
 use Rattle.combine_tree.specs.Joins.{begun, fold_at}
-use Rattle.core_machine.specs.Frames.{Frames, arguments, without, dropped}
-use Rattle.core_machine.specs.Pars.{HavePars}
-use Rattle.core_machine.specs.Kept.{Kept, own_of, place_in, place_of, no_copy, with_live_at, HavePlaces, Serves}
-use Rattle.core_machine.specs.Stretch.{Comes, next, work, point_of}
+use Rattle.thread_state.specs.Frames.{Frames, arguments, without, dropped}
+use Rattle.thread_state.specs.Pars.{HavePars}
+use Rattle.thread_state.specs.Kept.{Kept, own_of, place_in, place_of, no_copy, with_live_at, HavePlaces, Serves}
+use Rattle.thread_steps.specs.Stretch.{Comes, next, work, point_of}
 use Rattle.core_machine.specs.Branches.{trap_of, verdict_of}
 use Rattle.core_machine.specs.declared.branches.Verdict.TheVariants as verdict
 use Rattle.core_machine.specs.declared.thread.Thread.{Thread}
@@ -30,11 +30,11 @@ use Rattle.core_machine.specs.Merging.{AreBelow, HaveUses, marked_live, begun_us
 use Rattle.core_machine.proofs.Asking.{waits, machine_is}
 use Rattle.core_machine.proofs.Branching.{same_self}
 use Rattle.core_machine.proofs.Calls.{length_without}
-use Rattle.core_machine.proofs.Indexed.{equal_of}
+use Rattle.thread_state.proofs.Indexed.{equal_of}
 use Rattle.core_machine.proofs.Offering.{same_or_not}
 use Rattle.core_machine.proofs.Outer.{Fork_kind, is_fork, is_again, fork_kind, args_act}
 use Rattle.core_machine.proofs.Seeds.{fork_room, fork_numbers, again_numbers, again_some, have_places}
-use Rattle.core_machine.proofs.Steps.{fine, put_set}
+use Rattle.thread_steps.proofs.Steps.{fine, put_set}
 
 -- ---- the place after a fork
 

@@ -13,7 +13,8 @@ use Rattle.thread_code.specs.Machine.{living, starts, wakes, uses_of}
 use Rattle.core_machine.specs.Branches.{chosen}
 use Rattle.core_machine.specs.Held.{branch_of, IsBranch, AreBranches}
 use Rattle.core_machine.specs.Forks.{AreThreads}
-use Rattle.core_machine.proofs.Indexed.{equal_of}
+use Rattle.thread_state.proofs.Indexed.{equal_of}
+use Rattle.thread_state.proofs.Shapes.{few_branches}
 
 pub same_self : (b : ℕ) → (b == b) ≡ true
 same_self b = grind (arith, nat_tests)
@@ -42,14 +43,6 @@ member (s ∷ ss) i j b h = by_par (is_par s.par j) refl h (member ss (suc i) j 
     by_par : (t : Bool) → is_par s.par j ≡ t → IsTrue (contains b (cond t (i ∷ branches_of ss (suc i) j) (branches_of ss (suc i) j))) → (IsTrue (contains b (branches_of ss (suc i) j)) → Member ss (suc i) j b) → Member (s ∷ ss) i j b
     by_par true p h more = here (i == b) refl p h more
     by_par false p h more = later (more h)
-
-pub few_branches : (ss : List PlainThread) (i j : ℕ) → length (branches_of ss i j) ≤ length ss
-few_branches [] i j = omega arith
-few_branches (s ∷ ss) i j = by_par (is_par s.par j) (few_branches ss (suc i) j)
-  where
-    by_par : (t : Bool) → length (branches_of ss (suc i) j) ≤ length ss → length (cond t (i ∷ branches_of ss (suc i) j) (branches_of ss (suc i) j)) ≤ length (s ∷ ss)
-    by_par true le = omega (arith, le)
-    by_par false le = omega (arith, le)
 
 -- ---- those that live
 

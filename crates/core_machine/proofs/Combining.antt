@@ -7,16 +7,16 @@ use Rattle.forec_kernel.specs.Combining.{contains}
 use Rattle.forec_kernel.specs.WellFormed.{all_in}
 use Rattle.thread_code.specs.Plain.{PlainCode}
 use Rattle.thread_code.specs.Machine.{Share, shares_of, step, uses_of}
-use Rattle.core_machine.specs.Kept.{no_copy}
+use Rattle.thread_state.specs.Kept.{no_copy}
 use Rattle.core_machine.specs.declared.branches.Verdict.{Verdict}
 use Rattle.core_machine.specs.declared.branches.Verdict.TheVariants as verdict
 use Rattle.core_machine.specs.declared.thread.Thread.{Thread}
 use Rattle.core_machine.specs.declared.thread.Phase.TheVariants as phase
 use Rattle.core_machine.specs.Held.{Loaded, Placed, Joins, IsBranch, some_use, Exceeds}
 use Rattle.core_machine.specs.Merging.{merging_with, Joining_on, Comes_by, Combined}
-use Rattle.core_machine.proofs.Advance.{run_add}
+use Rattle.thread_steps.proofs.Advance.{run_add}
 use Rattle.core_machine.proofs.Branching.{same_self}
-use Rattle.core_machine.proofs.Lists.{take_next}
+use Rattle.thread_state.proofs.Lists.{take_next}
 use Rattle.core_machine.proofs.Seeds.{branch_in}
 
 -- ---- lists

@@ -9,8 +9,8 @@ use Rattle.thread_code.specs.Plain.{PlainBlock, PlainCode}
 use Rattle.thread_code.specs.Valid.{Scope, IsValid, IsSound, IsValidCode}
 use Rattle.thread_code.specs.Alone.{block_of}
 use Rattle.core_machine.specs.Room.{IsIn}
-use Rattle.core_machine.specs.Stretch.{no_block, block_for, scope_for, depth_after, Comes, first, next, IsDeep}
-use Rattle.core_machine.proofs.Steps.{comes_leads}
+use Rattle.thread_steps.specs.Stretch.{no_block, block_for, scope_for, depth_after, Comes, first, next, IsDeep}
+use Rattle.thread_steps.proofs.Steps.{comes_leads}
 
 -- ---- a list that has each number up to d has more than d elements
 

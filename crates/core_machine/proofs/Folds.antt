@@ -1,24 +1,16 @@
 -- Loops over the copies of branches.
-use Rattle.std.proofs.Common.{◌≡◌, ℕ, zero, suc, ◌+◌, ◌<◌, ◌≤◌, List, [], ◌∷◌, length, drop, get_or, Bool, false, not, refl, sym, ap, ◌∙◌, arith, add-one, drop-cons, length-set}
+use Rattle.std.proofs.Common.{◌≡◌, ℕ, zero, suc, ◌+◌, ◌<◌, ◌≤◌, List, [], ◌∷◌, length, drop, get_or, Bool, false, not, refl, ap, ◌∙◌, arith, length-set}
 use Rattle.std.specs.Prelude.{slice_set}
 use Rattle.forec_kernel.specs.declared.shape.VarCopy.{VarCopy}
 use Rattle.combine_tree.specs.declared.joining.Fold.{Fold}
 use Rattle.combine_tree.specs.Joins.{begun, fold_at, result_of}
 use Rattle.thread_code.specs.Plain.{PlainCode}
 use Rattle.thread_code.specs.Machine.{uses_of}
-use Rattle.core_machine.specs.Kept.{Kept, place_in, no_copy, HavePlaces, with_copy_at, with_live_at}
+use Rattle.thread_state.specs.Kept.{Kept, place_in, no_copy, HavePlaces, with_copy_at, with_live_at}
 use Rattle.core_machine.specs.Merging.{AreBelow, HaveUses, marked_live, begun_uses, begun_branches, combined_uses, combined_branches}
+use Rattle.thread_state.proofs.Lists.{drop_next, drop_past}
 
 -- ---- one more element
-
-pub drop_next : {A : Type 0} → (xs : List A) (i : ℕ) (d : A) → i < length xs → drop i xs ≡ get_or xs i d ∷ drop (i + 1) xs
-drop_next xs i d lt = drop-cons xs i d lt ∙ ap (λ k. get_or xs i d ∷ drop k xs) (sym (add-one i))
-
-pub drop_past : {A : Type 0} → (xs : List A) (i : ℕ) → length xs ≤ i → drop i xs ≡ []
-drop_past [] zero le = refl
-drop_past [] (suc i) le = refl
-drop_past (x ∷ xs) zero le = absurd (omega arith)
-drop_past (x ∷ xs) (suc i) le = drop_past xs i (omega arith)
 
 pub below_nth : (n : ℕ) (bs : List ℕ) (k : ℕ) → AreBelow n bs → k < length bs → get_or bs k 0 < n
 below_nth n [] k h lt = absurd (omega arith)

@@ -8,7 +8,7 @@ use Rattle.forec_base.specs.declared.Trap.{Trap}
 use Rattle.forec_kernel.specs.Engine.{Reply, WasPaused, WasEnded, WasTrapped, WasOver}
 use Rattle.forec_kernel.specs.Solo.{all_units, reply_units, some_reply_over, is_over_reply}
 use Rattle.thread_code.specs.Machine.{is_ended, living}
-use Rattle.core_machine.proofs.Lists.{take_set}
+use Rattle.thread_state.proofs.Lists.{take_set}
 use Rattle.core_machine.specs.declared.branches.Verdict.{Verdict}
 use Rattle.core_machine.specs.declared.branches.Verdict.TheVariants as verdict
 use Rattle.forec_kernel.specs.Packets.{IsEnded, IsTrapped, IsOver}

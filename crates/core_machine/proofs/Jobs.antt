@@ -27,10 +27,10 @@ use Rattle.combine_tree.specs.declared.packet.Packet.{Packet}
 use Rattle.combine_tree.specs.declared.packet.PacketKind.{PacketKind}
 use Rattle.combine_tree.specs.declared.packet.PacketKind.TheVariants as kind
 use Rattle.combine_tree.specs.Plain.{plain_kind, plain_packet}
-use Rattle.core_machine.specs.Frames.{Frames, started as started_frames}
+use Rattle.thread_state.specs.Frames.{Frames, started as started_frames}
 use Rattle.core_machine.specs.Branches.{Says}
-use Rattle.core_machine.specs.Kept.{Kept, begun as begun_kept, with_copies, Serves}
-use Rattle.core_machine.specs.Stretch.{block_for, first, work, point_of}
+use Rattle.thread_state.specs.Kept.{Kept, begun as begun_kept, with_copies, Serves}
+use Rattle.thread_steps.specs.Stretch.{block_for, first, work, point_of}
 use Rattle.core_machine.specs.declared.thread.Thread.{Thread}
 use Rattle.core_machine.specs.declared.thread.Phase.{Phase}
 use Rattle.core_machine.specs.declared.thread.Phase.TheVariants as phase

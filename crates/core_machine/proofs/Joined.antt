@@ -22,10 +22,10 @@ use Rattle.core_machine.specs.Held.{machine_in, machine_of, branch_of, Placed, J
 use Rattle.core_machine.specs.Merging.{merging_with, Joining_on, Comes_by, Combined, Starts, Prepared, Ends, Ends_by, Steps_on}
 use Rattle.core_machine.proofs.Asking.{waits, view_is, units_is}
 use Rattle.core_machine.proofs.Back.{not_over}
-use Rattle.core_machine.proofs.Folds.{drop_next, drop_past}
+use Rattle.thread_state.proofs.Lists.{drop_next, drop_past}
 use Rattle.core_machine.proofs.Jobs.{steps_on}
 use Rattle.core_machine.proofs.Replying.{at_fork, from_some, long_some}
-use Rattle.core_machine.proofs.Steps.{got}
+use Rattle.thread_steps.proofs.Steps.{got}
 
 -- ---- where it begins
 

@@ -1,15 +1,9 @@
-pub mod FrameLemmas
-pub mod Steps
-pub mod Indexed
 pub mod Outer
 pub mod Deep
 pub mod Calls
 pub mod Moving
 pub mod Jobs
-pub mod Advance
-pub mod Living
 pub mod Gathering
-pub mod Lists
 pub mod Args
 pub mod Branching
 pub mod Asking
@@ -24,7 +18,3 @@ pub mod Back
 pub mod Starting
 pub mod Finishing
 pub mod Joined
-pub mod Links
-pub mod Starts
-pub mod Leaping
-pub mod Nearing

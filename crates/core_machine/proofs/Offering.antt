@@ -12,18 +12,18 @@ use Rattle.thread_code.specs.Machine.{Point, Frame, Folding as Folds_to, Share, 
 use Rattle.thread_code.specs.Alone.{block_of}
 use Rattle.combine_tree.specs.declared.joining.Fold.{Fold}
 use Rattle.combine_tree.specs.Joins.{fold_at, pair_of, with_value, with_mark, offered, folded}
-use Rattle.core_machine.specs.Kept.{own_of, place_of, place_in, no_copy}
-use Rattle.core_machine.specs.Stretch.{point_of}
+use Rattle.thread_state.specs.Kept.{own_of, place_of, place_in, no_copy}
+use Rattle.thread_steps.specs.Stretch.{point_of}
 use Rattle.core_machine.specs.declared.branches.Verdict.{Verdict}
 use Rattle.core_machine.specs.declared.branches.Verdict.TheVariants as verdict
 use Rattle.core_machine.specs.declared.thread.Thread.{Thread}
 use Rattle.core_machine.specs.declared.thread.Phase.TheVariants as phase
 use Rattle.core_machine.specs.Held.{Loaded, Placed, Joins, Joins_by, Combines, FoldsFit, some_use, total_in, totals_in, Exceeds}
 use Rattle.core_machine.specs.Merging.{merging_with, calling, with_units, Joining_on, Fails_by, Fails, Valued, Comes_by, Combined}
-use Rattle.core_machine.proofs.Advance.{run_add}
-use Rattle.core_machine.proofs.Indexed.{equal_of, differs_of, place_within}
+use Rattle.thread_steps.proofs.Advance.{run_add}
+use Rattle.thread_state.proofs.Indexed.{equal_of, differs_of, place_within}
 use Rattle.core_machine.proofs.Seeds.{place_is}
-use Rattle.core_machine.proofs.Steps.{copy_at}
+use Rattle.thread_steps.proofs.Steps.{copy_at}
 
 pub same_or_not : (a b : ℕ) → (a ≡ b) ⊎ (b ≢ a)
 same_or_not a b = by (a == b) refl

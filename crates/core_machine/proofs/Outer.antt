@@ -10,11 +10,11 @@ use Rattle.thread_code.specs.Plain.{PlainCode}
 use Rattle.thread_code.specs.Valid.{cost, IsParOf, IsValidCode, branches_in, arguments_of}
 use Rattle.thread_code.specs.Machine.{Point, Own, Awaited, Machine, Waits, Paused, with_arguments, awaited, starts, wakes, waking, living, uses_of, act, step}
 use Rattle.thread_code.specs.Alone.{block_of, view_of, units_of}
-use Rattle.core_machine.specs.Frames.{arguments, without}
-use Rattle.core_machine.specs.Kept.{Kept, own_of}
-use Rattle.core_machine.specs.Stretch.{block_for, owner, Comes, next, Work, work, point_of, machine_at, IsAt, Stands_before, Forks, Shows, Runs}
-use Rattle.core_machine.specs.declared.stretch.Stop.{Stop}
-use Rattle.core_machine.specs.declared.stretch.Stop.TheVariants as stop
+use Rattle.thread_state.specs.Frames.{arguments, without}
+use Rattle.thread_state.specs.Kept.{Kept, own_of}
+use Rattle.thread_steps.specs.Stretch.{block_for, owner, Comes, next, Work, work, point_of, machine_at, IsAt, Stands_before, Forks, Shows, Runs}
+use Rattle.thread_steps.specs.declared.stretch.Stop.{Stop}
+use Rattle.thread_steps.specs.declared.stretch.Stop.TheVariants as stop
 use Rattle.core_machine.specs.declared.thread.Thread.{Thread}
 use Rattle.core_machine.specs.declared.thread.Phase.TheVariants as phase
 use Rattle.core_machine.specs.declared.thread.Event.TheVariants as event
@@ -25,7 +25,7 @@ use Rattle.core_machine.specs.declared.fork.ForkAt.{ForkAt}
 use Rattle.core_machine.specs.Forks.{IsFork, IsForkStep}
 use Rattle.core_machine.specs.Merging.{instruction_of}
 use Rattle.core_machine.proofs.Branching.{starts_name, wakes_name, chosen_are, chosen_few}
-use Rattle.core_machine.proofs.Steps.{fine}
+use Rattle.thread_steps.proofs.Steps.{fine}
 
 -- ---- lists
 

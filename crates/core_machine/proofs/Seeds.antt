@@ -14,9 +14,9 @@ use Rattle.thread_code.specs.Plain.{PlainCode}
 use Rattle.thread_code.specs.Valid.{branches_in, arguments_of}
 use Rattle.thread_code.specs.Machine.{Machine, Waits, awaited, waking, living, starts, wakes, handed, uses_of, act, step}
 use Rattle.thread_code.specs.Alone.{block_of, view_of}
-use Rattle.core_machine.specs.Frames.{arguments, without}
-use Rattle.core_machine.specs.Kept.{Kept, own_of, place_in, place_of, no_copy, HavePlaces, handed_by, Serves}
-use Rattle.core_machine.specs.Stretch.{work, point_of, machine_at}
+use Rattle.thread_state.specs.Frames.{arguments, without}
+use Rattle.thread_state.specs.Kept.{Kept, own_of, place_in, place_of, no_copy, HavePlaces, handed_by, Serves}
+use Rattle.thread_steps.specs.Stretch.{work, point_of, machine_at}
 use Rattle.core_machine.specs.declared.thread.Thread.{Thread}
 use Rattle.core_machine.specs.declared.thread.Phase.TheVariants as phase
 use Rattle.core_machine.specs.Held.{machine_in, branch_of, IsBranch, AreBranches, Waits_at, Loaded, HasSettled}
@@ -28,9 +28,9 @@ use Rattle.core_machine.specs.Forks.{branch_at, jobs_at, args_at, HasKind}
 use Rattle.core_machine.proofs.Args.{args_are, sum_within}
 use Rattle.core_machine.proofs.Asking.{waits, jobs_are}
 use Rattle.core_machine.proofs.Branching.{starts_name, wakes_name}
-use Rattle.core_machine.proofs.Indexed.{place_within}
+use Rattle.thread_state.proofs.Indexed.{place_within}
 use Rattle.core_machine.proofs.Outer.{Fork_kind, is_fork, is_again, fork_kind, args_act}
-use Rattle.core_machine.proofs.Steps.{copy_at, got, fine}
+use Rattle.thread_steps.proofs.Steps.{copy_at, got, fine}
 
 -- ---- the k-th job
 

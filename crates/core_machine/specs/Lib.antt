@@ -1,12 +1,6 @@
-pub mod Frames
-pub mod Pars
-pub mod Kept
 pub mod Branches
-pub mod Acts
-pub mod Stretch
 pub mod Room
 pub mod Held
 pub mod Forks
 pub mod Merging
 pub mod Replies
-pub mod Fused

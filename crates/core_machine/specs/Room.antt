@@ -6,7 +6,7 @@ use Rattle.thread_code.specs.Plain.{PlainBlock, PlainCode}
 use Rattle.thread_code.specs.Valid.{of_shape}
 use Rattle.thread_code.specs.Machine.{uses_of}
 use Rattle.thread_code.specs.Alone.{block_of}
-use Rattle.core_machine.specs.Stretch.{IsDeep}
+use Rattle.thread_steps.specs.Stretch.{IsDeep}
 
 -- so many numbers are enough for a frame of the block and all that it calls, where each function has what it needs
 pub record Enough (c : PlainCode) (b : PlainBlock) (needs : List ℕ) (n : ℕ) : Type 0 where

@@ -7,18 +7,18 @@ ghost use Rattle.forec_kernel.specs.Packed.{IsReply};
 ghost use Rattle.forec_kernel.specs.Shapes.{plain_shape};
 ghost use Rattle.combine_tree.specs.Plain.{plain_packet};
 ghost use Rattle.thread_code.specs.Valid.{branches_in};
-ghost use Rattle.core_machine.specs.Pars.{HavePars};
+ghost use Rattle.thread_state.specs.Pars.{HavePars};
 ghost use Rattle.core_machine.specs.Branches.{no_branches, with_branches, with_verdict, one_joined, first_trap, noted, counted, chosen, Settles};
 
-use crate::own::Own;
 use combine_tree::{Packet, PacketKind};
 use forec_base::{OutOfMemory, Place, Trap};
 use forec_kernel::Shape;
 use std::alloc::Global;
 use std::marker::Model;
+use thread_state::Own;
 
 /// What comes of the replies.
-#[derive(Clone, Copy, Debug, PartialEq, Eq)]
+#[derive(Clone, Copy, PartialEq, Eq)]
 pub enum Verdict {
     /// The copies of the branches are combined.
     Combine,

@@ -6,13 +6,13 @@ ghost use Rattle.thread_code.specs.Alone.{block_of};
 ghost use Rattle.core_machine.specs.Merging.{instruction_of};
 ghost use Rattle.core_machine.specs.Forks.{IsFork, args_from};
 
-use crate::stack::Stack;
-use crate::stretch::block_at;
 use thread_code::{CodeParts, Instruction};
+use thread_state::Stack;
+use thread_steps::stretch::block_at;
 
 /// The number of the `par`, the address at which the thread goes on while a branch has not ended, and
 /// whether the fork was held.
-#[derive(Clone, Copy, Debug)]
+#[derive(Clone, Copy)]
 pub struct ForkAt {
     pub par: u32,
     pub to: u32,

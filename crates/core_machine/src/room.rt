@@ -8,15 +8,15 @@ ghost use Rattle.thread_code.specs.Machine.{uses_of};
 ghost use Rattle.thread_code.specs.Alone.{block_of};
 ghost use Rattle.thread_code.specs.Valid.{IsValidCode, of_shape};
 ghost use Rattle.thread_code.specs.declared.instruction.Instruction.TheVariants as instruction;
-ghost use Rattle.core_machine.specs.Stretch.{no_block, block_for, IsDeep};
+ghost use Rattle.thread_steps.specs.Stretch.{no_block, block_for, IsDeep};
 ghost use Rattle.core_machine.specs.Room.{Enough, EnoughToCombine, EnoughFor, IsIn};
 
 use crate::merging::variable_at;
-use crate::stretch::{Site, block_at};
 use forec_base::OutOfMemory;
 use forec_kernel::Shape;
 use std::alloc::Global;
 use thread_code::{Block, CodeParts, Instruction};
+use thread_steps::stretch::{Site, block_at};
 
 /// At most so many numbers stand on the stack of a block.
 fn deepest(site: &Site<'_>) -> u64

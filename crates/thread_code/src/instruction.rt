@@ -6,7 +6,7 @@ use forec_kernel::Shape;
 /// One instruction of a block. It works on a stack of numbers, and on the words, counters and flags
 /// of its thread or function. An address is a place in the same block, counted from 0; an instruction
 /// that names none leads to the next one. Units are counted before a trap is raised.
-#[derive(Clone, Copy, Debug, PartialEq, Eq)]
+#[derive(Clone, Copy)]
 pub enum Instruction {
     /// Pushes a number; 1 unit.
     Push {

@@ -1,12 +1,14 @@
 //! The listing of a code.
 
-ghost use Rattle.std.specs.Prelude.{◌≡◌, ◌++◌, map, string_bytes, IfOk, OnOk};
+ghost use Rattle.std.specs.Prelude.{◌≡◌, ◌++◌, Some, map, string_bytes, IfOk, OnOk};
+ghost use Rattle.std.specs.Fmt.{DisplaysOnOk};
+ghost use Rattle.thread_code.specs.declared.instruction.Instruction.TheVariants as instruction;
 ghost use Rattle.thread_code.specs.Plain.{plain_code, plain_block};
-ghost use Rattle.thread_code.specs.Listing.{unary_name, binary_name, instruction_text, steps_text, blocks_text, listing_of};
+ghost use Rattle.thread_code.specs.Listing.{unary_name, binary_name, one, two, trapping, instruction_text, steps_text, blocks_text, listing_of};
 
 use crate::code::Code;
 use crate::instruction::{Block, Instruction};
-use forec_base::{Binary, OutOfMemory, Unary};
+use forec_base::{Binary, OutOfMemory, Place, Unary};
 use std::alloc::Global;
 use std::fmt;
 use std::fmt::Write;
@@ -44,6 +46,60 @@ fn binary_word(op: Binary) -> &'static str
     }
 }
 
+fn write_one<W: fmt::Write>(f: &mut fmt::Formatter<W>, word: &str, first: u32) -> fmt::Result
+    ensures { DisplaysOnOk W.write_str_gives f.old result (Some (one word.now first)) f.new }
+{
+    write!(f, "{word} {first}")
+}
+
+fn write_two<W: fmt::Write>(
+    f: &mut fmt::Formatter<W>,
+    word: &str,
+    first: u32,
+    second: u32,
+) -> fmt::Result
+    ensures { DisplaysOnOk W.write_str_gives f.old result (Some (two word.now first second)) f.new }
+{
+    write!(f, "{word} {first} {second}")
+}
+
+fn write_one_at<W: fmt::Write>(
+    f: &mut fmt::Formatter<W>,
+    word: &str,
+    first: u32,
+    at: Place,
+) -> fmt::Result
+    ensures { DisplaysOnOk W.write_str_gives f.old result (Some (trapping (one word.now first) at)) f.new }
+{
+    write!(f, "{word} {first} @{}:{}", at.line, at.column)
+}
+
+fn write_two_at<W: fmt::Write>(
+    f: &mut fmt::Formatter<W>,
+    word: &str,
+    first: u32,
+    second: u32,
+    at: Place,
+) -> fmt::Result
+    ensures { DisplaysOnOk W.write_str_gives f.old result (Some (trapping (two word.now first second) at)) f.new }
+{
+    write!(f, "{word} {first} {second} @{}:{}", at.line, at.column)
+}
+
+fn write_binary<W: fmt::Write>(
+    f: &mut fmt::Formatter<W>,
+    op: Binary,
+    place: Option<Place>,
+) -> fmt::Result
+    ensures { DisplaysOnOk W.write_str_gives f.old result (Some (instruction_text (instruction.Binary op place))) f.new }
+{
+    let word = binary_word(op);
+    match place {
+        None => write!(f, "binary {word}"),
+        Some(at) => write!(f, "binary {word} @{}:{}", at.line, at.column),
+    }
+}
+
 /// The word of the instruction, and each operand after one space. An instruction that can trap ends
 /// with a space and `@L:C`, the line and the column of the trap's place.
 impl fmt::Display for Instruction {
@@ -56,52 +112,40 @@ impl fmt::Display for Instruction {
         match *self {
             Instruction::Push { value } => write!(f, "push {value}"),
             Instruction::Quiet { value } => write!(f, "quiet {value}"),
-            Instruction::Load { slot } => write!(f, "load {slot}"),
-            Instruction::Store { slot } => write!(f, "store {slot}"),
+            Instruction::Load { slot } => write_one(f, "load", slot),
+            Instruction::Store { slot } => write_one(f, "store", slot),
             Instruction::LoadAt {
                 slot,
                 length,
-                place: at,
-            } => write!(f, "loadat {slot} {length} @{}:{}", at.line, at.column),
+                place,
+            } => write_two_at(f, "loadat", slot, length, place),
             Instruction::StoreAt {
                 slot,
                 length,
-                place: at,
-            } => write!(f, "storeat {slot} {length} @{}:{}", at.line, at.column),
-            Instruction::Clear { slot, length } => write!(f, "clear {slot} {length}"),
-            Instruction::Table { table, place: at } => write!(
-                f,
-                "table {table} @{}:{}",
-                at.line, at.column
-            ),
-            Instruction::Get { variable } => write!(f, "get {variable}"),
-            Instruction::Put { variable } => write!(f, "put {variable}"),
+                place,
+            } => write_two_at(f, "storeat", slot, length, place),
+            Instruction::Clear { slot, length } => write_two(f, "clear", slot, length),
+            Instruction::Table { table, place } => write_one_at(f, "table", table, place),
+            Instruction::Get { variable } => write_one(f, "get", variable),
+            Instruction::Put { variable } => write_one(f, "put", variable),
             Instruction::Unary { op } => write!(f, "unary {}", unary_word(op)),
-            Instruction::Binary { op, place: None } => write!(f, "binary {}", binary_word(op)),
-            Instruction::Binary {
-                op,
-                place: Some(at),
-            } => write!(f, "binary {} @{}:{}", binary_word(op), at.line, at.column),
-            Instruction::Truth => write!(f, "truth"),
-            Instruction::Zero { to } => write!(f, "zero {to}"),
-            Instruction::NonZero { to } => write!(f, "nonzero {to}"),
-            Instruction::Jump { to } => write!(f, "jump {to}"),
-            Instruction::Unit { count } => write!(f, "unit {count}"),
-            Instruction::Fill { counter, turns } => write!(f, "fill {counter} {turns}"),
-            Instruction::Turn { counter, place: at } => write!(
-                f,
-                "turn {counter} @{}:{}",
-                at.line, at.column
-            ),
-            Instruction::Flag { flag, value } => write!(f, "flag {flag} {}", value as u8),
-            Instruction::Keep { flag } => write!(f, "keep {flag}"),
-            Instruction::Flagged { flag, to } => write!(f, "flagged {flag} {to}"),
-            Instruction::Fork { par, to } => write!(f, "fork {par} {to}"),
-            Instruction::Again { par, to } => write!(f, "again {par} {to}"),
-            Instruction::Pause { to } => write!(f, "pause {to}"),
-            Instruction::End => write!(f, "end"),
-            Instruction::Call { function } => write!(f, "call {function}"),
-            Instruction::Return => write!(f, "return"),
+            Instruction::Binary { op, place } => write_binary(f, op, place),
+            Instruction::Truth => f.write_str("truth"),
+            Instruction::Zero { to } => write_one(f, "zero", to),
+            Instruction::NonZero { to } => write_one(f, "nonzero", to),
+            Instruction::Jump { to } => write_one(f, "jump", to),
+            Instruction::Unit { count } => write_one(f, "unit", count),
+            Instruction::Fill { counter, turns } => write_two(f, "fill", counter, turns),
+            Instruction::Turn { counter, place } => write_one_at(f, "turn", counter, place),
+            Instruction::Flag { flag, value } => write_two(f, "flag", flag, value as u32),
+            Instruction::Keep { flag } => write_one(f, "keep", flag),
+            Instruction::Flagged { flag, to } => write_two(f, "flagged", flag, to),
+            Instruction::Fork { par, to } => write_two(f, "fork", par, to),
+            Instruction::Again { par, to } => write_two(f, "again", par, to),
+            Instruction::Pause { to } => write_one(f, "pause", to),
+            Instruction::End => f.write_str("end"),
+            Instruction::Call { function } => write_one(f, "call", function),
+            Instruction::Return => f.write_str("return"),
         }
     }
 }

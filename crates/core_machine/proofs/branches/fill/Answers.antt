@@ -1,11 +1,11 @@
 use Rattle.std.proofs.Common.{◌≡◌, ◌+◌, ◌<◌, ◌++◌, ◌∷◌, [], ◌∙◌, ℕ, List, ap, sym, subst, refl, arith, length, take, length-set, true, false, append-nil}
 use Rattle.forec_kernel.specs.Shapes.{plain_shape}
 use Rattle.thread_code.specs.Valid.{branches_in}
-use Rattle.core_machine.specs.Pars.{Links, first_of, sibling_at, Lead}
+use Rattle.thread_state.specs.Pars.{Links, first_of, sibling_at, Lead}
 use Rattle.core_machine.specs.Branches.{chosen}
-use Rattle.core_machine.proofs.Branching.{few_branches}
+use Rattle.thread_state.proofs.Shapes.{few_branches}
 use Rattle.core_machine.proofs.Gathering.{chosen_next, chosen_none, one_chosen}
-use Rattle.core_machine.proofs.Links.{ahead, behind_last, left_of, left_falls}
+use Rattle.thread_state.proofs.Links.{ahead, behind_last, left_of, left_falls}
 use Rattle.core_machine.proofs.branches.fill.Goals as goal
 use Rattle.core_machine.proofs.branches.fill.Goals.{then-is_chosen, else-is_chosen}
 

@@ -1,9 +1,9 @@
 use Rattle.std.proofs.Common.{◌≡◌, ◌≤◌, ◌+◌, ◌++◌, List, ℕ, length, take}
 use Rattle.forec_kernel.specs.Shapes.{plain_shape}
 use Rattle.thread_code.specs.Valid.{branches_in}
-use Rattle.core_machine.specs.Pars.{Lead}
+use Rattle.thread_state.specs.Pars.{Lead}
 use Rattle.core_machine.specs.Branches.{chosen}
-use Rattle.core_machine.proofs.Links.{left_of}
+use Rattle.thread_state.proofs.Links.{left_of}
 use Rattle.core_machine.proofs.branches.fill.Given as goal
 
 abbrev pub invariant-loop-next : goal.invariant-loop-next

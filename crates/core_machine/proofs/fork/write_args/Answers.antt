@@ -2,7 +2,7 @@ use Rattle.std.proofs.Common.{rules, ◌≡◌, ◌+◌, ◌-◌, ◌∙◌, sym
 use Rattle.forec_kernel.specs.Values.{word}
 use Rattle.core_machine.specs.Forks.{args_from}
 use Rattle.core_machine.proofs.Args.{args_read, length_args}
-use Rattle.core_machine.proofs.Lists.{front_next, all_front}
+use Rattle.thread_state.proofs.Lists.{front_next, all_front}
 use Rattle.core_machine.proofs.fork.write_args.Goals as goal
 
 pub loop-i-preserved : goal.loop-i-preserved

@@ -1,8 +1,8 @@
 use Rattle.std.proofs.Common.{◌≡◌, ◌<◌, ap, ⊎_elim, length, map, get_or, arith}
 use Rattle.std.proofs.lemmas.Bool.{cases_lt}
 use Rattle.thread_code.specs.Plain.{PlainBlock, plain_block}
-use Rattle.core_machine.specs.Stretch.{no_block}
-use Rattle.core_machine.proofs.Living.{read_plain}
+use Rattle.thread_steps.specs.Stretch.{no_block}
+use Rattle.thread_state.proofs.Living.{read_plain}
 use Rattle.core_machine.proofs.room.are_short.Goals as goal
 
 pub loop-function-preserved : goal.loop-function-preserved

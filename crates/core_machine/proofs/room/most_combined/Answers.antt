@@ -2,8 +2,8 @@ use Rattle.std.proofs.Common.{◌∙◌, ap, arith}
 use Rattle.forec_kernel.specs.Combining.{variable_of}
 use Rattle.forec_kernel.specs.Shapes.{plain_shape}
 use Rattle.thread_code.specs.Valid.{of_shape}
-use Rattle.core_machine.specs.Kept.{place_of}
-use Rattle.core_machine.proofs.Indexed.{found_at, place_within}
+use Rattle.thread_state.specs.Kept.{place_of}
+use Rattle.thread_state.proofs.Indexed.{found_at, place_within}
 use Rattle.core_machine.proofs.room.most_combined.Goals as goal
 
 pub returns : goal.returns

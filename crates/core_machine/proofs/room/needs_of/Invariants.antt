@@ -1,6 +1,6 @@
 use Rattle.std.proofs.Common.{◌≡◌, ◌<◌, ℕ, length, get_or, Some}
 use Rattle.thread_code.specs.Plain.{plain_code}
-use Rattle.core_machine.specs.Stretch.{block_for}
+use Rattle.thread_steps.specs.Stretch.{block_for}
 use Rattle.core_machine.specs.Room.{Enough}
 use Rattle.core_machine.proofs.room.needs_of.Given as goal
 

@@ -1,8 +1,8 @@
 use Rattle.std.proofs.Common.{◌≡◌, sym, ◌∙◌, ap, length, map}
 use Rattle.forec_kernel.specs.Shapes.{plain_thread}
 use Rattle.forec_kernel.specs.Texts.{params_in, uses_in}
-use Rattle.core_machine.proofs.Indexed.{equal_of}
-use Rattle.core_machine.proofs.Args.{read_params}
+use Rattle.thread_state.proofs.Indexed.{equal_of}
+use Rattle.thread_state.proofs.Shapes.{read_params}
 use Rattle.core_machine.proofs.Jobs.{read_uses}
 use Rattle.core_rows.proofs.joining.has_room.Goals as goal
 

@@ -6,7 +6,7 @@ use Rattle.std.proofs.lemmas.List.{with_items_is}
 use Rattle.combine_tree.specs.Plain.{plain_packet}
 use Rattle.thread_code.specs.Plain.{plain_code}
 use Rattle.thread_code.specs.Machine.{uses_of}
-use Rattle.core_machine.specs.Kept.{HavePlaces, handed_by, place_in, no_copy}
+use Rattle.thread_state.specs.Kept.{HavePlaces, handed_by, place_in, no_copy}
 use Rattle.core_machine.specs.Forks.{branch_at, HasKind}
 use Rattle.core_machine.proofs.Jobs.{read_uses}
 use Rattle.core_machine.proofs.Seeds.{is_branch, have_places, job_by}

@@ -1,7 +1,7 @@
 use Rattle.std.proofs.Common.{rules, ◌≡◌, ◌∙◌, sym, ap, subst, arith, length, w32, to_z, of_z}
 use Rattle.thread_code.specs.Plain.{plain_code}
-use Rattle.core_machine.specs.Frames.{Frames, top_of, pushed, popped, left, resume_in}
-use Rattle.core_machine.specs.declared.stack.Resume.{Resume}
+use Rattle.thread_state.specs.Frames.{Frames, top_of, pushed, popped, left, resume_in}
+use Rattle.thread_state.specs.declared.stack.Resume.{Resume}
 use Rattle.core_machine.specs.declared.thread.Thread.{Thread}
 use Rattle.core_machine.specs.declared.thread.Phase.TheVariants as phase
 use Rattle.core_machine.specs.Held.{Returns}

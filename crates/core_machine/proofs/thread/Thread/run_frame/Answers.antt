@@ -1,5 +1,5 @@
 use Rattle.thread_code.specs.Plain.{plain_code}
-use Rattle.core_machine.specs.Stretch.{work}
+use Rattle.thread_steps.specs.Stretch.{work}
 use Rattle.core_machine.proofs.Outer.{run_stretches}
 use Rattle.core_machine.proofs.thread.Thread.run_frame.Goals as goal
 

@@ -1,7 +1,7 @@
 use Rattle.std.proofs.Common.{◌∙◌, refl, sym, subst}
 use Rattle.thread_code.specs.Plain.{plain_code}
 use Rattle.thread_code.specs.Fused.{AreFused, steps_for}
-use Rattle.core_machine.proofs.Nearing.{fused_block}
+use Rattle.thread_steps.proofs.Nearing.{fused_block}
 use Rattle.core_machine.specs.Held.{over, Stops_in}
 use Rattle.core_machine.proofs.Moving.{moved_then, comes_then}
 use Rattle.core_machine.proofs.thread.Thread.run_on.Goals as goal

@@ -2,8 +2,8 @@ use Rattle.std.proofs.Common.{false, ◌≡◌, ◌∙◌, sym, ap, subst, arith
 use Rattle.forec_kernel.specs.declared.shape.VarCopy.{VarCopy}
 use Rattle.thread_code.specs.Plain.{PlainBlock, plain_code}
 use Rattle.thread_code.specs.Alone.{block_of}
-use Rattle.core_machine.specs.Frames.{Frames, started}
-use Rattle.core_machine.specs.Kept.{Kept, begun}
+use Rattle.thread_state.specs.Frames.{Frames, started}
+use Rattle.thread_state.specs.Kept.{Kept, begun}
 use Rattle.core_machine.specs.declared.thread.Thread.{Thread}
 use Rattle.core_machine.specs.declared.thread.Phase.TheVariants as phase
 use Rattle.core_machine.specs.Held.{Begun, started_anew}

@@ -1,7 +1,7 @@
 use Rattle.std.proofs.Common.{false, ◌≡◌, ◌∙◌, sym, ap, subst, List}
 use Rattle.forec_kernel.specs.declared.shape.VarCopy.{VarCopy}
 use Rattle.thread_code.specs.Plain.{plain_code}
-use Rattle.core_machine.specs.Kept.{Kept, with_copies}
+use Rattle.thread_state.specs.Kept.{Kept, with_copies}
 use Rattle.core_machine.specs.declared.thread.Thread.{Thread}
 use Rattle.core_machine.specs.declared.thread.Phase.TheVariants as phase
 use Rattle.core_machine.specs.Held.{Begun, woken_up}

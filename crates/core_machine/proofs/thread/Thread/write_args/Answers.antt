@@ -1,10 +1,10 @@
 use Rattle.std.proofs.Common.{◌≡◌, ◌∙◌, Some, length, drop, take, sym, ap, arith}
 use Rattle.thread_code.specs.Plain.{plain_code}
 use Rattle.thread_code.specs.Valid.{arguments_of}
-use Rattle.core_machine.specs.Pars.{Links, arguments_from}
+use Rattle.thread_state.specs.Pars.{Links, arguments_from}
 use Rattle.core_machine.specs.Forks.{args_from}
 use Rattle.core_machine.proofs.Args.{sum_within, sum_parts, args_behind}
-use Rattle.core_machine.proofs.Links.{fork_arguments}
+use Rattle.thread_state.proofs.Links.{fork_arguments}
 use Rattle.core_machine.proofs.thread.Thread.write_args.Goals as goal
 
 pub arguments_from-count-requires : goal.arguments_from-count-requires
