@@ -1,6 +1,6 @@
 // Aborts, strong and weak, immediate or not, in one another and round branches.
 
-use crate::memory::{Row, counts, print};
+use crate::memory::{Row, counts, prints_each};
 use forec_engine::Status;
 use std::test::Fail;
 
@@ -163,7 +163,7 @@ const ABORTS: [Row; 8] = [
 
 #[test]
 fn aborts(rt: HostRuntime) -> Result<(), Fail> {
-    print(&rt, rt.alloc(), &ABORTS)?;
+    prints_each(&rt, rt.alloc(), &ABORTS)?;
     let want = b"ok threads 5 inputs 3 outputs 3\n";
     counts(&rt, rt.alloc(), ROBOT, (want, Status::Done))
 }

@@ -1,6 +1,6 @@
 // Threads that run side by side, and shared variables that are combined.
 
-use crate::memory::{Row, counts, print};
+use crate::memory::{Row, counts, prints_each};
 use forec_engine::Status;
 use std::test::Fail;
 
@@ -116,7 +116,7 @@ const BRANCHES: [Row; 9] = [
 
 #[test]
 fn branches(rt: HostRuntime) -> Result<(), Fail> {
-    print(&rt, rt.alloc(), &BRANCHES)?;
+    prints_each(&rt, rt.alloc(), &BRANCHES)?;
     let want = b"ok threads 255 inputs 0 outputs 0\n";
     counts(&rt, rt.alloc(), SEVEN_LEVELS, (want, Status::Done))
 }

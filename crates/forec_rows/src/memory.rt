@@ -103,10 +103,18 @@ pub fn shows(
 pub type Row = (&'static [u8], &'static [u8], &'static [u8], Status);
 
 /// Runs the text of each row over its trace, once by large pieces and once by single bytes.
-pub fn print(rt: &impl Abort, alloc: Global, rows: &[Row]) -> Result<(), Fail> {
+pub fn prints_each(rt: &impl Abort, alloc: Global, rows: &[Row]) -> Result<(), Fail> {
     for (text, trace, want, status) in rows {
         for streams in [whole(alloc), single(alloc, 0, 0)?] {
-            shows(rt, alloc, &["run", "P"], text, trace, streams, (want, *status))?;
+            shows(
+                rt,
+                alloc,
+                &["run", "P"],
+                text,
+                trace,
+                streams,
+                (want, *status),
+            )?;
         }
     }
     Ok(())
@@ -119,5 +127,13 @@ pub fn counts(
     text: &[u8],
     want: (&[u8], Status),
 ) -> Result<(), Fail> {
-    shows(rt, alloc, &["check", "P"], text, b"", single(alloc, 1, 0)?, want)
+    shows(
+        rt,
+        alloc,
+        &["check", "P"],
+        text,
+        b"",
+        single(alloc, 1, 0)?,
+        want,
+    )
 }

@@ -1,6 +1,6 @@
 // Programs of one thread, the words, the sizes, and how it ends where streams fail.
 
-use crate::memory::{Row, counts, print, run, shows, single, whole};
+use crate::memory::{Row, counts, prints_each, run, shows, single, whole};
 use forec_engine::Status;
 use std::test::Fail;
 
@@ -119,7 +119,7 @@ const ROWS: [Row; 23] = [
 
 #[test]
 fn rows(rt: HostRuntime) -> Result<(), Fail> {
-    print(&rt, rt.alloc(), &ROWS)
+    prints_each(&rt, rt.alloc(), &ROWS)
 }
 
 /// A text, the word of its budget, what is held in the end over three rows without words, and the status.
@@ -152,7 +152,15 @@ fn budgets(rt: HostRuntime) -> Result<(), Fail> {
     for (text, budget, want, status) in &BUDGETS {
         let words = ["run", "P", "--budget", budget];
         let streams = whole(alloc);
-        shows(&rt, alloc, &words, text, b"\n\n\n", streams, (want, *status))?;
+        shows(
+            &rt,
+            alloc,
+            &words,
+            text,
+            b"\n\n\n",
+            streams,
+            (want, *status),
+        )?;
     }
     Ok(())
 }
@@ -203,7 +211,15 @@ fn words(rt: HostRuntime) -> Result<(), Fail> {
     }
     let missing = (b"".as_slice(), Status::ReadFault);
     let streams = whole(alloc);
-    shows(&rt, alloc, &["run", "Q"], COUNTER, b"\n\n", streams, missing)
+    shows(
+        &rt,
+        alloc,
+        &["run", "Q"],
+        COUNTER,
+        b"\n\n",
+        streams,
+        missing,
+    )
 }
 
 /// A byte, how many of them a text has, and what is held in the end.
@@ -233,7 +249,15 @@ fn sizes(rt: HostRuntime) -> Result<(), Fail> {
     for (count, want, status) in &HEADERS {
         let trace = vec![in alloc; b' '; *count]?;
         let streams = whole(alloc);
-        shows(&rt, alloc, &words, COUNTER, &trace, streams, (want, *status))?;
+        shows(
+            &rt,
+            alloc,
+            &words,
+            COUNTER,
+            &trace,
+            streams,
+            (want, *status),
+        )?;
     }
     Ok(())
 }
@@ -259,7 +283,15 @@ fn failing_streams(rt: HostRuntime) -> Result<(), Fail> {
     let words = ["run", "P"];
     for (read, write, want, status) in &FAILS {
         let streams = single(alloc, *read, *write)?;
-        shows(&rt, alloc, &words, COUNTER, b"\n\n\n", streams, (want, *status))?;
+        shows(
+            &rt,
+            alloc,
+            &words,
+            COUNTER,
+            b"\n\n\n",
+            streams,
+            (want, *status),
+        )?;
     }
     for written in 0..REPORT.len() {
         let streams = single(alloc, 0, written as u64 + 1)?;

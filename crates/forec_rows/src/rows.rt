@@ -1,11 +1,11 @@
 // Worked traces, out of sources in memory that give their bytes in pieces, and worked lines.
 ghost use Rattle.std.specs.Prelude.{◌≡◌, ◌≤◌, length, IfOk};
 
-use trace_rows::{Next, RowFault, Rows, line, line_room};
 use forec_base::{Labels, MemSource, OutOfMemory};
 use std::alloc::Global;
 use std::process::Abort;
 use std::test::Fail;
+use trace_rows::{Next, RowFault, Rows, line, line_room};
 
 // What a trace of the inputs `a` and `b` is to give: the values of its rows, one behind the other, and the last answer.
 const TWO: [(&[u8], &[i32], Result<Next, RowFault>); 31] = [
