@@ -65,10 +65,9 @@ pub(crate) fn join_step(
         Some((place, trap)) => Err(Halt::Trapped { place, trap }),
         None => match join_copies(alloc, kernel, uses, copies, children, left) {
             Ok(copies) => {
-                let text = joined_text(alloc, children)?;
                 let words = Vec::from_slice(alloc, words)?;
                 Ok(Step::Moves {
-                    text,
+                    text: joined_text(alloc, children)?,
                     words,
                     copies,
                 })
