@@ -1,3 +1,0 @@
-mod FoldedCode
-mod ForkCode
-mod SumCode

@@ -1,3 +1,0 @@
-pub mod Folded
-pub mod Forked
-pub mod Summed

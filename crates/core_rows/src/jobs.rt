@@ -5,7 +5,6 @@ ghost use Rattle.forec_kernel.specs.Shapes.{plain_shape};
 ghost use Rattle.thread_code.specs.Plain.{plain_block, plain_code};
 ghost use Rattle.thread_code.specs.Worked.{small_shape, small_main, small_function, small_code};
 
-use crate::hosting::one;
 use combine_tree::{Packet, PacketKind};
 use core_machine::{Event, Thread};
 use forec_base::{Labels, OutOfMemory};
@@ -13,7 +12,15 @@ use forec_kernel::{FunctionShape, Shape, ThreadShape};
 use std::alloc::Global;
 use std::process::Abort;
 use std::test::Fail;
-use thread_code::{Block, Code, CodeParts, Instruction};
+use thread_code::{Block, Code, CodeParts, Instruction, listing};
+
+fn one<T: Drop>(alloc: Global, item: T) -> Result<Vec<T>, OutOfMemory>
+    ensures { IfOk result (λ v. v.items ≡ item ∷ []) }
+{
+    let mut list = Vec::new(alloc);
+    list.push(item)?;
+    Ok(list)
+}
 
 fn shape(alloc: Global) -> Result<Shape, OutOfMemory>
     ensures { IfOk result (λ s. plain_shape s ≡ small_shape) }
@@ -117,6 +124,18 @@ fn pauses_then_passes(rt: &impl Abort, alloc: Global, code: &Code) -> Result<(),
     assert_eq!(rt; event, Event::Over);
     thread.reply(code, &mut packet);
     assert_eq!(rt; packet.kind, PacketKind::Over);
+    Ok(())
+}
+
+#[test]
+fn lists_a_code(rt: HostRuntime) -> Result<(), Fail> {
+    let code = small(rt.alloc())?;
+    let text = listing(rt.alloc(), &code)?;
+    assert_eq!(rt;
+        text.as_str(),
+        "thread 0\n0 load 0\n1 call 0\n2 store 0\n3 pause 4\n4 jump 0\nfunction 0\n0 push 7\n1 return\n"
+    );
+    assert_eq!(rt; code.parts().threads.len(), code.shape().threads.len());
     Ok(())
 }
 

@@ -9,7 +9,7 @@ ghost use Rattle.core_machine.specs.Forks.{IsReplyKind};
 ghost use Rattle.core_machine.specs.Held.{Loaded, CanRun, IsResting, HasReply, HasPaused, HasSettled, HasJoined};
 ghost use Rattle.combine_tree.specs.declared.packet.PacketKind.TheVariants as kind;
 
-use crate::forked::forks;
+use crate::compiled::compiled;
 use combine_tree::{Packet, PacketKind};
 use core_machine::{Event, Thread};
 use forec_base::{OutOfMemory, Place, Trap};
@@ -17,6 +17,15 @@ use forec_kernel::VarCopy;
 use std::alloc::Global;
 use std::test::Fail;
 use thread_code::Code;
+
+const FORKS: &[u8] = b"shared int a combine all with minus;
+shared int b combine new with quotient;
+shared int c combine mod with minus;
+int minus(int x, int y) { return x - y; }
+int quotient(int x, int y) { return x / y; }
+void branch(void) { a = b; b = c; c = a; }
+void main(void) { par(branch, branch, branch); }
+";
 
 /// Whether the packet has that thread's room.
 fn has_room(code: &Code, thread: u32, packet: &Packet) -> bool
@@ -200,6 +209,18 @@ fn play_one(thread: &mut Thread, code: &Code, a: &Packet) -> bool
     join(thread, code, 0, a)
 }
 
+/// Thread 0, which was never started.
+fn first_thread(alloc: Global, code: &Code) -> Result<Thread, OutOfMemory>
+    ensures loaded { IfOk result (λ h. Loaded (plain_code code.now) h) }
+    ensures number { IfOk result (λ h. h.number ≡ 0) }
+    ensures resting { IfOk result (λ h. IsResting h) }
+{
+    if code.parts().threads.is_empty() {
+        return Err(OutOfMemory);
+    }
+    Thread::load(alloc, code, 0)
+}
+
 /// Begins a job where the packet has the thread's room.
 fn begins(thread: &mut Thread, code: &Code, packet: &Packet) -> bool
     requires loaded { Loaded (plain_code code.now) thread.old }
@@ -218,8 +239,8 @@ fn begins(thread: &mut Thread, code: &Code, packet: &Packet) -> bool
     true
 }
 
-/// Writes the job of the k-th branch, and gives its number.
-fn ask(thread: &Thread, code: &Code, k: usize, packet: &mut Packet) -> Option<u32>
+/// Writes the job of the k-th branch: the branch's number, the job, and its allowance.
+fn ask(thread: &Thread, code: &Code, k: usize, packet: &mut Packet) -> Option<(u32, Row, u64)>
     requires loaded { Loaded (plain_code code.now) thread.now }
     requires order { HasSettled thread.now 0 }
 {
@@ -228,27 +249,25 @@ fn ask(thread: &Thread, code: &Code, k: usize, packet: &mut Packet) -> Option<u3
         return None;
     }
     thread.job(code, k, packet);
-    Some(branch)
+    Some((branch, row_of(packet), packet.allowance))
 }
+
+type Copies = [(i32, bool); 3];
 
 /// A packet's kind, its copies and its units.
-#[derive(Clone, Copy, Debug, PartialEq, Eq)]
-struct Row {
-    kind: PacketKind,
-    copies: [(i32, bool); 3],
-    units: u64,
-}
+type Row = (PacketKind, Copies, u64);
 
 fn packet_of(alloc: Global, row: &Row) -> Result<Packet, OutOfMemory>
-    ensures { IfOk result (λ p. p.kind ≡ row.now.kind) }
+    ensures { IfOk result (λ p. p.kind ≡ row.now.0) }
 {
+    let (kind, copies, units) = *row;
     let mut packet = Packet::new(alloc, 0, 3)?;
-    packet.kind = row.kind;
+    packet.kind = kind;
     packet.allowance = 100;
-    packet.units = row.units;
+    packet.units = units;
     for (at, copy) in packet.copies.iter_mut().enumerate() {
         if at < 3 {
-            let (value, modified) = row.copies[at];
+            let (value, modified) = copies[at];
             *copy = VarCopy { value, modified };
         }
     }
@@ -262,31 +281,77 @@ fn copy_at(packet: &Packet, i: usize) -> (i32, bool) {
     }
 }
 
+/// What a packet tells. A reply that is over tells nothing else, that of a trap no copies.
 fn row_of(packet: &Packet) -> Row {
-    Row {
-        kind: packet.kind,
-        copies: [copy_at(packet, 0), copy_at(packet, 1), copy_at(packet, 2)],
-        units: packet.units,
+    let copies = [copy_at(packet, 0), copy_at(packet, 1), copy_at(packet, 2)];
+    match packet.kind {
+        PacketKind::Over => (packet.kind, NOTHING, 0),
+        PacketKind::Trapped { .. } => (packet.kind, NOTHING, packet.units),
+        PacketKind::Start | PacketKind::Wake => (packet.kind, copies, 0),
+        _ => (packet.kind, copies, packet.units),
     }
 }
 
-fn start() -> Row
-    ensures { result.kind ≡ kind.Start }
-{
-    Row {
-        kind: PacketKind::Start,
-        copies: [(4, false), (1, false), (7, false)],
-        units: 0,
-    }
-}
+const NOTHING: Copies = [(0, false), (0, false), (0, false)];
+
+const START: Row = (PacketKind::Start, [(4, false), (1, false), (7, false)], 0);
+
+const TEN: Row = (PacketKind::Ended, [(10, false), (1, false), (7, false)], 2);
+
+const THREE: Row = (PacketKind::Ended, [(3, false), (8, false), (9, true)], 2);
+
+const TWO: Row = (PacketKind::Ended, [(2, false), (4, false), (7, false)], 2);
+
+const ZERO: Row = (PacketKind::Ended, [(2, false), (0, false), (7, false)], 2);
+
+const ENDED: Row = (PacketKind::Ended, NOTHING, 2);
+
+const ENDED_LATE: Row = (PacketKind::Ended, NOTHING, 40);
+
+const PAUSED: Row = (PacketKind::Paused, NOTHING, 2);
+
+const INDEX: PacketKind = PacketKind::Trapped {
+    place: Place { line: 5, column: 1 },
+    trap: Trap::Index,
+};
+
+const TURNS: PacketKind = PacketKind::Trapped {
+    place: Place { line: 6, column: 1 },
+    trap: Trap::Turns,
+};
+
+const DIVIDE: PacketKind = PacketKind::Trapped {
+    place: Place {
+        line: 5,
+        column: 39,
+    },
+    trap: Trap::Divide,
+};
+
+const OVER: Row = (PacketKind::Over, NOTHING, 0);
+
+/// The replies of three branches, and that of their thread.
+const JOINS: [([Row; 3], Row); 5] = [
+    // 10, 3 and 2 by minus are 5, in the order of the `par`; 8 by 4 is 2 of the new ones; and 9 was assigned.
+    (
+        [TEN, THREE, TWO],
+        (PacketKind::Ended, [(5, false), (2, false), (9, true)], 19),
+    ),
+    ([TEN, THREE, ZERO], (DIVIDE, NOTHING, 19)),
+    // what a branch tells is told, and nothing is combined
+    (
+        [ENDED, (INDEX, NOTHING, 2), (TURNS, NOTHING, 2)],
+        (INDEX, NOTHING, 7),
+    ),
+    ([(INDEX, NOTHING, 2), OVER, ENDED], OVER),
+    ([ENDED_LATE, ENDED_LATE, ENDED_LATE], OVER),
+];
 
 /// A job is started, the three branches of its fork answer by the rows, and the thread goes on to its own
 /// reply.
-fn scenario(alloc: Global, code: &Code, rows: &[Row; 3]) -> Result<Option<Row>, OutOfMemory>
-    requires { 0 < length (plain_code code.now).threads }
-{
-    let mut thread = Thread::load(alloc, code, 0)?;
-    let mut packet = packet_of(alloc, &start())?;
+fn joined(alloc: Global, code: &Code, rows: &[Row; 3]) -> Result<Option<Row>, OutOfMemory> {
+    let mut thread = first_thread(alloc, code)?;
+    let mut packet = packet_of(alloc, &START)?;
     let a = packet_of(alloc, &rows[0])?;
     let b = packet_of(alloc, &rows[1])?;
     let c = packet_of(alloc, &rows[2])?;
@@ -302,114 +367,38 @@ fn scenario(alloc: Global, code: &Code, rows: &[Row; 3]) -> Result<Option<Row>, 
     Ok(Some(row_of(&packet)))
 }
 
-fn ended(units: u64, copies: [(i32, bool); 3]) -> Row {
-    Row {
-        kind: PacketKind::Ended,
-        copies,
-        units,
-    }
-}
-
-fn told(kind: PacketKind) -> Row {
-    Row {
-        kind,
-        copies: [(0, false), (0, false), (0, false)],
-        units: 2,
-    }
-}
-
-fn trapped(line: u32, trap: Trap) -> PacketKind {
-    PacketKind::Trapped {
-        place: Place { line, column: 1 },
-        trap,
-    }
-}
-
-/// 10, 3 and 2 by minus are 5, in the order of the `par`; 8 by 4 is 2 of the new ones; and 9 is the one that
-/// was assigned.
 #[test]
-fn combines(rt: HostRuntime) -> Result<(), Fail> {
-    let code = forks(rt.alloc())?;
-    let a = ended(2, [(10, false), (1, false), (7, false)]);
-    let b = ended(2, [(3, false), (8, false), (9, true)]);
-    let c = ended(2, [(2, false), (4, false), (7, false)]);
-    let rows = [a, b, c];
-    let reply = scenario(rt.alloc(), &code, &rows)?;
-    let expected = ended(19, [(5, false), (2, false), (9, true)]);
-    assert_eq!(rt; reply, Some(expected));
-    let zero = ended(2, [(2, false), (0, false), (7, false)]);
-    let rows = [a, b, zero];
-    let reply = scenario(rt.alloc(), &code, &rows)?;
-    let place = Place { line: 9, column: 3 };
-    let kind = PacketKind::Trapped {
-        place,
-        trap: Trap::Divide,
-    };
-    assert_eq!(rt; reply.map(|row| (row.kind, row.units)), Some((kind, 19)));
-    Ok(())
-}
-
-/// What a branch tells is told, and nothing is combined.
-#[test]
-fn tells(rt: HostRuntime) -> Result<(), Fail> {
-    let code = forks(rt.alloc())?;
-    let ends = told(PacketKind::Ended);
-    let index = trapped(5, Trap::Index);
-    let turns = trapped(6, Trap::Turns);
-    let rows = [ends, told(index), told(turns)];
-    let reply = scenario(rt.alloc(), &code, &rows)?;
-    assert_eq!(rt; reply.map(|row| (row.kind, row.units)), Some((index, 7)));
-    let rows = [told(index), told(PacketKind::Over), ends];
-    let reply = scenario(rt.alloc(), &code, &rows)?;
-    assert_eq!(rt; reply.map(|row| row.kind), Some(PacketKind::Over));
-    let many = Row { units: 40, ..ends };
-    let rows = [many, many, many];
-    let reply = scenario(rt.alloc(), &code, &rows)?;
-    assert_eq!(rt; reply.map(|row| row.kind), Some(PacketKind::Over));
+fn joins_three_branches(rt: HostRuntime) -> Result<(), Fail> {
+    let code = compiled(rt.alloc(), FORKS)?;
+    for (rows, reply) in &JOINS {
+        assert_eq!(rt; joined(rt.alloc(), &code, rows)?, Some(*reply));
+    }
     Ok(())
 }
 
 /// The branches get their jobs; those that live after a pause are woken in the next job.
 #[test]
 fn asks_and_wakes(rt: HostRuntime) -> Result<(), Fail> {
-    let code = forks(rt.alloc())?;
-    let mut thread = Thread::load(rt.alloc(), &code, 0)?;
-    let mut packet = packet_of(rt.alloc(), &start())?;
-    let mut job = packet_of(rt.alloc(), &start())?;
-    let ends = packet_of(rt.alloc(), &ended(2, [(10, false), (1, false), (7, false)]))?;
-    let held = packet_of(rt.alloc(), &told(PacketKind::Paused))?;
-    if !begins(&mut thread, &code, &packet) || !comes_to_fork(&mut thread, &code) {
-        panic!(rt; "no fork");
-    }
+    let code = compiled(rt.alloc(), FORKS)?;
+    let mut thread = first_thread(rt.alloc(), &code)?;
+    let mut packet = packet_of(rt.alloc(), &START)?;
+    let mut job = packet_of(rt.alloc(), &START)?;
+    let ends = packet_of(rt.alloc(), &TEN)?;
+    let held = packet_of(rt.alloc(), &PAUSED)?;
+    assert!(rt; begins(&mut thread, &code, &packet) && comes_to_fork(&mut thread, &code));
     for k in 0..3 {
-        let branch = ask(&thread, &code, k, &mut job);
-        assert_eq!(rt; branch, Some(k as u32 + 1));
-        let expected = Row {
-            units: job.units,
-            ..start()
-        };
-        assert_eq!(rt; row_of(&job), expected);
-        assert_eq!(rt; job.allowance, 99);
+        let asked = ask(&thread, &code, k, &mut job);
+        assert_eq!(rt; asked, Some((k as u32 + 1, START, 99)));
     }
-    if !play(&mut thread, &code, &ends, &held, &ends) {
-        panic!(rt; "no replies");
-    }
-    if !pauses(&mut thread, &code, &mut packet) {
-        panic!(rt; "no pause");
-    }
+    assert!(rt; play(&mut thread, &code, &ends, &held, &ends));
+    assert!(rt; pauses(&mut thread, &code, &mut packet));
     wakes(&mut thread, &code, &mut packet);
-    if !comes_to_fork(&mut thread, &code) {
-        panic!(rt; "no held fork");
-    }
-    let branch = ask(&thread, &code, 0, &mut job);
-    assert_eq!(rt; branch, Some(2));
-    assert_eq!(rt; job.kind, PacketKind::Wake);
-    assert_eq!(rt; job.allowance, 50);
-    let branch = ask(&thread, &code, 1, &mut job);
-    assert_eq!(rt; branch, None);
-    if !play_one(&mut thread, &code, &ends) {
-        panic!(rt; "no reply");
-    }
+    assert!(rt; comes_to_fork(&mut thread, &code));
+    let woken = (PacketKind::Wake, [(0, false), (0, false), (7, false)], 0);
+    let asked = ask(&thread, &code, 0, &mut job);
+    assert_eq!(rt; asked, Some((2, woken, 50)));
+    assert!(rt; ask(&thread, &code, 1, &mut job).is_none());
+    assert!(rt; play_one(&mut thread, &code, &ends));
     let event = replies(&mut thread, &code, &mut packet);
     assert_eq!(rt; event, Some(Event::Ended));
     Ok(())

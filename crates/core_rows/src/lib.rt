@@ -1,16 +1,13 @@
-//! Tests of one thread's machine and of the host of a program's threads, over small codes.
+//! Tests of the layers below a whole run: lists of places, mailboxes, packets, codes, one thread's machine, and the
+//! host of a program's threads.
 #![tactic(auto)]
 
 #[cfg(test)]
 mod combined;
 #[cfg(test)]
-mod folding;
+mod compiled;
 #[cfg(test)]
-mod forked;
-#[cfg(test)]
-mod generated;
-#[cfg(test)]
-mod hosting;
+mod hosted;
 #[cfg(test)]
 mod jobs;
 #[cfg(test)]

@@ -24,17 +24,16 @@ impl Work for AnyNumber {
 #[test]
 fn hands_a_packet_to_and_fro(rt: HostRuntime) -> Result<(), Fail> {
     let mut port = LocalPort::new(rt.alloc(), AnyNumber, vec![in rt.alloc(); 7]?)?;
-    assert_eq!(rt; port.take(0), None);
+    let none = port.take(0);
     let blank = port.first(0);
-    assert_eq!(rt; blank, 7);
     port.offer(0, 8);
-    assert_eq!(rt; port.collect(0), None);
+    let still_none = port.collect(0);
     let job = port.take(0);
-    assert_eq!(rt; job, Some(8));
+    assert_eq!(rt; (none, blank, still_none, job), (None, 7, None, Some(8)));
     port.answer(0, 9);
-    assert_eq!(rt; port.collect(0), Some(9));
-    assert!(rt; !port.stopped());
+    let reply = port.collect(0);
+    let before = port.stopped();
     port.stop();
-    assert!(rt; port.stopped());
+    assert_eq!(rt; (reply, before, port.stopped()), (Some(9), false, true));
     Ok(())
 }

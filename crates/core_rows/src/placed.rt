@@ -6,11 +6,14 @@ use std::test::Fail;
 #[test]
 fn reads_a_list(rt: HostRuntime) -> Result<(), Fail> {
     let placement = given(rt.alloc(), "0,2,0,1", 4, 3)?;
-    assert_eq!(rt; placement.cores(), 3);
-    assert_eq!(rt; placement.threads(), 4);
-    assert_eq!(rt; placement.core(0), 0);
-    assert_eq!(rt; placement.core(1), 2);
-    assert_eq!(rt; placement.core(3), 1);
+    assert_eq!(rt; (placement.cores(), placement.threads()), (3, 4));
+    let cores = [
+        placement.core(0),
+        placement.core(1),
+        placement.core(2),
+        placement.core(3),
+    ];
+    assert_eq!(rt; cores, [0, 2, 0, 1]);
     Ok(())
 }
 

@@ -5,12 +5,8 @@ mod command;
 mod counts;
 mod found;
 mod judging;
-#[cfg(test)]
-mod judging_tests;
 mod laws;
 mod names;
-#[cfg(test)]
-mod placed_tests;
 mod placing;
 mod refusal;
 mod runner;

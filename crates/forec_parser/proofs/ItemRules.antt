@@ -20,20 +20,21 @@ use Rattle.forec_tree.specs.Parts.{number_at, global_of}
 use Rattle.forec_tree.specs.Spelling.{Spelt, at, IsMark, IsWord}
 use Rattle.forec_tree.specs.SpelledStatements.{Separated, last_part, next_part}
 use Rattle.forec_tree.specs.SpelledPrograms.{Signed, positive, negative, Named, named, Scalar, unset, set, Table, constant, table, policy_word, Combines, combines, Param, param, Params, no_params, void_params, params, Parameters, parameters}
-use Rattle.forec_parser.specs.declared.fixed.Fixed.TheVariants as fixed
+use Rattle.expr_parser.specs.declared.fixed.Fixed.TheVariants as fixed
 use Rattle.forec_parser.specs.declared.meaning.Declarator.{Declarator}
 use Rattle.forec_parser.specs.declared.meaning.Declarator.TheVariants as decl
-use Rattle.forec_parser.specs.Input.{Input, Parser, kind_ahead, take}
-use Rattle.forec_parser.specs.Meaning.{policy_of, is_fixed}
-use Rattle.forec_parser.specs.Reading.{separated}
+use Rattle.expr_parser.specs.Input.{Input, Parser, kind_ahead, take}
+use Rattle.expr_parser.specs.Meaning.{is_fixed}
+use Rattle.forec_parser.specs.Meaning.{policy_of}
+use Rattle.expr_parser.specs.Reading.{separated}
 use Rattle.forec_parser.specs.Statements as st
 use Rattle.forec_parser.specs.Items as it
 use Rattle.forec_parser.specs.Items.{combine_of}
-use Rattle.forec_parser.proofs.Spans.{first, step, ok_pair, took, head_kind, take_ok}
-use Rattle.forec_parser.proofs.Closers.{fixed-kind}
-use Rattle.forec_parser.proofs.Exact.{Lang, Read, Exact, Bind, both, Map, mapped, Done, done, If, on, off, Part, part, Reading, reading, Any, bind, map_to, convert, either, done_at, by_reading, read_as, reads_by}
-use Rattle.forec_parser.proofs.Leaves.{Tok, tok, NameIs, name_is, NumberIs, number_is, token, a_name, a_number, Enclosed, between, enclosing, Listed, end_of_list, next_of_list, full_commas, Full, full, Filled, is_so}
-use Rattle.forec_parser.proofs.Operators.{ends, ends_assign}
+use Rattle.expr_parser.proofs.Spans.{first, step, ok_pair, took, head_kind, take_ok}
+use Rattle.expr_parser.proofs.Closers.{fixed-kind}
+use Rattle.expr_parser.proofs.Exact.{Lang, Read, Exact, Bind, both, Map, mapped, Done, done, If, on, off, Part, part, Reading, reading, Any, bind, map_to, convert, either, done_at, by_reading, read_as, reads_by}
+use Rattle.expr_parser.proofs.Leaves.{Tok, tok, NameIs, name_is, NumberIs, number_is, token, a_name, a_number, Enclosed, between, enclosing, Listed, end_of_list, next_of_list, full_commas, Full, full, Filled, is_so}
+use Rattle.expr_parser.proofs.Operators.{ends, ends_assign}
 use Rattle.forec_parser.proofs.SimpleRules.{a_list, list_reads}
 use Rattle.forec_parser.proofs.PartRules.{MaybeLength, some_length, no_length, maybe_length_by, maybe_length_reads}
 

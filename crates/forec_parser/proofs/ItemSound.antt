@@ -17,22 +17,22 @@ use Rattle.forec_tree.specs.Spelling.{Spelt, at, tokens, IsMark, IsWord, IsName,
 use Rattle.forec_tree.specs.SpelledStatements.{Separated, last_part, next_part, Block, block}
 use Rattle.forec_tree.specs.SpelledPrograms.{Signed, positive, negative, Named, Scalar, unset, set, Table, Sharing, Combines, combines, Parameters, parameters, gives_word, Introduces, constants, inputs, outputs, globals, shares, function, Programs, no_items, more_items}
 use Rattle.forec_tree.specs.SpelledPrograms as sp
-use Rattle.forec_parser.specs.declared.fixed.Fixed.{Fixed}
-use Rattle.forec_parser.specs.declared.fixed.Fixed.TheVariants as fixed
+use Rattle.expr_parser.specs.declared.fixed.Fixed.{Fixed}
+use Rattle.expr_parser.specs.declared.fixed.Fixed.TheVariants as fixed
 use Rattle.forec_parser.specs.declared.meaning.Opening.{Opening}
 use Rattle.forec_parser.specs.declared.meaning.Opening.TheVariants as opening
 use Rattle.forec_parser.specs.declared.meaning.Declarator.{Declarator}
 use Rattle.forec_parser.specs.declared.meaning.Declarator.TheVariants as decl
-use Rattle.forec_parser.specs.Input.{Input, kind_ahead}
-use Rattle.forec_parser.specs.Meaning.{opening_of, is_fixed}
+use Rattle.expr_parser.specs.Input.{Input, kind_ahead}
+use Rattle.expr_parser.specs.Meaning.{is_fixed}
+use Rattle.forec_parser.specs.Meaning.{opening_of}
 use Rattle.forec_parser.specs.Statements as st
 use Rattle.forec_parser.specs.Statements.{stmt}
 use Rattle.forec_parser.specs.Items as it
-use Rattle.forec_parser.specs.Items.{at_end}
-use Rattle.forec_parser.proofs.Spans.{first, first-is}
-use Rattle.forec_parser.proofs.Exact.{Lang, Read, Exact, Bind, both, Map, mapped, Done, done, If, on, off, Part, part, Reading, reading, Any, bind, map_to, convert, either, done_at, by_reading, read_as, reads_by, read_at}
-use Rattle.forec_parser.proofs.Leaves.{Tok, tok, NameIs, name_is, token, a_name, between, Listed, Full, Filled, is_so}
-use Rattle.forec_parser.proofs.Operators.{ends}
+use Rattle.expr_parser.proofs.Spans.{first, first-is}
+use Rattle.expr_parser.proofs.Exact.{Lang, Read, Exact, Bind, both, Map, mapped, Done, done, If, on, off, Part, part, Reading, reading, Any, bind, map_to, convert, either, done_at, by_reading, read_as, reads_by, read_at}
+use Rattle.expr_parser.proofs.Leaves.{Tok, tok, NameIs, name_is, token, a_name, between, Listed, Full, Filled, is_so}
+use Rattle.expr_parser.proofs.Operators.{ends}
 use Rattle.forec_parser.proofs.StatementSound.{Bodied, bodied, Braces, block_here, sound_stmt}
 use Rattle.forec_parser.proofs.StatementComplete.{here_reads, block_reads}
 use Rattle.forec_parser.proofs.ItemRules.{MaybeValue, no_value, some_value, IsItem, Wrapped, wrapped, DeclaredAs, wrap_in, items_read, maybe_value_by, maybe_value_reads, combines_by, combines_reads, parameters_by, parameters_read, declared_reads, declared_filled, declared_list}

@@ -1,27 +1,17 @@
 -- The lists of a tree, as the plain tree has them.
 use Rattle.std.proofs.Common.{◌≡◌, Bool, List, [], ◌∷◌, map, refl, sym, ap, ◌∙◌}
 use Rattle.forec_base.specs.declared.Place.{Place}
-use Rattle.forec_tree.specs.declared.tree.Name.{Name}
 use Rattle.forec_tree.specs.declared.tree.Expr.{Expr}
-use Rattle.forec_tree.specs.declared.tree.ExprKind.{Call}
 use Rattle.forec_tree.specs.Terms as plain
-use Rattle.forec_tree.specs.Terms.{more_terms, more_statements}
-use Rattle.forec_tree.specs.Plain.{term, terms, term_at, statement, statements, statement_at, branches, branch_with}
+use Rattle.forec_tree.specs.Terms.{more_statements}
+use Rattle.forec_tree.specs.Plain.{term, statement, statements, statement_at, branches, branch_with}
 use Rattle.forec_tree.specs.declared.tree.Stmt.{Stmt}
 use Rattle.forec_tree.specs.declared.tree.StmtKind.{Group, Abort, Par}
 use Rattle.forec_tree.specs.declared.tree.Branch.{Branch}
 use Rattle.forec_tree.specs.declared.tree.Branch as branch
 use Rattle.forec_tree.specs.Parts.{in_order, Launch, Calls, Blocks, launched, launched_before}
 use Rattle.forec_parser.specs.Views.{launch_of}
-use Rattle.forec_tree.specs.Spelling.{listed}
-use Rattle.forec_tree.proofs.Rows.{term-call, statement-group, statement-abort, statement-par, branch-group}
-
-pub terms-listed : (es : List Expr) → terms es ≡ listed (map term es)
-terms-listed [] = refl
-terms-listed (e ∷ es) = ap (more_terms (term e)) (terms-listed es)
-
-pub call-listed : (name : Name) (args : List Expr) (at : Place) → term_at (Call name args) at ≡ plain.Call at name (listed (map term args))
-call-listed name args at = term-call name args at ∙ ap (plain.Call at name) (terms-listed args)
+use Rattle.forec_tree.proofs.Rows.{statement-group, statement-abort, statement-par, branch-group}
 
 pub statements-in_order : (ss : List Stmt) → statements ss ≡ in_order (map statement ss)
 statements-in_order [] = refl

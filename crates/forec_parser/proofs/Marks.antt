@@ -6,11 +6,12 @@ use Rattle.forec_tree.specs.declared.token.TokenKind.TheVariants as kind
 use Rattle.forec_tree.specs.declared.token.Mark.TheVariants as mark
 use Rattle.forec_tree.specs.declared.token.Word.TheVariants as word
 use Rattle.forec_tree.specs.Parts.{updates_by, steps_by}
-use Rattle.forec_parser.specs.declared.fixed.Fixed.TheVariants as fixed
+use Rattle.expr_parser.specs.declared.fixed.Fixed.TheVariants as fixed
 use Rattle.forec_parser.specs.declared.meaning.Change.TheVariants as change
 use Rattle.forec_parser.specs.declared.meaning.Act.TheVariants as act
 use Rattle.forec_parser.specs.declared.meaning.Sort.TheVariants as sort
-use Rattle.forec_parser.specs.Meaning.{change_of, act_of, sort_of, is_fixed, ends_body}
+use Rattle.expr_parser.specs.Meaning.{is_fixed}
+use Rattle.forec_parser.specs.Meaning.{change_of, act_of, sort_of, ends_body}
 
 pub update_changes : (k : TokenKind) (op : Binary) → updates_by k ≡ Some op → change_of (Some k) ≡ change.Updates
 update_changes (kind.Mark mark.ShlAssign) op h = refl

@@ -11,15 +11,15 @@ use Rattle.forec_tree.specs.Terms.{Term, Declared, Statement, Perhaps, absent, p
 use Rattle.forec_tree.specs.Spelling.{Spelt, at, IsMark, Whole, Arguments}
 use Rattle.forec_tree.specs.Parts.{declared_as, Head, head_of}
 use Rattle.forec_tree.specs.SpelledStatements.{Simple, Lengths, lengths, Declares, bare, valued, array, valued_array, Bounds, unbounded, bounded, Starts, no_start, simple_start, declared_start, Tests, no_test, some_test, Steps, no_step, some_step, HeadParts, head_parts, Heads, heads}
-use Rattle.forec_parser.specs.declared.fixed.Fixed.{Fixed}
-use Rattle.forec_parser.specs.declared.fixed.Fixed.TheVariants as fixed
-use Rattle.forec_parser.specs.Meaning.{is_fixed}
+use Rattle.expr_parser.specs.declared.fixed.Fixed.{Fixed}
+use Rattle.expr_parser.specs.declared.fixed.Fixed.TheVariants as fixed
+use Rattle.expr_parser.specs.Meaning.{is_fixed}
 use Rattle.forec_parser.specs.Statements as st
-use Rattle.forec_parser.proofs.Spans.{first}
-use Rattle.forec_parser.proofs.Exact.{Lang, Exact, Bind, both, Map, mapped, Done, done, If, on, off, Part, part, Reading, reading, Any, bind, map_to, convert, either, done_at, by_reading, read_as, reads_by, read_at}
-use Rattle.forec_parser.proofs.Leaves.{Tok, tok, NameIs, name_is, NumberIs, number_is, token, a_name, a_number, Enclosed, between, enclosing, is_so}
-use Rattle.forec_parser.proofs.Operators.{ends, ends_square, ends_assign}
-use Rattle.forec_parser.proofs.ExpressionComplete.{begun_whole, begun_semicolon}
+use Rattle.expr_parser.proofs.Spans.{first}
+use Rattle.expr_parser.proofs.Exact.{Lang, Exact, Bind, both, Map, mapped, Done, done, If, on, off, Part, part, Reading, reading, Any, bind, map_to, convert, either, done_at, by_reading, read_as, reads_by, read_at}
+use Rattle.expr_parser.proofs.Leaves.{Tok, tok, NameIs, name_is, NumberIs, number_is, token, a_name, a_number, Enclosed, between, enclosing, is_so}
+use Rattle.expr_parser.proofs.Operators.{ends, ends_square, ends_assign}
+use Rattle.expr_parser.proofs.ExpressionComplete.{begun_whole, begun_semicolon}
 use Rattle.forec_parser.proofs.Marks.{acts_first, acts_semicolon, acts_round, acts_int}
 use Rattle.forec_parser.proofs.SimpleRules.{a_value, value_reads, values_by, values_read, a_simple, simple_reads, ActsFirst, simple_first}
 

@@ -8,15 +8,15 @@ use Rattle.forec_tree.specs.Terms.{PlainItem, Text}
 use Rattle.forec_tree.specs.Plain.{program}
 use Rattle.forec_tree.specs.Spelling.{Spelt, tokens, IsWithin}
 use Rattle.forec_tree.specs.SpelledPrograms.{Introduces, Programs, no_items, more_items, IsSpelled}
-use Rattle.forec_parser.specs.declared.fault.Fault.{Fault}
-use Rattle.forec_parser.specs.declared.fault.Fault.TheVariants.{Syntax, Deep, OutOfMemory}
+use Rattle.expr_parser.specs.declared.fault.Fault.{Fault}
+use Rattle.expr_parser.specs.declared.fault.Fault.TheVariants.{Syntax, Deep, OutOfMemory}
 use Rattle.forec_parser.specs.declared.fault.ParseFault.TheVariants as public
-use Rattle.forec_parser.specs.Input.{Input, input, and_then, kind_ahead, max_level}
-use Rattle.forec_parser.specs.Items.{item, items, items_from, at_end}
+use Rattle.expr_parser.specs.Input.{Input, input, and_then, kind_ahead, at_end, max_level}
+use Rattle.forec_parser.specs.Items.{item, items, items_from}
 use Rattle.forec_parser.specs.Program.{Ends, told_of}
-use Rattle.forec_parser.proofs.Spans.{tokens_append, within_front, within_back, within_more, step, ok_of, ok_pair}
-use Rattle.forec_parser.proofs.Exact.{Read, Bind, both, Map, mapped, Part, part, Any, then_read, read_as, read_at}
-use Rattle.forec_parser.proofs.Leaves.{Filled, filled-long}
+use Rattle.expr_parser.proofs.Spans.{tokens_append, within_front, within_back, within_more, step, ok_of, ok_pair}
+use Rattle.expr_parser.proofs.Exact.{Read, Bind, both, Map, mapped, Part, part, Any, then_read, read_as, read_at}
+use Rattle.expr_parser.proofs.Leaves.{Filled, filled-long}
 use Rattle.forec_parser.proofs.ItemSound.{sound_item, item_reads, item_filled}
 
 pub data Programmed : ℕ → Text → ℕ → List Spelt → Option TokenKind → Type 0 where

@@ -12,23 +12,24 @@ use Rattle.forec_tree.specs.Terms.{Term, Declared, Written, Statement, Perhaps, 
 use Rattle.forec_tree.specs.Spelling.{Spelt, at, IsMark, IsName, name_at, listed, Whole, Brackets, Indexes, Passes, Arguments, one, more}
 use Rattle.forec_tree.specs.Parts.{op_at, updates_by, steps_by, written_at}
 use Rattle.forec_tree.specs.SpelledStatements.{IsUpdate, IsStep, Separated, last_part, next_part, Targets, scalar, indexed, Simple, sets, updates, steps_behind, steps_ahead, invokes}
-use Rattle.forec_parser.specs.declared.fixed.Fixed.TheVariants as fixed
+use Rattle.expr_parser.specs.declared.fixed.Fixed.TheVariants as fixed
 use Rattle.forec_parser.specs.declared.meaning.Change.{Change}
 use Rattle.forec_parser.specs.declared.meaning.Change.TheVariants as change
 use Rattle.forec_parser.specs.declared.meaning.Act.{Act}
 use Rattle.forec_parser.specs.declared.meaning.Act.TheVariants as act
-use Rattle.forec_parser.specs.Input.{Input, Parser, kind_ahead, take}
-use Rattle.forec_parser.specs.Meaning.{update_of, step_of, change_of, act_of, is_fixed}
-use Rattle.forec_parser.specs.Reading as reading
-use Rattle.forec_parser.specs.Reading.{expr, separated}
+use Rattle.expr_parser.specs.Input.{Input, Parser, kind_ahead, take}
+use Rattle.expr_parser.specs.Meaning.{is_fixed}
+use Rattle.forec_parser.specs.Meaning.{update_of, step_of, change_of, act_of}
+use Rattle.expr_parser.specs.Reading as reading
+use Rattle.expr_parser.specs.Reading.{expr, separated}
 use Rattle.forec_parser.specs.Statements as st
 use Rattle.forec_parser.specs.Statements.{op_by}
-use Rattle.forec_parser.proofs.Spans.{first, step, ok_pair, took, take_ok}
-use Rattle.forec_parser.proofs.Exact.{Lang, Read, Exact, Bind, both, Map, mapped, Done, done, If, on, off, Part, part, Reading, reading, Any, bind, map_to, convert, either, done_at, by_reading, read_as, reads_by, read_at}
-use Rattle.forec_parser.proofs.Leaves.{Tok, tok, NameIs, name_is, token, a_name, Listed, end_of_list, next_of_list, full_commas, Full, full, Filled}
-use Rattle.forec_parser.proofs.Operators.{ends, ends_square}
-use Rattle.forec_parser.proofs.ExpressionSound.{sound, value_by, bracketed_by, indexed_by, passed_by}
-use Rattle.forec_parser.proofs.ExpressionComplete.{complete_whole, complete_brackets, complete_indexes, complete_passes, complete_arguments, indexes_first, passes_first}
+use Rattle.expr_parser.proofs.Spans.{first, step, ok_pair, took, take_ok}
+use Rattle.expr_parser.proofs.Exact.{Lang, Read, Exact, Bind, both, Map, mapped, Done, done, If, on, off, Part, part, Reading, reading, Any, bind, map_to, convert, either, done_at, by_reading, read_as, reads_by, read_at}
+use Rattle.expr_parser.proofs.Leaves.{Tok, tok, NameIs, name_is, token, a_name, Listed, end_of_list, next_of_list, full_commas, Full, full, Filled}
+use Rattle.expr_parser.proofs.Operators.{ends, ends_square}
+use Rattle.expr_parser.proofs.ExpressionSound.{sound, value_by, bracketed_by, indexed_by, passed_by}
+use Rattle.expr_parser.proofs.ExpressionComplete.{complete_whole, complete_brackets, complete_indexes, complete_passes, complete_arguments, indexes_first, passes_first}
 use Rattle.forec_parser.proofs.Marks.{update_changes, step_changes, step_acts, update_square, update_round, step_square, step_round, acts_first, step_first}
 
 -- ---- lists with commas

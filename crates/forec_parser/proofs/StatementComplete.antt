@@ -13,20 +13,21 @@ use Rattle.forec_tree.specs.Terms.{Term, Declared, Statement, absent, present}
 use Rattle.forec_tree.specs.Spelling.{Spelt, at, tokens, IsMark, IsWord, IsName, IsWithin, Brackets, Passes, Whole, name_at, listed}
 use Rattle.forec_tree.specs.Parts.{in_order, Launch, Calls, Blocks, launched, Head}
 use Rattle.forec_tree.specs.SpelledStatements.{Separated, Declares, bare, valued, array, valued_array, Simple, Bounds, Heads, Optional, there, missing, Says, nothing, acts, group, declares, if_alone, if_else, loops, counts, pauses, forks, aborts, gives_back, Block, block, Lists, no_more, and_more, forked, Starting, bare_call, call, blocked, Launches, last_branch, next_branch}
-use Rattle.forec_parser.specs.declared.fixed.Fixed.{Fixed}
-use Rattle.forec_parser.specs.declared.fixed.Fixed.TheVariants as fixed
+use Rattle.expr_parser.specs.declared.fixed.Fixed.{Fixed}
+use Rattle.expr_parser.specs.declared.fixed.Fixed.TheVariants as fixed
 use Rattle.forec_parser.specs.declared.meaning.Sort.{Sort}
 use Rattle.forec_parser.specs.declared.meaning.Sort.TheVariants as sort
-use Rattle.forec_parser.specs.Input.{input, Parser, kind_ahead}
-use Rattle.forec_parser.specs.Meaning.{sort_of, ends_body, is_fixed}
+use Rattle.expr_parser.specs.Input.{input, Parser, kind_ahead}
+use Rattle.expr_parser.specs.Meaning.{is_fixed}
+use Rattle.forec_parser.specs.Meaning.{sort_of, ends_body}
 use Rattle.forec_parser.specs.Statements as st
 use Rattle.forec_parser.specs.Statements.{stmt}
-use Rattle.forec_parser.proofs.Spans.{tokens_append, within_front, within_back, first, first-is}
-use Rattle.forec_parser.proofs.Closers.{fixed-kind}
-use Rattle.forec_parser.proofs.Exact.{Exact, Any, by_reading, Part, part, both, mapped, inside, done, on, off, Reading, reading, bind, reads_by, read_at}
-use Rattle.forec_parser.proofs.Leaves.{tok, last, up, name_is, token, between, Listed, end_of_list, next_of_list, Full, full, Filled, filled-long, is_so}
-use Rattle.forec_parser.proofs.Operators.{ends, ends_round}
-use Rattle.forec_parser.proofs.ExpressionComplete.{brackets_first, passes_first}
+use Rattle.expr_parser.proofs.Spans.{tokens_append, within_front, within_back, first, first-is}
+use Rattle.expr_parser.proofs.Closers.{fixed-kind}
+use Rattle.expr_parser.proofs.Exact.{Exact, Any, by_reading, Part, part, both, mapped, inside, done, on, off, Reading, reading, bind, reads_by, read_at}
+use Rattle.expr_parser.proofs.Leaves.{tok, last, up, name_is, token, between, Listed, end_of_list, next_of_list, Full, full, Filled, filled-long, is_so}
+use Rattle.expr_parser.proofs.Operators.{ends, ends_round}
+use Rattle.expr_parser.proofs.ExpressionComplete.{brackets_first, passes_first}
 use Rattle.forec_parser.proofs.Marks.{acts_simple, acts_says, says_first, says_else, says_hash, says_ends}
 use Rattle.forec_parser.proofs.SimpleRules.{list_reads, value_reads, bracketed_reads, passed_reads, simple_reads, ActsFirst, simple_first}
 use Rattle.forec_parser.proofs.PartRules.{local_reads, bound_reads, head_reads}

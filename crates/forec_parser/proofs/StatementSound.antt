@@ -12,17 +12,18 @@ use Rattle.forec_tree.specs.Terms.{Term, Declared, Statement, absent, present}
 use Rattle.forec_tree.specs.Spelling.{Spelt, at, IsMark, IsWord, listed, Whole, Brackets, Passes}
 use Rattle.forec_tree.specs.Parts.{in_order, Launch, Calls, Blocks, launched, Head}
 use Rattle.forec_tree.specs.SpelledStatements.{Separated, Declares, Simple, Bounds, Heads, Optional, there, missing, Says, nothing, acts, group, declares, if_alone, if_else, loops, counts, pauses, forks, aborts, gives_back, Block, block, Lists, no_more, and_more, forked, Starting, bare_call, call, blocked, Launches, last_branch, next_branch}
-use Rattle.forec_parser.specs.declared.fault.Fault.TheVariants.{Syntax}
-use Rattle.forec_parser.specs.declared.fixed.Fixed.TheVariants as fixed
+use Rattle.expr_parser.specs.declared.fault.Fault.TheVariants.{Syntax}
+use Rattle.expr_parser.specs.declared.fixed.Fixed.TheVariants as fixed
 use Rattle.forec_parser.specs.declared.meaning.Sort.{Sort}
 use Rattle.forec_parser.specs.declared.meaning.Sort.TheVariants as sort
-use Rattle.forec_parser.specs.Input.{Input, Parser, and_then, kind_ahead}
-use Rattle.forec_parser.specs.Meaning.{sort_of, ends_body, is_fixed}
+use Rattle.expr_parser.specs.Input.{Input, Parser, and_then, kind_ahead}
+use Rattle.expr_parser.specs.Meaning.{is_fixed}
+use Rattle.forec_parser.specs.Meaning.{sort_of, ends_body}
 use Rattle.forec_parser.specs.Statements as st
 use Rattle.forec_parser.specs.Statements.{stmt}
-use Rattle.forec_parser.proofs.Spans.{step, ok_of, ok_pair}
-use Rattle.forec_parser.proofs.Exact.{Lang, Read, Exact, Bind, both, Map, mapped, Scoped, inside, Done, done, If, on, off, Choice, taken, left_out, Part, part, Reading, Any, bind, map_to, scope, convert, either, done_at, by_reading, then_read, read_as, reads_by, choose_by}
-use Rattle.forec_parser.proofs.Leaves.{Tok, tok, Last, last, Up, up, NameIs, name_is, token, last_token, opening, a_name, EnclosedTo, Enclosed, between, enclosing, enclosing_to, Listed, end_of_list, next_of_list, full_commas, Full, is_so}
+use Rattle.expr_parser.proofs.Spans.{step, ok_of, ok_pair}
+use Rattle.expr_parser.proofs.Exact.{Lang, Read, Exact, Bind, both, Map, mapped, Scoped, inside, Done, done, If, on, off, Choice, taken, left_out, Part, part, Reading, Any, bind, map_to, scope, convert, either, done_at, by_reading, then_read, read_as, reads_by, choose_by}
+use Rattle.expr_parser.proofs.Leaves.{Tok, tok, Last, last, Up, up, NameIs, name_is, token, last_token, opening, a_name, EnclosedTo, Enclosed, between, enclosing, enclosing_to, Listed, end_of_list, next_of_list, full_commas, Full, is_so}
 use Rattle.forec_parser.proofs.SimpleRules.{a_list, a_value, a_bracketed, a_passed, a_simple}
 use Rattle.forec_parser.proofs.PartRules.{local_by, bound_by, head_by}
 

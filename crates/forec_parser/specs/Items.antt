@@ -3,7 +3,6 @@ use Rattle.std.specs.Prelude.{ℕ, zero, suc, Bool, true, false, if◌then◌els
 use Rattle.forec_base.specs.declared.Policy.{Policy}
 use Rattle.forec_base.specs.declared.operators.Unary.TheVariants as un
 use Rattle.forec_base.specs.Numbers.{unary_of}
-use Rattle.forec_tree.specs.declared.token.TokenKind.{TokenKind}
 use Rattle.forec_tree.specs.declared.tree.Name.{Name}
 use Rattle.forec_tree.specs.declared.tree.Number.{Number}
 use Rattle.forec_tree.specs.declared.tree.Combine.{Combine}
@@ -11,14 +10,14 @@ use Rattle.forec_tree.specs.declared.tree.GlobalKind.{GlobalKind}
 use Rattle.forec_tree.specs.declared.tree.GlobalKind.TheVariants as kind
 use Rattle.forec_tree.specs.Terms.{PlainItem, IsGlobal, IsFunction, Text}
 use Rattle.forec_tree.specs.Parts.{number_at, in_order, global_of}
-use Rattle.forec_parser.specs.declared.fixed.Fixed.TheVariants as fixed
+use Rattle.expr_parser.specs.declared.fixed.Fixed.TheVariants as fixed
 use Rattle.forec_parser.specs.declared.meaning.Opening.{Opening}
 use Rattle.forec_parser.specs.declared.meaning.Opening.TheVariants as opening
 use Rattle.forec_parser.specs.declared.meaning.Declarator.{Declarator}
 use Rattle.forec_parser.specs.declared.meaning.Declarator.TheVariants as declarator
-use Rattle.forec_parser.specs.Input.{Parser, ◌>>=◌, ◌>>◌, pure, refuse, kind_ahead, take}
+use Rattle.expr_parser.specs.Input.{Parser, ◌>>=◌, ◌>>◌, pure, refuse, kind_ahead, at_end, take}
 use Rattle.forec_parser.specs.Meaning.{opening_of, policy_of}
-use Rattle.forec_parser.specs.Reading.{next_is, close, enclosed, name, number, separated}
+use Rattle.expr_parser.specs.Reading.{next_is, close, enclosed, name, number, separated}
 use Rattle.forec_parser.specs.Statements.{maybe_length, block, stmt}
 
 -- ---- values
@@ -71,10 +70,6 @@ some_params = λ i. if next_is fixed.Void i then (close fixed.Void >>= λ _. pur
 
 unfoldable pub params : Parser (List Name)
 params = λ i. if next_is fixed.RightRound i then pure [] i else some_params i
-
-abbrev pub at_end : Option TokenKind → Bool
-at_end None = true
-at_end (Some k) = false
 
 module _ (limit : ℕ) where
   unfoldable pub table_values : Parser (List Number)

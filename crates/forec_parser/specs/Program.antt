@@ -3,11 +3,11 @@ use Rattle.std.specs.Prelude.{◌≡◌, ◌≢◌, Result, Ok, Err}
 use Rattle.forec_tree.specs.declared.tree.Program.{Program}
 use Rattle.forec_tree.specs.Terms.{Text}
 use Rattle.forec_tree.specs.Plain.{program}
-use Rattle.forec_parser.specs.declared.fault.Fault.{Fault}
-use Rattle.forec_parser.specs.declared.fault.Fault.TheVariants as inner
+use Rattle.expr_parser.specs.declared.fault.Fault.{Fault}
+use Rattle.expr_parser.specs.declared.fault.Fault.TheVariants as inner
 use Rattle.forec_parser.specs.declared.fault.ParseFault.{ParseFault}
 use Rattle.forec_parser.specs.declared.fault.ParseFault.TheVariants.{Unfit, OutOfMemory}
-use Rattle.forec_parser.specs.Input.{Input, Outcome}
+use Rattle.expr_parser.specs.Input.{Input, Outcome}
 
 -- What is answered where the tokens spell the text: it, unless memory fails.
 abbrev pub Answers : Text → Result Program ParseFault → Type 0

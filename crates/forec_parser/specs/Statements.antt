@@ -10,19 +10,19 @@ use Rattle.forec_tree.specs.Terms as plain
 use Rattle.forec_tree.specs.Terms.{Term, Declared, Written, Statement, Perhaps, absent, present}
 use Rattle.forec_tree.specs.Spelling.{listed}
 use Rattle.forec_tree.specs.Parts.{op_at, written_at, declared_as, in_order, Launch, Calls, Blocks, launched, Head, head_of}
-use Rattle.forec_parser.specs.declared.fault.Fault.TheVariants.{Deep}
-use Rattle.forec_parser.specs.declared.fixed.Fixed.{Fixed}
-use Rattle.forec_parser.specs.declared.fixed.Fixed.TheVariants as fixed
+use Rattle.expr_parser.specs.declared.fault.Fault.TheVariants.{Deep}
+use Rattle.expr_parser.specs.declared.fixed.Fixed.{Fixed}
+use Rattle.expr_parser.specs.declared.fixed.Fixed.TheVariants as fixed
 use Rattle.forec_parser.specs.declared.meaning.Change.{Change}
 use Rattle.forec_parser.specs.declared.meaning.Change.TheVariants as change
 use Rattle.forec_parser.specs.declared.meaning.Act.{Act}
 use Rattle.forec_parser.specs.declared.meaning.Act.TheVariants as act
 use Rattle.forec_parser.specs.declared.meaning.Sort.{Sort}
 use Rattle.forec_parser.specs.declared.meaning.Sort.TheVariants as sort
-use Rattle.forec_parser.specs.Input.{Parser, ◌>>=◌, ◌>>◌, pure, refuse, scoped, kind_ahead, take}
+use Rattle.expr_parser.specs.Input.{Parser, ◌>>=◌, ◌>>◌, pure, refuse, scoped, kind_ahead, take}
 use Rattle.forec_parser.specs.Meaning.{update_of, step_of, change_of, act_of, sort_of, ends_body}
-use Rattle.forec_parser.specs.Reading as expression
-use Rattle.forec_parser.specs.Reading.{next_is, close, enter, enclosed, name, number, separated, expr}
+use Rattle.expr_parser.specs.Reading as expression
+use Rattle.expr_parser.specs.Reading.{next_is, close, enter, enclosed, name, number, separated, expr}
 
 abbrev pub op_by : Option Binary → Parser OpAt
 op_by (Some op) = do

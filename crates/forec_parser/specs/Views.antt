@@ -1,18 +1,28 @@
 -- The parts of a tree as the parser hands them on, seen as plain values.
-use Rattle.std.specs.Prelude.{List, Option, Some, None, map}
+use Rattle.std.specs.Prelude.{List, Option, Some, None, Box, map}
+use Rattle.std.specs.Global.{Global}
 use Rattle.forec_base.specs.declared.Place.{Place}
+use Rattle.forec_tree.specs.declared.tree.Expr.{Expr}
 use Rattle.forec_tree.specs.declared.tree.Branch as branch
 use Rattle.forec_tree.specs.declared.tree.Branch.{Branch}
 use Rattle.forec_tree.specs.declared.tree.Stmt.{Stmt}
-use Rattle.forec_tree.specs.Terms.{Statement, Perhaps, absent, present}
-use Rattle.forec_tree.specs.Plain.{terms, statement, statement_row, optional_term}
+use Rattle.forec_tree.specs.Terms.{Term, Statement, Perhaps, absent, present}
+use Rattle.forec_tree.specs.Plain.{terms, statement, statement_row}
 use Rattle.forec_tree.specs.Parts.{Launch, Calls, Blocks, Head}
+use Rattle.expr_parser.specs.Boxes.{term_in}
 use Rattle.forec_parser.specs.declared.parts.Block.{Block}
 use Rattle.forec_parser.specs.declared.parts.ForHead.{ForHead}
 
-abbrev pub perhaps_of : Option Stmt → Perhaps
+abbrev pub statement_in : Box Stmt Global → Statement
+statement_in b = statement b.value
+
+abbrev pub optional_term_in : Option (Box Expr Global) → Option Term
+optional_term_in None = None
+optional_term_in (Some b) = Some (term_in b)
+
+abbrev pub perhaps_of : Option (Box Stmt Global) → Perhaps
 perhaps_of None = absent
-perhaps_of (Some s) = present (statement s)
+perhaps_of (Some b) = present (statement_in b)
 
 abbrev pub launch_of : Branch → Launch
 launch_of (branch.Call name args) = Calls name (terms args)
@@ -22,4 +32,4 @@ abbrev pub block_of : Block → Place × List Statement
 block_of b = (b.place, map statement b.body)
 
 abbrev pub head_view : ForHead → Head
-head_view h = record { start = perhaps_of h.start; test = optional_term h.test; step = perhaps_of h.step }
+head_view h = record { start = perhaps_of h.start; test = optional_term_in h.test; step = perhaps_of h.step }

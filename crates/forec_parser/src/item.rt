@@ -7,17 +7,15 @@ ghost use Rattle.forec_tree.specs.declared.tree.Name.{Name};
 ghost use Rattle.forec_tree.specs.declared.tree.Number.{Number};
 ghost use Rattle.std.specs.Prelude.{List};
 ghost use Rattle.forec_tree.specs.Plain.{plain_item};
-ghost use Rattle.forec_parser.specs.Input.{Reads, max_level};
+ghost use Rattle.expr_parser.specs.Input.{Reads, max_level};
 ghost use Rattle.forec_parser.specs.Items as spec;
-ghost use Rattle.forec_parser.specs.Reading.{separated};
+ghost use Rattle.expr_parser.specs.Reading.{separated};
 
-use crate::fault::Fault;
-use crate::fixed::Fixed;
 use crate::meaning::{Declarator, Opening, opening_of, policy_of};
 use crate::parts;
 use crate::simple::maybe_length;
 use crate::statement::block;
-use crate::tokens::Tokens;
+use expr_parser::{Fault, Fixed, Tokens};
 use forec_base::{Policy, Unary, unary};
 use forec_tree::{Combine, Global as Variable, GlobalKind, Item, Name, Number};
 use sqlite_items::Items;
@@ -72,7 +70,7 @@ fn maybe_value(alloc: Global, tokens: &mut Tokens<'_>) -> Result<Items<Number>, 
     }
 }
 
-#[tactic(auto, unfolding(crate::specs::Reading::separated, crate::specs::Reading::separated_from))]
+#[tactic(auto, unfolding(expr_parser::specs::Reading::separated, expr_parser::specs::Reading::separated_from))]
 fn signed_values(alloc: Global, tokens: &mut Tokens<'_>) -> Result<Items<Number>, Fault>
     ensures { Reads (λ (ns : List Number). ns) (separated spec.signed tokens.old) result tokens.new }
 {
@@ -174,7 +172,7 @@ fn declared(alloc: Global, tokens: &mut Tokens<'_>, declarator: Declarator) -> R
     }
 }
 
-#[tactic(auto, unfolding(crate::specs::Reading::separated, crate::specs::Reading::separated_from))]
+#[tactic(auto, unfolding(expr_parser::specs::Reading::separated, expr_parser::specs::Reading::separated_from))]
 fn declared_list(
     alloc: Global,
     tokens: &mut Tokens<'_>,
@@ -291,7 +289,7 @@ fn param(tokens: &mut Tokens<'_>) -> Result<Name, Fault>
     tokens.name()
 }
 
-#[tactic(auto, unfolding(crate::specs::Reading::separated, crate::specs::Reading::separated_from))]
+#[tactic(auto, unfolding(expr_parser::specs::Reading::separated, expr_parser::specs::Reading::separated_from))]
 fn listed_params(alloc: Global, tokens: &mut Tokens<'_>) -> Result<Items<Name>, Fault>
     ensures { Reads (λ (ns : List Name). ns) (separated spec.param tokens.old) result tokens.new }
 {

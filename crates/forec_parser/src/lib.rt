@@ -1,16 +1,12 @@
 //! Reads the tree of a program from its tokens.
 #![tactic(auto)]
 
-mod expression;
 mod fault;
-mod fixed;
 mod item;
 mod meaning;
-mod nodes;
 mod parts;
 mod simple;
 mod statement;
-mod tokens;
 mod whole;
 
 pub use fault::ParseFault;

@@ -5,8 +5,9 @@ ghost use Rattle.forec_tree.specs.Terms as plain;
 ghost use Rattle.forec_tree.specs.Plain.{term, statement, declared, written, optional_term, plain_item};
 ghost use Rattle.forec_tree.specs.Terms.{IsFunction};
 ghost use Rattle.forec_tree.specs.Spelling.{listed};
-ghost use Rattle.forec_tree.specs.Parts.{declared_as, in_order, launched, Calls, Blocks};
-ghost use Rattle.forec_parser.specs.Views.{perhaps_of, launch_of, head_view};
+ghost use Rattle.forec_tree.specs.Parts.{written_at, declared_as, in_order, launched, Calls, Blocks};
+ghost use Rattle.expr_parser.specs.Boxes.{term_in};
+ghost use Rattle.forec_parser.specs.Views.{optional_term_in, statement_in, perhaps_of, launch_of};
 
 use forec_base::Place;
 use forec_tree::{
@@ -25,9 +26,25 @@ pub struct Block {
 /// What stands between the brackets behind `for`.
 #[derive(Drop)]
 pub struct ForHead {
-    pub start: Option<Stmt>,
-    pub test: Option<Expr>,
-    pub step: Option<Stmt>,
+    pub start: Option<Box<Stmt>>,
+    pub test: Option<Box<Expr>>,
+    pub step: Option<Box<Stmt>>,
+}
+
+/// A statement in a box of its own.
+pub fn boxed(alloc: Global, found: Stmt) -> Result<Box<Stmt>, AllocError>
+    ensures { IfOk result (λ b. statement_in b ≡ statement found) }
+{
+    Ok(Box::new(alloc, found)?)
+}
+
+fn unboxed(found: Option<Box<Expr>>) -> Option<Expr>
+    ensures { optional_term result ≡ optional_term_in found }
+{
+    match found {
+        None => None,
+        Some(expr) => Some(Box::into_inner(expr)),
+    }
 }
 
 /// `;`
@@ -73,11 +90,16 @@ pub fn local(name: Name, length: Option<Number>, values: Items<Expr>) -> Local
 }
 
 /// `int x = e`, as a `for` starts.
-pub fn first_local(alloc: Global, place: Place, name: Name, value: Expr) -> Result<Stmt, AllocError>
-    ensures { IfOk result (λ s. statement s ≡ plain.Declare place (declared_as name None (term value ∷ []) ∷ [])) }
+pub fn first_local(
+    alloc: Global,
+    place: Place,
+    name: Name,
+    value: Box<Expr>,
+) -> Result<Stmt, AllocError>
+    ensures { IfOk result (λ s. statement s ≡ plain.Declare place (declared_as name None (term_in value ∷ []) ∷ [])) }
 {
     let mut values = Items::new(alloc);
-    values.push(value)?;
+    values.push(Box::into_inner(value))?;
     let mut locals = Items::new(alloc);
     locals.push(Local {
         name,
@@ -87,13 +109,27 @@ pub fn first_local(alloc: Global, place: Place, name: Name, value: Expr) -> Resu
     Ok(declare(place, locals))
 }
 
+/// What is written to: a variable, or an element of an array.
+pub fn target(name: Name, index: Option<Box<Expr>>) -> Target
+    ensures { written result ≡ written_at name (optional_term_in index) }
+{
+    Target {
+        name,
+        index: unboxed(index),
+    }
+}
+
 /// An assignment, with the operator of `+=` and its kin if it is one.
-pub fn assign(place: Place, target: Target, op: Option<OpAt>, value: Expr) -> Stmt
-    ensures { statement result ≡ plain.Assign place (written target) op (term value) }
+pub fn assign(target: Target, op: Option<OpAt>, value: Box<Expr>) -> Stmt
+    ensures { statement result ≡ plain.Assign target.name.place (written target) op (term_in value) }
 {
     Stmt {
-        place,
-        what: StmtKind::Assign { target, op, value },
+        place: target.name.place,
+        what: StmtKind::Assign {
+            target,
+            op,
+            value: Box::into_inner(value),
+        },
     }
 }
 
@@ -105,7 +141,14 @@ pub fn step(place: Place, target: Target, op: OpAt) -> Stmt
         place: op.place,
         what: ExprKind::Number { value: 1 },
     };
-    assign(place, target, Some(op), one)
+    Stmt {
+        place,
+        what: StmtKind::Assign {
+            target,
+            op: Some(op),
+            value: one,
+        },
+    }
 }
 
 /// A call of a void function.
@@ -119,75 +162,48 @@ pub fn invoke(name: Name, args: Items<Expr>) -> Stmt
 }
 
 /// `if`, with what stands behind `else` if there is one.
-pub fn branch(
-    alloc: Global,
-    place: Place,
-    test: Expr,
-    yes: Stmt,
-    no: Option<Stmt>,
-) -> Result<Stmt, AllocError>
-    ensures { IfOk result (λ s. statement s ≡ plain.If place (term test) (statement yes) (perhaps_of no)) }
+pub fn branch(place: Place, test: Box<Expr>, yes: Box<Stmt>, no: Option<Box<Stmt>>) -> Stmt
+    ensures { statement result ≡ plain.If place (term_in test) (statement_in yes) (perhaps_of no) }
 {
-    let yes = Box::new(alloc, yes)?;
-    let no = match no {
-        None => None,
-        Some(other) => Some(Box::new(alloc, other)?),
-    };
-    Ok(Stmt {
+    Stmt {
         place,
-        what: StmtKind::If { test, yes, no },
-    })
+        what: StmtKind::If {
+            test: Box::into_inner(test),
+            yes,
+            no,
+        },
+    }
 }
 
 /// `while`
-pub fn repeat(
-    alloc: Global,
-    place: Place,
-    test: Expr,
-    bound: Option<Number>,
-    body: Stmt,
-) -> Result<Stmt, AllocError>
-    ensures { IfOk result (λ s. statement s ≡ plain.While place (term test) bound (statement body)) }
+pub fn repeat(place: Place, test: Box<Expr>, bound: Option<Number>, body: Box<Stmt>) -> Stmt
+    ensures { statement result ≡ plain.While place (term_in test) bound (statement_in body) }
 {
-    Ok(Stmt {
+    Stmt {
         place,
         what: StmtKind::While {
-            test,
+            test: Box::into_inner(test),
             bound,
-            body: Box::new(alloc, body)?,
+            body,
         },
-    })
+    }
 }
 
 /// `for`
-pub fn count(
-    alloc: Global,
-    place: Place,
-    head: ForHead,
-    bound: Option<Number>,
-    body: Stmt,
-) -> Result<Stmt, AllocError>
-    ensures { IfOk result (λ s. statement s ≡ plain.For place (perhaps_of head.start) (optional_term head.test) (perhaps_of head.step) bound (statement body)) }
+pub fn count(place: Place, head: ForHead, bound: Option<Number>, body: Box<Stmt>) -> Stmt
+    ensures { statement result ≡ plain.For place (perhaps_of head.start) (optional_term_in head.test) (perhaps_of head.step) bound (statement_in body) }
 {
     let ForHead { start, test, step } = head;
-    let start = match start {
-        None => None,
-        Some(first) => Some(Box::new(alloc, first)?),
-    };
-    let step = match step {
-        None => None,
-        Some(last) => Some(Box::new(alloc, last)?),
-    };
-    Ok(Stmt {
+    Stmt {
         place,
         what: StmtKind::For {
             start,
-            test,
+            test: unboxed(test),
             step,
             bound,
-            body: Box::new(alloc, body)?,
+            body,
         },
-    })
+    }
 }
 
 /// `pause`
@@ -226,8 +242,8 @@ pub fn start_block(block: Block) -> Branch
 }
 
 /// `abort`, at the place of this word.
-pub fn abort(place: Place, weak: bool, immediate: bool, test: Expr, block: Block) -> Stmt
-    ensures { statement result ≡ plain.Abort place weak immediate (term test) (in_order (map statement block.body)) }
+pub fn abort(place: Place, weak: bool, immediate: bool, test: Box<Expr>, block: Block) -> Stmt
+    ensures { statement result ≡ plain.Abort place weak immediate (term_in test) (in_order (map statement block.body)) }
 {
     let Block { place: _, body } = block;
     Stmt {
@@ -235,19 +251,21 @@ pub fn abort(place: Place, weak: bool, immediate: bool, test: Expr, block: Block
         what: StmtKind::Abort {
             weak,
             immediate,
-            test,
+            test: Box::into_inner(test),
             body,
         },
     }
 }
 
 /// `return`
-pub fn give(place: Place, value: Expr) -> Stmt
-    ensures { statement result ≡ plain.Return place (term value) }
+pub fn give(place: Place, value: Box<Expr>) -> Stmt
+    ensures { statement result ≡ plain.Return place (term_in value) }
 {
     Stmt {
         place,
-        what: StmtKind::Return { value },
+        what: StmtKind::Return {
+            value: Box::into_inner(value),
+        },
     }
 }
 

@@ -3,18 +3,17 @@
 ghost use Rattle.std.specs.Prelude.{◌≡◌, [], ◌∷◌, map, Option, Bool};
 ghost use Rattle.forec_tree.specs.declared.tree.Number.{Number};
 ghost use Rattle.forec_tree.specs.declared.tree.OpAt.{OpAt};
-ghost use Rattle.forec_tree.specs.Plain.{term, statement, declared, written, optional_term};
-ghost use Rattle.forec_parser.specs.Input.{Reads, max_level};
-ghost use Rattle.forec_parser.specs.Reading.{separated};
+ghost use Rattle.forec_tree.specs.Parts.{written_at};
+ghost use Rattle.forec_tree.specs.Plain.{term, statement, declared, written};
+ghost use Rattle.expr_parser.specs.Boxes.{term_in};
+ghost use Rattle.expr_parser.specs.Input.{Reads, max_level};
+ghost use Rattle.expr_parser.specs.Reading.{separated};
 ghost use Rattle.forec_parser.specs.Statements as spec;
-ghost use Rattle.forec_parser.specs.Views.{perhaps_of, launch_of, head_view, block_of};
+ghost use Rattle.forec_parser.specs.Views.{optional_term_in, statement_in, perhaps_of, launch_of, head_view};
 
-use crate::expression;
-use crate::fault::Fault;
-use crate::fixed::Fixed;
 use crate::meaning::{Act, Change, act_of, change_of, step_of, update_of};
 use crate::parts::{self, ForHead};
-use crate::tokens::Tokens;
+use expr_parser::{Fault, Fixed, Tokens};
 use forec_tree::{Branch, Expr, Local, Name, Number, OpAt, Stmt, Target};
 use sqlite_items::Items;
 use std::alloc::Global;
@@ -24,39 +23,39 @@ const EXPR_DEPTH: usize = 129;
 
 /// An expression of its own.
 #[tactic(auto, unfolding(crate::specs::Statements::value))]
-pub fn value(alloc: Global, tokens: &mut Tokens<'_>) -> Result<Expr, Fault>
-    ensures { Reads term (spec.value max_level tokens.old) result tokens.new }
+pub fn value(alloc: Global, tokens: &mut Tokens<'_>) -> Result<Box<Expr>, Fault>
+    ensures { Reads term_in (spec.value max_level tokens.old) result tokens.new }
 {
-    expression::value(alloc, tokens, EXPR_DEPTH)
+    expr_parser::value(alloc, tokens, EXPR_DEPTH)
 }
 
 #[tactic(auto, unfolding(crate::specs::Statements::values))]
 fn values(alloc: Global, tokens: &mut Tokens<'_>) -> Result<Items<Expr>, Fault>
     ensures { Reads (map term) (spec.values max_level tokens.old) result tokens.new }
 {
-    expression::values(alloc, tokens, EXPR_DEPTH)
+    expr_parser::values(alloc, tokens, EXPR_DEPTH)
 }
 
 /// An expression between round brackets.
 #[tactic(auto, unfolding(crate::specs::Statements::bracketed))]
-pub fn bracketed(alloc: Global, tokens: &mut Tokens<'_>) -> Result<Expr, Fault>
-    ensures { Reads term (spec.bracketed max_level tokens.old) result tokens.new }
+pub fn bracketed(alloc: Global, tokens: &mut Tokens<'_>) -> Result<Box<Expr>, Fault>
+    ensures { Reads term_in (spec.bracketed max_level tokens.old) result tokens.new }
 {
-    expression::bracketed(alloc, tokens, EXPR_DEPTH)
+    expr_parser::bracketed(alloc, tokens, EXPR_DEPTH)
 }
 
 #[tactic(auto, unfolding(crate::specs::Statements::indexed))]
-fn indexed(alloc: Global, tokens: &mut Tokens<'_>) -> Result<Expr, Fault>
-    ensures { Reads term (spec.indexed max_level tokens.old) result tokens.new }
+fn indexed(alloc: Global, tokens: &mut Tokens<'_>) -> Result<Box<Expr>, Fault>
+    ensures { Reads term_in (spec.indexed max_level tokens.old) result tokens.new }
 {
-    expression::indexed(alloc, tokens, EXPR_DEPTH)
+    expr_parser::indexed(alloc, tokens, EXPR_DEPTH)
 }
 
 #[tactic(auto, unfolding(crate::specs::Statements::passed))]
 fn passed(alloc: Global, tokens: &mut Tokens<'_>) -> Result<Items<Expr>, Fault>
     ensures { Reads (map term) (spec.passed max_level tokens.old) result tokens.new }
 {
-    expression::passed(alloc, tokens, EXPR_DEPTH)
+    expr_parser::passed(alloc, tokens, EXPR_DEPTH)
 }
 
 #[tactic(auto, unfolding(crate::specs::Statements::update))]
@@ -92,8 +91,8 @@ fn step_mark(tokens: &mut Tokens<'_>) -> Result<OpAt, Fault>
 }
 
 #[tactic(auto, unfolding(crate::specs::Statements::maybe_index))]
-fn maybe_index(alloc: Global, tokens: &mut Tokens<'_>) -> Result<Option<Expr>, Fault>
-    ensures { Reads optional_term (spec.maybe_index max_level tokens.old) result tokens.new }
+fn maybe_index(alloc: Global, tokens: &mut Tokens<'_>) -> Result<Option<Box<Expr>>, Fault>
+    ensures { Reads optional_term_in (spec.maybe_index max_level tokens.old) result tokens.new }
 {
     if tokens.next_is(Fixed::LeftSquare) {
         let index = indexed(alloc, tokens)?;
@@ -109,29 +108,33 @@ fn target(alloc: Global, tokens: &mut Tokens<'_>) -> Result<Target, Fault>
 {
     let name = tokens.name()?;
     let index = maybe_index(alloc, tokens)?;
-    Ok(Target { name, index })
+    Ok(parts::target(name, index))
 }
 
-/// What is done to the target before it.
+/// What is done to the target of this name and index.
 #[tactic(auto, unfolding(crate::specs::Statements::changed))]
-fn changed(alloc: Global, tokens: &mut Tokens<'_>, target: Target) -> Result<Stmt, Fault>
-    ensures { Reads statement (spec.changed max_level (written target) tokens.old) result tokens.new }
+fn changed(
+    alloc: Global,
+    tokens: &mut Tokens<'_>,
+    name: Name,
+    index: Option<Box<Expr>>,
+) -> Result<Stmt, Fault>
+    ensures { Reads statement (spec.changed max_level (written_at name (optional_term_in index)) tokens.old) result tokens.new }
 {
-    let place = target.name.place;
     match change_of(tokens.kind()) {
         Change::Sets => {
             tokens.close(Fixed::Assign)?;
             let value = value(alloc, tokens)?;
-            Ok(parts::assign(place, target, None, value))
+            Ok(parts::assign(parts::target(name, index), None, value))
         }
         Change::Updates => {
             let op = update(tokens)?;
             let value = value(alloc, tokens)?;
-            Ok(parts::assign(place, target, Some(op), value))
+            Ok(parts::assign(parts::target(name, index), Some(op), value))
         }
         Change::Steps => {
             let op = step_mark(tokens)?;
-            Ok(parts::step(place, target, op))
+            Ok(parts::step(name.place, parts::target(name, index), op))
         }
         Change::Nothing => Err(tokens.refuse()),
     }
@@ -150,7 +153,7 @@ fn assigned(alloc: Global, tokens: &mut Tokens<'_>, name: Name) -> Result<Stmt, 
     ensures { Reads statement (spec.assigned max_level name tokens.old) result tokens.new }
 {
     let index = maybe_index(alloc, tokens)?;
-    changed(alloc, tokens, Target { name, index })
+    changed(alloc, tokens, name, index)
 }
 
 #[tactic(auto, unfolding(crate::specs::Statements::named))]
@@ -176,7 +179,7 @@ fn stepped(alloc: Global, tokens: &mut Tokens<'_>) -> Result<Stmt, Fault>
 
 /// An assignment or a call, without what ends it.
 #[tactic(auto, unfolding(crate::specs::Statements::simple))]
-pub fn simple(alloc: Global, tokens: &mut Tokens<'_>) -> Result<Stmt, Fault>
+fn action(alloc: Global, tokens: &mut Tokens<'_>) -> Result<Stmt, Fault>
     ensures { Reads statement (spec.simple max_level tokens.old) result tokens.new }
 {
     match act_of(tokens.kind()) {
@@ -184,6 +187,14 @@ pub fn simple(alloc: Global, tokens: &mut Tokens<'_>) -> Result<Stmt, Fault>
         Act::Steps => stepped(alloc, tokens),
         Act::Nothing => Err(tokens.refuse()),
     }
+}
+
+/// An assignment or a call in a box of its own, without what ends it.
+fn simple(alloc: Global, tokens: &mut Tokens<'_>) -> Result<Box<Stmt>, Fault>
+    ensures { Reads statement_in (spec.simple max_level tokens.old) result tokens.new }
+{
+    let found = action(alloc, tokens)?;
+    Ok(parts::boxed(alloc, found)?)
 }
 
 /// An array's length, with its square brackets.
@@ -240,7 +251,7 @@ fn initial(
     tokens.close(Fixed::Assign)?;
     match length {
         None => {
-            found.push(value(alloc, tokens)?)?;
+            found.push(Box::into_inner(value(alloc, tokens)?))?;
             Ok(found)
         }
         Some(_) => listed_values(alloc, tokens),
@@ -258,7 +269,7 @@ fn local(alloc: Global, tokens: &mut Tokens<'_>) -> Result<Local, Fault>
     Ok(parts::local(name, length, values))
 }
 
-#[tactic(auto, unfolding(crate::specs::Reading::separated, crate::specs::Reading::separated_from))]
+#[tactic(auto, unfolding(expr_parser::specs::Reading::separated, expr_parser::specs::Reading::separated_from))]
 fn locals(alloc: Global, tokens: &mut Tokens<'_>) -> Result<Items<Local>, Fault>
     ensures { Reads (map declared) (separated (spec.local max_level) tokens.old) result tokens.new }
 {
@@ -301,7 +312,7 @@ pub fn flag(tokens: &mut Tokens<'_>, fixed: Fixed) -> Result<bool, Fault>
 }
 
 #[tactic(auto, unfolding(crate::specs::Statements::first_local))]
-fn first_local(alloc: Global, tokens: &mut Tokens<'_>) -> Result<Option<Stmt>, Fault>
+fn first_local(alloc: Global, tokens: &mut Tokens<'_>) -> Result<Option<Box<Stmt>>, Fault>
     ensures { Reads perhaps_of (spec.first_local max_level tokens.old) result tokens.new }
 {
     let token = tokens.close(Fixed::Int)?;
@@ -309,11 +320,11 @@ fn first_local(alloc: Global, tokens: &mut Tokens<'_>) -> Result<Option<Stmt>, F
     tokens.close(Fixed::Assign)?;
     let value = value(alloc, tokens)?;
     let first = parts::first_local(alloc, token.place, name, value)?;
-    Ok(Some(first))
+    Ok(Some(parts::boxed(alloc, first)?))
 }
 
 #[tactic(auto, unfolding(crate::specs::Statements::some_start))]
-fn some_start(alloc: Global, tokens: &mut Tokens<'_>) -> Result<Option<Stmt>, Fault>
+fn some_start(alloc: Global, tokens: &mut Tokens<'_>) -> Result<Option<Box<Stmt>>, Fault>
     ensures { Reads perhaps_of (spec.some_start max_level tokens.old) result tokens.new }
 {
     if tokens.next_is(Fixed::Int) {
@@ -325,7 +336,7 @@ fn some_start(alloc: Global, tokens: &mut Tokens<'_>) -> Result<Option<Stmt>, Fa
 }
 
 #[tactic(auto, unfolding(crate::specs::Statements::start))]
-fn start(alloc: Global, tokens: &mut Tokens<'_>) -> Result<Option<Stmt>, Fault>
+fn start(alloc: Global, tokens: &mut Tokens<'_>) -> Result<Option<Box<Stmt>>, Fault>
     ensures { Reads perhaps_of (spec.start max_level tokens.old) result tokens.new }
 {
     if tokens.next_is(Fixed::Semicolon) {
@@ -336,8 +347,8 @@ fn start(alloc: Global, tokens: &mut Tokens<'_>) -> Result<Option<Stmt>, Fault>
 }
 
 #[tactic(auto, unfolding(crate::specs::Statements::loop_test))]
-fn test(alloc: Global, tokens: &mut Tokens<'_>) -> Result<Option<Expr>, Fault>
-    ensures { Reads optional_term (spec.loop_test max_level tokens.old) result tokens.new }
+fn test(alloc: Global, tokens: &mut Tokens<'_>) -> Result<Option<Box<Expr>>, Fault>
+    ensures { Reads optional_term_in (spec.loop_test max_level tokens.old) result tokens.new }
 {
     if tokens.next_is(Fixed::Semicolon) {
         Ok(None)
@@ -348,7 +359,7 @@ fn test(alloc: Global, tokens: &mut Tokens<'_>) -> Result<Option<Expr>, Fault>
 }
 
 #[tactic(auto, unfolding(crate::specs::Statements::step))]
-fn step(alloc: Global, tokens: &mut Tokens<'_>) -> Result<Option<Stmt>, Fault>
+fn step(alloc: Global, tokens: &mut Tokens<'_>) -> Result<Option<Box<Stmt>>, Fault>
     ensures { Reads perhaps_of (spec.step max_level tokens.old) result tokens.new }
 {
     if tokens.next_is(Fixed::RightRound) {
@@ -394,7 +405,7 @@ pub fn acting(alloc: Global, tokens: &mut Tokens<'_>) -> Result<Stmt, Fault>
 {
     let found = simple(alloc, tokens)?;
     tokens.close(Fixed::Semicolon)?;
-    Ok(found)
+    Ok(Box::into_inner(found))
 }
 
 /// `pause ;`

@@ -1,17 +1,16 @@
 //! Statements, by recursive descent. `depth` bounds how deep calls nest; the level of the tokens ends a text first.
 
 ghost use Rattle.std.specs.Prelude.{◌≡◌, map};
-ghost use Rattle.forec_tree.specs.Plain.{term, statement};
-ghost use Rattle.forec_parser.specs.Input.{Reads, max_level};
+ghost use Rattle.forec_tree.specs.Plain.{statement};
+ghost use Rattle.expr_parser.specs.Boxes.{term_in};
+ghost use Rattle.expr_parser.specs.Input.{Reads, max_level};
 ghost use Rattle.forec_parser.specs.Statements as spec;
-ghost use Rattle.forec_parser.specs.Views.{launch_of, block_of};
+ghost use Rattle.forec_parser.specs.Views.{statement_in, launch_of, block_of};
 
-use crate::fault::Fault;
-use crate::fixed::{Fixed, ends_body};
-use crate::meaning::{Sort, sort_of};
+use crate::meaning::{Sort, ends_body, sort_of};
 use crate::parts::{self, Block};
 use crate::simple::{acting, bound, bracketed, called, declaring, flag, giving, head, pausing};
-use crate::tokens::Tokens;
+use expr_parser::{Fault, Fixed, Tokens};
 use forec_tree::{Branch, Expr, Stmt, Token};
 use sqlite_items::Items;
 use std::alloc::Global;
@@ -59,6 +58,15 @@ fn one(alloc: Global, tokens: &mut Tokens<'_>, depth: usize) -> Result<Stmt, Fau
     }
 }
 
+/// A statement in a box of its own.
+#[cycle(stmt)]
+fn nested(alloc: Global, tokens: &mut Tokens<'_>, depth: usize) -> Result<Box<Stmt>, Fault>
+    ensures { Reads statement_in (spec.stmt max_level depth tokens.old) result tokens.new }
+{
+    let found = stmt(alloc, tokens, depth)?;
+    Ok(parts::boxed(alloc, found)?)
+}
+
 /// Statements up to the bracket that closes them, or the end.
 #[cycle(stmt)]
 #[tactic(auto, unfolding(crate::specs::Statements::body, crate::specs::Statements::body_from))]
@@ -103,11 +111,11 @@ fn branching(alloc: Global, tokens: &mut Tokens<'_>, depth: usize) -> Result<Stm
     let outer = tokens.level();
     let token = tokens.enter(Fixed::If)?;
     let test = bracketed(alloc, tokens)?;
-    let yes = stmt(alloc, tokens, depth)?;
+    let yes = nested(alloc, tokens, depth)?;
     let found = if tokens.next_is(Fixed::Else) {
         otherwise(alloc, tokens, depth, token, test, yes)?
     } else {
-        parts::branch(alloc, token.place, test, yes, None)?
+        parts::branch(token.place, test, yes, None)
     };
     tokens.leave(outer);
     Ok(found)
@@ -121,14 +129,14 @@ fn otherwise(
     tokens: &mut Tokens<'_>,
     depth: usize,
     token: Token,
-    test: Expr,
-    yes: Stmt,
+    test: Box<Expr>,
+    yes: Box<Stmt>,
 ) -> Result<Stmt, Fault>
-    ensures { Reads statement (spec.otherwise max_level (spec.stmt max_level depth) token (term test) (statement yes) tokens.old) result tokens.new }
+    ensures { Reads statement (spec.otherwise max_level (spec.stmt max_level depth) token (term_in test) (statement_in yes) tokens.old) result tokens.new }
 {
     tokens.enter(Fixed::Else)?;
-    let no = stmt(alloc, tokens, depth)?;
-    Ok(parts::branch(alloc, token.place, test, yes, Some(no))?)
+    let no = nested(alloc, tokens, depth)?;
+    Ok(parts::branch(token.place, test, yes, Some(no)))
 }
 
 #[cycle(stmt)]
@@ -140,9 +148,9 @@ fn looping(alloc: Global, tokens: &mut Tokens<'_>, depth: usize) -> Result<Stmt,
     let token = tokens.enter(Fixed::While)?;
     let test = bracketed(alloc, tokens)?;
     let turns = bound(tokens)?;
-    let body = stmt(alloc, tokens, depth)?;
+    let body = nested(alloc, tokens, depth)?;
     tokens.leave(outer);
-    Ok(parts::repeat(alloc, token.place, test, turns, body)?)
+    Ok(parts::repeat(token.place, test, turns, body))
 }
 
 #[cycle(stmt)]
@@ -154,9 +162,9 @@ fn counting(alloc: Global, tokens: &mut Tokens<'_>, depth: usize) -> Result<Stmt
     let token = tokens.enter(Fixed::For)?;
     let head = head(alloc, tokens)?;
     let turns = bound(tokens)?;
-    let body = stmt(alloc, tokens, depth)?;
+    let body = nested(alloc, tokens, depth)?;
     tokens.leave(outer);
-    Ok(parts::count(alloc, token.place, head, turns, body)?)
+    Ok(parts::count(token.place, head, turns, body))
 }
 
 #[cycle(stmt)]
@@ -173,7 +181,7 @@ fn launch(alloc: Global, tokens: &mut Tokens<'_>, depth: usize) -> Result<Branch
 }
 
 #[cycle(stmt)]
-#[tactic(auto, unfolding(crate::specs::Statements::launches, crate::specs::Reading::separated, crate::specs::Reading::separated_from))]
+#[tactic(auto, unfolding(crate::specs::Statements::launches, expr_parser::specs::Reading::separated, expr_parser::specs::Reading::separated_from))]
 fn launches(alloc: Global, tokens: &mut Tokens<'_>, depth: usize) -> Result<Items<Branch>, Fault>
     ensures { Reads (map launch_of) (spec.launches max_level (spec.stmt max_level depth) tokens.old) result tokens.new }
 {

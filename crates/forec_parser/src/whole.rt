@@ -5,13 +5,13 @@ ghost use Rattle.forec_tree.specs.declared.token.Token.{Token};
 ghost use Rattle.forec_tree.specs.Plain.{program};
 ghost use Rattle.forec_tree.specs.Terms.{Text};
 ghost use Rattle.forec_tree.specs.SpelledPrograms.{IsSpelled};
-ghost use Rattle.forec_parser.specs.Input.{input, max_level};
+ghost use Rattle.expr_parser.specs.Input.{input, max_level};
 ghost use Rattle.forec_parser.specs.Items as spec;
 ghost use Rattle.forec_parser.specs.Program.{Answers, Gives, told_of};
 
-use crate::fault::{Fault, ParseFault};
+use crate::fault::ParseFault;
 use crate::item;
-use crate::tokens::Tokens;
+use expr_parser::{Fault, Tokens};
 use forec_tree::{Program, Token};
 use std::alloc::Global;
 

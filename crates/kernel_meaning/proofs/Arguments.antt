@@ -2,12 +2,12 @@
 use Rattle.std.proofs.Common.{◌≡◌, ◌∙◌, ℕ, ◌+◌, ◌≤◌, ◌<◌, ℤ, Ok, Err, List, [], ◌∷◌, ◌++◌, append_assoc, length, drop, get_or, refl, ap, sym, arith, map, Vec, Global}
 use Rattle.forec_kernel.specs.Plain.{exprs, branch}
 use Rattle.forec_kernel.specs.declared.terms.Launch.{Launch}
-use Rattle.kernel_meaning.proofs.Kernels.{drop_next}
+use Rattle.running_texts.proofs.Kernels.{drop_next}
 use Rattle.forec_kernel.specs.Values.{Values, AllGive, OneStops, Setting, Sight, vals}
 use Rattle.forec_kernel.specs.Steps.{Arguments, Ready, Refused, one_more_list, arguments_then, arguments}
-use Rattle.kernel_meaning.specs.declared.meter.Halt.{Halt}
-use Rattle.kernel_meaning.specs.declared.meter.Halt.TheVariants.{Trapped, Over, OutOfMemory}
-use Rattle.kernel_meaning.specs.Metered.{IsMetered, numbers, values_units}
+use Rattle.running_texts.specs.declared.meter.Halt.{Halt}
+use Rattle.running_texts.specs.declared.meter.Halt.TheVariants.{Trapped, Over, OutOfMemory}
+use Rattle.running_texts.specs.Metered.{IsMetered, numbers, values_units}
 use Rattle.kernel_meaning.specs.Moving.{lists, lists_units}
 
 -- ---- lists so far

@@ -4,12 +4,12 @@ use Rattle.forec_kernel.specs.Terms.{Expr}
 use Rattle.forec_kernel.specs.Values.{Value, Gives, Stops}
 use Rattle.forec_kernel.specs.Texts.{Done, Watch, Last}
 use Rattle.forec_kernel.specs.Steps.{Woken, Wakes, Stays, more_woken, woken_in, woken_with, watched_on, waking_units}
-use Rattle.kernel_meaning.specs.declared.meter.Halt.{Halt}
-use Rattle.kernel_meaning.specs.declared.texts.Text as rust
-use Rattle.kernel_meaning.specs.Metered.{IsMetered, number}
+use Rattle.running_texts.specs.declared.meter.Halt.{Halt}
+use Rattle.running_texts.specs.declared.texts.Text as rust
+use Rattle.running_texts.specs.Metered.{IsMetered, number}
 use Rattle.kernel_meaning.specs.Moving.{waking}
-use Rattle.kernel_meaning.proofs.Metering.{Adds, Binds, is_zero_of, not_zero_of, test_ok, test_err}
-use Rattle.kernel_meaning.proofs.Tests.{AfterTest}
+use Rattle.running_texts.proofs.Metering.{Adds, Binds, is_zero_of, not_zero_of, test_ok, test_err}
+use Rattle.running_texts.proofs.Tests.{AfterTest}
 
 woken_more : (u : ℕ) (w : Woken) → waking_units (more_woken u w) ≡ u + waking_units w
 woken_more u (Wakes R w) = refl

@@ -4,10 +4,10 @@ use Rattle.forec_kernel.specs.declared.shape.VarCopy.{VarCopy}
 use Rattle.forec_kernel.specs.Shapes.{PlainKernel}
 use Rattle.forec_kernel.specs.Texts.{Fork, Threads, some_running, first_trap}
 use Rattle.forec_kernel.specs.Steps.{Path, Move, Moves, Stepped, joined, text_move, child_move, path_below, place_at}
-use Rattle.kernel_meaning.specs.declared.meter.Halt.{Halt}
+use Rattle.running_texts.specs.declared.meter.Halt.{Halt}
 use Rattle.kernel_meaning.specs.declared.moving.Step.{Step}
-use Rattle.kernel_meaning.specs.declared.texts.Children.{Children}
-use Rattle.kernel_meaning.specs.Views.{threads}
+use Rattle.running_texts.specs.declared.texts.Children.{Children}
+use Rattle.running_texts.specs.Views.{threads}
 use Rattle.kernel_meaning.specs.Moving.{IsMoved, AreStepped}
 
 pub fork_goes : (k : PlainKernel) (path below : Path) (place : ℕ) (uses : List ℕ) (words : List ℤ) (copies : List VarCopy) (cs : Threads)

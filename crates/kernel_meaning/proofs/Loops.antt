@@ -7,12 +7,12 @@ use Rattle.forec_kernel.specs.Terms.{Expr, Stmt, If, Enter}
 use Rattle.forec_kernel.specs.Shapes.{PlainKernel}
 use Rattle.forec_kernel.specs.Texts.{Loop, Again, Done, Then, Watch, Last, text_of}
 use Rattle.forec_kernel.specs.Steps.{Move, Moves, Owner, evaluated, turned, entered, loop_move, statement_move, units_of, move_with}
-use Rattle.kernel_meaning.specs.declared.meter.Halt.{Halt}
-use Rattle.kernel_meaning.specs.declared.meter.Halt.TheVariants.{Trapped}
+use Rattle.running_texts.specs.declared.meter.Halt.{Halt}
+use Rattle.running_texts.specs.declared.meter.Halt.TheVariants.{Trapped}
 use Rattle.kernel_meaning.specs.declared.moving.Step.{Step}
 use Rattle.kernel_meaning.specs.Moving.{IsMoved}
-use Rattle.kernel_meaning.proofs.Metering.{is_zero_of, not_zero_of}
-use Rattle.kernel_meaning.proofs.Tests.{AfterTest}
+use Rattle.running_texts.proofs.Metering.{is_zero_of, not_zero_of}
+use Rattle.running_texts.proofs.Tests.{AfterTest}
 use Rattle.kernel_meaning.proofs.Stepping.{Carries, step_tested, step_trapped, step_failed}
 
 module _ (k : PlainKernel) (uses : List ℕ) (loop : Loop) (words : List ℤ) (copies : List VarCopy) (old mid : ℕ) where

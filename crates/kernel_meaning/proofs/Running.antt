@@ -10,10 +10,10 @@ use Rattle.forec_kernel.specs.Ticks as ticks
 use Rattle.forec_kernel.specs.Ticks.{Going, is_stopped, moved, step, steps_along, begin, concluded, tick, Ticks}
 use Rattle.forec_kernel.proofs.Measure.{Falls, text_falls}
 use Rattle.forec_kernel.proofs.AnyOrder.{any_order}
-use Rattle.kernel_meaning.specs.declared.meter.Halt.{Halt}
-use Rattle.kernel_meaning.specs.declared.meter.Halt.TheVariants.{Trapped, Over, OutOfMemory}
+use Rattle.running_texts.specs.declared.meter.Halt.{Halt}
+use Rattle.running_texts.specs.declared.meter.Halt.TheVariants.{Trapped, Over, OutOfMemory}
 use Rattle.kernel_meaning.specs.declared.ticks.Main.{Main}
-use Rattle.kernel_meaning.specs.Views.{standing}
+use Rattle.running_texts.specs.Views.{standing}
 use Rattle.kernel_meaning.specs.States.{main_thread, IsMain, Along, PassesBudget, CameTo, GoesOn, after_move, Advances, told}
 
 -- ---- one step more

@@ -8,14 +8,14 @@ use Rattle.forec_kernel.specs.Texts.{Text}
 use Rattle.forec_kernel.specs.Steps.{Move, Finished, Halts, Moves, Traps, more_move, move_with, units_of, Arguments, Ready, Refused, Owner, forked, started, assigned_at}
 use Rattle.forec_kernel.specs.Terms.{Branch}
 use Rattle.forec_kernel.specs.Texts as plain
-use Rattle.kernel_meaning.specs.declared.meter.Halt.{Halt}
-use Rattle.kernel_meaning.specs.declared.meter.Halt.TheVariants.{Trapped, Over, OutOfMemory}
+use Rattle.running_texts.specs.declared.meter.Halt.{Halt}
+use Rattle.running_texts.specs.declared.meter.Halt.TheVariants.{Trapped, Over, OutOfMemory}
 use Rattle.kernel_meaning.specs.declared.moving.Step.{Step}
 use Rattle.kernel_meaning.specs.declared.moving.Step.TheVariants as step
-use Rattle.kernel_meaning.specs.Metered.{IsMetered, number, value_units}
+use Rattle.running_texts.specs.Metered.{IsMetered, number, value_units}
 use Rattle.kernel_meaning.specs.Moving.{IsMoved, lists}
-use Rattle.kernel_meaning.proofs.Metering.{tested_gives}
-use Rattle.kernel_meaning.proofs.Tests.{AfterTest}
+use Rattle.running_texts.proofs.Metering.{tested_gives}
+use Rattle.running_texts.proofs.Tests.{AfterTest}
 
 -- a move of these units, whatever they are
 abbrev pub Carries : ℕ → ℕ → Result Step Halt → Text → List ℤ → List VarCopy → Type 0

@@ -7,12 +7,12 @@ use Rattle.forec_kernel.specs.Shapes.{PlainKernel}
 use Rattle.forec_kernel.specs.Values.{Value, Gives, Stops, copy_of}
 use Rattle.forec_kernel.specs.Texts.{Text, Threads, no_threads, child, Status, is_active, uses_of}
 use Rattle.forec_kernel.specs.Combining.{Share, contains, shares, takes_part, taking_part, some_marked, Joint, fold_calls, last_value, variable_calls, combined_value, variable_of, combine_of, part_of, joined_copies, calls_of, calls_from, calls_at, count_threads, in_order, Cost, Costs, Fails, more_cost, cost_of, join_cost}
-use Rattle.kernel_meaning.specs.declared.folds.Fold.{Fold}
-use Rattle.kernel_meaning.specs.declared.meter.Halt.{Halt}
-use Rattle.kernel_meaning.specs.declared.meter.Halt.TheVariants as halt
-use Rattle.kernel_meaning.specs.Metered.{IsMetered}
+use Rattle.running_texts.specs.declared.folds.Fold.{Fold}
+use Rattle.running_texts.specs.declared.meter.Halt.{Halt}
+use Rattle.running_texts.specs.declared.meter.Halt.TheVariants as halt
+use Rattle.running_texts.specs.Metered.{IsMetered}
 use Rattle.kernel_meaning.specs.Moving.{AreJoined, cost_units}
-use Rattle.kernel_meaning.specs.Folding.{Added, Comes, Stays, Folds, Come, Stop, as_added, added, branch_added, fold_then, branch_folds, more_folds, folds_then, all_folds, first_folds, folded_copies, folding, folds_units}
+use Rattle.running_texts.specs.Folding.{Added, Comes, Stays, Folds, Come, Stop, as_added, added, branch_added, fold_then, branch_folds, more_folds, folds_then, all_folds, first_folds, folded_copies, folding, folds_units}
 
 -- ---- what is left of a variable's fold
 

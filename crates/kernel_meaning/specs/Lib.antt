@@ -1,5 +1,2 @@
-pub mod Metered
-pub mod Views
 pub mod Moving
 pub mod States
-pub mod Folding

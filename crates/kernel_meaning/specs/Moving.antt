@@ -11,14 +11,14 @@ use Rattle.kernel_meaning.specs.declared.wakes.Settled.{Settled}
 use Rattle.forec_kernel.specs.Texts.{Threads, Status, first_running, is_running}
 use Rattle.forec_kernel.specs.Combining.{Cost, Costs, Fails}
 use Rattle.forec_kernel.specs.declared.shape.VarCopy.{VarCopy}
-use Rattle.kernel_meaning.specs.declared.texts.Children.{Children}
-use Rattle.kernel_meaning.specs.declared.texts.Text.{Text}
-use Rattle.kernel_meaning.specs.declared.meter.Halt.{Halt}
-use Rattle.kernel_meaning.specs.declared.meter.Halt.TheVariants.{Trapped, Over, OutOfMemory}
+use Rattle.running_texts.specs.declared.texts.Children.{Children}
+use Rattle.running_texts.specs.declared.texts.Text.{Text}
+use Rattle.running_texts.specs.declared.meter.Halt.{Halt}
+use Rattle.running_texts.specs.declared.meter.Halt.TheVariants.{Trapped, Over, OutOfMemory}
 use Rattle.kernel_meaning.specs.declared.moving.Step.{Step}
 use Rattle.kernel_meaning.specs.declared.moving.Step.TheVariants.{Finished, Halts, Moves}
-use Rattle.kernel_meaning.specs.Views.{text, threads, standing}
-use Rattle.kernel_meaning.specs.Metered.{Paid, Kind}
+use Rattle.running_texts.specs.Views.{text, threads, standing}
+use Rattle.running_texts.specs.Metered.{Paid, Kind}
 
 abbrev pub MovedBy : ℕ → ℕ → Result Step Halt → Move → Type 0
 MovedBy old new (Ok Finished) m = (m ≡ plain.Finished) × (new ≡ old)

@@ -9,11 +9,11 @@ use Rattle.forec_kernel.specs.Ticks as ticks
 use Rattle.forec_kernel.specs.Ticks.{Going, steps_along, outcome_of, values_of}
 use Rattle.forec_kernel.specs.declared.shape.Outcome.{Outcome}
 use Rattle.forec_kernel.specs.declared.shape.Outcome.TheVariants as outcome
-use Rattle.kernel_meaning.specs.declared.meter.Halt.{Halt}
-use Rattle.kernel_meaning.specs.declared.meter.Halt.TheVariants.{Trapped, Over, OutOfMemory}
+use Rattle.running_texts.specs.declared.meter.Halt.{Halt}
+use Rattle.running_texts.specs.declared.meter.Halt.TheVariants.{Trapped, Over, OutOfMemory}
 use Rattle.kernel_meaning.specs.declared.ticks.Main.{Main}
 use Rattle.kernel_meaning.specs.declared.ticks.State.{State}
-use Rattle.kernel_meaning.specs.Views.{text, standing}
+use Rattle.running_texts.specs.Views.{text, standing}
 
 abbrev pub main_thread : Main → Thread
 main_thread m = record { number = 0; text = text m.text; words = m.words.items; copies = m.copies.items; status = standing m.status }

@@ -6,15 +6,15 @@ ghost use Rattle.forec_kernel.specs.Texts as plain;
 ghost use Rattle.forec_kernel.specs.Texts.{first_trap, all_over, ended_are_gone};
 ghost use Rattle.forec_kernel.specs.Steps.{joined};
 ghost use Rattle.forec_kernel.specs.Combining.{joined_copies, join_cost};
-ghost use Rattle.kernel_meaning.specs.Views.{text, threads};
+ghost use Rattle.running_texts.specs.Views.{text, threads};
 ghost use Rattle.kernel_meaning.specs.Moving.{IsMoved, AreJoined};
 
-use crate::children::{all_done, leftmost_trap, without_ended};
-use crate::folds::{begin_folds, end_folds, fold_children};
-use crate::meter::Halt;
 use crate::moving::Step;
-use crate::texts::{Children, Text};
 use forec_kernel::{KernelParts, VarCopy};
+use running_texts::{
+    Children, Halt, Text, all_done, begin_folds, end_folds, fold_children, leftmost_trap,
+    without_ended,
+};
 use std::alloc::{AllocError, Global};
 
 // The parent's copies, with those of the children combined.

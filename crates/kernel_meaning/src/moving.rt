@@ -7,16 +7,13 @@ ghost use Rattle.forec_kernel.specs.Texts.{put_copy, text_of};
 ghost use Rattle.forec_kernel.specs.Texts as plain;
 ghost use Rattle.forec_kernel.specs.Values.{Value, cleared, index_in};
 ghost use Rattle.forec_kernel.specs.Steps.{Moves, Move, move_with, assigned, assigned_at, turned};
-ghost use Rattle.kernel_meaning.specs.Views.{text, looping};
-ghost use Rattle.kernel_meaning.specs.Metered.{IsMetered, number};
+ghost use Rattle.running_texts.specs.Views.{text, looping};
+ghost use Rattle.running_texts.specs.Metered.{IsMetered, number};
 ghost use Rattle.kernel_meaning.specs.Moving.{IsMoved};
 
-use crate::functions::{clear_words, set_word};
-use crate::meter::{Halt, pay};
-use crate::operators::index_within;
-use crate::texts::Text;
 use forec_base::{Place, Trap};
 use forec_kernel::{Spot, VarCopy};
+use running_texts::{Halt, Text, clear_words, index_within, pay, set_word};
 use std::alloc::{AllocError, Global};
 
 /// What a step of a text comes to: the text is done; or it waits; or it goes on.

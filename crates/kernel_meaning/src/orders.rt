@@ -1,7 +1,6 @@
 // Which thread steps next.
 
-use crate::children::{runs, some_run};
-use crate::texts::{Children, Text};
+use running_texts::{Children, Text, runs, some_run};
 use std::alloc::AllocError;
 
 /// How many threads of a text can step: the thread itself, or those of its running branches.

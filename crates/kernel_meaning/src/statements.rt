@@ -8,18 +8,17 @@ ghost use Rattle.forec_kernel.specs.Texts as plain;
 ghost use Rattle.forec_kernel.specs.Texts.{text_of, handed_down, uses_of};
 ghost use Rattle.forec_kernel.specs.Values.{vals, setting};
 ghost use Rattle.forec_kernel.specs.Steps.{evaluated, arguments, started, statement_move, loop_move, turned, entered};
-ghost use Rattle.kernel_meaning.specs.Views.{text, threads, looping};
-ghost use Rattle.kernel_meaning.specs.Metered.{IsMetered, number, numbers, sight};
+ghost use Rattle.running_texts.specs.Views.{text, threads, looping};
+ghost use Rattle.running_texts.specs.Metered.{IsMetered, number, numbers, sight};
 ghost use Rattle.kernel_meaning.specs.Moving.{IsMoved, lists};
 
-use crate::duplication::{duplicate, duplicate_statement};
-use crate::evaluation::{evaluate, evaluate_all};
-use crate::forks::{fork_text, start_children};
-use crate::meter::{Halt, pay, tested};
 use crate::moving::{Step, after_assign, after_assign_at, clear_step, moved};
-use crate::texts::{After, Loop, Text, start_list, start_text};
 use forec_base::{Place, Trap};
 use forec_kernel::{Expression, KernelParts, Launch, Statement, VarCopy};
+use running_texts::{
+    After, Halt, Loop, Text, duplicate, duplicate_statement, evaluate, evaluate_all, fork_text,
+    pay, start_children, start_list, start_text, tested,
+};
 use std::alloc::{AllocError, Global};
 
 // The value of an expression in a thread.

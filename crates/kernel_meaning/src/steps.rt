@@ -5,22 +5,19 @@ ghost use Rattle.forec_kernel.specs.Shapes.{PlainKernel, plain_kernel};
 ghost use Rattle.forec_kernel.specs.Texts as plain;
 ghost use Rattle.forec_kernel.specs.Texts.{uses_of, child_of};
 ghost use Rattle.forec_kernel.specs.Steps.{Move, Moves, thread_after, units_of, move_before, move_watched, move_last, place_at, path_below, text_move, child_move};
-ghost use Rattle.kernel_meaning.specs.Views.{text, threads, after};
+ghost use Rattle.running_texts.specs.Views.{text, threads, after};
 ghost use Rattle.kernel_meaning.specs.Moving.{IsMoved, AreStepped, place_or_first, is_here, place_behind};
-ghost use Rattle.kernel_meaning.specs.Views.{standing};
+ghost use Rattle.running_texts.specs.Views.{standing};
 ghost use Rattle.forec_kernel.specs.Plain.{expr};
 
-use crate::children::{runs, runs_there, some_run};
-use crate::duplication::duplicate;
-use crate::forks::{fork_text, thread_uses};
 use crate::joins::join_step;
-use crate::meter::Halt;
 use crate::moving::{Step, moved};
 use crate::statements::{loop_step, statement_step};
-use crate::texts::{
-    After, Children, Status, Text, duplicate_after, duplicate_children, duplicate_text, start_after,
-};
 use forec_kernel::{Expression, KernelParts, VarCopy};
+use running_texts::{
+    After, Children, Halt, Status, Text, duplicate, duplicate_after, duplicate_children,
+    duplicate_text, fork_text, runs, runs_there, some_run, start_after, thread_uses,
+};
 use std::alloc::{AllocError, Global};
 
 fn then_text(alloc: Global, first: Text, next: &After) -> Result<Text, AllocError>

@@ -7,21 +7,19 @@ ghost use Rattle.forec_kernel.specs.Texts.{uses_of, is_running};
 ghost use Rattle.forec_kernel.specs.Steps.{thread_move};
 ghost use Rattle.forec_kernel.specs.Ticks as ticks;
 ghost use Rattle.forec_kernel.specs.Ticks.{begin, start_copies, unmarked, with_row, values_of, outcome_of, tick};
-ghost use Rattle.kernel_meaning.specs.Views.{text, standing};
+ghost use Rattle.running_texts.specs.Views.{text, standing};
 ghost use Rattle.kernel_meaning.specs.States.{plain_state, main_thread, IsMain, Advances, GoesOn, after_move, told, is_told};
 
-use crate::children::runs;
-use crate::forks::{body_text, thread_uses, thread_words};
-use crate::functions::words_from;
-use crate::meter::Halt;
 use crate::moving::{Step, set_copy};
-use crate::operators::copy_value;
 use crate::orders::{add_path, steppable};
 use crate::steps::text_step;
-use crate::texts::{Status, Text, duplicate_text};
 use crate::wakes::{settle, wake};
 use forec_base::OutOfMemory;
 use forec_kernel::{Kernel, KernelParts, Outcome, VarCopy, Variable};
+use running_texts::{
+    Halt, Status, Text, body_text, copy_value, duplicate_text, runs, thread_uses, thread_words,
+    words_from,
+};
 use std::alloc::{AllocError, Global};
 
 /// Thread 0.

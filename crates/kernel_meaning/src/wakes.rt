@@ -5,20 +5,17 @@ ghost use Rattle.forec_kernel.specs.Shapes.{PlainKernel, plain_kernel};
 ghost use Rattle.forec_kernel.specs.Plain.{expr};
 ghost use Rattle.forec_kernel.specs.Texts as plain;
 ghost use Rattle.forec_kernel.specs.Steps.{Woken, Wakes, Stepped, refilled, woken_in, woken, woken_children};
-ghost use Rattle.kernel_meaning.specs.Views.{text, threads, after, standing};
-ghost use Rattle.kernel_meaning.specs.Metered.{IsMetered};
+ghost use Rattle.running_texts.specs.Views.{text, threads, after, standing};
+ghost use Rattle.running_texts.specs.Metered.{IsMetered};
 ghost use Rattle.kernel_meaning.specs.Moving.{AreStepped, IsSettled, waking};
 
-use crate::children::ran;
-use crate::duplication::duplicate;
-use crate::forks::{copies_below, thread_uses};
-use crate::meter::{Halt, tested};
 use crate::statements::number_of;
 use crate::steps::child_before;
-use crate::texts::{
-    After, Children, Loop, Status, Text, duplicate_after, duplicate_loop, duplicate_text,
-};
 use forec_kernel::{Expression, KernelParts, VarCopy};
+use running_texts::{
+    After, Children, Halt, Loop, Status, Text, copies_below, duplicate, duplicate_after,
+    duplicate_loop, duplicate_text, ran, tested, thread_uses,
+};
 use std::alloc::{AllocError, Global};
 
 // What follows a text, where a loop gets its turns again.

@@ -6,7 +6,7 @@ ghost use Rattle.text_kernel.specs.Bindings as bindings;
 use forec_tree::Number;
 
 /// A parameter or local of the text: its first slot, and its length where it is an array.
-#[derive(Clone, Copy, Debug, PartialEq, Eq)]
+#[derive(Clone, Copy)]
 pub struct Slot {
     pub id: u32,
     pub slot: u32,
@@ -15,7 +15,7 @@ pub struct Slot {
 
 /// What a name stands for in the kernel: a word, the words of an array, a variable, the number of a
 /// constant, or a constant array.
-#[derive(Clone, Copy, Debug, PartialEq, Eq)]
+#[derive(Clone, Copy)]
 pub enum Stands {
     AtSlot { slot: u32 },
     AtSlots { slot: u32, size: u32 },

@@ -1,5 +1,5 @@
 // Lines out of a source that gives its bytes in pieces of any size.
-ghost use Rattle.std.specs.Prelude.{◌≡◌, ◌≢◌, ◌+◌, ◌<◌, ◌≤◌, true, false, [], length, slice_range, IfOk, IsTrue, OnOk, OnErr, ◌↔◌, ◌⊎◌};
+ghost use Rattle.std.specs.Prelude.{◌≡◌, ◌≢◌, ◌+◌, ◌<◌, ◌≤◌, true, false, [], length, slice_range, IfOk, IsTrue, OnOk, OnErr, IfSome, IfNone, Ok, ◌↔◌, ◌⊎◌};
 ghost use Rattle.std.specs.List.{position_or_len, after_first};
 ghost use Rattle.std.specs.Io.KnownBytes.{IsAtEnd};
 ghost use Rattle.forec_base.specs.Outside.{HasCause};
@@ -97,6 +97,26 @@ impl Lines {
         Ok(())
     }
 
+    // What the bytes that are held tell of the first line, if no further ones are needed.
+    fn found(&self) -> Option<Found>
+        ensures some { IfSome result (λ f. Finds (held self.now) self.now.ended (Ok f)) }
+        ensures none { IfNone result ((HasLine (held self.now) → ⊥) × (self.now.ended ≡ false) × (length (held self.now) ≤ 8192)) }
+    {
+        if self.stop - self.at > MOST {
+            return Some(Found::Long);
+        }
+        if self.stop < self.end {
+            return Some(Found::Line);
+        }
+        if !self.ended {
+            return None;
+        }
+        if self.at == self.end {
+            return Some(Found::End);
+        }
+        Some(Found::Line)
+    }
+
     /// Finds the first line of what is held and comes, and takes nothing. No read is made where a whole line is held.
     pub fn find<S: Source>(&mut self, source: &mut S) -> Result<Found, Failed>
         requires { self.old.ended ≡ true → IsAtEnd (S.left source.old) }
@@ -109,17 +129,8 @@ impl Lines {
         ensures cause { Faults (S.faults source.old) (S.faults source.new) (S.down source.new) result }
     {
         'pieces: loop {
-            if self.stop - self.at > MOST {
-                return Ok(Found::Long);
-            }
-            if self.stop < self.end {
-                return Ok(Found::Line);
-            }
-            if self.ended {
-                if self.at == self.end {
-                    return Ok(Found::End);
-                }
-                return Ok(Found::Line);
+            if let Some(found) = self.found() {
+                return Ok(found);
             }
             if let Err(failed) = self.refill(source) {
                 return Err(failed);

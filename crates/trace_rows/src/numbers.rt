@@ -90,23 +90,45 @@ fn negative_number(magnitude: u64) -> Option<i32>
     Some((-(magnitude as i64)) as i32)
 }
 
-/// The number that is the first word of a text, if it is one. The text begins with no blank.
-pub fn number_at(text: &[u8]) -> Option<Number>
-    ensures some { IfSome result (λ n. (n.len ≡ position_or_len is_blank text.now) × (number_of (take n.len text.now) ≡ Some n.value)) }
-    ensures none { IfNone result (number_of (take (position_or_len is_blank text.now) text.now) ≡ None) }
+// The number that digits at the front of a text are, if they are its first word.
+fn positive_at(text: &[u8]) -> Option<Number>
+    ensures some { IfSome result (λ n. (n.len ≡ position_or_len is_blank text.now) × (positive (magnitude_of (take n.len text.now)) ≡ Some n.value)) }
+    ensures none { IfNone result (positive (magnitude_of (take (position_or_len is_blank text.now) text.now)) ≡ None) }
 {
-    if let [45, rest @ ..] = text {
-        let digits = magnitude_at(rest)?;
-        let value = negative_number(digits.value)?;
-        return Some(Number {
-            value,
-            len: digits.count + 1,
-        });
-    }
     let digits = magnitude_at(text)?;
     let value = positive_number(digits.value)?;
     Some(Number {
         value,
         len: digits.count,
     })
+}
+
+// The same of what stands behind a `-`.
+fn negative_at(text: &[u8]) -> Option<Number>
+    ensures some { IfSome result (λ n. (n.len ≡ position_or_len is_blank text.now) × (negative (magnitude_of (take n.len text.now)) ≡ Some n.value)) }
+    ensures none { IfNone result (negative (magnitude_of (take (position_or_len is_blank text.now) text.now)) ≡ None) }
+{
+    let digits = magnitude_at(text)?;
+    let value = negative_number(digits.value)?;
+    Some(Number {
+        value,
+        len: digits.count,
+    })
+}
+
+/// The number that is the first word of a text, if it is one. The text begins with no blank.
+pub fn number_at(text: &[u8]) -> Option<Number>
+    ensures some { IfSome result (λ n. (n.len ≡ position_or_len is_blank text.now) × (number_of (take n.len text.now) ≡ Some n.value)) }
+    ensures none { IfNone result (number_of (take (position_or_len is_blank text.now) text.now) ≡ None) }
+{
+    match text {
+        [45, rest @ ..] => {
+            let number = negative_at(rest)?;
+            Some(Number {
+                value: number.value,
+                len: number.len + 1,
+            })
+        }
+        _ => positive_at(text),
+    }
 }

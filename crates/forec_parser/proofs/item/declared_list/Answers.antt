@@ -2,10 +2,10 @@ use Rattle.std.proofs.Common.{rules, arith, map}
 use Rattle.std.proofs.lemmas.List.{map-append}
 use Rattle.std.proofs.lemmas.Grind.{common_steps}
 use Rattle.forec_tree.specs.Plain.{plain_item}
-use Rattle.forec_parser.specs.Input.{max_level}
-use Rattle.forec_parser.specs.Reading.{separated_from}
+use Rattle.expr_parser.specs.Input.{max_level}
+use Rattle.expr_parser.specs.Reading.{separated_from}
 use Rattle.forec_parser.specs.Items.{declared}
-use Rattle.forec_parser.proofs.LoopTurns.{next_turn}
+use Rattle.expr_parser.proofs.LoopTurns.{next_turn}
 use Rattle.forec_parser.proofs.item.declared_list.Goals as goal
 
 pub loop-turn-preserved : goal.loop-turn-preserved

@@ -1,7 +1,7 @@
 use Rattle.std.proofs.Common.{◌≡◌, ◌-◌, map}
 use Rattle.forec_tree.specs.Plain.{plain_item}
-use Rattle.forec_parser.specs.Input.{max_level}
-use Rattle.forec_parser.specs.Reading.{separated, separated_from}
+use Rattle.expr_parser.specs.Input.{max_level}
+use Rattle.expr_parser.specs.Reading.{separated, separated_from}
 use Rattle.forec_parser.specs.Items.{declared}
 use Rattle.forec_parser.proofs.item.declared_list.Given as goal
 

@@ -1,6 +1,6 @@
 use Rattle.std.proofs.Common.{◌≡◌, ◌-◌, map}
 use Rattle.forec_tree.specs.Plain.{plain_item}
-use Rattle.forec_parser.specs.Input.{max_level}
+use Rattle.expr_parser.specs.Input.{max_level}
 use Rattle.forec_parser.specs.Items.{items, items_from}
 use Rattle.forec_parser.proofs.item.items.Given as goal
 

@@ -1,9 +1,9 @@
 use Rattle.std.proofs.Common.{rules, arith}
 use Rattle.std.proofs.lemmas.List.{map-append}
 use Rattle.std.proofs.lemmas.Grind.{common_steps}
-use Rattle.forec_parser.specs.Reading.{separated_from}
+use Rattle.expr_parser.specs.Reading.{separated_from}
 use Rattle.forec_parser.specs.Items.{signed}
-use Rattle.forec_parser.proofs.LoopTurns.{next_turn}
+use Rattle.expr_parser.proofs.LoopTurns.{next_turn}
 use Rattle.forec_parser.proofs.item.signed_values.Goals as goal
 
 pub loop-turn-preserved : goal.loop-turn-preserved

@@ -1,5 +1,5 @@
 use Rattle.std.proofs.Common.{◌≡◌, ◌-◌}
-use Rattle.forec_parser.specs.Reading.{separated, separated_from}
+use Rattle.expr_parser.specs.Reading.{separated, separated_from}
 use Rattle.forec_parser.specs.Items.{signed}
 use Rattle.forec_parser.proofs.item.signed_values.Given as goal
 

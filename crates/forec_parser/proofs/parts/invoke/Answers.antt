@@ -1,6 +1,6 @@
 use Rattle.std.proofs.Common.{ap}
 use Rattle.forec_tree.specs.Terms as plain
-use Rattle.forec_parser.proofs.Lists.{terms-listed}
+use Rattle.expr_parser.proofs.Lists.{terms-listed}
 use Rattle.forec_parser.proofs.parts.invoke.Goals as goal
 
 pub returns : goal.returns

@@ -1,7 +1,7 @@
 use Rattle.std.proofs.Common.{◌≡◌, ◌-◌, map}
 use Rattle.forec_tree.specs.Plain.{declared}
-use Rattle.forec_parser.specs.Input.{max_level}
-use Rattle.forec_parser.specs.Reading.{separated, separated_from}
+use Rattle.expr_parser.specs.Input.{max_level}
+use Rattle.expr_parser.specs.Reading.{separated, separated_from}
 use Rattle.forec_parser.specs.Statements.{local}
 use Rattle.forec_parser.proofs.simple.locals.Given as goal
 

@@ -2,11 +2,11 @@ use Rattle.std.proofs.Common.{rules, arith, map}
 use Rattle.std.proofs.lemmas.List.{map-append}
 use Rattle.std.proofs.lemmas.Grind.{common_steps}
 use Rattle.forec_tree.specs.Plain.{statement}
-use Rattle.forec_parser.specs.Input.{max_level}
-use Rattle.forec_parser.specs.Reading.{separated_from}
+use Rattle.expr_parser.specs.Input.{max_level}
+use Rattle.expr_parser.specs.Reading.{separated_from}
 use Rattle.forec_parser.specs.Statements.{stmt, body_from, launch}
 use Rattle.forec_parser.specs.Views.{launch_of}
-use Rattle.forec_parser.proofs.LoopTurns.{next_turn, first_turn}
+use Rattle.expr_parser.proofs.LoopTurns.{next_turn, first_turn}
 use Rattle.forec_parser.proofs.statement.+stmt.Goals as goal
 
 pub stmt-returns : goal.stmt-returns

@@ -1,13 +1,16 @@
 use Rattle.std.proofs.Common.{◌≡◌, ◌+◌, ◌-◌, ◌*◌, map}
 use Rattle.forec_tree.specs.Plain.{statement}
-use Rattle.forec_parser.specs.Input.{max_level}
-use Rattle.forec_parser.specs.Reading.{separated_from}
+use Rattle.expr_parser.specs.Input.{max_level}
+use Rattle.expr_parser.specs.Reading.{separated_from}
 use Rattle.forec_parser.specs.Statements as spec
 use Rattle.forec_parser.specs.Views.{launch_of}
 use Rattle.forec_parser.proofs.statement.+stmt.Given as goal
 
 abbrev pub decreases-stmt : goal.decreases-stmt
 decreases-stmt l = 8 * l.depth
+
+abbrev pub decreases-nested : goal.decreases-nested
+decreases-nested l = 8 * l.depth + 1
 
 abbrev pub decreases-one : goal.decreases-one
 decreases-one l = 8 * l.depth + 6
@@ -31,16 +34,16 @@ abbrev pub decreases-body : goal.decreases-body
 decreases-body l = 8 * l.depth + 1
 
 abbrev pub decreases-branching : goal.decreases-branching
-decreases-branching l = 8 * l.depth + 2
+decreases-branching l = 8 * l.depth + 3
 
 abbrev pub decreases-otherwise : goal.decreases-otherwise
-decreases-otherwise l = 8 * l.depth + 1
+decreases-otherwise l = 8 * l.depth + 2
 
 abbrev pub decreases-looping : goal.decreases-looping
-decreases-looping l = 8 * l.depth + 1
+decreases-looping l = 8 * l.depth + 2
 
 abbrev pub decreases-counting : goal.decreases-counting
-decreases-counting l = 8 * l.depth + 1
+decreases-counting l = 8 * l.depth + 2
 
 abbrev pub invariant-body-loop-turn : goal.invariant-body-loop-turn
 invariant-body-loop-turn l =

@@ -1,7 +1,7 @@
 use Rattle.std.proofs.Common.{◌≡◌, ◌∙◌, ap, is_ok, true, not}
 use Rattle.forec_kernel.specs.Shapes.{plain_kernel}
 use Rattle.forec_kernel.specs.Values.{setting}
-use Rattle.kernel_meaning.specs.Metered.{sight}
+use Rattle.running_texts.specs.Metered.{sight}
 use Rattle.kernel_meaning.proofs.Arguments.{lists_more, lists_stop, lists_same, launches_next, items_push}
 use Rattle.kernel_meaning.proofs.statements.arguments_of.Goals as goal
 

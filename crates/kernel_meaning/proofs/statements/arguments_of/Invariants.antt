@@ -3,7 +3,7 @@ use Rattle.forec_kernel.specs.Plain.{branch}
 use Rattle.forec_kernel.specs.Shapes.{plain_kernel}
 use Rattle.forec_kernel.specs.Values.{setting}
 use Rattle.forec_kernel.specs.Steps.{arguments}
-use Rattle.kernel_meaning.specs.Metered.{sight}
+use Rattle.running_texts.specs.Metered.{sight}
 use Rattle.kernel_meaning.proofs.Arguments.{ListsSoFar}
 use Rattle.kernel_meaning.proofs.statements.arguments_of.Given as goal
 

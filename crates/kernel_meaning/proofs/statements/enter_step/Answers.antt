@@ -1,7 +1,7 @@
 use Rattle.std.proofs.Common.{SFits, w32, rules, refl}
 use Rattle.forec_kernel.specs.Plain.{expr, stmt}
 use Rattle.forec_kernel.specs.Shapes.{plain_kernel}
-use Rattle.kernel_meaning.proofs.Tests.{zero_of, nonzero_of}
+use Rattle.running_texts.proofs.Tests.{zero_of, nonzero_of}
 use Rattle.kernel_meaning.proofs.Loops.{enter_watches, enter_lasts, enter_ends, enter_fails}
 use Rattle.kernel_meaning.proofs.statements.enter_step.Goals as goal
 

@@ -1,7 +1,7 @@
 use Rattle.std.proofs.Common.{SFits, w32, rules, refl}
 use Rattle.forec_kernel.specs.Shapes.{plain_kernel}
-use Rattle.kernel_meaning.specs.Views.{looping}
-use Rattle.kernel_meaning.proofs.Tests.{zero_of, nonzero_of}
+use Rattle.running_texts.specs.Views.{looping}
+use Rattle.running_texts.proofs.Tests.{zero_of, nonzero_of}
 use Rattle.kernel_meaning.proofs.Loops.{loop_ends, loop_unbounded, loop_turns, loop_traps, loop_fails}
 use Rattle.kernel_meaning.proofs.statements.loop_step.Goals as goal
 

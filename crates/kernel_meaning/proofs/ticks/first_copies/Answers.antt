@@ -1,4 +1,4 @@
-use Rattle.kernel_meaning.proofs.Rows.{start_more}
+use Rattle.running_texts.proofs.Rows.{start_more}
 use Rattle.kernel_meaning.proofs.ticks.first_copies.Goals as goal
 
 pub loop-variable-preserved : goal.loop-variable-preserved

@@ -1,7 +1,7 @@
 use Rattle.std.proofs.Common.{◌≡◌, ◌∙◌, true, sym, arith}
 use Rattle.forec_kernel.specs.Shapes.{plain_kernel}
 use Rattle.forec_kernel.specs.Texts.{is_running}
-use Rattle.kernel_meaning.specs.Views.{standing}
+use Rattle.running_texts.specs.Views.{standing}
 use Rattle.kernel_meaning.proofs.Running.{advance_goes, advance_pays, then_goes, free_falls}
 use Rattle.kernel_meaning.proofs.ticks.run_free.Goals as goal
 

@@ -3,7 +3,7 @@ use Rattle.forec_kernel.specs.Shapes.{plain_kernel}
 use Rattle.forec_kernel.specs.Texts.{is_running}
 use Rattle.forec_kernel.specs.Ticks.{Going}
 use Rattle.kernel_meaning.specs.States.{main_thread, Along}
-use Rattle.kernel_meaning.specs.Views.{standing}
+use Rattle.running_texts.specs.Views.{standing}
 use Rattle.kernel_meaning.proofs.ticks.run_tick.Given as goal
 
 abbrev pub invariant-steps : goal.invariant-steps

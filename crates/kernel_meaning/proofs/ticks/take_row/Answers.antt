@@ -1,5 +1,5 @@
 use Rattle.std.proofs.Common.{◌∙◌, ◌≤◌, min, length, pos, sym, arith}
-use Rattle.kernel_meaning.proofs.Rows.{row_next, row_ends}
+use Rattle.running_texts.proofs.Rows.{row_next, row_ends}
 use Rattle.kernel_meaning.proofs.ticks.take_row.Goals as goal
 
 pub loop-i-preserved : goal.loop-i-preserved

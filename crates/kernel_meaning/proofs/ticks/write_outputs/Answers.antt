@@ -1,6 +1,6 @@
 use Rattle.std.proofs.Common.{SFits, w32, rules, arith}
 use Rattle.std.proofs.lemmas.Int.{to_z-of_z}
-use Rattle.kernel_meaning.proofs.Rows.{outputs_next, outputs_end}
+use Rattle.running_texts.proofs.Rows.{outputs_next, outputs_end}
 use Rattle.kernel_meaning.proofs.ticks.write_outputs.Goals as goal
 
 pub loop-i-preserved : goal.loop-i-preserved

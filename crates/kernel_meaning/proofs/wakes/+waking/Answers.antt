@@ -2,8 +2,8 @@ use Rattle.std.proofs.Common.{◌≡◌, SFits, w32, rules}
 use Rattle.forec_kernel.specs.Plain.{expr}
 use Rattle.forec_kernel.specs.Shapes.{plain_kernel}
 use Rattle.forec_kernel.specs.Steps.{woken, evaluated}
-use Rattle.kernel_meaning.specs.Views.{text}
-use Rattle.kernel_meaning.proofs.Tests.{zero_of, nonzero_of}
+use Rattle.running_texts.specs.Views.{text}
+use Rattle.running_texts.proofs.Tests.{zero_of, nonzero_of}
 use Rattle.kernel_meaning.proofs.Awaking.{watches_on, lasts_on, stops_there, wake_fails, done_now}
 use Rattle.kernel_meaning.proofs.wakes.+waking.Goals as goal
 

@@ -1,0 +1,182 @@
+//! Programs whose threads are placed on three cores, tick by tick.
+
+ghost use Rattle.std.specs.Prelude.{◌≡◌, IfOk};
+ghost use Rattle.core_host.specs.Hosted.{IsWhole};
+
+use crate::compiled::compiled;
+use copy_slots::LocalPort;
+use core_alloc::{Placement, given};
+use core_host::{ForecWork, Host, Served, local_port};
+use forec_base::{OpenGate, OutOfMemory, Place, Trap};
+use forec_kernel::Outcome;
+use std::alloc::Global;
+use std::process::Abort;
+use std::test::Fail;
+use thread_code::Code;
+
+/// One tick: the value of the input, the budget, how the tick ends, and the output then. Before each tick the output
+/// has the value 7.
+type Tick = (i32, u32, Outcome, i32);
+
+/// A program with at most one input and with one output, the cores of its threads, and its ticks.
+struct Run {
+    text: &'static [u8],
+    places: &'static str,
+    ticks: &'static [Tick],
+}
+
+const SUMS: &[u8] =
+    b"input int a; output int b = 5; void main(void) { while (1) { b = a + b; pause; } }";
+
+const FOLDS: &[u8] = b"shared output int s = 0 combine all with minus;
+int minus(int x, int y) { return x - y; }
+void a(void) { s = 10; }
+void b(void) { s = 3; }
+void c(void) { s = 2; }
+void main(void) { while (1) { par(a, b, c); pause; } }
+";
+
+const FOLDS_ONCE: &[u8] = b"shared output int s = 0 combine all with minus;
+int minus(int x, int y) { return x - y; }
+void a(void) { s = 10; }
+void b(void) { s = 3; }
+void c(void) { s = 2; }
+void main(void) { par(a, b, c); }
+";
+
+const DIVIDES: &[u8] = b"shared output int s = 0 combine mod with plus;
+int plus(int x, int y) { return x + y; }
+void a(void) { s = 1 / s; }
+void b(void) { s = 2 / s; }
+void main(void) { par(a, b); }
+";
+
+const LEFT: &[u8] = b"input int r;
+shared output int s = 0 combine mod with plus;
+int plus(int x, int y) { return x + y; }
+void a(void) { s = 1; pause; s = 10; pause; s = 100; pause; }
+void b(void) { s = 2; pause; s = 20; pause; s = 200; pause; }
+void main(void) { while (1) { weak abort { par(a, b); } when (r); pause; } }
+";
+
+const TRAPPED: Outcome = Outcome::Trapped {
+    place: Place {
+        line: 3,
+        column: 22,
+    },
+    trap: Trap::Divide,
+};
+
+const RUNS: [Run; 5] = [
+    // 7 units each
+    Run {
+        text: SUMS,
+        places: "0",
+        ticks: &[
+            (3, 7, Outcome::Paused, 8),
+            (-10, 12, Outcome::Paused, -2),
+            (2147483647, 7, Outcome::Paused, 2147483645),
+            (3, 7, Outcome::Paused, -2147483648),
+            (1, 6, Outcome::Over, 7),
+        ],
+    },
+    Run {
+        text: FOLDS,
+        places: "0,2,0,1",
+        ticks: &[
+            (0, 100, Outcome::Paused, 5),
+            (0, 100, Outcome::Paused, 5),
+            (0, 100, Outcome::Paused, 5),
+            (0, 3, Outcome::Over, 7),
+        ],
+    },
+    Run {
+        text: FOLDS_ONCE,
+        places: "0,2,0,1",
+        ticks: &[(0, 1000, Outcome::Ended, 5)],
+    },
+    Run {
+        text: LEFT,
+        places: "0,1,2",
+        ticks: &[
+            (0, 1000, Outcome::Paused, 3),
+            (1, 1000, Outcome::Paused, 30),
+            (0, 1000, Outcome::Paused, 3),
+            (0, 1000, Outcome::Paused, 30),
+        ],
+    },
+    Run {
+        text: DIVIDES,
+        places: "0,1,0",
+        ticks: &[(0, 1000, TRAPPED, 7)],
+    },
+];
+
+/// All threads of a code, on the cores of a placement on three.
+fn hosted<'c>(
+    alloc: Global,
+    code: &'c Code,
+    placement: &Placement,
+) -> Result<Host<'c, LocalPort<ForecWork>>, OutOfMemory>
+    requires cores { placement.now.cores ≡ 3 }
+    ensures whole { IfOk result IsWhole }
+    ensures code { IfOk result (λ h. h.code ≡ code.now) }
+{
+    let count = code.parts().threads.len();
+    if placement.threads() as usize != count {
+        return Err(OutOfMemory);
+    }
+    let port = local_port(alloc, code)?;
+    Host::load(alloc, code, placement, &[0, 1, 2], port)
+}
+
+/// Runs a tick: how it ends, and the output then. No mailbox has anything left.
+fn run_tick(
+    host: &mut Host<'_, LocalPort<ForecWork>>,
+    code: &Code,
+    input: i32,
+    budget: u32,
+) -> Option<(Outcome, i32)>
+    requires whole { IsWhole host.old }
+    requires code { host.old.code ≡ code.now }
+    ensures whole { IsWhole host.new }
+    ensures code { host.new.code ≡ code.now }
+{
+    let row = [input];
+    let mut outputs = [7];
+    let inputs = code.shape().inputs.len();
+    if !host.live() || inputs > 1 || code.shape().outputs.len() != 1 {
+        return None;
+    }
+    let outcome = host.alone(&row[..inputs], budget as u64, &OpenGate, &mut outputs);
+    match host.serve(&OpenGate) {
+        Served::Nothing => Some((outcome, outputs[0])),
+        Served::Worked { .. } => None,
+    }
+}
+
+/// Runs the ticks of a program.
+fn goes_so(rt: &impl Abort, alloc: Global, run: &Run) -> Result<(), Fail> {
+    assert!(rt; run.text.len() <= 1000);
+    let code = compiled(alloc, run.text)?;
+    let threads = u32::try_from(code.parts().threads.len())?;
+    let placement = given(alloc, run.places, threads, 3)?;
+    let mut host = hosted(alloc, &code, &placement)?;
+    let mut outcome = Outcome::Paused;
+    for (input, budget, ends, output) in run.ticks {
+        assert!(rt; host.live());
+        let found = run_tick(&mut host, &code, *input, *budget);
+        assert_eq!(rt; found, Some((*ends, *output)));
+        outcome = *ends;
+    }
+    assert_eq!(rt; host.live(), outcome == Outcome::Paused);
+    Ok(())
+}
+
+#[test]
+fn ticks_of_placed_threads(rt: HostRuntime) -> Result<(), Fail> {
+    for run in &RUNS {
+        goes_so(&rt, rt.alloc(), run)?;
+    }
+    Ok(())
+}

@@ -1,0 +1,356 @@
+-- The parsers of single tokens, and of lists with commas.
+use mathlib.Core.Path.{subst}
+use Rattle.std.proofs.Common.{◌≡◌, ℕ, ℤ, zero, suc, ◌+◌, ◌≤◌, Bool, true, false, cond, List, [], ◌∷◌, ◌++◌, length, Option, Some, None, Ok, Err, refl, sym, ◌∙◌, ap, append_assoc, arith}
+use Rattle.forec_tree.specs.declared.token.Token.{Token}
+use Rattle.forec_tree.specs.declared.token.TokenKind.{TokenKind}
+use Rattle.forec_tree.specs.declared.token.TokenKind.TheVariants as kind
+use Rattle.forec_tree.specs.declared.tree.Name.{Name}
+use Rattle.forec_tree.specs.declared.tree.Number.{Number}
+use Rattle.forec_tree.specs.Spelling.{Spelt, at, tokens, IsWithin, IsName, IsNumber, name_at}
+use Rattle.forec_tree.specs.Parts.{number_at}
+use Rattle.expr_parser.specs.declared.fault.Fault.TheVariants.{Syntax}
+use Rattle.expr_parser.specs.declared.fixed.Fixed.{Fixed}
+use Rattle.expr_parser.specs.declared.fixed.Fixed.TheVariants as fixed
+use Rattle.expr_parser.specs.Input.{Input, input, Parser, and_then, kind_ahead, take, raise}
+use Rattle.expr_parser.specs.Meaning.{is_fixed, name_of, number_of}
+use Rattle.expr_parser.specs.Reading as reading
+use Rattle.expr_parser.specs.Reading.{close, enter, name, number, name_by, number_by, separated, separated_from}
+use Rattle.expr_parser.proofs.Spans.{tokens_append, longer, within_front, within_back, within_join, Step, step, ok_of, ok_pair, Took, Raised, took, raised, head_kind, raise_ok, take_ok}
+use Rattle.expr_parser.proofs.Closers.{kind_of, fixed-kind, kind-fixed}
+use Rattle.expr_parser.proofs.Exact.{Lang, Read, Exact, Part, part, Any, convert}
+
+abbrev pub Is : Fixed → Token → Type 0
+Is f t = t.kind ≡ kind_of f
+
+-- this token, at the level before it
+pub data Tok (f : Fixed) : ℕ → Token → ℕ → List Spelt → Option TokenKind → Type 0 where
+  tok : {v : ℕ} {t : Token} {k : Option TokenKind} → Is f t → Tok f v t v (at t v ∷ []) k
+
+-- this token, the last of a statement, after which the level is u
+pub data Last (f : Fixed) (u : ℕ) : ℕ → Token → ℕ → List Spelt → Option TokenKind → Type 0 where
+  last : {v : ℕ} {t : Token} {k : Option TokenKind} → Is f t → Last f u v t v (at t u ∷ []) k
+
+-- this token, which opens a level
+pub data Up (f : Fixed) : ℕ → Token → ℕ → List Spelt → Option TokenKind → Type 0 where
+  up : {v : ℕ} {t : Token} {k : Option TokenKind} → Is f t → Up f v t (v + 1) (at t (v + 1) ∷ []) k
+
+pub data NameIs : Name → ℕ → List Spelt → Type 0 where
+  name_is : {v : ℕ} {t : Token} (id : ℕ) → IsName id t → NameIs (name_at id t.place) v (at t v ∷ [])
+
+pub data NumberIs : Number → ℕ → List Spelt → Type 0 where
+  number_is : {v : ℕ} {t : Token} (value : ℤ) → IsNumber value t → NumberIs (number_at value t.place) v (at t v ∷ [])
+
+-- ---- fixed tokens
+
+pub is_so : (f : Fixed) (t : Token) → Is f t → is_fixed f (Some t.kind) ≡ true
+is_so f t h = ap (λ z. is_fixed f (Some z)) h ∙ kind-fixed f
+
+pub record Closed (f : Fixed) (t : Token) (i j : Input) : Type 0 where
+  pub took : Took t i j
+  pub is : Is f t
+
+pub closed : (f : Fixed) (i : Input) (t : Token) (j : Input) → close f i ≡ Ok (t, j) → Closed f t i j
+unfolding close
+closed f i t j h = by_test (is_fixed f (kind_ahead i.rest)) refl h
+  where
+    by_test : (b : Bool) → is_fixed f (kind_ahead i.rest) ≡ b → cond b (take i) (Err (Syntax (length i.rest))) ≡ Ok (t, j) → Closed f t i j
+    by_test true e k = let a = took i.rest i.level t j k in record { took = a; is = head_kind i.rest j.rest t (kind_of f) a.front (fixed-kind f (kind_ahead i.rest) e) }
+    by_test false e k = absurd (cc)
+
+pub record Entered (limit : ℕ) (f : Fixed) (t : Token) (i j : Input) : Type 0 where
+  pub raised : Raised limit t i j
+  pub is : Is f t
+
+pub entered : (limit : ℕ) (f : Fixed) (i : Input) (t : Token) (j : Input) → enter limit f i ≡ Ok (t, j) → Entered limit f t i j
+unfolding enter
+entered limit f i t j h = by_test (is_fixed f (kind_ahead i.rest)) refl h
+  where
+    by_test : (b : Bool) → is_fixed f (kind_ahead i.rest) ≡ b → cond b (raise limit i) (Err (Syntax (length i.rest))) ≡ Ok (t, j) → Entered limit f t i j
+    by_test true e k = let a = raised limit i.rest i.level t j k in record { raised = a; is = head_kind i.rest j.rest t (kind_of f) a.front (fixed-kind f (kind_ahead i.rest) e) }
+    by_test false e k = absurd (cc)
+
+pub close_ok : (f : Fixed) (t : Token) (ts : List Token) (v : ℕ) → Is f t → close f (input (t ∷ ts) v) ≡ Ok (t, input ts v)
+unfolding close
+close_ok f t ts v h = let e : is_fixed f (Some t.kind) ≡ true = is_so f t h in rw (e, take_ok)
+
+pub enter_ok : (limit : ℕ) (f : Fixed) (t : Token) (ts : List Token) (v : ℕ) → v + 1 ≤ limit → Is f t → enter limit f (input (t ∷ ts) v) ≡ Ok (t, input ts (v + 1))
+unfolding enter
+enter_ok limit f t ts v r h = let e : is_fixed f (Some t.kind) ≡ true = is_so f t h in rw (e, raise_ok limit t ts v r)
+
+pub token : (limit : ℕ) (f : Fixed) → Exact limit (close f) (Tok f) (Tok f)
+token limit f = record { sound = so; complete = λ v w t ls rest q within. of q rest }
+  where
+    so : (i j : Input) (t : Token) → i.level ≤ limit → close f i ≡ Ok (t, j) → Read limit (Tok f) t i j
+    so i j t small h =
+        let c = closed f i t j h in
+        let R : ℕ → Type 0 = λ z. Tok f i.level t z (at t i.level ∷ []) (kind_ahead j.rest) in
+        record { spelt = at t i.level ∷ []; front = c.took.front; spells = subst R (sym c.took.level) (tok c.is); within = (small, tt); small = omega (arith, c.took.level) }
+
+    of : {v w : ℕ} {t : Token} {ls : List Spelt} {k : Option TokenKind} → Tok f v t w ls k → (rest : List Token) → close f (input (tokens ls ++ rest) v) ≡ Ok (t, input rest w)
+    of (tok {v} {t} {k} h) rest = close_ok f t rest v h
+
+pub last_token : (limit u : ℕ) → u ≤ limit → (f : Fixed) → Exact limit (close f) (Last f u) (Last f u)
+last_token limit u low f = record { sound = so; complete = λ v w t ls rest q within. of q rest }
+  where
+    so : (i j : Input) (t : Token) → i.level ≤ limit → close f i ≡ Ok (t, j) → Read limit (Last f u) t i j
+    so i j t small h =
+        let c = closed f i t j h in
+        let R : ℕ → Type 0 = λ z. Last f u i.level t z (at t u ∷ []) (kind_ahead j.rest) in
+        record { spelt = at t u ∷ []; front = c.took.front; spells = subst R (sym c.took.level) (last c.is); within = (low, tt); small = omega (arith, c.took.level) }
+
+    of : {v w : ℕ} {t : Token} {ls : List Spelt} {k : Option TokenKind} → Last f u v t w ls k → (rest : List Token) → close f (input (tokens ls ++ rest) v) ≡ Ok (t, input rest w)
+    of (last {v} {t} {k} h) rest = close_ok f t rest v h
+
+pub opening : (limit : ℕ) (f : Fixed) → Exact limit (enter limit f) (Up f) (Up f)
+opening limit f = record { sound = so; complete = λ v w t ls rest q within. of q rest within }
+  where
+    so : (i j : Input) (t : Token) → i.level ≤ limit → enter limit f i ≡ Ok (t, j) → Read limit (Up f) t i j
+    so i j t small h =
+        let c = entered limit f i t j h in
+        let R : ℕ → Type 0 = λ z. Up f i.level t z (at t (i.level + 1) ∷ []) (kind_ahead j.rest) in
+        record { spelt = at t (i.level + 1) ∷ []; front = c.raised.front; spells = subst R (sym c.raised.level) (up c.is); within = (c.raised.small, tt); small = omega (arith, c.raised.level, c.raised.small) }
+
+    of : {v w : ℕ} {t : Token} {ls : List Spelt} {k : Option TokenKind} → Up f v t w ls k → (rest : List Token) → IsWithin limit ls → enter limit f (input (tokens ls ++ rest) v) ≡ Ok (t, input rest w)
+    of (up {v} {t} {k} h) rest within = enter_ok limit f t rest v within.0 h
+
+-- ---- brackets
+
+-- between two brackets, after the second of which the level is g of that before the first
+pub data EnclosedTo {A B : Type 0} (g : ℕ → ℕ) (l r : Fixed) (f : Token → A → B) (P : Lang A) : ℕ → B → ℕ → List Spelt → Option TokenKind → Type 0 where
+  between : {v w : ℕ} {left : Token} (right : Token) {x : A} {ls : List Spelt} {k : Option TokenKind} → Is l left → P (v + 1) x w ls (Some right.kind) → Is r right
+      → EnclosedTo g l r f P v (f left x) v (at left (v + 1) ∷ (ls ++ (at right (g v) ∷ []))) k
+
+abbrev pub Enclosed : {A B : Type 0} → Fixed → Fixed → (Token → A → B) → Lang A → Lang B
+Enclosed l r f P = EnclosedTo (λ v. v) l r f P
+
+module _ {limit : ℕ} {A B : Type 0} {p : Parser A} {P P' : Lang A} (g : ℕ → ℕ) (low : (v : ℕ) → v ≤ limit → g v ≤ limit) (l r : Fixed) (f : Token → A → B) where
+  pub enclosing_to : Exact limit p P P' → Exact limit (reading.enclosed limit l r f p) (EnclosedTo g l r f P) (EnclosedTo g l r f P')
+  enclosing_to a = record { sound = so; complete = λ v w y ls rest q within. of q rest within }
+    where
+      finish : Token → A → Parser B
+      finish t x = λ k. and_then (close r k) (λ _ m. ok_of (f t x) m)
+
+      so : (i j : Input) (y : B) → i.level ≤ limit → reading.enclosed limit l r f p i ≡ Ok (y, j) → Read limit (EnclosedTo g l r f P) y i j
+      so i j y small h =
+          let o = step (and_then (enter limit l i) (λ t k. and_then (p k) (finish t))) (λ x k. Ok (x, input k.rest i.level)) (y, j) h in
+          let b = step (enter limit l i) (λ t k. and_then (p k) (finish t)) (o.value, o.state) o.was in
+          let c = step (p b.state) (finish b.value) (o.value, o.state) b.goes in
+          let d = step (close r c.state) (λ _ m. ok_of (f b.value c.value) m) (o.value, o.state) c.goes in
+          let e = entered limit l i b.value b.state b.was in
+          let m = a.sound b.state c.state c.value (omega (arith, e.raised.level, e.raised.small)) c.was in
+          let z1 = closed r c.state d.value d.state d.was in
+          let q = ok_pair (f b.value c.value) o.value d.state o.state d.goes in
+          let z = ok_pair o.value y (input o.state.rest i.level) j o.goes in
+          let R : ℕ → Type 0 = λ n. P n c.value c.state.level m.spelt (kind_ahead c.state.rest) in
+          let S : Option TokenKind → Type 0 = λ k. P (i.level + 1) c.value c.state.level m.spelt k in
+          let inner : P (i.level + 1) c.value c.state.level m.spelt (Some d.value.kind) = subst S (ap kind_ahead z1.took.front) (subst R e.raised.level m.spells) in
+          let last : d.state.rest ≡ j.rest = ap (λ (u : Input). u.rest) q.1 ∙ ap (λ (u : Input). u.rest) z.1 in
+          let T : ℕ → Type 0 = λ n. EnclosedTo g l r f P i.level (f b.value c.value) n (at b.value (i.level + 1) ∷ (m.spelt ++ (at d.value (g i.level) ∷ []))) (kind_ahead j.rest) in
+          let U : B → Type 0 = λ u. EnclosedTo g l r f P i.level u j.level (at b.value (i.level + 1) ∷ (m.spelt ++ (at d.value (g i.level) ∷ []))) (kind_ahead j.rest) in
+          let level : i.level ≡ j.level = ap (λ (u : Input). u.level) z.1 in
+          record {
+            spelt = at b.value (i.level + 1) ∷ (m.spelt ++ (at d.value (g i.level) ∷ []));
+            front = e.raised.front ∙ ap (λ u. b.value ∷ u)
+                (m.front ∙ ap (λ u. tokens m.spelt ++ u) (z1.took.front ∙ ap (λ u. d.value ∷ u) last) ∙ sym (tokens_append m.spelt (at d.value (g i.level) ∷ []) j.rest));
+            spells = subst U (q.0 ∙ z.0) (subst T level (between d.value e.is inner z1.is));
+            within = (e.raised.small, within_join limit m.spelt (at d.value (g i.level) ∷ []) m.within (low i.level small, tt));
+            small = omega (arith, level);
+          }
+
+      of : {v w : ℕ} {y : B} {ls : List Spelt} {k : Option TokenKind} → EnclosedTo g l r f P' v y w ls k → (rest : List Token) → IsWithin limit ls
+          → reading.enclosed limit l r f p (input (tokens ls ++ rest) v) ≡ Ok (y, input rest w)
+      of (between {v} {w} {left} right {x} {ls} {k} hl q hr) rest within =
+          let tail = tokens ls ++ (right ∷ rest) in
+          let same : tokens (ls ++ (at right (g v) ∷ [])) ++ rest ≡ tail = tokens_append ls (at right (g v) ∷ []) rest in
+          let one : enter limit l (input (left ∷ tail) v) ≡ Ok (left, input tail (v + 1)) = enter_ok limit l left tail v within.0 hl in
+          let two : p (input tail (v + 1)) ≡ Ok (x, input (right ∷ rest) w) = a.complete (v + 1) w x ls (right ∷ rest) q (within_front limit ls (at right (g v) ∷ []) within.1) in
+          let three : close r (input (right ∷ rest) w) ≡ Ok (right, input rest w) = close_ok r right rest w hr in
+          rw (same, one, two, three)
+
+module _ {limit : ℕ} {A B : Type 0} {p : Parser A} {P P' : Lang A} (l r : Fixed) (f : Token → A → B) where
+  pub enclosing : Exact limit p P P' → Exact limit (reading.enclosed limit l r f p) (Enclosed l r f P) (Enclosed l r f P')
+  enclosing a = enclosing_to (λ v. v) (λ v h. h) l r f a
+
+-- ---- names and numbers
+
+abbrev HasName : Option TokenKind → Option ℕ → Type 0
+HasName k None = Unit {0}
+HasName k (Some id) = k ≡ Some (kind.Name id)
+
+has_name : (k : Option TokenKind) → HasName k (name_of k)
+has_name (Some (kind.Name id)) = refl
+has_name _ = tt
+
+abbrev HasNumber : Option TokenKind → Option ℤ → Type 0
+HasNumber k None = Unit {0}
+HasNumber k (Some value) = k ≡ Some (kind.Number value)
+
+has_number : (k : Option TokenKind) → HasNumber k (number_of k)
+has_number (Some (kind.Number value)) = refl
+has_number _ = tt
+
+pub a_name : (limit : ℕ) → Exact limit name (Part Any NameIs) (Part Any NameIs)
+unfolding name
+a_name limit = record { sound = so; complete = λ v w n ls rest q within. of q rest }
+  where
+    by : (i j : Input) (n : Name) → i.level ≤ limit → (o : Option ℕ) → HasName (kind_ahead i.rest) o → name_by o i ≡ Ok (n, j) → Read limit (Part Any NameIs) n i j
+    by i j n small None s h = absurd (cc)
+    by i j n small (Some id) s h =
+        let a = step (take i) (λ t k. Ok (name_at id t.place, k)) (n, j) h in
+        let t = took i.rest i.level a.value a.state a.was in
+        let e = ok_pair (name_at id a.value.place) n a.state j a.goes in
+        let is : IsName id a.value = head_kind i.rest a.state.rest a.value (kind.Name id) t.front s in
+        let R : ℕ → Type 0 = λ z. Part Any NameIs i.level (name_at id a.value.place) z (at a.value i.level ∷ []) (kind_ahead a.state.rest) in
+        let made : Read limit (Part Any NameIs) (name_at id a.value.place) i a.state =
+        record { spelt = at a.value i.level ∷ []; front = t.front; spells = subst R (sym t.level) (part (name_is id is) tt); within = (small, tt); small = omega (arith, t.level) } in
+        let S : Input → Type 0 = λ z. Read limit (Part Any NameIs) (name_at id a.value.place) i z in
+        let T : Name → Type 0 = λ z. Read limit (Part Any NameIs) z i j in
+        subst T e.0 (subst S e.1 made)
+
+    so : (i j : Input) (n : Name) → i.level ≤ limit → name i ≡ Ok (n, j) → Read limit (Part Any NameIs) n i j
+    so i j n small h = by i j n small (name_of (kind_ahead i.rest)) (has_name (kind_ahead i.rest)) h
+
+    of : {v w : ℕ} {n : Name} {ls : List Spelt} {k : Option TokenKind} → Part Any NameIs v n w ls k → (rest : List Token) → name (input (tokens ls ++ rest) v) ≡ Ok (n, input rest w)
+    of (part (name_is {v} {t} id h) c) rest = let e : name_of (Some t.kind) ≡ Some id = rw h in rw (e, take_ok)
+
+pub a_number : (limit : ℕ) → Exact limit number (Part Any NumberIs) (Part Any NumberIs)
+unfolding number
+a_number limit = record { sound = so; complete = λ v w n ls rest q within. of q rest }
+  where
+    by : (i j : Input) (n : Number) → i.level ≤ limit → (o : Option ℤ) → HasNumber (kind_ahead i.rest) o → number_by o i ≡ Ok (n, j) → Read limit (Part Any NumberIs) n i j
+    by i j n small None s h = absurd (cc)
+    by i j n small (Some value) s h =
+        let a = step (take i) (λ t k. Ok (number_at value t.place, k)) (n, j) h in
+        let t = took i.rest i.level a.value a.state a.was in
+        let e = ok_pair (number_at value a.value.place) n a.state j a.goes in
+        let is : IsNumber value a.value = head_kind i.rest a.state.rest a.value (kind.Number value) t.front s in
+        let R : ℕ → Type 0 = λ z. Part Any NumberIs i.level (number_at value a.value.place) z (at a.value i.level ∷ []) (kind_ahead a.state.rest) in
+        let made : Read limit (Part Any NumberIs) (number_at value a.value.place) i a.state =
+        record { spelt = at a.value i.level ∷ []; front = t.front; spells = subst R (sym t.level) (part (number_is value is) tt); within = (small, tt); small = omega (arith, t.level) } in
+        let S : Input → Type 0 = λ z. Read limit (Part Any NumberIs) (number_at value a.value.place) i z in
+        let T : Number → Type 0 = λ z. Read limit (Part Any NumberIs) z i j in
+        subst T e.0 (subst S e.1 made)
+
+    so : (i j : Input) (n : Number) → i.level ≤ limit → number i ≡ Ok (n, j) → Read limit (Part Any NumberIs) n i j
+    so i j n small h = by i j n small (number_of (kind_ahead i.rest)) (has_number (kind_ahead i.rest)) h
+
+    of : {v w : ℕ} {n : Number} {ls : List Spelt} {k : Option TokenKind} → Part Any NumberIs v n w ls k → (rest : List Token) → number (input (tokens ls ++ rest) v) ≡ Ok (n, input rest w)
+    of (part (number_is {v} {t} value h) c) rest = let e : number_of (Some t.kind) ≡ Some value = rw h in rw (e, take_ok)
+
+-- ---- lists with commas
+
+abbrev pub Comma : Token → Type 0
+Comma t = Is fixed.Comma t
+
+-- one or more
+pub data Listed {A : Type 0} (P : Lang A) : ℕ → List A → ℕ → List Spelt → Option TokenKind → Type 0 where
+  end_of_list : {v w : ℕ} {x : A} {ls : List Spelt} {k : Option TokenKind} → P v x w ls k → is_fixed fixed.Comma k ≡ false → Listed P v (x ∷ []) w ls k
+  next_of_list : {v u w : ℕ} {x : A} {xs : List A} (comma : Token) {ls rs : List Spelt} {k : Option TokenKind} → P v x u ls (Some comma.kind) → Comma comma → Listed P u xs w rs k
+      → Listed P v (x ∷ xs) w (ls ++ (at comma u ∷ rs)) k
+
+-- not empty
+abbrev pub Filled : List Spelt → Type 0
+Filled [] = ⊥
+Filled (s ∷ ls) = Unit {0}
+
+pub filled-long : (ls : List Spelt) (rest : List Token) → Filled ls → suc (length rest) ≤ length (tokens ls ++ rest)
+filled-long [] rest h = absurd h
+filled-long (s ∷ ls) rest h = omega (arith, longer ls rest)
+
+module _ {limit : ℕ} {A : Type 0} {p : Parser A} {P P' : Lang A} (a : Exact limit p P P') where
+  record More (found all : List A) (i j : Input) : Type 0 where
+    pub xs : List A
+    pub all_is : all ≡ found ++ xs
+    pub read : Read limit (Listed P) xs i j
+
+  l_turn : (n : ℕ) (found all : List A) (i j : Input) → i.level ≤ limit → separated_from p n found i ≡ Ok (all, j) → More found all i j
+  unfolding separated_from
+  l_turn zero found all i j small h = absurd (cc)
+  l_turn (suc n) found all i j small h = by_test (l_turn n) (is_fixed fixed.Comma (kind_ahead s.state.rest)) refl s.goes
+    where
+      s : Step (p i) (λ x k. cond (is_fixed fixed.Comma (kind_ahead k.rest)) (and_then (take k) (λ _ l. separated_from p n (found ++ x ∷ []) l)) (Ok (found ++ x ∷ [], k))) (all, j)
+      s = step (p i) _ (all, j) h
+
+      m : Read limit P s.value i s.state
+      m = a.sound i s.state s.value small s.was
+
+      by_test : ((found all : List A) (i j : Input) → i.level ≤ limit → separated_from p n found i ≡ Ok (all, j) → More found all i j)
+          → (b : Bool) → is_fixed fixed.Comma (kind_ahead s.state.rest) ≡ b
+          → cond b (and_then (take s.state) (λ _ l. separated_from p n (found ++ s.value ∷ []) l)) (Ok (found ++ s.value ∷ [], s.state)) ≡ Ok (all, j) → More found all i j
+      by_test ih true e k =
+          let t = step (take s.state) (λ _ l. separated_from p n (found ++ s.value ∷ []) l) (all, j) k in
+          let c = took s.state.rest s.state.level t.value t.state t.was in
+          let is : Comma t.value = head_kind s.state.rest t.state.rest t.value (kind_of fixed.Comma) c.front (fixed-kind fixed.Comma (kind_ahead s.state.rest) e) in
+          let more = ih (found ++ s.value ∷ []) all t.state j (omega (arith, c.level, m.small)) t.goes in
+          let r = more.read in
+          let R : Option TokenKind → Type 0 = λ z. P i.level s.value s.state.level m.spelt z in
+          let S : ℕ → Type 0 = λ z. Listed P z more.xs j.level r.spelt (kind_ahead j.rest) in
+          record {
+            xs = s.value ∷ more.xs;
+            all_is = more.all_is ∙ append_assoc found (s.value ∷ []) more.xs;
+            read = record {
+              spelt = m.spelt ++ (at t.value s.state.level ∷ r.spelt);
+              front = m.front ∙ ap (λ z. tokens m.spelt ++ z) (c.front ∙ ap (λ z. t.value ∷ z) r.front) ∙ sym (tokens_append m.spelt (at t.value s.state.level ∷ r.spelt) j.rest);
+              spells = next_of_list t.value (subst R (ap kind_ahead c.front) m.spells) is (subst S c.level r.spells);
+              within = within_join limit m.spelt (at t.value s.state.level ∷ r.spelt) m.within (m.small, r.within);
+              small = r.small;
+            };
+          }
+      by_test ih false e k =
+          let q = ok_pair (found ++ s.value ∷ []) all s.state j k in
+          let made : More found (found ++ s.value ∷ []) i s.state =
+          record { xs = s.value ∷ []; all_is = refl; read = record { spelt = m.spelt; front = m.front; spells = end_of_list m.spells e; within = m.within; small = m.small } } in
+          let R : Input → Type 0 = λ z. More found (found ++ s.value ∷ []) i z in
+          let S : List A → Type 0 = λ z. More found z i j in
+          subst S q.0 (subst R q.1 made)
+
+  pub l_sound : (i j : Input) (all : List A) → i.level ≤ limit → separated p i ≡ Ok (all, j) → Read limit (Listed P) all i j
+  unfolding separated
+  l_sound i j all small h =
+      let m = l_turn (length i.rest) [] all i j small h in
+      let S : List A → Type 0 = λ z. Read limit (Listed P) z i j in
+      subst S (sym m.all_is) m.read
+
+  l_complete : (some : (v w : ℕ) (x : A) (ls : List Spelt) (k : Option TokenKind) → P' v x w ls k → Filled ls) → {v w : ℕ} {xs : List A} {ls : List Spelt} {k : Option TokenKind}
+      → Listed P' v xs w ls k → (n : ℕ) (found : List A) (rest : List Token) → k ≡ kind_ahead rest → IsWithin limit ls
+      → length (tokens ls ++ rest) ≤ n → separated_from p n found (input (tokens ls ++ rest) v) ≡ Ok (found ++ xs, input rest w)
+  unfolding separated_from
+  l_complete some (end_of_list {v} {w} {x} {ls} {k} q c) zero found rest e within enough = absurd (omega (arith, filled-long ls rest (some v w x ls k q)))
+  l_complete some (end_of_list {v} {w} {x} {ls} {k} q c) (suc n) found rest e within enough =
+      let R : Option TokenKind → Type 0 = λ z. P' v x w ls z in
+      let one : p (input (tokens ls ++ rest) v) ≡ Ok (x, input rest w) = a.complete v w x ls rest (subst R e q) within in
+      let no : is_fixed fixed.Comma (kind_ahead rest) ≡ false = ap (is_fixed fixed.Comma) (sym e) ∙ c in
+      rw (one, no)
+  l_complete some (next_of_list {v} {u} {w} {x} {xs} comma {ls} {rs} {k} q c more) zero found rest e within enough =
+      let tail = tokens rs ++ rest in
+      let same : tokens (ls ++ (at comma u ∷ rs)) ++ rest ≡ tokens ls ++ (comma ∷ tail) = tokens_append ls (at comma u ∷ rs) rest in
+      let room : length (tokens ls ++ (comma ∷ tail)) ≤ 0 = rw same at enough in
+      absurd (omega (arith, longer ls (comma ∷ tail)))
+  l_complete some (next_of_list {v} {u} {w} {x} {xs} comma {ls} {rs} {k} q c more) (suc n) found rest e within enough =
+      let tail = tokens rs ++ rest in
+      let one : p (input (tokens ls ++ (comma ∷ tail)) v) ≡ Ok (x, input (comma ∷ tail) u) = a.complete v u x ls (comma ∷ tail) q (within_front limit ls (at comma u ∷ rs) within) in
+      let yes' : is_fixed fixed.Comma (Some comma.kind) ≡ true = is_so fixed.Comma comma c in
+      let same : tokens (ls ++ (at comma u ∷ rs)) ++ rest ≡ tokens ls ++ (comma ∷ tail) = tokens_append ls (at comma u ∷ rs) rest in
+      let room : length (tokens ls ++ (comma ∷ tail)) ≤ suc n = rw same at enough in
+      let many = l_complete some more n (found ++ x ∷ []) rest e (within_back limit ls (at comma u ∷ rs) within).1 (omega (arith, longer ls (comma ∷ tail))) in
+      rw (same, one, yes', take_ok) (many ∙ ap (λ z. Ok (z, input rest w)) (append_assoc found (x ∷ []) xs))
+
+  pub commas : ((v w : ℕ) (x : A) (ls : List Spelt) (k : Option TokenKind) → P' v x w ls k → Filled ls) → Exact limit (separated p) (Listed P) (Listed P')
+  unfolding separated
+  commas some = record {
+    sound = l_sound;
+    complete = λ v w xs ls rest q within. l_complete some q (length (tokens ls ++ rest)) [] rest refl within (omega arith);
+  }
+
+-- a part that has a token
+pub data Full {A : Type 0} (P : Lang A) : ℕ → A → ℕ → List Spelt → Option TokenKind → Type 0 where
+  full : {v w : ℕ} {x : A} {ls : List Spelt} {k : Option TokenKind} → P v x w ls k → Filled ls → Full P v x w ls k
+
+pub full_commas : {limit : ℕ} {A : Type 0} {p : Parser A} {P P' : Lang A} → Exact limit p P P' → Exact limit (separated p) (Listed P) (Listed (Full P'))
+full_commas {limit} {A} {p} {P} {P'} a = commas (convert (λ v w x ls k q. q) of a) some
+  where
+    of : (v w : ℕ) (x : A) (ls : List Spelt) (k : Option TokenKind) → Full P' v x w ls k → P' v x w ls k
+    of v w x ls k (full q f) = q
+
+    some : (v w : ℕ) (x : A) (ls : List Spelt) (k : Option TokenKind) → Full P' v x w ls k → Filled ls
+    some v w x ls k (full q f) = f

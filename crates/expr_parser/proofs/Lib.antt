@@ -1,0 +1,10 @@
+pub mod LoopTurns
+pub mod Lists
+pub mod Spans
+pub mod Exact
+pub mod Closers
+pub mod Leaves
+pub mod Operators
+pub mod ExpressionSound
+pub mod ExpressionComplete
+pub mod AsSpelled

@@ -1,6 +1,0 @@
-use Rattle.std.proofs.Common.{◌≡◌}
-use Rattle.core_host.specs.Hosted.{IsWhole}
-use Rattle.forec_engine.proofs.placed_tests.run_hosted.Given as goal
-
-abbrev pub invariant-loop-input : goal.invariant-loop-input
-invariant-loop-input l = record { whole : IsWhole l.host; code : l.host.code ≡ l.fn.code }

@@ -1,5 +1,0 @@
-use Rattle.forec_parser.proofs.Lists.{call-listed}
-use Rattle.forec_parser.proofs.nodes.call.Goals as goal
-
-pub returns : goal.returns
-returns c = call-listed c.args.name c.args.args c.args.name.place

@@ -1,0 +1,11 @@
+pub mod Copies
+pub mod Kernels
+pub mod Lists
+pub mod Pushes
+pub mod Words
+pub mod Metering
+pub mod Falls
+pub mod Tests
+pub mod Onward
+pub mod Rows
+pub mod FoldLists

@@ -1,0 +1,12 @@
+use Rattle.std.proofs.Common.{rules, SFits, w32}
+use Rattle.std.proofs.lemmas.Int.{to_z-of_z}
+use Rattle.running_texts.proofs.Kernels.{handed_more}
+use Rattle.running_texts.proofs.forks.copies_below.Goals as goal
+
+pub loop-variable-preserved : goal.loop-variable-preserved
+loop-variable-preserved c =
+    let fits : SFits w32 c.copy_value.result = search rules in
+    let pushed = simp to_z-of_z at c.in_ok-push.ensures.items in
+    rw (pushed, c.copy_value.ensures)
+    (handed_more c.args.uses.now c.args.copies.now c.args.variables.now c.loop-variable.variable-index 0 c.loop-variable.list.items
+    c.loop-variable-test.true c.loop-variable.invariant)

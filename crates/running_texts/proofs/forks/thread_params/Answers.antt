@@ -1,0 +1,15 @@
+use Rattle.std.proofs.Common.{◌∙◌, ap, map}
+use Rattle.forec_kernel.specs.Shapes.{plain_thread}
+use Rattle.forec_kernel.specs.Texts.{params_in}
+use Rattle.running_texts.proofs.Kernels.{params_at, params_past}
+use Rattle.running_texts.proofs.forks.thread_params.Goals as goal
+
+pub returns-then-thread-shapes : goal.returns-then-thread-shapes
+returns-then-thread-shapes c =
+    params_at c.as_slice-shapes.result.now c.args.thread c.index-shapes-thread.result c.if-thread-shapes.true
+    ∙ ap (λ ts. params_in (map plain_thread ts) c.args.thread) c.as_slice-shapes.ensures.value
+
+pub returns-else-thread-shapes : goal.returns-else-thread-shapes
+returns-else-thread-shapes c =
+    params_past c.as_slice-shapes.result.now c.args.thread c.if-thread-shapes.false
+    ∙ ap (λ ts. params_in (map plain_thread ts) c.args.thread) c.as_slice-shapes.ensures.value

@@ -1,0 +1,73 @@
+-- Computing under an allowance of units.
+use Rattle.std.specs.Prelude.{ℕ, ◌+◌, ◌<◌, ◌≡◌, ℤ, List}
+use Rattle.std.specs.declared.result.Result.{Result}
+use Rattle.std.specs.declared.result.Result.TheVariants.{Ok, Err}
+use Rattle.std.specs.declared.vec.Vec.{Vec}
+use Rattle.std.specs.declared.alloc.Global.{Global}
+use Rattle.forec_base.specs.declared.Place.{Place}
+use Rattle.forec_base.specs.declared.Trap.{Trap}
+use Rattle.forec_kernel.specs.declared.shape.VarCopy.{VarCopy}
+use Rattle.forec_kernel.specs.Shapes.{PlainKernel}
+use Rattle.forec_kernel.specs.Values.{Value, Gives, Stops, Values, AllGive, OneStops, Flow, Goes, Returns, Breaks, Setting, Sight, call_within}
+use Rattle.running_texts.specs.declared.meter.Halt.{Halt}
+use Rattle.running_texts.specs.declared.meter.Halt.TheVariants.{Trapped, Over, OutOfMemory}
+use Rattle.running_texts.specs.declared.functions.Ran.{Ran}
+use Rattle.running_texts.specs.declared.functions.Ran.TheVariants as ran
+
+-- How a kind of result is read: what an answer stands for at so many units, what a trap stands for, and how many units a result has.
+pub record Kind (X V : Type 0) : Type 0 where
+  pub gives : X → ℕ → V
+  pub stops : Place → Trap → ℕ → V
+  pub units : V → ℕ
+
+-- so many units were taken from the allowance
+pub record Paid {V : Type 0} (old new : ℕ) (v : V) (of : ℕ → V) : Type 0 where
+  pub units : ℕ
+  pub is : v ≡ of units
+  pub left : new + units ≡ old
+
+abbrev pub MeteredBy : {X V : Type 0} → Kind X V → ℕ → ℕ → Result X Halt → V → Type 0
+MeteredBy k old new (Ok x) v = Paid old new v (k.gives x)
+MeteredBy k old new (Err (Trapped place trap)) v = Paid old new v (k.stops place trap)
+MeteredBy k old new (Err Over) v = old < k.units v
+MeteredBy k old new (Err OutOfMemory) v = Unit {0}
+
+-- What computing under an allowance answers: what it gives or the trap, with its units paid; or Over exactly where the units exceed the allowance.
+pub record IsMetered {X V : Type 0} (k : Kind X V) (old new : ℕ) (result : Result X Halt) (v : V) : Type 0 where
+  pub by : MeteredBy k old new result v
+
+-- ---- kinds
+
+abbrev pub value_units : Value → ℕ
+value_units (Gives n u) = u
+value_units (Stops place trap u) = u
+
+abbrev pub number : Kind ℤ Value
+number = record { gives = Gives; stops = Stops; units = value_units }
+
+abbrev pub values_units : Values → ℕ
+values_units (AllGive ns u) = u
+values_units (OneStops place trap u) = u
+
+abbrev pub numbers : Kind (Vec ℤ Global) Values
+numbers = record { gives = λ v u. AllGive v.items u; stops = OneStops; units = values_units }
+
+abbrev pub flow_units : Flow → ℕ
+flow_units (Goes words u) = u
+flow_units (Returns n u) = u
+flow_units (Breaks place trap u) = u
+
+abbrev pub run_gives : Ran → ℕ → Flow
+run_gives (ran.Goes words) u = Goes words.items u
+run_gives (ran.Returns n) u = Returns n u
+
+abbrev pub flowing : Kind Ran Flow
+flowing = record { gives = run_gives; stops = Breaks; units = flow_units }
+
+-- ---- what an evaluation sees
+
+abbrev pub setting_within : PlainKernel → ℕ → Setting
+setting_within k deep = record { tables = k.shape.tables; call = call_within k deep }
+
+abbrev pub sight : List ℤ → List ℕ → List VarCopy → Sight
+sight words uses copies = record { words = words; uses = uses; copies = copies }

@@ -1,0 +1,303 @@
+// Expressions and int functions, evaluated under an allowance of units.
+
+ghost use Rattle.std.specs.Prelude.{◌≡◌, ◌<◌, ◌+◌, ℕ, ℤ};
+ghost use Rattle.forec_kernel.specs.Plain.{expr, exprs, stmt, stmts};
+ghost use Rattle.forec_kernel.specs.Shapes.{plain_kernel};
+ghost use Rattle.forec_kernel.specs.Values.{val, vals, flow, flows, turns, call_within, words_alone};
+ghost use Rattle.running_texts.specs.Metered.{IsMetered, number, numbers, flowing, setting_within, sight};
+
+use crate::functions::{
+    Ran, after_set, after_set_at, as_return, as_value, clear, function_word_count, words_from,
+};
+use crate::meter::{Halt, give, pay, tested};
+use crate::operators::{
+    after_binary, after_table_index, after_unary, after_word_index, as_truth, copy_value, table_at,
+    word_at,
+};
+use forec_base::{Place, Trap};
+use forec_kernel::{Expression, KernelParts, Statement, VarCopy};
+use std::alloc::Global;
+
+/// The number of an expression, by rewriting under the allowance.
+#[cycle(evaluation)]
+pub fn evaluate(
+    alloc: Global,
+    kernel: &KernelParts,
+    deep: usize,
+    words: &[i32],
+    uses: &[u32],
+    copies: &[VarCopy],
+    e: &Expression,
+    left: &mut u64,
+) -> Result<i32, Halt>
+    ensures { IsMetered number left.old left.new result
+        (val (setting_within (plain_kernel kernel.now) deep) (sight words.now uses.now copies.now) (expr e.now)) }
+{
+    match e {
+        Expression::Number { value } => give(*value, left),
+        Expression::Local { slot } => give(word_at(words, *slot as usize), left),
+        Expression::Variable { variable } => give(copy_value(uses, copies, *variable), left),
+        Expression::LocalAt {
+            slot,
+            length,
+            index,
+            place,
+        } => {
+            let part = evaluate(alloc, kernel, deep, words, uses, copies, index, left);
+            after_word_index(words, *slot, *length, *place, part, left)
+        }
+        Expression::TableAt {
+            table,
+            index,
+            place,
+        } => {
+            let part = evaluate(alloc, kernel, deep, words, uses, copies, index, left);
+            after_table_index(table_at(&kernel.shape.tables, *table), *place, part, left)
+        }
+        Expression::Unary { op, of } => {
+            let part = evaluate(alloc, kernel, deep, words, uses, copies, of, left);
+            after_unary(*op, part, left)
+        }
+        Expression::Binary {
+            op,
+            left: first,
+            right,
+            place,
+        } => match evaluate(alloc, kernel, deep, words, uses, copies, first, left) {
+            Ok(a) => {
+                let part = evaluate(alloc, kernel, deep, words, uses, copies, right, left);
+                after_binary(*op, a, part, *place, left)
+            }
+            Err(halt) => Err(halt),
+        },
+        Expression::And { left: first, right } => {
+            let test = evaluate(alloc, kernel, deep, words, uses, copies, first, left);
+            match tested(test, left) {
+                Ok(n) => {
+                    if n == 0 {
+                        return Ok(0);
+                    }
+                    let part = evaluate(alloc, kernel, deep, words, uses, copies, right, left);
+                    as_truth(part)
+                }
+                Err(halt) => Err(halt),
+            }
+        }
+        Expression::Or { left: first, right } => {
+            let test = evaluate(alloc, kernel, deep, words, uses, copies, first, left);
+            match tested(test, left) {
+                Ok(n) => {
+                    if n != 0 {
+                        return Ok(1);
+                    }
+                    let part = evaluate(alloc, kernel, deep, words, uses, copies, right, left);
+                    as_truth(part)
+                }
+                Err(halt) => Err(halt),
+            }
+        }
+        Expression::Choose { test, yes, no } => {
+            let test = evaluate(alloc, kernel, deep, words, uses, copies, test, left);
+            match tested(test, left) {
+                Ok(n) => {
+                    if n == 0 {
+                        return evaluate(alloc, kernel, deep, words, uses, copies, no, left);
+                    }
+                    evaluate(alloc, kernel, deep, words, uses, copies, yes, left)
+                }
+                Err(halt) => Err(halt),
+            }
+        }
+        Expression::Call { function, args } => {
+            match evaluate_all(alloc, kernel, deep, words, uses, copies, args, left) {
+                Ok(numbers) => match pay(1, left) {
+                    Ok(()) => call_function(alloc, kernel, deep, *function, &numbers, left),
+                    Err(halt) => Err(halt),
+                },
+                Err(halt) => Err(halt),
+            }
+        }
+    }
+}
+
+/// The numbers of some expressions, in order.
+#[cycle(evaluation)]
+pub fn evaluate_all(
+    alloc: Global,
+    kernel: &KernelParts,
+    deep: usize,
+    words: &[i32],
+    uses: &[u32],
+    copies: &[VarCopy],
+    list: &[Expression],
+    left: &mut u64,
+) -> Result<Vec<i32>, Halt>
+    ensures { IsMetered numbers left.old left.new result
+        (vals (setting_within (plain_kernel kernel.now) deep) (sight words.now uses.now copies.now) (exprs list.now)) }
+{
+    let mut numbers = Vec::new(alloc);
+    for e in list {
+        match evaluate(alloc, kernel, deep, words, uses, copies, e, left) {
+            Ok(n) => {
+                if numbers.push(n).is_err() {
+                    return Err(Halt::OutOfMemory);
+                }
+            }
+            Err(halt) => return Err(halt),
+        }
+    }
+    Ok(numbers)
+}
+
+/// What an int function gives, where at most so many calls are inside one another.
+#[cycle(evaluation)]
+pub(crate) fn call_function(
+    alloc: Global,
+    kernel: &KernelParts,
+    deep: usize,
+    function: u32,
+    args: &[i32],
+    left: &mut u64,
+) -> Result<i32, Halt>
+    ensures { IsMetered number left.old left.new result (call_within (plain_kernel kernel.now) deep function args.now) }
+{
+    if deep == 0 {
+        return Ok(0);
+    }
+    let at = function as usize;
+    if kernel.functions.len() <= at {
+        return Ok(0);
+    }
+    let count = function_word_count(&kernel.shape.functions, function);
+    match words_from(alloc, args, count) {
+        Ok(words) => {
+            let part = run(alloc, kernel, deep - 1, words, &kernel.functions[at], left);
+            as_value(part)
+        }
+        Err(_) => Err(Halt::OutOfMemory),
+    }
+}
+
+#[cycle(evaluation)]
+fn run(
+    alloc: Global,
+    kernel: &KernelParts,
+    deep: usize,
+    words: Vec<i32>,
+    s: &Statement,
+    left: &mut u64,
+) -> Result<Ran, Halt>
+    ensures { IsMetered flowing left.old left.new result (flow (setting_within (plain_kernel kernel.now) deep) (stmt s.now) words.items) }
+{
+    match s {
+        Statement::Set { to, value } => {
+            let part = evaluate(alloc, kernel, deep, &words, &[], &[], value, left);
+            after_set(words, *to, part, left)
+        }
+        Statement::SetAt {
+            slot,
+            length,
+            index,
+            value,
+            place,
+        } => match evaluate(alloc, kernel, deep, &words, &[], &[], index, left) {
+            Ok(at) => {
+                let part = evaluate(alloc, kernel, deep, &words, &[], &[], value, left);
+                after_set_at(words, *slot, *length, at, *place, part, left)
+            }
+            Err(halt) => Err(halt),
+        },
+        Statement::Clear { slot, length } => clear(words, *slot, *length, left),
+        Statement::Sequence { list } => run_all(alloc, kernel, deep, words, list, left),
+        Statement::If { test, yes, no } => {
+            let test = evaluate(alloc, kernel, deep, &words, &[], &[], test, left);
+            match tested(test, left) {
+                Ok(n) => {
+                    if n == 0 {
+                        return run(alloc, kernel, deep, words, no, left);
+                    }
+                    run(alloc, kernel, deep, words, yes, left)
+                }
+                Err(halt) => Err(halt),
+            }
+        }
+        Statement::While {
+            test,
+            bound,
+            body,
+            place,
+        } => match bound {
+            Some(turns) => run_turns(alloc, kernel, deep, words, *turns, test, body, *place, left),
+            None => Ok(Ran::Goes(words)),
+        },
+        Statement::Return { value } => {
+            let part = evaluate(alloc, kernel, deep, &words, &[], &[], value, left);
+            as_return(part)
+        }
+        _ => Ok(Ran::Goes(words)),
+    }
+}
+
+#[cycle(evaluation)]
+fn run_all(
+    alloc: Global,
+    kernel: &KernelParts,
+    deep: usize,
+    mut words: Vec<i32>,
+    list: &[Statement],
+    left: &mut u64,
+) -> Result<Ran, Halt>
+    ensures { IsMetered flowing left.old left.new result (flows (setting_within (plain_kernel kernel.now) deep) (stmts list.now) words.items) }
+{
+    for s in list {
+        match run(alloc, kernel, deep, words, s, left) {
+            Ok(Ran::Goes(next)) => words = next,
+            Ok(Ran::Returns(n)) => return Ok(Ran::Returns(n)),
+            Err(halt) => return Err(halt),
+        }
+    }
+    Ok(Ran::Goes(words))
+}
+
+// A loop with so many turns left.
+#[cycle(evaluation)]
+fn run_turns(
+    alloc: Global,
+    kernel: &KernelParts,
+    deep: usize,
+    mut words: Vec<i32>,
+    bound: u32,
+    test: &Expression,
+    body: &Statement,
+    place: Place,
+    left: &mut u64,
+) -> Result<Ran, Halt>
+    ensures { IsMetered flowing left.old left.new result
+        (turns bound (λ w. val (setting_within (plain_kernel kernel.now) deep) (words_alone w) (expr test.now))
+        (flow (setting_within (plain_kernel kernel.now) deep) (stmt body.now)) place words.items) }
+{
+    let mut turns_left = bound;
+    'turns: loop {
+        let part = evaluate(alloc, kernel, deep, &words, &[], &[], test, left);
+        match tested(part, left) {
+            Ok(n) => {
+                if n == 0 {
+                    return Ok(Ran::Goes(words));
+                }
+                if turns_left == 0 {
+                    return Err(Halt::Trapped {
+                        place,
+                        trap: Trap::Turns,
+                    });
+                }
+                turns_left -= 1;
+                match run(alloc, kernel, deep, words, body, left) {
+                    Ok(Ran::Goes(next)) => words = next,
+                    Ok(Ran::Returns(n)) => return Ok(Ran::Returns(n)),
+                    Err(halt) => return Err(halt),
+                }
+            }
+            Err(halt) => return Err(halt),
+        }
+    }
+}
