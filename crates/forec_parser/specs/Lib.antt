@@ -1,3 +1,4 @@
+pub mod Input
 pub mod Meaning
 pub mod Views
 pub mod Statements

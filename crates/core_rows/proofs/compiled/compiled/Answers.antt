@@ -2,7 +2,7 @@ use Rattle.std.proofs.Common.{List, subst}
 use Rattle.forec_tree.specs.declared.token.Token.{Token}
 use Rattle.forec_tree.specs.Plain as tree
 use Rattle.forec_tree.specs.SpelledPrograms.{IsSpelled}
-use Rattle.expr_parser.specs.Input.{max_level}
+use Rattle.forec_parser.specs.Input.{max_level}
 use Rattle.forec_check.proofs.NamesBelow.{names_below}
 use Rattle.core_rows.proofs.compiled.compiled.Goals as goal
 
