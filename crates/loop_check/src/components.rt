@@ -49,14 +49,6 @@ fn put(table: &mut [usize], f: u32, value: usize) {
     }
 }
 
-fn zeros(alloc: Global, length: usize) -> Result<Vec<usize>, OutOfMemory> {
-    let mut table = Vec::new(alloc);
-    for _ in 0..length {
-        table.push(0)?;
-    }
-    Ok(table)
-}
-
 fn call(calls: &[Vec<u32>], step: Step) -> Option<u32> {
     match calls.get(step.function as usize) {
         None => None,
@@ -71,34 +63,14 @@ impl Walk {
     fn new(alloc: Global, length: usize) -> Result<Walk, OutOfMemory> {
         Ok(Walk {
             functions: Vec::new(alloc),
-            ranks: zeros(alloc, length)?,
-            numbers: zeros(alloc, length)?,
-            lows: zeros(alloc, length)?,
+            ranks: vec![in alloc; 0; length]?,
+            numbers: vec![in alloc; 0; length]?,
+            lows: vec![in alloc; 0; length]?,
             way: Vec::new(alloc),
             open: Vec::new(alloc),
             seen: 0,
             components: 0,
         })
-    }
-
-    fn number(&self, f: u32) -> usize {
-        at(&self.numbers, f)
-    }
-
-    fn low(&self, f: u32) -> usize {
-        at(&self.lows, f)
-    }
-
-    fn is_open(&self, f: u32) -> bool {
-        at(&self.ranks, f) == 0
-    }
-
-    /// The last function on the way.
-    fn last(&self) -> Option<u32> {
-        match self.way.last() {
-            None => None,
-            Some(step) => Some(step.function),
-        }
     }
 
     /// Comes to a function for the first time.
@@ -114,18 +86,20 @@ impl Walk {
         Ok(())
     }
 
+    /// A function leads to one of this number.
     fn lower(&mut self, f: u32, low: usize) {
-        if low < self.low(f) {
+        if low < at(&self.lows, f) {
             put(&mut self.lows, f, low);
         }
     }
 
     /// Follows a call.
     fn follow(&mut self, f: u32, g: u32) -> Result<(), OutOfMemory> {
-        let number = self.number(g);
+        let number = at(&self.numbers, g);
         if number == 0 {
-            self.enter(g)?;
-        } else if self.is_open(g) {
+            return self.enter(g);
+        }
+        if at(&self.ranks, g) == 0 {
             self.lower(f, number);
         }
         Ok(())
@@ -148,34 +122,39 @@ impl Walk {
 
     /// Goes back from a function whose calls were all followed.
     fn leave(&mut self, f: u32) -> Result<(), OutOfMemory> {
-        let low = self.low(f);
-        if low == self.number(f) {
-            self.close(f)?;
-        }
-        if let Some(caller) = self.last() {
+        let low = at(&self.lows, f);
+        if let Some(step) = self.way.last() {
+            let caller = step.function;
             self.lower(caller, low);
+        }
+        if low == at(&self.numbers, f) {
+            return self.close(f);
         }
         Ok(())
     }
 
-    /// Follows the next call of the last function on the way, or goes back from it; whether there was one.
-    fn step(&mut self, calls: &[Vec<u32>]) -> Result<bool, OutOfMemory> {
-        match self.way.pop() {
-            None => Ok(false),
-            Some(step) => {
-                match call(calls, step) {
-                    None => self.leave(step.function)?,
-                    Some(g) => {
-                        self.way.push(Step {
-                            function: step.function,
-                            followed: step.followed.saturating_add(1),
-                        })?;
-                        self.follow(step.function, g)?;
-                    }
-                }
-                Ok(true)
+    /// Follows the next call of a function, which was taken from the way, or goes back from it.
+    fn step(&mut self, calls: &[Vec<u32>], step: Step) -> Result<(), OutOfMemory> {
+        let Some(g) = call(calls, step) else {
+            return self.leave(step.function);
+        };
+        self.way.push(Step {
+            function: step.function,
+            followed: step.followed.saturating_add(1),
+        })?;
+        self.follow(step.function, g)
+    }
+
+    /// Walks from a function as far as it leads, in so many steps at most.
+    fn explore(&mut self, calls: &[Vec<u32>], f: u32, most: usize) -> Result<(), OutOfMemory> {
+        self.enter(f)?;
+        for _ in 0..most {
+            match self.way.pop() {
+                None => return Ok(()),
+                Some(step) => self.step(calls, step)?,
             }
         }
+        Ok(())
     }
 }
 
@@ -197,13 +176,8 @@ pub fn find_components(
     let mut walk = Walk::new(alloc, calls.len())?;
     let most = size(functions, calls);
     for f in functions {
-        if walk.number(*f) == 0 {
-            walk.enter(*f)?;
-            for _ in 0..most {
-                if !walk.step(calls)? {
-                    break;
-                }
-            }
+        if at(&walk.numbers, *f) == 0 {
+            walk.explore(calls, *f, most)?;
         }
     }
     Ok(Components {

@@ -55,6 +55,25 @@ fn never_up(functions: &[u32], calls: &[Vec<u32>], ranks: &[usize]) -> bool
     true
 }
 
+/// A mark for each function that calls lower ones alone.
+fn falling(
+    alloc: Global,
+    functions: &[u32],
+    calls: &[Vec<u32>],
+    ranks: &[usize],
+) -> Result<Vec<bool>, OutOfMemory>
+    requires { NeverUp (callees calls.now) ranks.now }
+    ensures { IfOk result (λ marks. (g : ℕ) → slice_index_or marks.items g false ≡ true → Leads (callees calls.now) g g → ⊥) }
+{
+    let mut marks = Vec::new(alloc);
+    for f in functions {
+        if all_below(ranks, called(calls, *f), rank(ranks, *f)) {
+            mark(&mut marks, *f)?;
+        }
+    }
+    Ok(marks)
+}
+
 /// A mark for each function that a walk through the components finds alone in its own: a function
 /// that has the mark does not reach itself. Looks at each call a few times.
 pub fn acyclic(
@@ -65,15 +84,10 @@ pub fn acyclic(
     requires { FunctionsCall functions.now (callees calls.now) }
     ensures { IfOk result (λ marks. (g : ℕ) → slice_index_or marks.items g false ≡ true → Leads (callees calls.now) g g → ⊥) }
 {
-    let mut marks = Vec::new(alloc);
     let found = find_components(alloc, functions, calls)?;
-    let ranks = &found.ranks;
+    let ranks = found.ranks.as_slice();
     if never_up(functions, calls, ranks) {
-        for f in functions {
-            if all_below(ranks, called(calls, *f), rank(ranks, *f)) {
-                mark(&mut marks, *f)?;
-            }
-        }
+        return falling(alloc, functions, calls, ranks);
     }
-    Ok(marks)
+    Ok(Vec::new(alloc))
 }

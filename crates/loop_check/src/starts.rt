@@ -13,23 +13,13 @@ fn started(list: &mut Vec<u32>, s: &Stmt) -> Result<(), OutOfMemory>
     ensures { OnOk result (list.new.items ≡ list.old.items ++ pauses.started (plain.statement s.now)) }
 {
     match &s.what {
-        StmtKind::Group { body } => {
-            all_started(list, body.as_slice())?;
-            Ok(())
-        }
-        StmtKind::Call { name, .. } => {
-            list.push(name.id)?;
-            Ok(())
-        }
+        StmtKind::Group { body } => all_started(list, body.as_slice()),
+        StmtKind::Call { name, .. } => Ok(list.push(name.id)?),
         StmtKind::If { yes, no, .. } => {
             started(list, yes)?;
-            optional_started(list, no)?;
-            Ok(())
+            optional_started(list, no)
         }
-        StmtKind::While { body, .. } => {
-            started(list, body)?;
-            Ok(())
-        }
+        StmtKind::While { body, .. } => started(list, body),
         StmtKind::For {
             start,
             step,
@@ -38,17 +28,10 @@ fn started(list: &mut Vec<u32>, s: &Stmt) -> Result<(), OutOfMemory>
         } => {
             optional_started(list, start)?;
             optional_started(list, step)?;
-            started(list, body)?;
-            Ok(())
+            started(list, body)
         }
-        StmtKind::Par { branches } => {
-            branches_started(list, branches.as_slice())?;
-            Ok(())
-        }
-        StmtKind::Abort { body, .. } => {
-            all_started(list, body.as_slice())?;
-            Ok(())
-        }
+        StmtKind::Par { branches } => branches_started(list, branches.as_slice()),
+        StmtKind::Abort { body, .. } => all_started(list, body.as_slice()),
         _ => Ok(()),
     }
 }
@@ -59,10 +42,7 @@ fn optional_started(list: &mut Vec<u32>, s: &Option<Box<Stmt>>) -> Result<(), Ou
 {
     match s {
         None => Ok(()),
-        Some(inner) => {
-            started(list, inner)?;
-            Ok(())
-        }
+        Some(inner) => started(list, inner),
     }
 }
 

@@ -84,6 +84,22 @@ fn started_list(alloc: Global, item: &Item) -> Result<Vec<u32>, OutOfMemory>
     Ok(list)
 }
 
+fn add_started(
+    alloc: Global,
+    index: &Index<'_>,
+    at: usize,
+    item: &Item,
+    calls: &mut Calls,
+) -> Result<(), OutOfMemory>
+    requires { slice_get (text_of index.now) at ≡ Some (plain.plain_item item.now) }
+    ensures { OnOk result (Read started_in (take at (text_of index.now)) calls.old.functions.items (callees calls.old.lists.items)
+        → Read started_in (take (at + 1) (text_of index.now)) calls.new.functions.items (callees calls.new.lists.items)) }
+{
+    let list = started_list(alloc, item)?;
+    add_function(alloc, index, at, item, list, calls)?;
+    Ok(())
+}
+
 /// The functions of a program, and those that the statements of each one call or start.
 pub fn read_calls(alloc: Global, index: &Index<'_>) -> Result<Calls, OutOfMemory>
     ensures { IfOk result (λ calls. Read started_in (text_of index.now) calls.functions.items (callees calls.lists.items)) }
@@ -93,8 +109,7 @@ pub fn read_calls(alloc: Global, index: &Index<'_>) -> Result<Calls, OutOfMemory
         lists: Vec::new(alloc),
     };
     for (at, item) in index.items().iter().enumerate() {
-        let list = started_list(alloc, item)?;
-        add_function(alloc, index, at, item, list, &mut calls)?;
+        add_started(alloc, index, at, item, &mut calls)?;
     }
     Ok(calls)
 }
