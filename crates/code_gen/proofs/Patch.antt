@@ -7,7 +7,7 @@ use Rattle.forec_kernel.specs.Shapes.{PlainThread}
 use Rattle.thread_code.specs.declared.instruction.Instruction.{Instruction}
 use Rattle.thread_code.specs.declared.instruction.Instruction.TheVariants as instruction
 use Rattle.code_gen.specs.Expressions.{expression_code}
-use Rattle.code_gen.specs.Statements.{Around, InAbort, weaks, checks, prologue, if_code, loop_code, fork_code, enter_code, statement_code}
+use Rattle.code_gen.specs.Statements.{Around, InAbort, weaks, checks, prologue, wait_code, if_code, loop_code, fork_code, enter_code, statement_code}
 use Rattle.code_gen.proofs.Lengths.{enter_length, alike_self, alike_length}
 
 -- another element at a seam
@@ -104,46 +104,49 @@ patch_loop c0 c1 c2 c3 c4 c5 test turn body x h n end e0 e1 hn e2 e3 e4 e5 he =
     ∙ ap (λ i. c0 ++ (test ++ instruction.Zero (b + length (body b) + 1) ∷ (turn ++ (body b ++ tail i)))) e0
 
 -- a fork
-pub patch_fork : (base c1 c2 c3 c4 c5 c6 c7 c8 c9 : List Instruction) (a : Around) (j p f w g first second end : ℕ) (x1 x2 : Instruction) → f ≡ length base → c1 ≡ base ++ instruction.Fork j (f + 2) ∷ [] → first ≡ length c1 → c2 ≡ c1 ++ x1 ∷ [] → c3 ≡ c2 ++ checks a →
-    p ≡ length c3 → w ≡ p + 1 → c4 ≡ c3 ++ instruction.Pause w ∷ [] → c5 ≡ c4 ++ prologue (length c4) a → g ≡ length c5 → c6 ≡ c5 ++ instruction.Again j (g + 2) ∷ [] → second ≡ length c6 → c7 ≡ c6 ++ x2 ∷ [] → c8 ≡ c7 ++ checks a → c9 ≡ c8 ++ instruction.Pause w ∷ [] → end ≡ length c9 →
-    slice_set (slice_set c9 first (instruction.Jump end)) second (instruction.Jump end) ≡ base ++ fork_code j (length base) a
-patch_fork base c1 c2 c3 c4 c5 c6 c7 c8 c9 a j p f w g first second end x1 x2 hf e1 h1 e2 e3 hp hw e4 e5 hg e6 h2 e7 e8 e9 he =
+pub patch_fork : (base c1 c2 c3 c4 c5 c6 c7 : List Instruction) (a : Around) (j f w g first second end : ℕ) (x1 x2 : Instruction) → f ≡ length base → c1 ≡ base ++ instruction.Fork j (f + 2) ∷ [] → first ≡ length c1 → c2 ≡ c1 ++ x1 ∷ [] → c3 ≡ c2 ++ wait_code (length c2) a →
+    w ≡ length c2 + length (checks a) + 1 → g ≡ length c3 → c4 ≡ c3 ++ instruction.Again j (g + 2) ∷ [] → second ≡ length c4 → c5 ≡ c4 ++ x2 ∷ [] → c6 ≡ c5 ++ checks a → c7 ≡ c6 ++ instruction.Pause w ∷ [] → end ≡ length c7 →
+    slice_set (slice_set c7 first (instruction.Jump end)) second (instruction.Jump end) ≡ base ++ fork_code j (length base) a
+patch_fork base c1 c2 c3 c4 c5 c6 c7 a j f w g first second end x1 x2 hf e1 h1 e2 e3 hw hg e4 h2 e5 e6 e7 he =
     let q = length base in
     let ch = checks a in
     let c = length ch in
     let wake = q + 1 + 1 + c + 1 in
-    let pr = prologue (length c4) a in
+    let z = length c2 + length ch + 1 in
+    let pr = prologue z a in
+    let wait = ch ++ instruction.Pause z ∷ pr in
     let l1 = ap (λ l. length l) e1 ∙ length-append base (instruction.Fork j (f + 2) ∷ []) in
     let l2 = ap (λ l. length l) e2 ∙ length-append c1 (x1 ∷ []) in
-    let l3 = ap (λ l. length l) e3 ∙ length-append c2 ch in
-    let l4 = ap (λ l. length l) e4 ∙ length-append c3 (instruction.Pause w ∷ []) in
-    let l5 = ap (λ l. length l) e5 ∙ length-append c4 pr in
-    let l6 = ap (λ l. length l) e6 ∙ length-append c5 (instruction.Again j (g + 2) ∷ []) in
-    let l7 = ap (λ l. length l) e7 ∙ length-append c6 (x2 ∷ []) in
-    let l8 = ap (λ l. length l) e8 ∙ length-append c7 ch in
-    let l9 = ap (λ l. length l) e9 ∙ length-append c8 (instruction.Pause w ∷ []) in
-    let here : length c4 ≡ wake = omega (arith, l1, l2, l3, l4) in
+    let l3 = ap (λ l. length l) e3 ∙ length-append c2 wait in
+    let lw = length-append ch (instruction.Pause z ∷ pr) in
+    let l4 = ap (λ l. length l) e4 ∙ length-append c3 (instruction.Again j (g + 2) ∷ []) in
+    let l5 = ap (λ l. length l) e5 ∙ length-append c4 (x2 ∷ []) in
+    let l6 = ap (λ l. length l) e6 ∙ length-append c5 ch in
+    let l7 = ap (λ l. length l) e7 ∙ length-append c6 (instruction.Pause w ∷ []) in
+    let here : z ≡ wake = omega (arith, l1, l2) in
     let lp : length pr ≡ length (prologue wake a) = ap (λ i. length (prologue i a)) here in
     let to1 : f + 2 ≡ q + 1 + 1 = omega (arith, hf) in
-    let w' : w ≡ wake = omega (arith, hw, hp, l1, l2, l3) in
-    let g' : g ≡ wake + length (prologue wake a) = omega (arith, hg, l5, here, lp) in
+    let w' : w ≡ wake = hw ∙ here in
+    let g' : g ≡ wake + length (prologue wake a) = omega (arith, hg, l3, lw, here, lp) in
     let to2 : g + 2 ≡ wake + length (prologue wake a) + 1 + 1 = omega (arith, g') in
-    let out : end ≡ wake + length (prologue wake a) + 1 + 1 + c + 1 = omega (arith, he, l9, l8, l7, l6, l5, here, lp) in
+    let out : end ≡ wake + length (prologue wake a) + 1 + 1 + c + 1 = omega (arith, he, l7, l6, l5, l4, l3, lw, here, lp) in
     let pause = instruction.Pause w ∷ [] in
     let fork = instruction.Fork j (f + 2) in
     let again = instruction.Again j (g + 2) in
     let jump = instruction.Jump end in
-    let all : c9 ≡ (((((((c1 ++ x1 ∷ []) ++ ch) ++ pause) ++ pr) ++ again ∷ []) ++ x2 ∷ []) ++ ch) ++ pause =
-    e9 ∙ ap (λ l. l ++ pause) (e8 ∙ ap (λ l. l ++ ch) (e7 ∙ ap (λ l. l ++ x2 ∷ []) (e6 ∙ ap (λ l. l ++ again ∷ []) (e5 ∙ ap (λ l. l ++ pr) (e4 ∙ ap (λ l. l ++ pause) (e3 ∙ ap (λ l. l ++ ch) e2)))))) in
+    let same : wait ≡ ch ++ instruction.Pause w ∷ pr = ap (λ i. ch ++ instruction.Pause i ∷ pr) (sym hw) in
+    let waited : c3 ≡ ((c2 ++ ch) ++ pause) ++ pr = e3 ∙ ap (λ l. c2 ++ l) same ∙ sym (append_assoc c2 ch (instruction.Pause w ∷ pr)) ∙ sym (append_assoc (c2 ++ ch) pause pr) in
+    let all : c7 ≡ (((((((c1 ++ x1 ∷ []) ++ ch) ++ pause) ++ pr) ++ again ∷ []) ++ x2 ∷ []) ++ ch) ++ pause =
+    e7 ∙ ap (λ l. l ++ pause) (e6 ∙ ap (λ l. l ++ ch) (e5 ∙ ap (λ l. l ++ x2 ∷ []) (e4 ∙ ap (λ l. l ++ again ∷ []) (waited ∙ ap (λ l. ((l ++ ch) ++ pause) ++ pr) e2)))) in
     let before = ch ++ instruction.Pause w ∷ (pr ++ again ∷ []) in
     let flat : (((((((c1 ++ x1 ∷ []) ++ ch) ++ pause) ++ pr) ++ again ∷ []) ++ x2 ∷ []) ++ ch) ++ pause ≡ c1 ++ x1 ∷ (before ++ x2 ∷ (ch ++ pause)) = simp append_assoc in
-    let once = set_at c9 c1 (before ++ x2 ∷ (ch ++ pause)) x1 jump first (all ∙ flat) h1 in
+    let once = set_at c7 c1 (before ++ x2 ∷ (ch ++ pause)) x1 jump first (all ∙ flat) h1 in
     let apart : c1 ++ jump ∷ (before ++ x2 ∷ (ch ++ pause)) ≡ (c1 ++ jump ∷ before) ++ x2 ∷ (ch ++ pause) = sym (append_assoc c1 (jump ∷ before) (x2 ∷ (ch ++ pause))) in
     let lb : length before ≡ c + 1 + length pr + 1 = omega (arith, length-append ch (instruction.Pause w ∷ (pr ++ again ∷ [])), length-append pr (again ∷ [])) in
-    let long : second ≡ length (c1 ++ jump ∷ before) = omega (arith, h2, l6, l5, l4, l3, l2, lb, length-append c1 (jump ∷ before)) in
+    let long : second ≡ length (c1 ++ jump ∷ before) = omega (arith, h2, l4, l3, lw, l2, lb, length-append c1 (jump ∷ before)) in
     let whole = λ (to1 to2 w end : ℕ) (pr : List Instruction). instruction.Fork j to1 ∷ instruction.Jump end ∷ (ch ++ instruction.Pause w ∷ (pr ++ instruction.Again j to2 ∷ instruction.Jump end ∷ (ch ++ instruction.Pause w ∷ []))) in
     let together : (((base ++ fork ∷ []) ++ jump ∷ before) ++ jump ∷ (ch ++ pause)) ≡ base ++ whole (f + 2) (g + 2) w end pr = simp append_assoc in
-    set_at (slice_set c9 first jump) (c1 ++ jump ∷ before) (ch ++ pause) x2 jump second (once ∙ apart) long
+    set_at (slice_set c7 first jump) (c1 ++ jump ∷ before) (ch ++ pause) x2 jump second (once ∙ apart) long
     ∙ ap (λ l. (l ++ jump ∷ before) ++ jump ∷ (ch ++ pause)) e1
     ∙ together
     ∙ ap (λ i. base ++ whole i (g + 2) w end pr) to1

@@ -52,6 +52,12 @@ prologue w (InAbort weak e x a) =
     let outer = prologue w a in
     outer ++ (expression_code (w + length outer) e ++ guard weak (weaks a) x ∷ [])
 
+-- out of weak aborts, else the pause, and what is done at each wake
+abbrev pub wait_code : ℕ → Around → List Instruction
+wait_code p a =
+    let w = p + length (checks a) + 1 in
+    checks a ++ instruction.Pause w ∷ prologue w a
+
 abbrev pub pause_code : ℕ → Around → List Instruction
 pause_code p a =
     let w = p + 1 + length (checks a) + 1 in

@@ -14,4 +14,3 @@ mod statements;
 mod writing;
 
 pub use generator::generate;
-

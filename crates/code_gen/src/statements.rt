@@ -5,7 +5,7 @@ ghost use Rattle.forec_kernel.specs.Plain.{expr, exprs, stmt, stmts, branch};
 ghost use Rattle.forec_kernel.specs.Shapes.{plain_thread};
 ghost use Rattle.forec_kernel.specs.Terms.{While, Enter};
 ghost use Rattle.code_gen.specs.Expressions.{expression_code};
-ghost use Rattle.code_gen.specs.Statements.{loops, weaks, checks, prologue, pause_code, fork_code, set_code, loop_code, enter_code, par_number, arguments_code, statement_code, statements_code};
+ghost use Rattle.code_gen.specs.Statements.{loops, weaks, checks, prologue, wait_code, pause_code, fork_code, set_code, loop_code, enter_code, par_number, arguments_code, statement_code, statements_code};
 ghost use Rattle.code_gen.specs.Arounds.{plain_around, perhaps};
 
 use crate::expressions::{emit_expression, emit_expressions};
@@ -124,6 +124,26 @@ fn emit_prologue(
     }
 }
 
+// Out of a weak abort whose flag is set, else a pause, and what is done at its wakes. The result is the
+// address at which a wake goes on.
+fn emit_wait(
+    steps: &mut Vec<Instruction>,
+    around: &Around<'_>,
+    counters: u32,
+    flags: u32,
+) -> Result<u32, OutOfMemory>
+    requires counters { counters ≡ loops (plain_around around.now) }
+    requires flags { flags ≡ weaks (plain_around around.now) }
+    ensures code { OnOk result (steps.new.items ≡ steps.old.items ++ wait_code (length steps.old.items) (plain_around around.now)) }
+    ensures at { IfOk result (λ w. w ≡ length steps.old.items + length (checks (plain_around around.now)) + 1) }
+{
+    emit_checks(steps, around, flags)?;
+    let wake = address(steps)? + 1;
+    put(steps, Instruction::Pause { to: wake })?;
+    emit_prologue(steps, around, counters, flags)?;
+    Ok(wake)
+}
+
 fn emit_pause(
     steps: &mut Vec<Instruction>,
     around: &Around<'_>,
@@ -135,10 +155,8 @@ fn emit_pause(
     ensures { OnOk result (steps.new.items ≡ steps.old.items ++ pause_code (length steps.old.items) (plain_around around.now)) }
 {
     put(steps, Instruction::Unit { count: 1 })?;
-    emit_checks(steps, around, flags)?;
-    let pause = address(steps)?;
-    put(steps, Instruction::Pause { to: pause + 1 })?;
-    emit_prologue(steps, around, counters, flags)
+    emit_wait(steps, around, counters, flags)?;
+    Ok(())
 }
 
 // A fork whose arguments are on the stack. Where a branch has not ended the thread pauses, and at its
@@ -158,16 +176,13 @@ fn emit_fork(
     put(steps, Instruction::Fork { par, to: fork + 2 })?;
     let first = steps.len();
     put(steps, Instruction::Jump { to: 0 })?;
-    emit_checks(steps, around, flags)?;
-    let pause = address(steps)?;
-    put(steps, Instruction::Pause { to: pause + 1 })?;
-    emit_prologue(steps, around, counters, flags)?;
+    let wake = emit_wait(steps, around, counters, flags)?;
     let again = address(steps)?;
     put(steps, Instruction::Again { par, to: again + 2 })?;
     let second = steps.len();
     put(steps, Instruction::Jump { to: 0 })?;
     emit_checks(steps, around, flags)?;
-    put(steps, Instruction::Pause { to: pause + 1 })?;
+    put(steps, Instruction::Pause { to: wake })?;
     let end = address(steps)?;
     steps[first] = Instruction::Jump { to: end };
     steps[second] = Instruction::Jump { to: end };
