@@ -11,6 +11,8 @@ use Rattle.forec_kernel.specs.declared.shape.Outcome.{Outcome}
 use Rattle.forec_kernel.specs.declared.shape.Outcome.TheVariants as outcome
 use Rattle.running_texts.specs.declared.meter.Halt.{Halt}
 use Rattle.running_texts.specs.declared.meter.Halt.TheVariants.{Trapped, Over, OutOfMemory}
+use Rattle.kernel_meaning.specs.Moving.{IsMoved}
+use Rattle.kernel_meaning.specs.declared.moving.Step.{Step}
 use Rattle.kernel_meaning.specs.declared.ticks.Main.{Main}
 use Rattle.kernel_meaning.specs.declared.ticks.State.{State}
 use Rattle.running_texts.specs.Views.{text, standing}
@@ -72,6 +74,11 @@ abbrev pub after_move : Thread → Move → Going
 after_move t m = record { thread = thread_after t m; units = units_of m }
 
 -- a step of thread 0 along some path
+pub record StepsAlong (k : PlainKernel) (main : Main) (old new : ℕ) (result : Result Step Halt) : Type 0 where
+  pub path : Path
+  pub is : IsMoved old new result (thread_move k path (main_thread main))
+
+-- thread 0 after a step along some path
 pub record Advances (k : PlainKernel) (main : Main) (old new : ℕ) (result : Result Main Halt) : Type 0 where
   pub path : Path
   pub is : IsMain old new result (after_move (main_thread main) (thread_move k path (main_thread main)))

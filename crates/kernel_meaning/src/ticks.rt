@@ -4,11 +4,12 @@ ghost use Rattle.std.specs.Prelude.{◌≡◌, ◌<◌, ◌+◌, ◌≤◌, ℕ,
 ghost use Rattle.forec_kernel.specs.Shapes.{PlainKernel, plain_kernel};
 ghost use Rattle.forec_kernel.specs.Texts as plain;
 ghost use Rattle.forec_kernel.specs.Texts.{uses_of, is_running};
-ghost use Rattle.forec_kernel.specs.Steps.{thread_move};
+ghost use Rattle.forec_kernel.specs.Steps.{Move, thread_move};
 ghost use Rattle.forec_kernel.specs.Ticks as ticks;
 ghost use Rattle.forec_kernel.specs.Ticks.{begin, start_copies, unmarked, with_row, values_of, outcome_of, tick};
 ghost use Rattle.running_texts.specs.Views.{text, standing};
-ghost use Rattle.kernel_meaning.specs.States.{plain_state, main_thread, IsMain, Advances, GoesOn, after_move, told, is_told};
+ghost use Rattle.kernel_meaning.specs.Moving.{IsMoved};
+ghost use Rattle.kernel_meaning.specs.States.{plain_state, main_thread, IsMain, StepsAlong, Advances, GoesOn, after_move, told, is_told};
 
 use crate::moving::{Step, set_copy};
 use crate::orders::{add_path, steppable};
@@ -170,18 +171,18 @@ fn standing_as(main: Main, status: Status) -> Main
     }
 }
 
-// Thread 0 after a step along a path.
-fn step_main(
+// A step of thread 0 along a path.
+fn step_along(
     alloc: Global,
     kernel: &KernelParts,
     path: &[u32],
-    main: Main,
+    main: &Main,
     left: &mut u64,
-) -> Result<Main, Halt>
-    ensures { IsMain left.old left.new result (after_move (main_thread main) (thread_move (plain_kernel kernel.now) path.now (main_thread main))) }
+) -> Result<Step, Halt>
+    ensures { IsMoved left.old left.new result (thread_move (plain_kernel kernel.now) path.now (main_thread main.now)) }
 {
     let uses = thread_uses(kernel, 0);
-    match text_step(
+    text_step(
         alloc,
         kernel,
         path,
@@ -190,7 +191,14 @@ fn step_main(
         &main.copies,
         &main.text,
         left,
-    ) {
+    )
+}
+
+// Thread 0 after a step.
+fn after_step(main: Main, step: Result<Step, Halt>) -> Result<Main, Halt>
+    ensures { (old new : ℕ) (m : Move) → IsMoved old new step m → IsMain old new result (after_move (main_thread main) m) }
+{
+    match step {
         Ok(Step::Finished) => Ok(standing_as(main, Status::Ended)),
         Ok(Step::Halts) => Ok(standing_as(main, Status::Paused)),
         Ok(
@@ -224,7 +232,24 @@ fn next_path(alloc: Global, order: &[u32], at: usize, from: &Text) -> Result<Vec
     Ok(path)
 }
 
-// The next step of thread 0.
+// The next step of thread 0, along the path that the order picks.
+fn next_step(
+    alloc: Global,
+    kernel: &KernelParts,
+    order: &[u32],
+    at: usize,
+    main: &Main,
+    left: &mut u64,
+) -> Result<Step, Halt>
+    ensures { StepsAlong (plain_kernel kernel.now) main.now left.old left.new result }
+{
+    match next_path(alloc, order, at, &main.text) {
+        Ok(path) => step_along(alloc, kernel, &path, main, left),
+        Err(_) => Err(Halt::OutOfMemory),
+    }
+}
+
+// Thread 0 after its next step.
 fn advance(
     alloc: Global,
     kernel: &KernelParts,
@@ -235,10 +260,8 @@ fn advance(
 ) -> Result<Main, Halt>
     ensures { Advances (plain_kernel kernel.now) main left.old left.new result }
 {
-    match next_path(alloc, order, at, &main.text) {
-        Ok(path) => step_main(alloc, kernel, &path, main, left),
-        Err(_) => Err(Halt::OutOfMemory),
-    }
+    let step = next_step(alloc, kernel, order, at, &main, left);
+    after_step(main, step)
 }
 
 // Steps that cost nothing, up to one that costs units or to the end.
