@@ -98,6 +98,24 @@ fn assign_at(
     })
 }
 
+/// An element is assigned, by the expression of its index.
+fn assign_element(
+    alloc: Global,
+    globals: &Globals<'_>,
+    scope: &Scope,
+    to: Stands,
+    op: Option<OpAt>,
+    at: &Expr,
+    value: Expression,
+    place: Place,
+) -> Result<Statement, OutOfMemory>
+    ensures { IfOk result (λ k. kernel.stmt k ≡ lowering.assign_at to op (lowering.lower_term (text_of globals.now.index) (seen scope.now) (plain.term at.now)) (kernel.expr value) place) }
+{
+    let index = lower_term(alloc, globals, scope, at)?;
+    let again = lower_term(alloc, globals, scope, at)?;
+    assign_at(alloc, to, op, index, again, value, place)
+}
+
 /// An assignment.
 pub fn assign(
     alloc: Global,
@@ -114,11 +132,7 @@ pub fn assign(
     let to = stands(globals, scope, target.name.id);
     match &target.index {
         None => assign_to(alloc, to, op, value),
-        Some(at) => {
-            let index = lower_term(alloc, globals, scope, at)?;
-            let again = lower_term(alloc, globals, scope, at)?;
-            assign_at(alloc, to, op, index, again, value, target.name.place)
-        }
+        Some(at) => assign_element(alloc, globals, scope, to, op, at, value, target.name.place),
     }
 }
 

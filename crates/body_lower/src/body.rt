@@ -15,7 +15,7 @@ ghost use Rattle.body_lower.specs.Views.{OneText, seen, Kept, Same, next_of, cal
 
 use crate::assign::{assign, lower_locals, set_params};
 use crate::loops::{after_start, bound_of, optional_test, or_inferred, then_step};
-use crate::parts::{boxed, count, sequence, sum};
+use crate::parts::{boxed, choice, count, sequence, sum};
 use crate::source::Source;
 use crate::state::State;
 use crate::term::{lower_term, lower_terms};
@@ -178,9 +178,8 @@ fn either(
     let test = lower_term(alloc, &source.globals, &state.scope, test)?;
     let yes = inner(alloc, source, deep, fuel, owner, state, yes)?;
     let no = optional_inner(alloc, source, deep, fuel, owner, state, no)?;
-    let yes = boxed(alloc, yes)?;
-    let no = boxed(alloc, no)?;
-    Ok(Statement::If { test, yes, no })
+    let k = choice(alloc, test, yes, no)?;
+    Ok(k)
 }
 
 /// A `while`.

@@ -2,6 +2,7 @@
 
 ghost use Rattle.std.specs.Prelude.{◌≡◌, ◌+◌, map, IfOk};
 ghost use Rattle.forec_kernel.specs.Plain as kernel;
+ghost use Rattle.forec_kernel.specs.Terms as terms;
 ghost use Rattle.text_kernel.specs.Lowering as lowering;
 
 use forec_base::OutOfMemory;
@@ -63,6 +64,20 @@ pub fn both(alloc: Global, first: Statement, second: Statement) -> Result<Statem
     list.push(first)?;
     list.push(second)?;
     Ok(Statement::Sequence { list })
+}
+
+/// A choice between two statements.
+pub fn choice(
+    alloc: Global,
+    test: Expression,
+    yes: Statement,
+    no: Statement,
+) -> Result<Statement, OutOfMemory>
+    ensures { IfOk result (λ k. kernel.stmt k ≡ terms.If (kernel.expr test) (kernel.stmt yes) (kernel.stmt no)) }
+{
+    let yes = boxed(alloc, yes)?;
+    let no = boxed(alloc, no)?;
+    Ok(Statement::If { test, yes, no })
 }
 
 /// A count of 32 bits.

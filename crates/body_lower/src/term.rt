@@ -8,21 +8,13 @@ ghost use Rattle.loop_check.specs.Views.{text_of};
 ghost use Rattle.body_lower.specs.Views.{seen};
 
 use crate::globals::Globals;
+use crate::parts::boxed_term;
 use crate::scope::Scope;
 use forec_base::{Binary, OutOfMemory, Place};
 use forec_kernel::Expression;
 use forec_tree::{Expr, ExprKind};
 use std::alloc::Global;
 use text_kernel::{Stands, slot_stands};
-
-fn boxed(alloc: Global, e: Expression) -> Result<Box<Expression>, OutOfMemory>
-    ensures { IfOk result (λ b. b.value ≡ e) }
-{
-    match Box::new(alloc, e) {
-        Ok(b) => Ok(b),
-        Err(_) => Err(OutOfMemory),
-    }
-}
 
 /// The place of an operator that can trap.
 pub fn place_if(op: Binary, place: Place) -> Option<Place>
@@ -64,7 +56,7 @@ pub fn element_as(
 ) -> Result<Expression, OutOfMemory>
     ensures { IfOk result (λ e. kernel.expr e ≡ lowering.element_as stands (kernel.expr index) place) }
 {
-    let index = boxed(alloc, index)?;
+    let index = boxed_term(alloc, index)?;
     Ok(match stands {
         Stands::AtSlots { slot, size } => Expression::LocalAt {
             slot,
@@ -104,48 +96,35 @@ pub fn lower_term(
             element_as(alloc, to, index, name.place)
         }
         ExprKind::Unary { op, of } => {
-            let of = lower_term(alloc, globals, scope, of)?;
-            Ok(Expression::Unary {
-                op: *op,
-                of: boxed(alloc, of)?,
-            })
+            let of = lower_boxed(alloc, globals, scope, of)?;
+            Ok(Expression::Unary { op: *op, of })
         }
         ExprKind::Binary { op, left, right } => {
-            let left = lower_term(alloc, globals, scope, left)?;
-            let right = lower_term(alloc, globals, scope, right)?;
+            let left = lower_boxed(alloc, globals, scope, left)?;
+            let right = lower_boxed(alloc, globals, scope, right)?;
             let place = place_if(*op, e.place);
             Ok(Expression::Binary {
                 op: *op,
-                left: boxed(alloc, left)?,
-                right: boxed(alloc, right)?,
+                left,
+                right,
                 place,
             })
         }
         ExprKind::And { left, right } => {
-            let left = lower_term(alloc, globals, scope, left)?;
-            let right = lower_term(alloc, globals, scope, right)?;
-            Ok(Expression::And {
-                left: boxed(alloc, left)?,
-                right: boxed(alloc, right)?,
-            })
+            let left = lower_boxed(alloc, globals, scope, left)?;
+            let right = lower_boxed(alloc, globals, scope, right)?;
+            Ok(Expression::And { left, right })
         }
         ExprKind::Or { left, right } => {
-            let left = lower_term(alloc, globals, scope, left)?;
-            let right = lower_term(alloc, globals, scope, right)?;
-            Ok(Expression::Or {
-                left: boxed(alloc, left)?,
-                right: boxed(alloc, right)?,
-            })
+            let left = lower_boxed(alloc, globals, scope, left)?;
+            let right = lower_boxed(alloc, globals, scope, right)?;
+            Ok(Expression::Or { left, right })
         }
         ExprKind::Choose { test, yes, no } => {
-            let test = lower_term(alloc, globals, scope, test)?;
-            let yes = lower_term(alloc, globals, scope, yes)?;
-            let no = lower_term(alloc, globals, scope, no)?;
-            Ok(Expression::Choose {
-                test: boxed(alloc, test)?,
-                yes: boxed(alloc, yes)?,
-                no: boxed(alloc, no)?,
-            })
+            let test = lower_boxed(alloc, globals, scope, test)?;
+            let yes = lower_boxed(alloc, globals, scope, yes)?;
+            let no = lower_boxed(alloc, globals, scope, no)?;
+            Ok(Expression::Choose { test, yes, no })
         }
         ExprKind::Call { name, args } => {
             let args = lower_terms(alloc, globals, scope, args.as_slice())?;
@@ -155,6 +134,20 @@ pub fn lower_term(
             })
         }
     }
+}
+
+/// The expression of the kernel, in a box.
+#[cycle(term)]
+fn lower_boxed(
+    alloc: Global,
+    globals: &Globals<'_>,
+    scope: &Scope,
+    e: &Expr,
+) -> Result<Box<Expression>, OutOfMemory>
+    ensures { IfOk result (λ b. kernel.expr b.value ≡ lowering.lower_term (text_of globals.now.index) (seen scope.now) (plain.term e.now)) }
+{
+    let term = lower_term(alloc, globals, scope, e)?;
+    boxed_term(alloc, term)
 }
 
 /// The expressions of a list, in order.
