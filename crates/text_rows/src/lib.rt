@@ -1,8 +1,6 @@
-//! Tests of the parser and of the check: the trees of tokens, and programs that are accepted or refused.
+//! Tests of the way from a text to a checked program: stores in memory, tokens, trees, loops, faults.
 #![tactic(auto)]
 
-#[cfg(test)]
-mod base;
 #[cfg(test)]
 mod checked;
 #[cfg(test)]
@@ -11,3 +9,5 @@ mod lexed;
 mod loops;
 #[cfg(test)]
 mod parsed;
+#[cfg(test)]
+mod stores;

@@ -3,7 +3,7 @@ use Rattle.forec_tree.specs.Terms.{Text}
 use Rattle.forec_tree.specs.Plain.{plain_item}
 use Rattle.forec_tree.specs.Pauses.{starts}
 use Rattle.forec_tree.specs.Faults.{Leads, at_once, through}
-use Rattle.text_rows.proofs.loops.certain_pauses.Goals as goal
+use Rattle.text_rows.proofs.loops.judged.Goals as goal
 
 none_lead : {f g : ℕ} → Leads (starts []) f g → ⊥
 none_lead (at_once e) = let q : false ≡ true = e in cc
