@@ -16,12 +16,19 @@ use forec_kernel::Statement;
 use forec_tree::Name;
 use text_kernel::Slot;
 
+/// The number of the next thread below.
+fn next_thread(state: &State) -> Result<u32, OutOfMemory>
+    ensures { IfOk result (λ n. n ≡ (next_of state.now).thread) }
+{
+    sum(count(state.threads.len())?, 1)
+}
+
 /// Begins a thread below, whose text is to come; the answer is its number.
 pub fn begin(state: &mut State) -> Result<u32, OutOfMemory>
     ensures number { IfOk result (λ n. n ≡ (next_of state.old).thread) }
     ensures begun { OnOk result (Begins state.old state.new) }
 {
-    let number = sum(count(state.threads.len())?, 1)?;
+    let number = next_thread(state)?;
     state.threads.push(Thread {
         parent: 0,
         par: 0,
@@ -57,7 +64,7 @@ pub fn finish(
       body = kernel.stmt body;
     }) number slot state.old state.new) }
 {
-    let behind = sum(count(state.threads.len())?, 1)?;
+    let behind = next_thread(state)?;
     let words = state.slot;
     state.threads[number as usize - 1] = Thread {
         parent,
