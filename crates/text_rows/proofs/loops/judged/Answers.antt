@@ -10,4 +10,4 @@ none_lead (at_once e) = let q : false ≡ true = e in cc
 none_lead (through e r) = let q : false ≡ true = e in cc
 
 pub certain-requires : goal.certain-requires
-certain-requires g c = λ f l. none_lead (subst (λ (t : Text). Leads (starts t) f f) (ap (map plain_item) c.nothing-program.ensures) l)
+certain-requires c = λ f l. none_lead (subst (λ (t : Text). Leads (starts t) f f) (ap (map plain_item) c.nothing-program.ensures) l)
