@@ -26,10 +26,9 @@ fn makes_a_blank_packet(rt: HostRuntime) -> Result<(), Fail> {
 fn combines_new_values(rt: HostRuntime) -> Result<(), Fail> {
     let mut joining = Joining::new(rt.alloc(), 1)?;
     joining.begin(&[unmarked(1)]);
-    let same = joining.offer(0, Policy::New, unmarked(1));
-    let first = joining.offer(0, Policy::New, unmarked(4));
-    let second = joining.offer(0, Policy::New, unmarked(6));
-    assert_eq!(rt; (same, first, second), (None, None, Some((4, 6))));
+    assert_eq!(rt; joining.offer(0, Policy::New, unmarked(1)), None);
+    assert_eq!(rt; joining.offer(0, Policy::New, unmarked(4)), None);
+    assert_eq!(rt; joining.offer(0, Policy::New, unmarked(6)), Some((4, 6)));
     joining.fold(0, 10);
     assert_eq!(rt; joining.result(0), unmarked(10));
     Ok(())

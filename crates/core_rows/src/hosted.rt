@@ -155,28 +155,36 @@ fn run_tick(
     }
 }
 
-/// Runs the ticks of a program.
-fn goes_so(rt: &impl Abort, alloc: Global, run: &Run) -> Result<(), Fail> {
+/// Runs ticks as long as they go as told: whether all of them did, and the host lives on where the last one paused.
+fn goes_so(host: &mut Host<'_, LocalPort<ForecWork>>, code: &Code, ticks: &[Tick]) -> bool
+    requires whole { IsWhole host.old }
+    requires code { host.old.code ≡ code.now }
+{
+    let mut pauses = true;
+    for (input, budget, ends, output) in ticks {
+        if !host.live() || run_tick(host, code, *input, *budget) != Some((*ends, *output)) {
+            return false;
+        }
+        pauses = *ends == Outcome::Paused;
+    }
+    host.live() == pauses
+}
+
+/// Runs a program on the cores of its threads.
+fn runs_so(rt: &impl Abort, alloc: Global, run: &Run) -> Result<(), Fail> {
     assert!(rt; run.text.len() <= 1000);
     let code = compiled(alloc, run.text)?;
     let threads = u32::try_from(code.parts().threads.len())?;
     let placement = given(alloc, run.places, threads, 3)?;
     let mut host = hosted(alloc, &code, &placement)?;
-    let mut outcome = Outcome::Paused;
-    for (input, budget, ends, output) in run.ticks {
-        assert!(rt; host.live());
-        let found = run_tick(&mut host, &code, *input, *budget);
-        assert_eq!(rt; found, Some((*ends, *output)));
-        outcome = *ends;
-    }
-    assert_eq!(rt; host.live(), outcome == Outcome::Paused);
+    assert!(rt; goes_so(&mut host, &code, run.ticks));
     Ok(())
 }
 
 #[test]
 fn ticks_of_placed_threads(rt: HostRuntime) -> Result<(), Fail> {
     for run in &RUNS {
-        goes_so(&rt, rt.alloc(), run)?;
+        runs_so(&rt, rt.alloc(), run)?;
     }
     Ok(())
 }

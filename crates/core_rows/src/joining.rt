@@ -385,20 +385,27 @@ fn asks_and_wakes(rt: HostRuntime) -> Result<(), Fail> {
     let mut job = packet_of(rt.alloc(), &START)?;
     let ends = packet_of(rt.alloc(), &TEN)?;
     let held = packet_of(rt.alloc(), &PAUSED)?;
-    assert!(rt; begins(&mut thread, &code, &packet) && comes_to_fork(&mut thread, &code));
+    if !begins(&mut thread, &code, &packet) || !comes_to_fork(&mut thread, &code) {
+        panic!(rt; "no fork");
+    }
     for k in 0..3 {
         let asked = ask(&thread, &code, k, &mut job);
         assert_eq!(rt; asked, Some((k as u32 + 1, START, 99)));
     }
-    assert!(rt; play(&mut thread, &code, &ends, &held, &ends));
-    assert!(rt; pauses(&mut thread, &code, &mut packet));
+    if !play(&mut thread, &code, &ends, &held, &ends) || !pauses(&mut thread, &code, &mut packet) {
+        panic!(rt; "no pause");
+    }
     wakes(&mut thread, &code, &mut packet);
-    assert!(rt; comes_to_fork(&mut thread, &code));
+    if !comes_to_fork(&mut thread, &code) {
+        panic!(rt; "no held fork");
+    }
     let woken = (PacketKind::Wake, [(0, false), (0, false), (7, false)], 0);
     let asked = ask(&thread, &code, 0, &mut job);
     assert_eq!(rt; asked, Some((2, woken, 50)));
     assert!(rt; ask(&thread, &code, 1, &mut job).is_none());
-    assert!(rt; play_one(&mut thread, &code, &ends));
+    if !play_one(&mut thread, &code, &ends) {
+        panic!(rt; "no reply");
+    }
     let event = replies(&mut thread, &code, &mut packet);
     assert_eq!(rt; event, Some(Event::Ended));
     Ok(())
