@@ -7,7 +7,7 @@ ghost use Rattle.std.specs.Prelude.{◌≡◌, ◌∷◌, [], Some, map, IfOk, O
 ghost use Rattle.forec_tree.specs.Plain as plain;
 ghost use Rattle.forec_tree.specs.Terms as tree;
 ghost use Rattle.forec_tree.specs.Turns.{inferred};
-ghost use Rattle.forec_tree.proofs.Rows.{perhaps_of};
+ghost use Rattle.forec_tree.specs.Plain.{perhaps_of};
 ghost use Rattle.forec_kernel.specs.Plain as kernel;
 ghost use Rattle.loop_check.specs.Views.{text_of};
 ghost use Rattle.text_kernel.specs.Lowering as lowering;

@@ -4,6 +4,7 @@
 
 mod arithmetic;
 mod labels;
+mod limits;
 mod memory;
 mod named;
 mod operators;
@@ -11,6 +12,11 @@ mod outside;
 
 pub use arithmetic::{binary, unary};
 pub use labels::{Labels, OutOfMemory};
+pub use limits::{
+    MAX_ARRAY_LENGTH, MAX_BUDGET, MAX_CORES, MAX_DEPTH, MAX_FUNCTIONS, MAX_GLOBALS, MAX_INPUTS,
+    MAX_LEVEL, MAX_LINE_BYTES, MAX_NAME_BYTES, MAX_OUTPUTS, MAX_PARAMS, MAX_ROWS, MAX_TABLE_WORDS,
+    MAX_TERMS, MAX_TEXT_BYTES, MAX_THREADS, MAX_TOKENS, MAX_TURNS, MAX_WORDS,
+};
 pub use memory::{MemSink, MemSource, MemTexts, NullSink, OpenGate, SureSource, SureTexts};
 pub use named::NamedText;
 pub use operators::{Binary, Unary};

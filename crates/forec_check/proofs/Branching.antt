@@ -19,7 +19,8 @@ use Rattle.forec_tree.specs.declared.uses.How.TheVariants.{Starts}
 use Rattle.forec_tree.specs.Plain.{term, terms, optional_term, statement, statements, statement_at, statement_row, branches, branch_with}
 use Rattle.forec_tree.specs.Findings.{Finding, Loop, Opens, Closes, use_at, in_bound, in_terms, in_optional, in_statement, in_statements, in_perhaps, in_branches}
 use Rattle.forec_tree.specs.Rules.{Judging}
-use Rattle.forec_tree.proofs.Rows.{perhaps_of, branch-group}
+use Rattle.forec_tree.proofs.Rows.{branch-group}
+use Rattle.forec_tree.specs.Plain.{perhaps_of}
 use Rattle.forec_check.specs.Walk.{Gathered, walked}
 use Rattle.forec_check.proofs.Walked.{walked-append, walked-none, passed_loop}
 use Rattle.forec_check.proofs.Parts.{two, three, then, count_is}

@@ -2,7 +2,7 @@
 
 ghost use Rattle.std.specs.Prelude.{◌≡◌, [], ◌∷◌, ◌++◌, map, OnOk};
 ghost use Rattle.forec_tree.specs.Plain as plain;
-ghost use Rattle.forec_tree.proofs.Rows.{perhaps_of};
+ghost use Rattle.forec_tree.specs.Plain.{perhaps_of};
 ghost use Rattle.forec_tree.specs.Scopes.{behind, behind_perhaps, with_locals, with_name, is_array};
 ghost use Rattle.forec_tree.specs.Findings.{in_terms, in_target, in_local, in_locals, in_statement, in_statements, in_optional, in_perhaps, in_branches, in_bound, Synchronous, Gives, Opens, Closes};
 ghost use Rattle.forec_tree.specs.Scopes as scopes;

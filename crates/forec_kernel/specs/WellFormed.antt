@@ -3,6 +3,7 @@ use Rattle.std.specs.Prelude.{ℕ, zero, suc, ◌+◌, ◌≡◌, ◌≢◌, ◌
 use Rattle.forec_base.specs.declared.operators.Binary.{Binary}
 use Rattle.forec_base.specs.declared.operators.Binary.TheVariants.{Div, Rem}
 use Rattle.forec_base.specs.declared.Place.{Place}
+use Rattle.forec_base.specs.declared.limits.TheConstants.{MAX_ARRAY_LENGTH, MAX_TURNS, MAX_WORDS, MAX_DEPTH, MAX_PARAMS, MAX_THREADS, MAX_GLOBALS, MAX_FUNCTIONS, MAX_INPUTS, MAX_OUTPUTS, MAX_TABLE_WORDS, MAX_TERMS}
 use Rattle.forec_kernel.specs.declared.terms.Spot.{Spot}
 use Rattle.forec_kernel.specs.declared.terms.Spot.TheVariants as spot
 use Rattle.forec_kernel.specs.declared.shape.Variable.{Variable}
@@ -71,7 +72,7 @@ has_place None = false
 pub record IsArray (s : Scope) (slot n : ℕ) : Type 0 where
   pub within : slot + n ≤ s.words
   pub some : 1 ≤ n
-  pub most : n ≤ 65536
+  pub most : n ≤ MAX_ARRAY_LENGTH
 
 abbrev mutual
   pub FineExpr : Scope → Expr → Type 0
@@ -106,7 +107,7 @@ FineBranches s [] = Unit {0}
 FineBranches s (b ∷ bs) = FineBranch s b × FineBranches s bs
 
 abbrev pub FineBound : Bool → Option ℕ → Type 0
-FineBound function (Some n) = n ≤ 1000000
+FineBound function (Some n) = n ≤ MAX_TURNS
 FineBound function None = IsTrue (cond function false true)
 
 -- a statement of an int function, or of a thread
@@ -334,8 +335,8 @@ pub record FineThread (k : PlainKernel) (t : ℕ) : Type 0 where
   pub uses : IsTrue (ascends (uses_of k t))
   pub body : FineStmt false (record { kernel = k; words = words_of k t; uses = uses_of k t }) (body_of k t)
   pub pars : (branches : List ℕ) (i : ℕ) → i < length (pars_of (body_of k t)) → branches ≡ get_or (pars_of (body_of k t)) i [] → FinePar k t branches
-  pub words : words_of k t + greatest (chain (function_words k.shape.functions) k (length k.functions)) (thread_calls k t) ≤ 65536
-  pub depth : stmt_depth (body_of k t) + greatest (chain (λ f. stmt_depth (function_body k f)) k (length k.functions)) (thread_calls k t) ≤ 4096
+  pub words : words_of k t + greatest (chain (function_words k.shape.functions) k (length k.functions)) (thread_calls k t) ≤ MAX_WORDS
+  pub depth : stmt_depth (body_of k t) + greatest (chain (λ f. stmt_depth (function_body k f)) k (length k.functions)) (thread_calls k t) ≤ MAX_DEPTH
 
 -- a thread but 0
 pub record FineChild (k : PlainKernel) (t : ℕ) : Type 0 where
@@ -353,10 +354,10 @@ pub record FineRoot (k : PlainKernel) : Type 0 where
 
 pub record FineFunction (k : PlainKernel) (f : ℕ) : Type 0 where
   pub params : function_params k f ≤ function_words k.shape.functions f
-  pub few : function_params k f ≤ 16
+  pub few : function_params k f ≤ MAX_PARAMS
   pub body : FineStmt true (record { kernel = k; words = function_words k.shape.functions f; uses = [] }) (function_body k f)
   pub returns : IsTrue (returns (function_body k f))
-  pub depth : chain (λ g. stmt_depth (function_body k g)) k (length k.functions) f ≤ 4096
+  pub depth : chain (λ g. stmt_depth (function_body k g)) k (length k.functions) f ≤ MAX_DEPTH
 
 -- no function reaches itself: a rank falls along each call
 pub record Ranked (k : PlainKernel) : Type 0 where
@@ -383,13 +384,13 @@ pub record WellFormed (k : PlainKernel) : Type 0 where
   pub outputs_named : IsTrue (all_below (length k.shape.variables) k.shape.outputs)
   pub outputs_once : IsTrue (distinct k.shape.outputs)
   pub names : length k.shape.names ≡ length k.shape.variables
-  pub few_threads : length k.threads ≤ 256
-  pub few_variables : length k.shape.variables ≤ 4096
-  pub few_functions : length k.functions ≤ 1024
-  pub few_inputs : length k.shape.inputs ≤ 64
-  pub few_outputs : length k.shape.outputs ≤ 64
-  pub few_table_words : sum (map (λ table. length table) k.shape.tables) ≤ 1048576
-  pub few_terms : bodies_terms k.threads + bodies_terms k.functions ≤ 200000
+  pub few_threads : length k.threads ≤ MAX_THREADS
+  pub few_variables : length k.shape.variables ≤ MAX_GLOBALS
+  pub few_functions : length k.functions ≤ MAX_FUNCTIONS
+  pub few_inputs : length k.shape.inputs ≤ MAX_INPUTS
+  pub few_outputs : length k.shape.outputs ≤ MAX_OUTPUTS
+  pub few_table_words : sum (map (λ table. length table) k.shape.tables) ≤ MAX_TABLE_WORDS
+  pub few_terms : bodies_terms k.threads + bodies_terms k.functions ≤ MAX_TERMS
 
 abbrev pub IsKernel : KernelParts → Type 0
 IsKernel parts = WellFormed (plain_kernel parts)

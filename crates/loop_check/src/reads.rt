@@ -3,7 +3,7 @@
 ghost use Rattle.std.specs.Prelude.{◌≡◌, map};
 ghost use Rattle.forec_tree.specs.Plain as plain;
 ghost use Rattle.forec_tree.specs.Turns as form;
-ghost use Rattle.forec_tree.proofs.Rows.{perhaps_of};
+ghost use Rattle.forec_tree.specs.Plain.{perhaps_of};
 ghost use Rattle.loop_check.specs.Forms.{pair_of, test_from, step_from};
 
 use crate::parts::{Start, Step, Test};

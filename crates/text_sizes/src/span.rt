@@ -5,7 +5,7 @@
 ghost use Rattle.std.specs.Prelude.{◌≡◌, ◌+◌, ◌-◌, ◌^◌, suc, min, map};
 ghost use Rattle.forec_tree.specs.Plain as plain;
 ghost use Rattle.forec_tree.specs.Terms as tree;
-ghost use Rattle.forec_tree.proofs.Rows.{perhaps_of};
+ghost use Rattle.forec_tree.specs.Plain.{perhaps_of};
 ghost use Rattle.text_sizes.specs.Counts as counts;
 ghost use Rattle.text_sizes.specs.Spans as of;
 

@@ -3,7 +3,8 @@ use Rattle.forec_tree.specs.Plain.{statement, statements, term, terms, branch_wi
 use Rattle.forec_tree.specs.Terms as tree
 use Rattle.forec_tree.specs.Terms.{count_terms, no_branches}
 use Rattle.forec_tree.specs.Turns.{inferred}
-use Rattle.forec_tree.proofs.Rows.{perhaps_of, of_group, of_if, of_for, of_par, of_abort, branch-group}
+use Rattle.forec_tree.proofs.Rows.{of_group, of_if, of_for, of_par, of_abort, branch-group}
+use Rattle.forec_tree.specs.Plain.{perhaps_of}
 use Rattle.forec_kernel.specs.Terms as kernel
 use Rattle.forec_kernel.specs.Plain.{stmt, stmts, expr, exprs}
 use Rattle.loop_check.specs.Views.{text_of}

@@ -7,7 +7,8 @@ use Rattle.forec_tree.specs.Plain as plain
 use Rattle.forec_tree.specs.Terms.{Statement, For, Branches}
 use Rattle.forec_tree.specs.Pauses.{certain, certain_function, some_certain, branch_certain}
 use Rattle.forec_tree.specs.Faults.{least_from}
-use Rattle.forec_tree.proofs.Rows.{of_kind, of_group, of_abort, of_par, of_if, of_for, perhaps_of}
+use Rattle.forec_tree.proofs.Rows.{of_kind, of_group, of_abort, of_par, of_if, of_for}
+use Rattle.forec_tree.specs.Plain.{perhaps_of}
 use Rattle.loop_check.specs.Judges.{judge_text}
 use Rattle.forec_check.specs.Late.{loops_in, loops_in_perhaps, loops_in_all, loops_in_branches, loops_faults}
 use Rattle.forec_check.proofs.Looping.{none_here, kind_none, two_loops, endless_is, last_loop, next_loops, or_next}

@@ -3,7 +3,8 @@ use Rattle.forec_tree.specs.Plain as plain
 use Rattle.forec_tree.specs.Terms.{Statement}
 use Rattle.forec_tree.specs.Scopes.{entered, behind_perhaps}
 use Rattle.forec_tree.specs.Findings.{in_statement}
-use Rattle.forec_tree.proofs.Rows.{of_if, of_for, of_par, perhaps_of}
+use Rattle.forec_tree.proofs.Rows.{of_if, of_for, of_par}
+use Rattle.forec_tree.specs.Plain.{perhaps_of}
 use Rattle.loop_check.specs.Views.{text_of}
 use Rattle.forec_check.specs.Views.{judging, scope_of}
 use Rattle.forec_check.specs.Walk.{found_of, walked}

@@ -3,7 +3,8 @@ use Rattle.forec_tree.specs.Terms.{Text, Statement}
 use Rattle.forec_tree.specs.Turns as form
 use Rattle.forec_tree.specs.declared.tree.Stmt.{Stmt}
 use Rattle.forec_tree.specs.Plain.{statement, optional_term}
-use Rattle.forec_tree.proofs.Rows.{of_for, perhaps_of}
+use Rattle.forec_tree.proofs.Rows.{of_for}
+use Rattle.forec_tree.specs.Plain.{perhaps_of}
 use Rattle.loop_check.specs.Forms.{pair_of, test_from, step_from, turns_unless}
 use Rattle.loop_check.proofs.runs.form_of.Goals as goal
 

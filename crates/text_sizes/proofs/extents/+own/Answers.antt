@@ -1,6 +1,7 @@
 use Rattle.std.proofs.Common.{◌≡◌, ◌∙◌, ◌+◌, ◌-◌, ◌^◌, min, ap, arith}
 use Rattle.forec_tree.specs.Plain.{term, optional_term, statement, statements, branches}
-use Rattle.forec_tree.proofs.Rows.{perhaps_of, of_group, of_for, of_abort, of_par}
+use Rattle.forec_tree.proofs.Rows.{of_group, of_for, of_abort, of_par}
+use Rattle.forec_tree.specs.Plain.{perhaps_of}
 use Rattle.text_sizes.specs.Counts.{own, own_start, own_step, optional_count, own_all, sequence_count, statement_count, term_count, branches_count}
 use Rattle.text_sizes.specs.Extents.{own_at}
 use Rattle.text_sizes.proofs.Tallied.{sequence_as_near, statements_length}
