@@ -1,0 +1,4 @@
+pub mod Asked
+pub mod Digits
+pub mod Free
+pub mod WorkedWords

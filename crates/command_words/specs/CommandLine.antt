@@ -1,0 +1,62 @@
+-- The command line as one simple command of clap, and what words mean to it.
+use Rattle.std.specs.Prelude.{true, List, Option, Some, codes, option_map}
+use Rattle.clap.specs.Words.{App, Kinds, Rule, Text, fault_of, first_of, matches_of, new_app, new_rule, with_rule}
+use Rattle.clap.specs.Simple.{on_top}
+use Rattle.clap.specs.declared.builder.ArgAction.TheVariants.{Set}
+use Rattle.command_words.specs.declared.values.Values.{Values}
+
+-- an option that takes one value, and is given at most once
+abbrev pub option_rule : Text → Rule
+option_rule id = record (new_rule id) { long = Some id; action = Some Set }
+
+-- a word that must be there
+abbrev pub word_rule : Text → Rule
+word_rule id = record (new_rule id) { required = true; action = Some Set }
+
+abbrev pub bared : App → App
+bared = on_top (λ s. record s { no_binary_name = true; disable_help_flag = true; disable_version_flag = true })
+
+unfoldable pub command_line : App
+command_line = bared (with_rule (with_rule (with_rule (with_rule (with_rule (with_rule (new_app (codes "forec"))
+    (word_rule (codes "command"))) (word_rule (codes "program")))
+    (option_rule (codes "cores"))) (option_rule (codes "place"))) (option_rule (codes "budget"))) (option_rule (codes "order")))
+
+-- why clap refuses the words; none where it doesn't
+abbrev pub kinds_of : List Text → Kinds
+kinds_of words = fault_of command_line words
+
+-- the value of a name in the words
+abbrev pub value_of : List Text → Text → Option Text
+value_of words id = first_of id (matches_of command_line words)
+
+pub record PlainValues : Type 0 where
+  pub command : Option Text
+  pub program : Option Text
+  pub cores : Option Text
+  pub place : Option Text
+  pub budget : Option Text
+  pub order : Option Text
+
+-- the value of each name in the words
+abbrev pub values_of : List Text → PlainValues
+values_of words =
+    record {
+      command = value_of words (codes "command");
+      program = value_of words (codes "program");
+      cores = value_of words (codes "cores");
+      place = value_of words (codes "place");
+      budget = value_of words (codes "budget");
+      order = value_of words (codes "order");
+    }
+
+-- values, as texts
+abbrev pub plain_values : Values → PlainValues
+plain_values v =
+    record {
+      command = option_map (λ s. s.now) v.command;
+      program = option_map (λ s. s.now) v.program;
+      cores = option_map (λ s. s.now) v.cores;
+      place = option_map (λ s. s.now) v.place;
+      budget = option_map (λ s. s.now) v.budget;
+      order = option_map (λ s. s.now) v.order;
+    }

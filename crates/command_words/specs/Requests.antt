@@ -1,0 +1,100 @@
+-- What words ask for.
+use Rattle.std.specs.Prelude.{ℕ, Bool, not, ◌&&◌, ◌||◌, cond, is_some, is_none, Option, None, Some, option_map, option_and_then, List, [], ◌∷◌, nat_eq, if◌then◌else◌, codes}
+use Rattle.std.specs.Cmp.Lexicographic.{pointwise}
+use Rattle.clap.specs.Words.{Kinds, Text}
+use Rattle.forec_base.specs.declared.limits.TheConstants.{MAX_CORES, MAX_BUDGET}
+use Rattle.command_words.specs.CommandLine.{PlainValues, kinds_of, values_of}
+use Rattle.command_words.specs.Numbers.{number_in, number_or}
+use Rattle.command_words.specs.declared.request.TheConstants.{DEFAULT_BUDGET, MAX_WORKLOAD}
+use Rattle.command_words.specs.declared.request.Placing.{Placing}
+use Rattle.command_words.specs.declared.request.Running.{Running}
+use Rattle.command_words.specs.declared.request.Command.{Command}
+use Rattle.command_words.specs.declared.request.Command.TheVariants as command
+use Rattle.command_words.specs.declared.request.Request.{Request}
+use Rattle.command_words.specs.declared.request.Request.TheVariants as request
+
+-- so many cores, and the list of places where one is given
+pub record PlainPlacing : Type 0 where
+  pub cores : ℕ
+  pub list : Option Text
+
+pub record PlainRunning : Type 0 where
+  pub placing : PlainPlacing
+  pub budget : ℕ
+
+pub data PlainCommand : Type 0 where
+  Run : PlainRunning → PlainCommand
+  Check : PlainCommand
+  Threads : PlainPlacing → PlainCommand
+  Code : PlainCommand
+
+pub data PlainRequest : Type 0 where
+  OnText : (program : Text) → PlainCommand → PlainRequest
+  OnWorkload : (threads : ℕ) → PlainRunning → PlainRequest
+
+-- ---- of the values of words
+
+abbrev pub placing_of : PlainValues → Option PlainPlacing
+placing_of v = option_map (λ cores. record { cores = cores; list = v.place }) (number_or 1 MAX_CORES v.cores)
+
+abbrev pub budget_of : PlainValues → Option ℕ
+budget_of v = number_or DEFAULT_BUDGET MAX_BUDGET v.budget
+
+-- no order is given
+abbrev pub running_of : PlainValues → Option PlainRunning
+running_of v = cond (is_some v.order) None (option_and_then (λ p. option_map (λ b. record { placing = p; budget = b }) (budget_of v)) (placing_of v))
+
+-- neither a budget nor an order is given
+abbrev pub placing_alone_of : PlainValues → Option PlainPlacing
+placing_alone_of v = cond (is_some v.budget || is_some v.order) None (placing_of v)
+
+abbrev pub has_no_options : PlainValues → Bool
+has_no_options v = is_none v.cores && (is_none v.place && (is_none v.budget && is_none v.order))
+
+abbrev pub is_word : Text → Text → Bool
+is_word word other = pointwise nat_eq word other
+
+abbrev pub command_of : Text → PlainValues → Option PlainCommand
+command_of name v =
+    if is_word name (codes "run") then option_map Run (running_of v)
+    else (if is_word name (codes "threads") then option_map Threads (placing_alone_of v)
+    else (if is_word name (codes "check") then cond (has_no_options v) (Some Check) None
+    else (if is_word name (codes "code") then cond (has_no_options v) (Some Code) None
+    else None)))
+
+-- a workload of 1 to 255 threads
+abbrev pub workload_of : Text → PlainValues → Option PlainRequest
+workload_of number v = option_and_then (λ n. option_map (OnWorkload n) (running_of v)) (number_in 1 MAX_WORKLOAD number)
+
+abbrev pub request_named : Text → Text → PlainValues → Option PlainRequest
+request_named name program v =
+    if is_word name (codes "gen") then workload_of program v else option_map (OnText program) (command_of name v)
+
+abbrev pub request_by : PlainValues → Option PlainRequest
+request_by v = option_and_then (λ name. option_and_then (λ program. request_named name program v) v.program) v.command
+
+abbrev pub unless_refused : Kinds → Option PlainRequest → Option PlainRequest
+unless_refused [] r = r
+unless_refused (kind ∷ kinds) r = None
+
+-- what words ask for; none where they are no command
+unfoldable pub request_of : List Text → Option PlainRequest
+request_of words = unless_refused (kinds_of words) (request_by (values_of words))
+
+-- ---- of the Rust types
+
+abbrev pub plain_placing : Placing → PlainPlacing
+plain_placing p = record { cores = p.cores; list = option_map (λ s. s.now) p.list }
+
+abbrev pub plain_running : Running → PlainRunning
+plain_running r = record { placing = plain_placing r.placing; budget = r.budget }
+
+abbrev pub plain_command : Command → PlainCommand
+plain_command (command.Run r) = Run (plain_running r)
+plain_command command.Check = Check
+plain_command (command.Threads p) = Threads (plain_placing p)
+plain_command command.Code = Code
+
+abbrev pub plain_request : Request → PlainRequest
+plain_request (request.Text program c) = OnText program.now (plain_command c)
+plain_request (request.Workload n r) = OnWorkload n (plain_running r)

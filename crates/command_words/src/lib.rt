@@ -1,0 +1,14 @@
+//! The words of a command line, read with `clap` as one simple command: `COMMAND PROGRAM`, and options that
+//! stand anywhere.
+#![tactic(auto)]
+
+mod fault;
+mod matching;
+mod number;
+mod reading;
+mod request;
+mod values;
+
+pub use fault::WordsFault;
+pub use reading::read_words;
+pub use request::{Command, DEFAULT_BUDGET, MAX_WORKLOAD, Placing, Request, Running};

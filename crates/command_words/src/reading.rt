@@ -1,0 +1,115 @@
+//! From the values of words to what they ask for.
+
+ghost use Rattle.std.specs.Prelude.{◌≡◌, ◌≤◌, map, string_bytes, option_map, None, Some, Err, IfOk};
+ghost use Rattle.command_words.specs.CommandLine.{plain_values};
+ghost use Rattle.command_words.specs.Requests as asked;
+ghost use Rattle.command_words.specs.declared.fault.WordsFault.TheVariants as fault;
+
+use crate::fault::WordsFault;
+use crate::matching::values;
+use crate::number::{in_range, or_usual};
+use crate::request::{Command, DEFAULT_BUDGET, MAX_WORKLOAD, Placing, Request, Running};
+use crate::values::Values;
+use forec_base::{MAX_BUDGET, MAX_CORES};
+use std::alloc::Global;
+
+/// Where threads run.
+fn placing<'a>(values: &Values<'a>) -> Option<Placing<'a>>
+    ensures { option_map asked.plain_placing result ≡ asked.placing_of (plain_values values.now) }
+{
+    let cores = or_usual(values.cores, 1, u64::from(MAX_CORES))?;
+    Some(Placing {
+        cores: cores as u32,
+        list: values.place,
+    })
+}
+
+/// How a program runs.
+fn running<'a>(values: &Values<'a>) -> Option<Running<'a>>
+    ensures { option_map asked.plain_running result ≡ asked.running_of (plain_values values.now) }
+{
+    if values.order.is_some() {
+        return None;
+    }
+    let placing = placing(values)?;
+    let budget = or_usual(values.budget, DEFAULT_BUDGET, MAX_BUDGET)?;
+    Some(Running { placing, budget })
+}
+
+/// Where threads run, for a command that runs nothing.
+fn placing_alone<'a>(values: &Values<'a>) -> Option<Placing<'a>>
+    ensures { option_map asked.plain_placing result ≡ asked.placing_alone_of (plain_values values.now) }
+{
+    if values.budget.is_some() || values.order.is_some() {
+        return None;
+    }
+    placing(values)
+}
+
+/// Whether no option is given.
+fn is_plain(values: &Values<'_>) -> bool
+    ensures { result ≡ asked.has_no_options (plain_values values.now) }
+{
+    values.cores.is_none()
+        && values.place.is_none()
+        && values.budget.is_none()
+        && values.order.is_none()
+}
+
+/// The command of a name on a program.
+fn command<'a>(name: &str, values: &Values<'a>) -> Option<Command<'a>>
+    ensures { option_map asked.plain_command result ≡ asked.command_of name.now (plain_values values.now) }
+{
+    match name {
+        "run" => {
+            let running = running(values)?;
+            Some(Command::Run { running })
+        }
+        "threads" => {
+            let placing = placing_alone(values)?;
+            Some(Command::Threads { placing })
+        }
+        "check" if is_plain(values) => Some(Command::Check),
+        "code" if is_plain(values) => Some(Command::Code),
+        _ => None,
+    }
+}
+
+/// A workload of so many threads as a word says.
+fn workload<'a>(number: &str, values: &Values<'a>) -> Option<Request<'a>>
+    ensures { option_map asked.plain_request result ≡ asked.workload_of number.now (plain_values values.now) }
+{
+    let threads = in_range(number, 1, MAX_WORKLOAD)? as u32;
+    let running = running(values)?;
+    Some(Request::Workload { threads, running })
+}
+
+/// What the values of words ask for.
+fn request<'a>(values: &Values<'a>) -> Option<Request<'a>>
+    ensures { option_map asked.plain_request result ≡ asked.request_by (plain_values values.now) }
+{
+    let name = values.command?;
+    let program = values.program?;
+    if name == "gen" {
+        return workload(program, values);
+    }
+    let command = command(name, values)?;
+    Some(Request::Text { program, command })
+}
+
+/// What the words ask for. They are those after the program's own name.
+///
+/// # Errors
+///
+/// `Usage` exactly where they ask for nothing: where `clap` refuses them, the command is none, an option isn't the
+/// command's, or a number is out of its range. Or want of memory.
+pub fn read_words<'a>(alloc: Global, words: &'a [String]) -> Result<Request<'a>, WordsFault>
+    ensures request { IfOk result (λ r. asked.request_of (map string_bytes words.entry.now) ≡ Some (asked.plain_request r)) }
+    ensures usage { result ≡ Err fault.Usage → asked.request_of (map string_bytes words.entry.now) ≡ None }
+{
+    let values = values(alloc, words)?;
+    match request(&values) {
+        Some(request) => Ok(request),
+        None => Err(WordsFault::Usage),
+    }
+}

@@ -1,0 +1,49 @@
+//! What words ask for.
+
+/// The units that a tick may have where no word says how many.
+pub const DEFAULT_BUDGET: u64 = 10_000_000;
+
+/// The most threads of the workload that `gen` makes, `main` apart.
+pub const MAX_WORKLOAD: u64 = 255;
+
+/// Where threads run: on so many cores, 1 to 64, by a list of places or balanced.
+#[derive(Clone, Copy, Debug, PartialEq, Eq)]
+pub struct Placing<'a> {
+    pub cores: u32,
+    pub list: Option<&'a str>,
+}
+
+/// How a program runs: where its threads do, and how many units a tick may have, 1 to 2^62.
+#[derive(Clone, Copy, Debug, PartialEq, Eq)]
+pub struct Running<'a> {
+    pub placing: Placing<'a>,
+    pub budget: u64,
+}
+
+/// What is done with a program.
+#[derive(Clone, Copy, Debug, PartialEq, Eq)]
+pub enum Command<'a> {
+    /// It runs over the trace.
+    Run { running: Running<'a> },
+    /// It is judged and counted.
+    Check,
+    /// Its threads are listed, each with its core.
+    Threads { placing: Placing<'a> },
+    /// Its code is listed.
+    Code,
+}
+
+/// What words ask for.
+#[derive(Clone, Copy, Debug, PartialEq, Eq)]
+pub enum Request<'a> {
+    /// A command on the text of this name.
+    Text {
+        program: &'a str,
+        command: Command<'a>,
+    },
+    /// The workload of so many threads runs, 1 to 255.
+    Workload {
+        threads: u32,
+        running: Running<'a>,
+    },
+}
