@@ -1,0 +1,33 @@
+use Rattle.std.proofs.Common.{◌≡◌, ◌∙◌, ap, length, rules, arith}
+use Rattle.core_alloc.specs.Places.{Places}
+use Rattle.core_alloc.specs.Balance.{IsHeaviestFirst}
+use Rattle.core_alloc.proofs.Balancing.{order_length, order_total, order_low, stays_even}
+use Rattle.core_alloc.proofs.balance.balance.Goals as goal
+
+pub returns-in_err-order-clause-even : goal.returns-in_err-order-clause-even
+returns-in_err-order-clause-even c = λ order h. stays_even c.args.weights.now order c.args.cores (omega (arith, c.requires.some)) h
+
+pub returns-in_err-places-clause-even : goal.returns-in_err-places-clause-even
+returns-in_err-places-clause-even c = λ order h. stays_even c.args.weights.now order c.args.cores (omega (arith, c.requires.some)) h
+
+pub returns-clause-even : goal.returns-clause-even
+returns-clause-even c = λ order h. stays_even c.args.weights.now order c.args.cores (omega (arith, c.requires.some)) h
+
+pub places_of-requires-clause-threads : goal.places_of-requires-clause-threads
+places_of-requires-clause-threads c =
+    rw c.deref.ensures.value (order_low c.args.weights.now c.in_ok-order.order.items c.in_ok-order.ensures)
+
+pub places_of-requires-clause-total : goal.places_of-requires-clause-total
+places_of-requires-clause-total c =
+    rw c.deref.ensures.value (omega (arith, order_total c.args.weights.now c.in_ok-order.order.items c.in_ok-order.ensures, c.requires.total))
+
+pub of-requires-clause-few : goal.of-requires-clause-few
+of-requires-clause-few c =
+    let same : length c.deref.result.now ≡ length c.in_ok-order.order.items = ap length c.deref.ensures.value in
+    omega (arith, c.in_ok-places.ensures.count, same, order_length c.args.weights.now c.in_ok-order.order.items c.in_ok-order.ensures, c.requires.threads)
+
+pub returns-clause-threads : goal.returns-clause-threads
+returns-clause-threads c =
+    let same : length c.deref.result.now ≡ length c.in_ok-order.order.items = ap length c.deref.ensures.value in
+    let made : length c.of.result.places ≡ length c.in_ok-places.places.items = ap (λ (p : Places). length p.places) c.of.ensures in
+    made ∙ c.in_ok-places.ensures.count ∙ same ∙ order_length c.args.weights.now c.in_ok-order.order.items c.in_ok-order.ensures
