@@ -1,0 +1,7 @@
+use Rattle.std.proofs.Common.{append_assoc}
+use Rattle.workload.proofs.add_leaf.Goals as goal
+
+pub returns : goal.returns
+returns c =
+    rw (c.in_ok-add-4.ensures, c.in_ok-add_number-3.ensures, c.in_ok-add-3.ensures, c.in_ok-add_number-2.ensures, c.in_ok-add-2.ensures, c.in_ok-add_number.ensures, c.in_ok-add.ensures)
+    (simp append_assoc)
