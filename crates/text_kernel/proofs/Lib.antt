@@ -22,6 +22,7 @@ pub mod Below
 pub mod Main
 pub mod Returned
 pub mod Functions
+pub mod Tables
 pub mod Ranks
 pub mod Once
 pub mod Called
