@@ -29,4 +29,5 @@ pub mod Called
 pub mod Few
 pub mod Whole
 pub mod Segments
+pub mod TreeThreads
 mod Worked
