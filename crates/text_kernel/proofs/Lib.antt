@@ -30,4 +30,6 @@ pub mod Few
 pub mod Whole
 pub mod Segments
 pub mod TreeThreads
+pub mod NamedVariables
+pub mod TreeUses
 mod Worked

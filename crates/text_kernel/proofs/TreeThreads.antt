@@ -5,11 +5,11 @@ use Rattle.forec_kernel.specs.Shapes.{PlainThread}
 use Rattle.forec_tree.specs.Terms.{Statement, Declare, Nothing, Group, Assign, Invoke, If, While, For, Pause, Par, Abort, Return, Statements, no_statements, more_statements, Perhaps, absent, present, Branches, no_branches, by_call, by_group, Text, PlainFunction}
 use Rattle.forec_tree.specs.Scopes.{Scope, no_scope, entered, behind, behind_perhaps, with_params}
 use Rattle.forec_tree.specs.Pauses.{within, find_function}
-use Rattle.forec_tree.specs.ThreadTree.{Threads, no_threads, thread, followed_by, Placed, nothing, placed, all_placed, perhaps_placed, branches_placed, body_placed, placed_step, thread_tree, count_threads}
+use Rattle.forec_tree.specs.ThreadTree.{Threads, no_threads, thread, followed_by, Placed, nothing, placed, all_placed, perhaps_placed, branches_placed, body_placed, placed_step, count_threads}
 use Rattle.text_kernel.specs.declared.names.Slot.{Slot}
 use Rattle.text_kernel.specs.Bindings.{params_at}
-use Rattle.text_kernel.specs.Lowering.{Next, Made, Lowered, from_slot, scope_behind, scope_behind_perhaps, par_behind, lower_statement, lower_list, lower_perhaps, lower_branches, InPlace, body_in_place, in_place_step, nothing_in_place, in_place}
-use Rattle.text_kernel.specs.Kernels.{kernel_of, root, root_shape, thread_shape, main_id}
+use Rattle.text_kernel.specs.Lowering.{Next, Made, from_slot, scope_behind, scope_behind_perhaps, par_behind, lower_statement, lower_list, lower_perhaps, lower_branches, InPlace, body_in_place, in_place_step, nothing_in_place}
+use Rattle.text_kernel.specs.Kernels.{kernel_of, root, thread_shape, main_id}
 use Rattle.text_kernel.specs.Instances.{parents, ThreadsOfTree}
 
 count_followed : (p q : Threads) → count_threads (followed_by p q) ≡ count_threads p + count_threads q

@@ -4,7 +4,7 @@ use Rattle.forec_tree.specs.Terms.{Text}
 use Rattle.forec_kernel.specs.WellFormed.{WellFormed}
 use Rattle.forec_check.specs.Checks.{Faultless}
 use Rattle.text_kernel.specs.Kernels.{kernel_of, main_id}
-use Rattle.text_kernel.specs.Instances.{ThreadsOfTree}
+use Rattle.text_kernel.specs.Instances.{ThreadsOfTree, ScalarsHaveOneValue, UsesOfTree}
 use Rattle.text_kernel.specs.Limits.{WithinLimits}
 
 abbrev pub AcceptedProgramsHaveKernels : Type 0
@@ -12,3 +12,6 @@ AcceptedProgramsHaveKernels = (text : Text) (names : List (List ℕ)) → Faultl
 
 abbrev pub ThreadsAreInstances : Type 0
 ThreadsAreInstances = (text : Text) (names : List (List ℕ)) → ThreadsOfTree text (main_id text names) (kernel_of text names)
+
+abbrev pub UsesAreThoseOfTheTree : Type 0
+UsesAreThoseOfTheTree = (text : Text) (names : List (List ℕ)) → Faultless text names → ScalarsHaveOneValue text → UsesOfTree text (main_id text names) (kernel_of text names)
