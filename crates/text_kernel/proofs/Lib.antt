@@ -30,6 +30,7 @@ pub mod Few
 pub mod Whole
 pub mod Segments
 pub mod TreeThreads
+pub mod OneValue
 pub mod NamedVariables
 pub mod TreeUses
 mod Worked

@@ -27,7 +27,7 @@ use Rattle.text_kernel.specs.declared.names.Stands.TheVariants as st
 use Rattle.text_kernel.specs.Bindings as binds
 use Rattle.text_kernel.specs.Bindings.{number_among, is_variable, item_id, number_of, slots_of, local_slot, find_slot, slot_stands, item_stands, constant_stands, first_value}
 use Rattle.text_kernel.specs.Lowering.{stands, lower_term, lower_terms, read_as, element_as, assign_to, assign_at, lower_target, sequence, ends_with, array_values, lower_local, lower_locals, set_params, optional_test, vars_in, vars_all, vars_of, vars_list}
-use Rattle.text_kernel.specs.Instances.{one_value, OneValues}
+use Rattle.text_kernel.proofs.OneValue.{one_value, OneValues}
 use Rattle.text_kernel.proofs.Fine.{none_left, none_right, not_broken, parts_left, parts_right, GoodUse, good_use, seen_of, seen_option, has_size, found}
 use Rattle.text_kernel.proofs.Locals.{seen_size}
 use Rattle.text_kernel.proofs.Known.{First, first, further, first_of, first_id}

@@ -21,7 +21,8 @@ use Rattle.text_kernel.specs.Bindings.{params_at, number_among, is_variable, ite
 use Rattle.text_kernel.specs.Lowering.{Next, Made, Listed, from_slot, scope_behind, scope_behind_perhaps, par_behind, par_of, after_start, then_step, optional_test, set_params, lower_term, lower_terms, lower_locals, lower_target, lower_statement, lower_list, lower_perhaps, lower_branches, InPlace, body_in_place, in_place_step, nothing_in_place, sequence, ends_with, vars_in, vars_all, vars_of, vars_list, vars_launches, vars_made}
 use Rattle.text_kernel.specs.Kernels.{kernel_of, root, main_id, variable_items, variable_count, filter_in}
 use Rattle.text_kernel.specs.Laws.{UsesAreThoseOfTheTree}
-use Rattle.text_kernel.specs.Instances.{OneEach, OneInAll, OneIfPresent, OneInBranches, ScalarsHaveOneValue, UsesOfTree}
+use Rattle.text_kernel.specs.Instances.{UsesOfTree}
+use Rattle.text_kernel.proofs.OneValue.{OneEach, OneInAll, OneIfPresent, OneInBranches, ScalarsHaveOneValue, spelled_one}
 use Rattle.text_kernel.proofs.Fine.{none_left, none_right, not_broken, parts_left, parts_right, good_use}
 use Rattle.text_kernel.proofs.Runs.{runnable, startable}
 use Rattle.text_kernel.proofs.Covered.{vars_append}
@@ -536,4 +537,4 @@ module _ (text : Text) (names : List (List ℕ)) (clean : Clean text names) (one
       ∙ sym (ap (λ o. elim o [ None ↦ [] | Some own ↦ those_in own (variables text) ]) there))
 
 pub uses_are_those : UsesAreThoseOfTheTree
-uses_are_those text names h one = uses_of_tree text names (clean_of text names h) one
+uses_are_those text names limit tokens spelled h = uses_of_tree text names (clean_of text names h) (spelled_one limit text tokens spelled)

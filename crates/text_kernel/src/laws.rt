@@ -14,9 +14,9 @@ pub fn threads_are_those_of_the_tree()
     ensures { ThreadsAreInstances }
 {}
 
-/// In a text that breaks no rule, the variables of which a thread of its kernel has copies are those that
-/// occur in the text of the instance of its number, or of one below it; `main` has all. (Each name without
-/// a length is declared with one value at most, as in all that tokens spell.)
+/// In a program that tokens spell and that breaks no rule, the variables of which a thread of its kernel
+/// has copies are those that occur in the text of the instance of its number, or of one below it; `main`
+/// has all.
 pub fn uses_are_those_of_the_tree()
     ensures { UsesAreThoseOfTheTree }
 {}
