@@ -3,6 +3,7 @@ pub mod Fits
 pub mod Exprs
 pub mod Cells
 pub mod Lengths
+pub mod Counted
 pub mod Functions
 pub mod Each
 pub mod Blocks

@@ -77,6 +77,7 @@ surrounded_fine =
       each_child = child_fine;
       each_function = function_fine;
       each_variable = variable_fine;
+      each_table = λ t h. absurd (omega arith);
       ranked = record { rank = λ f. f; falls = no_calls };
       once = refl;
       in_order = refl;

@@ -1,5 +1,6 @@
 pub mod Expressions
 pub mod Statements
+pub mod Sizes
 pub mod Blocks
 pub mod Arounds
 pub mod Worked

@@ -18,17 +18,20 @@ use forec_kernel::{FunctionShape, Kernel, KernelParts, Statement, ThreadShape};
 use std::alloc::Global;
 use thread_code::{Block, Code, CodeParts, Instruction};
 
-// A body's code, with room for an end or a return. `room` is how many more instructions the code may have.
+// A body's code, with room for an end or a return. `room` is how many more instructions the code may have:
+// it falls by those of the body and two more.
 fn body_steps(
     alloc: Global,
     body: &Statement,
     threads: &[ThreadShape],
     room: &mut u32,
 ) -> Result<Vec<Instruction>, OutOfMemory>
-    ensures { IfOk result (λ steps. steps.items ≡ statement_code (map plain_thread threads.now) Outside 0 (stmt body.now)) }
+    ensures code { IfOk result (λ steps. steps.items ≡ statement_code (map plain_thread threads.now) Outside 0 (stmt body.now)) }
+    ensures room { IfOk result (λ steps. room.old ≡ room.new + (length steps.items + 2)) }
 {
     let mut sizes = Vec::new(alloc);
-    let size = statement_size(&mut sizes, body, 0, 0)?.saturating_add(2);
+    let own = statement_size(&mut sizes, body, 0, 0)?;
+    let size = own.checked_add(2).ok_or(OutOfMemory)?;
     *room = room.checked_sub(size).ok_or(OutOfMemory)?;
     sizes.reverse();
     let mut steps = Vec::with_capacity(alloc, size as usize)?;

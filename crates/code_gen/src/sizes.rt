@@ -1,84 +1,118 @@
 //! How many instructions code has, counted before it is written: an abort leads behind its body, so its
-//! address is needed inside. What is counted here is compared with what is written, and a sum that passes
-//! 32 bits is past the most that a code may have.
+//! address is needed inside. A sum that passes 32 bits is past the most that a code may have, and is
+//! answered as want of memory.
+
+ghost use Rattle.std.specs.Prelude.{◌≡◌, ◌+◌, ◌++◌, map, OnOk, IfOk};
+ghost use Rattle.forec_kernel.specs.Plain.{expr, exprs, stmt, stmts, branch};
+ghost use Rattle.code_gen.specs.Sizes.{expression_length, expressions_length, arguments_length, abort_length, statement_length, statements_length, abort_bodies, aborts_in, aborts_of};
 
 use forec_base::OutOfMemory;
 use forec_kernel::{Expression, Launch, Statement};
 
-fn add(a: u32, b: u32) -> u32 {
-    a.saturating_add(b)
+fn add(a: u32, b: u32) -> Result<u32, OutOfMemory>
+    ensures { IfOk result (λ sum. sum ≡ a + b) }
+{
+    a.checked_add(b).ok_or(OutOfMemory)
 }
 
-fn expression_size(expression: &Expression) -> u32 {
+#[cycle(expression)]
+fn expression_size(expression: &Expression) -> Result<u32, OutOfMemory>
+    ensures { IfOk result (λ n. n ≡ expression_length (expr expression.now)) }
+{
     match expression {
-        Expression::Number { .. } | Expression::Local { .. } | Expression::Variable { .. } => 1,
-        Expression::LocalAt { index, .. } | Expression::TableAt { index, .. } => add(
-            expression_size(index),
-            1,
-        ),
-        Expression::Unary { of, .. } => add(expression_size(of), 1),
-        Expression::Binary { left, right, .. } => add(
-            add(expression_size(left), expression_size(right)),
-            1,
-        ),
-        Expression::And { left, right } | Expression::Or { left, right } => add(
-            add(expression_size(left), expression_size(right)),
-            4,
-        ),
+        Expression::Number { .. } | Expression::Local { .. } | Expression::Variable { .. } => Ok(1),
+        Expression::LocalAt { index, .. } | Expression::TableAt { index, .. } => {
+            let inside = expression_size(index)?;
+            add(inside, 1)
+        }
+        Expression::Unary { of, .. } => {
+            let inside = expression_size(of)?;
+            add(inside, 1)
+        }
+        Expression::Binary { left, right, .. } => {
+            let first = expression_size(left)?;
+            let second = expression_size(right)?;
+            let sides = add(first, second)?;
+            add(sides, 1)
+        }
+        Expression::And { left, right } | Expression::Or { left, right } => {
+            let first = expression_size(left)?;
+            let second = expression_size(right)?;
+            let sides = add(first, second)?;
+            add(sides, 4)
+        }
         Expression::Choose { test, yes, no } => {
-            let sides = add(expression_size(yes), expression_size(no));
-            add(add(expression_size(test), sides), 2)
+            let tested = expression_size(test)?;
+            let first = expression_size(yes)?;
+            let second = expression_size(no)?;
+            let sides = add(first, second)?;
+            let all = add(tested, sides)?;
+            add(all, 2)
         }
         Expression::Call { args, .. } => {
-            let mut sum = 1;
-            for arg in args {
-                sum = add(sum, expression_size(arg));
-            }
-            sum
+            let inside = expressions_size(args)?;
+            add(inside, 1)
         }
     }
 }
 
-fn arguments_size(branches: &[Launch]) -> u32 {
+#[cycle(expression)]
+fn expressions_size(list: &[Expression]) -> Result<u32, OutOfMemory>
+    ensures { IfOk result (λ n. n ≡ expressions_length (exprs list.now)) }
+{
+    let mut sum = 0;
+    for expression in list {
+        let size = expression_size(expression)?;
+        sum = add(sum, size)?;
+    }
+    Ok(sum)
+}
+
+fn arguments_size(branches: &[Launch]) -> Result<u32, OutOfMemory>
+    ensures { IfOk result (λ n. n ≡ arguments_length (map branch branches.now)) }
+{
     let mut sum = 0;
     for launch in branches {
-        for arg in &launch.args {
-            sum = add(sum, expression_size(arg));
-        }
+        let size = expressions_size(&launch.args)?;
+        sum = add(sum, size)?;
     }
-    sum
+    Ok(sum)
 }
 
-/// The number of instructions of a statement, with so many of them before each of its pauses and behind
-/// it. The sizes of the bodies of its aborts are put behind `sizes`, in the order of the text.
+/// The number of instructions of a statement, with so many of them before each of its pauses (`checks`)
+/// and behind it (`prologue`). The sizes of the bodies of its aborts are put behind `sizes`, in the order
+/// of the text.
+#[cycle(statement)]
 pub fn statement_size(
     sizes: &mut Vec<u32>,
     statement: &Statement,
     checks: u32,
     prologue: u32,
-) -> Result<u32, OutOfMemory> {
-    let size = match statement {
-        Statement::Nop => 0,
-        Statement::Set { value, .. } | Statement::Return { value } => add(
-            expression_size(value),
-            1,
-        ),
-        Statement::SetAt { index, value, .. } => add(
-            add(expression_size(index), expression_size(value)),
-            1,
-        ),
-        Statement::Clear { .. } => 1,
-        Statement::Sequence { list } => {
-            let mut sum = 0;
-            for part in list {
-                sum = add(sum, statement_size(sizes, part, checks, prologue)?);
-            }
-            sum
+) -> Result<u32, OutOfMemory>
+    ensures size { IfOk result (λ n. n ≡ statement_length checks prologue (stmt statement.now)) }
+    ensures bodies { OnOk result (sizes.new.items ≡ sizes.old.items ++ aborts_in checks prologue (stmt statement.now)) }
+{
+    match statement {
+        Statement::Nop => Ok(0),
+        Statement::Set { value, .. } | Statement::Return { value } => {
+            let inside = expression_size(value)?;
+            add(inside, 1)
         }
+        Statement::SetAt { index, value, .. } => {
+            let first = expression_size(index)?;
+            let second = expression_size(value)?;
+            let sides = add(first, second)?;
+            add(sides, 1)
+        }
+        Statement::Clear { .. } => Ok(1),
+        Statement::Sequence { list } => list_size(sizes, list, checks, prologue),
         Statement::If { test, yes, no } => {
+            let tested = expression_size(test)?;
             let first = statement_size(sizes, yes, checks, prologue)?;
             let second = statement_size(sizes, no, checks, prologue)?;
-            add(add(expression_size(test), add(first, second)), 2)
+            let sides = add(first, second)?;
+            let all = add(tested, sides)?;
+            add(all, 2)
         }
         Statement::While {
             test,
@@ -87,13 +121,22 @@ pub fn statement_size(
             ..
         } => {
             let counted = bound.is_some() as u32;
-            let inside = statement_size(sizes, body, checks, add(prologue, counted))?;
-            add(add(expression_size(test), inside), 2 + 2 * counted)
+            let tested = expression_size(test)?;
+            let behind = add(prologue, counted)?;
+            let inside = statement_size(sizes, body, checks, behind)?;
+            let all = add(tested, inside)?;
+            add(all, 2 + 2 * counted)
         }
-        Statement::Pause => add(add(checks, prologue), 2),
+        Statement::Pause => {
+            let around = add(checks, prologue)?;
+            add(around, 2)
+        }
         Statement::Par { branches } => {
-            let fork = add(add(add(checks, checks), prologue), 6);
-            add(arguments_size(branches), fork)
+            let inside = arguments_size(branches)?;
+            let twice = add(checks, checks)?;
+            let around = add(twice, prologue)?;
+            let all = add(inside, around)?;
+            add(all, 6)
         }
         Statement::Enter {
             weak,
@@ -101,21 +144,52 @@ pub fn statement_size(
             test,
             body,
         } => {
-            let guarded = add(expression_size(test), 1);
-            let number = sizes.len();
-            sizes.push(0)?;
-            let inside = statement_size(
-                sizes,
-                body,
-                add(checks, *weak as u32),
-                add(prologue, guarded),
-            )?;
-            if number < sizes.len() {
-                sizes[number] = inside;
-            }
-            let entry = if *immediate { guarded } else { *weak as u32 };
-            add(entry, inside)
+            let tested = expression_size(test)?;
+            abort_size(sizes, *weak, *immediate, tested, body, checks, prologue)
         }
-    };
-    Ok(size)
+    }
+}
+
+// An abort whose test has so many instructions.
+#[cycle(statement)]
+fn abort_size(
+    sizes: &mut Vec<u32>,
+    weak: bool,
+    immediate: bool,
+    tested: u32,
+    body: &Statement,
+    checks: u32,
+    prologue: u32,
+) -> Result<u32, OutOfMemory>
+    ensures size { IfOk result (λ n. n ≡ abort_length checks prologue weak immediate tested (stmt body.now)) }
+    ensures bodies { OnOk result (sizes.new.items ≡ sizes.old.items ++ abort_bodies checks prologue weak tested (stmt body.now)) }
+{
+    let guarded = add(tested, 1)?;
+    let flag = weak as u32;
+    let before = add(checks, flag)?;
+    let behind = add(prologue, guarded)?;
+    let number = sizes.len();
+    sizes.push(0)?;
+    let inside = statement_size(sizes, body, before, behind)?;
+    sizes[number] = inside;
+    let entry = if immediate { guarded } else { flag };
+    add(entry, inside)
+}
+
+#[cycle(statement)]
+fn list_size(
+    sizes: &mut Vec<u32>,
+    list: &[Statement],
+    checks: u32,
+    prologue: u32,
+) -> Result<u32, OutOfMemory>
+    ensures size { IfOk result (λ n. n ≡ statements_length checks prologue (stmts list.now)) }
+    ensures bodies { OnOk result (sizes.new.items ≡ sizes.old.items ++ aborts_of checks prologue (stmts list.now)) }
+{
+    let mut sum = 0;
+    for statement in list {
+        let size = statement_size(sizes, statement, checks, prologue)?;
+        sum = add(sum, size)?;
+    }
+    Ok(sum)
 }

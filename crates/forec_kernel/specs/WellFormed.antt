@@ -1,5 +1,5 @@
 -- What a kernel keeps: each number names something, threads and pars fit together, int functions end, and all is within the limits.
-use Rattle.std.specs.Prelude.{ℕ, zero, suc, ◌+◌, ◌≡◌, ◌≢◌, ◌<◌, ◌≤◌, ◌==◌, max, Bool, true, false, cond, ◌&&◌, ◌||◌, IsTrue, nat_lt, Option, Some, None, IsSome, IsNone, List, [], ◌∷◌, ◌++◌, map, length, get_or, sum}
+use Rattle.std.specs.Prelude.{ℕ, zero, suc, ◌+◌, ◌≡◌, ◌≢◌, ◌<◌, ◌≤◌, ◌==◌, max, Bool, true, false, cond, ◌&&◌, ◌||◌, IsTrue, nat_lt, ℤ, Option, Some, None, IsSome, IsNone, List, [], ◌∷◌, ◌++◌, map, length, get_or, sum}
 use Rattle.forec_base.specs.declared.operators.Binary.{Binary}
 use Rattle.forec_base.specs.declared.operators.Binary.TheVariants.{Div, Rem}
 use Rattle.forec_base.specs.declared.Place.{Place}
@@ -367,6 +367,10 @@ pub record Ranked (k : PlainKernel) : Type 0 where
 pub record FineVariable (k : PlainKernel) (v : Variable) : Type 0 where
   pub combine : (f : ℕ) → v.combine ≡ Some f → (f < length k.functions) × (function_params k f ≡ 2)
 
+pub record FineTable (table : List ℤ) : Type 0 where
+  pub some : 1 ≤ length table
+  pub most : length table ≤ MAX_ARRAY_LENGTH
+
 pub record WellFormed (k : PlainKernel) : Type 0 where
   pub bodies : length k.threads ≡ length k.shape.threads
   pub functions : length k.functions ≡ length k.shape.functions
@@ -376,6 +380,7 @@ pub record WellFormed (k : PlainKernel) : Type 0 where
   pub each_child : (t : ℕ) → 0 < t → t < length k.threads → FineChild k t
   pub each_function : (f : ℕ) → f < length k.functions → FineFunction k f
   pub each_variable : (v : ℕ) → v < length k.shape.variables → FineVariable k (variable_of k v)
+  pub each_table : (t : ℕ) → t < length k.shape.tables → FineTable (get_or k.shape.tables t [])
   pub ranked : Ranked k
   pub once : IsTrue (distinct (joined_lists (map joined_lists (map pars_of k.threads))))
   pub in_order : IsTrue (numbered 0 k.shape.threads)

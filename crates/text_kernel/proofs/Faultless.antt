@@ -112,13 +112,13 @@ find_behind id (x ∷ xs) ys h = pick ((name_of x).id == id) refl (λ e. find_be
 find_first : (x : PlainItem) (xs : List PlainItem) → find_item (name_of x).id (x ∷ xs) ≡ Some x
 find_first x xs = let e : ((name_of x).id == (name_of x).id) ≡ true = grind (arith, nat_tests) in ap (λ b. cond b (Some x) (find_item (name_of x).id xs)) e
 
-new_name : (text : Text) (names : List (List ℕ)) (b : Before) (i : PlainItem) → item_faults text names b i ≡ [] → find_item (name_of i).id b.items ≡ None
+pub new_name : (text : Text) (names : List (List ℕ)) (b : Before) (i : PlainItem) → item_faults text names b i ≡ [] → find_item (name_of i).id b.items ≡ None
 new_name text names b (IsGlobal g) h =
     unnamed (find_item g.name.id b.items) (not_broken (item_named g.name.id b.items) g.name.place 2 (none_left (fault_if (item_named g.name.id b.items) g.name.place 2) _ h))
 new_name text names b (IsFunction f) h =
     unnamed (find_item f.name.id b.items) (not_broken (item_named f.name.id b.items) f.name.place 2 (none_left (fault_if (item_named f.name.id b.items) f.name.place 2) _ h))
 
-items_after : (b : Before) (x : PlainItem) → (after_item b x).items ≡ b.items ++ x ∷ []
+pub items_after : (b : Before) (x : PlainItem) → (after_item b x).items ≡ b.items ++ x ∷ []
 items_after b (IsGlobal g) = refl
 items_after b (IsFunction f) = refl
 

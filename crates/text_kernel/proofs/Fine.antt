@@ -105,7 +105,7 @@ pub record Matches (words : ℕ) (sc : Scope) (s : List Slot) : Type 0 where
   pub same : map seen_of s ≡ sc.outer ++ sc.here
   pub good : (x : Slot) → Member x s → GoodSlot words x
 
-found : (id : ℕ) (f : Option Slot) (s : List Slot) → find_last id (seen_option f) (map seen_of s) ≡ seen_option (find_slot id f s)
+pub found : (id : ℕ) (f : Option Slot) (s : List Slot) → find_last id (seen_option f) (map seen_of s) ≡ seen_option (find_slot id f s)
 found id f [] = refl
 found id f (x ∷ s) = ap (λ o. find_last id o (map seen_of s)) (both_ways (x.id == id)) ∙ found id (cond (x.id == id) (Some x) f) s
   where

@@ -22,10 +22,15 @@ pub mod Below
 pub mod Main
 pub mod Returned
 pub mod Functions
+pub mod Tables
 pub mod Ranks
 pub mod Once
 pub mod Called
 pub mod Few
 pub mod Whole
 pub mod Segments
+pub mod TreeThreads
+pub mod OneValue
+pub mod NamedVariables
+pub mod TreeUses
 mod Worked

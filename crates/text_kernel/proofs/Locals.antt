@@ -32,7 +32,7 @@ pub number_in : (most : ℕ) (v : ℤ) → most < 4294967296 → outside (pos mo
 number_in most (pos m) l h = record { low = grind (arith, nat_tests); high = grind (arith, nat_tests) }
 number_in most (negsuc m) l h = cc
 
-seen_size : (size : Option Number) → has_size (size_of size) ≡ is_array size
+pub seen_size : (size : Option Number) → has_size (size_of size) ≡ is_array size
 seen_size None = refl
 seen_size (Some n) = refl
 

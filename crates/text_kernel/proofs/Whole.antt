@@ -24,6 +24,7 @@ use Rattle.text_kernel.proofs.Below.{AllFine, below}
 use Rattle.text_kernel.proofs.Main.{root_sits, main_fine}
 use Rattle.text_kernel.proofs.Faultless.{Clean, clean_of, void_clean, start_found}
 use Rattle.text_kernel.proofs.Functions.{function_fine, variable_fine}
+use Rattle.text_kernel.proofs.Tables.{tables_fine}
 use Rattle.text_kernel.proofs.Called.{ranked}
 use Rattle.text_kernel.proofs.Once.{once}
 use Rattle.text_kernel.proofs.Few.{few_functions, few_inputs, few_outputs}
@@ -149,6 +150,7 @@ module _ (text : Text) (names : List (List ℕ)) (clean : Clean text names) wher
         each_child = fields.child_fine text names;
         each_function = function_fine text names clean h;
         each_variable = variable_fine text names clean;
+        each_table = tables_fine text names clean;
         ranked = ranked text names clean;
         once = once text names;
         in_order = fields.order text names;

@@ -6,6 +6,8 @@ mod laws;
 mod limits;
 mod names;
 
-pub use laws::each_accepted_program_has_a_kernel;
+pub use laws::{
+    each_accepted_program_has_a_kernel, threads_are_those_of_the_tree, uses_are_those_of_the_tree,
+};
 pub use limits::Quantity;
 pub use names::{Slot, Stands, number_of, slot_stands, slots_of};

@@ -2,7 +2,7 @@
 use Rattle.std.proofs.Common.{◌≡◌, ℕ, zero, suc, ◌-◌, ◌<◌, ◌==◌, Bool, true, false, cond, List, [], ◌∷◌, ◌++◌, map, length, refl, sym, ap, subst, arith}
 use Rattle.std.proofs.lemmas.Bool.Decides.{nat_tests}
 use Rattle.forec_kernel.specs.Shapes.{PlainShape, PlainKernel}
-use Rattle.forec_kernel.specs.Engine.{Job, Reply, Written, Exchange, Output, Answered, pair_up, pair_forks, pair_all, jobs_to, Allowed, AnswersBy, answers_within}
+use Rattle.forec_kernel.specs.Engine.{Job, Reply, Written, Exchange, Output, Answered, pair_up, pair_forks, pair_all, jobs_to, Allowed, AnswersBy, answers_within, Answers}
 use Rattle.forec_kernel.specs.Solo.{KernelAlone}
 use Rattle.thread_code.specs.Plain.{PlainCode}
 use Rattle.thread_code.specs.Alone.{CodeAlone, Stands}
@@ -57,30 +57,48 @@ module _ (s : PlainShape) where
       (f x.branch (jobs_to x.branch (past ++ x ∷ [])) x.reply h.0 (to_fit x.branch (past ++ x ∷ []) more) a.0, allowed_too Sub Sub' f (past ++ x ∷ []) xs more h.2 a.1)
 
 module _ (c : PlainCode) (k : PlainKernel) (stands : Stands c k) (threads : length k.threads ≡ length k.shape.threads) where
-  one_too : (Sub Sub' : ℕ → List Job → Reply → Type 0) →
-      ((b : ℕ) (js : List Job) (r : Reply) → b < length c.shape.threads → EachFits c.shape b js → Sub b js r → Sub' b js r) → (t : ℕ) (jobs : List Job) (reply : Reply) →
-      t < length k.threads → EachFits c.shape t jobs → AnswersBy (CodeAlone c) Sub t jobs reply → AnswersBy (KernelAlone k) Sub' t jobs reply
-  one_too Sub Sub' f t jobs reply lt fit a =
-      let jobs_fit = exchanges_fit c.shape t a.exchanges (subst (EachFits c.shape t) (sym a.jobs_are) fit) in
-      let outputs = jobs_and_replies_fit c t a.exchanges a.outputs jobs_fit a.runs in
-      record {
-        exchanges = a.exchanges;
-        outputs = a.outputs;
-        runs = (stands.each t lt a.exchanges a.outputs).1 a.runs;
-        jobs_are = a.jobs_are;
-        complete = a.complete;
-        allowed = allowed_too c.shape Sub Sub' f [] (pair_all a.exchanges a.outputs) tt (all_fit c.shape t a.exchanges a.outputs outputs) a.allowed;
-        gives = a.gives;
-      }
+  -- two ways to run a thread, the first of which the code has too
+  module _ (run run' : ℕ → List Exchange → List Output → Type 0)
+      (as_code : (t : ℕ) → t < length k.threads → (xs : List Exchange) (os : List Output) → run t xs os → CodeAlone c t xs os)
+      (as_other : (t : ℕ) → t < length k.threads → (xs : List Exchange) (os : List Output) → run t xs os → run' t xs os)
+    where
+      one_too : (Sub Sub' : ℕ → List Job → Reply → Type 0) →
+          ((b : ℕ) (js : List Job) (r : Reply) → b < length c.shape.threads → EachFits c.shape b js → Sub b js r → Sub' b js r) → (t : ℕ) (jobs : List Job) (reply : Reply) →
+          t < length k.threads → EachFits c.shape t jobs → AnswersBy run Sub t jobs reply → AnswersBy run' Sub' t jobs reply
+      one_too Sub Sub' f t jobs reply lt fit a =
+          let jobs_fit = exchanges_fit c.shape t a.exchanges (subst (EachFits c.shape t) (sym a.jobs_are) fit) in
+          let outputs = jobs_and_replies_fit c t a.exchanges a.outputs jobs_fit (as_code t lt a.exchanges a.outputs a.runs) in
+          record {
+            exchanges = a.exchanges;
+            outputs = a.outputs;
+            runs = as_other t lt a.exchanges a.outputs a.runs;
+            jobs_are = a.jobs_are;
+            complete = a.complete;
+            allowed = allowed_too c.shape Sub Sub' f [] (pair_all a.exchanges a.outputs) tt (all_fit c.shape t a.exchanges a.outputs outputs) a.allowed;
+            gives = a.gives;
+          }
 
-  named : (b : ℕ) → b < length c.shape.threads → b < length k.threads
-  named b lt = let e = ap (λ (s : PlainShape). length s.threads) stands.shape in omega (arith, lt, e, threads)
+      named : (b : ℕ) → b < length c.shape.threads → b < length k.threads
+      named b lt = let e = ap (λ (s : PlainShape). length s.threads) stands.shape in omega (arith, lt, e, threads)
 
-  all_too : (n t : ℕ) (jobs : List Job) (reply : Reply) → t < length k.threads → EachFits c.shape t jobs →
-      answers_within (CodeAlone c) n t jobs reply → answers_within (KernelAlone k) n t jobs reply
-  all_too zero t jobs reply lt fit a = one_too (λ b js r. ⊥) (λ b js r. ⊥) (λ b js r below each h. h) t jobs reply lt fit a
-  all_too (suc n) t jobs reply lt fit a =
-      one_too (answers_within (CodeAlone c) n) (answers_within (KernelAlone k) n) (λ b js r below each h. all_too n b js r (named b below) each h) t jobs reply lt fit a
+      all_too : (n t : ℕ) (jobs : List Job) (reply : Reply) → t < length k.threads → EachFits c.shape t jobs →
+          answers_within run n t jobs reply → answers_within run' n t jobs reply
+      all_too zero t jobs reply lt fit a = one_too (λ b js r. ⊥) (λ b js r. ⊥) (λ b js r below each h. h) t jobs reply lt fit a
+      all_too (suc n) t jobs reply lt fit a =
+          one_too (answers_within run n) (answers_within run' n) (λ b js r below each h. all_too n b js r (named b below) each h) t jobs reply lt fit a
 
-pub answers_agree : AnswersAgree
-answers_agree c k stands t lt threads jobs reply fit a = all_too c k stands threads (length k.threads - t) t jobs reply lt fit a
+-- a reply of the code's thread is one of the kernel's
+pub answers_agree : (c : PlainCode) (k : PlainKernel) → Stands c k → (t : ℕ) → t < length k.threads → length k.threads ≡ length k.shape.threads → (jobs : List Job) (reply : Reply) →
+    EachFits c.shape t jobs → Answers (CodeAlone c) (length k.threads) t jobs reply → Answers (KernelAlone k) (length k.threads) t jobs reply
+answers_agree c k stands t lt threads jobs reply fit a =
+    all_too c k stands threads (CodeAlone c) (KernelAlone k) (λ b below xs os h. h) (λ b below xs os h. (stands.each b below xs os).1 h) (length k.threads - t) t jobs reply lt fit a
+
+-- and the other way round
+answers_back : (c : PlainCode) (k : PlainKernel) → Stands c k → (t : ℕ) → t < length k.threads → length k.threads ≡ length k.shape.threads → (jobs : List Job) (reply : Reply) →
+    EachFits c.shape t jobs → Answers (KernelAlone k) (length k.threads) t jobs reply → Answers (CodeAlone c) (length k.threads) t jobs reply
+answers_back c k stands t lt threads jobs reply fit a =
+    all_too c k stands threads (KernelAlone k) (CodeAlone c) (λ b below xs os h. (stands.each b below xs os).0 h) (λ b below xs os h. (stands.each b below xs os).0 h) (length k.threads - t) t jobs
+    reply lt fit a
+
+pub answers_alike : AnswersAgree
+answers_alike c k stands t lt threads jobs reply fit = (answers_agree c k stands t lt threads jobs reply fit, answers_back c k stands t lt threads jobs reply fit)

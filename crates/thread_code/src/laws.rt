@@ -15,8 +15,8 @@ pub fn jobs_and_replies_fit()
     ensures { JobsAndRepliesFit }
 {}
 
-/// Where a code stands for a kernel, what a thread of the code answers to the jobs that it is given,
-/// with its branches below it, is what the kernel's thread answers.
+/// Where a code stands for a kernel, a thread of the code, with its branches below it, can give a reply
+/// to the jobs that it is given exactly where the kernel's thread can give it.
 pub fn code_answers_as_its_kernel()
     ensures { AnswersAgree }
 {}

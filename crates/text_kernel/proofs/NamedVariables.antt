@@ -1,0 +1,414 @@
+-- A variable stands in lowered text where the rules say that the text names it.
+use Rattle.std.proofs.Common.{ℕ, suc, ◌+◌, ◌≡◌, ◌∙◌, sym, ap, refl, subst, Bool, true, false, cond, ◌==◌, ◌&&◌, ◌||◌, Option, Some, None, List, [], ◌∷◌, ◌++◌, append-nil, append_assoc, map, arith}
+use Rattle.std.proofs.lemmas.Bool.Decides.{nat_tests}
+use Rattle.std.proofs.lemmas.List.{map-append}
+use Rattle.std.specs.Prelude.{IsTrue}
+use Rattle.forec_base.specs.declared.Place.{Place}
+use Rattle.forec_tree.specs.declared.tree.Name.{Name}
+use Rattle.forec_tree.specs.declared.tree.Number.{Number}
+use Rattle.forec_tree.specs.declared.tree.OpAt.{OpAt}
+use Rattle.forec_tree.specs.declared.uses.Seen.{Seen}
+use Rattle.forec_tree.specs.declared.uses.Meaning.{Meaning}
+use Rattle.forec_tree.specs.declared.uses.Meaning.TheVariants as means
+use Rattle.forec_tree.specs.declared.uses.How.{How}
+use Rattle.forec_tree.specs.declared.uses.How.TheVariants.{Reads, Indexes, Writes, WritesAt, Computes}
+use Rattle.forec_tree.specs.Terms.{Term, Num, Read, Element, Un, Bin, And, Or, Choose, Call, Terms, no_terms, more_terms, count_terms, Declared, Text, PlainItem, PlainGlobal, IsGlobal, IsFunction}
+use Rattle.forec_tree.specs.Scopes as tree
+use Rattle.forec_tree.specs.Scopes.{Scope, with_name, is_among, find_item, find_last, is_array, local_meaning, item_meaning, meaning}
+use Rattle.forec_tree.specs.Findings.{Finding, Use, Declares, Bound, Loop, Synchronous, Gives, Opens, Closes, in_term, in_terms, in_optional, in_target, in_local, in_locals}
+use Rattle.forec_tree.specs.Rules.{Judging, fault_if, is_constant, fits_variable, use_faults, declared_faults, findings_faults}
+use Rattle.forec_tree.specs.Faults.{is_in}
+use Rattle.forec_tree.specs.ThreadTree.{globals_in}
+use Rattle.forec_kernel.specs.Terms as kernel
+use Rattle.forec_kernel.specs.Terms.{Expr, Stmt, Stmts, no_stmts, more_stmts}
+use Rattle.text_kernel.specs.declared.names.Slot.{Slot}
+use Rattle.text_kernel.specs.declared.names.Stands.{Stands}
+use Rattle.text_kernel.specs.declared.names.Stands.TheVariants as st
+use Rattle.text_kernel.specs.Bindings as binds
+use Rattle.text_kernel.specs.Bindings.{number_among, is_variable, item_id, number_of, slots_of, local_slot, find_slot, slot_stands, item_stands, constant_stands, first_value}
+use Rattle.text_kernel.specs.Lowering.{stands, lower_term, lower_terms, read_as, element_as, assign_to, assign_at, lower_target, sequence, ends_with, array_values, lower_local, lower_locals, set_params, optional_test, vars_in, vars_all, vars_of, vars_list}
+use Rattle.text_kernel.proofs.OneValue.{one_value, OneValues}
+use Rattle.text_kernel.proofs.Fine.{none_left, none_right, not_broken, parts_left, parts_right, GoodUse, good_use, seen_of, seen_option, has_size, found}
+use Rattle.text_kernel.proofs.Locals.{seen_size}
+use Rattle.text_kernel.proofs.Known.{First, first, further, first_of, first_id}
+
+-- ---- lists
+
+pub in_append : (x : ℕ) (a b : List ℕ) → is_in x (a ++ b) ≡ (is_in x a || is_in x b)
+in_append x [] b = refl
+in_append x (y ∷ a) b = pick (y == x) (in_append x a b)
+  where
+    pick : (t : Bool) → is_in x (a ++ b) ≡ (is_in x a || is_in x b) → cond t true (is_in x (a ++ b)) ≡ (cond t true (is_in x a) || is_in x b)
+    pick true e = refl
+    pick false e = e
+
+or_twice : (a b : Bool) → (a || (a || b)) ≡ (a || b)
+or_twice true b = refl
+or_twice false b = refl
+
+or_other : (a b : Bool) → (a || b) ≡ (b || a)
+or_other true true = refl
+or_other true false = refl
+or_other false true = refl
+or_other false false = refl
+
+twice_in : (x : ℕ) (a b : List ℕ) → is_in x (a ++ (a ++ b)) ≡ is_in x (a ++ b)
+twice_in x a b = in_append x a (a ++ b) ∙ (ap (λ t. is_in x a || t) (in_append x a b) ∙ (or_twice (is_in x a) (is_in x b) ∙ sym (in_append x a b)))
+
+pub swapped_in : (x : ℕ) (a b : List ℕ) → is_in x (a ++ (b ++ [])) ≡ is_in x (b ++ a)
+swapped_in x a b =
+    ap (λ l. is_in x (a ++ l)) (append-nil b) ∙ (in_append x a b ∙ (or_other (is_in x a) (is_in x b) ∙ sym (in_append x b a)))
+
+pub globals_append : (xs ys : List Finding) → globals_in (xs ++ ys) ≡ globals_in xs ++ globals_in ys
+globals_append [] ys = refl
+globals_append (Use how name means.Unknown ∷ xs) ys = globals_append xs ys
+globals_append (Use how name (means.Local array) ∷ xs) ys = globals_append xs ys
+globals_append (Use how name (means.Global kind array) ∷ xs) ys = ap (λ l. name.id ∷ l) (globals_append xs ys)
+globals_append (Use how name (means.Function gives params) ∷ xs) ys = globals_append xs ys
+globals_append (Declares name again size values ∷ xs) ys = globals_append xs ys
+globals_append (Bound n ∷ xs) ys = globals_append xs ys
+globals_append (Loop x ∷ xs) ys = globals_append xs ys
+globals_append (Synchronous place ∷ xs) ys = globals_append xs ys
+globals_append (Gives place ∷ xs) ys = globals_append xs ys
+globals_append (Opens ∷ xs) ys = globals_append xs ys
+globals_append (Closes ∷ xs) ys = globals_append xs ys
+
+pub sequence_vars : (list : Stmts) → vars_of (sequence list) ≡ vars_list list
+sequence_vars no_stmts = refl
+sequence_vars (more_stmts a no_stmts) = sym (append-nil (vars_of a))
+sequence_vars (more_stmts a (more_stmts b rest)) = refl
+
+pub ends_vars : (list : Stmts) (a : Stmt) → vars_list (ends_with list a) ≡ vars_list list ++ vars_of a
+ends_vars no_stmts a = append-nil (vars_of a)
+ends_vars (more_stmts b rest) a = ap (λ l. vars_of b ++ l) (ends_vars rest a) ∙ sym (append_assoc (vars_of b) (vars_list rest) (vars_of a))
+
+-- ---- the scopes name the same
+
+pub record Agree (sc : Scope) (s : List Slot) : Type 0 where
+  pub same : map seen_of s ≡ sc.outer ++ sc.here
+
+pub agree_more : (sc : Scope) (s : List Slot) (x : Slot) (array : Bool) → Agree sc s → has_size x.size ≡ array → is_among x.id sc.here ≡ false →
+    Agree (with_name sc x.id array) (s ++ x ∷ [])
+agree_more sc s x array m a e = subst (λ z. Agree z (s ++ x ∷ [])) (sym added) more
+  where
+    next_scope : Scope
+    next_scope = record { outer = sc.outer; here = sc.here ++ record { id = x.id; array = array } ∷ [] }
+
+    added : with_name sc x.id array ≡ next_scope
+    added = ap (λ b. cond b sc next_scope) e
+
+    more : Agree next_scope (s ++ x ∷ [])
+    more =
+        record {
+          same =
+              map-append seen_of s (x ∷ [])
+              ∙ (ap (λ l. l ++ record { id = x.id; array = has_size x.size } ∷ []) m.same
+              ∙ (ap (λ b. (sc.outer ++ sc.here) ++ record { id = x.id; array = b } ∷ []) a ∙ append_assoc sc.outer sc.here (record { id = x.id; array = array } ∷ [])));
+        }
+
+-- ---- numbers of variables
+
+apart : (sort : PlainItem → Bool) (m n : ℕ) (a b : PlainItem) (text : Text) → First m a text → First n b text → sort a ≡ true → sort b ≡ true →
+    number_among sort m text ≡ number_among sort n text → m ≡ n
+apart sort m n a b [] p q h k e = elim p [ ]
+apart sort m n a b (y ∷ rest) (first d) (first f) h k e = grind (arith, nat_tests)
+apart sort m n a b (y ∷ rest) (first d) (further f q) h k e =
+    let left : number_among sort m (y ∷ rest) ≡ 0 = ap (λ t. cond t 0 (cond (sort y) (suc (number_among sort m rest)) (number_among sort m rest))) d in
+    let right : number_among sort n (y ∷ rest) ≡ suc (number_among sort n rest) =
+    ap (λ t. cond t 0 (cond (sort y) (suc (number_among sort n rest)) (number_among sort n rest))) f ∙ ap (λ t. cond t (suc (number_among sort n rest)) (number_among sort n rest)) h in
+    let bad : 0 ≡ suc (number_among sort n rest) = sym left ∙ (e ∙ right) in absurd (omega (arith, bad))
+apart sort m n a b (y ∷ rest) (further d p) (first f) h k e =
+    let right : number_among sort n (y ∷ rest) ≡ 0 = ap (λ t. cond t 0 (cond (sort y) (suc (number_among sort n rest)) (number_among sort n rest))) f in
+    let left : number_among sort m (y ∷ rest) ≡ suc (number_among sort m rest) =
+    ap (λ t. cond t 0 (cond (sort y) (suc (number_among sort m rest)) (number_among sort m rest))) d ∙ ap (λ t. cond t (suc (number_among sort m rest)) (number_among sort m rest)) k in
+    let bad : suc (number_among sort m rest) ≡ 0 = sym left ∙ (e ∙ right) in absurd (omega (arith, bad))
+apart sort m n a b (y ∷ rest) (further d p) (further f q) h k e =
+    let left = ap (λ t. cond t 0 (cond (sort y) (suc (number_among sort m rest)) (number_among sort m rest))) d in
+    let right = ap (λ t. cond t 0 (cond (sort y) (suc (number_among sort n rest)) (number_among sort n rest))) f in
+    apart sort m n a b rest p q h k (inner (sort y) (sym left ∙ (e ∙ right)))
+  where
+    inner : (t : Bool) → cond t (suc (number_among sort m rest)) (number_among sort m rest) ≡ cond t (suc (number_among sort n rest)) (number_among sort n rest) →
+        number_among sort m rest ≡ number_among sort n rest
+    inner true e = omega (arith, e)
+    inner false e = e
+
+same_tests : (a b c d : ℕ) → (c ≡ d → a ≡ b) → (a ≡ b → c ≡ d) → (t u : Bool) → (a == b) ≡ t → (c == d) ≡ u → t ≡ u
+same_tests a b c d f k true true e h = refl
+same_tests a b c d f k true false e h = let g : c ≡ d = k (grind (arith, nat_tests)) in let bad : (c == d) ≡ true = grind (arith, nat_tests) in cc
+same_tests a b c d f k false true e h = let g : a ≡ b = f (grind (arith, nat_tests)) in let bad : (a == b) ≡ true = grind (arith, nat_tests) in cc
+same_tests a b c d f k false false e h = refl
+
+turned : (b : Bool) → b ≡ false → cond b false true ≡ true
+turned true h = cc
+turned false h = refl
+
+only_front : (a b : Bool) → (a && b) ≡ true → a ≡ true
+only_front true b h = refl
+only_front false b h = cc
+
+-- ---- one variable
+
+module _ (text : Text) (j : Judging) (g : PlainGlobal) (is_item : find_item g.name.id text ≡ Some (IsGlobal g)) (changes : is_constant g.kind ≡ false) where
+  abbrev pub i : ℕ
+  i = g.name.id
+
+  -- its number
+  abbrev pub v : ℕ
+  v = number_among is_variable g.name.id text
+
+  abbrev pub Same : List ℕ → List ℕ → Type 0
+  Same vs gs = is_in v vs ≡ is_in i gs
+
+  pub same_append : (a b c d : List ℕ) → Same a c → Same b d → Same (a ++ b) (c ++ d)
+  same_append a b c d h k = in_append v a b ∙ (ap (λ t. t || is_in v b) h ∙ (ap (λ t. is_in i c || t) k ∙ sym (in_append i c d)))
+
+  pub same_found : (a b : List ℕ) (xs ys : List Finding) → Same a (globals_in xs) → Same b (globals_in ys) → Same (a ++ b) (globals_in (xs ++ ys))
+  same_found a b xs ys h k = subst (λ l. Same (a ++ b) l) (sym (globals_append xs ys)) (same_append a b (globals_in xs) (globals_in ys) h k)
+
+  constant_other : (id : ℕ) (h : PlainGlobal) → find_item id text ≡ Some (IsGlobal h) → is_constant h.kind ≡ true → (id == i) ≡ false
+  constant_other id h e c = pick (id == i) refl
+    where
+      pick : (b : Bool) → (id == i) ≡ b → b ≡ false
+      pick false d = refl
+      pick true d =
+          let is : id ≡ i = grind (arith, nat_tests) in
+          let one : Some (IsGlobal h) ≡ Some (IsGlobal g) = sym e ∙ (ap (λ n. find_item n text) is ∙ is_item) in
+          let same : h ≡ g = cc in
+          let bad : true ≡ false = sym c ∙ (ap (λ (x : PlainGlobal). is_constant x.kind) same ∙ changes) in cc
+
+  variable_same : (id : ℕ) (h : PlainGlobal) → find_item id text ≡ Some (IsGlobal h) → is_constant h.kind ≡ false →
+      (number_among is_variable h.name.id text == v) ≡ (id == i)
+  variable_same id h e c =
+      let there = first_of id (IsGlobal h) text e in
+      let here_ = first_of i (IsGlobal g) text is_item in
+      let named : h.name.id ≡ id = first_id id (IsGlobal h) text there in
+      same_tests (number_among is_variable h.name.id text) v id i
+      (λ d. ap (λ n. number_among is_variable n text) (named ∙ d))
+      (λ d. apart is_variable id i (IsGlobal h) (IsGlobal g) text there here_ (turned (is_constant h.kind) c) (turned (is_constant g.kind) changes)
+      (ap (λ n. number_among is_variable n text) (sym named) ∙ d))
+      (number_among is_variable h.name.id text == v) (id == i) refl refl
+
+  -- a name that isn't this variable
+  abbrev NotThis : Name → Meaning → Type 0
+  NotThis name means.Unknown = Unit {0}
+  NotThis name (means.Local array) = Unit {0}
+  NotThis name (means.Global kind array) = (name.id == i) ≡ false
+  NotThis name (means.Function gives params) = Unit {0}
+
+  skip : (how : How) (name : Name) (m : Meaning) (fs : List Finding) → NotThis name m → is_in i (globals_in (Use how name m ∷ fs)) ≡ is_in i (globals_in fs)
+  skip how name means.Unknown fs h = refl
+  skip how name (means.Local array) fs h = refl
+  skip how name (means.Global kind array) fs h = ap (λ b. cond b true (is_in i (globals_in fs))) h
+  skip how name (means.Function gives params) fs h = refl
+
+  other : (how : How) (name : Name) (o : Option Seen) (it : Option PlainItem) → ((array : Bool) → fits_variable how array ≡ true → array ≡ true) → find_item name.id text ≡ it →
+      GoodUse j.gives how (local_meaning o (item_meaning it)) → NotThis name (local_meaning o (item_meaning it))
+  other how name (Some x) it arrays e u = tt
+  other how name None None arrays e u = tt
+  other how name None (Some (IsFunction f)) arrays e u = tt
+  other how name None (Some (IsGlobal h)) arrays e u =
+      constant_other name.id h e (only_front (is_constant h.kind) (is_array h.length) (arrays (is_constant h.kind && is_array h.length) u.fits))
+
+  -- a use that no scalar variable fits
+  pub skipped : (how : How) (name : Name) (sc : Scope) (fs : List Finding) → ((array : Bool) → fits_variable how array ≡ true → array ≡ true) →
+      use_faults j how name (meaning text sc name.id) ≡ [] → is_in i (globals_in (Use how name (meaning text sc name.id) ∷ fs)) ≡ is_in i (globals_in fs)
+  skipped how name sc fs arrays h =
+      skip how name (meaning text sc name.id) fs
+      (other how name (find_last name.id None (sc.outer ++ sc.here)) (find_item name.id text) arrays refl (good_use j how name (meaning text sc name.id) h))
+
+  means_same : (sc : Scope) (s : List Slot) (id : ℕ) → Agree sc s → meaning text sc id ≡ local_meaning (seen_option (find_slot id None s)) (item_meaning (find_item id text))
+  means_same sc s id m = ap (λ o. local_meaning o (item_meaning (find_item id text))) (ap (find_last id None) (sym m.same) ∙ found id None s)
+
+  -- ---- terms
+
+  slot_read : (slot : ℕ) (o : Option ℕ) → vars_in (read_as (elim o [ None ↦ st.AtSlot slot | Some n ↦ st.AtSlots slot n ])) ≡ []
+  slot_read slot None = refl
+  slot_read slot (Some n) = refl
+
+  constant_read : (h : PlainGlobal) (o : Option Number) →
+      vars_in (read_as (elim o [ None ↦ st.AsNumber (first_value h.values) | Some n ↦ st.AsTable (number_among binds.is_table h.name.id text) ])) ≡ []
+  constant_read h None = refl
+  constant_read h (Some n) = refl
+
+  global_read : (name : Name) (h : PlainGlobal) (b : Bool) → find_item name.id text ≡ Some (IsGlobal h) → is_constant h.kind ≡ b →
+      Same (vars_in (read_as (cond b (constant_stands text h) (st.AsVariable (number_among is_variable h.name.id text))))) (name.id ∷ [])
+  global_read name h true e c = ap (is_in v) (constant_read h h.length) ∙ sym (ap (λ b. cond b true false) (constant_other name.id h e c))
+  global_read name h false e c = ap (λ b. cond b true false) (variable_same name.id h e c)
+
+  name_read : (name : Name) (o : Option Slot) (it : Option PlainItem) → find_item name.id text ≡ it →
+      Same (vars_in (read_as (elim o [ Some s ↦ slot_stands s | None ↦ item_stands text it ]))) (globals_in (Use Reads name (local_meaning (seen_option o) (item_meaning it)) ∷ []))
+  name_read name (Some x) it e = ap (is_in v) (slot_read x.slot x.size)
+  name_read name None None e = refl
+  name_read name None (Some (IsFunction f)) e = refl
+  name_read name None (Some (IsGlobal h)) e = global_read name h (is_constant h.kind) e refl
+
+  element_vars : (x : Stands) (e : Expr) (place : Place) → vars_in (element_as x e place) ≡ vars_in e
+  element_vars (st.AtSlot slot) e place = refl
+  element_vars (st.AtSlots slot n) e place = refl
+  element_vars (st.AsVariable n) e place = refl
+  element_vars (st.AsNumber n) e place = refl
+  element_vars (st.AsTable n) e place = refl
+  element_vars st.AsNothing e place = refl
+
+  both_from : (a b : List ℕ) (xs ys : List Finding) → findings_faults j (xs ++ ys) ≡ [] → (findings_faults j xs ≡ [] → Same a (globals_in xs)) → (findings_faults j ys ≡ [] → Same b (globals_in ys)) →
+      Same (a ++ b) (globals_in (xs ++ ys))
+  both_from a b xs ys h f k = same_found a b xs ys (f (parts_left j xs ys h)) (k (parts_right j xs ys h))
+
+  mutual
+    pub term_names : (sc : Scope) (s : List Slot) → Agree sc s → (e : Term) → findings_faults j (in_term text sc e) ≡ [] →
+        Same (vars_in (lower_term text s e)) (globals_in (in_term text sc e))
+    term_names sc s m (Num at n) h = refl
+    term_names sc s m (Read at name) h =
+        subst (λ x. Same (vars_in (read_as (stands text s name.id))) (globals_in (Use Reads name x ∷ []))) (sym (means_same sc s name.id m))
+        (name_read name (find_slot name.id None s) (find_item name.id text) refl)
+    term_names sc s m (Element at name k) h =
+        let own = use_faults j Indexes name (meaning text sc name.id) in
+        ap (is_in v) (element_vars (stands text s name.id) (lower_term text s k) name.place)
+        ∙ (term_names sc s m k (none_right own (findings_faults j (in_term text sc k)) h)
+        ∙ sym (skipped Indexes name sc (in_term text sc k) (λ array e. e) (none_left own (findings_faults j (in_term text sc k)) h)))
+    term_names sc s m (Un at op a) h = term_names sc s m a h
+    term_names sc s m (Bin at op a b) h = both_from (vars_in (lower_term text s a)) (vars_in (lower_term text s b)) (in_term text sc a) (in_term text sc b) h (λ d. term_names sc s m a d) (λ d. term_names sc s m b d)
+    term_names sc s m (And at a b) h = both_from (vars_in (lower_term text s a)) (vars_in (lower_term text s b)) (in_term text sc a) (in_term text sc b) h (λ d. term_names sc s m a d) (λ d. term_names sc s m b d)
+    term_names sc s m (Or at a b) h = both_from (vars_in (lower_term text s a)) (vars_in (lower_term text s b)) (in_term text sc a) (in_term text sc b) h (λ d. term_names sc s m a d) (λ d. term_names sc s m b d)
+    term_names sc s m (Choose at t a b) h =
+        let sides = in_term text sc a ++ in_term text sc b in
+        same_found (vars_in (lower_term text s t)) (vars_in (lower_term text s a) ++ vars_in (lower_term text s b)) (in_term text sc t) sides
+        (term_names sc s m t (parts_left j (in_term text sc t) sides h))
+        (both_from (vars_in (lower_term text s a)) (vars_in (lower_term text s b)) (in_term text sc a) (in_term text sc b) (parts_right j (in_term text sc t) sides h) (λ d. term_names sc s m a d)
+        (λ d. term_names sc s m b d))
+    term_names sc s m (Call at name args) h =
+        let how = Computes (count_terms args) in
+        let own = use_faults j how name (meaning text sc name.id) in
+        terms_names sc s m args (none_right own (findings_faults j (in_terms text sc args)) h)
+        ∙ sym (skipped how name sc (in_terms text sc args) (λ array e. cc) (none_left own (findings_faults j (in_terms text sc args)) h))
+
+    pub terms_names : (sc : Scope) (s : List Slot) → Agree sc s → (es : Terms) → findings_faults j (in_terms text sc es) ≡ [] →
+        Same (vars_all (lower_terms text s es)) (globals_in (in_terms text sc es))
+    terms_names sc s m no_terms h = refl
+    terms_names sc s m (more_terms e rest) h =
+        same_found (vars_in (lower_term text s e)) (vars_all (lower_terms text s rest)) (in_term text sc e) (in_terms text sc rest)
+        (term_names sc s m e (parts_left j (in_term text sc e) (in_terms text sc rest) h)) (terms_names sc s m rest (parts_right j (in_term text sc e) (in_terms text sc rest) h))
+
+  both_names : (sc : Scope) (s : List Slot) → Agree sc s → (a b : Term) → findings_faults j (in_term text sc a ++ in_term text sc b) ≡ [] →
+      Same (vars_in (lower_term text s a) ++ vars_in (lower_term text s b)) (globals_in (in_term text sc a ++ in_term text sc b))
+  both_names sc s m a b h =
+      both_from (vars_in (lower_term text s a)) (vars_in (lower_term text s b)) (in_term text sc a) (in_term text sc b) h (λ d. term_names sc s m a d) (λ d. term_names sc s m b d)
+
+  pub optional_names : (sc : Scope) (s : List Slot) → Agree sc s → (e : Option Term) → findings_faults j (in_optional text sc e) ≡ [] →
+      Same (vars_in (optional_test text s e)) (globals_in (in_optional text sc e))
+  optional_names sc s m None h = refl
+  optional_names sc s m (Some e) h = term_names sc s m e h
+
+  -- ---- assignments
+
+  slot_write : (slot : ℕ) (o : Option ℕ) (op : Option OpAt) (value : Expr) → vars_of (assign_to (elim o [ None ↦ st.AtSlot slot | Some n ↦ st.AtSlots slot n ]) op value) ≡ vars_in value
+  slot_write slot None None value = refl
+  slot_write slot None (Some op) value = refl
+  slot_write slot (Some n) None value = refl
+  slot_write slot (Some n) (Some op) value = refl
+
+  nothing_write : (op : Option OpAt) (value : Expr) → vars_of (assign_to st.AsNothing op value) ≡ vars_in value
+  nothing_write None value = refl
+  nothing_write (Some op) value = refl
+
+  once : (a b x y : Bool) → a ≡ b → x ≡ y → cond a true x ≡ cond b true y
+  once a b x y e h = cc
+
+  doubled : (a x : Bool) → cond a true (cond a true x) ≡ cond a true x
+  doubled true x = refl
+  doubled false x = refl
+
+  variable_write : (n id : ℕ) (op : Option OpAt) (value : Expr) (gs : List ℕ) → (n == v) ≡ (id == i) → Same (vars_in value) gs →
+      Same (vars_of (assign_to (st.AsVariable n) op value)) (id ∷ gs)
+  variable_write n id None value gs e h = once (n == v) (id == i) (is_in v (vars_in value)) (is_in i gs) e h
+  variable_write n id (Some op) value gs e h =
+      doubled (n == v) (is_in v (vars_in value)) ∙ once (n == v) (id == i) (is_in v (vars_in value)) (is_in i gs) e h
+
+  global_write : (name : Name) (h : PlainGlobal) (b : Bool) (op : Option OpAt) (value : Expr) (fs : List Finding) → find_item name.id text ≡ Some (IsGlobal h) → is_constant h.kind ≡ b →
+      is_constant h.kind ≡ false → Same (vars_in value) (globals_in fs) →
+      Same (vars_of (assign_to (cond b (constant_stands text h) (st.AsVariable (number_among is_variable h.name.id text))) op value)) (name.id ∷ globals_in fs)
+  global_write name h true op value fs e c d k = cc
+  global_write name h false op value fs e c d k =
+      variable_write (number_among is_variable h.name.id text) name.id op value (globals_in fs) (variable_same name.id h e c) k
+
+  name_write : (name : Name) (o : Option Slot) (it : Option PlainItem) (op : Option OpAt) (value : Expr) (fs : List Finding) → find_item name.id text ≡ it →
+      GoodUse j.gives Writes (local_meaning (seen_option o) (item_meaning it)) → Same (vars_in value) (globals_in fs) →
+      Same (vars_of (assign_to (elim o [ Some s ↦ slot_stands s | None ↦ item_stands text it ]) op value)) (globals_in (Use Writes name (local_meaning (seen_option o) (item_meaning it)) ∷ fs))
+  name_write name (Some x) it op value fs e u k = ap (is_in v) (slot_write x.slot x.size op value) ∙ k
+  name_write name None None op value fs e u k = ap (is_in v) (nothing_write op value) ∙ k
+  name_write name None (Some (IsFunction f)) op value fs e u k = ap (is_in v) (nothing_write op value) ∙ k
+  name_write name None (Some (IsGlobal h)) op value fs e u k = global_write name h (is_constant h.kind) op value fs e refl (u.written refl) k
+
+  at_vars : (x : Stands) (op : Option OpAt) (k value : Expr) (place : Place) → is_in v (vars_of (assign_at x op k value place)) ≡ is_in v (vars_in k ++ vars_in value)
+  at_vars (st.AtSlots slot n) None k value place = refl
+  at_vars (st.AtSlots slot n) (Some op) k value place = twice_in v (vars_in k) (vars_in value)
+  at_vars (st.AtSlot slot) None k value place = refl
+  at_vars (st.AtSlot slot) (Some op) k value place = twice_in v (vars_in k) (vars_in value)
+  at_vars (st.AsVariable n) None k value place = refl
+  at_vars (st.AsVariable n) (Some op) k value place = twice_in v (vars_in k) (vars_in value)
+  at_vars (st.AsNumber n) None k value place = refl
+  at_vars (st.AsNumber n) (Some op) k value place = twice_in v (vars_in k) (vars_in value)
+  at_vars (st.AsTable n) None k value place = refl
+  at_vars (st.AsTable n) (Some op) k value place = twice_in v (vars_in k) (vars_in value)
+  at_vars st.AsNothing None k value place = refl
+  at_vars st.AsNothing (Some op) k value place = twice_in v (vars_in k) (vars_in value)
+
+  pub target_names : (sc : Scope) (s : List Slot) → Agree sc s → (name : Name) (index : Option Term) (op : Option OpAt) (value : Term) →
+      findings_faults j (in_target text sc (record { name = name; index = index }) ++ in_term text sc value) ≡ [] →
+      Same (vars_of (lower_target text s (record { name = name; index = index }) op (lower_term text s value)))
+      (globals_in (in_target text sc (record { name = name; index = index }) ++ in_term text sc value))
+  target_names sc s m name None op value h =
+      let own = use_faults j Writes name (meaning text sc name.id) in
+      let rest = findings_faults j (in_term text sc value) in
+      let u = subst (GoodUse j.gives Writes) (means_same sc s name.id m) (good_use j Writes name (meaning text sc name.id) (none_left own rest h)) in
+      subst (λ x. Same (vars_of (assign_to (stands text s name.id) op (lower_term text s value))) (globals_in (Use Writes name x ∷ in_term text sc value))) (sym (means_same sc s name.id m))
+      (name_write name (find_slot name.id None s) (find_item name.id text) op (lower_term text s value) (in_term text sc value) refl u (term_names sc s m value (none_right own rest h)))
+  target_names sc s m name (Some k) op value h =
+      let own = use_faults j WritesAt name (meaning text sc name.id) in
+      let fs = in_term text sc k ++ in_term text sc value in
+      at_vars (stands text s name.id) op (lower_term text s k) (lower_term text s value) name.place
+      ∙ (both_names sc s m k value (none_right own (findings_faults j fs) h)
+      ∙ sym (skipped WritesAt name sc fs (λ array e. e) (none_left own (findings_faults j fs) h)))
+
+  -- ---- declarations, parameters
+
+  values_names : (sc : Scope) (s : List Slot) → Agree sc s → (slot size k : ℕ) (es : Terms) (place : Place) → findings_faults j (in_terms text sc es) ≡ [] →
+      Same (vars_list (array_values text s slot size k es place)) (globals_in (in_terms text sc es))
+  values_names sc s m slot size k no_terms place h = refl
+  values_names sc s m slot size k (more_terms e rest) place h =
+      same_found (vars_in (lower_term text s e)) (vars_list (array_values text s slot size (suc k) rest place)) (in_term text sc e) (in_terms text sc rest)
+      (term_names sc s m e (parts_left j (in_term text sc e) (in_terms text sc rest) h))
+      (values_names sc s m slot size (suc k) rest place (parts_right j (in_term text sc e) (in_terms text sc rest) h))
+
+  pub sets_names : (sc : Scope) (s : List Slot) → Agree sc s → (slot : ℕ) (es : Terms) → findings_faults j (in_terms text sc es) ≡ [] →
+      Same (vars_list (set_params text s slot es)) (globals_in (in_terms text sc es))
+  sets_names sc s m slot no_terms h = refl
+  sets_names sc s m slot (more_terms e rest) h =
+      same_found (vars_in (lower_term text s e)) (vars_list (set_params text s (suc slot) rest)) (in_term text sc e) (in_terms text sc rest)
+      (term_names sc s m e (parts_left j (in_term text sc e) (in_terms text sc rest) h)) (sets_names sc s m (suc slot) rest (parts_right j (in_term text sc e) (in_terms text sc rest) h))
+
+  local_names : (sc : Scope) (s : List Slot) → Agree sc s → (slot : ℕ) (name : Name) (size : Option Number) (es : Terms) → IsTrue (one_value (record { name = name; length = size; values = es })) →
+      findings_faults j (in_terms text sc es) ≡ [] → Same (vars_of (lower_local text s slot (record { name = name; length = size; values = es }))) (globals_in (in_terms text sc es))
+  local_names sc s m slot name None no_terms one h = refl
+  local_names sc s m slot name None (more_terms e no_terms) one h =
+      term_names sc s m e (parts_left j (in_term text sc e) [] h) ∙ ap (λ l. is_in i (globals_in l)) (sym (append-nil (in_term text sc e)))
+  local_names sc s m slot name None (more_terms e (more_terms f rest)) one h = cc
+  local_names sc s m slot name (Some n) es one h =
+      ap (is_in v) (sequence_vars (more_stmts (kernel.Clear slot (number_of n)) (array_values text s slot (number_of n) 0 es name.place)))
+      ∙ values_names sc s m slot (number_of n) 0 es name.place h
+
+  pub locals_names : (sc : Scope) (s : List Slot) → Agree sc s → (slot : ℕ) (ls : List Declared) → OneValues ls → findings_faults j (in_locals text sc ls) ≡ [] →
+      Same (vars_list (lower_locals text s slot ls)) (globals_in (in_locals text sc ls)) × Agree (tree.with_locals sc ls) (binds.with_locals s slot ls)
+  locals_names sc s m slot [] one h = (refl, m)
+  locals_names sc s m slot (d ∷ rest) one h =
+      let own = declared_faults j.names d.name (is_among d.name.id sc.here) d.length (count_terms d.values) in
+      let tail_ = in_locals text (with_name sc d.name.id (is_array d.length)) rest in
+      let h0 = none_left own (findings_faults j (in_terms text sc d.values ++ tail_)) h in
+      let h1 = none_right own (findings_faults j (in_terms text sc d.values ++ tail_)) h in
+      let again = not_broken (is_among d.name.id sc.here) d.name.place 2 (none_left (fault_if (is_among d.name.id sc.here) d.name.place 2) _ h0) in
+      let m' = agree_more sc s (local_slot slot d) (is_array d.length) m (seen_size d.length) again in
+      let others = locals_names (with_name sc d.name.id (is_array d.length)) (s ++ local_slot slot d ∷ []) m' (slot + slots_of d.length) rest one.1 (parts_right j (in_terms text sc d.values) tail_ h1) in (
+        same_found (vars_of (lower_local text s slot d)) (vars_list (lower_locals text (s ++ local_slot slot d ∷ []) (slot + slots_of d.length) rest)) (in_local text sc d) tail_
+            (local_names sc s m slot d.name d.length d.values one.0 (parts_left j (in_terms text sc d.values) tail_ h1)) others.0,
+        others.1,
+      )

@@ -1,0 +1,540 @@
+-- The variables of which a thread has copies are those that the tree of threads says.
+use Rattle.std.proofs.Common.{ℕ, zero, suc, ◌+◌, ◌<◌, ◌≡◌, ◌∙◌, sym, ap, refl, subst, Bool, true, false, cond, not, ◌==◌, ◌||◌, Option, Some, None, List, [], ◌∷◌, ◌++◌, append-nil, append_assoc, map, length, length-append, get_or, arith}
+use Rattle.std.specs.Prelude.{slice_get}
+use Rattle.std.proofs.lemmas.Bool.Decides.{nat_tests}
+use Rattle.std.proofs.lemmas.List.{map-append}
+use Rattle.std.proofs.lemmas.Option.{slice_get-get_or}
+use Rattle.forec_tree.specs.declared.tree.Name.{Name}
+use Rattle.forec_tree.specs.declared.uses.How.TheVariants.{Runs, Starts}
+use Rattle.forec_tree.specs.Terms.{Term, count_terms, Statement, Declare, Nothing, Group, Assign, Invoke, If, While, For, Pause, Par, Abort, Return, Statements, no_statements, more_statements, Perhaps, absent, present, Branches, no_branches, by_call, by_group, Text, PlainItem, PlainGlobal, PlainFunction, IsGlobal, IsFunction}
+use Rattle.forec_tree.specs.Scopes.{Scope, no_scope, entered, behind, behind_perhaps, with_name, with_params, is_among, find_item, find_last, meaning, name_of}
+use Rattle.forec_tree.specs.Findings.{Closes, in_bound, in_term, in_terms, in_optional, in_locals, in_target, in_statement, in_statements, in_perhaps, in_branches, in_params}
+use Rattle.forec_tree.specs.Rules.{Judging, fault_if, is_constant, use_faults, declared_faults, findings_faults}
+use Rattle.forec_tree.specs.Faults.{is_in, in_function, Member, here, later, Before, none_before, after_item, item_faults, items_faults}
+use Rattle.forec_tree.specs.Pauses.{within, find_function}
+use Rattle.forec_tree.specs.ThreadTree.{Threads, no_threads, thread, followed_by, Placed, nothing, joined, started, globals_in, naming, placed, all_placed, perhaps_placed, branches_placed, body_placed, placed_step, thread_tree, all_named, in_preorder, count_threads, variables, those_in}
+use Rattle.forec_kernel.specs.Terms.{Branch, Stmt}
+use Rattle.forec_kernel.specs.Texts.{uses_of}
+use Rattle.forec_kernel.specs.WellFormed.{count_up}
+use Rattle.text_kernel.specs.declared.names.Slot.{Slot}
+use Rattle.text_kernel.specs.Bindings.{params_at, number_among, is_variable, item_id}
+use Rattle.text_kernel.specs.Lowering.{Next, Made, Listed, from_slot, scope_behind, scope_behind_perhaps, par_behind, par_of, after_start, then_step, optional_test, set_params, lower_term, lower_terms, lower_locals, lower_target, lower_statement, lower_list, lower_perhaps, lower_branches, InPlace, body_in_place, in_place_step, nothing_in_place, sequence, ends_with, vars_in, vars_all, vars_of, vars_list, vars_launches, vars_made}
+use Rattle.text_kernel.specs.Kernels.{kernel_of, root, main_id, variable_items, variable_count, filter_in}
+use Rattle.text_kernel.specs.Laws.{UsesAreThoseOfTheTree}
+use Rattle.text_kernel.specs.Instances.{UsesOfTree}
+use Rattle.text_kernel.proofs.OneValue.{OneEach, OneInAll, OneIfPresent, OneInBranches, ScalarsHaveOneValue, spelled_one}
+use Rattle.text_kernel.proofs.Fine.{none_left, none_right, not_broken, parts_left, parts_right, good_use}
+use Rattle.text_kernel.proofs.Runs.{runnable, startable}
+use Rattle.text_kernel.proofs.Covered.{vars_append}
+use Rattle.text_kernel.proofs.Forks.{at}
+use Rattle.text_kernel.proofs.Fields as fields
+use Rattle.text_kernel.proofs.Faultless.{Clean, clean_of, void_clean, start_found, own_item, found_member, function_item, new_name, items_after}
+use Rattle.text_kernel.proofs.TreeThreads.{threads_of_tree}
+use Rattle.text_kernel.proofs.NamedVariables as named
+use Rattle.text_kernel.proofs.NamedVariables.{Agree, agree_more, in_append, swapped_in, sequence_vars, ends_vars}
+
+-- ---- trees side by side
+
+all_followed : (p q : Threads) → all_named (followed_by p q) ≡ all_named p ++ all_named q
+all_followed no_threads q = refl
+all_followed (thread own below rest) q = ap (λ l. (own ++ all_named below) ++ l) (all_followed rest q) ∙ sym (append_assoc (own ++ all_named below) (all_named rest) (all_named q))
+
+preorder_followed : (p q : Threads) → in_preorder (followed_by p q) ≡ in_preorder p ++ in_preorder q
+preorder_followed no_threads q = refl
+preorder_followed (thread own below rest) q =
+    ap (λ l. (own ++ all_named below) ∷ l)
+    (ap (λ l. in_preorder below ++ l) (preorder_followed rest q) ∙ sym (append_assoc (in_preorder below) (in_preorder rest) (in_preorder q)))
+
+preorder_long : (p : Threads) → length (in_preorder p) ≡ count_threads p
+preorder_long no_threads = refl
+preorder_long (thread own below rest) = omega (arith, preorder_long below, preorder_long rest, length-append (in_preorder below) (in_preorder rest))
+
+behind_same : (x : ℕ) (a b c : List ℕ) → is_in x b ≡ is_in x c → is_in x (a ++ b) ≡ is_in x (a ++ c)
+behind_same x a b c e = in_append x a b ∙ (ap (λ t. is_in x a || t) e ∙ sym (in_append x a c))
+
+entered_agree : (sc : Scope) (s : List Slot) → Agree sc s → Agree (entered sc) s
+entered_agree sc s m = record { same = m.same ∙ sym (append-nil (sc.outer ++ sc.here)) }
+
+no_names : Agree no_scope []
+no_names = record { same = refl }
+
+launches_vars : (ls : List Branch) → vars_of (par_of ls) ≡ vars_launches ls
+launches_vars [] = refl
+launches_vars (b ∷ rest) = refl
+
+module _ (text : Text) (names : List (List ℕ)) (g : PlainGlobal) (is_item : find_item g.name.id text ≡ Some (IsGlobal g)) (changes : is_constant g.kind ≡ false) where
+  abbrev j : Judging
+  j = record { names = names; gives = false }
+
+  abbrev i : ℕ
+  i = g.name.id
+
+  abbrev v : ℕ
+  v = number_among is_variable g.name.id text
+
+  abbrev Same : List ℕ → List ℕ → Type 0
+  Same vs gs = is_in v vs ≡ is_in i gs
+
+  abbrev own_named : Made → Bool
+  own_named m = is_in v m.named
+
+  abbrev tree_named : List ℕ → Bool
+  tree_named l = is_in i l
+
+  -- lowered text names the variable where the text does, and so do the threads that it adds
+  record Names (vs : List ℕ) (made : List Made) (p : Placed) : Type 0 where
+    pub own : is_in v vs ≡ is_in i p.named
+    pub all : is_in v (vars_made made) ≡ is_in i (all_named p.below)
+    pub each : map own_named made ≡ map tree_named (in_preorder p.below)
+
+  leaf : (vs gs : List ℕ) → Same vs gs → Names vs [] (record { named = gs; below = no_threads })
+  leaf vs gs h = record { own = h; all = refl; each = refl }
+
+  alike : (vs ws : List ℕ) (made : List Made) (p : Placed) → is_in v ws ≡ is_in v vs → Names vs made p → Names ws made p
+  alike vs ws made p e n = record { own = e ∙ n.own; all = n.all; each = n.each }
+
+  two : (a b : List ℕ) (m n : List Made) (p q : Placed) → Names a m p → Names b n q → Names (a ++ b) (m ++ n) (joined p q)
+  two a b m n p q x y =
+      record {
+        own = named.same_append text j g is_item changes a b p.named q.named x.own y.own;
+        all =
+            ap (is_in v) (vars_append m n)
+            ∙ (named.same_append text j g is_item changes (vars_made m) (vars_made n) (all_named p.below) (all_named q.below) x.all y.all
+            ∙ ap (is_in i) (sym (all_followed p.below q.below)));
+        each =
+            map-append own_named m n
+            ∙ (ap (λ l. l ++ map own_named n) x.each
+            ∙ (ap (λ l. map tree_named (in_preorder p.below) ++ l) y.each
+            ∙ (sym (map-append tree_named (in_preorder p.below) (in_preorder q.below)) ∙ ap (map tree_named) (sym (preorder_followed p.below q.below)))));
+      }
+
+  branch_first : (x : Made) (a b : List ℕ) (m n : List Made) (p q : Placed) → vars_of x.body ≡ a → x.named ≡ a ++ vars_made m → Names a m p → Names b n q →
+      Names b (x ∷ (m ++ n)) (joined (started p) q)
+  branch_first x a b m n p q e d y z =
+      let both = named.same_append text j g is_item changes a (vars_made m) p.named (all_named p.below) y.own y.all in
+      record {
+        own = z.own;
+        all =
+            ap (λ l. is_in v (l ++ vars_made (m ++ n))) e
+            ∙ (ap (λ l. is_in v (a ++ l)) (vars_append m n)
+            ∙ (ap (is_in v) (sym (append_assoc a (vars_made m) (vars_made n)))
+            ∙ named.same_append text j g is_item changes (a ++ vars_made m) (vars_made n) (p.named ++ all_named p.below) (all_named q.below) both z.all));
+        each =
+            ap (λ t. t ∷ map own_named (m ++ n)) (ap (is_in v) d ∙ both)
+            ∙ ap (λ l. is_in i (p.named ++ all_named p.below) ∷ l)
+            (map-append own_named m n
+            ∙ (ap (λ l. l ++ map own_named n) y.each
+            ∙ (ap (λ l. map tree_named (in_preorder p.below) ++ l) z.each ∙ sym (map-append tree_named (in_preorder p.below) (in_preorder q.below)))));
+      }
+
+  module _ (called : ℕ → InPlace) (tree : ℕ → Placed)
+      (right : (id first t : ℕ) (n : Next) → ((f : PlainFunction) → find_function id text ≡ Some f → f.gives ≡ false) →
+      Names (vars_of (called id first t n).stmt) (called id first t n).made (tree id))
+    where
+      runs_void : (n : ℕ) (sc : Scope) (name : Name) → use_faults j (Runs n) name (meaning text sc name.id) ≡ [] → (f : PlainFunction) → find_function name.id text ≡ Some f → f.gives ≡ false
+      runs_void n sc name h f e =
+          let r = runnable false n (find_last name.id None (sc.outer ++ sc.here)) (find_item name.id text) (good_use j (Runs n) name (meaning text sc name.id) h) f e in r.void
+
+      starts_void : (n : ℕ) (sc : Scope) (name : Name) → use_faults j (Starts n) name (meaning text sc name.id) ≡ [] → (f : PlainFunction) → find_function name.id text ≡ Some f → f.gives ≡ false
+      starts_void n sc name h f e =
+          let r = startable false n (find_last name.id None (sc.outer ++ sc.here)) (find_item name.id text) (good_use j (Starts n) name (meaning text sc name.id) h) f e in r.void
+
+      behind_agree : (sc : Scope) (s : List Slot) (slot : ℕ) (a : Statement) → Agree sc s → OneEach a → findings_faults j (in_statement text sc a) ≡ [] → Agree (behind sc a) (scope_behind text s slot a)
+      behind_agree sc s slot (Declare at locals) m o h = (named.locals_names text j g is_item changes sc s m slot locals o h).1
+      behind_agree sc s slot (Nothing at) m o h = m
+      behind_agree sc s slot (Group at body) m o h = m
+      behind_agree sc s slot (Assign at target op value) m o h = m
+      behind_agree sc s slot (Invoke at name args) m o h = m
+      behind_agree sc s slot (If at test a b) m o h = m
+      behind_agree sc s slot (While at test bound body) m o h = m
+      behind_agree sc s slot (For at start test step bound body) m o h = m
+      behind_agree sc s slot (Pause at) m o h = m
+      behind_agree sc s slot (Par at bs) m o h = m
+      behind_agree sc s slot (Abort at weak immediate test body) m o h = m
+      behind_agree sc s slot (Return at value) m o h = m
+
+      perhaps_agree : (sc : Scope) (s : List Slot) (slot : ℕ) (a : Perhaps) → Agree sc s → OneIfPresent a → findings_faults j (in_perhaps text sc a) ≡ [] →
+          Agree (behind_perhaps sc a) (scope_behind_perhaps text s slot a)
+      perhaps_agree sc s slot absent m o h = m
+      perhaps_agree sc s slot (present a) m o h = behind_agree sc s slot a m o h
+
+      start_vars : (t : ℕ) (s : List Slot) (n : Next) (start : Perhaps) (loop : Stmt) →
+          vars_of (after_start start (lower_perhaps text called t s n start).stmt loop) ≡ vars_of (lower_perhaps text called t s n start).stmt ++ vars_of loop
+      start_vars t s n absent loop = refl
+      start_vars t s n (present a) loop = ap (λ l. vars_of (lower_statement text called t s n a).stmt ++ l) (append-nil (vars_of loop))
+
+      step_vars : (x t : ℕ) (s : List Slot) (n : Next) (step : Perhaps) (body : Stmt) →
+          is_in x (vars_of (then_step step body (lower_perhaps text called t s n step).stmt)) ≡ is_in x (vars_of (lower_perhaps text called t s n step).stmt ++ vars_of body)
+      step_vars x t s n absent body = refl
+      step_vars x t s n (present a) body = swapped_in x (vars_of body) (vars_of (lower_statement text called t s n a).stmt)
+
+      tested : (sc : Scope) (s : List Slot) → Agree sc s → (e : Term) → findings_faults j (in_term text sc e) ≡ [] → Names (vars_in (lower_term text s e)) [] (naming (in_term text sc e))
+      tested sc s m e h = leaf (vars_in (lower_term text s e)) (globals_in (in_term text sc e)) (named.term_names text j g is_item changes sc s m e h)
+
+      as_one_names : (l : Listed) (p : Placed) → Names (vars_list l.list) l.made p → Names (vars_of (sequence l.list)) l.made p
+      as_one_names l p h = alike (vars_list l.list) (vars_of (sequence l.list)) l.made p (ap (is_in v) (sequence_vars l.list)) h
+
+      mutual
+        one : (t : ℕ) (s : List Slot) (n : Next) (sc : Scope) (a : Statement) → Agree sc s → OneEach a → findings_faults j (in_statement text sc a) ≡ [] →
+            Names (vars_of (lower_statement text called t s n a).stmt) (lower_statement text called t s n a).made (placed text tree sc a)
+        one t s n sc (Nothing at) m o h = leaf [] [] refl
+        one t s n sc (Group at body) m o h =
+            as_one_names (lower_list text called t s n body) (all_placed text tree (entered sc) body) (every t s n (entered sc) body (entered_agree sc s m) o h)
+        one t s n sc (Declare at locals) m o h =
+            leaf (vars_of (sequence (lower_locals text s n.slot locals))) (globals_in (in_locals text sc locals))
+            (ap (is_in v) (sequence_vars (lower_locals text s n.slot locals)) ∙ (named.locals_names text j g is_item changes sc s m n.slot locals o h).0)
+        one t s n sc (Assign at target op value) m o h =
+            leaf (vars_of (lower_target text s target op (lower_term text s value))) (globals_in (in_target text sc target ++ in_term text sc value))
+            (named.target_names text j g is_item changes sc s m target.name target.index op value h)
+        one t s n sc (Invoke at name args) m o h =
+            let own = use_faults j (Runs (count_terms args)) name (meaning text sc name.id) in
+            let sets = set_params text s n.slot args in
+            let next = from_slot n (n.slot + count_terms args) in
+            let l = called name.id n.slot t next in
+            alike (vars_list sets ++ vars_of l.stmt) (vars_of (sequence (ends_with sets l.stmt))) l.made (joined (naming (in_terms text sc args)) (tree name.id))
+            (ap (is_in v) (sequence_vars (ends_with sets l.stmt) ∙ ends_vars sets l.stmt))
+            (two (vars_list sets) (vars_of l.stmt) [] l.made (naming (in_terms text sc args)) (tree name.id)
+            (leaf (vars_list sets) (globals_in (in_terms text sc args))
+            (named.sets_names text j g is_item changes sc s m n.slot args (none_right own (findings_faults j (in_terms text sc args)) h)))
+            (right name.id n.slot t next (runs_void (count_terms args) sc name (none_left own (findings_faults j (in_terms text sc args)) h))))
+        one t s n sc (If at test a b) m o h =
+            let l = lower_statement text called t s n a in
+            let sides = in_statement text (entered sc) a ++ in_perhaps text (entered sc) b in
+            let hs = parts_right j (in_term text sc test) sides h in
+            two (vars_in (lower_term text s test)) _ [] _ (naming (in_term text sc test)) _ (tested sc s m test (parts_left j (in_term text sc test) sides h))
+            (two _ _ _ _ _ _
+            (one t s n (entered sc) a (entered_agree sc s m) o.0 (parts_left j (in_statement text (entered sc) a) (in_perhaps text (entered sc) b) hs))
+            (maybe t s l.next (entered sc) b (entered_agree sc s m) o.1 (parts_right j (in_statement text (entered sc) a) (in_perhaps text (entered sc) b) hs)))
+        one t s n sc (While at test bound body) m o h =
+            let rest = in_term text sc test ++ in_statement text (entered sc) body in
+            let hs = parts_right j (in_bound bound) rest h in
+            two (vars_in (lower_term text s test)) _ [] _ (naming (in_term text sc test)) _ (tested sc s m test (parts_left j (in_term text sc test) (in_statement text (entered sc) body) hs))
+            (one t s n (entered sc) body (entered_agree sc s m) o (parts_right j (in_term text sc test) (in_statement text (entered sc) body) hs))
+        one t s n sc (For at start test step bound body) m o h =
+            let inside = scope_behind_perhaps text s n.slot start in
+            let li = lower_perhaps text called t s n start in
+            let lj = lower_perhaps text called t inside li.next step in
+            let last = scope_behind_perhaps text inside li.next.slot step in
+            let ll = lower_statement text called t last lj.next body in
+            let own = behind_perhaps (entered sc) start in
+            let end_ = entered (behind_perhaps own step) in
+            let f1 = in_perhaps text (entered sc) start in
+            let f2 = in_optional text own test in
+            let f3 = in_perhaps text own step in
+            let f4 = in_statement text end_ body in
+            let h0 = parts_right j (in_bound bound) (f1 ++ (f2 ++ (f3 ++ f4))) h in
+            let h1 = parts_left j f1 (f2 ++ (f3 ++ f4)) h0 in
+            let r1 = parts_right j f1 (f2 ++ (f3 ++ f4)) h0 in
+            let h2 = parts_left j f2 (f3 ++ f4) r1 in
+            let r2 = parts_right j f2 (f3 ++ f4) r1 in
+            let h3 = parts_left j f3 f4 r2 in
+            let h4 = parts_right j f3 f4 r2 in
+            let m1 = perhaps_agree (entered sc) s n.slot start (entered_agree sc s m) o.0 h1 in
+            let m2 = perhaps_agree own inside li.next.slot step m1 o.1 h3 in
+            let test' = optional_test text inside test in
+            let loop = (lower_statement text called t s n (For at start test step bound body)).stmt in
+            let body' = then_step step ll.stmt lj.stmt in
+            alike (vars_of li.stmt ++ (vars_in test' ++ (vars_of lj.stmt ++ vars_of ll.stmt))) (vars_of loop) (li.made ++ (lj.made ++ ll.made)) (placed text tree sc (For at start test step bound body))
+            (ap (is_in v) (start_vars t s n start _)
+            ∙ behind_same v (vars_of li.stmt) (vars_in test' ++ vars_of body') (vars_in test' ++ (vars_of lj.stmt ++ vars_of ll.stmt))
+            (behind_same v (vars_in test') (vars_of body') (vars_of lj.stmt ++ vars_of ll.stmt) (step_vars v t inside li.next step ll.stmt)))
+            (two _ _ _ _ _ _ (maybe t s n (entered sc) start (entered_agree sc s m) o.0 h1)
+            (two (vars_in test') _ [] _ (naming f2) _ (leaf (vars_in test') (globals_in f2) (named.optional_names text j g is_item changes own inside m1 test h2))
+            (two _ _ _ _ _ _ (maybe t inside li.next own step m1 o.1 h3) (one t last lj.next end_ body (entered_agree (behind_perhaps own step) last m2) o.2 h4))))
+        one t s n sc (Pause at) m o h = leaf [] [] refl
+        one t s n sc (Par at bs) m o h =
+            let from : Next = record { slot = n.slot; thread = n.thread; par = par_behind bs n.par } in
+            let l = lower_branches text called t s n.par from bs in
+            alike (vars_launches l.launches) (vars_of (par_of l.launches)) l.made (branches_placed text tree sc bs) (ap (is_in v) (launches_vars l.launches))
+            (branches t s n.par from sc bs m o (none_right (fault_if j.gives at 12) (findings_faults j (in_branches text sc bs)) h))
+        one t s n sc (Abort at weak immediate test body) m o h =
+            let rest = in_statements text (entered sc) body in
+            let hs = none_right (fault_if j.gives at 12) (findings_faults j (in_term text sc test ++ rest)) h in
+            two (vars_in (lower_term text s test)) _ [] _ (naming (in_term text sc test)) _ (tested sc s m test (parts_left j (in_term text sc test) rest hs))
+            (as_one_names (lower_list text called t s n body) (all_placed text tree (entered sc) body) (every t s n (entered sc) body (entered_agree sc s m) o (parts_right j (in_term text sc test) rest hs)))
+        one t s n sc (Return at value) m o h = tested sc s m value (none_right (fault_if (not j.gives) at 14) (findings_faults j (in_term text sc value)) h)
+
+        every : (t : ℕ) (s : List Slot) (n : Next) (sc : Scope) (list : Statements) → Agree sc s → OneInAll list → findings_faults j (in_statements text sc list) ≡ [] →
+            Names (vars_list (lower_list text called t s n list).list) (lower_list text called t s n list).made (all_placed text tree sc list)
+        every t s n sc no_statements m o h = leaf [] [] refl
+        every t s n sc (more_statements a rest) m o h =
+            let l = lower_statement text called t s n a in
+            let ha = parts_left j (in_statement text sc a) (in_statements text (behind sc a) rest) h in
+            two _ _ _ _ _ _ (one t s n sc a m o.0 ha)
+            (every t (scope_behind text s n.slot a) l.next (behind sc a) rest (behind_agree sc s n.slot a m o.0 ha) o.1
+            (parts_right j (in_statement text sc a) (in_statements text (behind sc a) rest) h))
+
+        maybe : (t : ℕ) (s : List Slot) (n : Next) (sc : Scope) (a : Perhaps) → Agree sc s → OneIfPresent a → findings_faults j (in_perhaps text sc a) ≡ [] →
+            Names (vars_of (lower_perhaps text called t s n a).stmt) (lower_perhaps text called t s n a).made (perhaps_placed text tree sc a)
+        maybe t s n sc absent m o h = leaf [] [] refl
+        maybe t s n sc (present a) m o h = one t s n sc a m o h
+
+        branches : (t : ℕ) (s : List Slot) (par : ℕ) (n : Next) (sc : Scope) (bs : Branches) → Agree sc s → OneInBranches bs → findings_faults j (in_branches text sc bs) ≡ [] →
+            Names (vars_launches (lower_branches text called t s par n bs).launches) (lower_branches text called t s par n bs).made (branches_placed text tree sc bs)
+        branches t s par n sc no_branches m o h = leaf [] [] refl
+        branches t s par n sc (by_call name args rest) m o h =
+            let inner : Next = record { slot = count_terms args; thread = suc n.thread; par = n.par } in
+            let b = called name.id 0 n.thread inner in
+            let next : Next = record { slot = n.slot; thread = b.next.thread; par = b.next.par } in
+            let own = use_faults j (Starts (count_terms args)) name (meaning text sc name.id) in
+            let fs = in_terms text sc args ++ in_branches text sc rest in
+            let hs = none_right own (findings_faults j fs) h in
+            two (vars_all (lower_terms text s args)) _ [] _ (naming (in_terms text sc args)) _
+            (leaf (vars_all (lower_terms text s args)) (globals_in (in_terms text sc args)) (named.terms_names text j g is_item changes sc s m args (parts_left j (in_terms text sc args) (in_branches text sc rest) hs)))
+            (branch_first _ (vars_of b.stmt) _ b.made _ (tree name.id) _ refl refl
+            (right name.id 0 n.thread inner (starts_void (count_terms args) sc name (none_left own (findings_faults j fs) h)))
+            (branches t s par next sc rest m o (parts_right j (in_terms text sc args) (in_branches text sc rest) hs)))
+        branches t s par n sc (by_group at body rest) m o h =
+            let inner : Next = record { slot = 0; thread = suc n.thread; par = n.par } in
+            let l = lower_list text called n.thread [] inner body in
+            let next : Next = record { slot = n.slot; thread = l.next.thread; par = l.next.par } in
+            branch_first _ (vars_of (sequence l.list)) _ l.made _ (all_placed text tree no_scope body) _ refl refl
+            (as_one_names l (all_placed text tree no_scope body) (every n.thread [] inner no_scope body no_names o.0 (parts_left j (in_statements text no_scope body) (Closes ∷ in_branches text sc rest) h)))
+            (branches t s par next sc rest m o.1 (parts_right j (in_statements text no_scope body) (Closes ∷ in_branches text sc rest) h))
+
+      params_agree : (sc : Scope) (s : List Slot) (slot : ℕ) (ps : List Name) → Agree sc s → findings_faults j (in_params text sc ps) ≡ [] → Agree (with_params sc ps) (s ++ params_at slot ps)
+      params_agree sc s slot [] m h = subst (Agree sc) (sym (append-nil s)) m
+      params_agree sc s slot (p ∷ rest) m h =
+          let x : Slot = record { id = p.id; slot = slot; size = None } in
+          let own = declared_faults j.names p (is_among p.id sc.here) None 0 in
+          let more = findings_faults j (in_params text (with_name sc p.id false) rest) in
+          let again = not_broken (is_among p.id sc.here) p.place 2 (none_left (fault_if (is_among p.id sc.here) p.place 2) _ (none_left own more h)) in
+          subst (Agree (with_params (with_name sc p.id false) rest)) (append_assoc s (x ∷ []) (params_at (suc slot) rest))
+          (params_agree (with_name sc p.id false) (s ++ x ∷ []) (suc slot) rest (agree_more sc s x false m refl again) (none_right own more h))
+
+      in_body : (f : Option PlainFunction) (first t : ℕ) (n : Next) → ((h : PlainFunction) → f ≡ Some h → findings_faults j (in_function text h) ≡ []) →
+          ((h : PlainFunction) → f ≡ Some h → OneInAll h.body) →
+          Names (vars_of (body_in_place text called f first t n).stmt) (body_in_place text called f first t n).made (body_placed text tree f)
+      in_body None first t n clean ones = leaf [] [] refl
+      in_body (Some f) first t n clean ones =
+          let inside = with_params no_scope f.params in
+          let c = clean f refl in
+          as_one_names (lower_list text called t (params_at first f.params) n f.body) (all_placed text tree inside f.body)
+          (every t (params_at first f.params) n inside f.body (params_agree no_scope [] first f.params no_names (parts_left j (in_params text no_scope f.params) (in_statements text inside f.body) c))
+          (ones f refl) (parts_right j (in_params text no_scope f.params) (in_statements text inside f.body) c))
+
+  module _ (faultless : (id : ℕ) (f : PlainFunction) → find_function id text ≡ Some f → f.gives ≡ false → findings_faults j (in_function text f) ≡ [])
+      (ones : (id : ℕ) (f : PlainFunction) → find_function id text ≡ Some f → OneInAll f.body)
+    where
+      in_turn : (deep id first t : ℕ) (n : Next) → ((f : PlainFunction) → find_function id text ≡ Some f → f.gives ≡ false) →
+          Names (vars_of (within nothing_in_place (in_place_step text) deep id first t n).stmt) (within nothing_in_place (in_place_step text) deep id first t n).made
+          (within nothing (placed_step text) deep id)
+      unfolding within
+      in_turn zero id first t n void = leaf [] [] refl
+      in_turn (suc deep) id first t n void =
+          in_body (within nothing_in_place (in_place_step text) deep) (within nothing (placed_step text) deep) (in_turn deep) (find_function id text) first t n
+          (λ f e. faultless id f e (void f e)) (λ f e. ones id f e)
+
+-- ---- the same at each place
+
+pointwise : (f : Made → Bool) (h : List ℕ → Bool) (xs : List Made) (ys : List (List ℕ)) → map f xs ≡ map h ys → (a : ℕ) → a < length xs → f (at xs a) ≡ h (get_or ys a [])
+pointwise f h [] ys e a l = absurd (omega arith)
+pointwise f h (x ∷ xs) [] e a l = cc
+pointwise f h (x ∷ xs) (y ∷ ys) e zero l = cc
+pointwise f h (x ∷ xs) (y ∷ ys) e (suc a) l = let rest : map f xs ≡ map h ys = cc in pointwise f h xs ys rest a (omega arith)
+
+-- ---- variables by number
+
+member_left : (y : PlainItem) (xs ys : List PlainItem) → Member y xs → Member y (xs ++ ys)
+member_left y [] ys p = elim p [ ]
+member_left y (x ∷ xs) ys here = here
+member_left y (x ∷ xs) ys (later p) = later (member_left y xs ys p)
+
+member_right : (y : PlainItem) (xs ys : List PlainItem) → Member y ys → Member y (xs ++ ys)
+member_right y [] ys p = p
+member_right y (x ∷ xs) ys p = later (member_right y xs ys p)
+
+other_step : (id : ℕ) (y x : PlainItem) (xs : List PlainItem) (b : Bool) → ((name_of x).id == id) ≡ b → cond b (Some x) (find_item id xs) ≡ None → Member y (x ∷ xs) →
+    (find_item id xs ≡ None → Member y xs → ((name_of y).id == id) ≡ false) → ((name_of y).id == id) ≡ false
+other_step id y x xs true d f p k = cc
+other_step id y x xs false d f here k = d
+other_step id y x xs false d f (later q) k = k f q
+
+other_name : (id : ℕ) (y : PlainItem) (xs : List PlainItem) → find_item id xs ≡ None → Member y xs → ((name_of y).id == id) ≡ false
+other_name id y [] e p = elim p [ ]
+other_name id y (x ∷ xs) e p = other_step id y x xs ((name_of x).id == id) refl e p (λ f q. other_name id y xs f q)
+
+module _ (text : Text) (names : List (List ℕ)) where
+  -- an item has another name than those before it
+  fresh : (b : Before) (t : List PlainItem) (z y : PlainItem) → items_faults text names b t ≡ [] → Member z t → Member y b.items → ((name_of y).id == (name_of z).id) ≡ false
+  fresh b [] z y h p q = elim p [ ]
+  fresh b (x ∷ t) z y h here q = other_name (name_of x).id y b.items (new_name text names b x (none_left (item_faults text names b x) (items_faults text names (after_item b x) t) h)) q
+  fresh b (x ∷ t) z y h (later p) q =
+      fresh (after_item b x) t z y (none_right (item_faults text names b x) (items_faults text names (after_item b x) t) h) p
+      (subst (Member y) (sym (items_after b x)) (member_left y b.items (x ∷ []) q))
+
+  -- the variable of a number
+  record Numbered (t : List PlainItem) (n : ℕ) : Type 0 where
+    pub global : PlainGlobal
+    pub member : Member (IsGlobal global) t
+    pub changes : is_constant global.kind ≡ false
+    pub named : get_or (variables t) n 0 ≡ global.name.id
+    pub number : number_among is_variable global.name.id t ≡ n
+
+  same_id : (y : PlainItem) → item_id y ≡ (name_of y).id
+  same_id (IsGlobal g) = refl
+  same_id (IsFunction f) = refl
+
+  -- one more item, with another name
+  past : (y : PlainItem) (t : List PlainItem) (n : ℕ) (r : Numbered t n) → ((name_of y).id == r.global.name.id) ≡ false →
+      number_among is_variable r.global.name.id (y ∷ t) ≡ cond (is_variable y) (suc n) n
+  past y t n r e =
+      let d : (item_id y == r.global.name.id) ≡ false = ap (λ k. k == r.global.name.id) (same_id y) ∙ e in
+      ap (λ b. cond b 0 (cond (is_variable y) (suc (number_among is_variable r.global.name.id t)) (number_among is_variable r.global.name.id t))) d
+      ∙ ap (λ k. cond (is_variable y) (suc k) k) r.number
+
+  by_kind : (g : PlainGlobal) (t : List PlainItem) (b : Bool) → is_constant g.kind ≡ b → ((n : ℕ) → n < length (variables t) → Numbered t n) →
+      ((z : PlainItem) → Member z t → (g.name.id == (name_of z).id) ≡ false) → (n : ℕ) → n < length (variables (IsGlobal g ∷ t)) → Numbered (IsGlobal g ∷ t) n
+  by_kind g t true e rest new n l =
+      let all : variables (IsGlobal g ∷ t) ≡ variables t = ap (λ b. cond b (variables t) (g.name.id ∷ variables t)) e in
+      let long = ap (λ (x : List ℕ). length x) all in
+      let r = rest n (omega (arith, l, long)) in
+      let kind : is_variable (IsGlobal g) ≡ false = ap (λ b. cond b false true) e in
+      record {
+        global = r.global;
+        member = later r.member;
+        changes = r.changes;
+        named = ap (λ (x : List ℕ). get_or x n 0) all ∙ r.named;
+        number = past (IsGlobal g) t n r (new (IsGlobal r.global) r.member) ∙ ap (λ b. cond b (suc n) n) kind;
+      }
+  by_kind g t false e rest new zero l =
+      let all : variables (IsGlobal g ∷ t) ≡ g.name.id ∷ variables t = ap (λ b. cond b (variables t) (g.name.id ∷ variables t)) e in
+      let own : (g.name.id == g.name.id) ≡ true = grind (arith, nat_tests) in
+      record {
+        global = g;
+        member = here;
+        changes = e;
+        named = ap (λ (x : List ℕ). get_or x 0 0) all;
+        number =
+            ap (λ b. cond b 0 (cond (is_variable (IsGlobal g)) (suc (number_among is_variable g.name.id t)) (number_among is_variable g.name.id t))) own;
+      }
+  by_kind g t false e rest new (suc m) l =
+      let all : variables (IsGlobal g ∷ t) ≡ g.name.id ∷ variables t = ap (λ b. cond b (variables t) (g.name.id ∷ variables t)) e in
+      let long = ap (λ (x : List ℕ). length x) all in
+      let r = rest m (omega (arith, l, long)) in
+      let kind : is_variable (IsGlobal g) ≡ true = ap (λ b. cond b false true) e in
+      record {
+        global = r.global;
+        member = later r.member;
+        changes = r.changes;
+        named = ap (λ (x : List ℕ). get_or x (suc m) 0) all ∙ r.named;
+        number = past (IsGlobal g) t m r (new (IsGlobal r.global) r.member) ∙ ap (λ b. cond b (suc m) m) kind;
+      }
+
+  numbered_in : (b : Before) (t : List PlainItem) → items_faults text names b t ≡ [] → (n : ℕ) → n < length (variables t) → Numbered t n
+  numbered_in b [] h n l = absurd (omega arith)
+  numbered_in b (IsFunction f ∷ t) h n l =
+      let others = none_right (item_faults text names b (IsFunction f)) (items_faults text names (after_item b (IsFunction f)) t) h in
+      let r = numbered_in (after_item b (IsFunction f)) t others n l in
+      let new = fresh (after_item b (IsFunction f)) t (IsGlobal r.global) (IsFunction f) others r.member
+      (subst (Member (IsFunction f)) (sym (items_after b (IsFunction f))) (member_right (IsFunction f) b.items (IsFunction f ∷ []) here)) in
+      record { global = r.global; member = later r.member; changes = r.changes; named = r.named; number = past (IsFunction f) t n r new }
+  numbered_in b (IsGlobal g ∷ t) h n l =
+      let others = none_right (item_faults text names b (IsGlobal g)) (items_faults text names (after_item b (IsGlobal g)) t) h in
+      let seen = subst (Member (IsGlobal g)) (sym (items_after b (IsGlobal g))) (member_right (IsGlobal g) b.items (IsGlobal g ∷ []) here) in
+      by_kind g t (is_constant g.kind) refl (λ m k. numbered_in (after_item b (IsGlobal g)) t others m k)
+      (λ z p. fresh (after_item b (IsGlobal g)) t z (IsGlobal g) others p seen) n l
+
+  counted : (t : List PlainItem) → length (variable_items text names t) ≡ length (variables t)
+  counted [] = refl
+  counted (IsFunction f ∷ t) = counted t
+  counted (IsGlobal g ∷ t) = pick (is_constant g.kind) (counted t)
+    where
+      pick : (b : Bool) → length (variable_items text names t) ≡ length (variables t) → length (cond b (variable_items text names t) (g ∷ variable_items text names t)) ≡ length (cond b (variables t) (g.name.id ∷ variables t))
+      pick true e = e
+      pick false e = ap suc e
+
+-- ---- lists of numbers, and of names
+
+abbrev name_at : List ℕ → ℕ → ℕ
+name_at all n = get_or all n 0
+
+abbrev Behind : List ℕ → ℕ → List ℕ → Type 0
+Behind all from list = (n : ℕ) → n < length list → name_at all (from + n) ≡ name_at list n
+
+behind_head : (all : List ℕ) (from x : ℕ) (list : List ℕ) → Behind all from (x ∷ list) → name_at all from ≡ x
+behind_head all from x list h = let e : from + 0 ≡ from = omega arith in ap (name_at all) (sym e) ∙ h 0 (omega arith)
+
+behind_tail : (all : List ℕ) (from x : ℕ) (list : List ℕ) → Behind all from (x ∷ list) → Behind all (suc from) list
+behind_tail all from x list h n l = let e : suc from + n ≡ from + suc n = omega arith in ap (name_at all) e ∙ h (suc n) (omega arith)
+
+all_names : (all : List ℕ) (from : ℕ) (list : List ℕ) → Behind all from list → map (name_at all) (count_up from (length list)) ≡ list
+all_names all from [] h = refl
+all_names all from (x ∷ list) h =
+    ap (λ n. n ∷ map (name_at all) (count_up (suc from) (length list))) (behind_head all from x list h) ∙ ap (λ l. x ∷ l) (all_names all (suc from) list (behind_tail all from x list h))
+
+filtered_names : (all vs gs : List ℕ) (from : ℕ) (list : List ℕ) → Behind all from list → ((n : ℕ) → n < length list → is_in (from + n) vs ≡ is_in (name_at list n) gs) →
+    map (name_at all) (filter_in vs (count_up from (length list))) ≡ those_in gs list
+filtered_names all vs gs from [] h k = refl
+filtered_names all vs gs from (x ∷ list) h k =
+    pick (is_in from vs) (is_in x gs) own (behind_head all from x list h)
+    (filtered_names all vs gs (suc from) list (behind_tail all from x list h)
+    (λ n l. (let e : suc from + n ≡ from + suc n = omega arith in ap (λ y. is_in y vs) e ∙ k (suc n) (omega arith))))
+  where
+    own : is_in from vs ≡ is_in x gs
+    own = let e : from + 0 ≡ from = omega arith in ap (λ y. is_in y vs) (sym e) ∙ k 0 (omega arith)
+
+    pick : (b c : Bool) → b ≡ c → name_at all from ≡ x → map (name_at all) (filter_in vs (count_up (suc from) (length list))) ≡ those_in gs list →
+        map (name_at all) (cond b (from ∷ filter_in vs (count_up (suc from) (length list))) (filter_in vs (count_up (suc from) (length list)))) ≡ cond c (x ∷ those_in gs list) (those_in gs list)
+    pick true true e d r = ap (λ n. n ∷ map (name_at all) (filter_in vs (count_up (suc from) (length list)))) d ∙ ap (λ l. x ∷ l) r
+    pick false false e d r = r
+    pick true false e d r = cc
+    pick false true e d r = cc
+
+-- ---- the law
+
+module _ (text : Text) (names : List (List ℕ)) (clean : Clean text names) (one_each : ScalarsHaveOneValue text) where
+  abbrev tree : Placed
+  tree = within nothing (placed_step text) (length text) (main_id text names)
+
+  ones : (id : ℕ) (f : PlainFunction) → find_function id text ≡ Some f → OneInAll f.body
+  ones id f e = one_each f (found_member id text (IsFunction f) (function_item id text f e))
+
+  main_void : (f : PlainFunction) → find_function (main_id text names) text ≡ Some f → f.gives ≡ false
+  main_void f e =
+      let s = start_found text names clean in
+      let is : find_function (main_id text names) text ≡ Some s.0 = ap (λ x. elim x [ None ↦ None | Some (IsGlobal g) ↦ None | Some (IsFunction h) ↦ Some h ]) s.1.found in
+      let both : Some s.0 ≡ Some f = sym is ∙ e in
+      let same : s.0 ≡ f = cc in
+      ap (λ (h : PlainFunction). h.gives) (sym same) ∙ s.1.void
+
+  -- whether a thread names a variable
+  thread_names : (n : ℕ) → n < length (variables text) → (a : ℕ) → a < length (root text names).made →
+      is_in n (at (root text names).made a).named ≡ is_in (name_at (variables text) n) (get_or (in_preorder tree.below) a [])
+  thread_names n l a k =
+      let r = numbered_in text names none_before text clean.items n l in
+      let is = own_item text names clean (IsGlobal r.global) r.member in
+      let whole = in_turn text names r.global is r.changes (void_clean text names clean) ones (length text) (main_id text names) 0 0 (record { slot = 0; thread = 1; par = 0 }) main_void in
+      ap (λ x. is_in x (at (root text names).made a).named) (sym r.number)
+      ∙ (pointwise (λ m. is_in (number_among is_variable r.global.name.id text) m.named) (λ gs. is_in r.global.name.id gs) (root text names).made (in_preorder tree.below) whole.each a k
+      ∙ ap (λ x. is_in x (get_or (in_preorder tree.below) a [])) (sym r.named))
+
+  from_start : Behind (variables text) 0 (variables text)
+  from_start n l = let e : 0 + n ≡ n = omega arith in ap (name_at (variables text)) e
+
+  as_many : variable_count text names ≡ length (variables text)
+  as_many = counted text names text
+
+  root_uses : uses_of (kernel_of text names) 0 ≡ count_up 0 (variable_count text names)
+  unfolding kernel_of
+  root_uses = refl
+
+  pub uses_of_tree : UsesOfTree text (main_id text names) (kernel_of text names)
+  uses_of_tree zero l =
+      ap (map (name_at (variables text))) (root_uses ∙ ap (count_up 0) as_many) ∙ all_names (variables text) 0 (variables text) from_start
+  uses_of_tree (suc a) l =
+      let k = fields.made_count text names a l in
+      let vs = (at (root text names).made a).named in
+      let gs = get_or (in_preorder tree.below) a [] in
+      let all = thread_tree text (main_id text names) in
+      let counts = threads_of_tree text names in
+      let many = counts.count in
+      let long = preorder_long all in
+      let there : slice_get (in_preorder all) (suc a) ≡ Some gs =
+      slice_get-get_or (in_preorder all) (suc a) [] (omega (arith, long, many, l)) ∙ ap (λ (x : List (List ℕ)). Some (get_or x a [])) (append-nil (in_preorder tree.below)) in
+      ap (map (name_at (variables text))) (fields.uses_made text names a k ∙ ap (λ n. filter_in vs (count_up 0 n)) as_many)
+      ∙ (filtered_names (variables text) vs gs 0 (variables text) from_start (λ n d. (let e : 0 + n ≡ n = omega arith in ap (λ x. is_in x vs) e ∙ thread_names n d a k))
+      ∙ sym (ap (λ o. elim o [ None ↦ [] | Some own ↦ those_in own (variables text) ]) there))
+
+pub uses_are_those : UsesAreThoseOfTheTree
+uses_are_those text names limit tokens spelled h = uses_of_tree text names (clean_of text names h) (spelled_one limit text tokens spelled)
