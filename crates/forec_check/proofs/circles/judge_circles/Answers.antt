@@ -1,4 +1,4 @@
-use Rattle.std.proofs.Common.{◌≡◌, ◌≤◌, ◌∙◌, sym, ap, subst, length, map, arith}
+use Rattle.std.proofs.Common.{sym, ap, subst, length, arith}
 use Rattle.std.proofs.lemmas.List.{length-map}
 use Rattle.forec_tree.specs.Plain.{plain_item}
 use Rattle.loop_check.specs.Views.{text_of}

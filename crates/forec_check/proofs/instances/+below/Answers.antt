@@ -1,4 +1,4 @@
-use Rattle.std.proofs.Common.{◌≡◌, ◌∙◌, ◌+◌, ◌-◌, ◌^◌, ◌<◌, ◌≤◌, ℕ, suc, min, sym, ap, arith}
+use Rattle.std.proofs.Common.{◌≡◌, ◌∙◌, ◌+◌, ◌-◌, ◌^◌, ℕ, suc, min, sym, ap, arith}
 use Rattle.forec_tree.specs.Threads as threads
 use Rattle.forec_tree.proofs.Rows.{of_group, of_abort, of_par}
 use Rattle.loop_check.proofs.Branches.{call_first, group_first}

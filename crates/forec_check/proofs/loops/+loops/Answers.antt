@@ -1,4 +1,4 @@
-use Rattle.std.proofs.Common.{ℕ, ◌+◌, ◌≡◌, ◌∙◌, ◌&&◌, ◌||◌, sym, ap, refl, not, Bool, false, true, List, [], ◌∷◌, ◌++◌, drop, add-one}
+use Rattle.std.proofs.Common.{◌+◌, ◌≡◌, ◌∙◌, ◌&&◌, ◌||◌, sym, ap, refl, not, Bool, false, true, [], ◌∷◌, ◌++◌, drop, add-one}
 use Rattle.std.proofs.Math.Seq.{drop-cons}
 use Rattle.std.proofs.lemmas.List.{drop_all}
 use Rattle.forec_tree.specs.declared.tree.Stmt.{Stmt}
@@ -6,7 +6,7 @@ use Rattle.forec_tree.specs.declared.tree.StmtKind.{While}
 use Rattle.forec_tree.specs.Plain as plain
 use Rattle.forec_tree.specs.Terms.{Statement, For, Branches}
 use Rattle.forec_tree.specs.Pauses.{certain, certain_function, some_certain, branch_certain}
-use Rattle.forec_tree.specs.Faults.{least_from}
+use Rattle.forec_check.specs.Least.{least_from}
 use Rattle.forec_tree.proofs.Rows.{of_kind, of_group, of_abort, of_par, of_if, of_for}
 use Rattle.forec_tree.specs.Plain.{perhaps_of}
 use Rattle.loop_check.specs.Judges.{judge_text}
