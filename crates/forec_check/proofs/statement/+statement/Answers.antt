@@ -12,7 +12,7 @@ use Rattle.forec_check.proofs.Walked.{walked-none}
 use Rattle.forec_check.proofs.Parts.{two, three, then}
 use Rattle.forec_check.proofs.Statements.{of_statement, group_is, declare_is, run_is, inside, abort_is, while_is, statements_step, statements_end}
 use Rattle.forec_check.proofs.Branching.{no_statement, perhaps_in, optional_in, body_in, for_is, branch_call, branch_block, branches_step, branches_end}
-use Rattle.forec_check.proofs.Frames.{framed_on, framed_none, same_framed, same_on, same_scope, left}
+use Rattle.forec_check.proofs.Frames.{framed_on, framed_none, same_framed, same_on, same_scope}
 use Rattle.forec_check.proofs.statement.+statement.Goals as goal
 
 pub branch-returns-in_ok-terms-in-Call-clause-found : goal.branch-returns-in_ok-terms-in-Call-clause-found
@@ -290,20 +290,3 @@ statement-returns-in_ok-term-in-Return-clause-scope t c = of_kind (behind (scope
 
 pub statement-returns-in_ok-term-in-Return-clause-frame : goal.statement-returns-in_ok-term-in-Return-clause-frame
 statement-returns-in_ok-term-in-Return-clause-frame t c = framed_none c.args.scope.now
-
--- ---- scopes that are entered and left
-
-pub inner-returns-clause-same : goal.inner-returns-clause-same
-inner-returns-clause-same t c =
-    left c.args.scope.now c.enter-frame.new.self c.statement.new.scope c.leave.new.self c.enter-frame.result c.enter-frame.ensures.entries c.enter-frame.ensures.inside.1
-    c.in_ok-statement.ensures.frame c.leave.ensures.entries c.leave.ensures.frame.0 c.leave.ensures.frame.1 c.enter-frame.ensures.frame.0 c.enter-frame.ensures.frame.1
-
-pub block-returns-clause-same : goal.block-returns-clause-same
-block-returns-clause-same t c =
-    left c.args.scope.now c.enter-frame.new.self c.list.new.scope c.leave.new.self c.enter-frame.result c.enter-frame.ensures.entries c.enter-frame.ensures.inside.1
-    c.in_ok-list.ensures.frame c.leave.ensures.entries c.leave.ensures.frame.0 c.leave.ensures.frame.1 c.enter-frame.ensures.frame.0 c.enter-frame.ensures.frame.1
-
-pub hidden-returns-clause-same : goal.hidden-returns-clause-same
-hidden-returns-clause-same t c =
-    left c.args.scope.now c.hide-frame.new.self c.list.new.scope c.leave.new.self c.hide-frame.result c.hide-frame.ensures.entries c.hide-frame.ensures.inside.1
-    c.in_ok-list.ensures.frame c.leave.ensures.entries c.leave.ensures.frame.0 c.leave.ensures.frame.1 c.hide-frame.ensures.frame.0 c.hide-frame.ensures.frame.1
