@@ -237,3 +237,23 @@ judge_branches-loop-branch-preserved t c =
                 (w.least-is ∙ w.judge_all-one.ensures.least) loops c.loop-branch.invariant.least;
           }
     ]
+
+-- ---- statements that are certain to pause, by their kind
+
+pub judge-returns-in-Nothing-clause-certain : goal.judge-returns-in-Nothing-clause-certain
+judge-returns-in-Nothing-clause-certain t c = of_kind (certain (judge_text c.args.pauses.now)) c.args.s.now _ c.in-Nothing.is
+
+pub judge-returns-in-Declare-clause-certain : goal.judge-returns-in-Declare-clause-certain
+judge-returns-in-Declare-clause-certain t c = of_kind (certain (judge_text c.args.pauses.now)) c.args.s.now _ c.in-Declare.is
+
+pub judge-returns-in-Assign-clause-certain : goal.judge-returns-in-Assign-clause-certain
+judge-returns-in-Assign-clause-certain t c = of_kind (certain (judge_text c.args.pauses.now)) c.args.s.now _ c.in-Assign.is
+
+pub judge-returns-in-Pause-clause-certain : goal.judge-returns-in-Pause-clause-certain
+judge-returns-in-Pause-clause-certain t c = of_kind (certain (judge_text c.args.pauses.now)) c.args.s.now _ c.in-Pause.is
+
+pub judge-returns-in-Return-clause-certain : goal.judge-returns-in-Return-clause-certain
+judge-returns-in-Return-clause-certain t c = of_kind (certain (judge_text c.args.pauses.now)) c.args.s.now _ c.in-Return.is
+
+pub judge-returns-in-Call-clause-certain : goal.judge-returns-in-Call-clause-certain
+judge-returns-in-Call-clause-certain t c = c.function.ensures ∙ of_kind (certain (judge_text c.args.pauses.now)) c.args.s.now _ c.in-Call.is
