@@ -17,8 +17,9 @@ use Rattle.forec_tree.specs.Terms.{Text, PlainGlobal, PlainFunction, PlainItem, 
 use Rattle.forec_tree.specs.Scopes.{Scope, no_scope, with_name, with_params, is_among}
 use Rattle.forec_tree.specs.Findings.{Finding, Declares, in_params, in_statements}
 use Rattle.forec_tree.specs.Rules.{Judging, fault_if, length_faults, too_many, is_long, some_returns, findings_faults, is_input, is_output, is_none}
-use Rattle.forec_tree.specs.Faults.{Before, item_named, combine_faults, global_faults, function_faults, in_function, item_faults, items_faults, text_faults, main_faults, start_name, main_place, none_before, after_item, one_if, least_from, judged}
-use Rattle.forec_tree.proofs.Least.{least-append}
+use Rattle.forec_tree.specs.Faults.{Before, item_named, combine_faults, global_faults, function_faults, in_function, item_faults, items_faults, text_faults, main_faults, start_name, main_place, none_before, after_item, one_if}
+use Rattle.forec_check.specs.Least.{least_from, judged}
+use Rattle.forec_check.proofs.LeastLaws.{least-append}
 use Rattle.forec_check.specs.declared.counts.Counts.{Counts}
 use Rattle.forec_check.specs.Walk.{Gathered, walked, events_of, events_lists}
 use Rattle.forec_check.specs.Items.{is_extra, before_of, head_faults, in_item, counts_after, Few}

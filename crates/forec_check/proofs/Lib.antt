@@ -1,3 +1,5 @@
+pub mod LeastLaws
+pub mod NamingLaws
 pub mod Stacked
 pub mod UseRules
 pub mod Texts

@@ -11,7 +11,7 @@ use Rattle.forec_tree.specs.Terms.{Text, PlainFunction}
 use Rattle.forec_tree.specs.Findings as finding
 use Rattle.forec_tree.specs.Findings.{Finding, in_function}
 use Rattle.forec_tree.specs.Pauses.{within, find_function}
-use Rattle.forec_tree.specs.Threads.{Naming, Reading, no_naming, start, closed, instances_naming, as_naming, read_one, read_all, body_naming, naming_step, instances_of}
+use Rattle.forec_check.specs.Reading.{Naming, Reading, no_naming, start, closed, instances_naming, as_naming, read_one, read_all, body_naming, naming_step, instances_of}
 use Rattle.forec_tree.specs.Faults.{is_in, called_in, calls_of}
 use Rattle.forec_tree.proofs.Fixed.{IsLocal}
 use Rattle.loop_check.specs.Known.{list_at}

@@ -6,7 +6,7 @@ use Rattle.std.proofs.lemmas.Bool.Decides.{nat_tests}
 use Rattle.forec_tree.specs.Terms.{Text, PlainFunction}
 use Rattle.forec_tree.specs.Findings.{in_function}
 use Rattle.forec_tree.specs.Pauses.{within, find_function}
-use Rattle.forec_tree.specs.Threads.{Naming, Reading, no_naming, start, instances_naming, as_naming, closed, body_naming, naming_step, instances_of}
+use Rattle.forec_check.specs.Reading.{Naming, Reading, no_naming, start, instances_naming, as_naming, closed, body_naming, naming_step, instances_of}
 use Rattle.forec_tree.specs.Faults.{is_in, Leads, at_once, through, calls_of, called_in}
 use Rattle.forec_tree.proofs.Reach.{append}
 use Rattle.loop_check.specs.Known.{list_at}

@@ -4,7 +4,7 @@ use Rattle.std.specs.Prelude.{nat_lt}
 use Rattle.forec_tree.specs.Terms.{Text, PlainFunction}
 use Rattle.forec_tree.specs.Rules.{is_none}
 use Rattle.forec_tree.specs.Pauses.{find_function}
-use Rattle.forec_tree.specs.Threads.{instances_of}
+use Rattle.forec_check.specs.Reading.{instances_of}
 use Rattle.forec_tree.specs.Faults.{is_in}
 use Rattle.loop_check.specs.Known.{is_function}
 use Rattle.loop_check.proofs.Indexed.{split}

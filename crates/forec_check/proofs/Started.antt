@@ -14,7 +14,7 @@ use Rattle.forec_tree.specs.Findings.{Finding, Use, use_at, in_bound, in_terms, 
 use Rattle.forec_tree.specs.Rules.{Judging, use_faults, finding_faults, findings_faults}
 use Rattle.forec_tree.specs.Pauses.{started, all_started, perhaps_started, branches_started}
 use Rattle.forec_tree.specs.Faults.{is_in, called_in}
-use Rattle.forec_tree.proofs.Least.{findings-append}
+use Rattle.forec_tree.proofs.Found.{findings-append}
 use Rattle.loop_check.proofs.Indexed.{split}
 use Rattle.forec_check.specs.Walk.{events_of}
 use Rattle.forec_check.specs.Early.{event_calls}

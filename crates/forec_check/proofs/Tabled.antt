@@ -15,10 +15,11 @@ use Rattle.forec_tree.specs.Scopes.{find_item}
 use Rattle.forec_tree.specs.Findings.{in_function}
 use Rattle.forec_tree.specs.Rules.{fault_if, is_plain, is_none}
 use Rattle.forec_tree.specs.Pauses.{within, find_function}
-use Rattle.forec_tree.specs.Threads.{Naming, Reading, no_naming, start, instances_naming, as_naming, body_naming, naming_step, instances_of}
-use Rattle.forec_tree.specs.Faults.{is_in, Leads, calls_of, Reaches, namings, start_name, least_from}
+use Rattle.forec_check.specs.Reading.{Naming, Reading, no_naming, start, instances_naming, as_naming, body_naming, naming_step, instances_of, namings}
+use Rattle.forec_tree.specs.Faults.{is_in, Leads, calls_of, Reaches, start_name}
+use Rattle.forec_check.specs.Least.{least_from}
 use Rattle.forec_tree.proofs.Fixed.{IsLocal}
-use Rattle.forec_tree.proofs.Least.{least-append}
+use Rattle.forec_check.proofs.LeastLaws.{least-append}
 use Rattle.loop_check.specs.Graph.{IsOrder}
 use Rattle.loop_check.specs.Known.{Read, is_function}
 use Rattle.loop_check.proofs.Indexed.{split}

@@ -8,9 +8,9 @@ use Rattle.forec_tree.specs.declared.uses.Meaning.{Meaning}
 use Rattle.forec_tree.specs.declared.tree.Number.{Number}
 use Rattle.forec_tree.specs.Findings.{Finding, Use, Loop, in_bound}
 use Rattle.forec_tree.specs.Rules.{Judging, finding_faults}
-use Rattle.forec_tree.specs.Faults.{judged, least_from}
+use Rattle.forec_check.specs.Least.{judged, least_from}
 use Rattle.forec_check.proofs.UseRules.{single}
-use Rattle.forec_tree.proofs.Least.{judged-append, judged-none}
+use Rattle.forec_check.proofs.LeastLaws.{judged-append, judged-none}
 use Rattle.forec_check.specs.declared.found.Event.{Event}
 use Rattle.forec_check.specs.Walk.{Gathered, finding_events, events_of, walked}
 

@@ -1,5 +1,6 @@
 -- The items of a program, one after the other.
 use Rattle.std.specs.Prelude.{ℕ, suc, ◌+◌, ◌<◌, Bool, ◌||◌, ◌&&◌, nat_le, nat_lt, not, length, List, [], ◌∷◌, ◌++◌, take}
+use Rattle.forec_base.specs.declared.limits.TheConstants.{MAX_INPUTS, MAX_OUTPUTS, MAX_PARAMS, MAX_FUNCTIONS}
 use Rattle.forec_tree.specs.declared.tree.GlobalKind.{GlobalKind}
 use Rattle.forec_tree.specs.Terms.{Text, PlainItem, IsGlobal, IsFunction, PlainFunction}
 use Rattle.forec_tree.specs.Rules.{is_input, is_output, is_long, fault_if, some_returns}
@@ -13,7 +14,7 @@ abbrev pub before_of : Text → ℕ → Counts → Before
 before_of text at c = record { items = take at text; inputs = c.inputs; outputs = c.outputs; functions = c.functions }
 
 abbrev pub is_extra : Counts → GlobalKind → Bool
-is_extra c kind = (is_input kind && nat_le 64 c.inputs) || (is_output kind && nat_le 64 c.outputs)
+is_extra c kind = (is_input kind && nat_le MAX_INPUTS c.inputs) || (is_output kind && nat_le MAX_OUTPUTS c.outputs)
 
 -- what stands in an item
 abbrev pub in_item : Text → PlainItem → List Finding
@@ -25,8 +26,8 @@ abbrev pub head_faults : Text → List (List ℕ) → Before → PlainFunction �
 head_faults text names b f =
     fault_if (item_named f.name.id b.items) f.name.place 2
     ++ (fault_if (is_long names f.name.id) f.name.place 21
-    ++ (fault_if (nat_lt 16 (length f.params)) f.name.place 23
-    ++ (fault_if (nat_le 1024 b.functions) f.name.place 24
+    ++ (fault_if (nat_lt MAX_PARAMS (length f.params)) f.name.place 23
+    ++ (fault_if (nat_le MAX_FUNCTIONS b.functions) f.name.place 24
     ++ fault_if (f.gives && not (some_returns f.body)) f.name.place 15)))
 
 abbrev pub counts_after : Counts → PlainItem → Counts

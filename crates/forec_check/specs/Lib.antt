@@ -1,3 +1,5 @@
+pub mod Least
+pub mod Reading
 pub mod Stack
 pub mod Views
 pub mod Walk

@@ -1,7 +1,7 @@
 -- Globals that one thread instance alone names.
 use Rattle.std.specs.Prelude.{ℕ, ◌≡◌, Bool, true, false, ◌&&◌, nat_lt}
 use Rattle.forec_tree.specs.Terms.{Text}
-use Rattle.forec_tree.specs.Threads.{instances_of}
+use Rattle.forec_check.specs.Reading.{instances_of}
 use Rattle.forec_check.specs.declared.sites.Sites.{Sites}
 use Rattle.forec_check.specs.declared.sites.Sites.TheVariants as sites
 use Rattle.forec_check.specs.declared.named.Named.{Named}

@@ -1,10 +1,10 @@
 -- Thread instances that name a global, counted up to two.
 use Rattle.std.specs.Prelude.{ℕ, ◌+◌, ◌<◌, ◌==◌, ◌≡◌, Bool, true, false, cond, ◌||◌, ◌&&◌, nat_lt, min, Option, Some, None, List, [], ◌∷◌, ◌++◌, reverse, length, take, slice_index_or}
-use Rattle.forec_tree.specs.Threads.{Naming, Reading, no_naming, closed, instances_naming, as_naming, naming_step}
+use Rattle.forec_check.specs.Reading.{Naming, Reading, no_naming, closed, instances_naming, as_naming, naming_step, namings}
 use Rattle.forec_tree.specs.Findings.{in_function}
 use Rattle.forec_tree.specs.Pauses.{within}
 use Rattle.forec_tree.specs.Rules.{fault_if, is_plain}
-use Rattle.forec_tree.specs.Faults.{is_in, namings, Reaches}
+use Rattle.forec_tree.specs.Faults.{is_in, Reaches}
 use Rattle.forec_tree.specs.declared.fault.Fault.{Fault}
 use Rattle.loop_check.specs.Known.{is_function}
 use Rattle.forec_check.specs.Table.{Settles}

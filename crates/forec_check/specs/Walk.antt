@@ -14,7 +14,7 @@ use Rattle.forec_tree.specs.Plain.{statement}
 use Rattle.forec_tree.specs.Findings as finding
 use Rattle.forec_tree.specs.Findings.{Finding}
 use Rattle.forec_tree.specs.Rules.{Judging}
-use Rattle.forec_tree.specs.Faults.{judged}
+use Rattle.forec_check.specs.Least.{judged}
 use Rattle.forec_check.specs.declared.found.Event.{Event}
 use Rattle.forec_check.specs.declared.found.Event.TheVariants as event
 use Rattle.forec_check.specs.declared.found.Found.{Found}

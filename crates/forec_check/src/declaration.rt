@@ -3,11 +3,11 @@
 ghost use Rattle.std.specs.Prelude.{◌≡◌, [], ◌∷◌, map, pos};
 ghost use Rattle.forec_tree.specs.Rules as rules;
 ghost use Rattle.forec_tree.specs.Findings.{Declares, in_bound};
-ghost use Rattle.forec_tree.specs.Faults.{judged, least_from};
+ghost use Rattle.forec_check.specs.Least.{judged, least_from};
 ghost use Rattle.forec_check.specs.Views.{judging};
 
 use crate::least::meet;
-use forec_base::{Labels, Place};
+use forec_base::{Labels, MAX_ARRAY_LENGTH, MAX_NAME_BYTES, MAX_TURNS, Place};
 use forec_tree::{Fault, Name, Number};
 
 pub fn is_long(names: &Labels, id: u32) -> bool
@@ -16,19 +16,19 @@ pub fn is_long(names: &Labels, id: u32) -> bool
     if id >= names.len() {
         return false;
     }
-    names.get(id).len() > 63
+    names.get(id).len() > MAX_NAME_BYTES
 }
 
 fn outside_length(n: Number) -> bool
-    ensures { result ≡ rules.outside (pos 65536) n.value }
+    ensures { result ≡ rules.outside (pos MAX_ARRAY_LENGTH) n.value }
 {
-    n.value < 1 || 65536 < n.value
+    n.value < 1 || (MAX_ARRAY_LENGTH as i32) < n.value
 }
 
 fn outside_bound(n: Number) -> bool
-    ensures { result ≡ rules.outside (pos 1000000) n.value }
+    ensures { result ≡ rules.outside (pos MAX_TURNS) n.value }
 {
-    n.value < 1 || 1000000 < n.value
+    n.value < 1 || (MAX_TURNS as i32) < n.value
 }
 
 pub fn judge_length(length: Option<Number>, least: &mut Option<Fault>)

@@ -3,7 +3,7 @@
 use forec_tree::Fault;
 
 /// What a body does that matters beyond its own statements. Names are by their numbers.
-#[derive(Clone, Copy, Debug, PartialEq, Eq)]
+#[derive(Clone, Copy)]
 pub enum Event {
     /// A global is named.
     Names { id: u32 },

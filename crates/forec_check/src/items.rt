@@ -6,7 +6,7 @@ ghost use Rattle.forec_tree.specs.Scopes.{with_params};
 ghost use Rattle.forec_tree.specs.Findings.{in_params};
 ghost use Rattle.forec_tree.specs.Rules as rules;
 ghost use Rattle.forec_tree.specs.Faults as faults;
-ghost use Rattle.forec_tree.specs.Faults.{least_from};
+ghost use Rattle.forec_check.specs.Least.{least_from};
 ghost use Rattle.loop_check.specs.Views.{text_of};
 ghost use Rattle.forec_check.specs.Views.{judging, scope_of, Framed, Same};
 ghost use Rattle.forec_check.specs.Walk.{found_of, walked};
@@ -18,7 +18,7 @@ use crate::found::Found;
 use crate::least::meet;
 use crate::scope::Scope;
 use crate::statement::list;
-use forec_base::{Labels, OutOfMemory};
+use forec_base::{Labels, MAX_FUNCTIONS, MAX_INPUTS, MAX_OUTPUTS, MAX_PARAMS, OutOfMemory};
 use forec_tree::{Combine, Fault, Function, Global, GlobalKind, Item, Name, Stmt, StmtKind};
 use loop_check::Index;
 
@@ -143,10 +143,10 @@ pub fn is_output(kind: GlobalKind) -> bool
 fn extra(counts: Counts, kind: GlobalKind) -> bool
     ensures { result ≡ is_extra counts kind }
 {
-    if is_input(kind) && 64 <= counts.inputs {
+    if is_input(kind) && MAX_INPUTS <= counts.inputs {
         return true;
     }
-    is_output(kind) && 64 <= counts.outputs
+    is_output(kind) && MAX_OUTPUTS <= counts.outputs
 }
 
 /// The faults of a global.
@@ -181,7 +181,7 @@ pub fn judge_head(
 {
     meet(least, index.named_before(f.name.id, at), f.name.place, 2);
     meet(least, is_long(names, f.name.id), f.name.place, 21);
-    meet(least, 16 < f.params.len(), f.name.place, 23);
-    meet(least, 1024 <= counts.functions, f.name.place, 24);
+    meet(least, MAX_PARAMS < f.params.len(), f.name.place, 23);
+    meet(least, MAX_FUNCTIONS <= counts.functions, f.name.place, 24);
     meet(least, may_end(f), f.name.place, 15);
 }

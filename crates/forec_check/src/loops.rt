@@ -5,7 +5,7 @@ ghost use Rattle.forec_tree.specs.Plain as plain;
 ghost use Rattle.forec_tree.specs.Plain.{perhaps_of};
 ghost use Rattle.forec_tree.specs.Rules as rules;
 ghost use Rattle.forec_tree.specs.Pauses.{certain, certain_function, certain_perhaps, some_certain, branch_certain};
-ghost use Rattle.forec_tree.specs.Faults.{least_from};
+ghost use Rattle.forec_check.specs.Least.{least_from};
 ghost use Rattle.loop_check.specs.Judges.{judge_text};
 ghost use Rattle.forec_check.specs.Late.{loops_in, loops_in_perhaps, loops_in_all, loops_in_branches, all_loops, loops_faults};
 

@@ -3,7 +3,8 @@
 ghost use Rattle.std.specs.Prelude.{◌≡◌, ◌∷◌, map, Some, IfOk, OnOk};
 ghost use Rattle.forec_tree.specs.Plain as plain;
 ghost use Rattle.forec_tree.specs.Rules as rules;
-ghost use Rattle.forec_tree.specs.Faults.{start_name, least_from};
+ghost use Rattle.forec_tree.specs.Faults.{start_name};
+ghost use Rattle.forec_check.specs.Least.{least_from};
 ghost use Rattle.loop_check.specs.Views.{text_of};
 ghost use Rattle.forec_check.specs.Walk.{item_events, events_lists};
 ghost use Rattle.forec_check.specs.Threads.{global_fault, globals_faults, Orders};

@@ -2,7 +2,8 @@
 
 ghost use Rattle.std.specs.Prelude.{◌≡◌, ◌++◌, [], None, Some, map, IfOk, OnOk};
 ghost use Rattle.forec_tree.specs.Plain as plain;
-ghost use Rattle.forec_tree.specs.Faults.{IsEarly, IsFault, start_name, least_from};
+ghost use Rattle.forec_tree.specs.Faults.{IsEarly, IsFault, start_name};
+ghost use Rattle.forec_check.specs.Least.{least_from};
 ghost use Rattle.loop_check.specs.Views.{text_of};
 ghost use Rattle.loop_check.specs.Graph.{callees};
 ghost use Rattle.loop_check.specs.Known.{Read};

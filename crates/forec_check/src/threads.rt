@@ -3,7 +3,7 @@
 ghost use Rattle.std.specs.Prelude.{◌≡◌, ◌+◌, ◌||◌, ◌&&◌, ◌==◌, ℕ, min, map, nat_lt, length, Some, IfOk, OnOk};
 ghost use Rattle.forec_tree.specs.Plain as plain;
 ghost use Rattle.forec_tree.specs.Pauses.{find_function};
-ghost use Rattle.forec_tree.specs.Threads.{start, as_naming, instances_naming, instances_of};
+ghost use Rattle.forec_check.specs.Reading.{start, as_naming, instances_naming, instances_of};
 ghost use Rattle.loop_check.specs.Views.{text_of};
 ghost use Rattle.forec_check.specs.Walk.{item_events, events_lists};
 ghost use Rattle.forec_check.specs.Table.{put_at};

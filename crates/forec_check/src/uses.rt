@@ -3,7 +3,7 @@
 ghost use Rattle.std.specs.Prelude.{◌≡◌, [], ◌∷◌, map, ◌&&◌};
 ghost use Rattle.forec_tree.specs.Rules as rules;
 ghost use Rattle.forec_tree.specs.Findings.{Use};
-ghost use Rattle.forec_tree.specs.Faults.{judged};
+ghost use Rattle.forec_check.specs.Least.{judged};
 ghost use Rattle.forec_check.specs.Views.{judging};
 
 use crate::least::meet;

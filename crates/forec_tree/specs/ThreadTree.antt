@@ -3,10 +3,9 @@
 use Rattle.std.specs.Prelude.{ℕ, zero, suc, ◌+◌, cond, Option, Some, None, List, [], ◌∷◌, ◌++◌, length, slice_get}
 use Rattle.forec_tree.specs.declared.uses.Meaning.TheVariants as means
 use Rattle.forec_tree.specs.Terms.{Statement, Declare, Nothing, Group, Assign, Invoke, If, While, For, Pause, Par, Abort, Return, Statements, no_statements, more_statements, Perhaps, absent, present, Branches, no_branches, by_call, by_group, Text, IsGlobal, IsFunction, PlainFunction}
-use Rattle.forec_tree.specs.Scopes.{Scope, no_scope, entered, behind, behind_perhaps, with_params, is_constant}
+use Rattle.forec_tree.specs.Scopes.{Scope, no_scope, entered, behind, behind_perhaps, with_params, is_constant, is_in}
 use Rattle.forec_tree.specs.Findings.{Finding, Use, in_term, in_terms, in_optional, in_target, in_locals}
 use Rattle.forec_tree.specs.Pauses.{within, find_function}
-use Rattle.forec_tree.specs.Faults.{is_in}
 
 -- Instances side by side: each with the globals that its own text names, the instances that start in it, and those that follow it.
 pub data Threads : Type 0 where

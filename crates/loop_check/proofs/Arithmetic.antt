@@ -1,9 +1,9 @@
 -- How many values of a rising or falling run pass.
-use Rattle.std.proofs.Common.{ℕ, zero, suc, ◌+◌, ◌-◌, ◌*◌, ◌<◌, ◌≤◌, ◌≡◌, ◌∙◌, sym, ap, refl, Bool, true, false, ℤ, pos, negsuc, ◌+ℤ◌, ◌-ℤ◌, neg_ℤ, ◌≤ℤ◌, ◌<ℤ◌, Option, Some, None, arith}
+use Rattle.std.proofs.Common.{ℕ, zero, suc, ◌+◌, ◌-◌, ◌*◌, ◌<◌, ◌≤◌, ◌≡◌, ◌∙◌, ap, refl, Bool, true, false, ℤ, pos, negsuc, ◌+ℤ◌, ◌-ℤ◌, neg_ℤ, ◌≤ℤ◌, ◌<ℤ◌, Option, Some, None, arith}
 use Rattle.std.specs.Prelude.{int_lt, int_le}
 use Rattle.std.proofs.lemmas.Int.{ints}
 use Rattle.forec_tree.specs.Turns.{is_i32, run_of}
-use Rattle.forec_tree.proofs.Runs.{value_at, IsRun, run_is, run_none, run_out}
+use Rattle.forec_tree.proofs.Runs.{value_at, run_is, run_none, run_out}
 
 suc_times : (k c : ℕ) → suc k * c ≡ c + k * c
 suc_times k c = omega arith

@@ -1,6 +1,6 @@
 -- What an entry tells of the items of its name.
-use Rattle.std.proofs.Common.{ℕ, zero, suc, ◌+◌, ◌-◌, ◌==◌, ◌<◌, ◌≤◌, ◌≡◌, ◌∙◌, sym, ap, refl, ◌⊎◌, inl, inr, ⊎_elim, Bool, true, false, cond, not, ◌&&◌, ◌||◌, Option, Some, None, List, [], ◌∷◌, length, take, map, arith}
-use Rattle.std.specs.Prelude.{nat_le, slice_get, option_map}
+use Rattle.std.proofs.Common.{ℕ, zero, suc, ◌+◌, ◌==◌, ◌<◌, ◌≤◌, ◌≡◌, ◌∙◌, sym, ap, refl, ◌⊎◌, inl, inr, ⊎_elim, Bool, true, false, cond, not, ◌&&◌, ◌||◌, Some, None, [], ◌∷◌, take, arith}
+use Rattle.std.specs.Prelude.{nat_le, slice_get}
 use Rattle.std.proofs.lemmas.Bool.Decides.{nat_tests}
 use Rattle.forec_tree.specs.Terms.{Text, PlainItem, IsGlobal, IsFunction}
 use Rattle.forec_tree.specs.Scopes.{name_of, find_item}
@@ -8,7 +8,7 @@ use Rattle.forec_tree.specs.Turns.{global_named}
 use Rattle.forec_tree.specs.Rules.{is_none}
 use Rattle.forec_tree.specs.Faults.{item_named}
 use Rattle.loop_check.specs.declared.entry.Entry.{Entry}
-use Rattle.loop_check.specs.Index.{blank, is_global_item, met, noted, entry_from}
+use Rattle.loop_check.specs.Index.{met, noted, entry_from}
 
 or_assoc : (a b d : Bool) → ((a || b) || d) ≡ (a || (b || d))
 or_assoc true b d = refl

@@ -1,11 +1,11 @@
 -- Orders of functions, one put behind the other.
-use Rattle.std.proofs.Common.{ℕ, zero, suc, ◌+◌, ◌-◌, ◌<◌, ◌≤◌, ◌≡◌, ◌≢◌, ◌∙◌, ◌==◌, sym, ap, refl, ◌⊎◌, inl, inr, ⊎_elim, Bool, true, false, cond, not, ◌&&◌, ◌||◌, Option, Some, None, List, [], ◌∷◌, ◌++◌, length, take, set, get_or, subst, arith, length-append, get_or-set_other, get_or-set_same}
+use Rattle.std.proofs.Common.{ℕ, zero, suc, ◌+◌, ◌<◌, ◌≤◌, ◌≡◌, ◌≢◌, ◌∙◌, ◌==◌, sym, ap, refl, ⊎_elim, Bool, true, false, cond, not, ◌&&◌, ◌||◌, List, [], ◌∷◌, ◌++◌, length, take, set, get_or, subst, arith, length-append, get_or-set_other, get_or-set_same}
 use Rattle.std.proofs.lemmas.Bool.Decides.{nat_tests}
 use Rattle.std.proofs.lemmas.Bool.{cases_lt, eqb-true}
 use Rattle.std.proofs.lemmas.List.{take-append-le, get_or_append_left}
 use Rattle.std.proofs.Math.Seq.{take-append_seam, get_or-append_seam, take-suc}
 use Rattle.forec_tree.specs.Faults.{is_in}
-use Rattle.loop_check.specs.Graph.{CalleesFirst, Stuck, IsOrder, trues, any_waits, Waits, Held, set_at}
+use Rattle.loop_check.specs.Graph.{CalleesFirst, IsOrder, trues, any_waits, Waits, Held, set_at}
 use Rattle.loop_check.proofs.Indexed.{split}
 
 same_id : (f : ℕ) → (f == f) ≡ true

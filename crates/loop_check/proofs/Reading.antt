@@ -6,7 +6,7 @@ use Rattle.std.proofs.Math.Seq.{take-suc}
 use Rattle.forec_tree.specs.Terms.{Text, PlainItem, IsGlobal, IsFunction, PlainFunction}
 use Rattle.forec_tree.specs.Scopes.{name_of, find_item}
 use Rattle.forec_tree.specs.Rules.{is_none}
-use Rattle.forec_tree.specs.Pauses.{find_function, all_started, function_starts, starts, body_certain, certain_step, certain_function}
+use Rattle.forec_tree.specs.Pauses.{find_function, function_starts, starts, body_certain, certain_step, certain_function}
 use Rattle.forec_tree.specs.Faults.{is_in, item_named, Leads, at_once, through}
 use Rattle.forec_tree.proofs.Fixed.{IsLocal}
 use Rattle.forec_tree.proofs.Agrees.{certain_local}

@@ -1,13 +1,13 @@
 -- Values of functions that are computed in an order in which callees come first.
-use Rattle.std.proofs.Common.{ℕ, zero, suc, ◌+◌, ◌<◌, ◌≤◌, ◌≡◌, ◌∙◌, ◌==◌, sym, ap, refl, ◌⊎◌, inl, inr, ⊎_elim, Bool, true, false, cond, not, List, [], ◌∷◌, length, take, get_or, subst, arith, length-take}
-use Rattle.std.proofs.lemmas.Bool.{cases_lt, eqb-true}
+use Rattle.std.proofs.Common.{ℕ, zero, suc, ◌<◌, ◌≡◌, ◌∙◌, ◌==◌, sym, ap, refl, Bool, true, false, cond, List, [], ◌∷◌, length, take, get_or, subst, arith, length-take}
+use Rattle.std.proofs.lemmas.Bool.{eqb-true}
 use Rattle.forec_tree.specs.Pauses.{within}
-use Rattle.forec_tree.specs.Faults.{is_in, Leads, at_once, through}
+use Rattle.forec_tree.specs.Faults.{is_in, Leads, at_once}
 use Rattle.forec_tree.proofs.Fixed.{IsLocal}
 use Rattle.forec_tree.proofs.Reach.{append}
-use Rattle.loop_check.specs.Graph.{IsOrder, Stuck}
+use Rattle.loop_check.specs.Graph.{IsOrder}
 use Rattle.loop_check.proofs.Indexed.{split}
-use Rattle.loop_check.proofs.Ordered.{At, place_of, is_in_at}
+use Rattle.loop_check.proofs.Ordered.{place_of, is_in_at}
 
 clash : {P : Type 0} (b : Bool) → b ≡ true → b ≡ false → P
 clash b t f = absurd (let q : true ≡ false = sym t ∙ f in cc)

@@ -1,5 +1,5 @@
 -- The parts of a loop's form as the code keeps them.
-use Rattle.std.specs.Prelude.{◌≡◌, ℕ, Bool, true, false, cond, not, ◌&&◌, ℤ, pos, neg_ℤ, int_lt, int_le, Option, Some, None}
+use Rattle.std.specs.Prelude.{◌≡◌, ℕ, Bool, true, false, cond, pos, neg_ℤ, int_lt, int_le, Option, Some, None}
 use Rattle.forec_base.specs.declared.operators.Binary.{Binary}
 use Rattle.forec_base.specs.declared.operators.Binary.TheVariants.{Add, Sub, Lt, Le, Gt, Ge}
 use Rattle.forec_tree.specs.Turns as form
@@ -40,10 +40,10 @@ fits_way _ step = false
 -- what a form tells, where no global is in the way
 abbrev pub run_form : Form → Option ℕ
 run_form f = elim f.test [
-  | Lt ↦ form.run_of 1000001 (λ v. int_lt v f.bound) (pos f.by) f.number
-  | Le ↦ form.run_of 1000001 (λ v. int_le v f.bound) (pos f.by) f.number
-  | Gt ↦ form.run_of 1000001 (λ v. int_lt f.bound v) (neg_ℤ (pos f.by)) f.number
-  | Ge ↦ form.run_of 1000001 (λ v. int_le f.bound v) (neg_ℤ (pos f.by)) f.number
+  | Lt ↦ form.run_of form.most_values (λ v. int_lt v f.bound) (pos f.by) f.number
+  | Le ↦ form.run_of form.most_values (λ v. int_le v f.bound) (pos f.by) f.number
+  | Gt ↦ form.run_of form.most_values (λ v. int_lt f.bound v) (neg_ℤ (pos f.by)) f.number
+  | Ge ↦ form.run_of form.most_values (λ v. int_le f.bound v) (neg_ℤ (pos f.by)) f.number
   | _ ↦ None
 ]
 

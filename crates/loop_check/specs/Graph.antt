@@ -1,8 +1,8 @@
 -- An order of functions in which each stands behind those that it calls.
-use Rattle.std.specs.Prelude.{ℕ, suc, ◌+◌, ◌<◌, ◌≤◌, ◌≡◌, ◌==◌, Bool, true, false, not, cond, ◌&&◌, ◌||◌, Option, Some, None, List, [], ◌∷◌, length, take, slice_get, slice_index_or}
+use Rattle.std.specs.Prelude.{ℕ, ◌+◌, ◌<◌, ◌≤◌, ◌≡◌, ◌==◌, Bool, true, false, not, cond, ◌&&◌, ◌||◌, Option, Some, None, List, [], ◌∷◌, length, take, slice_get, slice_index_or}
 use Rattle.std.specs.declared.vec.Vec.{Vec}
 use Rattle.std.specs.declared.alloc.Global.{Global}
-use Rattle.forec_tree.specs.Faults.{is_in, Leads}
+use Rattle.forec_tree.specs.Faults.{is_in}
 
 -- the lists of a table by number; none past its end
 abbrev pub list_of : Option (Vec ℕ Global) → List ℕ

@@ -1,5 +1,5 @@
 -- The first item of each name.
-use Rattle.std.specs.Prelude.{ℕ, zero, suc, ◌+◌, ◌==◌, Bool, true, false, cond, ◌||◌, Option, Some, None, List, [], ◌∷◌, map}
+use Rattle.std.specs.Prelude.{ℕ, suc, ◌==◌, Bool, true, false, cond, ◌||◌, [], ◌∷◌}
 use Rattle.forec_tree.specs.Terms.{Text, PlainItem, IsGlobal, IsFunction}
 use Rattle.forec_tree.specs.Scopes.{name_of}
 use Rattle.loop_check.specs.declared.entry.Entry.{Entry}

@@ -1,6 +1,6 @@
 -- What a table says of each function, and the lists that a walk collects.
-use Rattle.std.specs.Prelude.{◌≡◌, ◌<◌, ◌≤◌, ℕ, length, take, Bool, true, false, cond, not, Option, Some, None, List, [], ◌∷◌, ◌==◌, slice_index_or}
-use Rattle.forec_tree.specs.Terms.{Text, PlainItem, IsGlobal, IsFunction, PlainFunction, Statements}
+use Rattle.std.specs.Prelude.{◌≡◌, ◌<◌, ◌≤◌, ℕ, length, take, Bool, true, false, cond, not, Option, Some, None, List, [], ◌==◌, slice_index_or}
+use Rattle.forec_tree.specs.Terms.{Text, PlainItem, IsGlobal, IsFunction, PlainFunction}
 use Rattle.forec_tree.specs.Pauses.{find_function, all_started}
 use Rattle.forec_tree.specs.Faults.{is_in}
 use Rattle.forec_tree.specs.Rules.{is_none}

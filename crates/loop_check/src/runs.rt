@@ -9,7 +9,7 @@ ghost use Rattle.loop_check.specs.Forms.{fits_way, FormOf, run_form, HasForm};
 use crate::parts::{Form, Start, Step, Test};
 use crate::reads::{start_of, step_of, test_of};
 use crate::touch::touches;
-use forec_base::Binary;
+use forec_base::{Binary, MAX_TURNS};
 use forec_tree::{Item, Program, Stmt, StmtKind};
 
 fn same_way(test: Binary, step: Binary) -> bool
@@ -72,13 +72,13 @@ fn run_up(from: i64, limit: i64, by: u32) -> Option<u32>
     requires from { FitsSigned w32 from }
     requires low { negsuc 2147483648 ≤ℤ limit }
     requires high { limit ≤ℤ pos 2147483648 }
-    ensures { result ≡ form.run_of 1000001 (λ v. int_lt v limit) (pos by) from }
+    ensures { result ≡ form.run_of form.most_values (λ v. int_lt v limit) (pos by) from }
 {
     if limit <= from {
         return Some(0);
     }
     let turns = steps(gap(from, limit), by);
-    if turns > 1000000 {
+    if turns > MAX_TURNS as u64 {
         return None;
     }
     let last = (turns * (by as u64)) as i64;
@@ -94,13 +94,13 @@ fn run_down(from: i64, limit: i64, by: u32) -> Option<u32>
     requires from { FitsSigned w32 from }
     requires low { negsuc 2147483648 ≤ℤ limit }
     requires high { limit ≤ℤ pos 2147483648 }
-    ensures { result ≡ form.run_of 1000001 (λ v. int_lt limit v) (neg_ℤ (pos by)) from }
+    ensures { result ≡ form.run_of form.most_values (λ v. int_lt limit v) (neg_ℤ (pos by)) from }
 {
     if from <= limit {
         return Some(0);
     }
     let turns = steps(gap(limit, from), by);
-    if turns > 1000000 {
+    if turns > MAX_TURNS as u64 {
         return None;
     }
     let last = (turns * (by as u64)) as i64;
@@ -122,7 +122,7 @@ fn below(n: i32) -> i64
     n as i64 - 1
 }
 
-/// How often the test holds; none where a value on the way has more than 32 bits, or past 1,000,000 turns.
+/// How often the test holds; none where a value on the way has more than 32 bits, or past `MAX_TURNS`.
 pub fn run(form: Form) -> Option<u32>
     ensures { result ≡ run_form form }
 {

@@ -1,12 +1,12 @@
-use Rattle.std.proofs.Common.{◌≡◌, ◌∙◌, sym, ap, subst, true, false, take, get_or, ℕ}
+use Rattle.std.proofs.Common.{◌≡◌, ◌∙◌, sym, ap, subst, true, false, take}
 use Rattle.forec_tree.specs.Terms.{IsGlobal, IsFunction, PlainFunction}
 use Rattle.forec_tree.specs.Plain.{plain_item, plain_function, plain_global}
 use Rattle.forec_tree.specs.Scopes.{name_of}
 use Rattle.forec_tree.specs.Faults.{item_named, Leads, calls_of}
-use Rattle.loop_check.specs.Graph.{callees, FunctionsCall}
+use Rattle.loop_check.specs.Graph.{callees}
 use Rattle.loop_check.specs.Views.{text_of}
 use Rattle.loop_check.proofs.Reading.{leads_same}
-use Rattle.forec_check.proofs.Circling.{nothing_new, named_old, one_more, no_less, graph_is, functions_call}
+use Rattle.forec_check.proofs.Circling.{nothing_new, named_old, one_more, no_less, graph_is}
 use Rattle.forec_check.proofs.circles.judge_circle.Goals as goal
 
 pub returns-in-Global : goal.returns-in-Global

@@ -1,8 +1,10 @@
-use Rattle.std.proofs.Common.{◌≡◌, ◌≤◌, ◌∙◌, sym, ap, subst, length, map, arith}
+use Rattle.std.proofs.Common.{◌∙◌, sym, ap, subst, length, arith}
 use Rattle.std.proofs.lemmas.List.{length-map}
 use Rattle.forec_tree.specs.Plain.{plain_item}
 use Rattle.loop_check.specs.Views.{text_of}
 use Rattle.loop_check.specs.Graph.{callees, FunctionsCall}
+use Rattle.std.specs.Prelude.{slice_get}
+use Rattle.forec_check.proofs.ItemRules.{item_get}
 use Rattle.forec_check.proofs.Circling.{all_early, functions_call}
 use Rattle.forec_check.proofs.circles.judge_circles.Goals as goal
 
@@ -19,3 +21,11 @@ acyclic-requires c =
     subst (λ f. FunctionsCall f (callees c.deref-2.result.now)) (sym c.deref.ensures.value)
     (subst (λ l. FunctionsCall c.args.calls.now.functions.items (callees l)) (sym c.deref-2.ensures.value)
     (functions_call (text_of c.args.index.now) c.args.calls.now.functions.items (callees c.args.calls.now.lists.items) c.requires.read))
+
+pub loop-at-preserved : goal.loop-at-preserved
+loop-at-preserved c = c.in_ok-judge_circle.ensures
+
+pub judge_circle-requires-clause-item : goal.judge_circle-requires-clause-item
+judge_circle-requires-clause-item c =
+    let at = c.loop-at.at in
+    ap (λ t. slice_get t at) (sym c.requires.items) ∙ item_get c.args.items.now at c.index-items-at.result c.loop-at-test.true (sym c.index-items-at.is)

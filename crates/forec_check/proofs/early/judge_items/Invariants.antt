@@ -1,7 +1,7 @@
 use Rattle.std.proofs.Common.{◌≡◌, ◌≤◌, ◌+◌, ◌++◌, [], map, drop, take}
 use Rattle.forec_tree.specs.Plain as plain
 use Rattle.forec_tree.specs.Faults as faults
-use Rattle.forec_tree.specs.Faults.{least_from}
+use Rattle.forec_check.specs.Least.{least_from}
 use Rattle.loop_check.specs.Views.{text_of}
 use Rattle.forec_check.specs.Walk.{item_events, events_lists}
 use Rattle.forec_check.specs.Items.{before_of, Few}

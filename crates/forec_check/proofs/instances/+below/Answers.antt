@@ -1,4 +1,6 @@
-use Rattle.std.proofs.Common.{◌≡◌, ◌∙◌, ◌+◌, ◌-◌, ◌^◌, ◌<◌, ◌≤◌, ℕ, suc, min, sym, ap, arith}
+use Rattle.std.proofs.Common.{◌≡◌, ◌∙◌, ◌+◌, ◌-◌, ◌^◌, ℕ, suc, min, sym, ap, refl, ◌∷◌, drop, add-one, arith}
+use Rattle.std.proofs.Math.Seq.{drop-cons}
+use Rattle.forec_tree.specs.Plain as plain
 use Rattle.forec_tree.specs.Threads as threads
 use Rattle.forec_tree.proofs.Rows.{of_group, of_abort, of_par}
 use Rattle.loop_check.proofs.Branches.{call_first, group_first}
@@ -21,6 +23,23 @@ below-returns-in-Abort t c =
     c.all_below-in-Abort.ensures
     ∙ of_abort (λ s. min (threads.below (count_at c.args.table.now) s) (2 ^ 64 - 1)) c.args.s.now c.in-Abort.weak c.in-Abort.immediate c.in-Abort.test c.in-Abort.body
     c.as_slice-in-Abort.result.now c.in-Abort.is c.as_slice-in-Abort.ensures
+
+-- one more statement
+one_statement : (total next inside part rest all : ℕ) → next ≡ min (total + inside) (2 ^ 64 - 1) → inside ≡ min part (2 ^ 64 - 1) → all ≡ part + rest →
+    min (next + rest) (2 ^ 64 - 1) ≡ min (total + all) (2 ^ 64 - 1)
+one_statement total next inside part rest all a b e = omega arith
+
+pub all_below-loop-s-preserved : goal.all_below-loop-s-preserved
+all_below-loop-s-preserved t c =
+    let i = c.loop-s.s-index in
+    let x = c.s-item.result in
+    let k = c.sum-total.ensures in
+    let d : drop i c.args.list.now ≡ x ∷ drop (i + 1) c.args.list.now = drop-cons c.args.list.now i x c.loop-s-test.true ∙ rw (sym c.s-item.is, add-one) refl in
+    record {
+      small = omega (arith, k);
+      told = one_statement c.loop-s.total c.sum-total.result c.below.result _ _ _ k c.below.ensures
+          (ap (λ l. threads.below_all (count_at c.args.table.now) (plain.statements l)) d) ∙ c.loop-s.invariant.told;
+    }
 
 -- one more branch
 one_more : (total one next inside part rest all : ℕ) → one ≡ min (1 + inside) (2 ^ 64 - 1) → next ≡ min (total + one) (2 ^ 64 - 1) → min inside (2 ^ 64 - 1) ≡ min part (2 ^ 64 - 1) → all ≡ suc part + rest →

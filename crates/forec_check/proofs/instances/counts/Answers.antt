@@ -1,4 +1,4 @@
-use Rattle.std.proofs.Common.{◌≡◌, ◌∙◌, sym, ap, get_or}
+use Rattle.std.proofs.Common.{◌∙◌, ap, get_or}
 use Rattle.loop_check.specs.Views.{text_of}
 use Rattle.forec_check.specs.Instances.{count_at, count_of, capped_below}
 use Rattle.forec_check.proofs.Tables.{agrees_next, none_agree, all_agree}

@@ -1,4 +1,4 @@
-use Rattle.std.proofs.Common.{◌≡◌, ◌∙◌, ◌-◌, ◌^◌, sym, ap, subst, min}
+use Rattle.std.proofs.Common.{◌∙◌, ◌-◌, ◌^◌, sym, ap, subst, min}
 use Rattle.forec_tree.specs.Pauses.{starts}
 use Rattle.forec_tree.specs.Faults.{Leads}
 use Rattle.forec_tree.specs.Threads as threads

@@ -1,4 +1,4 @@
-use Rattle.std.proofs.Common.{◌≡◌, ◌∙◌, sym, ap, refl, ◌∷◌, [], None, get_or}
+use Rattle.std.proofs.Common.{refl, ◌∷◌, [], None}
 use Rattle.forec_tree.specs.Findings.{Declares}
 use Rattle.loop_check.specs.Views.{text_of}
 use Rattle.forec_check.specs.Views.{judging, scope_of, Framed}

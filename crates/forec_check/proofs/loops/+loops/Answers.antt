@@ -1,4 +1,4 @@
-use Rattle.std.proofs.Common.{ℕ, ◌+◌, ◌≡◌, ◌∙◌, ◌&&◌, ◌||◌, sym, ap, refl, not, Bool, false, true, List, [], ◌∷◌, ◌++◌, drop, add-one}
+use Rattle.std.proofs.Common.{◌+◌, ◌≡◌, ◌∙◌, ◌&&◌, ◌||◌, sym, ap, refl, not, Bool, false, true, [], ◌∷◌, ◌++◌, drop, add-one}
 use Rattle.std.proofs.Math.Seq.{drop-cons}
 use Rattle.std.proofs.lemmas.List.{drop_all}
 use Rattle.forec_tree.specs.declared.tree.Stmt.{Stmt}
@@ -6,7 +6,7 @@ use Rattle.forec_tree.specs.declared.tree.StmtKind.{While}
 use Rattle.forec_tree.specs.Plain as plain
 use Rattle.forec_tree.specs.Terms.{Statement, For, Branches}
 use Rattle.forec_tree.specs.Pauses.{certain, certain_function, some_certain, branch_certain}
-use Rattle.forec_tree.specs.Faults.{least_from}
+use Rattle.forec_check.specs.Least.{least_from}
 use Rattle.forec_tree.proofs.Rows.{of_kind, of_group, of_abort, of_par, of_if, of_for}
 use Rattle.forec_tree.specs.Plain.{perhaps_of}
 use Rattle.loop_check.specs.Judges.{judge_text}
@@ -237,3 +237,23 @@ judge_branches-loop-branch-preserved t c =
                 (w.least-is ∙ w.judge_all-one.ensures.least) loops c.loop-branch.invariant.least;
           }
     ]
+
+-- ---- statements that are certain to pause, by their kind
+
+pub judge-returns-in-Nothing-clause-certain : goal.judge-returns-in-Nothing-clause-certain
+judge-returns-in-Nothing-clause-certain t c = of_kind (certain (judge_text c.args.pauses.now)) c.args.s.now _ c.in-Nothing.is
+
+pub judge-returns-in-Declare-clause-certain : goal.judge-returns-in-Declare-clause-certain
+judge-returns-in-Declare-clause-certain t c = of_kind (certain (judge_text c.args.pauses.now)) c.args.s.now _ c.in-Declare.is
+
+pub judge-returns-in-Assign-clause-certain : goal.judge-returns-in-Assign-clause-certain
+judge-returns-in-Assign-clause-certain t c = of_kind (certain (judge_text c.args.pauses.now)) c.args.s.now _ c.in-Assign.is
+
+pub judge-returns-in-Pause-clause-certain : goal.judge-returns-in-Pause-clause-certain
+judge-returns-in-Pause-clause-certain t c = of_kind (certain (judge_text c.args.pauses.now)) c.args.s.now _ c.in-Pause.is
+
+pub judge-returns-in-Return-clause-certain : goal.judge-returns-in-Return-clause-certain
+judge-returns-in-Return-clause-certain t c = of_kind (certain (judge_text c.args.pauses.now)) c.args.s.now _ c.in-Return.is
+
+pub judge-returns-in-Call-clause-certain : goal.judge-returns-in-Call-clause-certain
+judge-returns-in-Call-clause-certain t c = c.function.ensures ∙ of_kind (certain (judge_text c.args.pauses.now)) c.args.s.now _ c.in-Call.is

@@ -1,4 +1,4 @@
-use Rattle.std.proofs.Common.{◌≡◌, ◌∙◌, sym, ap}
+use Rattle.std.proofs.Common.{◌∙◌, sym, ap}
 use Rattle.forec_tree.specs.Plain.{plain_item, plain_global, plain_function}
 use Rattle.loop_check.specs.Views.{text_of}
 use Rattle.forec_check.proofs.Tabled as tabled

@@ -1,6 +1,6 @@
 use Rattle.std.proofs.Common.{◌≡◌, map, drop}
 use Rattle.forec_tree.specs.Plain as plain
-use Rattle.forec_tree.specs.Faults.{least_from}
+use Rattle.forec_check.specs.Least.{least_from}
 use Rattle.loop_check.specs.Views.{text_of}
 use Rattle.forec_check.specs.Threads.{globals_faults}
 use Rattle.forec_check.proofs.plains.judge_plains.Given as goal

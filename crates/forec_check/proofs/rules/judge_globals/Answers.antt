@@ -1,4 +1,4 @@
-use Rattle.std.proofs.Common.{◌≡◌, ◌∙◌, sym, ap}
+use Rattle.std.proofs.Common.{◌∙◌, sym, ap}
 use Rattle.forec_tree.specs.Faults.{start_name}
 use Rattle.loop_check.specs.Views.{text_of}
 use Rattle.forec_check.proofs.Tabled.{plains_none}

@@ -1,5 +1,4 @@
-use Rattle.std.proofs.Common.{◌≡◌, ◌∙◌, sym, ap, subst, map, Bor}
-use Rattle.forec_tree.specs.declared.tree.Stmt.{Stmt}
+use Rattle.std.proofs.Common.{◌∙◌, sym, ap, subst, map}
 use Rattle.forec_tree.specs.Plain as plain
 use Rattle.forec_tree.specs.Pauses.{starts}
 use Rattle.forec_tree.specs.Faults.{Leads}

@@ -1,11 +1,8 @@
-use Rattle.std.proofs.Common.{◌≡◌, ◌∙◌, sym, ap, refl, Some, None, List}
+use Rattle.std.proofs.Common.{◌≡◌, ◌∙◌, sym, ap, Some}
 use Rattle.std.specs.Prelude.{slice_get}
 use Rattle.std.specs.Option.{option_copied}
-use Rattle.forec_tree.specs.Terms.{Text, PlainItem, IsGlobal, IsFunction, PlainFunction}
-use Rattle.forec_tree.specs.Scopes.{find_item}
 use Rattle.loop_check.specs.Views.{text_of}
 use Rattle.forec_check.specs.Walk.{item_events}
-use Rattle.forec_check.specs.Threads.{events_in}
 use Rattle.forec_check.proofs.Tabled.{bodied, found_events}
 use Rattle.forec_check.proofs.spread.events_of.Goals as goal
 

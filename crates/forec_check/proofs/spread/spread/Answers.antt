@@ -1,4 +1,4 @@
-use Rattle.std.proofs.Common.{◌≡◌, ◌∙◌, ◌<◌, sym, ap, subst, length, arith}
+use Rattle.std.proofs.Common.{sym, subst, arith}
 use Rattle.loop_check.specs.Views.{text_of}
 use Rattle.forec_check.specs.Sites.{tables_of, AllSettled}
 use Rattle.forec_check.proofs.Spreading.{same_known}

@@ -1,4 +1,4 @@
-use Rattle.std.proofs.Common.{◌≡◌, ◌∙◌, sym, ap}
+use Rattle.std.proofs.Common.{◌∙◌, sym, ap}
 use Rattle.forec_check.specs.Sites.{sites_at}
 use Rattle.forec_check.proofs.spread.spread_function.Goals as goal
 

@@ -1,18 +1,18 @@
-use Rattle.std.proofs.Common.{◌≡◌, ◌∙◌, sym, ap, refl}
+use Rattle.std.proofs.Common.{◌≡◌, ◌∙◌, sym, ap, refl, map}
 use Rattle.forec_tree.specs.Plain as plain
 use Rattle.forec_tree.specs.Terms.{Statement}
-use Rattle.forec_tree.specs.Scopes.{entered, behind_perhaps}
+use Rattle.forec_tree.specs.Scopes.{entered, behind, behind_perhaps, with_locals}
 use Rattle.forec_tree.specs.Findings.{in_statement}
-use Rattle.forec_tree.proofs.Rows.{of_if, of_for, of_par}
+use Rattle.forec_tree.proofs.Rows.{of_kind, of_group, of_abort, of_if, of_for, of_par}
 use Rattle.forec_tree.specs.Plain.{perhaps_of}
 use Rattle.loop_check.specs.Views.{text_of}
 use Rattle.forec_check.specs.Views.{judging, scope_of}
 use Rattle.forec_check.specs.Walk.{found_of, walked}
 use Rattle.forec_check.proofs.Walked.{walked-none}
 use Rattle.forec_check.proofs.Parts.{two, three, then}
-use Rattle.forec_check.proofs.Statements.{of_statement, group_is, run_is, inside, abort_is, while_is, statements_step, statements_end}
+use Rattle.forec_check.proofs.Statements.{of_statement, group_is, declare_is, run_is, inside, abort_is, while_is, statements_step, statements_end}
 use Rattle.forec_check.proofs.Branching.{no_statement, perhaps_in, optional_in, body_in, for_is, branch_call, branch_block, branches_step, branches_end}
-use Rattle.forec_check.proofs.Frames.{framed_on, framed_none, same_on, same_scope}
+use Rattle.forec_check.proofs.Frames.{framed_on, framed_none, same_framed, same_on, same_scope}
 use Rattle.forec_check.proofs.statement.+statement.Goals as goal
 
 pub branch-returns-in_ok-terms-in-Call-clause-found : goal.branch-returns-in_ok-terms-in-Call-clause-found
@@ -194,3 +194,99 @@ statement-returns-in_ok-term-in-Return-clause-found t c =
     let k = found_of c.args.found.now in
     of_statement j text s k _ c.args.s.now _ c.in-Return.is
     (then j _ _ k (found_of c.returning.new.found) (found_of c.term-in-Return.new.found) c.returning.ensures c.in_ok-term-in-Return.ensures)
+
+-- ---- the scope behind a statement
+
+pub statement-returns-in-Nothing-clause-scope : goal.statement-returns-in-Nothing-clause-scope
+statement-returns-in-Nothing-clause-scope t c = of_kind (behind (scope_of c.args.scope.now)) c.args.s.now _ c.in-Nothing.is
+
+pub statement-returns-in-Nothing-clause-frame : goal.statement-returns-in-Nothing-clause-frame
+statement-returns-in-Nothing-clause-frame t c = framed_none c.args.scope.now
+
+pub statement-returns-in_ok-block-in-Group-clause-scope : goal.statement-returns-in_ok-block-in-Group-clause-scope
+statement-returns-in_ok-block-in-Group-clause-scope t c =
+    same_scope c.args.scope.now c.block.new.scope c.in_ok-block-in-Group.ensures.same
+    ∙ of_group (behind (scope_of c.args.scope.now)) c.args.s.now c.in-Group.body c.as_slice.result.now c.in-Group.is c.as_slice.ensures
+
+pub statement-returns-in_ok-block-in-Group-clause-frame : goal.statement-returns-in_ok-block-in-Group-clause-frame
+statement-returns-in_ok-block-in-Group-clause-frame t c = same_framed c.args.scope.now c.block.new.scope c.in_ok-block-in-Group.ensures.same
+
+pub statement-returns-in_ok-locals-in-Declare-clause-found : goal.statement-returns-in_ok-locals-in-Declare-clause-found
+statement-returns-in_ok-locals-in-Declare-clause-found t c =
+    let j = judging c.args.names.now c.args.gives in
+    let text = text_of c.args.index.now in
+    let s = scope_of c.args.scope.now in
+    let k = found_of c.args.found.now in
+    of_statement j text s k _ c.args.s.now _ c.in-Declare.is
+    (declare_is j text s k (found_of c.locals.new.found) c.in-Declare.list c.as_slice-in-Declare.result.now c.as_slice-in-Declare.ensures c.in_ok-locals-in-Declare.ensures.found)
+
+pub statement-returns-in_ok-locals-in-Declare-clause-scope : goal.statement-returns-in_ok-locals-in-Declare-clause-scope
+statement-returns-in_ok-locals-in-Declare-clause-scope t c =
+    let s = scope_of c.args.scope.now in
+    c.in_ok-locals-in-Declare.ensures.scope ∙ ap (λ x. with_locals s (map plain.declared x)) c.as_slice-in-Declare.ensures ∙ of_kind (behind s) c.args.s.now _ c.in-Declare.is
+
+pub statement-returns-in_ok-locals-in-Declare-clause-frame : goal.statement-returns-in_ok-locals-in-Declare-clause-frame
+statement-returns-in_ok-locals-in-Declare-clause-frame t c = c.in_ok-locals-in-Declare.ensures.frame
+
+pub statement-returns-in_ok-term-in-Assign-clause-scope : goal.statement-returns-in_ok-term-in-Assign-clause-scope
+statement-returns-in_ok-term-in-Assign-clause-scope t c = of_kind (behind (scope_of c.args.scope.now)) c.args.s.now _ c.in-Assign.is
+
+pub statement-returns-in_ok-term-in-Assign-clause-frame : goal.statement-returns-in_ok-term-in-Assign-clause-frame
+statement-returns-in_ok-term-in-Assign-clause-frame t c = framed_none c.args.scope.now
+
+pub statement-returns-in_ok-terms-in-Call-clause-scope : goal.statement-returns-in_ok-terms-in-Call-clause-scope
+statement-returns-in_ok-terms-in-Call-clause-scope t c = of_kind (behind (scope_of c.args.scope.now)) c.args.s.now _ c.in-Call.is
+
+pub statement-returns-in_ok-terms-in-Call-clause-frame : goal.statement-returns-in_ok-terms-in-Call-clause-frame
+statement-returns-in_ok-terms-in-Call-clause-frame t c = framed_none c.args.scope.now
+
+pub statement-returns-in_ok-optional_inner-in-If-clause-scope : goal.statement-returns-in_ok-optional_inner-in-If-clause-scope
+statement-returns-in_ok-optional_inner-in-If-clause-scope t c =
+    let old = c.args.scope.now in
+    same_scope old c.optional_inner.new.scope (same_on old c.inner.new.scope c.optional_inner.new.scope c.in_ok-inner-in-If.ensures.same c.in_ok-optional_inner-in-If.ensures.same)
+    ∙ of_if (behind (scope_of old)) c.args.s.now c.in-If.test c.in-If.yes c.in-If.no c.in-If.is
+
+pub statement-returns-in_ok-optional_inner-in-If-clause-frame : goal.statement-returns-in_ok-optional_inner-in-If-clause-frame
+statement-returns-in_ok-optional_inner-in-If-clause-frame t c =
+    let old = c.args.scope.now in
+    same_framed old c.optional_inner.new.scope (same_on old c.inner.new.scope c.optional_inner.new.scope c.in_ok-inner-in-If.ensures.same c.in_ok-optional_inner-in-If.ensures.same)
+
+pub statement-returns-in_ok-inner-in-While-clause-scope : goal.statement-returns-in_ok-inner-in-While-clause-scope
+statement-returns-in_ok-inner-in-While-clause-scope t c =
+    same_scope c.args.scope.now c.inner-in-While.new.scope c.in_ok-inner-in-While.ensures.same ∙ of_kind (behind (scope_of c.args.scope.now)) c.args.s.now _ c.in-While.is
+
+pub statement-returns-in_ok-inner-in-While-clause-frame : goal.statement-returns-in_ok-inner-in-While-clause-frame
+statement-returns-in_ok-inner-in-While-clause-frame t c = same_framed c.args.scope.now c.inner-in-While.new.scope c.in_ok-inner-in-While.ensures.same
+
+pub statement-returns-in-Pause-clause-found : goal.statement-returns-in-Pause-clause-found
+statement-returns-in-Pause-clause-found t c =
+    let j = judging c.args.names.now c.args.gives in
+    of_statement j (text_of c.args.index.now) (scope_of c.args.scope.now) (found_of c.args.found.now) _ c.args.s.now _ c.in-Pause.is c.synchronous.ensures
+
+pub statement-returns-in-Pause-clause-scope : goal.statement-returns-in-Pause-clause-scope
+statement-returns-in-Pause-clause-scope t c = of_kind (behind (scope_of c.args.scope.now)) c.args.s.now _ c.in-Pause.is
+
+pub statement-returns-in-Pause-clause-frame : goal.statement-returns-in-Pause-clause-frame
+statement-returns-in-Pause-clause-frame t c = framed_none c.args.scope.now
+
+pub statement-returns-in_ok-branches-in-Par-clause-scope : goal.statement-returns-in_ok-branches-in-Par-clause-scope
+statement-returns-in_ok-branches-in-Par-clause-scope t c =
+    same_scope c.args.scope.now c.branches.new.scope c.in_ok-branches-in-Par.ensures.same
+    ∙ of_par (behind (scope_of c.args.scope.now)) c.args.s.now c.in-Par.list c.as_slice-in-Par.result.now c.in-Par.is c.as_slice-in-Par.ensures
+
+pub statement-returns-in_ok-branches-in-Par-clause-frame : goal.statement-returns-in_ok-branches-in-Par-clause-frame
+statement-returns-in_ok-branches-in-Par-clause-frame t c = same_framed c.args.scope.now c.branches.new.scope c.in_ok-branches-in-Par.ensures.same
+
+pub statement-returns-in_ok-block-in-Abort-clause-scope : goal.statement-returns-in_ok-block-in-Abort-clause-scope
+statement-returns-in_ok-block-in-Abort-clause-scope t c =
+    same_scope c.args.scope.now c.block-in-Abort.new.scope c.in_ok-block-in-Abort.ensures.same
+    ∙ of_abort (behind (scope_of c.args.scope.now)) c.args.s.now c.in-Abort.weak c.in-Abort.immediate c.in-Abort.test c.in-Abort.body c.as_slice-in-Abort.result.now c.in-Abort.is c.as_slice-in-Abort.ensures
+
+pub statement-returns-in_ok-block-in-Abort-clause-frame : goal.statement-returns-in_ok-block-in-Abort-clause-frame
+statement-returns-in_ok-block-in-Abort-clause-frame t c = same_framed c.args.scope.now c.block-in-Abort.new.scope c.in_ok-block-in-Abort.ensures.same
+
+pub statement-returns-in_ok-term-in-Return-clause-scope : goal.statement-returns-in_ok-term-in-Return-clause-scope
+statement-returns-in_ok-term-in-Return-clause-scope t c = of_kind (behind (scope_of c.args.scope.now)) c.args.s.now _ c.in-Return.is
+
+pub statement-returns-in_ok-term-in-Return-clause-frame : goal.statement-returns-in_ok-term-in-Return-clause-frame
+statement-returns-in_ok-term-in-Return-clause-frame t c = framed_none c.args.scope.now

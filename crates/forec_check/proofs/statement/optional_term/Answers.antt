@@ -1,12 +1,10 @@
-use Rattle.std.proofs.Common.{◌≡◌, ◌∙◌, sym, ap, refl, map, ◌∷◌, []}
+use Rattle.std.proofs.Common.{◌∙◌, sym, ap}
 use Rattle.forec_tree.specs.Plain as plain
-use Rattle.forec_tree.specs.Findings.{in_optional, Declares}
+use Rattle.forec_tree.specs.Findings.{in_optional}
 use Rattle.loop_check.specs.Views.{text_of}
 use Rattle.forec_check.specs.Views.{judging, scope_of}
 use Rattle.forec_check.specs.Walk.{found_of, walked}
-use Rattle.forec_check.proofs.Walked.{walked-none, walked_early}
-use Rattle.forec_check.proofs.Parts.{terms_step, terms_end}
-use Rattle.forec_check.proofs.Statements.{target_some, local_is, locals_step, locals_end, scope_step, scope_end}
+use Rattle.forec_check.proofs.Walked.{walked-none}
 use Rattle.forec_check.proofs.statement.optional_term.Goals as goal
 
 pub returns-in-None : goal.returns-in-None

@@ -1,11 +1,9 @@
-use Rattle.std.proofs.Common.{◌≡◌, ◌∙◌, sym, ap, refl, append-nil, map, ◌++◌, ◌∷◌, []}
-use Rattle.std.proofs.lemmas.List.{map-append}
-use Rattle.forec_tree.specs.Plain.{statement}
-use Rattle.forec_tree.specs.Findings.{Gives, Synchronous, Opens, Closes, Loop, in_bound}
+use Rattle.std.proofs.Common.{sym, append-nil}
+use Rattle.forec_tree.specs.Findings.{Gives}
 use Rattle.forec_check.specs.Views.{judging}
 use Rattle.forec_check.specs.Walk.{found_of}
 use Rattle.forec_check.proofs.UseRules.{single}
-use Rattle.forec_check.proofs.Walked.{walked_one, walked_early, bound_events, quiet}
+use Rattle.forec_check.proofs.Walked.{walked_one}
 use Rattle.forec_check.proofs.statement.returning.Goals as goal
 
 pub returns : goal.returns

@@ -1,5 +1,4 @@
 use Rattle.std.proofs.Common.{sym}
-use Rattle.forec_tree.specs.Plain as plain
 use Rattle.loop_check.specs.Views.{text_of}
 use Rattle.forec_check.specs.Views.{judging, scope_of}
 use Rattle.forec_check.specs.Walk.{found_of}
@@ -88,3 +87,19 @@ returns-in_ok-term-in-Choose-3 t c =
     of_kind j text s k _ c.args.e.now _ c.in-Choose.is
     (three j _ _ _ k (found_of c.term-in-Choose.new.found) (found_of c.term-in-Choose-2.new.found) (found_of c.term-in-Choose-3.new.found)
     (part j text s _ _ _ _ c.deref-in-Choose.ensures c.in_ok-term-in-Choose.ensures) (part j text s _ _ _ _ c.deref-in-Choose-2.ensures c.in_ok-term-in-Choose-2.ensures) (part j text s _ _ _ _ c.deref-in-Choose-3.ensures c.in_ok-term-in-Choose-3.ensures))
+
+pub returns-in_ok-use_name-in-Read : goal.returns-in_ok-use_name-in-Read
+returns-in_ok-use_name-in-Read t c =
+    let j = judging c.args.names.now c.args.gives in
+    let text = text_of c.args.index.now in
+    let s = scope_of c.args.scope.now in
+    let k = found_of c.args.found.now in
+    of_kind j text s k _ c.args.e.now _ c.in-Read.is c.in_ok-use_name-in-Read.ensures
+
+pub returns-in_ok-term-in-Unary : goal.returns-in_ok-term-in-Unary
+returns-in_ok-term-in-Unary t c =
+    let j = judging c.args.names.now c.args.gives in
+    let text = text_of c.args.index.now in
+    let s = scope_of c.args.scope.now in
+    let k = found_of c.args.found.now in
+    of_kind j text s k _ c.args.e.now _ c.in-Unary.is (part j text s _ _ _ _ c.deref-in-Unary.ensures c.in_ok-term-in-Unary.ensures)

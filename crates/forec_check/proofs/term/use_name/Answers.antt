@@ -1,5 +1,5 @@
-use Rattle.std.proofs.Common.{◌≡◌, ◌∙◌, sym, ap, append-nil, ◌++◌, ◌∷◌, [], Some, None}
-use Rattle.forec_tree.specs.Findings.{use_at, Use}
+use Rattle.std.proofs.Common.{◌∙◌, sym, ap, append-nil, ◌++◌}
+use Rattle.forec_tree.specs.Findings.{use_at}
 use Rattle.loop_check.specs.Views.{text_of}
 use Rattle.forec_check.specs.Views.{judging, scope_of}
 use Rattle.forec_check.specs.Walk.{found_of, as_list, event_of}

@@ -1,5 +1,5 @@
-use Rattle.std.proofs.Common.{◌≡◌, ◌∙◌, ap}
-use Rattle.forec_tree.specs.Threads.{start, as_naming}
+use Rattle.std.proofs.Common.{◌∙◌, ap}
+use Rattle.forec_check.specs.Reading.{start, as_naming}
 use Rattle.loop_check.specs.Views.{text_of}
 use Rattle.forec_check.specs.Threads.{capped, few_called, read_events}
 use Rattle.forec_check.proofs.Tabled.{step_events}

@@ -1,10 +1,9 @@
 use Rattle.std.proofs.Common.{◌≡◌, ◌∙◌, ◌+◌, ◌<◌, ℕ, sym, ap, refl, List, ◌∷◌, length, get_or, drop, add-one}
 use Rattle.std.specs.Prelude.{reverse}
 use Rattle.std.proofs.Math.Seq.{drop-cons}
-use Rattle.forec_tree.specs.Threads.{start}
+use Rattle.forec_check.specs.Reading.{start}
 use Rattle.forec_check.specs.declared.found.Event.{Event}
 use Rattle.forec_check.specs.Threads.{few_called, read_event, read_events}
-use Rattle.forec_check.proofs.Namings.{alike_capped}
 use Rattle.forec_check.proofs.threads.naming.Goals as goal
 
 next_event : (es : List Event) (i : ℕ) (d : Event) → i < length es → drop i es ≡ get_or es i d ∷ drop (i + 1) es

@@ -1,5 +1,5 @@
 use Rattle.std.proofs.Common.{drop, ◌≡◌}
-use Rattle.forec_tree.specs.Threads.{Reading, start}
+use Rattle.forec_check.specs.Reading.{Reading, start}
 use Rattle.forec_check.specs.Threads.{Alike, reading_of, few_called, read_events}
 use Rattle.forec_check.proofs.threads.naming.Given as goal
 

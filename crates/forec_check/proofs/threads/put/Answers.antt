@@ -1,4 +1,4 @@
-use Rattle.std.proofs.Common.{◌≡◌, ◌∙◌, ap, arith}
+use Rattle.std.proofs.Common.{◌∙◌, ap, arith}
 use Rattle.forec_check.specs.Table.{put_at}
 use Rattle.forec_check.specs.Threads.{few_at, naming_of}
 use Rattle.forec_check.proofs.Tabled.{few_push, few_set}

@@ -1,5 +1,5 @@
-use Rattle.std.proofs.Common.{◌≡◌, ◌∙◌, sym, ap, get_or}
-use Rattle.forec_tree.specs.Threads.{no_naming}
+use Rattle.std.proofs.Common.{◌∙◌, ap, get_or}
+use Rattle.forec_check.specs.Reading.{no_naming}
 use Rattle.loop_check.specs.Views.{text_of}
 use Rattle.forec_check.specs.Threads.{capped, capped_step, few_at, few_called, naming_of, value_of}
 use Rattle.forec_check.proofs.Tables.{agrees_next, none_agree, all_agree}

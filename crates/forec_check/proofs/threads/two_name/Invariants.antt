@@ -1,4 +1,4 @@
-use Rattle.forec_tree.specs.Threads.{no_naming}
+use Rattle.forec_check.specs.Reading.{no_naming}
 use Rattle.loop_check.specs.Views.{text_of}
 use Rattle.forec_check.specs.Table.{Agrees}
 use Rattle.forec_check.specs.Threads.{few_called, value_of}

@@ -1,4 +1,4 @@
-use Rattle.std.proofs.Common.{◌≡◌, ◌∙◌, ◌≤◌, ◌+◌, sym, ap, ℕ, false, true, set, get_or, arith}
+use Rattle.std.proofs.Common.{◌∙◌, ap, false, get_or, arith}
 use Rattle.loop_check.specs.Graph.{trues}
 use Rattle.loop_check.proofs.Ordered.{trues_push, trues_set, push_same}
 use Rattle.loop_check.proofs.graph.mark.Goals as goal

@@ -1,4 +1,4 @@
-use Rattle.std.proofs.Common.{◌≡◌, ◌∙◌, sym, ap, subst, true, false, Bool, get_or, set, ◌++◌, ◌∷◌, [], ℕ, List, not}
+use Rattle.std.proofs.Common.{◌≡◌, ◌∙◌, sym, ap, subst, true, false, get_or, set}
 use Rattle.loop_check.specs.Graph.{callees, any_waits, Waits}
 use Rattle.loop_check.proofs.Ordered.{trues_clear, visited}
 use Rattle.loop_check.proofs.graph.visit.Goals as goal

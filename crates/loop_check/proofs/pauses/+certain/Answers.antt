@@ -1,4 +1,4 @@
-use Rattle.std.proofs.Common.{◌≡◌, ◌∙◌, Bool, false, sym, ap, refl, ◌&&◌, ◌||◌, not}
+use Rattle.std.proofs.Common.{◌≡◌, ◌∙◌, Bool, false, sym, refl, ◌&&◌, not}
 use Rattle.forec_tree.specs.Pauses as pauses
 use Rattle.forec_tree.proofs.Rows.{of_group, of_abort, of_par}
 use Rattle.loop_check.specs.Views.{text_of}

@@ -1,4 +1,4 @@
-use Rattle.std.proofs.Common.{ℕ, ◌≡◌, ◌≤◌, sym, get_or, arith}
+use Rattle.std.proofs.Common.{ℕ, ◌≤◌, get_or, arith}
 use Rattle.loop_check.specs.Graph.{rank_at}
 use Rattle.loop_check.proofs.Ranked.{next_in}
 use Rattle.loop_check.proofs.ranks.all_within.Goals as goal

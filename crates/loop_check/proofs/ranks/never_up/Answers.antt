@@ -1,5 +1,4 @@
-use Rattle.std.proofs.Common.{ℕ, ◌≡◌, ◌≤◌, ◌∙◌, sym, ap, subst, true, get_or, length, take, arith}
-use Rattle.std.proofs.lemmas.List.{take_all}
+use Rattle.std.proofs.Common.{ℕ, ◌≡◌, ◌≤◌, ◌∙◌, ap, subst, true, get_or}
 use Rattle.forec_tree.specs.Faults.{is_in}
 use Rattle.loop_check.specs.Graph.{callees, rank_at}
 use Rattle.loop_check.proofs.Ranked.{next_in}

@@ -1,4 +1,4 @@
-use Rattle.std.proofs.Common.{ℕ, ◌≤◌, ◌≡◌, ap, sym, refl, Option, Some, None, List, [], ◌∷◌, length, arith}
+use Rattle.std.proofs.Common.{ℕ, ◌≤◌, ◌≡◌, ap, refl, Option, Some, None, List, [], ◌∷◌, length, arith}
 use Rattle.forec_tree.specs.declared.tree.Expr.{Expr}
 use Rattle.forec_tree.specs.declared.tree.Number.{Number}
 use Rattle.forec_tree.specs.Plain.{terms}

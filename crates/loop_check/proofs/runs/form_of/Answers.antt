@@ -1,11 +1,10 @@
-use Rattle.std.proofs.Common.{◌≡◌, ◌∙◌, sym, ap, Option, Some, ℕ}
-use Rattle.forec_tree.specs.Terms.{Text, Statement}
+use Rattle.std.proofs.Common.{◌≡◌, ◌∙◌, sym, ap, Option, ℕ}
+use Rattle.forec_tree.specs.Terms.{Text}
 use Rattle.forec_tree.specs.Turns as form
 use Rattle.forec_tree.specs.declared.tree.Stmt.{Stmt}
-use Rattle.forec_tree.specs.Plain.{statement, optional_term}
+use Rattle.forec_tree.specs.Plain.{statement}
 use Rattle.forec_tree.proofs.Rows.{of_for}
-use Rattle.forec_tree.specs.Plain.{perhaps_of}
-use Rattle.loop_check.specs.Forms.{pair_of, test_from, step_from, turns_unless}
+use Rattle.loop_check.specs.Forms.{pair_of, test_from, step_from}
 use Rattle.loop_check.proofs.runs.form_of.Goals as goal
 
 parts : (text : Text) (b b' : Stmt) (p p' : Option form.Pair) (t t' : Option form.Test) (s s' : Option form.Step) (r : Option ℕ) →

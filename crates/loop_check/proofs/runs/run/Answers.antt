@@ -1,5 +1,5 @@
-use Rattle.std.proofs.Common.{◌≡◌, ◌∙◌, sym, ap, pos, neg_ℤ, ℕ, Option, ◌+ℤ◌, ◌-ℤ◌, to_z, of_z, w32, w64, arith}
-use Rattle.std.specs.Prelude.{int_lt, int_le}
+use Rattle.std.proofs.Common.{◌≡◌, pos, neg_ℤ, ℕ, Option, ◌+ℤ◌, ◌-ℤ◌, to_z, of_z, w32, w64, arith}
+use Rattle.std.specs.Prelude.{int_le}
 use Rattle.std.proofs.lemmas.Int.{ints}
 use Rattle.forec_base.specs.declared.operators.Binary.TheVariants.{Le, Ge}
 use Rattle.forec_tree.specs.Turns.{run_of}

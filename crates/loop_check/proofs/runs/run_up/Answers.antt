@@ -1,4 +1,4 @@
-use Rattle.std.proofs.Common.{◌≡◌, ◌≤◌, ◌<◌, ◌*◌, ◌+ℤ◌, ◌-ℤ◌, ◌<ℤ◌, ◌≤ℤ◌, true, false, pos, negsuc, neg_ℤ, sym, arith}
+use Rattle.std.proofs.Common.{◌≡◌, ◌<◌, ◌*◌, ◌+ℤ◌, ◌<ℤ◌, ◌≤ℤ◌, true, pos, sym, arith}
 use Rattle.std.specs.Prelude.{int_lt}
 use Rattle.std.proofs.lemmas.Int.{ints}
 use Rattle.forec_tree.specs.Turns.{is_i32}
@@ -13,13 +13,13 @@ returns-then-limit-from c =
     let q : c.args.limit ≤ℤ c.args.from = grind (arith, ints) in
     sym (none_pass 1000001 (λ v. int_lt v c.args.limit) (pos c.args.by) c.args.from (omega arith) (lt_false c.args.from c.args.limit q) f)
 
-pub returns-then-turns-gt1000000 : goal.returns-then-turns-gt1000000
-returns-then-turns-gt1000000 c =
+pub returns-then-turns : goal.returns-then-turns
+returns-then-turns c =
     let r = c.requires.from in
     let f : is_i32 c.args.from ≡ true = in_32 c.args.from (omega (arith, ints, r)) (omega (arith, ints, r)) in
     let e = c.gap.ensures in
     let g : c.args.from +ℤ pos c.gap.result ≡ c.args.limit = omega (arith, ints, e) in
-    let h = c.if-turns-gt1000000.true in
+    let h = c.if-turns.true in
     sym (up_long 1000001 c.args.from c.args.limit c.args.by c.steps-turns.result c.gap.result
     c.steps-turns.ensures.some c.steps-turns.ensures.reach c.steps-turns.ensures.last f g (omega (arith, h)))
 
@@ -30,7 +30,7 @@ returns-then-from-last-gt2147483647 c =
     let e = c.gap.ensures in
     let g : c.args.from +ℤ pos c.gap.result ≡ c.args.limit = omega (arith, ints, e) in
     let h = c.if-from-last-gt2147483647.true in
-    let small = c.if-turns-gt1000000.false in
+    let small = c.if-turns.false in
     let range = c.ranges.by in
     let most = steps_mono c.steps-turns.result 1000000 c.args.by (omega (arith, small)) in
     let q : pos 2147483647 <ℤ (c.args.from +ℤ pos (c.steps-turns.result * c.args.by)) = grind (arith, ints) in
@@ -39,7 +39,7 @@ returns-then-from-last-gt2147483647 c =
 
 pub returns : goal.returns
 returns c =
-    let small = c.if-turns-gt1000000.false in
+    let small = c.if-turns.false in
     let below : c.steps-turns.result < 1000001 = omega (arith, small) in
     let r = c.requires.from in
     let f : is_i32 c.args.from ≡ true = in_32 c.args.from (omega (arith, ints, r)) (omega (arith, ints, r)) in

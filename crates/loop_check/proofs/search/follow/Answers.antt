@@ -1,6 +1,6 @@
 use Rattle.std.proofs.Common.{◌≡◌, ◌∙◌, ◌+◌, ◌++◌, ◌∷◌, [], sym, ap, subst, suc, false, take, set, get_or, arith}
 use Rattle.std.proofs.Math.Seq.{take-suc}
-use Rattle.loop_check.proofs.Searched.{Followed, none_followed, put_one, pass_one}
+use Rattle.loop_check.proofs.Searched.{Followed, put_one, pass_one}
 use Rattle.loop_check.proofs.search.follow.Goals as goal
 use Rattle.loop_check.proofs.search.follow.Goals.{then-is_waiting+in_ok-push, else-is_waiting}
 

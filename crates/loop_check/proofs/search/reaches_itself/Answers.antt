@@ -1,8 +1,8 @@
-use Rattle.std.proofs.Common.{◌≡◌, ◌∙◌, ◌++◌, ◌∷◌, [], sym, ap, subst, true, false, get_or, arith}
+use Rattle.std.proofs.Common.{◌≡◌, ◌∙◌, [], sym, ap, subst, arith}
 use Rattle.std.proofs.lemmas.List.{nil_from_length}
 use Rattle.forec_tree.specs.Faults.{is_in}
 use Rattle.loop_check.specs.Graph.{callees}
-use Rattle.loop_check.proofs.Searched.{Searching, Followed, begins, found_it, followed_on, answers}
+use Rattle.loop_check.proofs.Searched.{Searching, Followed, found_it, followed_on, answers}
 use Rattle.loop_check.proofs.search.reaches_itself.Goals as goal
 
 pub returns-then-is_among-clause-reaches : goal.returns-then-is_among-clause-reaches

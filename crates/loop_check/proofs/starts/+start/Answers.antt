@@ -1,4 +1,4 @@
-use Rattle.std.proofs.Common.{◌≡◌, ◌∙◌, sym, ap, subst, refl, List, ℕ, [], ◌∷◌, ◌++◌, append_assoc}
+use Rattle.std.proofs.Common.{◌≡◌, ◌∙◌, sym, ap, subst, List, ℕ, [], ◌∷◌, ◌++◌, append_assoc}
 use Rattle.std.specs.Prelude.{OnOk}
 use Rattle.forec_tree.specs.Pauses as pauses
 use Rattle.forec_tree.proofs.Rows.{of_group, of_abort, of_par}

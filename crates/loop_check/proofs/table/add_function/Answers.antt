@@ -1,4 +1,4 @@
-use Rattle.std.proofs.Common.{◌≡◌, ◌∙◌, sym, ap, subst, true, false, Some, None, take, ◌++◌, ◌∷◌, []}
+use Rattle.std.proofs.Common.{◌≡◌, ◌∙◌, sym, ap, subst, true, false, Some, take, ◌++◌, ◌∷◌, []}
 use Rattle.forec_tree.specs.declared.tree.Name.{Name}
 use Rattle.forec_tree.specs.Terms.{IsFunction}
 use Rattle.forec_tree.specs.Plain.{plain_item, plain_function}

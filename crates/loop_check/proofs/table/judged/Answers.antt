@@ -1,10 +1,10 @@
-use Rattle.std.proofs.Common.{◌≡◌, ◌∙◌, sym, ap, subst, refl, cond, Bool, true, false, ℕ, length, take, get_or, arith}
+use Rattle.std.proofs.Common.{◌≡◌, ◌∙◌, sym, ap, subst, cond, length, get_or, arith}
 use Rattle.forec_tree.specs.Pauses as pauses
 use Rattle.loop_check.specs.Known as table
 use Rattle.loop_check.specs.Known.{known}
 use Rattle.loop_check.specs.Graph.{set_at}
 use Rattle.loop_check.specs.Views.{text_of}
-use Rattle.loop_check.proofs.Reading.{agrees_next, take_all}
+use Rattle.loop_check.proofs.Reading.{agrees_next}
 use Rattle.loop_check.proofs.table.judged.Goals as goal
 use Rattle.loop_check.proofs.table.judged.Goals.{then-function_certain+in_ok-mark, else-function_certain}
 

@@ -1,4 +1,4 @@
-use Rattle.std.proofs.Common.{◌≡◌, ◌∙◌, sym, ap, subst, map, inl}
+use Rattle.std.proofs.Common.{◌∙◌, ap, subst, map, inl}
 use Rattle.forec_tree.specs.Plain as plain
 use Rattle.forec_tree.specs.Pauses.{starts}
 use Rattle.forec_tree.specs.Faults.{Leads}

@@ -1,7 +1,7 @@
-use Rattle.std.proofs.Common.{◌≡◌, ◌∙◌, ◌≤◌, ◌<◌, ◌-◌, ℕ, zero, suc, List, [], ◌∷◌, refl, sym, ap, Some, None, length, map, drop, get_or, arith}
+use Rattle.std.proofs.Common.{◌≡◌, ◌∙◌, ◌<◌, ◌-◌, ℕ, zero, suc, List, [], ◌∷◌, refl, sym, ap, Some, None, length, get_or, arith}
 use Rattle.forec_tree.specs.Scopes.{find_last}
 use Rattle.forec_check.specs.declared.entry.Entry.{Entry}
-use Rattle.forec_check.specs.Stack.{last_of, seen, blank}
+use Rattle.forec_check.specs.Stack.{last_of, blank}
 use Rattle.forec_check.specs.Views.{array_of_seen}
 use Rattle.forec_check.proofs.Stacked.{whole, not_found, found_at, last_bound}
 use Rattle.forec_check.proofs.scope.Scope.array_of.Goals as goal

@@ -1,6 +1,5 @@
 use Rattle.std.proofs.Common.{◌≡◌, ◌∙◌, ◌≤◌, sym, ap, refl, List, [], ◌++◌, length, map, drop, take, ℕ, arith}
 use Rattle.std.proofs.lemmas.List.{take_all, drop_all}
-use Rattle.forec_tree.specs.declared.uses.Seen.{Seen}
 use Rattle.forec_tree.specs.Scopes.{Scope}
 use Rattle.forec_check.specs.declared.entry.Entry.{Entry}
 use Rattle.forec_check.specs.Stack.{seen}

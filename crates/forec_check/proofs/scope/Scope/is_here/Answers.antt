@@ -1,4 +1,4 @@
-use Rattle.std.proofs.Common.{◌∙◌, ap, length}
+use Rattle.std.proofs.Common.{◌∙◌, ap}
 use Rattle.std.specs.Prelude.{nat_lt}
 use Rattle.forec_check.proofs.Stacked.{here_is}
 use Rattle.forec_check.proofs.scope.Scope.is_here.Goals as goal

@@ -1,4 +1,4 @@
-use Rattle.std.proofs.Common.{◌≡◌, ◌∙◌, sym, ap, subst, ℕ, get_or, ◌++◌, ◌∷◌, [], arith}
+use Rattle.std.proofs.Common.{◌≡◌, ◌∙◌, ap, subst, ◌++◌, ◌∷◌, [], arith}
 use Rattle.forec_check.specs.Stack.{last_of, Chained}
 use Rattle.forec_check.proofs.Stacked.{popped, chained_pop, has_place}
 use Rattle.forec_check.proofs.stack.Stack.pop.Goals as goal

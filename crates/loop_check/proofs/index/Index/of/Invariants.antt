@@ -1,4 +1,4 @@
-use Rattle.std.proofs.Common.{ℕ, ◌≡◌, length, get_or, map, drop}
+use Rattle.std.proofs.Common.{ℕ, ◌≡◌, get_or, map, drop}
 use Rattle.forec_tree.specs.Plain.{plain_item}
 use Rattle.loop_check.specs.Index.{blank, entry_from}
 use Rattle.loop_check.proofs.index.Index.of.Given as goal

@@ -1,4 +1,4 @@
-use Rattle.std.proofs.Common.{◌≡◌, ◌∙◌, ◌+◌, ◌-◌, suc, ℕ, sym, ap, refl, arith}
+use Rattle.std.proofs.Common.{◌∙◌, ◌-◌, sym, ap, refl, arith}
 use Rattle.loop_check.specs.Index.{blank}
 use Rattle.loop_check.specs.Views.{text_of}
 use Rattle.loop_check.proofs.Indexed.{absent_is, found_is}

@@ -1,4 +1,4 @@
-use Rattle.std.proofs.Common.{◌≡◌, ◌∙◌, sym, ap, subst, length, ℕ}
+use Rattle.std.proofs.Common.{subst, length}
 use Rattle.forec_tree.specs.Faults.{Leads}
 use Rattle.forec_tree.specs.Pauses.{starts, certain_step}
 use Rattle.loop_check.specs.Graph.{callees, IsOrder}

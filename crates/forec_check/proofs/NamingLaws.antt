@@ -1,4 +1,5 @@
--- The number of thread instances that name a global is that of the tree of threads.
+-- The walk over each function counts the thread instances that name a global: in a text in which no name is used as what it is not,
+-- its number is that of the tree of threads.
 use Rattle.std.proofs.Common.{ℕ, zero, suc, ◌+◌, ◌≡◌, ◌==◌, ◌∙◌, sym, ap, refl, Bool, true, false, cond, not, ◌&&◌, ◌||◌, nat_lt, nat_le, Option, Some, None, List, [], ◌∷◌, ◌++◌, length, arith}
 use Rattle.forec_tree.specs.declared.fault.Fault.{Fault}
 use Rattle.forec_tree.specs.declared.tree.Name.{Name}
@@ -13,7 +14,7 @@ use Rattle.forec_tree.specs.Findings.{Finding, Use, Declares, Bound, Loop, Synch
 use Rattle.forec_tree.specs.Rules.{Judging, finding_faults, findings_faults, fault_if, is_long, some_returns}
 use Rattle.forec_tree.specs.Faults.{is_in, item_named, Before, after_item, item_faults, items_faults, none_before, main_faults, text_faults}
 use Rattle.forec_tree.specs.Pauses.{within, find_function}
-use Rattle.forec_tree.specs.Threads.{Naming, no_naming, instances_naming, Reading, start, read_use, read_one, read_all, as_naming, body_naming, naming_step, instances_of}
+use Rattle.forec_check.specs.Reading.{Naming, no_naming, instances_naming, Reading, start, read_use, read_one, read_all, as_naming, body_naming, naming_step, instances_of}
 use Rattle.forec_tree.specs.ThreadTree.{Threads, no_threads, thread, followed_by, Placed, nothing, joined, started, globals_in, naming, placed, all_placed, perhaps_placed, branches_placed, body_placed, placed_step, thread_tree, count_naming}
 
 -- ---- texts in which each name that is called or started is a function's
