@@ -9,7 +9,7 @@ ghost use Rattle.thread_code.specs.Alone.{Stands};
 ghost use Rattle.copy_slots.specs.Ports.{sent, taken, ChildIs};
 ghost use Rattle.core_host.specs.Jobs.{job_of};
 ghost use Rattle.core_host.specs.Loads.{CanLoad, AreAll, AreOwn};
-ghost use Rattle.core_host.specs.Outcomes.{HasOutputs, LacksOutputs};
+ghost use Rattle.core_host.specs.Outcomes.{HasOutputs, LacksOutputs, HasOutcome};
 
 use crate::desk::Desk;
 use crate::job::write_job;
@@ -130,7 +130,9 @@ impl<'c, P: Port<ForecWork> + Drop> Host<'c, P> {
     /// pauses or ends the outputs are written, in order of declaration; else they stay as they were. It takes
     /// no memory.
     ///
-    /// Through each mailbox go exactly the tick's jobs and replies, however the tick ends.
+    /// Through each mailbox go exactly the tick's jobs and replies, however the tick ends. The outcome and the
+    /// outputs are those of a reply that the code's thread 0 gives to the jobs of the ticks so far; where the
+    /// code stands for a kernel they are the kernel's.
     pub fn alone<G: Gate>(
         &mut self,
         row: &[i32],
@@ -150,6 +152,8 @@ impl<'c, P: Port<ForecWork> + Drop> Host<'c, P> {
             → result ≡ (tick k budget (state_after k Fresh turns) row.now).outcome }
         ensures outputs { (k : PlainKernel) (turns : List Turn) → WellFormed k → Stands (code_of self.old) k → HasRun self.old turns
             → HasOutputs result → outputs.new ≡ (tick k budget (state_after k Fresh turns) row.now).outputs }
+        ensures reply { (jobs : List Job) → HasJobs self.old jobs
+            → HasOutcome (code_of self.old) (jobs ++ job_of (code_of self.old).shape self.old.root row.now budget ∷ []) result outputs.new }
         ensures stay { LacksOutputs result → outputs.new ≡ outputs.old }
         ensures live { is_live self.new ≡ goes_on result }
         ensures jobs { (jobs : List Job) → HasJobs self.old jobs → HasJobs self.new (jobs ++ job_of (code_of self.old).shape self.old.root row.now budget ∷ []) }
