@@ -1,5 +1,6 @@
 //! The host of some of a code's threads.
-ghost use Rattle.std.specs.Prelude.{◌≡◌, ◌≤◌, ◌<◌, ◌^◌, ◌++◌, ◌∷◌, [], ℕ, suc, List, length, true, false, IfOk, IsTrue};
+ghost use Rattle.std.specs.Prelude.{◌≡◌, ◌≤◌, ◌<◌, ◌++◌, ◌∷◌, [], ℕ, suc, List, length, true, false, IfOk, IsTrue};
+ghost use Rattle.forec_base.specs.declared.limits.TheConstants.{MAX_BUDGET};
 ghost use Rattle.forec_kernel.specs.Composed.{Turn, state_after};
 ghost use Rattle.forec_kernel.specs.Engine.{Job};
 ghost use Rattle.forec_kernel.specs.Shapes.{PlainKernel};
@@ -144,7 +145,7 @@ impl<'c, P: Port<ForecWork> + Drop> Host<'c, P> {
         requires live { is_live self.old ≡ true }
         requires row { length row.now ≡ length (code_of self.old).shape.inputs }
         requires outputs { length outputs.old ≡ length (code_of self.old).shape.outputs }
-        requires small { budget ≤ 2 ^ 62 }
+        requires small { budget ≤ MAX_BUDGET }
         ensures code { self.new.code ≡ self.old.code }
         ensures whole { IsWhole self.new }
         ensures turns { (turns : List Turn) → HasRun self.old turns → HasRun self.new (turns ++ record { row = row.now; budget = budget } ∷ []) }
