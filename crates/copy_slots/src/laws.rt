@@ -8,9 +8,9 @@ ghost use Rattle.copy_slots.specs.Rule.{Between};
 
 use crate::work::Work;
 
-/// Between any two steps a table of mailboxes meets its rule, and the rule gives each of these parts:
-/// where a packet is and which of the lists it ends, that replies answer jobs, and that each end stands
-/// in one seat.
+/// Between any two steps a table of mailboxes meets its rule, and the rule gives each of these parts, all
+/// by the words, the slots and the views of the seats: where a packet is and which of the lists in the two
+/// views it ends, that replies answer jobs, and that each end stands in one seat.
 pub fn mailboxes_are_ruled<W: Work>()
     ensures { (work : W) (blanks : List W.Plain) (s : State (Option W.Packet) (View W W.Plain)) → Kept W.plain W.asks W.answers work blanks s → Between W.plain W.asks W.answers work blanks s }
 {}

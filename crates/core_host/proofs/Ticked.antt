@@ -1,6 +1,7 @@
 -- What a tick comes to.
 use Rattle.std.proofs.Common.{◌≡◌, ℕ, ℤ, true, List, [], ◌∷◌, ◌++◌, length, refl, sym, ap, ◌∙◌, subst}
 use Rattle.std.proofs.lemmas.List.{length-map}
+use Rattle.forec_kernel.specs.declared.shape.Outcome.{Outcome}
 use Rattle.forec_kernel.specs.declared.shape.VarCopy.{VarCopy}
 use Rattle.forec_kernel.specs.Shapes.{PlainShape, PlainKernel}
 use Rattle.forec_kernel.specs.Texts.{uses_in}
@@ -23,7 +24,7 @@ use Rattle.combine_tree.specs.declared.packet.PacketKind.{PacketKind}
 use Rattle.combine_tree.specs.declared.packet.PacketKind.TheVariants as kind
 use Rattle.combine_tree.specs.Plain.{plain_kind, plain_packet}
 use Rattle.core_host.specs.Jobs.{copies_before, copies_at, job_with, job_of}
-use Rattle.core_host.specs.Outcomes.{HasOutputs, outcome_in}
+use Rattle.core_host.specs.Outcomes.{HasOutputs, outcome_in, ComesTo}
 use Rattle.core_host.specs.Runs.{Keeps}
 use Rattle.core_host.proofs.Rooms.{no_params, all_copies, length_at}
 use Rattle.core_host.proofs.KeptCopies.{KeptBy, HasCopies, copies_kept, jobs_then, state_then}
@@ -114,6 +115,15 @@ told_by c k same turns turn p WasOver is tells kept =
       outputs = λ has. absurd (subst (λ x. HasOutputs (outcome_in x)) q has);
       keeps = λ e. let f = sym q ∙ e in cc;
     }
+
+-- what the packet of the reply tells is what the reply tells
+pub comes_to : (s : PlainShape) (p : Packet) (reply : Reply) → IsReply (plain_packet p) reply → (o : Outcome) → o ≡ outcome_in p.kind → (outputs : List ℤ) → (HasOutputs o → outputs ≡ values_of (uses_in s.threads 0) p.copies.items s.outputs) → ComesTo s reply o outputs
+comes_to s p (WasPaused copies u) is o o_is outputs are =
+    let e = o_is ∙ ap outcome_in (paused_of p.kind is.0) in (e, are (subst HasOutputs (sym e) tt) ∙ ap (λ cs. values_of (uses_in s.threads 0) cs s.outputs) is.1)
+comes_to s p (WasEnded copies u) is o o_is outputs are =
+    let e = o_is ∙ ap outcome_in (ended_of p.kind is.0) in (e, are (subst HasOutputs (sym e) tt) ∙ ap (λ cs. values_of (uses_in s.threads 0) cs s.outputs) is.1)
+comes_to s p (WasTrapped place trap u) is o o_is outputs are = o_is ∙ ap outcome_in (trapped_of p.kind place trap is.0)
+comes_to s p WasOver is o o_is outputs are = o_is ∙ ap outcome_in (over_of p.kind is)
 
 pub goes_on_paused : (q : PacketKind) → goes_on (outcome_in q) ≡ true → q ≡ kind.Paused
 goes_on_paused kind.Paused e = refl

@@ -3,7 +3,8 @@ use Rattle.std.proofs.Common.{◌≡◌, ℕ, ◌<◌, ℤ, Bool, true, false, L
 use Rattle.forec_kernel.specs.declared.shape.Outcome.{Outcome}
 use Rattle.forec_kernel.specs.Shapes.{PlainKernel}
 use Rattle.forec_kernel.specs.WellFormed.{WellFormed}
-use Rattle.forec_kernel.specs.Ticks.{Fresh, goes_on}
+use Rattle.forec_kernel.specs.Texts.{uses_in}
+use Rattle.forec_kernel.specs.Ticks.{Fresh, goes_on, values_of}
 use Rattle.forec_kernel.specs.Packed.{HasRoom, IsJob}
 use Rattle.forec_kernel.specs.Engine.{Job, Answers}
 use Rattle.forec_kernel.specs.Composed.{Turn, tick_jobs}
@@ -21,14 +22,14 @@ use Rattle.core_machine.specs.Replies.{Replies_by}
 use Rattle.core_host.specs.Posts.{HasPosted, HasPostedTaken}
 use Rattle.core_host.specs.Done.{HasDone}
 use Rattle.core_host.specs.Jobs.{IsBetween, kind_of, job_of}
-use Rattle.core_host.specs.Outcomes.{IsReplied, outcome_in}
+use Rattle.core_host.specs.Outcomes.{IsReplied, outcome_in, HasOutputs, HasOutcome}
 use Rattle.core_host.specs.Keeping.{State, code_in, IsFitted, Sits, Idle, QuietAbove}
 use Rattle.core_host.specs.Waiting.{rests}
 use Rattle.core_host.specs.Ending.{HasReplied}
 use Rattle.core_host.specs.Hosted.{Hosted, hosted, state_in, code_of, IsWhole}
 use Rattle.core_host.specs.Rests.{IsReady, RootRests, IsHosted}
 use Rattle.core_host.specs.Runs.{HasJobs, HasTicked}
-use Rattle.core_host.proofs.Ticked.{Told, told, keeps_now, jobs_are, goes_on_paused, job_fits, fits_then}
+use Rattle.core_host.proofs.Ticked.{Told, told, keeps_now, jobs_are, goes_on_paused, comes_to, job_fits, fits_then}
 
 -- ---- before
 
@@ -124,6 +125,13 @@ module _ (s0 s1 : State) (cores : List ℕ) (p0 p1 pj : Packet) (live0 live1 : B
     done = (replies_for jobs old).done;
   }
 
+  pub outcome_now : (jobs : List Job) → HasJobs h0 jobs → (outputs : List ℤ) → (HasOutputs outcome → outputs ≡ values_of (uses_in c.shape.threads 0) p1.copies.items c.shape.outputs) → HasOutcome c (jobs ++ job ∷ []) outcome outputs
+  outcome_now jobs old outputs are = let r = replies_for jobs old in record {
+    reply = r.reply;
+    answers = subst (λ x. Answers (CodeAlone (plain_code x)) (length (plain_code x).threads) 0 (jobs ++ job ∷ []) r.reply) code1 r.answers;
+    comes = comes_to c.shape p1 r.reply r.is outcome outcome_is outputs are;
+  }
+
   module _ (k : PlainKernel) (turns : List Turn) (fine : WellFormed k) (stands : Stands c k) (ticked : HasTicked h0 k turns) where
     abbrev turn : Turn
     turn = record { row = row; budget = budget }
@@ -153,6 +161,7 @@ root_posted h jobs j =
       jobs_are = j.done.jobs_are;
       runs = j.done.runs;
       complete = j.done.complete;
+      allowed = j.done.posts.allowed;
       sent = j.done.posts.sent;
       got = j.done.posts.got;
     })
@@ -167,6 +176,7 @@ idle_posted s k i = record {
     jobs_are = i.done.jobs_are;
     runs = i.done.runs;
     complete = i.done.complete;
+    allowed = i.done.posts.allowed;
     sent = i.done.posts.sent;
     got = i.done.posts.got;
   });

@@ -1,5 +1,6 @@
 -- Which jobs may be sent through the mailboxes of a code, and which replies answer them.
-use Rattle.std.specs.Prelude.{ℕ, suc, ◌≡◌, ◌≤◌, ◌^◌, List, [], ◌∷◌, ◌++◌, length}
+use Rattle.std.specs.Prelude.{ℕ, suc, ◌≡◌, ◌≤◌, List, [], ◌∷◌, ◌++◌, length}
+use Rattle.forec_base.specs.declared.limits.TheConstants.{MAX_BUDGET}
 use Rattle.forec_kernel.specs.Packets.{Kind, Start, Wake, IsPaused, PlainPacket}
 use Rattle.forec_kernel.specs.Packed.{HasRoom, IsJob, PacketAnswers}
 use Rattle.forec_kernel.specs.Engine.{Job}
@@ -32,5 +33,5 @@ pub record Asks (c : PlainCode) (k : ℕ) (jobs : List PlainPacket) : Type 0 whe
   pub job : Job
   pub is : IsJob last job
   pub room : HasRoom (of_shape c.shape) (suc k) last
-  pub small : last.allowance ≤ 2 ^ 62
+  pub small : last.allowance ≤ MAX_BUDGET
   pub follows : MayFollow c k before last.kind

@@ -1,5 +1,6 @@
 -- What a host keeps of its threads, their packets and mailboxes.
 use Rattle.std.specs.Prelude.{ℕ, suc, ◌≡◌, ◌<◌, ◌≤◌, true, false, Option, None, Some, List, [], ◌∷◌, ◌++◌, length, map, slice_get}
+use Rattle.forec_base.specs.declared.limits.TheConstants.{MAX_THREADS}
 use Rattle.forec_kernel.specs.Packets.{IsPaused, PlainPacket}
 use Rattle.forec_kernel.specs.Packed.{HasRoom, AreJobs, IsReply, PacketAnswers}
 use Rattle.forec_kernel.specs.Engine.{Job, Start, Wake, Reply, Written}
@@ -150,7 +151,7 @@ pub record IsJobFor (c : PlainCode) (mail : Mail) (t : ℕ) (w : Written) : Type
 pub record AtFork (s : State) (h : Thread) : Type 0 where
   pub loaded : Loaded (code_in s) h
   pub settled : HasSettled h 0
-  pub few : length h.branches.numbers ≤ 256
+  pub few : length h.branches.numbers ≤ MAX_THREADS
   pub numbers : h.branches.numbers ≡ map (λ w. w.branch) (jobs_at (code_in s) h)
   pub order : (i j : ℕ) (v w : Written) → i < j → slice_get (jobs_at (code_in s) h) i ≡ Some v → slice_get (jobs_at (code_in s) h) j ≡ Some w → v.branch < w.branch
   pub each : (i : ℕ) (w : Written) → slice_get (jobs_at (code_in s) h) i ≡ Some w → IsJobFor (code_in s) s.mail h.number w

@@ -1,6 +1,13 @@
 -- How a tick ended, by the reply of its thread.
+use Rattle.std.specs.Prelude.{◌≡◌, ℤ, List, length}
 use Rattle.forec_kernel.specs.declared.shape.Outcome.{Outcome}
 use Rattle.forec_kernel.specs.declared.shape.Outcome.TheVariants as outcome
+use Rattle.forec_kernel.specs.Engine.{Job, Reply, WasPaused, WasEnded, WasTrapped, WasOver, Answers}
+use Rattle.forec_kernel.specs.Shapes.{PlainShape}
+use Rattle.forec_kernel.specs.Texts.{uses_in}
+use Rattle.forec_kernel.specs.Ticks.{values_of}
+use Rattle.thread_code.specs.Plain.{PlainCode}
+use Rattle.thread_code.specs.Alone.{CodeAlone}
 use Rattle.combine_tree.specs.declared.packet.PacketKind.{PacketKind}
 use Rattle.combine_tree.specs.declared.packet.PacketKind.TheVariants as kind
 
@@ -30,3 +37,16 @@ outcome_in kind.Paused = outcome.Paused
 outcome_in kind.Ended = outcome.Ended
 outcome_in (kind.Trapped place trap) = outcome.Trapped place trap
 outcome_in _ = outcome.Over
+
+-- a reply of thread 0 tells this outcome, and these outputs where there are any
+abbrev pub ComesTo : PlainShape → Reply → Outcome → List ℤ → Type 0
+ComesTo s (WasPaused copies u) o outputs = (o ≡ outcome.Paused) × (outputs ≡ values_of (uses_in s.threads 0) copies s.outputs)
+ComesTo s (WasEnded copies u) o outputs = (o ≡ outcome.Ended) × (outputs ≡ values_of (uses_in s.threads 0) copies s.outputs)
+ComesTo s (WasTrapped place trap u) o outputs = o ≡ outcome.Trapped place trap
+ComesTo s WasOver o outputs = o ≡ outcome.Over
+
+-- so does a reply that thread 0 of the code, with its branches below it, gives to these jobs
+pub record HasOutcome (c : PlainCode) (jobs : List Job) (o : Outcome) (outputs : List ℤ) : Type 0 where
+  pub reply : Reply
+  pub answers : Answers (CodeAlone c) (length c.threads) 0 jobs reply
+  pub comes : ComesTo c.shape reply o outputs

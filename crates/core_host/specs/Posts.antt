@@ -1,8 +1,8 @@
 -- What went through the mailboxes of a thread's branches: the jobs that the thread writes by itself, and the replies to them.
-use Rattle.std.specs.Prelude.{ℕ, suc, ◌≡◌, ◌==◌, cond, Some, List, [], ◌∷◌, map}
+use Rattle.std.specs.Prelude.{ℕ, suc, ◌≡◌, ◌==◌, cond, Some, List, [], ◌∷◌, map, length}
 use Rattle.forec_kernel.specs.Packets.{PlainPacket}
 use Rattle.forec_kernel.specs.Packed.{AreJobs, IsReply}
-use Rattle.forec_kernel.specs.Engine.{Job, Reply, Exchange, Output, Answered, pair_all, jobs_to, AllReply}
+use Rattle.forec_kernel.specs.Engine.{Job, Reply, Exchange, Output, Allowed, Answers, Answered, pair_all, jobs_to, AllReply}
 use Rattle.forec_kernel.specs.Shapes.{PlainShape}
 use Rattle.forec_kernel.specs.WellFormed.{thread_of}
 use Rattle.thread_code.specs.Plain.{PlainCode}
@@ -31,13 +31,14 @@ AreReplies (p ∷ ps) [] = ⊥
 AreReplies (p ∷ ps) (r ∷ rs) = IsReply p r × AreReplies ps rs
 
 -- Thread t has replied to each of these jobs, and this is all that its branches were told and have told: by itself the thread writes exactly
--- these jobs where it gets exactly these replies.
+-- these jobs where it gets exactly these replies, and each of the replies is one that its branch gives to the jobs that it was told so far.
 pub record HasPosted (c : PlainCode) (t : ℕ) (mail : Mail) (jobs : List Job) : Type 0 where
   pub exchanges : List Exchange
   pub outputs : List Output
   pub jobs_are : map (λ x. x.job) exchanges ≡ jobs
   pub runs : CodeAlone c t exchanges outputs
   pub complete : AllReply outputs
+  pub allowed : Allowed (Answers (CodeAlone c) (length c.threads)) [] (pair_all exchanges outputs)
   pub sent : (k : ℕ) → IsBranchOf c.shape t k → AreJobs (sent mail k) (jobs_to (suc k) (pair_all exchanges outputs))
   pub got : (k : ℕ) → IsBranchOf c.shape t k → AreReplies (got mail k) (replies_to (suc k) (pair_all exchanges outputs))
 

@@ -1,5 +1,6 @@
 -- A thread that is at work on a job while its branches do theirs.
 use Rattle.std.specs.Prelude.{ℕ, suc, ◌≡◌, ◌<◌, ◌≤◌, ◌+◌, ◌==◌, ◌⊎◌, cond, Bool, true, Some, List, [], ◌∷◌, ◌++◌, length, map, slice_get, drop}
+use Rattle.forec_base.specs.declared.limits.TheConstants.{MAX_THREADS}
 use Rattle.forec_kernel.specs.Packed.{HasRoom, AreJobs}
 use Rattle.forec_kernel.specs.Engine.{Job, Reply, Written, Answers, Answered, Allowed, jobs_to, pair_up}
 use Rattle.thread_code.specs.Plain.{PlainCode}
@@ -52,7 +53,7 @@ pub record IsFor (c : PlainCode) (t b : ℕ) : Type 0 where
 pub record IsForked (c : PlainCode) (h : Thread) : Type 0 where
   pub settled : HasSettled h 0
   pub some : 0 < length h.branches.numbers
-  pub few : length h.branches.numbers ≤ 256
+  pub few : length h.branches.numbers ≤ MAX_THREADS
   pub numbers : h.branches.numbers ≡ map (λ w. w.branch) (jobs_at c h)
   pub order : (i j : ℕ) (v w : Written) → i < j → slice_get (jobs_at c h) i ≡ Some v → slice_get (jobs_at c h) j ≡ Some w → v.branch < w.branch
   pub each : (i : ℕ) (w : Written) → slice_get (jobs_at c h) i ≡ Some w → IsFor c h.number w.branch

@@ -1,5 +1,6 @@
 //! Threads at work, one after the other.
-ghost use Rattle.std.specs.Prelude.{◌≡◌, ◌≢◌, ◌≤◌, ◌<◌, ◌^◌, ◌+◌, ◌++◌, ◌∷◌, [], ℕ, suc, List, Some, None, length, slice_get, true, false};
+ghost use Rattle.std.specs.Prelude.{◌≡◌, ◌≢◌, ◌≤◌, ◌<◌, ◌+◌, ◌++◌, ◌∷◌, [], ℕ, suc, List, Some, None, length, slice_get, true, false};
+ghost use Rattle.forec_base.specs.declared.limits.TheConstants.{MAX_BUDGET, MAX_THREADS};
 ghost use Rattle.forec_kernel.specs.Engine.{Job, Reply, Written, Answered, Exchange, pair_up};
 ghost use Rattle.forec_kernel.specs.Packed.{HasRoom, IsJob};
 ghost use Rattle.thread_code.specs.Plain.{plain_code};
@@ -161,7 +162,7 @@ impl<'c, P: Port<ForecWork> + Drop> Desk<'c, P> {
     pub(crate) fn settle(&self, thread: &mut Thread)
         requires loaded { Loaded (code_in self.now) thread.old }
         requires fork { HasSettled thread.old 0 }
-        requires few { length thread.old.branches.numbers ≤ 256 }
+        requires few { length thread.old.branches.numbers ≤ MAX_THREADS }
         requires heard { (rs : List Reply) × HaveHeard self.now thread.old.branches.numbers rs }
         ensures loaded { Loaded (code_in self.now) thread.new }
         ensures number { thread.new.number ≡ thread.old.number }
@@ -183,7 +184,7 @@ impl<'c, P: Port<ForecWork> + Drop> Desk<'c, P> {
     pub(crate) fn join(&self, thread: &mut Thread)
         requires loaded { Loaded (code_in self.now) thread.old }
         requires some { 0 < length thread.old.branches.numbers }
-        requires few { length thread.old.branches.numbers ≤ 256 }
+        requires few { length thread.old.branches.numbers ≤ MAX_THREADS }
         requires order { HasJoined thread.old 0 }
         requires heard { (rs : List Reply) × HaveHeard self.now thread.old.branches.numbers rs }
         ensures loaded { Loaded (code_in self.now) thread.new }
@@ -233,7 +234,7 @@ impl<'c, P: Port<ForecWork> + Drop> Desk<'c, P> {
         requires job { (t : PlainThread) → Sits self.old 0 t → CanBegin t packet.old.kind }
         requires is { (job : Job) × IsJob (plain_packet packet.old) job }
         requires room { HasRoom (of_shape (code_in self.old).shape) 0 (plain_packet packet.old) }
-        requires small { packet.old.allowance ≤ 2 ^ 62 }
+        requires small { packet.old.allowance ≤ MAX_BUDGET }
         ensures fitted { IsFitted self.new }
         ensures code { self.new.code ≡ self.old.code }
         ensures places { self.new.places ≡ self.old.places }

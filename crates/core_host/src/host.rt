@@ -1,5 +1,6 @@
 //! The host of some of a code's threads.
-ghost use Rattle.std.specs.Prelude.{◌≡◌, ◌≤◌, ◌<◌, ◌^◌, ◌++◌, ◌∷◌, [], ℕ, suc, List, length, true, false, IfOk, IsTrue};
+ghost use Rattle.std.specs.Prelude.{◌≡◌, ◌≤◌, ◌<◌, ◌++◌, ◌∷◌, [], ℕ, suc, List, length, true, false, IfOk, IsTrue};
+ghost use Rattle.forec_base.specs.declared.limits.TheConstants.{MAX_BUDGET};
 ghost use Rattle.forec_kernel.specs.Composed.{Turn, state_after};
 ghost use Rattle.forec_kernel.specs.Engine.{Job};
 ghost use Rattle.forec_kernel.specs.Shapes.{PlainKernel};
@@ -9,7 +10,7 @@ ghost use Rattle.thread_code.specs.Alone.{Stands};
 ghost use Rattle.copy_slots.specs.Ports.{sent, taken, ChildIs};
 ghost use Rattle.core_host.specs.Jobs.{job_of};
 ghost use Rattle.core_host.specs.Loads.{CanLoad, AreAll, AreOwn};
-ghost use Rattle.core_host.specs.Outcomes.{HasOutputs, LacksOutputs};
+ghost use Rattle.core_host.specs.Outcomes.{HasOutputs, LacksOutputs, HasOutcome};
 
 use crate::desk::Desk;
 use crate::job::write_job;
@@ -130,7 +131,9 @@ impl<'c, P: Port<ForecWork> + Drop> Host<'c, P> {
     /// pauses or ends the outputs are written, in order of declaration; else they stay as they were. It takes
     /// no memory.
     ///
-    /// Through each mailbox go exactly the tick's jobs and replies, however the tick ends.
+    /// Through each mailbox go exactly the tick's jobs and replies, however the tick ends. The outcome and the
+    /// outputs are those of a reply that the code's thread 0 gives to the jobs of the ticks so far; where the
+    /// code stands for a kernel they are the kernel's.
     pub fn alone<G: Gate>(
         &mut self,
         row: &[i32],
@@ -142,7 +145,7 @@ impl<'c, P: Port<ForecWork> + Drop> Host<'c, P> {
         requires live { is_live self.old ≡ true }
         requires row { length row.now ≡ length (code_of self.old).shape.inputs }
         requires outputs { length outputs.old ≡ length (code_of self.old).shape.outputs }
-        requires small { budget ≤ 2 ^ 62 }
+        requires small { budget ≤ MAX_BUDGET }
         ensures code { self.new.code ≡ self.old.code }
         ensures whole { IsWhole self.new }
         ensures turns { (turns : List Turn) → HasRun self.old turns → HasRun self.new (turns ++ record { row = row.now; budget = budget } ∷ []) }
@@ -150,6 +153,8 @@ impl<'c, P: Port<ForecWork> + Drop> Host<'c, P> {
             → result ≡ (tick k budget (state_after k Fresh turns) row.now).outcome }
         ensures outputs { (k : PlainKernel) (turns : List Turn) → WellFormed k → Stands (code_of self.old) k → HasRun self.old turns
             → HasOutputs result → outputs.new ≡ (tick k budget (state_after k Fresh turns) row.now).outputs }
+        ensures reply { (jobs : List Job) → HasJobs self.old jobs
+            → HasOutcome (code_of self.old) (jobs ++ job_of (code_of self.old).shape self.old.root row.now budget ∷ []) result outputs.new }
         ensures stay { LacksOutputs result → outputs.new ≡ outputs.old }
         ensures live { is_live self.new ≡ goes_on result }
         ensures jobs { (jobs : List Job) → HasJobs self.old jobs → HasJobs self.new (jobs ++ job_of (code_of self.old).shape self.old.root row.now budget ∷ []) }

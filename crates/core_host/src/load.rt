@@ -1,6 +1,7 @@
 //! What a host is made of.
 
 ghost use Rattle.std.specs.Prelude.{◌≡◌, ◌<◌, ◌≤◌, ◌+◌, ◌++◌, ◌∷◌, [], ℕ, suc, cond, All, IfOk, OnOk, Some, None, Option, length, slice_get, replicate, true};
+ghost use Rattle.forec_base.specs.declared.limits.TheConstants.{MAX_THREADS};
 ghost use Rattle.thread_code.specs.Plain.{plain_code};
 ghost use Rattle.combine_tree.specs.declared.packet.Packet.{Packet as PlainPacketState};
 ghost use Rattle.core_host.specs.declared.seat.Seat.{Seat as SeatState};
@@ -64,7 +65,7 @@ pub fn seats_of(
     cores: &[u32],
 ) -> Result<Vec<Seat>, OutOfMemory>
     requires count { length places.now ≡ length (plain_code code.now).threads }
-    requires few { length places.now ≤ 256 }
+    requires few { length places.now ≤ MAX_THREADS }
     ensures count { IfOk result (λ seats. length seats.items ≡ length places.now) }
     ensures each { IfOk result (λ seats. (t : ℕ) (core : ℕ) (s : SeatState) → slice_get places.now t ≡ Some core → slice_get seats.items t ≡ Some s → IsNewSeat (plain_code code.now) t (contains_core core cores.now) s) }
 {
@@ -89,7 +90,7 @@ fn push_if(own: &mut Vec<u32>, mailbox: u32, is_here: bool) -> Result<(), OutOfM
 /// The mailboxes of the threads of these cores, in order.
 pub fn own_mailboxes(alloc: Global, places: &[u32], cores: &[u32]) -> Result<Vec<u32>, OutOfMemory>
     requires some { 0 < length places.now }
-    requires few { length places.now ≤ 256 }
+    requires few { length places.now ≤ MAX_THREADS }
     ensures { IfOk result (λ own. AreOwn places.now cores.now own.items) }
 {
     let mut own = Vec::new(alloc);

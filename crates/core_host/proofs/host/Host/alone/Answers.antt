@@ -9,11 +9,11 @@ use Rattle.thread_code.specs.Alone.{Stands}
 use Rattle.combine_tree.specs.Plain.{plain_packet}
 use Rattle.core_machine.specs.Held.{CanBegin}
 use Rattle.core_host.specs.Jobs.{job_of}
-use Rattle.core_host.specs.Outcomes.{HasOutputs}
+use Rattle.core_host.specs.Outcomes.{HasOutputs, HasOutcome}
 use Rattle.core_host.specs.Keeping.{State, code_in}
 use Rattle.core_host.specs.Hosted.{Hosted, hosted, code_of, IsWhole}
 use Rattle.core_host.specs.Runs.{HasJobs, HasTicked, HasRun}
-use Rattle.core_host.proofs.Ticking.{is_between, can_begin, replied_of, now_hosted, now_jobs, told_now, ticked_now}
+use Rattle.core_host.proofs.Ticking.{is_between, can_begin, replied_of, now_hosted, now_jobs, outcome_now, told_now, ticked_now}
 use Rattle.core_host.proofs.host.Host.alone.Goals as goal
 
 pub write_job-requires-clause-between : goal.write_job-requires-clause-between
@@ -81,6 +81,19 @@ returns-clause-outputs g c k turns fine stands run has =
     ∙ (told_now c.self.inside.desk c.work.new.self c.self.inside.cores.items c.self.inside.root c.work.new.packet c.write_job.new.packet c.self.inside.live c.match-matches.live c.self.invariant (ap (λ (h : Hosted). h.live) c.self.view_is ∙ c.requires.live)
     c.args.row.now c.args.budget (subst (λ s. IsJob (plain_packet c.write_job.new.packet) (job_of s c.self.inside.root c.args.row.now c.args.budget)) shape c.write_job.ensures.job)
     c.work.ensures.fitted c.work.ensures.code c.work.ensures.quiet c.work.ensures.root c.work.ensures.room c.work.ensures.kind c.work.ensures.replied c.write_outcome-outcome.result c.write_outcome-outcome.ensures.outcome live k turns fine here before).outputs (subst HasOutputs c.write_outcome-outcome.ensures.outcome has)
+
+pub returns-clause-reply : goal.returns-clause-reply
+returns-clause-reply g c jobs old =
+    let shape : plain_shape c.shape.result.now ≡ (code_in c.self.inside.desk).shape = ap plain_shape c.shape.ensures.same ∙ ap (λ (s : State). (code_in s).shape) c.desk.view_is in
+    let live : c.match-matches.live ≡ goes_on c.write_outcome-outcome.result = search rules in
+    let copies = c.work.new.packet.copies.items in
+    let shape2 = ap plain_shape c.shape-2.ensures.same ∙ ap (λ (s : State). (code_in s).shape) c.desk.view_is in
+    let before = subst (λ h. HasJobs h jobs) (sym c.self.view_is) old in
+    let now = outcome_now c.self.inside.desk c.work.new.self c.self.inside.cores.items c.self.inside.root c.work.new.packet c.write_job.new.packet c.self.inside.live c.match-matches.live c.self.invariant (ap (λ (h : Hosted). h.live) c.self.view_is ∙ c.requires.live)
+    c.args.row.now c.args.budget (subst (λ s. IsJob (plain_packet c.write_job.new.packet) (job_of s c.self.inside.root c.args.row.now c.args.budget)) shape c.write_job.ensures.job)
+    c.work.ensures.fitted c.work.ensures.code c.work.ensures.quiet c.work.ensures.root c.work.ensures.room c.work.ensures.kind c.work.ensures.replied c.write_outcome-outcome.result c.write_outcome-outcome.ensures.outcome live jobs before
+    c.write_outcome-outcome.new.outputs (λ has. c.write_outcome-outcome.ensures.outputs has ∙ ap (λ (s : PlainShape). values_of (uses_in s.threads 0) copies s.outputs) shape2) in
+    subst (λ (h : Hosted). HasOutcome (code_of h) (jobs ++ job_of (code_of h).shape h.root c.args.row.now c.args.budget ∷ []) c.write_outcome-outcome.result c.write_outcome-outcome.new.outputs) c.self.view_is now
 
 pub returns-clause-rest : goal.returns-clause-rest
 returns-clause-rest g c k lt = (c.work.ensures.quiet k (omega arith) lt).idle.child
