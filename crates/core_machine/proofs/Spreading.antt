@@ -8,7 +8,7 @@ use Rattle.std.proofs.lemmas.Option.{slice_get-get_or, slice_get_within}
 use Rattle.thread_code.specs.declared.instruction.Instruction.{Instruction}
 use Rattle.thread_code.specs.declared.instruction.Instruction.TheVariants as instruction
 use Rattle.thread_code.specs.Plain.{PlainBlock, PlainCode}
-use Rattle.thread_code.specs.Valid.{Leads, IsValidCode}
+use Rattle.thread_code.specs.Valid.{IsValidCode}
 use Rattle.thread_code.specs.Alone.{block_of}
 use Rattle.thread_steps.specs.Stretch.{no_block, block_for, Next, depth_after, Comes, first, next}
 use Rattle.thread_steps.proofs.Steps.{comes_leads}

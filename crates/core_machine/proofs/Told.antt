@@ -1,15 +1,11 @@
 -- What a thread has told before it comes to a place: each earlier job has its reply.
 use Rattle.std.proofs.Common.{◌≡◌, ℕ, zero, suc, ◌+◌, ◌-◌, ◌≤◌, List, [], ◌∷◌, ◌++◌, Some, map, length, refl, sym, ap, ◌∙◌, subst, arith}
-use Rattle.forec_kernel.specs.Packets.{PlainPacket}
-use Rattle.forec_kernel.specs.Packed.{AreJobs, PacketAnswers}
-use Rattle.forec_kernel.specs.Engine.{Job, allowance_of, Reply, WasOver, Seed, Written, written, AtFork, Engine, run_for, Stops, Rest, Nothing, Output, Exchange, Begins, AllReply}
+use Rattle.forec_kernel.specs.Engine.{allowance_of, Reply, WasOver, Seed, Written, written, AtFork, Engine, run_for, Stops, Rest, Nothing, Output, Exchange, Begins, AllReply}
 use Rattle.forec_kernel.specs.Reached.{AloneTo, Position, AtRest, Inside, Reached, none, begun, stepped, joined, answered, exceeded}
 use Rattle.forec_kernel.proofs.Reach.{Went, alone_snoc, went_answer, went_over}
 use Rattle.forec_kernel.proofs.Agree.{answers_join}
-use Rattle.thread_code.specs.Plain.{PlainCode}
 use Rattle.thread_code.specs.Alone.{CodeAlone}
-use Rattle.core_machine.specs.Held.{Gives}
-use Rattle.core_machine.specs.Replies.{BranchesAnswer, RepliesAnswer}
+use Rattle.core_machine.specs.Replies.{RepliesAnswer}
 
 run_more : {S : Type 0} → (f : S → S) (n : ℕ) (s : S) → run_for f (n + 1) s ≡ f (run_for f n s)
 run_more f zero s = refl

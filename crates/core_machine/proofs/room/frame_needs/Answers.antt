@@ -1,4 +1,4 @@
-use Rattle.std.proofs.Common.{◌<◌, length, sym, subst, arith}
+use Rattle.std.proofs.Common.{◌<◌, length, subst, arith}
 use Rattle.std.proofs.lemmas.List.{length-map}
 use Rattle.thread_code.specs.Plain.{plain_code, plain_block}
 use Rattle.thread_steps.specs.Stretch.{no_block}
