@@ -4,6 +4,7 @@ ghost use Rattle.std.specs.Prelude.{◌≡◌, ◌<◌, ◌≤◌, ◌+◌, ◌+
 ghost use Rattle.forec_base.specs.declared.limits.TheConstants.{MAX_THREADS};
 ghost use Rattle.thread_code.specs.Plain.{plain_code};
 ghost use Rattle.combine_tree.specs.declared.packet.Packet.{Packet as PlainPacketState};
+ghost use Rattle.core_machine.specs.Room.{AreNeeds};
 ghost use Rattle.core_host.specs.declared.seat.Seat.{Seat as SeatState};
 ghost use Rattle.core_host.specs.Loads.{ArePlaced, AreOwn, IsNewSeat, contains_core};
 
@@ -11,7 +12,7 @@ use crate::boxed::Boxed;
 use crate::seat::Seat;
 use combine_tree::Packet;
 use core_alloc::Placement;
-use core_machine::Thread;
+use core_machine::{Needs, Thread};
 use forec_base::OutOfMemory;
 use std::alloc::Global;
 use thread_code::Code;
@@ -40,8 +41,15 @@ fn is_among(core: u32, cores: &[u32]) -> bool
 }
 
 /// The seat of thread number `thread`, with the thread in it where its core is one of these.
-fn seat_of(alloc: Global, code: &Code, thread: u32, is_here: bool) -> Result<Seat, OutOfMemory>
-    requires { thread < length (plain_code code.now).threads }
+fn seat_of(
+    alloc: Global,
+    code: &Code,
+    needs: &Needs,
+    thread: u32,
+    is_here: bool,
+) -> Result<Seat, OutOfMemory>
+    requires thread { thread < length (plain_code code.now).threads }
+    requires needs { AreNeeds (plain_code code.now) needs.now }
     ensures { IfOk result (λ s. IsNewSeat (plain_code code.now) thread is_here s) }
 {
     if !is_here {
@@ -50,7 +58,7 @@ fn seat_of(alloc: Global, code: &Code, thread: u32, is_here: bool) -> Result<Sea
             job: None,
         });
     }
-    let loaded = Thread::load(alloc, code, thread)?;
+    let loaded = Thread::load_with(alloc, code, needs, thread)?;
     Ok(Seat {
         thread: Some(Boxed::new(alloc, loaded)?),
         job: None,
@@ -69,10 +77,11 @@ pub fn seats_of(
     ensures count { IfOk result (λ seats. length seats.items ≡ length places.now) }
     ensures each { IfOk result (λ seats. (t : ℕ) (core : ℕ) (s : SeatState) → slice_get places.now t ≡ Some core → slice_get seats.items t ≡ Some s → IsNewSeat (plain_code code.now) t (contains_core core cores.now) s) }
 {
+    let needs = Needs::new(alloc, code)?;
     let mut seats = Vec::new(alloc);
     for thread in 0..places.len() {
         let is_here = is_among(places[thread], cores);
-        seats.push(seat_of(alloc, code, thread as u32, is_here)?)?;
+        seats.push(seat_of(alloc, code, &needs, thread as u32, is_here)?)?;
     }
     Ok(seats)
 }

@@ -15,7 +15,7 @@ use Rattle.forec_kernel.specs.Packets.{PlainPacket}
 use Rattle.forec_kernel.specs.Packed.{HasRoom, IsJob, IsReply}
 use Rattle.forec_kernel.specs.Engine.{Job, Start, Wake, allowance_of, Reply, WasPaused, WasEnded, WasTrapped, WasOver, Written, View, Going, AtFork, Pausing, Ending, Trapping, Exceeding, Engine, run_for, Stops, Rest, Asleep, Nothing, Exchange, Output, Serves as Serves_by, last_reply}
 use Rattle.forec_kernel.specs.Reached.{Reached, AtRest, Inside, none, begun, stepped, answered, exceeded, Closes}
-use Rattle.forec_kernel.proofs.Reach.{Went, tells, alone_of, alone_snoc, went_answer, went_over}
+use Rattle.forec_kernel.proofs.Reach.{Went, alone_of, alone_snoc, went_answer, went_over}
 use Rattle.forec_kernel.proofs.Same.{one_stop, not_both}
 use Rattle.thread_code.specs.Plain.{PlainBlock, PlainCode}
 use Rattle.thread_code.specs.Valid.{IsBlock, IsValidCode, of_shape, thread_scope}
@@ -38,6 +38,7 @@ use Rattle.core_machine.specs.declared.thread.Event.{Event}
 use Rattle.core_machine.specs.declared.thread.Event.TheVariants as event
 use Rattle.core_machine.specs.Held.{callers, machine_in, machine_of, Works, Placed, Loaded, Exceeds, Stands_in, Stands_at, Waits_for, StandsFor, never, since, settling, joining, event_of, Tells, passes, reaches, IsResting, Rests_in, HasReply, HasPaused, Has_machine, Stops_in, Runs_in, CanRun, Left_by, CanBegin, Gives, started_anew, woken_up, Begun, Moved, Shown, over, comes, Comes_to}
 use Rattle.core_machine.proofs.Outer.{empty_of}
+use Rattle.core_machine.proofs.Told.{all_then, told}
 
 length_fresh : (args : List ℤ) (w : ℕ) → length args ≤ w → length (fresh_words args w) ≡ w
 length_fresh [] w h = let n : w - 0 ≡ w = omega arith in ap (λ k. length (replicate k (pos 0))) n ∙ length-replicate w (pos 0)
@@ -324,13 +325,14 @@ module _ (c : PlainCode) (h : Thread) (l : Loaded c h) where
       (p : PlainPacket) → IsReply p o → Gives c h.number (xs ++ record { job = job; replies = before } ∷ []) p
   gives_by ys job before m o r al reached k p is =
       let e = code_engine c h.number in
-      let t = tells Machine e ys (Inside job before m) reached in
+      let t = told Machine e ys (Inside job before m) reached in
       let serves = serves_by k in
       let out : Output = record { jobs = t.3; reply = Some o } in
       record {
         outputs = t.0 ++ out ∷ [];
         runs = alone_of Machine e (ys ++ record { job = job; replies = before } ∷ []) Nothing r (t.0 ++ out ∷ [])
             (alone_snoc Machine e ys (record { job = job; replies = before }) Nothing t.1 r t.0 t.2 out t.4 t.5 (serves t.2 t.3 t.6));
+        complete = all_then t.0 out o t.7 refl;
         reply = o;
         last = last_of t.0 out;
         is = is;

@@ -1,5 +1,6 @@
+pub mod Told
 pub mod Outer
-pub mod Deep
+pub mod Spreading
 pub mod Calls
 pub mod Moving
 pub mod Jobs

@@ -1,4 +1,5 @@
 pub mod Branches
+pub mod Depths
 pub mod Room
 pub mod Held
 pub mod Forks

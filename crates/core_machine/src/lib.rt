@@ -2,9 +2,13 @@
 #![tactic(auto)]
 
 mod branches;
+mod depths;
 mod fork;
+mod laws;
 mod merging;
 mod room;
 mod thread;
 
+pub use laws::replies_answer_jobs;
+pub use room::Needs;
 pub use thread::{Event, Thread};

@@ -1,34 +1,52 @@
 //! How many numbers the frames of a thread can hold together.
 
-ghost use Rattle.std.specs.Prelude.{◌≡◌, ◌<◌, ◌≤◌, ◌^◌, ℕ, Option, length, get_or, slice_get, true, Some, None, IsTrue, IfSome, IfOk};
+ghost use Rattle.std.specs.Prelude.{◌≡◌, ◌<◌, ◌≤◌, ◌^◌, ℕ, length, get_or, slice_get, true, Some, IsTrue, IfSome, IfOk};
 ghost use Rattle.thread_code.specs.Plain.{plain_code, plain_block};
 ghost use Rattle.forec_kernel.specs.Combining.{contains, variable_of};
 ghost use Rattle.forec_kernel.specs.Shapes.{plain_shape};
-ghost use Rattle.thread_code.specs.Machine.{uses_of};
-ghost use Rattle.thread_code.specs.Alone.{block_of};
 ghost use Rattle.thread_code.specs.Valid.{IsValidCode, of_shape};
 ghost use Rattle.thread_code.specs.declared.instruction.Instruction.TheVariants as instruction;
-ghost use Rattle.thread_steps.specs.Stretch.{no_block, block_for, IsDeep};
-ghost use Rattle.core_machine.specs.Room.{Enough, EnoughToCombine, EnoughFor, IsIn};
+ghost use Rattle.thread_state.specs.Pars.{HavePars};
+ghost use Rattle.core_machine.specs.Depths.{IsSoundIn};
+ghost use Rattle.core_machine.specs.Room.{function_block, IsFrame, Enough, EnoughToCombine, EnoughFor, AreEnough, AreShort, AreNeeds};
 
+use crate::depths::deepest;
 use crate::merging::variable_at;
 use forec_base::OutOfMemory;
 use forec_kernel::Shape;
 use std::alloc::Global;
-use thread_code::{Block, CodeParts, Instruction};
-use thread_steps::stretch::{Site, block_at};
+use thread_code::{Block, Code, CodeParts, Instruction};
+use thread_state::Pars;
 
-/// At most so many numbers stand on the stack of a block.
-fn deepest(site: &Site<'_>) -> u64
-    requires valid { IsValidCode (plain_code site.now.code.now) }
-    requires known { IsIn (plain_code site.now.code.now) site.now.thread site.now.function }
-    requires block { plain_block site.now.block.now ≡ block_for (plain_code site.now.code.now) site.now.thread site.now.function }
-    ensures { IsDeep (plain_code site.now.code.now) (block_for (plain_code site.now.code.now) site.now.thread site.now.function) result }
-{
-    site.block.steps.len() as u64
+/// What the frames of a code's functions need. It is the same for each thread of the code.
+#[derive(Drop)]
+pub struct Needs {
+    /// So many numbers are enough for a frame of each function and all that it calls.
+    pub(crate) each: Vec<u64>,
+    pub(crate) pars: Pars,
 }
 
-fn is_short(block: &Block) -> bool
+impl Needs {
+    /// The needs of a code.
+    ///
+    /// # Errors
+    ///
+    /// Want of memory, also where a function needs more than can be counted.
+    pub fn new(alloc: Global, code: &Code) -> Result<Needs, OutOfMemory>
+        ensures { IfOk result (λ needs. AreNeeds (plain_code code.now) needs) }
+    {
+        let code = code.parts();
+        if !are_short(code) {
+            return Err(OutOfMemory);
+        }
+        let pars = Pars::new(alloc, &code.shape)?;
+        let each = needs_of(alloc, code, &pars)?;
+        Ok(Needs { each, pars })
+    }
+}
+
+/// Whether each address of a block fits 32 bits.
+pub fn is_short(block: &Block) -> bool
     ensures { result ≡ true → length (plain_block block.now).steps < 2 ^ 32 }
 {
     block.steps.len() <= u32::MAX as usize
@@ -36,7 +54,7 @@ fn is_short(block: &Block) -> bool
 
 /// Whether each address of each function fits 32 bits.
 fn are_short(code: &CodeParts) -> bool
-    ensures { result ≡ true → (f : ℕ) → f < length (plain_code code.now).functions → length (get_or (plain_code code.now).functions f no_block).steps < 2 ^ 32 }
+    ensures { result ≡ true → AreShort (plain_code code.now) }
 {
     for function in 0..code.functions.len() {
         if !is_short(&code.functions[function]) {
@@ -44,15 +62,6 @@ fn are_short(code: &CodeParts) -> bool
         }
     }
     true
-}
-
-/// Whether each address of each function and of the thread fits 32 bits.
-pub fn has_addresses(code: &CodeParts, thread: u32) -> bool
-    requires { thread < length (plain_code code.now).threads }
-    ensures { result ≡ true → (g : Option ℕ) → length (block_for (plain_code code.now) thread g).steps < 2 ^ 32 }
-{
-    let short = is_short(block_at(code, thread, None));
-    short && are_short(code)
 }
 
 /// What a function needs, by a table of it; 0 where the table ends before.
@@ -78,19 +87,6 @@ fn most_called(block: &Block, needs: &[u64]) -> u64
     most
 }
 
-/// So many numbers are enough for a frame of the block and all that it calls, where the functions need
-/// what the table says; None where they are too many to count.
-fn frame_need(site: &Site<'_>, needs: &[u64]) -> Option<u64>
-    requires valid { IsValidCode (plain_code site.now.code.now) }
-    requires known { IsIn (plain_code site.now.code.now) site.now.thread site.now.function }
-    requires block { plain_block site.now.block.now ≡ block_for (plain_code site.now.code.now) site.now.thread site.now.function }
-    ensures { IfSome result (λ n. Enough (plain_code site.now.code.now) (block_for (plain_code site.now.code.now) site.now.thread site.now.function) needs.now n) }
-{
-    let own = site.block.words as u64 + site.block.counters as u64;
-    own.checked_add(deepest(site))?
-        .checked_add(most_called(site.block, needs))
-}
-
 /// The most that a combine function needs, of those of these variables.
 fn most_combined(shape: &Shape, uses: &[u32], needs: &[u64]) -> u64
     ensures { (v f : ℕ) → IsTrue (contains v uses.now) → (variable_of (of_shape (plain_shape shape.now)) v).combine ≡ Some f → get_or needs.now f 0 ≤ result }
@@ -104,100 +100,141 @@ fn most_combined(shape: &Shape, uses: &[u32], needs: &[u64]) -> u64
     most
 }
 
-/// So many numbers are enough for a frame of the block that calls any of these variables' combine
-/// functions; None where they are too many to count.
-fn combine_need(site: &Site<'_>, uses: &[u32], needs: &[u64]) -> Option<u64>
-    requires valid { IsValidCode (plain_code site.now.code.now) }
-    requires known { IsIn (plain_code site.now.code.now) site.now.thread site.now.function }
-    requires block { plain_block site.now.block.now ≡ block_for (plain_code site.now.code.now) site.now.thread site.now.function }
-    ensures { IfSome result (λ n. EnoughToCombine (plain_code site.now.code.now) (block_for (plain_code site.now.code.now) site.now.thread site.now.function) uses.now needs.now n) }
+/// So many numbers are enough for a frame of the block by itself.
+fn frame_need(
+    alloc: Global,
+    code: &CodeParts,
+    pars: &Pars,
+    block: &Block,
+) -> Result<u64, OutOfMemory>
+    requires sound { IsSoundIn (plain_code code.now) (plain_block block.now) }
+    requires pars { HavePars (plain_code code.now).shape pars.now }
+    ensures { IfOk result (λ own. IsFrame (plain_code code.now) (plain_block block.now) own) }
 {
-    let own = site.block.words as u64 + site.block.counters as u64;
-    own.checked_add(deepest(site))?
-        .checked_add(most_combined(&site.code.shape, uses, needs))
+    let deep = deepest(alloc, code, pars, block)?;
+    Ok(block.words as u64 + block.counters as u64 + u64::from(deep))
 }
 
-/// So many numbers are enough for all runs of a thread that uses these variables; None where they are
-/// too many to count.
-pub fn thread_need(site: &Site<'_>, uses: &[u32], needs: &[u64]) -> Option<u64>
-    requires valid { IsValidCode (plain_code site.now.code.now) }
-    requires own { site.now.function ≡ None }
-    requires known { site.now.thread < length (plain_code site.now.code.now).threads }
-    requires block { plain_block site.now.block.now ≡ block_of (plain_code site.now.code.now) site.now.thread }
-    requires uses { uses.now ≡ uses_of (plain_code site.now.code.now) site.now.thread }
-    ensures { IfSome result (λ n. EnoughFor (plain_code site.now.code.now) site.now.thread needs.now n) }
+/// What a frame of each function needs by itself.
+fn frame_needs(alloc: Global, code: &CodeParts, pars: &Pars) -> Result<Vec<u64>, OutOfMemory>
+    requires valid { IsValidCode (plain_code code.now) }
+    requires pars { HavePars (plain_code code.now).shape pars.now }
+    ensures long { IfOk result (λ own. length own.items ≡ length (plain_code code.now).functions) }
+    ensures each { IfOk result (λ own. (f : ℕ) → f < length (plain_code code.now).functions → IsFrame (plain_code code.now) (function_block (plain_code code.now) f) (get_or own.items f 0)) }
 {
-    let frame = frame_need(site, needs)?;
-    let combine = combine_need(site, uses, needs)?;
-    Some(frame.max(combine))
+    let mut own = Vec::new(alloc);
+    for function in 0..code.functions.len() {
+        let need = frame_need(alloc, code, pars, &code.functions[function])?;
+        own.push(need)?;
+    }
+    Ok(own)
+}
+
+/// What a frame of the block and all that it calls need, where it needs so much by itself, and the
+/// functions what the table says; None where they are too many to count.
+fn whole_need(code: &CodeParts, block: &Block, own: u64, needs: &[u64]) -> Option<u64>
+    requires own { IsFrame (plain_code code.now) (plain_block block.now) own }
+    ensures { IfSome result (λ n. Enough (plain_code code.now) (plain_block block.now) needs.now n) }
+{
+    own.checked_add(most_called(block, needs))
 }
 
 /// Fills the table at a function, after those that it calls, `fuel` calls deep at most.
-fn fill(code: &CodeParts, thread: u32, needs: &mut Vec<u64>, function: u32, fuel: usize)
-    requires valid { IsValidCode (plain_code code.now) }
-    requires thread { thread < length (plain_code code.now).threads }
+fn fill(code: &CodeParts, own: &[u64], needs: &mut Vec<u64>, function: u32, fuel: usize)
     requires function { function < length (plain_code code.now).functions }
+    requires own { length own.now ≡ length (plain_code code.now).functions }
     requires long { length needs.old.items ≡ length (plain_code code.now).functions }
     ensures { length needs.new.items ≡ length needs.old.items }
 {
     if fuel == 0 || needs[function as usize] != 0 {
         return;
     }
-    let block = block_at(code, thread, Some(function));
+    let block = &code.functions[function as usize];
     for step in &block.steps {
         if let Instruction::Call { function } = *step {
             if (function as usize) < needs.len() {
-                fill(code, thread, needs, function, fuel - 1);
+                fill(code, own, needs, function, fuel - 1);
             }
         }
     }
-    let site = Site {
-        code,
-        thread,
-        function: Some(function),
-        block,
-    };
-    needs[function as usize] = frame_need(&site, needs).unwrap_or(u64::MAX);
+    needs[function as usize] = own[function as usize].saturating_add(most_called(block, needs));
 }
 
 /// Whether the table has enough for a function.
-fn is_enough(code: &CodeParts, thread: u32, needs: &[u64], function: u32) -> bool
-    requires valid { IsValidCode (plain_code code.now) }
-    requires thread { thread < length (plain_code code.now).threads }
+fn is_enough(code: &CodeParts, own: u64, needs: &[u64], function: u32) -> bool
     requires function { function < length (plain_code code.now).functions }
-    ensures { result ≡ true → Enough (plain_code code.now) (block_for (plain_code code.now) thread (Some function)) needs.now (get_or needs.now function 0) }
+    requires own { IsFrame (plain_code code.now) (function_block (plain_code code.now) function) own }
+    ensures { result ≡ true → Enough (plain_code code.now) (function_block (plain_code code.now) function) needs.now (get_or needs.now function 0) }
 {
-    let site = Site {
-        code,
-        thread,
-        function: Some(function),
-        block: block_at(code, thread, Some(function)),
-    };
-    match frame_need(&site, needs) {
+    match whole_need(code, &code.functions[function as usize], own, needs) {
         Some(need) => need <= need_at(needs, function),
         None => false,
     }
 }
 
 /// What each function needs, for a frame of its own and all that it calls.
-///
-/// # Errors
-///
-/// Want of memory, also where a function needs more than can be counted.
-pub fn needs_of(alloc: Global, code: &CodeParts, thread: u32) -> Result<Vec<u64>, OutOfMemory>
+fn needs_of(alloc: Global, code: &CodeParts, pars: &Pars) -> Result<Vec<u64>, OutOfMemory>
     requires valid { IsValidCode (plain_code code.now) }
-    requires thread { thread < length (plain_code code.now).threads }
-    ensures { IfOk result (λ needs. (f : ℕ) → f < length (plain_code code.now).functions → Enough (plain_code code.now) (block_for (plain_code code.now) thread (Some f)) needs.items (get_or needs.items f 0)) }
+    requires pars { HavePars (plain_code code.now).shape pars.now }
+    ensures { IfOk result (λ needs. AreEnough (plain_code code.now) needs.items) }
 {
     let count = u32::try_from(code.functions.len()).map_err(|_| OutOfMemory)?;
+    let own = frame_needs(alloc, code, pars)?;
     let mut needs = vec![in alloc; 0; count as usize]?;
     for function in 0..count {
-        fill(code, thread, &mut needs, function, count as usize);
+        fill(code, &own, &mut needs, function, count as usize);
     }
     for function in 0..count {
-        if !is_enough(code, thread, &needs, function) {
+        if !is_enough(code, own[function as usize], &needs, function) {
             return Err(OutOfMemory);
         }
     }
     Ok(needs)
+}
+
+/// The same for a frame of the block that calls any of these variables' combine functions.
+fn combine_need(
+    code: &CodeParts,
+    block: &Block,
+    own: u64,
+    uses: &[u32],
+    needs: &[u64],
+) -> Option<u64>
+    requires own { IsFrame (plain_code code.now) (plain_block block.now) own }
+    ensures { IfSome result (λ n. EnoughToCombine (plain_code code.now) (plain_block block.now) uses.now needs.now n) }
+{
+    own.checked_add(most_combined(&code.shape, uses, needs))
+}
+
+/// What all runs of a thread need that has this block and uses these variables.
+fn runs_need(code: &CodeParts, block: &Block, own: u64, uses: &[u32], needs: &[u64]) -> Option<u64>
+    requires own { IsFrame (plain_code code.now) (plain_block block.now) own }
+    ensures { IfSome result (λ n. EnoughFor (plain_code code.now) (plain_block block.now) uses.now needs.now n) }
+{
+    let frame = whole_need(code, block, own, needs)?;
+    let combine = combine_need(code, block, own, uses, needs)?;
+    Some(frame.max(combine))
+}
+
+/// So many numbers are enough for all runs of a thread that has this block and uses these variables.
+///
+/// # Errors
+///
+/// Want of memory, also where they are too many to count.
+pub fn thread_need(
+    alloc: Global,
+    code: &CodeParts,
+    block: &Block,
+    uses: &[u32],
+    needs: &Needs,
+) -> Result<u64, OutOfMemory>
+    requires sound { IsSoundIn (plain_code code.now) (plain_block block.now) }
+    requires pars { HavePars (plain_code code.now).shape needs.now.pars }
+    ensures { IfOk result (λ n. EnoughFor (plain_code code.now) (plain_block block.now) uses.now needs.now.each.items n) }
+{
+    let own = frame_need(alloc, code, &needs.pars, block)?;
+    match runs_need(code, block, own, uses, &needs.each) {
+        Some(need) => Ok(need),
+        None => Err(OutOfMemory),
+    }
 }
