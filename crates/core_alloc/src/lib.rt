@@ -7,7 +7,7 @@ mod list;
 mod placement;
 mod ranked;
 
+pub use balance::balance;
 pub use fault::PlaceFault;
 pub use list::given;
-pub use balance::balance;
 pub use placement::Placement;

@@ -20,10 +20,10 @@ use Rattle.kernel_lower.specs.declared.lower_fault.LowerFault.TheVariants as fau
 use Rattle.text_kernel.specs.Lowering.{Made}
 use Rattle.text_kernel.specs.Kernels.{kernel_of, variable_items, variable_shape, root, thread_shape, main_id}
 use Rattle.text_sizes.specs.Spans.{span_value}
-use Rattle.text_kernel.specs.Limits.{amount, limit_of, earlier, thread_words, thread_depth, widest, longest}
+use Rattle.text_kernel.specs.Limits.{amount, limit_of, earlier, Fits, thread_words, thread_depth, widest, longest}
 use Rattle.kernel_lower.specs.Measures.{CallsLow}
 use Rattle.kernel_lower.specs.declared.judge.Amounts.{Amounts}
-use Rattle.kernel_lower.specs.Refusals.{amount_in, First, Causes}
+use Rattle.kernel_lower.specs.Refusals.{amount_in, Passes, First, Causes}
 use Rattle.text_sizes.proofs.Widening.{span_kept}
 use Rattle.text_sizes.proofs.Heights.{all_told, depth_in}
 use Rattle.text_sizes.proofs.Heights as heights
@@ -220,6 +220,23 @@ exactly l a n s e h = omega (arith, s, e, h)
 
 at_most : (l a n : ℕ) → l < 2 ^ 64 - 1 → a ≡ min n (2 ^ 64 - 1) → a ≤ l → n ≤ l
 at_most l a n s e h = omega (arith, s, e, h)
+
+-- the widest thread alone passes the limit of words, and no earlier one is passed
+pub words_cause : (text : Text) (names : List (List ℕ)) (threads words : ℕ) (e : LowerFault) → length (kernel_of text names).threads ≡ length (kernel_of text names).shape.threads →
+    threads ≡ min (amount Threads (kernel_of text names)) (2 ^ 64 - 1) → threads ≤ limit_of Threads → words ≡ min (widest (kernel_of text names).shape.threads) (2 ^ 64 - 1) → Passes Words words e → Causes e text names
+words_cause text names threads words e many t f w p =
+    let k = kernel_of text names in
+    let l = p.1 in
+    let least = words_least k many in
+    subst (λ x. Causes x text names) (sym p.0) (record { passes = omega (arith, l, w, least); first = only; is = refl })
+  where
+    only : (q : Quantity) → Member q (earlier Words) → Fits (kernel_of text names) q
+    only Threads m = at_most (limit_of Threads) threads (amount Threads (kernel_of text names)) (omega arith) t f
+    only Words (later m) = elim m [ ]
+    only Globals (later m) = elim m [ ]
+    only Tables (later m) = elim m [ ]
+    only Terms (later m) = elim m [ ]
+    only Depth (later m) = elim m [ ]
 
 pub tells : (k : PlainKernel) (a : Amounts) (chained both : ℕ) → length k.threads ≡ length k.shape.threads → CallsLow k → a.threads ≡ min (amount Threads k) (2 ^ 64 - 1) → a.words ≡ min (widest k.shape.threads) (2 ^ 64 - 1) →
     chained ≡ min (longest k) (2 ^ 64 - 1) → both ≡ min (a.words + chained) (2 ^ 64 - 1) → (a.words ≤ 65536 → both ≤ 65536) → a.globals ≡ amount Globals k → a.tables ≡ min (amount Tables k) (2 ^ 64 - 1) → a.terms ≡ min (amount Terms k) (2 ^ 64 - 1) →

@@ -15,16 +15,17 @@ ghost use Rattle.kernel_lower.specs.Refusals.{Causes};
 ghost use Rattle.body_lower.specs.Views.{OneText};
 
 use crate::int_functions::lowered_functions;
-use crate::judge::{Amounts, judge};
+use crate::judge::{Amounts, judge, within};
 use crate::lower_fault::LowerFault;
 use crate::measure::{Draft, longest};
 use crate::tables::{arrays, table_words};
 use crate::variables::variables;
 use body_lower::Source;
-use forec_base::{Labels, OutOfMemory};
+use forec_base::{Labels, MAX_WORDS, OutOfMemory};
 use forec_tree::{Function, Item};
 use loop_check::Index;
 use std::alloc::Global;
+use text_kernel::Quantity;
 use text_sizes::{add, span_of, spans};
 
 /// The words of the widest thread, and how many statements at least stand in one another in some thread.
@@ -34,22 +35,29 @@ pub struct Outlook {
     pub levels: u64,
 }
 
-/// What the text tells of a program that starts with the function of a name.
+/// What the text tells of a program that starts with the function of a name and has so many threads.
+/// It is refused where a thread's own words pass their limit.
 pub fn foresee(
     alloc: Global,
     index: &Index<'_>,
     names: &Labels,
     first: u32,
-) -> Result<Outlook, OutOfMemory>
+    threads: u64,
+) -> Result<Outlook, LowerFault>
     requires free { (f : ℕ) → Leads (starts (text_of index.now)) f f → ⊥ }
     requires first { first ≡ main_id (text_of index.now) names.now }
+    requires threads { threads ≡ min (limits.amount quantity.Threads (kernel_of (text_of index.now) names.now)) (2 ^ 64 - 1) }
+    requires few { threads ≤ limits.limit_of quantity.Threads }
     ensures words { IfOk result (λ o. o.words ≡ min (limits.widest (kernel_of (text_of index.now) names.now).shape.threads) (2 ^ 64 - 1)) }
     ensures levels { IfOk result (λ o. o.levels ≤ limits.amount quantity.Depth (kernel_of (text_of index.now) names.now)) }
+    ensures fault { IfErr result (λ e. Causes e (text_of index.now) names.now) }
 {
     let table = spans(alloc, index)?;
     let main = span_of(&table, first);
+    let words = main.slots.max(main.widest);
+    within(Quantity::Words, words)?;
     Ok(Outlook {
-        words: main.slots.max(main.widest),
+        words,
         levels: main.levels.max(main.deepest),
     })
 }
@@ -81,9 +89,9 @@ fn longest_chain(
 
 /// Whether threads alone are within the limit of words, and might not be with a chain of calls.
 fn is_open(words: u64, both: u64) -> bool
-    ensures { result ≡ false → words ≤ 65536 → both ≤ 65536 }
+    ensures { result ≡ false → words ≤ MAX_WORDS → both ≤ MAX_WORDS }
 {
-    words <= 65536 && 65536 < both
+    words <= MAX_WORDS && MAX_WORDS < both
 }
 
 /// The first limit that a program passes, where the text tells it. Nothing is put in place for it.

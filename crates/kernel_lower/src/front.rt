@@ -1,10 +1,10 @@
 // From a checked program to its kernel.
 
-ghost use Rattle.std.specs.Prelude.{◌≡◌, ◌-◌, ◌^◌, min, IfOk, IfErr, OnOk};
+ghost use Rattle.std.specs.Prelude.{◌≡◌, ◌≤◌, ◌-◌, ◌^◌, min, IfOk, IfErr, OnOk};
 ghost use Rattle.forec_kernel.specs.Shapes.{plain_kernel};
 ghost use Rattle.forec_check.specs.Checked.{text_of, names_of};
 ghost use Rattle.text_kernel.specs.Kernels.{kernel_of};
-ghost use Rattle.text_kernel.specs.Limits.{WithinLimits, amount};
+ghost use Rattle.text_kernel.specs.Limits.{WithinLimits, amount, limit_of};
 ghost use Rattle.text_kernel.specs.declared.limits.Quantity.TheVariants.{Threads};
 ghost use Rattle.kernel_lower.specs.Refusals.{Causes};
 
@@ -16,7 +16,7 @@ use crate::lower_fault::LowerFault;
 use crate::measure::most;
 use crate::tables::{arrays, table_words};
 use body_lower::Source;
-use forec_base::Labels;
+use forec_base::{Labels, MAX_DEPTH, MAX_TERMS};
 use forec_check::Checked;
 use forec_kernel::{Kernel, KernelParts};
 use std::alloc::Global;
@@ -32,6 +32,7 @@ fn parts_of(
 ) -> Result<KernelParts, LowerFault>
     requires names { names.now ≡ names_of checked.now }
     requires threads { threads ≡ min (amount Threads (kernel_of (text_of checked.now) (names_of checked.now))) (2 ^ 64 - 1) }
+    requires few { threads ≤ limit_of Threads }
     ensures parts { IfOk result (λ parts. plain_kernel parts ≡ kernel_of (text_of checked.now) (names_of checked.now)) }
     ensures within { OnOk result (WithinLimits (kernel_of (text_of checked.now) (names_of checked.now))) }
     ensures fault { IfErr result (λ e. Causes e (text_of checked.now) (names_of checked.now)) }
@@ -41,8 +42,8 @@ fn parts_of(
     let first = checked.start();
     let functions = int_functions(alloc, &source.globals, names, items)?;
     let terms = program_terms(alloc, &source.globals.index, names, &functions, first)?;
-    let known = foresee(alloc, &source.globals.index, names, first)?;
-    if 200_000 < terms || 4096 < known.levels {
+    let known = foresee(alloc, &source.globals.index, names, first, threads)?;
+    if MAX_TERMS < terms || MAX_DEPTH < known.levels {
         beyond(
             alloc, &source, names, items, &functions, threads, terms, known,
         )?;

@@ -6,6 +6,7 @@ ghost use Rattle.text_kernel.specs.declared.limits.Quantity.{Quantity};
 ghost use Rattle.kernel_lower.specs.Refusals.{Passes, amount_in, First};
 
 use crate::lower_fault::LowerFault;
+use forec_base::{MAX_DEPTH, MAX_GLOBALS, MAX_TABLE_WORDS, MAX_TERMS, MAX_THREADS, MAX_WORDS};
 use text_kernel::Quantity;
 
 /// How much of each quantity there is.
@@ -24,12 +25,12 @@ fn limit(what: Quantity) -> u64
     ensures { result ≡ limits.limit_of what }
 {
     match what {
-        Quantity::Threads => 256,
-        Quantity::Words => 65536,
-        Quantity::Globals => 4096,
-        Quantity::Tables => 1_048_576,
-        Quantity::Terms => 200_000,
-        Quantity::Depth => 4096,
+        Quantity::Threads => MAX_THREADS,
+        Quantity::Words => MAX_WORDS,
+        Quantity::Globals => MAX_GLOBALS,
+        Quantity::Tables => MAX_TABLE_WORDS,
+        Quantity::Terms => MAX_TERMS,
+        Quantity::Depth => MAX_DEPTH,
     }
 }
 

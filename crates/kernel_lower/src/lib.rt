@@ -19,3 +19,4 @@ mod variables;
 
 pub use front::lower;
 pub use lower_fault::LowerFault;
+pub use text_kernel::Quantity;

@@ -1,5 +1,6 @@
 -- The limits of `lower`: each is a number that is computed from the kernel of the text.
 use Rattle.std.specs.Prelude.{ℕ, ◌+◌, ◌≡◌, ◌<◌, ◌≤◌, max, List, [], ◌∷◌, length, map, sum}
+use Rattle.forec_base.specs.declared.limits.TheConstants.{MAX_THREADS, MAX_WORDS, MAX_GLOBALS, MAX_TABLE_WORDS, MAX_TERMS, MAX_DEPTH}
 use Rattle.forec_tree.specs.Terms.{Text}
 use Rattle.forec_tree.specs.Faults.{Member}
 use Rattle.forec_kernel.specs.Shapes.{PlainKernel, PlainThread}
@@ -28,12 +29,12 @@ amount Terms k = bodies_terms k.threads + bodies_terms k.functions
 amount Depth k = max (greatest (thread_depth k) (count_up 0 (length k.threads))) (greatest (function_depth k) (count_up 0 (length k.functions)))
 
 abbrev pub limit_of : Quantity → ℕ
-limit_of Threads = 256
-limit_of Words = 65536
-limit_of Globals = 4096
-limit_of Tables = 1048576
-limit_of Terms = 200000
-limit_of Depth = 4096
+limit_of Threads = MAX_THREADS
+limit_of Words = MAX_WORDS
+limit_of Globals = MAX_GLOBALS
+limit_of Tables = MAX_TABLE_WORDS
+limit_of Terms = MAX_TERMS
+limit_of Depth = MAX_DEPTH
 
 abbrev pub earlier : Quantity → List Quantity
 earlier Threads = []
