@@ -32,5 +32,6 @@ pub mod Segments
 pub mod TreeThreads
 pub mod OneValue
 pub mod NamedVariables
+pub mod ByNumber
 pub mod TreeUses
 mod Worked
