@@ -1,5 +1,6 @@
 -- Tables that hold what all bodies tell.
-use Rattle.std.proofs.Common.{ℕ, ◌<◌, ◌≡◌, ◌≢◌, ◌∙◌, sym, ap, refl, subst, Bool, true, false, cond, not, ◌&&◌, Option, Some, None, List, [], length, get_or}
+use Rattle.std.proofs.Common.{ℕ, suc, ◌+◌, ◌<◌, ◌≡◌, ◌≢◌, ◌∙◌, sym, ap, refl, subst, Bool, true, false, cond, not, ◌&&◌, Option, Some, None, List, [], ◌∷◌, length, get_or, drop, add-one}
+use Rattle.std.proofs.Math.Seq.{drop-cons}
 use Rattle.std.specs.Prelude.{nat_lt}
 use Rattle.forec_tree.specs.Terms.{Text, PlainFunction}
 use Rattle.forec_tree.specs.Rules.{is_none}
@@ -12,9 +13,10 @@ use Rattle.loop_check.proofs.Ordered.{place_of}
 use Rattle.forec_check.specs.declared.sites.Sites.{Sites}
 use Rattle.forec_check.specs.declared.sites.Sites.TheVariants as sites
 use Rattle.forec_check.specs.declared.spread.Tables.{Tables}
+use Rattle.forec_check.specs.declared.found.Event.{Event}
 use Rattle.forec_check.specs.declared.named.Named.{Named}
 use Rattle.forec_check.specs.Threads.{Orders, events_in}
-use Rattle.forec_check.specs.Sites.{Known, sites_at, tables_of, outermost, SameTables, Settled, body_settled, AllSettled}
+use Rattle.forec_check.specs.Sites.{Known, Inside, sites_at, opened, inside_after, Holds, Rests, tables_of, outermost, SameTables, Settled, body_settled, AllSettled}
 use Rattle.forec_check.specs.Named.{not_many, is_single, Told}
 use Rattle.forec_check.proofs.Single.{single}
 
@@ -24,6 +26,22 @@ known calls texts globals = record { calls = sites_at calls; texts = sites_at te
 pub same_known : (a b : Tables) → SameTables a b → tables_of b ≡ tables_of a
 same_known a b s =
     ap (λ x. known x b.texts.items b.globals.items) s.calls ∙ (ap (λ x. known a.calls.items x b.globals.items) s.texts ∙ ap (λ x. known a.calls.items a.texts.items x) s.globals)
+
+pub same_next : (a b d : Tables) → SameTables a b → SameTables b d → SameTables a d
+same_next a b d f g = record { calls = g.calls ∙ f.calls; texts = g.texts ∙ f.texts; globals = g.globals ∙ f.globals }
+
+-- one more event
+pub settled_step : (t : Known) (f i : ℕ) (events : List Event) (default : Event) (site : Sites) (before after : Inside) → i < length events →
+    site ≡ opened (t.calls f) (record { function = f; event = i + 1 }) → Rests t (get_or events i default) site before after →
+    Settled t f ((i + 1) + 1) after (drop (i + 1) events) → Settled t f (i + 1) before (drop i events)
+settled_step t f i events default site before after h s r rest =
+    let x = get_or events i default in
+    let e : drop i events ≡ x ∷ drop (i + 1) events = drop-cons events i default h ∙ ap (λ n. x ∷ drop n events) (sym (add-one i)) in
+    subst (λ l. Settled t f (i + 1) before l) (sym e) (
+      subst (λ q. Holds t x q before) s r.holds,
+      subst (λ q. Settled t f (suc (i + 1)) q (drop (i + 1) events)) (r.next ∙ ap (λ q. inside_after x q before) s)
+          (subst (λ n. Settled t f n after (drop (i + 1) events)) (add-one (i + 1)) rest),
+    )
 
 -- each function that is called
 every_body : (text : Text) (first : ℕ) (order : List ℕ) (t : Known) → Orders text order → AllSettled text first order t → (f : ℕ) → t.calls f ≢ sites.None → body_settled text t f
