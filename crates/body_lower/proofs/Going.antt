@@ -17,7 +17,8 @@ use Rattle.text_kernel.specs.declared.names.Slot.{Slot}
 use Rattle.body_lower.specs.declared.scope.Scope.{Scope}
 use Rattle.body_lower.specs.declared.state.State.{State}
 use Rattle.text_kernel.specs.Lowering.{Next, Listed, Started, InPlace, as_one, sequence, scope_behind, lower_statement, lower_list, lower_branches, body_in_place, in_place_step, nothing_in_place}
-use Rattle.body_lower.specs.Views.{seen, Kept, Same, next_of, threads_of, bare, called_within, Does, DoesList, DoesBranches}
+use Rattle.body_lower.specs.Landings.{called_within}
+use Rattle.body_lower.specs.Views.{seen, Kept, Same, next_of, threads_of, bare, Does, DoesList, DoesBranches}
 use Rattle.body_lower.proofs.Statements.{drop_next}
 use Rattle.body_lower.proofs.Doing.{ListLeft, BranchesLeft, list_step, list_more, list_finish, branches_more, branches_finish, branches_step, same_seen, par_does}
 

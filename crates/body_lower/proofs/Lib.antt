@@ -5,3 +5,4 @@ pub mod Statements
 pub mod Doing
 pub mod Numbered
 pub mod Going
+pub mod Landed

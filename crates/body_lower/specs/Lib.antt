@@ -1,3 +1,4 @@
+pub mod Landings
 pub mod Numbering
 pub mod Trail
 pub mod Views

@@ -3,13 +3,14 @@ use Rattle.std.specs.Prelude.{◌≡◌, ℕ, suc, ◌-◌, Option, None, List, 
 use Rattle.forec_kernel.specs.Terms.{Stmt, Stmts, Branch, Nop}
 use Rattle.forec_kernel.specs.Plain.{stmt}
 use Rattle.forec_tree.specs.Terms.{Text, Statement, Statements, Perhaps, Branches}
-use Rattle.forec_tree.specs.Pauses.{within}
 use Rattle.loop_check.specs.Views.{text_of}
 use Rattle.loop_check.specs.Judges.{judge_text}
 use Rattle.body_lower.specs.declared.source.Source.{Source}
+use Rattle.body_lower.specs.declared.context.Context.{Context}
+use Rattle.body_lower.specs.Landings.{called_within, AllLand}
 use Rattle.body_lower.specs.declared.state.Thread.{Thread}
 use Rattle.body_lower.specs.declared.state.State.{State}
-use Rattle.text_kernel.specs.Lowering.{Next, Made, Lowered, Listed, Started, InPlace, in_place_step, nothing_in_place, as_one, lower_statement, lower_perhaps, lower_list, lower_branches}
+use Rattle.text_kernel.specs.Lowering.{Next, Made, Lowered, Listed, Started, as_one, lower_statement, lower_perhaps, lower_list, lower_branches}
 use Rattle.text_kernel.specs.declared.names.Slot.{Slot}
 use Rattle.body_lower.specs.declared.scope.Scope.{Scope}
 
@@ -26,10 +27,6 @@ pub record Kept (old new : Scope) : Type 0 where
 pub record Same (old new : Scope) : Type 0 where
   pub base : new.base ≡ old.base
   pub slots : new.slots.items ≡ old.slots.items
-
--- what is called as a statement is put in place, up to so many calls deep
-abbrev pub called_within : Text → ℕ → ℕ → InPlace
-called_within text deep = within nothing_in_place (in_place_step text) deep
 
 -- where a thread's translation stands: thread 0 isn't among those below
 abbrev pub next_of : State → Next
@@ -70,9 +67,13 @@ pub record DoesBranches (l : Started) (k : List Branch) (old new : State) : Type
   pub next : next_of new ≡ l.next
   pub threads : threads_of new ≡ threads_of old ++ map bare l.made
 
--- both parts of a source are of one text
-abbrev pub OneText : Source → Type 0
-OneText s = judge_text s.pauses ≡ text_of s.globals.index
+-- all parts of a source are of one text
+pub record OneText (s : Source) : Type 0 where
+  pub pauses : judge_text s.pauses ≡ text_of s.globals.index
+  pub landings : AllLand (text_of s.globals.index) s.landings.items
+
+abbrev pub context_text : Context → Text
+context_text c = text_of c.source.now.globals.index
 
 abbrev pub blank : Bare
 blank = record { parent = 0; par = 0; name = None; params = 0; words = 0; behind = 0; body = Nop }
@@ -91,24 +92,24 @@ pub record Finishes (thread : Bare) (number at : ℕ) (old new : State) : Type 0
   pub par : new.par ≡ old.par
   pub threads : threads_of new ≡ slice_set (threads_of old) (number - 1) thread
 
--- the same, for a source
-abbrev pub Done : Source → (deep owner : ℕ) → Statement → Stmt → State → State → Type 0
-Done source deep owner a k old new =
-    let text = text_of source.globals.index in Does (lower_statement text (called_within text deep) owner (seen old.scope) (next_of old) a) k old new
+-- the same, in a context
+abbrev pub Done : Context → Statement → Stmt → State → State → Type 0
+Done c a k old new =
+    let text = text_of c.source.now.globals.index in Does (lower_statement text (called_within text c.deep) c.owner (seen old.scope) (next_of old) a) k old new
 
-abbrev pub DonePerhaps : Source → (deep owner : ℕ) → Perhaps → Stmt → State → State → Type 0
-DonePerhaps source deep owner a k old new =
-    let text = text_of source.globals.index in Does (lower_perhaps text (called_within text deep) owner (seen old.scope) (next_of old) a) k old new
+abbrev pub DonePerhaps : Context → Perhaps → Stmt → State → State → Type 0
+DonePerhaps c a k old new =
+    let text = text_of c.source.now.globals.index in Does (lower_perhaps text (called_within text c.deep) c.owner (seen old.scope) (next_of old) a) k old new
 
-abbrev pub DoneList : Source → (deep owner : ℕ) → List Slot → Statements → Stmts → State → State → Type 0
-DoneList source deep owner s a k old new =
-    let text = text_of source.globals.index in DoesList (lower_list text (called_within text deep) owner s (next_of old) a) k old new
+abbrev pub DoneList : Context → List Slot → Statements → Stmts → State → State → Type 0
+DoneList c s a k old new =
+    let text = text_of c.source.now.globals.index in DoesList (lower_list text (called_within text c.deep) c.owner s (next_of old) a) k old new
 
 -- a list as one statement
-abbrev pub DoneAsOne : Source → (deep owner : ℕ) → List Slot → Statements → Stmt → State → State → Type 0
-DoneAsOne source deep owner s a k old new =
-    let text = text_of source.globals.index in Does (as_one (lower_list text (called_within text deep) owner s (next_of old) a)) k old new
+abbrev pub DoneAsOne : Context → List Slot → Statements → Stmt → State → State → Type 0
+DoneAsOne c s a k old new =
+    let text = text_of c.source.now.globals.index in Does (as_one (lower_list text (called_within text c.deep) c.owner s (next_of old) a)) k old new
 
-abbrev pub DoneBranches : Source → (deep owner par : ℕ) → Branches → List Branch → State → State → Type 0
-DoneBranches source deep owner par bs k old new =
-    let text = text_of source.globals.index in DoesBranches (lower_branches text (called_within text deep) owner (seen old.scope) par (next_of old) bs) k old new
+abbrev pub DoneBranches : Context → (par : ℕ) → Branches → List Branch → State → State → Type 0
+DoneBranches c par bs k old new =
+    let text = text_of c.source.now.globals.index in DoesBranches (lower_branches text (called_within text c.deep) c.owner (seen old.scope) par (next_of old) bs) k old new

@@ -12,10 +12,10 @@ ghost use Rattle.body_lower.specs.Views.{seen, Kept};
 use crate::globals::Globals;
 use crate::parts::{boxed_term, sequence, sum};
 use crate::scope::Scope;
-use crate::term::{lower_term, place_if, stands};
+use crate::term::{lower_boxed, lower_term, place_if, stands};
 use forec_base::{OutOfMemory, Place};
 use forec_kernel::{Expression, Spot, Statement};
-use forec_tree::{Expr, Local, Number, OpAt, Target};
+use forec_tree::{Expr, Local, Name, Number, OpAt, Target};
 use std::alloc::Global;
 use text_kernel::{Slot, Stands, number_of, slots_of};
 
@@ -24,20 +24,19 @@ fn operated(
     alloc: Global,
     op: Option<OpAt>,
     old: Expression,
-    value: Expression,
+    value: Box<Expression>,
 ) -> Result<Expression, OutOfMemory>
-    ensures { IfOk result (λ k. kernel.expr k ≡ lowering.operated op (kernel.expr old) (kernel.expr value)) }
+    ensures { IfOk result (λ k. kernel.expr k ≡ lowering.operated op (kernel.expr old) (kernel.expr value.value)) }
 {
     match op {
-        None => Ok(value),
+        None => Ok(Box::into_inner(value)),
         Some(by) => {
             let left = boxed_term(alloc, old)?;
-            let right = boxed_term(alloc, value)?;
             let place = place_if(by.op, by.place);
             Ok(Expression::Binary {
                 op: by.op,
                 left,
-                right,
+                right: value,
                 place,
             })
         }
@@ -48,9 +47,9 @@ fn assign_to(
     alloc: Global,
     to: Stands,
     op: Option<OpAt>,
-    value: Expression,
+    value: Box<Expression>,
 ) -> Result<Statement, OutOfMemory>
-    ensures { IfOk result (λ k. kernel.stmt k ≡ lowering.assign_to to op (kernel.expr value)) }
+    ensures { IfOk result (λ k. kernel.stmt k ≡ lowering.assign_to to op (kernel.expr value.value)) }
 {
     let (spot, old) = match to {
         Stands::AtSlot { slot } => (Spot::Local { slot }, Expression::Local { slot }),
@@ -69,19 +68,18 @@ fn assign_at(
     alloc: Global,
     to: Stands,
     op: Option<OpAt>,
-    index: Expression,
-    again: Expression,
-    value: Expression,
+    index: Box<Expression>,
+    again: Box<Expression>,
+    value: Box<Expression>,
     place: Place,
 ) -> Result<Statement, OutOfMemory>
-    requires { kernel.expr again ≡ kernel.expr index }
-    ensures { IfOk result (λ k. kernel.stmt k ≡ lowering.assign_at to op (kernel.expr index) (kernel.expr value) place) }
+    requires { kernel.expr again.value ≡ kernel.expr index.value }
+    ensures { IfOk result (λ k. kernel.stmt k ≡ lowering.assign_at to op (kernel.expr index.value) (kernel.expr value.value) place) }
 {
     let (slot, length) = match to {
         Stands::AtSlots { slot, size } => (slot, size),
         _ => (0, 0),
     };
-    let again = boxed_term(alloc, again)?;
     let old = Expression::LocalAt {
         slot,
         length,
@@ -92,28 +90,30 @@ fn assign_at(
     Ok(Statement::SetAt {
         slot,
         length,
-        index,
+        index: Box::into_inner(index),
         value,
         place,
     })
 }
 
-/// An element is assigned, by the expression of its index.
+/// An element of the array of a name is assigned, by the expression of its index.
 fn assign_element(
     alloc: Global,
     globals: &Globals<'_>,
     scope: &Scope,
-    to: Stands,
-    op: Option<OpAt>,
+    name: Name,
     at: &Expr,
-    value: Expression,
-    place: Place,
+    op: Option<OpAt>,
+    value: &Expr,
 ) -> Result<Statement, OutOfMemory>
-    ensures { IfOk result (λ k. kernel.stmt k ≡ lowering.assign_at to op (lowering.lower_term (text_of globals.now.index) (seen scope.now) (plain.term at.now)) (kernel.expr value) place) }
+    ensures { IfOk result (λ k. kernel.stmt k ≡ lowering.assign_at (lowering.stands (text_of globals.now.index) (seen scope.now) name.id) op
+        (lowering.lower_term (text_of globals.now.index) (seen scope.now) (plain.term at.now)) (lowering.lower_term (text_of globals.now.index) (seen scope.now) (plain.term value.now)) name.place) }
 {
-    let index = lower_term(alloc, globals, scope, at)?;
-    let again = lower_term(alloc, globals, scope, at)?;
-    assign_at(alloc, to, op, index, again, value, place)
+    let to = stands(globals, scope, name.id);
+    let value = lower_boxed(alloc, globals, scope, value)?;
+    let index = lower_boxed(alloc, globals, scope, at)?;
+    let again = lower_boxed(alloc, globals, scope, at)?;
+    assign_at(alloc, to, op, index, again, value, name.place)
 }
 
 /// An assignment.
@@ -128,11 +128,13 @@ pub fn assign(
     ensures { IfOk result (λ k. kernel.stmt k ≡ lowering.lower_target (text_of globals.now.index) (seen scope.now) (plain.written target.now) op
         (lowering.lower_term (text_of globals.now.index) (seen scope.now) (plain.term value.now))) }
 {
-    let value = lower_term(alloc, globals, scope, value)?;
-    let to = stands(globals, scope, target.name.id);
     match &target.index {
-        None => assign_to(alloc, to, op, value),
-        Some(at) => assign_element(alloc, globals, scope, to, op, at, value, target.name.place),
+        None => {
+            let to = stands(globals, scope, target.name.id);
+            let value = lower_boxed(alloc, globals, scope, value)?;
+            assign_to(alloc, to, op, value)
+        }
+        Some(at) => assign_element(alloc, globals, scope, target.name, at, op, value),
     }
 }
 

@@ -1,48 +1,71 @@
 // The body of a thread: its statements, with the functions that it calls as statements put in place.
 //
-// `deep` is how many calls may stand in one another, and `fuel` how many parts of the text: each level
-// takes a part of the stack, of which there is only so much.
+// `fuel` is how many levels of the kernel may stand in one another: each takes a part of the stack, of
+// which there is only so much. Groups and functions of one statement add no level, so they are gone
+// through in a loop.
 
-ghost use Rattle.std.specs.Prelude.{◌≡◌, ◌∷◌, [], Some, map, IfOk, OnOk};
+ghost use Rattle.std.specs.Prelude.{◌≡◌, ◌≤◌, ◌-◌, ◌∷◌, [], Some, map, IfOk, OnOk};
 ghost use Rattle.forec_tree.specs.Plain as plain;
 ghost use Rattle.forec_tree.specs.Terms as tree;
 ghost use Rattle.forec_tree.specs.Turns.{inferred};
 ghost use Rattle.forec_tree.specs.Plain.{perhaps_of};
 ghost use Rattle.forec_kernel.specs.Plain as kernel;
-ghost use Rattle.loop_check.specs.Views.{text_of};
 ghost use Rattle.text_kernel.specs.Lowering as lowering;
-ghost use Rattle.body_lower.specs.Views.{OneText, seen, Kept, Same, next_of, called_within, Does, Done, DonePerhaps, DoneList, DoneAsOne, DoneBranches};
+ghost use Rattle.body_lower.specs.Landings.{called_within};
+ghost use Rattle.body_lower.specs.Views.{OneText, context_text, seen, Kept, Same, next_of, Does, Done, DonePerhaps, DoneList, DoneAsOne, DoneBranches};
 
 use crate::assign::{assign, lower_locals, set_params};
+use crate::context::Context;
+use crate::landing::innermost;
 use crate::loops::{after_start, bound_of, optional_test, or_inferred, then_step};
-use crate::parts::{boxed, choice, count, sequence, sum};
-use crate::source::Source;
+use crate::parts::{boxed, count, sequence, sum};
 use crate::state::State;
 use crate::term::{lower_term, lower_terms};
-use crate::threads::{begin, declare_params, finish, params_of};
+use crate::threads::{Begun, begin, declare_params, finish, params_of};
 use forec_base::{OutOfMemory, Place};
 use forec_kernel::{Launch, Statement};
 use forec_tree::{Branch, Expr, Function, Local, Name, Number, Stmt, StmtKind};
-use std::alloc::Global;
 
-/// How many statements may stand in one another, functions and branches that are put in place among
-/// them. Past it there is no memory: each takes up to 5 KB of stack, so the caller has 64 MB of it.
+/// How many levels of the kernel may stand in one another, those of a thread below counted behind the
+/// levels round its `par`. Past it there is no memory: each takes up to 5 KB of stack, so the caller has
+/// 64 MB of it.
 pub const FUEL: u32 = 8192;
 
-/// A statement of the thread `owner`.
+/// A statement in the scope that stands. Only the locals of a declaration stay in it.
 #[cycle(body)]
 pub fn statement(
-    alloc: Global,
-    source: &Source<'_>,
-    deep: usize,
+    context: &Context<'_, '_>,
     fuel: u32,
-    owner: u32,
     state: &mut State,
     s: &Stmt,
 ) -> Result<Statement, OutOfMemory>
-    requires { OneText source.now }
-    ensures does { IfOk result (λ k. Done source.now deep owner (plain.statement s.now) (kernel.stmt k) state.old state.new) }
-    ensures seen { OnOk result (seen state.new.scope ≡ lowering.scope_behind (text_of source.now.globals.index) (seen state.old.scope) state.old.slot (plain.statement s.now)) }
+    requires { OneText context.now.source.now }
+    ensures does { IfOk result (λ k. Done context.now (plain.statement s.now) (kernel.stmt k) state.old state.new) }
+    ensures seen { OnOk result (seen state.new.scope ≡ lowering.scope_behind (context_text context.now) (seen state.old.scope) state.old.slot (plain.statement s.now)) }
+    ensures kept { OnOk result (Kept state.old.scope state.new.scope) }
+{
+    match &s.what {
+        StmtKind::Declare { locals } => {
+            let k = declare(context, s.place, state, locals.as_slice())?;
+            Ok(k)
+        }
+        _ => {
+            let k = inner(context, fuel, state, s)?;
+            Ok(k)
+        }
+    }
+}
+
+/// A statement by its kind. Each takes a level of the kernel, and so one of `fuel`.
+#[cycle(body)]
+fn by_kind(
+    context: &Context<'_, '_>,
+    fuel: u32,
+    state: &mut State,
+    s: &Stmt,
+) -> Result<Statement, OutOfMemory>
+    requires { OneText context.now.source.now }
+    ensures does { IfOk result (λ k. Done context.now (plain.statement s.now) (kernel.stmt k) state.old state.new) }
     ensures kept { OnOk result (Kept state.old.scope state.new.scope) }
 {
     if fuel == 0 {
@@ -54,41 +77,36 @@ pub fn statement(
         StmtKind::Pause => Ok(Statement::Pause),
         StmtKind::Group { body } => {
             let body = body.as_slice();
-            let k = block(alloc, source, deep, fuel, owner, state, body)?;
+            let k = block(context, fuel, state, body)?;
             Ok(k)
         }
         StmtKind::Declare { locals } => {
-            let k = declare(
-                alloc,
-                source,
-                deep,
-                owner,
-                s.place,
-                state,
-                locals.as_slice(),
-            )?;
+            let k = declare(context, s.place, state, locals.as_slice())?;
             Ok(k)
         }
         StmtKind::Assign { target, op, value } => {
-            let k = assign(alloc, &source.globals, &state.scope, target, *op, value)?;
+            let k = assign(
+                context.alloc,
+                &context.source.globals,
+                &state.scope,
+                target,
+                *op,
+                value,
+            )?;
             Ok(k)
         }
         StmtKind::Return { value } => {
-            let value = lower_term(alloc, &source.globals, &state.scope, value)?;
+            let value = lower_term(context.alloc, &context.source.globals, &state.scope, value)?;
             Ok(Statement::Return { value })
         }
         StmtKind::If { test, yes, no } => {
             let place = s.place;
-            let k = either(
-                alloc, source, deep, fuel, owner, place, state, test, yes, no,
-            )?;
+            let k = either(context, fuel, place, state, test, yes, no)?;
             Ok(k)
         }
         StmtKind::While { test, bound, body } => {
             let place = s.place;
-            let k = turning(
-                alloc, source, deep, fuel, owner, place, state, test, *bound, body,
-            )?;
+            let k = turning(context, fuel, place, state, test, *bound, body)?;
             Ok(k)
         }
         StmtKind::For {
@@ -98,23 +116,20 @@ pub fn statement(
             bound,
             body,
         } => {
-            let turns = or_inferred(bound_of(*bound), source.pauses.turns(s));
+            let turns = or_inferred(bound_of(*bound), context.source.pauses.turns(s));
             let k = heading(
-                alloc, source, deep, fuel, owner, s.place, state, turns, start, test, step, *bound,
-                body,
+                context, fuel, s.place, state, turns, start, test, step, *bound, body,
             )?;
             Ok(k)
         }
         StmtKind::Call { name, args } => {
             let args = args.as_slice();
-            let k = call(
-                alloc, source, deep, fuel, owner, s.place, state, *name, args,
-            )?;
+            let k = call(context, fuel, s.place, state, *name, args)?;
             Ok(k)
         }
         StmtKind::Par { branches: all } => {
             let all = all.as_slice();
-            let k = par(alloc, source, deep, fuel, owner, s.place, state, all)?;
+            let k = par(context, fuel, s.place, state, all)?;
             Ok(k)
         }
         StmtKind::Abort {
@@ -124,9 +139,7 @@ pub fn statement(
             body,
         } => {
             let body = body.as_slice();
-            let k = abort(
-                alloc, source, deep, fuel, owner, s.place, state, *weak, *immediate, test, body,
-            )?;
+            let k = abort(context, fuel, s.place, state, *weak, *immediate, test, body)?;
             Ok(k)
         }
     }
@@ -134,22 +147,19 @@ pub fn statement(
 
 /// A declaration.
 fn declare(
-    alloc: Global,
-    source: &Source<'_>,
-    deep: usize,
-    owner: u32,
+    context: &Context<'_, '_>,
     place: Place,
     state: &mut State,
     locals: &[Local],
 ) -> Result<Statement, OutOfMemory>
-    ensures does { IfOk result (λ k. Done source.now deep owner (tree.Declare place (map plain.declared locals.now)) (kernel.stmt k) state.old state.new) }
+    ensures does { IfOk result (λ k. Done context.now (tree.Declare place (map plain.declared locals.now)) (kernel.stmt k) state.old state.new) }
     ensures seen { OnOk result (seen state.new.scope
-        ≡ lowering.scope_behind (text_of source.now.globals.index) (seen state.old.scope) state.old.slot (tree.Declare place (map plain.declared locals.now))) }
+        ≡ lowering.scope_behind (context_text context.now) (seen state.old.scope) state.old.slot (tree.Declare place (map plain.declared locals.now))) }
     ensures kept { OnOk result (Kept state.old.scope state.new.scope) }
 {
     let list = lower_locals(
-        alloc,
-        &source.globals,
+        context.alloc,
+        &context.source.globals,
         &mut state.scope,
         &mut state.slot,
         locals,
@@ -160,49 +170,41 @@ fn declare(
 /// An `if`.
 #[cycle(body)]
 fn either(
-    alloc: Global,
-    source: &Source<'_>,
-    deep: usize,
+    context: &Context<'_, '_>,
     fuel: u32,
-    owner: u32,
     place: Place,
     state: &mut State,
     test: &Expr,
     yes: &Stmt,
     no: &Option<Box<Stmt>>,
 ) -> Result<Statement, OutOfMemory>
-    requires { OneText source.now }
-    ensures does { IfOk result (λ k. Done source.now deep owner (tree.If place (plain.term test.now) (plain.statement yes.now) (perhaps_of no.now)) (kernel.stmt k) state.old state.new) }
+    requires { OneText context.now.source.now }
+    ensures does { IfOk result (λ k. Done context.now (tree.If place (plain.term test.now) (plain.statement yes.now) (perhaps_of no.now)) (kernel.stmt k) state.old state.new) }
     ensures same { OnOk result (Same state.old.scope state.new.scope) }
 {
-    let test = lower_term(alloc, &source.globals, &state.scope, test)?;
-    let yes = inner(alloc, source, deep, fuel, owner, state, yes)?;
-    let no = optional_inner(alloc, source, deep, fuel, owner, state, no)?;
-    let k = choice(alloc, test, yes, no)?;
-    Ok(k)
+    let yes = boxed_inner(context, fuel, state, yes)?;
+    let no = optional_inner(context, fuel, state, no)?;
+    let test = lower_term(context.alloc, &context.source.globals, &state.scope, test)?;
+    Ok(Statement::If { test, yes, no })
 }
 
 /// A `while`.
 #[cycle(body)]
 fn turning(
-    alloc: Global,
-    source: &Source<'_>,
-    deep: usize,
+    context: &Context<'_, '_>,
     fuel: u32,
-    owner: u32,
     place: Place,
     state: &mut State,
     test: &Expr,
     bound: Option<Number>,
     body: &Stmt,
 ) -> Result<Statement, OutOfMemory>
-    requires { OneText source.now }
-    ensures does { IfOk result (λ k. Done source.now deep owner (tree.While place (plain.term test.now) bound (plain.statement body.now)) (kernel.stmt k) state.old state.new) }
+    requires { OneText context.now.source.now }
+    ensures does { IfOk result (λ k. Done context.now (tree.While place (plain.term test.now) bound (plain.statement body.now)) (kernel.stmt k) state.old state.new) }
     ensures same { OnOk result (Same state.old.scope state.new.scope) }
 {
-    let test = lower_term(alloc, &source.globals, &state.scope, test)?;
-    let body = inner(alloc, source, deep, fuel, owner, state, body)?;
-    let body = boxed(alloc, body)?;
+    let body = boxed_inner(context, fuel, state, body)?;
+    let test = lower_term(context.alloc, &context.source.globals, &state.scope, test)?;
     let bound = bound_of(bound);
     Ok(Statement::While {
         test,
@@ -215,11 +217,8 @@ fn turning(
 /// A `for`, with its turns by its bound or its form.
 #[cycle(body)]
 fn heading(
-    alloc: Global,
-    source: &Source<'_>,
-    deep: usize,
+    context: &Context<'_, '_>,
     fuel: u32,
-    owner: u32,
     place: Place,
     state: &mut State,
     turns: Option<u32>,
@@ -229,53 +228,57 @@ fn heading(
     bound: Option<Number>,
     body: &Stmt,
 ) -> Result<Statement, OutOfMemory>
-    requires text { OneText source.now }
-    requires turns { turns ≡ lowering.or_inferred (lowering.bound_of bound) (inferred (text_of source.now.globals.index)
+    requires text { OneText context.now.source.now }
+    requires turns { turns ≡ lowering.or_inferred (lowering.bound_of bound) (inferred (context_text context.now)
         (tree.For place (perhaps_of start.now) (plain.optional_term test.now) (perhaps_of step.now) bound (plain.statement body.now))) }
-    ensures does { IfOk result (λ k. Done source.now deep owner
+    ensures does { IfOk result (λ k. Done context.now
         (tree.For place (perhaps_of start.now) (plain.optional_term test.now) (perhaps_of step.now) bound (plain.statement body.now)) (kernel.stmt k) state.old state.new) }
     ensures same { OnOk result (Same state.old.scope state.new.scope) }
 {
     let len = state.scope.len();
-    let first = optional_statement(alloc, source, deep, fuel, owner, state, start)?;
-    let test = optional_test(alloc, source, state, test)?;
-    let next = optional_statement(alloc, source, deep, fuel, owner, state, step)?;
-    let body = inner(alloc, source, deep, fuel, owner, state, body)?;
+    let first = optional_statement(context, fuel, state, start)?;
+    let test = optional_test(context.alloc, context.source, state, test)?;
+    let next = optional_statement(context, fuel, state, step)?;
+    let body = boxed_inner(context, fuel, state, body)?;
     state.scope.forget(len);
-    let body = then_step(alloc, step, body, next)?;
-    let body = boxed(alloc, body)?;
+    let body = then_step(context.alloc, step, body, next)?;
     let turned = Statement::While {
-        test,
+        test: Box::into_inner(test),
         bound: turns,
         body,
         place,
     };
-    let k = after_start(alloc, start, first, turned)?;
+    let turned = boxed(context.alloc, turned)?;
+    let k = after_start(context.alloc, start, first, turned)?;
     Ok(k)
 }
 
 /// A call of a void function.
 #[cycle(body)]
 fn call(
-    alloc: Global,
-    source: &Source<'_>,
-    deep: usize,
+    context: &Context<'_, '_>,
     fuel: u32,
-    owner: u32,
     place: Place,
     state: &mut State,
     name: Name,
     args: &[Expr],
 ) -> Result<Statement, OutOfMemory>
-    requires { OneText source.now }
-    ensures does { IfOk result (λ k. Done source.now deep owner (tree.Invoke place name (plain.terms args.now)) (kernel.stmt k) state.old state.new) }
+    requires { OneText context.now.source.now }
+    ensures does { IfOk result (λ k. Done context.now (tree.Invoke place name (plain.terms args.now)) (kernel.stmt k) state.old state.new) }
     ensures same { OnOk result (Same state.old.scope state.new.scope) }
 {
     let first = state.slot;
-    let mut list = set_params(alloc, &source.globals, &state.scope, first, args)?;
     let taken = count(args.len())?;
-    state.slot = sum(first, taken)?;
-    let body = in_place(alloc, source, deep, fuel, owner, first, state, name.id)?;
+    let behind = sum(first, taken)?;
+    let mut list = set_params(
+        context.alloc,
+        &context.source.globals,
+        &state.scope,
+        first,
+        args,
+    )?;
+    state.slot = behind;
+    let body = in_place(context, fuel, first, state, name.id)?;
     list.push(body)?;
     Ok(sequence(list))
 }
@@ -283,17 +286,14 @@ fn call(
 /// A `par`.
 #[cycle(body)]
 fn par(
-    alloc: Global,
-    source: &Source<'_>,
-    deep: usize,
+    context: &Context<'_, '_>,
     fuel: u32,
-    owner: u32,
     place: Place,
     state: &mut State,
     all: &[Branch],
 ) -> Result<Statement, OutOfMemory>
-    requires { OneText source.now }
-    ensures does { IfOk result (λ k. Done source.now deep owner (tree.Par place (plain.branches all.now)) (kernel.stmt k) state.old state.new) }
+    requires { OneText context.now.source.now }
+    ensures does { IfOk result (λ k. Done context.now (tree.Par place (plain.branches all.now)) (kernel.stmt k) state.old state.new) }
     ensures same { OnOk result (Same state.old.scope state.new.scope) }
 {
     if all.is_empty() {
@@ -301,18 +301,15 @@ fn par(
     }
     let par = state.par;
     state.par = sum(par, 1)?;
-    let branches = branches(alloc, source, deep, fuel, owner, par, state, all)?;
+    let branches = branches(context, fuel, par, state, all)?;
     Ok(Statement::Par { branches })
 }
 
 /// An abort.
 #[cycle(body)]
 fn abort(
-    alloc: Global,
-    source: &Source<'_>,
-    deep: usize,
+    context: &Context<'_, '_>,
     fuel: u32,
-    owner: u32,
     place: Place,
     state: &mut State,
     weak: bool,
@@ -320,13 +317,13 @@ fn abort(
     test: &Expr,
     body: &[Stmt],
 ) -> Result<Statement, OutOfMemory>
-    requires { OneText source.now }
-    ensures does { IfOk result (λ k. Done source.now deep owner (tree.Abort place weak immediate (plain.term test.now) (plain.statements body.now)) (kernel.stmt k) state.old state.new) }
+    requires { OneText context.now.source.now }
+    ensures does { IfOk result (λ k. Done context.now (tree.Abort place weak immediate (plain.term test.now) (plain.statements body.now)) (kernel.stmt k) state.old state.new) }
     ensures same { OnOk result (Same state.old.scope state.new.scope) }
 {
-    let test = lower_term(alloc, &source.globals, &state.scope, test)?;
-    let body = block(alloc, source, deep, fuel, owner, state, body)?;
-    let body = boxed(alloc, body)?;
+    let body = block(context, fuel, state, body)?;
+    let body = boxed(context.alloc, body)?;
+    let test = lower_term(context.alloc, &context.source.globals, &state.scope, test)?;
     Ok(Statement::Enter {
         weak,
         immediate,
@@ -335,72 +332,109 @@ fn abort(
     })
 }
 
-/// A statement in a scope of its own.
+/// A statement in a scope of its own, from where it lands.
 #[cycle(body)]
 fn inner(
-    alloc: Global,
-    source: &Source<'_>,
-    deep: usize,
+    context: &Context<'_, '_>,
     fuel: u32,
-    owner: u32,
     state: &mut State,
     s: &Stmt,
 ) -> Result<Statement, OutOfMemory>
-    requires { OneText source.now }
-    ensures does { IfOk result (λ k. Done source.now deep owner (plain.statement s.now) (kernel.stmt k) state.old state.new) }
+    requires { OneText context.now.source.now }
+    ensures does { IfOk result (λ k. Done context.now (plain.statement s.now) (kernel.stmt k) state.old state.new) }
     ensures same { OnOk result (Same state.old.scope state.new.scope) }
 {
+    let one = innermost(s);
+    if let Some(landing) = context.source.landing(one) {
+        if landing.calls <= context.deep {
+            return landed(context, fuel, state, landing.calls, landing.statement);
+        }
+    }
     let len = state.scope.len();
-    let k = statement(alloc, source, deep, fuel, owner, state, s)?;
+    let k = by_kind(context, fuel, state, one)?;
     state.scope.forget(len);
     Ok(k)
 }
 
-/// An optional statement in a scope of its own; a missing one is `nop`.
+/// The statement to which so many calls come. It sees global names alone.
+#[cycle(body)]
+fn landed(
+    context: &Context<'_, '_>,
+    fuel: u32,
+    state: &mut State,
+    calls: usize,
+    s: &Stmt,
+) -> Result<Statement, OutOfMemory>
+    requires text { OneText context.now.source.now }
+    requires calls { calls ≤ context.now.deep }
+    ensures does { IfOk result (λ k. Does (lowering.lower_statement (context_text context.now) (called_within (context_text context.now) (context.now.deep - calls))
+        context.now.owner [] (next_of state.old) (plain.statement s.now)) (kernel.stmt k) state.old state.new) }
+    ensures same { OnOk result (Same state.old.scope state.new.scope) }
+{
+    let below = Context {
+        alloc: context.alloc,
+        source: context.source,
+        deep: context.deep - calls,
+        owner: context.owner,
+    };
+    let base = state.scope.hide();
+    let k = by_kind(&below, fuel, state, s)?;
+    state.scope.show(base);
+    Ok(k)
+}
+
+/// A statement in a scope of its own, in a box.
+#[cycle(body)]
+fn boxed_inner(
+    context: &Context<'_, '_>,
+    fuel: u32,
+    state: &mut State,
+    s: &Stmt,
+) -> Result<Box<Statement>, OutOfMemory>
+    requires { OneText context.now.source.now }
+    ensures does { IfOk result (λ k. Done context.now (plain.statement s.now) (kernel.stmt k.value) state.old state.new) }
+    ensures same { OnOk result (Same state.old.scope state.new.scope) }
+{
+    let k = inner(context, fuel, state, s)?;
+    boxed(context.alloc, k)
+}
+
+/// An optional statement in a scope of its own, in a box; a missing one is `nop`.
 #[cycle(body)]
 fn optional_inner(
-    alloc: Global,
-    source: &Source<'_>,
-    deep: usize,
+    context: &Context<'_, '_>,
     fuel: u32,
-    owner: u32,
     state: &mut State,
     s: &Option<Box<Stmt>>,
-) -> Result<Statement, OutOfMemory>
-    requires { OneText source.now }
-    ensures does { IfOk result (λ k. DonePerhaps source.now deep owner (perhaps_of s.now) (kernel.stmt k) state.old state.new) }
+) -> Result<Box<Statement>, OutOfMemory>
+    requires { OneText context.now.source.now }
+    ensures does { IfOk result (λ k. DonePerhaps context.now (perhaps_of s.now) (kernel.stmt k.value) state.old state.new) }
     ensures same { OnOk result (Same state.old.scope state.new.scope) }
 {
     match s {
-        None => Ok(Statement::Nop),
-        Some(there) => {
-            let k = inner(alloc, source, deep, fuel, owner, state, there)?;
-            Ok(k)
-        }
+        None => boxed(context.alloc, Statement::Nop),
+        Some(there) => boxed_inner(context, fuel, state, there),
     }
 }
 
-/// An optional statement in the scope that stands; a missing one is `nop`.
+/// An optional statement in the scope that stands, in a box; a missing one is `nop`.
 #[cycle(body)]
 fn optional_statement(
-    alloc: Global,
-    source: &Source<'_>,
-    deep: usize,
+    context: &Context<'_, '_>,
     fuel: u32,
-    owner: u32,
     state: &mut State,
     s: &Option<Box<Stmt>>,
-) -> Result<Statement, OutOfMemory>
-    requires { OneText source.now }
-    ensures does { IfOk result (λ k. DonePerhaps source.now deep owner (perhaps_of s.now) (kernel.stmt k) state.old state.new) }
-    ensures seen { OnOk result (seen state.new.scope ≡ lowering.scope_behind_perhaps (text_of source.now.globals.index) (seen state.old.scope) state.old.slot (perhaps_of s.now)) }
+) -> Result<Box<Statement>, OutOfMemory>
+    requires { OneText context.now.source.now }
+    ensures does { IfOk result (λ k. DonePerhaps context.now (perhaps_of s.now) (kernel.stmt k.value) state.old state.new) }
+    ensures seen { OnOk result (seen state.new.scope ≡ lowering.scope_behind_perhaps (context_text context.now) (seen state.old.scope) state.old.slot (perhaps_of s.now)) }
     ensures kept { OnOk result (Kept state.old.scope state.new.scope) }
 {
     match s {
-        None => Ok(Statement::Nop),
+        None => boxed(context.alloc, Statement::Nop),
         Some(there) => {
-            let k = statement(alloc, source, deep, fuel, owner, state, there)?;
-            Ok(k)
+            let k = statement(context, fuel, state, there)?;
+            boxed(context.alloc, k)
         }
     }
 }
@@ -408,21 +442,18 @@ fn optional_statement(
 /// Statements in the scope that stands.
 #[cycle(body)]
 fn list(
-    alloc: Global,
-    source: &Source<'_>,
-    deep: usize,
+    context: &Context<'_, '_>,
     fuel: u32,
-    owner: u32,
     state: &mut State,
     body: &[Stmt],
 ) -> Result<Vec<Statement>, OutOfMemory>
-    requires { OneText source.now }
-    ensures does { IfOk result (λ k. DoneList source.now deep owner (seen state.old.scope) (plain.statements body.now) (kernel.stmts k.items) state.old state.new) }
+    requires { OneText context.now.source.now }
+    ensures does { IfOk result (λ k. DoneList context.now (seen state.old.scope) (plain.statements body.now) (kernel.stmts k.items) state.old state.new) }
     ensures kept { OnOk result (Kept state.old.scope state.new.scope) }
 {
-    let mut list = Vec::new(alloc);
+    let mut list = Vec::new(context.alloc);
     for s in body {
-        let k = statement(alloc, source, deep, fuel, owner, state, s)?;
+        let k = statement(context, fuel, state, s)?;
         list.push(k)?;
     }
     Ok(list)
@@ -431,53 +462,52 @@ fn list(
 /// Statements in a scope of their own.
 #[cycle(body)]
 fn block(
-    alloc: Global,
-    source: &Source<'_>,
-    deep: usize,
+    context: &Context<'_, '_>,
     fuel: u32,
-    owner: u32,
     state: &mut State,
     body: &[Stmt],
 ) -> Result<Statement, OutOfMemory>
-    requires { OneText source.now }
-    ensures does { IfOk result (λ k. DoneAsOne source.now deep owner (seen state.old.scope) (plain.statements body.now) (kernel.stmt k) state.old state.new) }
+    requires { OneText context.now.source.now }
+    ensures does { IfOk result (λ k. DoneAsOne context.now (seen state.old.scope) (plain.statements body.now) (kernel.stmt k) state.old state.new) }
     ensures same { OnOk result (Same state.old.scope state.new.scope) }
 {
     let len = state.scope.len();
-    let list = list(alloc, source, deep, fuel, owner, state, body)?;
+    let list = list(context, fuel, state, body)?;
     state.scope.forget(len);
     Ok(sequence(list))
 }
 
-/// A void function by its name, put in place: the slots of its parameters begin at `first`, and it is
-/// `deep` calls deep at most. `owner` is the number of the thread whose text it becomes a part of.
+/// A void function by its name, put in place: the slots of its parameters begin at `first`.
 ///
 /// # Errors
 ///
-/// Want of memory, also where more than `fuel` statements stand in one another.
+/// Want of memory, also where more than `fuel` levels of the kernel stand in one another, with those of a
+/// thread below behind the levels round its `par`.
 #[cycle(body)]
 pub fn in_place(
-    alloc: Global,
-    source: &Source<'_>,
-    deep: usize,
+    context: &Context<'_, '_>,
     fuel: u32,
-    owner: u32,
     first: u32,
     state: &mut State,
     id: u32,
 ) -> Result<Statement, OutOfMemory>
-    requires { OneText source.now }
-    ensures does { IfOk result (λ k. Does (called_within (text_of source.now.globals.index) deep id first owner (next_of state.old)) (kernel.stmt k) state.old state.new) }
+    requires { OneText context.now.source.now }
+    ensures does { IfOk result (λ k. Does (called_within (context_text context.now) context.now.deep id first context.now.owner (next_of state.old)) (kernel.stmt k) state.old state.new) }
     ensures same { OnOk result (Same state.old.scope state.new.scope) }
 {
-    if deep == 0 {
+    if context.deep == 0 {
         return Ok(Statement::Nop);
     }
-    match source.function(id) {
+    match context.source.function(id) {
         None => Ok(Statement::Nop),
         Some(function) => {
-            let deep = deep - 1;
-            let k = in_function(alloc, source, deep, fuel, owner, first, state, function)?;
+            let below = Context {
+                alloc: context.alloc,
+                source: context.source,
+                deep: context.deep - 1,
+                owner: context.owner,
+            };
+            let k = in_function(&below, fuel, first, state, function)?;
             Ok(k)
         }
     }
@@ -487,27 +517,25 @@ pub fn in_place(
 ///
 /// # Errors
 ///
-/// Want of memory, also where more than `fuel` statements stand in one another.
+/// Want of memory, also where more than `fuel` levels of the kernel stand in one another, with those of a
+/// thread below behind the levels round its `par`.
 #[cycle(body)]
 pub fn in_function(
-    alloc: Global,
-    source: &Source<'_>,
-    deep: usize,
+    context: &Context<'_, '_>,
     fuel: u32,
-    owner: u32,
     first: u32,
     state: &mut State,
     function: &Function,
 ) -> Result<Statement, OutOfMemory>
-    requires { OneText source.now }
-    ensures does { IfOk result (λ k. Does (lowering.body_in_place (text_of source.now.globals.index) (called_within (text_of source.now.globals.index) deep)
-        (Some (plain.plain_function function.now)) first owner (next_of state.old)) (kernel.stmt k) state.old state.new) }
+    requires { OneText context.now.source.now }
+    ensures does { IfOk result (λ k. Does (lowering.body_in_place (context_text context.now) (called_within (context_text context.now) context.now.deep)
+        (Some (plain.plain_function function.now)) first context.now.owner (next_of state.old)) (kernel.stmt k) state.old state.new) }
     ensures same { OnOk result (Same state.old.scope state.new.scope) }
 {
     let base = state.scope.hide();
     declare_params(state, first, function.params.as_slice())?;
     let body = function.body.as_slice();
-    let list = list(alloc, source, deep, fuel, owner, state, body)?;
+    let list = list(context, fuel, state, body)?;
     state.scope.show(base);
     Ok(sequence(list))
 }
@@ -515,20 +543,17 @@ pub fn in_function(
 /// A block that is a branch: it sees global names alone.
 #[cycle(body)]
 fn hidden(
-    alloc: Global,
-    source: &Source<'_>,
-    deep: usize,
+    context: &Context<'_, '_>,
     fuel: u32,
-    owner: u32,
     state: &mut State,
     body: &[Stmt],
 ) -> Result<Statement, OutOfMemory>
-    requires { OneText source.now }
-    ensures does { IfOk result (λ k. DoneAsOne source.now deep owner [] (plain.statements body.now) (kernel.stmt k) state.old state.new) }
+    requires { OneText context.now.source.now }
+    ensures does { IfOk result (λ k. DoneAsOne context.now [] (plain.statements body.now) (kernel.stmt k) state.old state.new) }
     ensures same { OnOk result (Same state.old.scope state.new.scope) }
 {
     let base = state.scope.hide();
-    let list = list(alloc, source, deep, fuel, owner, state, body)?;
+    let list = list(context, fuel, state, body)?;
     state.scope.show(base);
     Ok(sequence(list))
 }
@@ -536,82 +561,101 @@ fn hidden(
 /// A branch that calls a function.
 #[cycle(body)]
 fn calling(
-    alloc: Global,
-    source: &Source<'_>,
-    deep: usize,
+    context: &Context<'_, '_>,
     fuel: u32,
-    owner: u32,
     par: u32,
     state: &mut State,
     name: Name,
     args: &[Expr],
 ) -> Result<Launch, OutOfMemory>
-    requires { OneText source.now }
-    ensures does { IfOk result (λ k. DoneBranches source.now deep owner par (tree.by_call name (plain.terms args.now) tree.no_branches) (kernel.branch k ∷ []) state.old state.new) }
+    requires { OneText context.now.source.now }
+    ensures does { IfOk result (λ k. DoneBranches context.now par (tree.by_call name (plain.terms args.now) tree.no_branches) (kernel.branch k ∷ []) state.old state.new) }
     ensures same { OnOk result (Same state.old.scope state.new.scope) }
 {
     let slot = state.slot;
-    let list = lower_terms(alloc, &source.globals, &state.scope, args)?;
-    let params = params_of(source, name.id)?;
+    let params = params_of(context.source, name.id)?;
     let taken = count(args.len())?;
     let thread = begin(state)?;
     state.slot = taken;
-    let body = in_place(alloc, source, deep, fuel, thread, 0, state, name.id)?;
-    finish(state, thread, owner, par, Some(name.id), params, body, slot)?;
+    let inside = Context {
+        alloc: context.alloc,
+        source: context.source,
+        deep: context.deep,
+        owner: thread,
+    };
+    let body = in_place(&inside, fuel, 0, state, name.id)?;
+    let body = boxed(context.alloc, body)?;
+    let begun = Begun {
+        number: thread,
+        parent: context.owner,
+        par,
+        name: Some(name.id),
+        params,
+    };
+    finish(state, begun, body, slot)?;
+    let list = lower_terms(context.alloc, &context.source.globals, &state.scope, args)?;
     Ok(Launch { thread, args: list })
 }
 
 /// A branch that is a block.
 #[cycle(body)]
 fn blocking(
-    alloc: Global,
-    source: &Source<'_>,
-    deep: usize,
+    context: &Context<'_, '_>,
     fuel: u32,
-    owner: u32,
     par: u32,
     place: Place,
     state: &mut State,
     body: &[Stmt],
 ) -> Result<Launch, OutOfMemory>
-    requires { OneText source.now }
-    ensures does { IfOk result (λ k. DoneBranches source.now deep owner par (tree.by_group place (plain.statements body.now) tree.no_branches) (kernel.branch k ∷ []) state.old state.new) }
+    requires { OneText context.now.source.now }
+    ensures does { IfOk result (λ k. DoneBranches context.now par (tree.by_group place (plain.statements body.now) tree.no_branches) (kernel.branch k ∷ []) state.old state.new) }
     ensures same { OnOk result (Same state.old.scope state.new.scope) }
 {
     let slot = state.slot;
     let thread = begin(state)?;
     state.slot = 0;
-    let body = hidden(alloc, source, deep, fuel, thread, state, body)?;
-    finish(state, thread, owner, par, None, 0, body, slot)?;
-    let args = Vec::new(alloc);
+    let inside = Context {
+        alloc: context.alloc,
+        source: context.source,
+        deep: context.deep,
+        owner: thread,
+    };
+    let body = hidden(&inside, fuel, state, body)?;
+    let body = boxed(context.alloc, body)?;
+    let begun = Begun {
+        number: thread,
+        parent: context.owner,
+        par,
+        name: None,
+        params: 0,
+    };
+    finish(state, begun, body, slot)?;
+    let args = Vec::new(context.alloc);
     Ok(Launch { thread, args })
 }
 
 /// A branch of a `par`.
 #[cycle(body)]
 fn branch(
-    alloc: Global,
-    source: &Source<'_>,
-    deep: usize,
+    context: &Context<'_, '_>,
     fuel: u32,
-    owner: u32,
     par: u32,
     state: &mut State,
     one: &Branch,
 ) -> Result<Launch, OutOfMemory>
-    requires { OneText source.now }
-    ensures does { IfOk result (λ k. DoneBranches source.now deep owner par (plain.branches (one.now ∷ [])) (kernel.branch k ∷ []) state.old state.new) }
+    requires { OneText context.now.source.now }
+    ensures does { IfOk result (λ k. DoneBranches context.now par (plain.branches (one.now ∷ [])) (kernel.branch k ∷ []) state.old state.new) }
     ensures same { OnOk result (Same state.old.scope state.new.scope) }
 {
     match one {
         Branch::Call { name, args } => {
             let args = args.as_slice();
-            let k = calling(alloc, source, deep, fuel, owner, par, state, *name, args)?;
+            let k = calling(context, fuel, par, state, *name, args)?;
             Ok(k)
         }
         Branch::Group { place, body } => {
             let body = body.as_slice();
-            let k = blocking(alloc, source, deep, fuel, owner, par, *place, state, body)?;
+            let k = blocking(context, fuel, par, *place, state, body)?;
             Ok(k)
         }
     }
@@ -620,22 +664,19 @@ fn branch(
 /// The branches of a `par`.
 #[cycle(body)]
 fn branches(
-    alloc: Global,
-    source: &Source<'_>,
-    deep: usize,
+    context: &Context<'_, '_>,
     fuel: u32,
-    owner: u32,
     par: u32,
     state: &mut State,
     all: &[Branch],
 ) -> Result<Vec<Launch>, OutOfMemory>
-    requires { OneText source.now }
-    ensures does { IfOk result (λ k. DoneBranches source.now deep owner par (plain.branches all.now) (map kernel.branch k.items) state.old state.new) }
+    requires { OneText context.now.source.now }
+    ensures does { IfOk result (λ k. DoneBranches context.now par (plain.branches all.now) (map kernel.branch k.items) state.old state.new) }
     ensures same { OnOk result (Same state.old.scope state.new.scope) }
 {
-    let mut launches = Vec::new(alloc);
+    let mut launches = Vec::new(context.alloc);
     for one in all {
-        let launch = branch(alloc, source, deep, fuel, owner, par, state, one)?;
+        let launch = branch(context, fuel, par, state, one)?;
         launches.push(launch)?;
     }
     Ok(launches)

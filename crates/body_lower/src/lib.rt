@@ -3,7 +3,9 @@
 
 mod assign;
 mod body;
+mod context;
 mod globals;
+mod landing;
 mod loops;
 mod parts;
 mod scope;
@@ -14,6 +16,7 @@ mod threads;
 mod trail;
 
 pub use body::{FUEL, in_function, in_place};
+pub use context::Context;
 pub use globals::{Counts, Globals, first_number, first_value, is_constant};
 pub use parts::{count, sum};
 pub use scope::Scope;

@@ -8,10 +8,10 @@ ghost use Rattle.loop_check.specs.Views.{text_of};
 ghost use Rattle.text_kernel.specs.Lowering as lowering;
 ghost use Rattle.body_lower.specs.Views.{seen};
 
-use crate::parts::both;
+use crate::parts::{both, boxed, boxed_term};
 use crate::source::Source;
 use crate::state::State;
-use crate::term::lower_term;
+use crate::term::lower_boxed;
 use forec_base::OutOfMemory;
 use forec_kernel::{Expression, Statement};
 use forec_tree::{Expr, Number, Stmt};
@@ -38,18 +38,18 @@ pub fn or_inferred(bound: Option<u32>, inferred: Option<u32>) -> Option<u32>
     }
 }
 
-/// The test of a `for`; a missing one is the number 1.
+/// The test of a `for`, in a box; a missing one is the number 1.
 pub fn optional_test(
     alloc: Global,
     source: &Source<'_>,
     state: &State,
     test: &Option<Expr>,
-) -> Result<Expression, OutOfMemory>
-    ensures { IfOk result (λ k. kernel.expr k ≡ lowering.optional_test (text_of source.now.globals.index) (seen state.now.scope) (plain.optional_term test.now)) }
+) -> Result<Box<Expression>, OutOfMemory>
+    ensures { IfOk result (λ k. kernel.expr k.value ≡ lowering.optional_test (text_of source.now.globals.index) (seen state.now.scope) (plain.optional_term test.now)) }
 {
     match test {
-        None => Ok(Expression::Number { value: 1 }),
-        Some(e) => lower_term(alloc, &source.globals, &state.scope, e),
+        None => boxed_term(alloc, Expression::Number { value: 1 }),
+        Some(e) => lower_boxed(alloc, &source.globals, &state.scope, e),
     }
 }
 
@@ -57,14 +57,17 @@ pub fn optional_test(
 pub fn then_step(
     alloc: Global,
     step: &Option<Box<Stmt>>,
-    body: Statement,
-    next: Statement,
-) -> Result<Statement, OutOfMemory>
-    ensures { IfOk result (λ k. kernel.stmt k ≡ lowering.then_step (perhaps_of step.now) (kernel.stmt body) (kernel.stmt next)) }
+    body: Box<Statement>,
+    next: Box<Statement>,
+) -> Result<Box<Statement>, OutOfMemory>
+    ensures { IfOk result (λ k. kernel.stmt k.value ≡ lowering.then_step (perhaps_of step.now) (kernel.stmt body.value) (kernel.stmt next.value)) }
 {
     match step {
         None => Ok(body),
-        Some(_) => both(alloc, body, next),
+        Some(_) => {
+            let k = both(alloc, body, next)?;
+            boxed(alloc, k)
+        }
     }
 }
 
@@ -72,13 +75,13 @@ pub fn then_step(
 pub fn after_start(
     alloc: Global,
     start: &Option<Box<Stmt>>,
-    first: Statement,
-    turned: Statement,
+    first: Box<Statement>,
+    turned: Box<Statement>,
 ) -> Result<Statement, OutOfMemory>
-    ensures { IfOk result (λ k. kernel.stmt k ≡ lowering.after_start (perhaps_of start.now) (kernel.stmt first) (kernel.stmt turned)) }
+    ensures { IfOk result (λ k. kernel.stmt k ≡ lowering.after_start (perhaps_of start.now) (kernel.stmt first.value) (kernel.stmt turned.value)) }
 {
     match start {
-        None => Ok(turned),
+        None => Ok(Box::into_inner(turned)),
         Some(_) => both(alloc, first, turned),
     }
 }

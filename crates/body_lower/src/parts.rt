@@ -2,7 +2,6 @@
 
 ghost use Rattle.std.specs.Prelude.{◌≡◌, ◌+◌, map, IfOk};
 ghost use Rattle.forec_kernel.specs.Plain as kernel;
-ghost use Rattle.forec_kernel.specs.Terms as terms;
 ghost use Rattle.text_kernel.specs.Lowering as lowering;
 
 use forec_base::OutOfMemory;
@@ -57,27 +56,17 @@ pub fn sequence(mut list: Vec<Statement>) -> Statement
 }
 
 /// Two statements one after the other.
-pub fn both(alloc: Global, first: Statement, second: Statement) -> Result<Statement, OutOfMemory>
-    ensures { IfOk result (λ k. kernel.stmt k ≡ lowering.pair (kernel.stmt first) (kernel.stmt second)) }
+pub fn both(
+    alloc: Global,
+    first: Box<Statement>,
+    second: Box<Statement>,
+) -> Result<Statement, OutOfMemory>
+    ensures { IfOk result (λ k. kernel.stmt k ≡ lowering.pair (kernel.stmt first.value) (kernel.stmt second.value)) }
 {
     let mut list = Vec::new(alloc);
-    list.push(first)?;
-    list.push(second)?;
+    list.push(Box::into_inner(first))?;
+    list.push(Box::into_inner(second))?;
     Ok(Statement::Sequence { list })
-}
-
-/// A choice between two statements.
-pub fn choice(
-    alloc: Global,
-    test: Expression,
-    yes: Statement,
-    no: Statement,
-) -> Result<Statement, OutOfMemory>
-    ensures { IfOk result (λ k. kernel.stmt k ≡ terms.If (kernel.expr test) (kernel.stmt yes) (kernel.stmt no)) }
-{
-    let yes = boxed(alloc, yes)?;
-    let no = boxed(alloc, no)?;
-    Ok(Statement::If { test, yes, no })
 }
 
 /// A count of 32 bits.

@@ -6,19 +6,22 @@ ghost use Rattle.forec_tree.specs.Pauses as pauses;
 ghost use Rattle.forec_tree.specs.Faults.{Leads};
 ghost use Rattle.loop_check.specs.Views.{text_of};
 ghost use Rattle.loop_check.specs.Known.{FunctionOf};
+ghost use Rattle.body_lower.specs.Landings.{CallLands};
 ghost use Rattle.body_lower.specs.Views.{OneText};
 
 use crate::globals::Globals;
+use crate::landing::{Landing, landings, lands};
 use forec_base::OutOfMemory;
-use forec_tree::{Function, Item};
-use loop_check::Pauses;
+use forec_tree::{Function, Item, Stmt};
+use loop_check::{Pauses, order, read_calls};
 use std::alloc::Global;
 
-/// A program, with what its names stand for and the turns of its loops.
+/// A program, with what its names stand for, the turns of its loops, and where its calls land.
 #[derive(Drop)]
 pub struct Source<'p> {
     pub globals: Globals<'p>,
     pub pauses: Pauses<'p>,
+    pub landings: Vec<Option<Landing<'p>>>,
 }
 
 impl<'p> Source<'p> {
@@ -34,7 +37,14 @@ impl<'p> Source<'p> {
     {
         let globals = Globals::of(alloc, items)?;
         let pauses = Pauses::of(alloc, items)?;
-        Ok(Source { globals, pauses })
+        let calls = read_calls(alloc, &globals.index)?;
+        let order = order(alloc, &calls.functions, &calls.lists)?;
+        let landings = landings(alloc, &globals.index, &order)?;
+        Ok(Source {
+            globals,
+            pauses,
+            landings,
+        })
     }
 
     /// The function of a name.
@@ -45,5 +55,13 @@ impl<'p> Source<'p> {
             Some(Item::Function { function }) => Some(function),
             _ => None,
         }
+    }
+
+    /// Where a call lands.
+    pub fn landing(&self, s: &Stmt) -> Option<Landing<'p>>
+        requires { OneText self.now }
+        ensures { CallLands (text_of self.now.globals.index) (plain.statement s.now) result }
+    {
+        lands(&self.globals.index, &self.landings, s)
     }
 }

@@ -138,7 +138,7 @@ pub fn lower_term(
 
 /// The expression of the kernel, in a box.
 #[cycle(term)]
-fn lower_boxed(
+pub fn lower_boxed(
     alloc: Global,
     globals: &Globals<'_>,
     scope: &Scope,

@@ -41,39 +41,46 @@ pub fn begin(state: &mut State) -> Result<u32, OutOfMemory>
     Ok(number)
 }
 
+/// A thread below that has begun: its number, its parent, the `par` whose branch it is, the name of its
+/// function, and how many of its words are parameters.
+#[derive(Clone, Copy)]
+pub struct Begun {
+    pub number: u32,
+    pub parent: u32,
+    pub par: u32,
+    pub name: Option<u32>,
+    pub params: u32,
+}
+
 /// Ends a thread below: its text is all there, and its parent goes on at a slot.
 pub fn finish(
     state: &mut State,
-    number: u32,
-    parent: u32,
-    par: u32,
-    name: Option<u32>,
-    params: u32,
-    body: Statement,
+    begun: Begun,
+    body: Box<Statement>,
     slot: u32,
 ) -> Result<(), OutOfMemory>
-    requires above { 1 ≤ number }
-    requires begun { number ≤ length state.old.threads.items }
+    requires above { 1 ≤ begun.number }
+    requires begun { begun.number ≤ length state.old.threads.items }
     ensures { OnOk result (Finishes (record {
-      parent = parent;
-      par = par;
-      name = name;
-      params = params;
+      parent = begun.parent;
+      par = begun.par;
+      name = begun.name;
+      params = begun.params;
       words = state.old.slot;
       behind = (next_of state.old).thread;
-      body = kernel.stmt body;
-    }) number slot state.old state.new) }
+      body = kernel.stmt body.value;
+    }) begun.number slot state.old state.new) }
 {
     let behind = next_thread(state)?;
     let words = state.slot;
-    state.threads[number as usize - 1] = Thread {
-        parent,
-        par,
-        name,
-        params,
+    state.threads[begun.number as usize - 1] = Thread {
+        parent: begun.parent,
+        par: begun.par,
+        name: begun.name,
+        params: begun.params,
         words,
         behind,
-        body,
+        body: Box::into_inner(body),
     };
     state.slot = slot;
     Ok(())

@@ -16,7 +16,8 @@ use Rattle.body_lower.specs.declared.state.Thread.{Thread}
 use Rattle.text_kernel.specs.Bindings.{first_value}
 use Rattle.text_kernel.specs.Lowering.{Next, as_one, body_in_place}
 use Rattle.text_kernel.specs.Kernels.{padded, function_body}
-use Rattle.body_lower.specs.Views.{Bare, of_thread, called_within, next_of, Does}
+use Rattle.body_lower.specs.Landings.{called_within}
+use Rattle.body_lower.specs.Views.{Bare, of_thread, next_of, Does}
 use Rattle.kernel_lower.specs.Drafts.{bare_shapes, named_at, part_at, marked_from}
 use Rattle.text_kernel.specs.Items.{globals_of}
 use Rattle.kernel_lower.specs.Marks.{row_uses, shape_uses, with_uses, MarksOf}

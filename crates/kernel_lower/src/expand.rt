@@ -5,7 +5,7 @@ ghost use Rattle.loop_check.specs.Views.{text_of};
 ghost use Rattle.body_lower.specs.Views.{OneText};
 ghost use Rattle.kernel_lower.specs.Drafts.{Expanded};
 
-use body_lower::{FUEL, Source, State, Thread, in_place};
+use body_lower::{Context, FUEL, Source, State, Thread, in_place};
 use forec_base::OutOfMemory;
 use forec_kernel::Statement;
 use std::alloc::Global;
@@ -30,7 +30,13 @@ pub fn expand(
     ensures { IfOk result (λ b. Expanded (text_of source.now.globals.index) first b) }
 {
     let mut state = State::new(alloc);
-    let main = in_place(alloc, source, deep, FUEL, 0, 0, &mut state, first)?;
+    let context = Context {
+        alloc,
+        source,
+        deep,
+        owner: 0,
+    };
+    let main = in_place(&context, FUEL, 0, &mut state, first)?;
     let words = state.slot;
     Ok(Bodies {
         main,

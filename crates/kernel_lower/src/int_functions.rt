@@ -10,7 +10,7 @@ ghost use Rattle.body_lower.specs.Views.{OneText};
 ghost use Rattle.text_kernel.specs.Items.{functions_of, IsInt};
 ghost use Rattle.kernel_lower.specs.Drafts.{function_shape, function_text};
 
-use body_lower::{FUEL, Globals, Source, State, count, in_function};
+use body_lower::{Context, FUEL, Globals, Source, State, count, in_function};
 use forec_base::{Labels, OutOfMemory};
 use forec_kernel::{FunctionShape, Statement};
 use forec_tree::{Function, Item};
@@ -72,7 +72,13 @@ fn translated(
     let params = count(function.params.len())?;
     let mut state = State::new(alloc);
     state.slot = params;
-    let body = in_function(alloc, source, 0, FUEL, 0, 0, &mut state, function)?;
+    let context = Context {
+        alloc,
+        source,
+        deep: 0,
+        owner: 0,
+    };
+    let body = in_function(&context, FUEL, 0, &mut state, function)?;
     let shape = FunctionShape {
         params,
         words: state.slot,

@@ -7,130 +7,66 @@ use Rattle.forec_tree.proofs.Rows.{of_group, of_if, of_for, of_par, of_abort, br
 use Rattle.forec_tree.specs.Plain.{perhaps_of}
 use Rattle.forec_kernel.specs.Terms as kernel
 use Rattle.forec_kernel.specs.Plain.{stmt, stmts, expr, exprs}
-use Rattle.loop_check.specs.Views.{text_of}
 use Rattle.body_lower.specs.declared.state.State.{State}
-use Rattle.text_kernel.specs.Lowering.{Next, sequence, bound_of, or_inferred, after_start, then_step, lower_statement, lower_branches}
+use Rattle.text_kernel.specs.Lowering.{Next, sequence, bound_of, or_inferred, after_start, lower_terms, lower_statement, lower_branches}
 use Rattle.text_kernel.specs.Bindings.{params_at}
-use Rattle.body_lower.specs.Views.{seen, next_of, called_within, DoesBranches}
+use Rattle.body_lower.specs.Landings.{called_within}
+use Rattle.body_lower.specs.Views.{context_text, seen, next_of, Does, Done, DoesBranches}
 use Rattle.body_lower.proofs.Statements.{kept_then}
-use Rattle.body_lower.proofs.Doing.{does_as, for_does, call_does, call_branch_at, group_branch_at, count_args, ends_pushed, same_then, same_kept, kept_cut}
+use Rattle.body_lower.proofs.Landed.{if_does, while_does, abort_does, does_boxed, does_shown, inner_lands, ok_then}
+use Rattle.body_lower.proofs.Doing.{does_as, same_seen, for_does, call_does, call_branch_at, group_branch_at, count_args, ends_pushed, same_then, same_kept, kept_cut}
 use Rattle.body_lower.proofs.Going.{list_goes, list_ends, branches_go, branches_end, par_goes, branches_as, as_one_does, same_list, shown_same, place_none, place_unknown, place_known}
 use Rattle.body_lower.proofs.body.+body.Goals as goal
 
 pub list-loop-s-preserved : goal.list-loop-s-preserved
 list-loop-s-preserved t c =
-    let text = text_of c.args.source.now.globals.index in (
-      list_goes text (called_within text c.args.deep) c.args.owner c.args.body.now c.loop-s.s-index c.s-item.result c.loop-s.list.items c.push.new.self.items c.in_ok-k.k _ c.args.state.now c.loop-s.state c.statement.new.state
+    let text = context_text c.args.context.now in (
+      list_goes text (called_within text c.args.context.now.deep) c.args.context.now.owner c.args.body.now c.loop-s.s-index c.s-item.result c.loop-s.list.items c.push.new.self.items c.in_ok-k.k _ c.args.state.now c.loop-s.state c.statement.new.state
           c.loop-s-test.true (sym c.s-item.is) c.in_ok-k.ensures.seen c.in_ok-k.ensures.does c.in_ok-push.ensures.items c.loop-s.invariant.0,
       kept_then c.args.state.now.scope c.loop-s.state.scope c.statement.new.state.scope c.loop-s.invariant.1 c.in_ok-k.ensures.kept,
     )
 
 pub list-returns-clause-does : goal.list-returns-clause-does
 list-returns-clause-does t c =
-    let text = text_of c.args.source.now.globals.index in
-    list_ends text (called_within text c.args.deep) c.args.owner c.args.body.now c.loop-s.s-index c.loop-s.list.items _ c.args.state.now c.loop-s.state c.loop-s-test.false c.loop-s.invariant.0
+    let text = context_text c.args.context.now in
+    list_ends text (called_within text c.args.context.now.deep) c.args.context.now.owner c.args.body.now c.loop-s.s-index c.loop-s.list.items _ c.args.state.now c.loop-s.state c.loop-s-test.false c.loop-s.invariant.0
 
 pub list-returns-clause-kept : goal.list-returns-clause-kept
 list-returns-clause-kept t c = c.loop-s.invariant.1
 
 pub branches-loop-one-preserved : goal.branches-loop-one-preserved
 branches-loop-one-preserved t c =
-    let text = text_of c.args.source.now.globals.index in (
-      branches_go text (called_within text c.args.deep) c.args.owner c.args.par c.args.all.now c.loop-one.one-index c.one-item.result c.loop-one.launches.items c.push.new.self.items c.in_ok-launch.launch _ c.args.state.now
-          c.loop-one.state c.branch-alloc.new.state c.loop-one-test.true (sym c.one-item.is) c.in_ok-launch.ensures.same c.in_ok-launch.ensures.does c.in_ok-push.ensures.items c.loop-one.invariant.0,
-      same_then c.args.state.now.scope c.loop-one.state.scope c.branch-alloc.new.state.scope c.loop-one.invariant.1 c.in_ok-launch.ensures.same,
+    let text = context_text c.args.context.now in (
+      branches_go text (called_within text c.args.context.now.deep) c.args.context.now.owner c.args.par c.args.all.now c.loop-one.one-index c.one-item.result c.loop-one.launches.items c.push.new.self.items c.in_ok-launch.launch _ c.args.state.now
+          c.loop-one.state c.branch-context.new.state c.loop-one-test.true (sym c.one-item.is) c.in_ok-launch.ensures.same c.in_ok-launch.ensures.does c.in_ok-push.ensures.items c.loop-one.invariant.0,
+      same_then c.args.state.now.scope c.loop-one.state.scope c.branch-context.new.state.scope c.loop-one.invariant.1 c.in_ok-launch.ensures.same,
     )
 
 pub branches-returns-clause-does : goal.branches-returns-clause-does
 branches-returns-clause-does t c =
-    let text = text_of c.args.source.now.globals.index in
-    branches_end text (called_within text c.args.deep) c.args.owner c.args.par c.args.all.now c.loop-one.one-index c.loop-one.launches.items _ c.args.state.now c.loop-one.state c.loop-one-test.false c.loop-one.invariant.0
+    let text = context_text c.args.context.now in
+    branches_end text (called_within text c.args.context.now.deep) c.args.context.now.owner c.args.par c.args.all.now c.loop-one.one-index c.loop-one.launches.items _ c.args.state.now c.loop-one.state c.loop-one-test.false c.loop-one.invariant.0
 
 pub branches-returns-clause-same : goal.branches-returns-clause-same
 branches-returns-clause-same t c = c.loop-one.invariant.1
-
-pub calling-returns-clause-does : goal.calling-returns-clause-does
-calling-returns-clause-does t c =
-    let text = text_of c.args.source.now.globals.index in
-    let one = c.begin.new.state in
-    let two : State = record one { slot = c.in_ok-taken.taken } in
-    let at = λ (x : Rattle.std.proofs.Common.ℕ). let n : Next = record { slot = x; thread = (next_of one).thread; par = one.par } in n in
-    call_branch_at text (called_within text c.args.deep) c.args.owner c.args.par c.in_ok-thread.thread (seen c.args.state.now.scope) c.args.name (terms c.args.args.now) c.args.state.now one two c.in_place.new.state c.finish.new.state
-    c.in_ok-params.params (stmt c.in_ok-body.body) (exprs c.in_ok-list.list.items) c.in_ok-thread.ensures.number c.in_ok-list.ensures c.in_ok-params.ensures c.in_ok-thread.ensures.begun refl
-    (ap at (c.in_ok-taken.ensures ∙ count_args c.args.args.now)) c.in_ok-body.ensures.does c.in_ok-finish.ensures
-
-pub calling-returns-clause-same : goal.calling-returns-clause-same
-calling-returns-clause-same t c =
-    same_then c.args.state.now.scope c.in_place.new.state.scope c.finish.new.state.scope
-    (same_then c.args.state.now.scope c.begin.new.state.scope c.in_place.new.state.scope c.in_ok-thread.ensures.begun.scope c.in_ok-body.ensures.same) c.in_ok-finish.ensures.scope
-
-pub blocking-returns-clause-does : goal.blocking-returns-clause-does
-blocking-returns-clause-does t c =
-    let text = text_of c.args.source.now.globals.index in
-    let one = c.begin.new.state in
-    let two : State = record one { slot = 0 } in
-    let done =
-    group_branch_at text (called_within text c.args.deep) c.args.owner c.args.par c.in_ok-thread.thread (seen c.args.state.now.scope) c.args.place (statements c.args.body.now) c.args.state.now one two c.hidden.new.state
-    c.finish.new.state (stmt c.in_ok-body.body) c.in_ok-thread.ensures.number c.in_ok-thread.ensures.begun refl refl c.in_ok-body.ensures.does c.in_ok-finish.ensures in
-    subst (λ l. DoesBranches (lower_branches text (called_within text c.args.deep) c.args.owner (seen c.args.state.now.scope) c.args.par (next_of c.args.state.now) (tree.by_group c.args.place (statements c.args.body.now) no_branches))
-    (record { thread = c.in_ok-thread.thread; args = exprs l } ∷ []) c.args.state.now c.finish.new.state)
-    (sym c.new-args.ensures.items) done
 
 pub blocking-returns-clause-same : goal.blocking-returns-clause-same
 blocking-returns-clause-same t c =
     same_then c.args.state.now.scope c.hidden.new.state.scope c.finish.new.state.scope
     (same_then c.args.state.now.scope c.begin.new.state.scope c.hidden.new.state.scope c.in_ok-thread.ensures.begun.scope c.in_ok-body.ensures.same) c.in_ok-finish.ensures.scope
 
-pub call-returns-clause-does : goal.call-returns-clause-does
-call-returns-clause-does t c =
-    let text = text_of c.args.source.now.globals.index in
-    let old = c.args.state.now in
-    let one : State = record old { slot = c.in_ok-state.field-0 } in
-    let at = λ (x : Rattle.std.proofs.Common.ℕ). let n : Next = record { slot = x; thread = (next_of old).thread; par = old.par } in n in
-    call_does text (called_within text c.args.deep) c.args.owner (seen old.scope) (next_of old) c.args.place c.args.name (terms c.args.args.now) old one c.in_place.new.state (stmts c.in_ok-list.list.items) (stmt c.in_ok-body.body) _
-    c.in_ok-list.ensures (ap at (c.in_ok-state.ensures ∙ ap (λ n. old.slot + n) (c.in_ok-taken.ensures ∙ count_args c.args.args.now))) refl c.in_ok-body.ensures.does
-    (c.sequence.ensures ∙ ap sequence (ap stmts c.in_ok-push.ensures.items ∙ ends_pushed c.in_ok-list.list.items c.in_ok-body.body))
-
-pub heading-returns-clause-does : goal.heading-returns-clause-does
-heading-returns-clause-does t c =
-    let text = text_of c.args.source.now.globals.index in
-    let old = c.args.state.now in
-    let one = c.optional_statement.new.state in
-    let two = c.optional_statement-2.new.state in
-    let three = c.inner.new.state in
-    let new : State = record three { scope = c.forget.new.self } in
-    let start = perhaps_of c.args.start.now in
-    let step = perhaps_of c.args.step.now in
-    let whole = tree.For c.args.place start (optional_term c.args.test.now) step c.args.bound (statement c.args.body.now) in
-    let body : stmt c.in_ok-body-3.body.value ≡ then_step step (stmt c.in_ok-body.body) (stmt c.in_ok-next.next) = ap stmt c.in_ok-body-3.ensures ∙ c.in_ok-body-2.ensures in
-    for_does text (called_within text c.args.deep) c.args.owner (seen old.scope) (next_of old) c.args.place start (optional_term c.args.test.now) step c.args.bound (statement c.args.body.now) old one two three new (inferred text whole)
-    (expr c.in_ok-test.test) (stmt c.in_ok-first.first) (stmt c.in_ok-next.next) (stmt c.in_ok-body.body) (stmt c.in_ok-k.k) c.in_ok-first.ensures.does c.in_ok-first.ensures.seen c.in_ok-test.ensures c.in_ok-next.ensures.does
-    c.in_ok-next.ensures.seen c.in_ok-body.ensures.does (record { next = refl; threads = refl }) refl
-    (c.in_ok-k.ensures
-    ∙ (ap (λ b. after_start start (stmt c.in_ok-first.first) (kernel.While (expr c.in_ok-test.test) b (stmt c.in_ok-body-3.body.value) c.args.place)) c.requires.turns
-    ∙ ap (λ b. after_start start (stmt c.in_ok-first.first) (kernel.While (expr c.in_ok-test.test) (or_inferred (bound_of c.args.bound) (inferred text whole)) b c.args.place)) body))
-
-pub heading-returns-clause-same : goal.heading-returns-clause-same
-heading-returns-clause-same t c =
-    let a = c.args.state.now.scope in
-    let one = c.optional_statement.new.state.scope in
-    let two = c.optional_statement-2.new.state.scope in
-    let three = c.inner.new.state.scope in
-    kept_cut a three c.forget.new.self c.len-len.result
-    (kept_then a two three (kept_then a one two c.in_ok-first.ensures.kept c.in_ok-next.ensures.kept) (same_kept two three c.in_ok-body.ensures.same)) c.len-len.ensures c.forget.ensures.slots c.forget.ensures.base
-
 pub par-returns-clause-does : goal.par-returns-clause-does
 par-returns-clause-does t c =
-    let text = text_of c.args.source.now.globals.index in
+    let text = context_text c.args.context.now in
     let old = c.args.state.now in
     let one : State = record old { par = c.in_ok-state.field-0 } in
     let at = λ (x : Rattle.std.proofs.Common.ℕ). let n : Next = record { slot = old.slot; thread = (next_of old).thread; par = x } in n in
-    par_goes text (called_within text c.args.deep) c.args.owner (seen old.scope) (next_of old) c.args.place c.args.all.now old one c.branches.new.state _ (sym c.is_empty.ensures ∙ c.if-is_empty.false) (ap at c.in_ok-state.ensures) refl
+    par_goes text (called_within text c.args.context.now.deep) c.args.context.now.owner (seen old.scope) (next_of old) c.args.place c.args.all.now old one c.branches.new.state _ (sym c.is_empty.ensures ∙ c.if-is_empty.false) (ap at c.in_ok-state.ensures) refl
     c.in_ok-branches.ensures.does
 
 pub in_function-returns-clause-does : goal.in_function-returns-clause-does
 in_function-returns-clause-does t c =
-    let text = text_of c.args.source.now.globals.index in
+    let text = context_text c.args.context.now in
     let old = c.args.state.now in
     let one = c.declare_params.new.state in
     let two = c.list.new.state in
@@ -138,7 +74,7 @@ in_function-returns-clause-does t c =
     let rest = c.in_ok-declare_params.ensures.rest in
     let at = λ (a : Rattle.std.proofs.Common.ℕ) (b : Rattle.std.proofs.Common.ℕ) (d : Rattle.std.proofs.Common.ℕ). let n : Next = record { slot = a; thread = b; par = d } in n in
     as_one_does _ _ (stmts c.in_ok-list.list.items) _ old one two new
-    (same_list text (called_within text c.args.deep) c.args.owner (seen one.scope) (params_at c.args.first c.args.function.now.params) (next_of one) (next_of old) c.as_slice-body.result.now c.args.function.now.body
+    (same_list text (called_within text c.args.context.now.deep) c.args.context.now.owner (seen one.scope) (params_at c.args.first c.args.function.now.params) (next_of one) (next_of old) c.as_slice-body.result.now c.args.function.now.body
     (c.in_ok-declare_params.ensures.seen ∙ (ap (λ l. l ++ params_at c.args.first c.as_slice.result.now) c.hide-base.ensures.seen ∙ ap (params_at c.args.first) c.as_slice.ensures))
     (ap (λ x. at x (next_of one).thread one.par) rest.0 ∙ (ap (λ l. at old.slot (Rattle.std.proofs.Common.suc (length (Rattle.std.specs.declared.vec.Vec.Vec.items l))) one.par) rest.2 ∙ ap (λ x. at old.slot (next_of old).thread x) rest.1))
     c.as_slice-body.ensures)
@@ -151,76 +87,197 @@ in_function-returns-clause-same t c =
 
 pub hidden-returns-clause-does : goal.hidden-returns-clause-does
 hidden-returns-clause-does t c =
-    let text = text_of c.args.source.now.globals.index in
+    let text = context_text c.args.context.now in
     let old = c.args.state.now in
     let one : State = record old { scope = c.hide-base.new.self } in
     let two = c.list.new.state in
     let new : State = record two { scope = c.show.new.self } in
     as_one_does _ _ (stmts c.in_ok-list.list.items) _ old one two new
-    (same_list text (called_within text c.args.deep) c.args.owner (seen one.scope) [] (next_of one) (next_of old) c.args.body.now c.args.body.now c.hide-base.ensures.seen refl refl) refl c.in_ok-list.ensures.does c.sequence.ensures refl refl
+    (same_list text (called_within text c.args.context.now.deep) c.args.context.now.owner (seen one.scope) [] (next_of one) (next_of old) c.args.body.now c.args.body.now c.hide-base.ensures.seen refl refl) refl c.in_ok-list.ensures.does c.sequence.ensures refl refl
 
 pub hidden-returns-clause-same : goal.hidden-returns-clause-same
 hidden-returns-clause-same t c =
     shown_same c.args.state.now.scope c.hide-base.new.self c.list.new.state.scope c.show.new.self c.hide-base.result c.hide-base.ensures.before c.hide-base.ensures.base c.hide-base.ensures.slots c.in_ok-list.ensures.kept
     c.show.ensures.slots c.show.ensures.base
 
-pub statement-returns-in_ok-k-in-Group-clause-does : goal.statement-returns-in_ok-k-in-Group-clause-does
-statement-returns-in_ok-k-in-Group-clause-does t c =
-    let text = text_of c.args.source.now.globals.index in
+pub by_kind-returns-in_ok-k-in-Group-clause-does : goal.by_kind-returns-in_ok-k-in-Group-clause-does
+by_kind-returns-in_ok-k-in-Group-clause-does t c =
+    let text = context_text c.args.context.now in
     does_as _ _ (stmt c.in_ok-k-in-Group.k) c.args.state.now c.block.new.state
-    (of_group (lower_statement text (called_within text c.args.deep) c.args.owner (seen c.args.state.now.scope) (next_of c.args.state.now)) c.args.s.now c.in-Group.body c.as_slice-body.result.now c.in-Group.is c.as_slice-body.ensures)
+    (of_group (lower_statement text (called_within text c.args.context.now.deep) c.args.context.now.owner (seen c.args.state.now.scope) (next_of c.args.state.now)) c.args.s.now c.in-Group.body c.as_slice-body.result.now c.in-Group.is c.as_slice-body.ensures)
     c.in_ok-k-in-Group.ensures.does
 
-pub statement-returns-in_ok-k-in-If-clause-does : goal.statement-returns-in_ok-k-in-If-clause-does
-statement-returns-in_ok-k-in-If-clause-does t c =
-    let text = text_of c.args.source.now.globals.index in
-    let F = lower_statement text (called_within text c.args.deep) c.args.owner (seen c.args.state.now.scope) (next_of c.args.state.now) in
+pub by_kind-returns-in_ok-k-in-If-clause-does : goal.by_kind-returns-in_ok-k-in-If-clause-does
+by_kind-returns-in_ok-k-in-If-clause-does t c =
+    let text = context_text c.args.context.now in
+    let F = lower_statement text (called_within text c.args.context.now.deep) c.args.context.now.owner (seen c.args.state.now.scope) (next_of c.args.state.now) in
     does_as _ _ (stmt c.in_ok-k-in-If.k) c.args.state.now c.either.new.state
     (ap (λ y. F (tree.If c.args.s.now.place (term c.in-If.test) (statement y) (perhaps_of c.in-If.no))) c.deref.ensures ∙ of_if F c.args.s.now c.in-If.test c.in-If.yes c.in-If.no c.in-If.is)
     c.in_ok-k-in-If.ensures.does
 
-pub statement-returns-in_ok-k-in-For-clause-does : goal.statement-returns-in_ok-k-in-For-clause-does
-statement-returns-in_ok-k-in-For-clause-does t c =
-    let text = text_of c.args.source.now.globals.index in
-    let F = lower_statement text (called_within text c.args.deep) c.args.owner (seen c.args.state.now.scope) (next_of c.args.state.now) in
+pub by_kind-returns-in_ok-k-in-For-clause-does : goal.by_kind-returns-in_ok-k-in-For-clause-does
+by_kind-returns-in_ok-k-in-For-clause-does t c =
+    let text = context_text c.args.context.now in
+    let F = lower_statement text (called_within text c.args.context.now.deep) c.args.context.now.owner (seen c.args.state.now.scope) (next_of c.args.state.now) in
     does_as _ _ (stmt c.in_ok-k-in-For.k) c.args.state.now c.heading.new.state
     (ap (λ y. F (tree.For c.args.s.now.place (perhaps_of c.in-For.start) (optional_term c.in-For.test) (perhaps_of c.in-For.step) c.in-For.bound (statement y))) c.deref-in-For.ensures
     ∙ of_for F c.args.s.now c.in-For.start c.in-For.step c.in-For.test c.in-For.bound c.in-For.body c.in-For.is)
     c.in_ok-k-in-For.ensures.does
 
-pub statement-returns-in_ok-k-in-Par-clause-does : goal.statement-returns-in_ok-k-in-Par-clause-does
-statement-returns-in_ok-k-in-Par-clause-does t c =
-    let text = text_of c.args.source.now.globals.index in
+pub by_kind-returns-in_ok-k-in-Par-clause-does : goal.by_kind-returns-in_ok-k-in-Par-clause-does
+by_kind-returns-in_ok-k-in-Par-clause-does t c =
+    let text = context_text c.args.context.now in
     does_as _ _ (stmt c.in_ok-k-in-Par.k) c.args.state.now c.par.new.state
-    (of_par (lower_statement text (called_within text c.args.deep) c.args.owner (seen c.args.state.now.scope) (next_of c.args.state.now)) c.args.s.now c.in-Par.all c.as_slice-all.result.now c.in-Par.is c.as_slice-all.ensures)
+    (of_par (lower_statement text (called_within text c.args.context.now.deep) c.args.context.now.owner (seen c.args.state.now.scope) (next_of c.args.state.now)) c.args.s.now c.in-Par.all c.as_slice-all.result.now c.in-Par.is c.as_slice-all.ensures)
     c.in_ok-k-in-Par.ensures.does
 
-pub statement-returns-in_ok-k-in-Abort-clause-does : goal.statement-returns-in_ok-k-in-Abort-clause-does
-statement-returns-in_ok-k-in-Abort-clause-does t c =
-    let text = text_of c.args.source.now.globals.index in
+pub by_kind-returns-in_ok-k-in-Abort-clause-does : goal.by_kind-returns-in_ok-k-in-Abort-clause-does
+by_kind-returns-in_ok-k-in-Abort-clause-does t c =
+    let text = context_text c.args.context.now in
     does_as _ _ (stmt c.in_ok-k-in-Abort.k) c.args.state.now c.abort.new.state
-    (of_abort (lower_statement text (called_within text c.args.deep) c.args.owner (seen c.args.state.now.scope) (next_of c.args.state.now)) c.args.s.now c.in-Abort.weak c.in-Abort.immediate c.in-Abort.test c.in-Abort.body
+    (of_abort (lower_statement text (called_within text c.args.context.now.deep) c.args.context.now.owner (seen c.args.state.now.scope) (next_of c.args.state.now)) c.args.s.now c.in-Abort.weak c.in-Abort.immediate c.in-Abort.test c.in-Abort.body
     c.as_slice-body-in-Abort.result.now c.in-Abort.is c.as_slice-body-in-Abort.ensures)
     c.in_ok-k-in-Abort.ensures.does
 
 pub branch-returns-in_ok-k-in-Group-clause-does : goal.branch-returns-in_ok-k-in-Group-clause-does
 branch-returns-in_ok-k-in-Group-clause-does t c =
-    let text = text_of c.args.source.now.globals.index in
-    let F = lower_branches text (called_within text c.args.deep) c.args.owner (seen c.args.state.now.scope) c.args.par (next_of c.args.state.now) in
+    let text = context_text c.args.context.now in
+    let F = lower_branches text (called_within text c.args.context.now.deep) c.args.context.now.owner (seen c.args.state.now.scope) c.args.par (next_of c.args.state.now) in
     branches_as _ _ _ c.args.state.now c.blocking.new.state
     (ap (λ l. F (tree.by_group c.in-Group.place (statements l) no_branches)) c.as_slice-body.ensures
     ∙ (ap F (sym (branch-group c.in-Group.place c.in-Group.body no_branches)) ∙ ap (λ b. F (branch_with b no_branches)) (sym c.in-Group.is)))
     c.in_ok-k-in-Group.ensures.does
 
-pub in_place-returns-then-deep-eq0-clause-does : goal.in_place-returns-then-deep-eq0-clause-does
-in_place-returns-then-deep-eq0-clause-does t c =
-    place_none (text_of c.args.source.now.globals.index) c.args.deep c.args.id c.args.first c.args.owner c.args.state.now c.if-deep-eq0.true
+pub in_place-returns-then-context-eq0-clause-does : goal.in_place-returns-then-context-eq0-clause-does
+in_place-returns-then-context-eq0-clause-does t c =
+    place_none (context_text c.args.context.now) c.args.context.now.deep c.args.id c.args.first c.args.context.now.owner c.args.state.now c.if-context-eq0.true
 
 pub in_place-returns-in-None-clause-does : goal.in_place-returns-in-None-clause-does
 in_place-returns-in-None-clause-does t c =
-    place_unknown (text_of c.args.source.now.globals.index) c.args.deep c.args.id c.args.first c.args.owner c.args.state.now c.if-deep-eq0.false c.in-None.ensures
+    place_unknown (context_text c.args.context.now) c.args.context.now.deep c.args.id c.args.first c.args.context.now.owner c.args.state.now c.if-context-eq0.false c.in-None.ensures
 
 pub in_place-returns-in_ok-k-in-Some-clause-does : goal.in_place-returns-in_ok-k-in-Some-clause-does
 in_place-returns-in_ok-k-in-Some-clause-does t c =
-    place_known (text_of c.args.source.now.globals.index) c.args.deep (c.args.deep - 1) c.args.id c.args.first c.args.owner (plain_function c.in-Some.function.now) (stmt c.in_ok-k-in-Some.k) c.args.state.now c.in_function.new.state
-    c.if-deep-eq0.false refl c.in-Some.ensures c.in_ok-k-in-Some.ensures.does
+    place_known (context_text c.args.context.now) c.args.context.now.deep (c.args.context.now.deep - 1) c.args.id c.args.first c.args.context.now.owner (plain_function c.in-Some.function.now) (stmt c.in_ok-k-in-Some.k) c.args.state.now c.in_function.new.state
+    c.if-context-eq0.false refl c.in-Some.ensures c.in_ok-k-in-Some.ensures.does
+
+pub calling-returns-clause-does : goal.calling-returns-clause-does
+calling-returns-clause-does t c =
+    let text = context_text c.args.context.now in
+    let old = c.args.state.now in
+    let one = c.begin.new.state in
+    let two : State = record one { slot = c.in_ok-taken.taken } in
+    let at = λ (x : Rattle.std.proofs.Common.ℕ). let n : Next = record { slot = x; thread = (next_of one).thread; par = one.par } in n in
+    let same =
+    same_then old.scope c.in_place.new.state.scope c.finish.new.state.scope
+    (same_then old.scope c.begin.new.state.scope c.in_place.new.state.scope c.in_ok-thread.ensures.begun.scope c.in_ok-body.ensures.same) c.in_ok-finish.ensures.scope in
+    call_branch_at text (called_within text c.args.context.now.deep) c.args.context.now.owner c.args.par c.in_ok-thread.thread (seen old.scope) c.args.name (terms c.args.args.now) old one two c.in_place.new.state c.finish.new.state
+    c.in_ok-params.params (stmt c.in_ok-body-2.body.value) (exprs c.in_ok-list.list.items) c.in_ok-thread.ensures.number
+    (c.in_ok-list.ensures ∙ ap (λ s. lower_terms text s (terms c.args.args.now)) (same_seen old.scope c.finish.new.state.scope same)) c.in_ok-params.ensures c.in_ok-thread.ensures.begun refl
+    (ap at (c.in_ok-taken.ensures ∙ count_args c.args.args.now)) (does_boxed _ _ _ c.in_ok-body-2.ensures c.in_place.new.state c.in_ok-body.ensures.does) c.in_ok-finish.ensures
+
+pub calling-returns-clause-same : goal.calling-returns-clause-same
+calling-returns-clause-same t c =
+    same_then c.args.state.now.scope c.in_place.new.state.scope c.finish.new.state.scope
+    (same_then c.args.state.now.scope c.begin.new.state.scope c.in_place.new.state.scope c.in_ok-thread.ensures.begun.scope c.in_ok-body.ensures.same) c.in_ok-finish.ensures.scope
+
+pub blocking-returns-clause-does : goal.blocking-returns-clause-does
+blocking-returns-clause-does t c =
+    let text = context_text c.args.context.now in
+    let one = c.begin.new.state in
+    let two : State = record one { slot = 0 } in
+    let done =
+    group_branch_at text (called_within text c.args.context.now.deep) c.args.context.now.owner c.args.par c.in_ok-thread.thread (seen c.args.state.now.scope) c.args.place (statements c.args.body.now) c.args.state.now one two
+    c.hidden.new.state c.finish.new.state (stmt c.in_ok-body-2.body.value) c.in_ok-thread.ensures.number c.in_ok-thread.ensures.begun refl refl
+    (does_boxed _ _ _ c.in_ok-body-2.ensures c.hidden.new.state c.in_ok-body.ensures.does) c.in_ok-finish.ensures in
+    subst (λ l. DoesBranches (lower_branches text (called_within text c.args.context.now.deep) c.args.context.now.owner (seen c.args.state.now.scope) c.args.par (next_of c.args.state.now) (tree.by_group c.args.place (statements c.args.body.now) no_branches))
+    (record { thread = c.in_ok-thread.thread; args = exprs l } ∷ []) c.args.state.now c.finish.new.state)
+    (sym c.new-args.ensures.items) done
+
+pub call-returns-clause-does : goal.call-returns-clause-does
+call-returns-clause-does t c =
+    let text = context_text c.args.context.now in
+    let old = c.args.state.now in
+    let one : State = record old { slot = c.in_ok-behind.behind } in
+    let at = λ (x : Rattle.std.proofs.Common.ℕ). let n : Next = record { slot = x; thread = (next_of old).thread; par = old.par } in n in
+    call_does text (called_within text c.args.context.now.deep) c.args.context.now.owner (seen old.scope) (next_of old) c.args.place c.args.name (terms c.args.args.now) old one c.in_place.new.state (stmts c.in_ok-list.list.items)
+    (stmt c.in_ok-body.body) _ c.in_ok-list.ensures (ap at (c.in_ok-behind.ensures ∙ ap (λ n. old.slot + n) (c.in_ok-taken.ensures ∙ count_args c.args.args.now))) refl c.in_ok-body.ensures.does
+    (c.sequence.ensures ∙ ap sequence (ap stmts c.in_ok-push.ensures.items ∙ ends_pushed c.in_ok-list.list.items c.in_ok-body.body))
+
+pub either-returns-clause-does : goal.either-returns-clause-does
+either-returns-clause-does t c =
+    let text = context_text c.args.context.now in
+    let old = c.args.state.now in
+    let one = c.boxed_inner.new.state in
+    let two = c.optional_inner.new.state in
+    if_does text (called_within text c.args.context.now.deep) c.args.context.now.owner c.args.place (term c.args.test.now) (statement c.args.yes.now) (perhaps_of c.args.no.now) old one two (stmt c.in_ok-yes.yes.value)
+    (stmt c.in_ok-no.no.value) (expr c.in_ok-test.test) c.in_ok-yes.ensures.same c.in_ok-no.ensures.same c.in_ok-yes.ensures.does c.in_ok-no.ensures.does c.in_ok-test.ensures
+
+pub turning-returns-clause-does : goal.turning-returns-clause-does
+turning-returns-clause-does t c =
+    let text = context_text c.args.context.now in
+    while_does text (called_within text c.args.context.now.deep) c.args.context.now.owner c.args.place (term c.args.test.now) c.args.bound (statement c.args.body.now) c.args.state.now c.boxed_inner.new.state
+    (stmt c.in_ok-body.body.value) (expr c.in_ok-test.test) c.bound_of-bound.result c.in_ok-body.ensures.same c.in_ok-body.ensures.does c.in_ok-test.ensures c.bound_of-bound.ensures
+
+pub abort-returns-clause-does : goal.abort-returns-clause-does
+abort-returns-clause-does t c =
+    let text = context_text c.args.context.now in
+    abort_does text (called_within text c.args.context.now.deep) c.args.context.now.owner c.args.place c.args.weak c.args.immediate (term c.args.test.now) (statements c.args.body.now) c.args.state.now c.block.new.state
+    (stmt c.in_ok-body-2.body.value) (expr c.in_ok-test.test) c.in_ok-body.ensures.same (does_boxed _ _ _ c.in_ok-body-2.ensures c.block.new.state c.in_ok-body.ensures.does) c.in_ok-test.ensures
+
+pub heading-returns-clause-does : goal.heading-returns-clause-does
+heading-returns-clause-does t c =
+    let text = context_text c.args.context.now in
+    let old = c.args.state.now in
+    let one = c.optional_statement.new.state in
+    let two = c.optional_statement-2.new.state in
+    let three = c.boxed_inner.new.state in
+    let new : State = record three { scope = c.forget.new.self } in
+    let start = perhaps_of c.args.start.now in
+    let step = perhaps_of c.args.step.now in
+    let first = stmt c.in_ok-first.first.value in
+    let test = expr c.in_ok-test.test.value in
+    let whole = tree.For c.args.place start (optional_term c.args.test.now) step c.args.bound (statement c.args.body.now) in
+    for_does text (called_within text c.args.context.now.deep) c.args.context.now.owner (seen old.scope) (next_of old) c.args.place start (optional_term c.args.test.now) step c.args.bound (statement c.args.body.now) old one two three new
+    (inferred text whole) test first (stmt c.in_ok-next.next.value) (stmt c.in_ok-body.body.value) (stmt c.in_ok-k.k) c.in_ok-first.ensures.does c.in_ok-first.ensures.seen c.in_ok-test.ensures c.in_ok-next.ensures.does
+    c.in_ok-next.ensures.seen c.in_ok-body.ensures.does (record { next = refl; threads = refl }) refl
+    (c.in_ok-k.ensures
+    ∙ (ap (λ s. after_start start first (stmt s)) c.in_ok-turned.ensures
+    ∙ (ap (λ e. after_start start first (kernel.While (expr e) c.args.turns (stmt c.in_ok-body-2.body.value) c.args.place)) c.into_inner.ensures
+    ∙ (ap (λ b. after_start start first (kernel.While test b (stmt c.in_ok-body-2.body.value) c.args.place)) c.requires.turns
+    ∙ ap (λ b. after_start start first (kernel.While test (or_inferred (bound_of c.args.bound) (inferred text whole)) b c.args.place)) c.in_ok-body-2.ensures))))
+
+pub heading-returns-clause-same : goal.heading-returns-clause-same
+heading-returns-clause-same t c =
+    let a = c.args.state.now.scope in
+    let one = c.optional_statement.new.state.scope in
+    let two = c.optional_statement-2.new.state.scope in
+    let three = c.boxed_inner.new.state.scope in
+    kept_cut a three c.forget.new.self c.len-len.result
+    (kept_then a two three (kept_then a one two c.in_ok-first.ensures.kept c.in_ok-next.ensures.kept) (same_kept two three c.in_ok-body.ensures.same)) c.len-len.ensures c.forget.ensures.slots c.forget.ensures.base
+
+pub landed-returns-clause-does : goal.landed-returns-clause-does
+landed-returns-clause-does t c =
+    let text = context_text c.args.context.now in
+    let old = c.args.state.now in
+    let one : State = record old { scope = c.hide-base.new.self } in
+    let two = c.by_kind.new.state in
+    let new : State = record two { scope = c.show.new.self } in
+    does_shown (λ s. lower_statement text (called_within text (c.args.context.now.deep - c.args.calls)) c.args.context.now.owner s (next_of old) (statement c.args.s.now)) _ (seen one.scope) old one two new refl
+    c.hide-base.ensures.seen c.in_ok-k.ensures.does refl refl
+
+pub landed-returns-clause-same : goal.landed-returns-clause-same
+landed-returns-clause-same t c =
+    shown_same c.args.state.now.scope c.hide-base.new.self c.by_kind.new.state.scope c.show.new.self c.hide-base.result c.hide-base.ensures.before c.hide-base.ensures.base c.hide-base.ensures.slots c.in_ok-k.ensures.kept
+    c.show.ensures.slots c.show.ensures.base
+
+pub inner-returns-then-landing-context-clause-does : goal.inner-returns-then-landing-context-clause-does
+inner-returns-then-landing-context-clause-does t c =
+    let text = context_text c.args.context.now in
+    let deep = c.args.context.now.deep in
+    let owner = c.args.context.now.owner in
+    let old = c.args.state.now in
+    let new = c.landed.new.state in
+    let l = c.in-Some.landing in
+    ok_then c.landed.result (λ k. Does (lower_statement text (called_within text (deep - l.calls)) owner [] (next_of old) (statement l.statement.now)) (stmt k) old new) (λ k. Done c.args.context.now (statement c.args.s.now) (stmt k) old new)
+    (λ k d. inner_lands text deep owner (statement c.args.s.now) (statement c.innermost-one.result.now) l (stmt k) old new c.innermost-one.ensures.same c.in-Some.ensures c.if-landing-context.true d) c.landed.ensures.does

@@ -1,81 +1,90 @@
 use Rattle.std.proofs.Common.{◌+◌, ◌*◌, map, drop}
 use Rattle.forec_tree.specs.Plain as plain
 use Rattle.forec_kernel.specs.Plain as kernel
-use Rattle.loop_check.specs.Views.{text_of}
 use Rattle.text_kernel.specs.Lowering as lowering
-use Rattle.body_lower.specs.Views.{seen, Kept, Same, next_of, called_within}
+use Rattle.body_lower.specs.Landings.{called_within}
+use Rattle.body_lower.specs.Views.{context_text, seen, Kept, Same, next_of}
 use Rattle.body_lower.proofs.Doing.{ListLeft, BranchesLeft}
 use Rattle.body_lower.proofs.body.+body.Given as goal
 
-abbrev pub decreases-statement : goal.decreases-statement
-decreases-statement l = 8 * l.fuel
+abbrev pub decreases-by_kind : goal.decreases-by_kind
+decreases-by_kind l = 12 * l.fuel
+
+abbrev pub decreases-landed : goal.decreases-landed
+decreases-landed l = 12 * l.fuel + 1
 
 abbrev pub decreases-inner : goal.decreases-inner
-decreases-inner l = 8 * l.fuel + 1
+decreases-inner l = 12 * l.fuel + 2
+
+abbrev pub decreases-boxed_inner : goal.decreases-boxed_inner
+decreases-boxed_inner l = 12 * l.fuel + 3
+
+abbrev pub decreases-statement : goal.decreases-statement
+decreases-statement l = 12 * l.fuel + 3
 
 abbrev pub decreases-optional_inner : goal.decreases-optional_inner
-decreases-optional_inner l = 8 * l.fuel + 2
+decreases-optional_inner l = 12 * l.fuel + 4
 
 abbrev pub decreases-optional_statement : goal.decreases-optional_statement
-decreases-optional_statement l = 8 * l.fuel + 1
+decreases-optional_statement l = 12 * l.fuel + 4
 
 abbrev pub decreases-list : goal.decreases-list
-decreases-list l = 8 * l.fuel + 1
+decreases-list l = 12 * l.fuel + 4
 
 abbrev pub decreases-block : goal.decreases-block
-decreases-block l = 8 * l.fuel + 2
+decreases-block l = 12 * l.fuel + 5
 
 abbrev pub decreases-hidden : goal.decreases-hidden
-decreases-hidden l = 8 * l.fuel + 2
+decreases-hidden l = 12 * l.fuel + 5
 
 abbrev pub decreases-in_function : goal.decreases-in_function
-decreases-in_function l = 8 * l.fuel + 2
+decreases-in_function l = 12 * l.fuel + 5
 
 abbrev pub decreases-in_place : goal.decreases-in_place
-decreases-in_place l = 8 * l.fuel + 3
+decreases-in_place l = 12 * l.fuel + 6
 
 abbrev pub decreases-calling : goal.decreases-calling
-decreases-calling l = 8 * l.fuel + 4
+decreases-calling l = 12 * l.fuel + 7
 
 abbrev pub decreases-blocking : goal.decreases-blocking
-decreases-blocking l = 8 * l.fuel + 4
+decreases-blocking l = 12 * l.fuel + 6
 
 abbrev pub decreases-branch : goal.decreases-branch
-decreases-branch l = 8 * l.fuel + 5
+decreases-branch l = 12 * l.fuel + 8
 
 abbrev pub decreases-branches : goal.decreases-branches
-decreases-branches l = 8 * l.fuel + 6
+decreases-branches l = 12 * l.fuel + 9
 
 abbrev pub decreases-either : goal.decreases-either
-decreases-either l = 8 * l.fuel + 3
+decreases-either l = 12 * l.fuel + 5
 
 abbrev pub decreases-turning : goal.decreases-turning
-decreases-turning l = 8 * l.fuel + 2
+decreases-turning l = 12 * l.fuel + 4
 
 abbrev pub decreases-heading : goal.decreases-heading
-decreases-heading l = 8 * l.fuel + 2
+decreases-heading l = 12 * l.fuel + 5
 
 abbrev pub decreases-call : goal.decreases-call
-decreases-call l = 8 * l.fuel + 4
+decreases-call l = 12 * l.fuel + 7
 
 abbrev pub decreases-par : goal.decreases-par
-decreases-par l = 8 * l.fuel + 7
+decreases-par l = 12 * l.fuel + 10
 
 abbrev pub decreases-abort : goal.decreases-abort
-decreases-abort l = 8 * l.fuel + 3
+decreases-abort l = 12 * l.fuel + 6
 
 abbrev pub invariant-list-loop-s : goal.invariant-list-loop-s
 invariant-list-loop-s l =
-    let text = text_of l.source.globals.index in
-    let called = called_within text l.deep in
-    ListLeft (lowering.lower_list text called l.owner (seen l.state.scope) (next_of l.state) (plain.statements (drop l.s-index l.body)))
-    (lowering.lower_list text called l.owner (seen l.fn.state.scope) (next_of l.fn.state) (plain.statements l.body)) (kernel.stmts l.list.items) l.fn.state l.state
+    let text = context_text l.context in
+    let called = called_within text l.context.deep in
+    ListLeft (lowering.lower_list text called l.context.owner (seen l.state.scope) (next_of l.state) (plain.statements (drop l.s-index l.body)))
+    (lowering.lower_list text called l.context.owner (seen l.fn.state.scope) (next_of l.fn.state) (plain.statements l.body)) (kernel.stmts l.list.items) l.fn.state l.state
     × Kept l.fn.state.scope l.state.scope
 
 abbrev pub invariant-branches-loop-one : goal.invariant-branches-loop-one
 invariant-branches-loop-one l =
-    let text = text_of l.source.globals.index in
-    let called = called_within text l.deep in
-    BranchesLeft (lowering.lower_branches text called l.owner (seen l.state.scope) l.par (next_of l.state) (plain.branches (drop l.one-index l.all)))
-    (lowering.lower_branches text called l.owner (seen l.fn.state.scope) l.par (next_of l.fn.state) (plain.branches l.all)) (map kernel.branch l.launches.items) l.fn.state l.state
+    let text = context_text l.context in
+    let called = called_within text l.context.deep in
+    BranchesLeft (lowering.lower_branches text called l.context.owner (seen l.state.scope) l.par (next_of l.state) (plain.branches (drop l.one-index l.all)))
+    (lowering.lower_branches text called l.context.owner (seen l.fn.state.scope) l.par (next_of l.fn.state) (plain.branches l.all)) (map kernel.branch l.launches.items) l.fn.state l.state
     × Same l.fn.state.scope l.state.scope

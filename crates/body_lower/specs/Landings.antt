@@ -1,0 +1,47 @@
+-- Where statements land: what the kernel has for them is what it has for another statement.
+use Rattle.std.specs.Prelude.{ℕ, ◌+◌, ◌≡◌, ◌==◌, cond, Option, Some, None, List, [], slice_index_or}
+use Rattle.forec_tree.specs.Plain.{statement}
+use Rattle.forec_tree.specs.Terms.{Text, Statement, Group, Statements, no_statements, more_statements}
+use Rattle.forec_tree.specs.Pauses.{within}
+use Rattle.text_kernel.specs.Lowering.{Next, InPlace, in_place_step, nothing_in_place, lower_statement}
+use Rattle.text_kernel.specs.declared.names.Slot.{Slot}
+use Rattle.body_lower.specs.declared.landing.Landing.{Landing}
+
+-- the statement of a list of one
+abbrev pub only : Statements → Option Statement
+only no_statements = None
+only (more_statements a no_statements) = Some a
+only (more_statements a (more_statements b rest)) = None
+
+-- the statement in a group of one
+abbrev pub inside : Statement → Option Statement
+inside (Group at body) = only body
+inside _ = None
+
+-- two statements become the same wherever they stand
+abbrev pub SameKernel : Statement → Statement → Type 0
+SameKernel a b = (text : Text) (called : ℕ → InPlace) (t : ℕ) (s : List Slot) (n : Next) → lower_statement text called t s n a ≡ lower_statement text called t s n b
+
+-- what is called as a statement is put in place, up to so many calls deep
+abbrev pub called_within : Text → ℕ → ℕ → InPlace
+called_within text deep = within nothing_in_place (in_place_step text) deep
+
+-- The function of a name becomes what the statement of its landing does, which sees global names alone and so many calls fewer.
+abbrev pub FunctionLands : Text → ℕ → Option Landing → Type 0
+FunctionLands text id None = Unit {0}
+FunctionLands text id (Some l) =
+    (above first t : ℕ) (n : Next) → called_within text (l.calls + above) id first t n ≡ lower_statement text (called_within text above) t [] n (statement l.statement.now)
+
+abbrev pub AllLand : Text → List (Option Landing) → Type 0
+AllLand text table = (id : ℕ) → FunctionLands text id (slice_index_or table id None)
+
+-- the same of a statement, which is a call
+abbrev pub CallLands : Text → Statement → Option Landing → Type 0
+CallLands text a None = Unit {0}
+CallLands text a (Some l) =
+    (above t : ℕ) (s : List Slot) (n : Next) →
+    lower_statement text (called_within text (l.calls + above)) t s n a ≡ lower_statement text (called_within text above) t [] n (statement l.statement.now)
+
+-- a landing was put at a name
+abbrev pub put_at : ℕ → ℕ → Option Landing → Option Landing → Option Landing
+put_at id g landing before = cond (id == g) landing before
