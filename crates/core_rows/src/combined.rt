@@ -1,8 +1,9 @@
-//! A packet is made and read; copies are combined.
+//! Copies are combined.
 
-use combine_tree::{Joining, Packet, PacketKind};
-use forec_base::Policy;
+use combine_tree::Joining;
+use forec_base::{OutOfMemory, Policy};
 use forec_kernel::VarCopy;
+use std::alloc::Global;
 use std::test::Fail;
 
 fn unmarked(value: i32) -> VarCopy {
@@ -12,24 +13,25 @@ fn unmarked(value: i32) -> VarCopy {
     }
 }
 
-#[test]
-fn makes_a_blank_packet(rt: HostRuntime) -> Result<(), Fail> {
-    let packet = Packet::new(rt.alloc(), 2, 3)?;
-    let found = (packet.kind, packet.allowance, packet.units);
-    assert_eq!(rt; found, (PacketKind::Blank, 0, 0));
-    assert_eq!(rt; packet.args.as_slice(), [0, 0].as_slice());
-    assert_eq!(rt; packet.copies.as_slice(), [unmarked(0); 3].as_slice());
-    Ok(())
+/// What is asked to be combined once two values are new, over a base of 1, and the value in the end.
+fn told(alloc: Global) -> Result<Option<((i32, i32), i32)>, OutOfMemory> {
+    let mut joining = Joining::new(alloc, 1)?;
+    joining.begin(&[unmarked(1)]);
+    let None = joining.offer(0, Policy::New, unmarked(1)) else {
+        return Ok(None);
+    };
+    let None = joining.offer(0, Policy::New, unmarked(4)) else {
+        return Ok(None);
+    };
+    let Some(pair) = joining.offer(0, Policy::New, unmarked(6)) else {
+        return Ok(None);
+    };
+    joining.fold(0, 10);
+    Ok(Some((pair, joining.result(0).value)))
 }
 
 #[test]
 fn combines_new_values(rt: HostRuntime) -> Result<(), Fail> {
-    let mut joining = Joining::new(rt.alloc(), 1)?;
-    joining.begin(&[unmarked(1)]);
-    assert_eq!(rt; joining.offer(0, Policy::New, unmarked(1)), None);
-    assert_eq!(rt; joining.offer(0, Policy::New, unmarked(4)), None);
-    assert_eq!(rt; joining.offer(0, Policy::New, unmarked(6)), Some((4, 6)));
-    joining.fold(0, 10);
-    assert_eq!(rt; joining.result(0), unmarked(10));
+    assert!(rt; told(rt.alloc())? == Some(((4, 6), 10)));
     Ok(())
 }

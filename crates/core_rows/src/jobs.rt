@@ -3,16 +3,17 @@
 ghost use Rattle.std.specs.Prelude.{◌≡◌, [], ◌∷◌, IfOk};
 ghost use Rattle.forec_kernel.specs.Shapes.{plain_shape};
 ghost use Rattle.thread_code.specs.Plain.{plain_block, plain_code};
+ghost use Rattle.core_machine.specs.Held.{Loaded, IsResting};
 ghost use Rattle.thread_code.specs.Worked.{small_shape, small_main, small_function, small_code};
 
+use crate::joining::{begins, first_thread, pauses, replies, wakes};
 use combine_tree::{Packet, PacketKind};
 use core_machine::{Event, Thread};
 use forec_base::{Labels, OutOfMemory};
 use forec_kernel::{FunctionShape, Shape, ThreadShape};
 use std::alloc::Global;
-use std::process::Abort;
 use std::test::Fail;
-use thread_code::{Block, Code, CodeParts, Instruction, listing};
+use thread_code::{Block, Code, CodeParts, Instruction};
 
 fn one<T: Drop>(alloc: Global, item: T) -> Result<Vec<T>, OutOfMemory>
     ensures { IfOk result (λ v. v.items ≡ item ∷ []) }
@@ -37,14 +38,16 @@ fn shape(alloc: Global) -> Result<Shape, OutOfMemory>
         params: 1,
         words: 1,
     };
+    let names = Labels::new(alloc)?;
+    let functions = one(alloc, function)?;
     Ok(Shape {
         threads: one(alloc, main)?,
         variables: Vec::new(alloc),
-        functions: one(alloc, function)?,
+        functions,
         tables: Vec::new(alloc),
         inputs: Vec::new(alloc),
         outputs: Vec::new(alloc),
-        names: Labels::new(alloc)?,
+        names,
     })
 }
 
@@ -84,64 +87,49 @@ fn function_block(alloc: Global) -> Result<Block, OutOfMemory>
 fn parts(alloc: Global) -> Result<CodeParts, OutOfMemory>
     ensures { IfOk result (λ p. plain_code p ≡ small_code) }
 {
+    let threads = one(alloc, main_block(alloc)?)?;
+    let functions = one(alloc, function_block(alloc)?)?;
     Ok(CodeParts {
         shape: shape(alloc)?,
-        threads: one(alloc, main_block(alloc)?)?,
-        functions: one(alloc, function_block(alloc)?)?,
+        threads,
+        functions,
     })
 }
 
-fn small(alloc: Global) -> Result<Code, OutOfMemory>
-    ensures { IfOk result (λ c. plain_code c ≡ small_code) }
-{
-    Ok(Code::of(parts(alloc)?))
+fn code(alloc: Global, fused: bool) -> Result<Box<Code>, OutOfMemory> {
+    let parts = parts(alloc)?;
+    if fused {
+        return Ok(Box::new(alloc, Code::decoded(alloc, parts)?)?);
+    }
+    Ok(Box::new(alloc, Code::of(parts))?)
 }
 
-fn decoded(alloc: Global) -> Result<Code, OutOfMemory>
-    ensures { IfOk result (λ c. plain_code c ≡ small_code) }
+/// Starts a job of 4 units, which pauses, and wakes it with 3, which it passes.
+fn pauses_then_passes(thread: &mut Thread, code: &Code, packet: &mut Packet) -> bool
+    requires loaded { Loaded (plain_code code.now) thread.old }
+    requires resting { IsResting thread.old }
+    requires root { thread.old.number ≡ 0 }
 {
-    let code = Code::decoded(alloc, parts(alloc)?)?;
-    Ok(code)
-}
-
-fn pauses_then_passes(rt: &impl Abort, alloc: Global, code: &Code) -> Result<(), Fail>
-    requires { plain_code code.now ≡ small_code }
-{
-    let mut thread = Thread::load(alloc, code, 0)?;
-    let mut packet = Packet::new(alloc, 0, 0)?;
-    packet.kind = PacketKind::Start;
     packet.allowance = 4;
-    thread.begin(code, &packet);
-    let event = thread.run(code);
-    assert_eq!(rt; event, Event::Paused);
-    thread.reply(code, &mut packet);
-    assert_eq!(rt; packet.kind, PacketKind::Paused);
-    assert_eq!(rt; packet.units, 4);
-    packet.kind = PacketKind::Wake;
-    packet.allowance = 3;
-    thread.begin(code, &packet);
-    let event = thread.run(code);
-    assert_eq!(rt; event, Event::Over);
-    thread.reply(code, &mut packet);
-    assert_eq!(rt; packet.kind, PacketKind::Over);
-    Ok(())
+    if !begins(thread, code, packet) || !pauses(thread, code, packet) || packet.units != 4 {
+        return false;
+    }
+    wakes(thread, code, packet, 3);
+    replies(thread, code, packet) == Some(Event::Over) && packet.kind == PacketKind::Over
 }
 
-#[test]
-fn lists_a_code(rt: HostRuntime) -> Result<(), Fail> {
-    let code = small(rt.alloc())?;
-    let text = listing(rt.alloc(), &code)?;
-    assert_eq!(rt;
-        text.as_str(),
-        "thread 0\n0 load 0\n1 call 0\n2 store 0\n3 pause 4\n4 jump 0\nfunction 0\n0 push 7\n1 return\n"
-    );
-    assert_eq!(rt; code.parts().threads.len(), code.shape().threads.len());
-    Ok(())
+fn does_its_jobs(alloc: Global, fused: bool) -> Result<bool, OutOfMemory> {
+    let code = code(alloc, fused)?;
+    let mut packet = Packet::new(alloc, 0, 0)?;
+    let mut thread = first_thread(alloc, &code)?;
+    Ok(pauses_then_passes(&mut thread, &code, &mut packet))
 }
 
 /// A code does the same with fused steps and without.
 #[test]
-fn does_its_jobs(rt: HostRuntime) -> Result<(), Fail> {
-    pauses_then_passes(&rt, rt.alloc(), &small(rt.alloc())?)?;
-    pauses_then_passes(&rt, rt.alloc(), &decoded(rt.alloc())?)
+fn does_jobs_with_and_without_fused_steps(rt: HostRuntime) -> Result<(), Fail> {
+    for fused in [false, true] {
+        assert!(rt; does_its_jobs(rt.alloc(), fused)?, "{fused}");
+    }
+    Ok(())
 }

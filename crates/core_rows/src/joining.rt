@@ -7,7 +7,6 @@ ghost use Rattle.thread_code.specs.Valid.{of_shape};
 ghost use Rattle.combine_tree.specs.Plain.{plain_packet};
 ghost use Rattle.core_machine.specs.Forks.{IsReplyKind};
 ghost use Rattle.core_machine.specs.Held.{Loaded, CanRun, IsResting, HasReply, HasPaused, HasSettled, HasJoined};
-ghost use Rattle.combine_tree.specs.declared.packet.PacketKind.TheVariants as kind;
 
 use crate::compiled::compiled;
 use combine_tree::{Packet, PacketKind};
@@ -105,13 +104,7 @@ fn play(thread: &mut Thread, code: &Code, a: &Packet, b: &Packet, c: &Packet) ->
     ensures number { thread.new.number ≡ thread.old.number }
     ensures running { result ≡ true → CanRun thread.new }
 {
-    if !settle(thread, code, 0, a) {
-        return false;
-    }
-    if !settle(thread, code, 1, b) {
-        return false;
-    }
-    if !settle(thread, code, 2, c) {
+    if !settle(thread, code, 0, a) || !settle(thread, code, 1, b) || !settle(thread, code, 2, c) {
         return false;
     }
     if thread.active(code, 3).is_some() {
@@ -141,7 +134,7 @@ fn comes_to_fork(thread: &mut Thread, code: &Code) -> bool
 }
 
 /// Runs to the end of the job, and writes the reply.
-fn replies(thread: &mut Thread, code: &Code, packet: &mut Packet) -> Option<Event>
+pub fn replies(thread: &mut Thread, code: &Code, packet: &mut Packet) -> Option<Event>
     requires loaded { Loaded (plain_code code.now) thread.old }
     requires running { CanRun thread.old }
     requires room { HasRoom (of_shape (plain_code code.now).shape) thread.old.number (plain_packet packet.old) }
@@ -157,7 +150,7 @@ fn replies(thread: &mut Thread, code: &Code, packet: &mut Packet) -> Option<Even
 }
 
 /// Runs to a pause, and writes the reply.
-fn pauses(thread: &mut Thread, code: &Code, packet: &mut Packet) -> bool
+pub fn pauses(thread: &mut Thread, code: &Code, packet: &mut Packet) -> bool
     requires loaded { Loaded (plain_code code.now) thread.old }
     requires running { CanRun thread.old }
     requires room { HasRoom (of_shape (plain_code code.now).shape) thread.old.number (plain_packet packet.old) }
@@ -176,8 +169,8 @@ fn pauses(thread: &mut Thread, code: &Code, packet: &mut Packet) -> bool
     }
 }
 
-/// Wakes a thread that has paused.
-fn wakes(thread: &mut Thread, code: &Code, packet: &mut Packet)
+/// Wakes a thread that has paused, with an allowance.
+pub fn wakes(thread: &mut Thread, code: &Code, packet: &mut Packet, allowance: u32)
     requires loaded { Loaded (plain_code code.now) thread.old }
     requires replied { HasReply thread.old }
     requires paused { HasPaused thread.old }
@@ -188,7 +181,7 @@ fn wakes(thread: &mut Thread, code: &Code, packet: &mut Packet)
     ensures room { HasRoom (of_shape (plain_code code.now).shape) thread.old.number (plain_packet packet.new) }
 {
     packet.kind = PacketKind::Wake;
-    packet.allowance = 50;
+    packet.allowance = u64::from(allowance);
     thread.begin(code, packet);
 }
 
@@ -210,7 +203,7 @@ fn play_one(thread: &mut Thread, code: &Code, a: &Packet) -> bool
 }
 
 /// Thread 0, which was never started.
-fn first_thread(alloc: Global, code: &Code) -> Result<Thread, OutOfMemory>
+pub fn first_thread(alloc: Global, code: &Code) -> Result<Thread, OutOfMemory>
     ensures loaded { IfOk result (λ h. Loaded (plain_code code.now) h) }
     ensures number { IfOk result (λ h. h.number ≡ 0) }
     ensures resting { IfOk result (λ h. IsResting h) }
@@ -221,17 +214,17 @@ fn first_thread(alloc: Global, code: &Code) -> Result<Thread, OutOfMemory>
     Thread::load(alloc, code, 0)
 }
 
-/// Begins a job where the packet has the thread's room.
-fn begins(thread: &mut Thread, code: &Code, packet: &Packet) -> bool
+/// Starts a job where the packet has the thread's room.
+pub fn begins(thread: &mut Thread, code: &Code, packet: &mut Packet) -> bool
     requires loaded { Loaded (plain_code code.now) thread.old }
     requires resting { IsResting thread.old }
-    requires start { packet.now.kind ≡ kind.Start }
     requires root { thread.old.number ≡ 0 }
     ensures loaded { Loaded (plain_code code.now) thread.new }
     ensures number { thread.new.number ≡ thread.old.number }
     ensures running { result ≡ true → CanRun thread.new }
-    ensures room { result ≡ true → HasRoom (of_shape (plain_code code.now).shape) thread.old.number (plain_packet packet.now) }
+    ensures room { result ≡ true → HasRoom (of_shape (plain_code code.now).shape) thread.old.number (plain_packet packet.new) }
 {
+    packet.kind = PacketKind::Start;
     if packet.allowance > 1 << 62 || !has_room(code, 0, packet) {
         return false;
     }
@@ -257,9 +250,7 @@ type Copies = [(i32, bool); 3];
 /// A packet's kind, its copies and its units.
 type Row = (PacketKind, Copies, u64);
 
-fn packet_of(alloc: Global, row: &Row) -> Result<Packet, OutOfMemory>
-    ensures { IfOk result (λ p. p.kind ≡ row.now.0) }
-{
+fn packet_of(alloc: Global, row: &Row) -> Result<Packet, OutOfMemory> {
     let (kind, copies, units) = *row;
     let mut packet = Packet::new(alloc, 0, 3)?;
     packet.kind = kind;
@@ -347,66 +338,100 @@ const JOINS: [([Row; 3], Row); 5] = [
     ([ENDED_LATE, ENDED_LATE, ENDED_LATE], OVER),
 ];
 
-/// A job is started, the three branches of its fork answer by the rows, and the thread goes on to its own
-/// reply.
+/// A job is started, the three branches of its fork answer so, and the thread goes on to its own reply.
+fn joins(
+    thread: &mut Thread,
+    code: &Code,
+    packet: &mut Packet,
+    answers: (&Packet, &Packet, &Packet),
+) -> Option<Row>
+    requires loaded { Loaded (plain_code code.now) thread.old }
+    requires resting { IsResting thread.old }
+    requires root { thread.old.number ≡ 0 }
+{
+    if !begins(thread, code, packet) || !comes_to_fork(thread, code) {
+        return None;
+    }
+    let (a, b, c) = answers;
+    if !play(thread, code, a, b, c) || replies(thread, code, packet).is_none() {
+        return None;
+    }
+    Some(row_of(packet))
+}
+
 fn joined(alloc: Global, code: &Code, rows: &[Row; 3]) -> Result<Option<Row>, OutOfMemory> {
-    let mut thread = first_thread(alloc, code)?;
     let mut packet = packet_of(alloc, &START)?;
     let a = packet_of(alloc, &rows[0])?;
     let b = packet_of(alloc, &rows[1])?;
     let c = packet_of(alloc, &rows[2])?;
-    if !begins(&mut thread, code, &packet) || !comes_to_fork(&mut thread, code) {
-        return Ok(None);
+    let mut thread = first_thread(alloc, code)?;
+    Ok(joins(&mut thread, code, &mut packet, (&a, &b, &c)))
+}
+
+fn joins_so(alloc: Global, code: &Code) -> Result<bool, OutOfMemory> {
+    for (rows, reply) in &JOINS {
+        if joined(alloc, code, rows)? != Some(*reply) {
+            return Ok(false);
+        }
     }
-    if !play(&mut thread, code, &a, &b, &c) {
-        return Ok(None);
-    }
-    if replies(&mut thread, code, &mut packet).is_none() {
-        return Ok(None);
-    }
-    Ok(Some(row_of(&packet)))
+    Ok(true)
 }
 
 #[test]
 fn joins_three_branches(rt: HostRuntime) -> Result<(), Fail> {
     let code = compiled(rt.alloc(), FORKS)?;
-    for (rows, reply) in &JOINS {
-        assert_eq!(rt; joined(rt.alloc(), &code, rows)?, Some(*reply));
-    }
+    assert!(rt; joins_so(rt.alloc(), &code)?);
     Ok(())
 }
 
-/// The branches get their jobs; those that live after a pause are woken in the next job.
-#[test]
-fn asks_and_wakes(rt: HostRuntime) -> Result<(), Fail> {
-    let code = compiled(rt.alloc(), FORKS)?;
-    let mut thread = first_thread(rt.alloc(), &code)?;
-    let mut packet = packet_of(rt.alloc(), &START)?;
-    let mut job = packet_of(rt.alloc(), &START)?;
-    let ends = packet_of(rt.alloc(), &TEN)?;
-    let held = packet_of(rt.alloc(), &PAUSED)?;
-    if !begins(&mut thread, &code, &packet) || !comes_to_fork(&mut thread, &code) {
-        panic!(rt; "no fork");
+const WOKEN: Row = (PacketKind::Wake, [(0, false), (0, false), (7, false)], 0);
+
+/// The three branches get their jobs, and the second pauses; in the next job it alone is woken, and ends.
+fn asks_and_wakes(
+    thread: &mut Thread,
+    code: &Code,
+    packet: &mut Packet,
+    job: &mut Packet,
+    ends: &Packet,
+    held: &Packet,
+) -> bool
+    requires loaded { Loaded (plain_code code.now) thread.old }
+    requires resting { IsResting thread.old }
+    requires root { thread.old.number ≡ 0 }
+{
+    if !begins(thread, code, packet) || !comes_to_fork(thread, code) {
+        return false;
     }
     for k in 0..3 {
-        let asked = ask(&thread, &code, k, &mut job);
-        assert_eq!(rt; asked, Some((k as u32 + 1, START, 99)));
+        if ask(thread, code, k, job) != Some((k as u32 + 1, START, 99)) {
+            return false;
+        }
     }
-    if !play(&mut thread, &code, &ends, &held, &ends) || !pauses(&mut thread, &code, &mut packet) {
-        panic!(rt; "no pause");
+    if !play(thread, code, ends, held, ends) || !pauses(thread, code, packet) {
+        return false;
     }
-    wakes(&mut thread, &code, &mut packet);
-    if !comes_to_fork(&mut thread, &code) {
-        panic!(rt; "no held fork");
+    wakes(thread, code, packet, 50);
+    if !comes_to_fork(thread, code) || ask(thread, code, 0, job) != Some((2, WOKEN, 50)) {
+        return false;
     }
-    let woken = (PacketKind::Wake, [(0, false), (0, false), (7, false)], 0);
-    let asked = ask(&thread, &code, 0, &mut job);
-    assert_eq!(rt; asked, Some((2, woken, 50)));
-    assert!(rt; ask(&thread, &code, 1, &mut job).is_none());
-    if !play_one(&mut thread, &code, &ends) {
-        panic!(rt; "no reply");
+    if ask(thread, code, 1, job).is_some() || !play_one(thread, code, ends) {
+        return false;
     }
-    let event = replies(&mut thread, &code, &mut packet);
-    assert_eq!(rt; event, Some(Event::Ended));
+    replies(thread, code, packet) == Some(Event::Ended)
+}
+
+fn asks_so(alloc: Global, code: &Code) -> Result<bool, OutOfMemory> {
+    let mut packet = packet_of(alloc, &START)?;
+    let mut job = packet_of(alloc, &START)?;
+    let ends = packet_of(alloc, &TEN)?;
+    let held = packet_of(alloc, &PAUSED)?;
+    let mut thread = first_thread(alloc, code)?;
+    Ok(asks_and_wakes(&mut thread, code, &mut packet, &mut job, &ends, &held))
+}
+
+#[test]
+fn asks_branches_and_wakes_one(rt: HostRuntime) -> Result<(), Fail> {
+    let code = compiled(rt.alloc(), FORKS)?;
+    assert!(rt; asks_so(rt.alloc(), &code)?);
     Ok(())
 }

@@ -1,5 +1,5 @@
-//! Tests of the layers below a whole run: lists of places, mailboxes, packets, codes, one thread's machine, and the
-//! host of a program's threads.
+//! Tests of the layers below a whole run: lists of places, mailboxes, copies that are combined, one thread's machine,
+//! and the host of a program's threads.
 #![tactic(auto)]
 
 #[cfg(test)]

@@ -4,7 +4,7 @@ use Rattle.forec_tree.specs.Plain as tree
 use Rattle.forec_tree.specs.SpelledPrograms.{IsSpelled}
 use Rattle.forec_parser.specs.Input.{max_level}
 use Rattle.forec_check.proofs.NamesBelow.{names_below}
-use Rattle.core_rows.proofs.compiled.compiled.Goals as goal
+use Rattle.core_rows.proofs.compiled.kernel.Goals as goal
 
 pub check-requires-clause-below : goal.check-requires-clause-below
 check-requires-clause-below c =
