@@ -1,6 +1,6 @@
 use Rattle.std.proofs.Common.{◌≡◌, ◌≤◌, ◌<◌, ◌+◌, ◌^◌, All, drop, length, sum}
 use Rattle.core_alloc.specs.Balance.{total, placed_all, balance_of}
-use Rattle.core_alloc.proofs.balance.places_of.Given as goal
+use Rattle.core_alloc.proofs.balanced.places_of.Given as goal
 
 abbrev pub invariant-loop-thread : goal.invariant-loop-thread
 invariant-loop-thread l =

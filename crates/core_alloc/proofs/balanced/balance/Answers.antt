@@ -2,7 +2,7 @@ use Rattle.std.proofs.Common.{◌≡◌, ◌∙◌, ap, length, rules, arith}
 use Rattle.core_alloc.specs.Places.{Places}
 use Rattle.core_alloc.specs.Balance.{IsHeaviestFirst}
 use Rattle.core_alloc.proofs.Balancing.{order_length, order_total, order_low, stays_even}
-use Rattle.core_alloc.proofs.balance.balance.Goals as goal
+use Rattle.core_alloc.proofs.balanced.balance.Goals as goal
 
 pub returns-in_err-order-clause-even : goal.returns-in_err-order-clause-even
 returns-in_err-order-clause-even c = λ order h. stays_even c.args.weights.now order c.args.cores (omega (arith, c.requires.some)) h

@@ -1,6 +1,6 @@
 use Rattle.std.proofs.Common.{◌≡◌, ◌++◌, drop}
 use Rattle.core_alloc.specs.Balance.{ranked_from}
-use Rattle.core_alloc.proofs.balance.by_number.Given as goal
+use Rattle.core_alloc.proofs.balanced.by_number.Given as goal
 
 abbrev pub invariant-loop-weight : goal.invariant-loop-weight
 invariant-loop-weight l =
