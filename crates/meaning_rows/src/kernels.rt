@@ -47,7 +47,7 @@ fn is_thread(thread: &ThreadShape, counts: Counts, uses: &[u32], name: Option<&[
 fn are_threads(threads: &[ThreadShape]) -> bool {
     match threads {
         [main, work, block] => {
-            is_thread(main, (None, None, 0, 0), &[0, 1], None)
+            is_thread(main, (None, None, 0, 0), &[0, 1], Some(b"main"))
                 && is_thread(work, (Some(0), Some(0), 1, 2), &[1], Some(b"work"))
                 && is_thread(block, (Some(0), Some(0), 0, 0), &[0, 1], None)
         }
