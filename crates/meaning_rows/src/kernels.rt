@@ -4,7 +4,9 @@ ghost use Rattle.std.specs.Prelude.{◌≤◌, length};
 
 use forec_base::Policy;
 use forec_check::check;
-use forec_kernel::{Expression, FunctionShape, Kernel, Spot, Statement, ThreadShape, Variable};
+use forec_kernel::{
+    Expression, FunctionShape, Kernel, Shape, Spot, Statement, ThreadShape, Variable,
+};
 use forec_lexer::lex;
 use forec_parser::parse;
 use kernel_lower::{LowerFault, lower};
@@ -13,13 +15,16 @@ use std::test::Fail;
 use text_kernel::Quantity;
 
 /// The kernel of a text that breaks no rule, or the limit that it passes first.
-pub fn lowered(alloc: Global, text: &[u8]) -> Result<Result<Kernel, LowerFault>, Fail>
+pub fn lowered(alloc: Global, text: &[u8]) -> Result<Result<Box<Kernel>, LowerFault>, Fail>
     requires { length text.now ≤ 1048576 }
 {
     let lexed = lex(alloc, text)?;
     let program = parse(alloc, &lexed.tokens)?;
     let checked = check(alloc, program, &lexed.names)?;
-    Ok(lower(alloc, &checked, checked.names()))
+    match lower(alloc, &checked, checked.names()) {
+        Ok(kernel) => Ok(Ok(Box::new(alloc, kernel)?)),
+        Err(fault) => Ok(Err(fault)),
+    }
 }
 
 const WORK: &[u8] = b"const int t[3] = { 4, 5 };
@@ -31,8 +36,58 @@ void main(void) { par(work(i), { s = t[i]; }); }
 ";
 
 /// A thread's parent, its `par`, how many of its words are parameters, and its words.
-fn counts(thread: &ThreadShape) -> (Option<u32>, Option<u32>, u32, u32) {
-    (thread.parent, thread.par, thread.params, thread.words)
+type Counts = (Option<u32>, Option<u32>, u32, u32);
+
+fn is_thread(thread: &ThreadShape, counts: Counts, uses: &[u32], name: Option<&[u8]>) -> bool {
+    (thread.parent, thread.par, thread.params, thread.words) == counts
+        && thread.uses.as_slice() == uses
+        && thread.name.as_deref() == name
+}
+
+fn are_threads(threads: &[ThreadShape]) -> bool {
+    match threads {
+        [main, work, block] => {
+            is_thread(main, (None, None, 0, 0), &[0, 1], Some(b"main"))
+                && is_thread(work, (Some(0), Some(0), 1, 2), &[1], Some(b"work"))
+                && is_thread(block, (Some(0), Some(0), 0, 0), &[0, 1], None)
+        }
+        _ => false,
+    }
+}
+
+const VARIABLES: [Variable; 2] = [
+    Variable {
+        policy: Policy::Mod,
+        combine: None,
+        start: 0,
+        input: true,
+    },
+    Variable {
+        policy: Policy::New,
+        combine: Some(0),
+        start: 2,
+        input: false,
+    },
+];
+
+const PLUS: FunctionShape = FunctionShape {
+    params: 2,
+    words: 2,
+};
+
+fn is_shape(shape: &Shape) -> bool {
+    are_threads(&shape.threads)
+        && shape.variables.as_slice() == VARIABLES.as_slice()
+        && shape.functions.as_slice() == [PLUS].as_slice()
+        && shape.inputs.as_slice() == [0].as_slice()
+        && shape.outputs.as_slice() == [1].as_slice()
+}
+
+fn is_table(tables: &[Vec<i32>]) -> bool {
+    match tables {
+        [table] => table.as_slice() == [4, 5, 0].as_slice(),
+        _ => false,
+    }
 }
 
 /// Whether the body is that of `work`.
@@ -56,55 +111,41 @@ fn is_work(body: &Statement) -> bool {
     }
 }
 
-#[test]
-fn a_kernel(rt: HostRuntime) -> Result<(), Fail> {
-    let kernel = lowered(rt.alloc(), WORK)??;
+fn is_kernel(kernel: &Kernel) -> bool {
     let shape = kernel.shape();
-    assert_eq!(rt; shape.threads.len(), 3);
-    assert_eq!(rt; counts(&shape.threads[0]), (None, None, 0, 0));
-    assert_eq!(rt; counts(&shape.threads[1]), (Some(0), Some(0), 1, 2));
-    assert_eq!(rt; counts(&shape.threads[2]), (Some(0), Some(0), 0, 0));
-    assert_eq!(rt; shape.threads[0].uses.as_slice(), [0, 1].as_slice());
-    assert_eq!(rt; shape.threads[1].uses.as_slice(), [1].as_slice());
-    assert_eq!(rt; shape.threads[2].uses.as_slice(), [0, 1].as_slice());
-    assert_eq!(rt; shape.threads[1].name.as_deref(), Some(b"work".as_slice()));
-    assert_eq!(rt; shape.threads[2].name.as_deref(), None);
-    let input = Variable {
-        policy: Policy::Mod,
-        combine: None,
-        start: 0,
-        input: true,
-    };
-    let output = Variable {
-        policy: Policy::New,
-        combine: Some(0),
-        start: 2,
-        input: false,
-    };
-    assert_eq!(rt; shape.variables.as_slice(), [input, output].as_slice());
-    let plus = FunctionShape {
-        params: 2,
-        words: 2,
-    };
-    assert_eq!(rt; shape.functions.as_slice(), [plus].as_slice());
-    assert_eq!(rt; shape.tables.len(), 1);
-    assert_eq!(rt; shape.tables[0].as_slice(), [4, 5, 0].as_slice());
-    assert_eq!(rt; shape.inputs.as_slice(), [0].as_slice());
-    assert_eq!(rt; shape.outputs.as_slice(), [1].as_slice());
-    assert_eq!(rt; (shape.names.get(0), shape.names.get(1)), ("i", "s"));
-    assert!(rt; is_work(&kernel.parts().threads[1]));
-    Ok(())
+    is_shape(shape)
+        && is_table(&shape.tables)
+        && shape.names.len() == 2
+        && (shape.names.get(0), shape.names.get(1)) == ("i", "s")
+        && kernel.parts().threads.get(1).is_some_and(is_work)
 }
 
 #[test]
+fn a_kernel(rt: HostRuntime) -> Result<(), Fail> {
+    let kernel = lowered(rt.alloc(), WORK)??;
+    assert!(rt; is_kernel(&kernel));
+    Ok(())
+}
+
+/// The limit that a text passes first, if it passes one.
+fn fault_of(alloc: Global, text: &[u8]) -> Result<Option<LowerFault>, Fail>
+    requires { length text.now ≤ 1048576 }
+{
+    Ok(lowered(alloc, text)?.err())
+}
+
+const MOST: &[u8] = b"void main(void) { int a[40000], b[25536]; }";
+
+const MORE: &[u8] = b"void main(void) { int a[40000], b[25536]; int c; }";
+
+const WORDS: LowerFault = LowerFault::Limit {
+    what: Quantity::Words,
+    count: 65536,
+};
+
+#[test]
 fn a_limit(rt: HostRuntime) -> Result<(), Fail> {
-    let most = b"void main(void) { int a[40000], b[25536]; }";
-    assert!(rt; lowered(rt.alloc(), most)?.is_ok());
-    let more = b"void main(void) { int a[40000], b[25536]; int c; }";
-    let fault = LowerFault::Limit {
-        what: Quantity::Words,
-        count: 65536,
-    };
-    assert_eq!(rt; lowered(rt.alloc(), more)?.err(), Some(fault));
+    assert!(rt; fault_of(rt.alloc(), MOST)?.is_none());
+    assert!(rt; fault_of(rt.alloc(), MORE)? == Some(WORDS));
     Ok(())
 }

@@ -1,7 +1,5 @@
 // Worked programs, tick by tick.
 
-ghost use Rattle.std.specs.Prelude.{◌≤◌, length};
-
 use crate::kernels::lowered;
 use forec_base::OutOfMemory;
 use forec_kernel::{Kernel, Outcome};
@@ -9,77 +7,24 @@ use kernel_meaning::{State, rewrite_tick};
 use std::alloc::Global;
 use std::test::Fail;
 
-// The outcome and the output of each tick, one for each value of the input; other than paused ends it.
-fn ticks(
-    alloc: Global,
-    kernel: &Kernel,
-    inputs: &[i32],
-    order: &[u32],
+/// One tick: the value of the input, how the tick ends, and the output then. Before each tick the output has the value 7.
+type Tick = (i32, Outcome, i32);
+
+/// A program with at most one input and with one output, the budget of each of its ticks, and the ticks.
+struct Run {
+    text: &'static [u8],
     budget: u64,
-) -> Result<Vec<(Outcome, i32)>, OutOfMemory> {
-    let mut seen = Vec::new(alloc);
-    let mut state = State::first(alloc, kernel)?;
-    for input in inputs {
-        let row = [*input];
-        let mut outputs = vec![in alloc; 0; kernel.shape().outputs.len()]?;
-        let (outcome, next) = rewrite_tick(
-            alloc,
-            kernel,
-            &state,
-            &row,
-            order,
-            budget,
-            &mut outputs,
-        )?;
-        seen.push((outcome, outputs.first().copied().unwrap_or(0)))?;
-        if outcome != Outcome::Paused {
-            return Ok(seen);
-        }
-        state = next;
-    }
-    Ok(seen)
+    ticks: &'static [Tick],
 }
 
+/// A tick of 7 units.
 const COUNTING: &[u8] = b"output int o = 0; void main(void) { while (1) { o = o + 1; pause; } }";
 
-#[test]
-fn a_tick_of_seven_units(rt: HostRuntime) -> Result<(), Fail> {
-    let alloc = rt.alloc();
-    let kernel = lowered(alloc, COUNTING)??;
-    let seven = ticks(alloc, &kernel, &[0, 0], &[], 7)?;
-    assert_eq!(rt;
-        seven.as_slice(),
-        [(Outcome::Paused, 1), (Outcome::Paused, 2)].as_slice()
-    );
-    let six = ticks(alloc, &kernel, &[0], &[], 6)?;
-    assert_eq!(rt; six.as_slice(), [(Outcome::Over, 0)].as_slice());
-    Ok(())
-}
-
-// 3 units, then 9.
+/// 3 units, then 9.
 const STEPS: &[u8] =
     b"output int o = 0; void main(void) { o = 1; pause; o = o + 1; o = o + 1; pause; }";
 
-#[test]
-fn ticks_of_three_and_of_nine_units(rt: HostRuntime) -> Result<(), Fail> {
-    let alloc = rt.alloc();
-    let kernel = lowered(alloc, STEPS)??;
-    let nine = ticks(alloc, &kernel, &[0, 0], &[], 9)?;
-    assert_eq!(rt;
-        nine.as_slice(),
-        [(Outcome::Paused, 1), (Outcome::Paused, 3)].as_slice()
-    );
-    let eight = ticks(alloc, &kernel, &[0, 0], &[], 8)?;
-    assert_eq!(rt;
-        eight.as_slice(),
-        [(Outcome::Paused, 1), (Outcome::Over, 0)].as_slice()
-    );
-    let two = ticks(alloc, &kernel, &[0], &[], 2)?;
-    assert_eq!(rt; two.as_slice(), [(Outcome::Over, 0)].as_slice());
-    Ok(())
-}
-
-// Two branches that add 1 and 2 and pause, combined by a sum.
+/// Two branches that add 1 and 2 and pause, combined by a sum.
 const ALL: &[u8] = b"shared output int s = 1 combine all with plus;
 int plus(int x, int y) { return x + y; }
 void main(void) { par({ s = s + 1; pause; }, { s = s + 2; pause; }); }
@@ -95,22 +40,7 @@ int plus(int x, int y) { return x + y; }
 void main(void) { par({ s = s + 1; pause; }, { s = s + 2; pause; }); }
 ";
 
-#[test]
-fn copies_are_combined_by_their_policy(rt: HostRuntime) -> Result<(), Fail> {
-    let alloc = rt.alloc();
-    for (text, second) in [(ALL, 10), (MOD, 5), (NEW, 5)] {
-        assert!(rt; text.len() <= 1000);
-        let kernel = lowered(alloc, text)??;
-        let wanted = [(Outcome::Paused, 5), (Outcome::Ended, second)];
-        let first = ticks(alloc, &kernel, &[0, 0, 0], &[], 100)?;
-        assert_eq!(rt; first.as_slice(), wanted.as_slice());
-        let other = ticks(alloc, &kernel, &[0, 0, 0], &[1, 0, 1, 3, 2], 100)?;
-        assert_eq!(rt; other.as_slice(), wanted.as_slice());
-    }
-    Ok(())
-}
-
-// An abort round a loop that counts, by an input.
+/// An abort round a loop that counts, by an input.
 const STRONG: &[u8] = b"input int r; output int o = 0;
 void main(void) { while (1) { abort { while (1) { o = o + 1; pause; } } when (r); o = o + 100; pause; } }
 ";
@@ -119,18 +49,112 @@ const WEAK: &[u8] = b"input int r; output int o = 0;
 void main(void) { while (1) { weak abort { while (1) { o = o + 1; pause; } } when (r); o = o + 100; pause; } }
 ";
 
-#[test]
-fn a_strong_and_a_weak_abort(rt: HostRuntime) -> Result<(), Fail> {
-    let alloc = rt.alloc();
-    for (text, outputs) in [(STRONG, [1, 2, 102, 103]), (WEAK, [1, 2, 103, 104])] {
-        assert!(rt; text.len() <= 1000);
-        let kernel = lowered(alloc, text)??;
-        let seen = ticks(alloc, &kernel, &[0, 0, 1, 0], &[], 100)?;
-        let mut wanted = Vec::new(alloc);
-        for output in outputs {
-            wanted.push((Outcome::Paused, output))?;
+const RUNS: [Run; 10] = [
+    Run {
+        text: COUNTING,
+        budget: 7,
+        ticks: &[(0, Outcome::Paused, 1), (0, Outcome::Paused, 2)],
+    },
+    Run {
+        text: COUNTING,
+        budget: 6,
+        ticks: &[(0, Outcome::Over, 7)],
+    },
+    Run {
+        text: STEPS,
+        budget: 9,
+        ticks: &[(0, Outcome::Paused, 1), (0, Outcome::Paused, 3)],
+    },
+    Run {
+        text: STEPS,
+        budget: 8,
+        ticks: &[(0, Outcome::Paused, 1), (0, Outcome::Over, 7)],
+    },
+    Run {
+        text: STEPS,
+        budget: 2,
+        ticks: &[(0, Outcome::Over, 7)],
+    },
+    Run {
+        text: ALL,
+        budget: 100,
+        ticks: &[(0, Outcome::Paused, 5), (0, Outcome::Ended, 10)],
+    },
+    Run {
+        text: MOD,
+        budget: 100,
+        ticks: &[(0, Outcome::Paused, 5), (0, Outcome::Ended, 5)],
+    },
+    Run {
+        text: NEW,
+        budget: 100,
+        ticks: &[(0, Outcome::Paused, 5), (0, Outcome::Ended, 5)],
+    },
+    Run {
+        text: STRONG,
+        budget: 100,
+        ticks: &[
+            (0, Outcome::Paused, 1),
+            (0, Outcome::Paused, 2),
+            (1, Outcome::Paused, 102),
+            (0, Outcome::Paused, 103),
+        ],
+    },
+    Run {
+        text: WEAK,
+        budget: 100,
+        ticks: &[
+            (0, Outcome::Paused, 1),
+            (0, Outcome::Paused, 2),
+            (1, Outcome::Paused, 103),
+            (0, Outcome::Paused, 104),
+        ],
+    },
+];
+
+/// The next tick by rewriting: how it ends, the output, and the state after it.
+fn next_tick(
+    alloc: Global,
+    kernel: &Kernel,
+    state: &State,
+    input: i32,
+    order: &[u32],
+    budget: u64,
+) -> Result<(Outcome, i32, Box<State>), OutOfMemory> {
+    if kernel.shape().outputs.len() != 1 {
+        return Err(OutOfMemory);
+    }
+    let row = [input];
+    let mut outputs = [7];
+    let (outcome, next) = rewrite_tick(alloc, kernel, state, &row, order, budget, &mut outputs)?;
+    Ok((outcome, outputs[0], Box::new(alloc, next)?))
+}
+
+/// Runs ticks, whose steps are taken in that order, as long as they go as told: whether all of them did.
+fn goes_so(alloc: Global, kernel: &Kernel, run: &Run, order: &[u32]) -> Result<bool, OutOfMemory> {
+    let mut state = Box::new(alloc, State::first(alloc, kernel)?)?;
+    for (input, ends, output) in run.ticks {
+        let (outcome, found, next) = next_tick(alloc, kernel, &state, *input, order, run.budget)?;
+        if outcome != *ends || found != *output {
+            return Ok(false);
         }
-        assert_eq!(rt; seen.as_slice(), wanted.as_slice());
+        state = next;
+    }
+    Ok(true)
+}
+
+fn goes_as_told(alloc: Global, run: &Run) -> Result<bool, Fail> {
+    if run.text.len() > 1000 {
+        return Ok(false);
+    }
+    let kernel = lowered(alloc, run.text)??;
+    Ok(goes_so(alloc, &kernel, run, &[])? && goes_so(alloc, &kernel, run, &[1, 0, 1, 3, 2])?)
+}
+
+#[test]
+fn ticks_in_two_orders(rt: HostRuntime) -> Result<(), Fail> {
+    for run in &RUNS {
+        assert!(rt; goes_as_told(rt.alloc(), run)?);
     }
     Ok(())
 }
