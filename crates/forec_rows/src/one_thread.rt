@@ -1,7 +1,8 @@
 // Programs of one thread, the words, the sizes, and how it ends where streams fail.
 
 use crate::memory::{Row, counts, prints_each, run, shows, single, whole};
-use forec_engine::Status;
+use forec_base::{MemSink, OpenGate, SureSource, SureTexts};
+use forec_engine::{Status, forec};
 use std::test::Fail;
 
 // One output, which a loop raises in each tick.
@@ -298,6 +299,49 @@ fn failing_streams(rt: HostRuntime) -> Result<(), Fail> {
         let front = (&REPORT[..written], Status::WriteFault);
         shows(&rt, alloc, &words, COUNTER, b"\n\n\n", streams, front)?;
     }
+    Ok(())
+}
+
+/// A text, the word of its budget, what is held in the end, and the status: the first row is the last.
+const LAST: [(&[u8], &str, &[u8], Status); 3] = [
+    (WRAPS, "100", b"tick 1 o=-2147483648\nend 1\n", Status::Done),
+    (TURNS, "100", b"trap 1 1:48 turns\n", Status::Trapped),
+    (COUNTER, "6", b"over 1 budget 6\n", Status::Over),
+];
+
+// No byte is asked for behind the row in which a run ends: the third read would fail.
+#[test]
+fn reads_no_further(rt: HostRuntime) -> Result<(), Fail> {
+    let alloc = rt.alloc();
+    for (text, budget, want, status) in &LAST {
+        let words = ["run", "P", "--budget", budget];
+        let streams = single(alloc, 3, 0)?;
+        shows(
+            &rt,
+            alloc,
+            &words,
+            text,
+            b"\n\n\n",
+            streams,
+            (want, *status),
+        )?;
+    }
+    Ok(())
+}
+
+// Stores that never fail.
+#[test]
+fn sure_stores(rt: HostRuntime) -> Result<(), Fail> {
+    let alloc = rt.alloc();
+    let mut words = Vec::new(alloc);
+    words.push(String::from_str(alloc, "run")?)?;
+    words.push(String::from_str(alloc, "any name")?)?;
+    let mut texts = SureTexts::new(WRAPS.to_vec(alloc)?);
+    let mut trace = SureSource::new(b"\n\n".to_vec(alloc)?);
+    let mut out = MemSink::new(alloc, 100, Vec::new(alloc))?;
+    let status = forec(alloc, &words, &mut texts, &mut trace, &mut out, &OpenGate);
+    let report = b"tick 1 o=-2147483648\nend 1\n".as_slice();
+    assert_eq!(rt; (out.bytes(), status), (report, Status::Done));
     Ok(())
 }
 

@@ -9,6 +9,7 @@ use Rattle.trace_rows.specs.Calls.{IfTold}
 use Rattle.trace_rows.specs.Lines.{is_newline, lines_of}
 use Rattle.trace_rows.specs.Words.{words_of}
 use Rattle.trace_rows.specs.Reader.{Reader, Came, NextSays, NextTakes, first_line}
+use Rattle.trace_rows.specs.Reads.{TakesRow}
 use Rattle.trace_rows.specs.Steps.{FindsNext}
 use Rattle.trace_rows.specs.Trace.{Row, most_bytes, numbers_in, arranged, row_at}
 use Rattle.trace_rows.proofs.Told.{told_of, told_map, end_told, long_told, LongLine, some_told, SomeLine, LineOf, line_told, takes_first}
@@ -59,6 +60,15 @@ row_takes old new row values line bytes ended a b came finds e rest same good is
   row_is old row values line bytes ended finds e good is,
   takes_first line old.held new.held bytes new.ended a b came finds.2 (λ f. finds.3 (sym same ∙ f)) e rest,
 )
+
+pub row_took : (old new : Reader) (row : Row) (values : List ℤ) (line bytes : List ℕ) (ended : Bool) → FindsNext old.limit old.given bytes ended (Ok next.Row) →
+    line ≡ first_line bytes → new.held ≡ after_first is_newline bytes → new.ended ≡ ended →
+    numbers_in (length old.places) (words_of line) ≡ Some values → row ≡ arranged old.places values → TakesRow old new row bytes
+row_took old new row values line bytes ended finds e rest same good is =
+    record {
+      row_is = subst (λ (l : List ℕ). row_at old.limit old.places (old.given + 1) l ≡ Ok row) e (row_is old row values line bytes ended finds e good is);
+      takes = record { rest = rest; whole = λ f. finds.3 (sym same ∙ f) };
+    }
 
 pub row_says : (old : Reader) (row : Row) (values : List ℤ) (line bytes held : List ℕ) (ended was live : Bool) (a b : Option (List ℕ)) → Came old.held bytes a b → FindsNext old.limit old.given bytes was (Ok next.Row) → (was ≡ true → IsAtEnd b) →
     line ≡ first_line bytes → held ≡ after_first is_newline bytes →

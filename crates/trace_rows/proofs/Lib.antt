@@ -1,6 +1,7 @@
 mod Digits
 mod Splitting
 mod Following
+mod Gathering
 mod HeaderWords
 mod Heads
 mod LineNumbers

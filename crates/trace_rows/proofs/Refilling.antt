@@ -23,10 +23,6 @@ consumes_both (Some s) None c x y h k = absurd h
 consumes_both (Some s) (Some t) None x y h k = k
 consumes_both (Some s) (Some t) (Some u) x y h k = h ∙ ap (λ r. x ++ r) k ∙ sym (append_assoc x y u)
 
--- nothing came
-pub came_none : (w w' : List ℕ) (a b : Option (List ℕ)) → w' ≡ w → Keeps a b → Came w w' a b
-came_none w w' a b e k = record { bytes = []; held = e ∙ sym (append-nil w); source = consumes_nothing a b k }
-
 pub came_start : (w : List ℕ) (a : Option (List ℕ)) → Came w w a a
 came_start w a = record { bytes = []; held = sym (append-nil w); source = consumes_refl a }
 

@@ -2,6 +2,7 @@
 use Rattle.std.proofs.Common.{◌≡◌, ℕ, ◌+◌, ◌<◌, ◌==◌, Bool, true, false, cond, nat_lt, List, [], ◌∷◌, ◌++◌, Option, Some, Result, Ok, Err, length, count_by, get_or, refl, sym, ap, subst, ◌∙◌, arith, eqb-true}
 use Rattle.std.specs.List.{position_or_len, All, list_all}
 use Rattle.std.specs.Io.KnownBytes.{Consumes, IsAtEnd}
+use Rattle.std.specs.Result.{IsErr}
 use Rattle.std.specs.Str.{bytes_eq}
 use Rattle.std.proofs.lemmas.Bool.{and_parts}
 use Rattle.std.proofs.lemmas.List.{length-map, get_or-map}
@@ -13,6 +14,7 @@ use Rattle.trace_rows.specs.Calls.{IfTold}
 use Rattle.trace_rows.specs.Lines.{lines_of}
 use Rattle.trace_rows.specs.Words.{words_of}
 use Rattle.trace_rows.specs.Reader.{Reader, Takes, StartSays}
+use Rattle.trace_rows.specs.Reads.{StartTook}
 use Rattle.trace_rows.specs.Steps.{TakesHeader, NoHeader}
 use Rattle.trace_rows.specs.Trace.{most_bytes, names_each, places_of, header_at, rows_of_lines, rows_from, stop, trace_of}
 use Rattle.trace_rows.proofs.Told.{told_of, told_map, LineOf, line_told}
@@ -77,6 +79,10 @@ err_says inputs limit places w w' was is fault.Long a b none h = no_header_says 
 err_says inputs limit places w w' was is fault.Many a b none h = absurd h
 err_says inputs limit places w w' was is fault.ReadFault a b none h = told_none a b h.came.bytes h.came.source
 err_says inputs limit places w w' was is fault.OutOfMemory a b none h = absurd h
+
+pub took_none : (inputs : List (List ℕ)) (r : Result Reader RowFault) (bytes : List ℕ) → IsErr r → StartTook inputs r bytes
+took_none inputs (Ok r) bytes h = absurd cc
+took_none inputs (Err f) bytes h = tt
 
 pub ok_says : (inputs : List (List ℕ)) (limit : ℕ) (header w : List ℕ) (r : Reader) (a b : Option (List ℕ)) → w ≡ [] → header_at inputs header ≡ Ok r.places → Takes header w r.held r.ended a b →
     (r.ended ≡ true → IsAtEnd b) → r.limit ≡ limit → r.given ≡ 0 → IfTold a b (StartSays inputs limit (Ok r))

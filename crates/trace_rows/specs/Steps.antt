@@ -7,6 +7,7 @@ use Rattle.trace_rows.specs.declared.fault.RowFault.TheVariants as fault
 use Rattle.trace_rows.specs.Calls.{IfTold}
 use Rattle.trace_rows.specs.Lines.{lines_of}
 use Rattle.trace_rows.specs.Reader.{HasLine, Takes, Waits, first_line}
+use Rattle.trace_rows.specs.Reads.{TakesHead}
 use Rattle.trace_rows.specs.Trace.{most_bytes, header_at, rows_of_lines, stop}
 
 -- these lines have no header, whatever the most rows
@@ -21,6 +22,11 @@ TakesHeader inputs places held_old held_new was is left_old left_new (Err fault.
 TakesHeader inputs places held_old held_new was is left_old left_new (Err fault.OutOfMemory) = ⊥
 TakesHeader inputs places held_old held_new was is left_old left_new (Err fault.Many) = ⊥
 TakesHeader inputs places held_old held_new was is left_old left_new (Err f) = IfTold left_old left_new (λ x y. NoHeader inputs f (lines_of (held_old ++ x)))
+
+-- the header, of the bytes that were held and came
+abbrev pub HeaderTook : List (List ℕ) → List ℕ → List ℕ → Bool → Result (Unit {0}) RowFault → List ℕ → Type 0
+HeaderTook inputs places held ended (Ok u) bytes = TakesHead inputs places bytes held ended
+HeaderTook inputs places held ended (Err f) bytes = Unit {0}
 
 -- what a call says that looks for the line behind so many rows, of at most `limit`: it is there, or nothing more is, or what is in its place
 abbrev pub FindsNext : ℕ → ℕ → List ℕ → Bool → Result Next RowFault → Type 0

@@ -4,6 +4,7 @@ use Rattle.std.specs.Prelude.{ℕ, ◌+◌, Bool, ◌&&◌, ◌==◌, List, [], 
 use Rattle.std.specs.List.{list_all, position_or_len}
 use Rattle.std.specs.Option.{option_map, option_and_then}
 use Rattle.std.specs.Str.{bytes_eq}
+use Rattle.forec_base.specs.declared.limits.TheConstants.{MAX_LINE_BYTES}
 use Rattle.trace_rows.specs.declared.fault.RowFault.{RowFault}
 use Rattle.trace_rows.specs.declared.fault.RowFault.TheVariants as fault
 use Rattle.trace_rows.specs.Lines.{lines_of}
@@ -24,7 +25,7 @@ pub record Trace : Type 0 where
   pub end : End
 
 abbrev pub most_bytes : ℕ
-most_bytes = 8192
+most_bytes = MAX_LINE_BYTES
 
 -- ---- the header
 

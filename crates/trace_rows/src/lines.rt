@@ -1,22 +1,24 @@
 // Lines out of a source that gives its bytes in pieces of any size.
-ghost use Rattle.std.specs.Prelude.{◌≡◌, ◌≢◌, ◌+◌, ◌<◌, ◌≤◌, true, false, [], length, slice_range, IfOk, IsTrue, OnOk, OnErr, IfSome, IfNone, Ok, ◌↔◌, ◌⊎◌};
+ghost use Rattle.std.specs.Prelude.{◌≡◌, ◌≢◌, ◌+◌, ◌*◌, ◌<◌, ◌≤◌, ◌++◌, true, false, List, ℕ, [], length, slice_range, IfOk, IsTrue, OnOk, OnErr, IfSome, IfNone, Ok, ◌↔◌, ◌⊎◌};
 ghost use Rattle.std.specs.List.{position_or_len, after_first};
 ghost use Rattle.std.specs.Io.KnownBytes.{IsAtEnd};
 ghost use Rattle.forec_base.specs.Outside.{HasCause};
 ghost use Rattle.trace_rows.specs.Calls.{Faults};
 ghost use Rattle.trace_rows.specs.Lines.{is_newline};
 ghost use Rattle.trace_rows.specs.Reader.{first_line, HasLine, Came};
+ghost use Rattle.trace_rows.specs.Reads.{Gathers, IsRead};
+ghost use Rattle.trace_rows.specs.declared.lines.TheConstants.{ROOM};
 
 use crate::buffer::{fill, line_end, move_to_front};
 use crate::found::Found;
-use forec_base::{Failed, OutOfMemory, Source};
+use forec_base::{Failed, MAX_LINE_BYTES, OutOfMemory, Source};
 use std::alloc::Global;
 
-// The most bytes of a line.
-const MOST: usize = 8192;
+// The most bytes that are read at once.
+const PIECE: usize = 65536;
 
-// The bytes of the buffer: two lines, and a piece that is read at once.
-const ROOM: usize = 81920;
+// The bytes of the buffer: two lines and a piece.
+const ROOM: usize = 2 * MAX_LINE_BYTES + PIECE;
 
 /// A buffer of bytes of a source, of which those from `at` to `end` aren't taken yet. At `stop` stands the first
 /// byte 10 of these, or it is `end`. `ended` says that the source has told its end.
@@ -30,7 +32,7 @@ pub struct Lines {
     ghost ordered: { at ≤ stop },
     ghost within: { stop ≤ end },
     ghost fits: { end ≤ length bytes.items },
-    ghost room: { length bytes.items ≡ 81920 },
+    ghost room: { length bytes.items ≡ ROOM },
     ghost first: { stop ≡ at + position_or_len is_newline (slice_range bytes.items at end) },
 }
 
@@ -61,12 +63,12 @@ impl Lines {
 
     // Makes room for a piece behind what is held.
     fn make_room(&mut self)
-        requires short { length (held self.old) ≤ 8192 }
+        requires short { length (held self.old) ≤ MAX_LINE_BYTES }
         ensures held { held self.new ≡ held self.old }
         ensures ended { self.new.ended ≡ self.old.ended }
-        ensures room { self.new.end ≤ 16384 }
+        ensures room { self.new.end ≤ 2 * MAX_LINE_BYTES }
     {
-        if self.end > 2 * MOST {
+        if self.end > 2 * MAX_LINE_BYTES {
             let count = self.end - self.at;
             move_to_front(&mut self.bytes, self.at, count);
             self.stop -= self.at;
@@ -77,10 +79,10 @@ impl Lines {
 
     // Reads the next piece.
     fn refill<S: Source>(&mut self, source: &mut S) -> Result<(), Failed>
-        requires short { length (held self.old) ≤ 8192 }
+        requires short { length (held self.old) ≤ MAX_LINE_BYTES }
         requires none { HasLine (held self.old) → ⊥ }
         requires going { self.old.ended ≡ false }
-        ensures came { Came (held self.old) (held self.new) (S.left source.old) (S.left source.new) }
+        ensures read { (piece : List ℕ) × (held self.new ≡ held self.old ++ piece) × IsRead S.left S.faults S.down source.old source.new piece }
         ensures ok { OnOk result ((length (held self.old) < length (held self.new)) ⊎ (self.new.ended ≡ true)) }
         ensures err { OnErr result ((held self.new ≡ held self.old) × (self.new.ended ≡ false)) }
         ensures ended { self.new.ended ≡ true → IsAtEnd (S.left source.new) × (held self.new ≡ held self.old) }
@@ -102,7 +104,7 @@ impl Lines {
         ensures some { IfSome result (λ f. Finds (held self.now) self.now.ended (Ok f)) }
         ensures none { IfNone result ((HasLine (held self.now) → ⊥) × (self.now.ended ≡ false) × (length (held self.now) ≤ 8192)) }
     {
-        if self.stop - self.at > MOST {
+        if self.stop - self.at > MAX_LINE_BYTES {
             return Some(Found::Long);
         }
         if self.stop < self.end {
@@ -121,6 +123,7 @@ impl Lines {
     pub fn find<S: Source>(&mut self, source: &mut S) -> Result<Found, Failed>
         requires { self.old.ended ≡ true → IsAtEnd (S.left source.old) }
         ensures came { Came (held self.old) (held self.new) (S.left source.old) (S.left source.new) }
+        ensures reads { Gathers S.left S.faults S.down (held self.old) self.old.ended (held self.new) source.old source.new }
         ensures finds { Finds (held self.new) self.new.ended result }
         ensures ended { self.new.ended ≡ true → IsAtEnd (S.left source.new) }
         ensures stays { self.new.ended ≡ false → self.old.ended ≡ false }
@@ -142,6 +145,7 @@ impl Lines {
     pub fn begins<S: Source>(&mut self, source: &mut S) -> Result<bool, Failed>
         requires { self.old.ended ≡ true → IsAtEnd (S.left source.old) }
         ensures came { Came (held self.old) (held self.new) (S.left source.old) (S.left source.new) }
+        ensures reads { Gathers S.left S.faults S.down (held self.old) self.old.ended (held self.new) source.old source.new }
         ensures begins { Begins (held self.new) self.new.ended result }
         ensures ended { self.new.ended ≡ true → IsAtEnd (S.left source.new) }
         ensures stays { self.new.ended ≡ false → self.old.ended ≡ false }

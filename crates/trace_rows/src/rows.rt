@@ -1,9 +1,10 @@
 // The rows of a trace.
-ghost use Rattle.std.specs.Prelude.{◌≡◌, ◌≢◌, ◌≤◌, ◌↔◌, true, false, length, IfOk, IsTrue, Ok, Err};
+ghost use Rattle.std.specs.Prelude.{◌≡◌, ◌≢◌, ◌≤◌, ◌↔◌, true, false, [], length, IfOk, IsTrue, Ok, Err};
 ghost use Rattle.std.specs.Io.KnownBytes.{IsAtEnd};
 ghost use Rattle.forec_base.specs.Outside.{Fell};
 ghost use Rattle.trace_rows.specs.Calls.{IfTold};
 ghost use Rattle.trace_rows.specs.Reader.{HasLine, StartTakes, StartSays, NextTakes, NextSays, Goes};
+ghost use Rattle.trace_rows.specs.Reads.{Reading, StartTook, NextTook};
 
 use crate::fault::{Next, RowFault};
 use crate::lines::Lines;
@@ -55,6 +56,7 @@ impl Rows {
     ) -> Result<Rows, RowFault>
         ensures trace { IfTold (S.left source.old) (S.left source.new) (StartSays inputs.now limit result) }
         ensures bytes { StartTakes inputs.now (S.left source.old) (S.left source.new) result }
+        ensures reads { Reading S.left S.faults S.down [] false source.old source.new (StartTook inputs.now result) }
         ensures rows { IfOk result (λ r. (length r.places ≡ length inputs.now) × (r.limit ≡ limit) × (r.given ≡ 0) × (r.live ≡ true)) }
         ensures ended { IfOk result (λ r. r.ended ≡ true → IsAtEnd (S.left source.new)) }
         ensures memory { result ≡ Err RowFault.OutOfMemory → source.new ≡ source.old }
@@ -104,6 +106,7 @@ impl Rows {
         requires ended { self.old.ended ≡ true → IsAtEnd (S.left source.old) }
         ensures trace { IfTold (S.left source.old) (S.left source.new) (NextSays self.old self.new row.new result) }
         ensures bytes { NextTakes self.old self.new row.new (S.left source.old) (S.left source.new) result }
+        ensures reads { Reading S.left S.faults S.down self.old.held self.old.ended source.old source.new (NextTook self.old self.new row.new result) }
         ensures goes { Goes self.old self.new row.old row.new result }
         ensures same { (self.new.places ≡ self.old.places) × (self.new.limit ≡ self.old.limit) }
         ensures ended { self.new.ended ≡ true → IsAtEnd (S.left source.new) }

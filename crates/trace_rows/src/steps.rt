@@ -4,7 +4,8 @@ ghost use Rattle.std.specs.Io.KnownBytes.{IsAtEnd};
 ghost use Rattle.forec_base.specs.Outside.{Fell};
 ghost use Rattle.trace_rows.specs.Held.{held};
 ghost use Rattle.trace_rows.specs.Reader.{Came, HasLine};
-ghost use Rattle.trace_rows.specs.Steps.{TakesHeader, FindsNext};
+ghost use Rattle.trace_rows.specs.Reads.{Gathers, Reading};
+ghost use Rattle.trace_rows.specs.Steps.{TakesHeader, HeaderTook, FindsNext};
 
 use crate::fault::{Next, RowFault};
 use crate::found::Found;
@@ -22,6 +23,7 @@ pub fn take_header<S: Source>(
     requires places { length places.old.items ≡ length inputs.now }
     requires ended { lines.old.ended ≡ true → IsAtEnd (S.left source.old) }
     ensures header { TakesHeader inputs.now places.new.items (held lines.old) (held lines.new) lines.old.ended lines.new.ended (S.left source.old) (S.left source.new) result }
+    ensures reads { Reading S.left S.faults S.down (held lines.old) lines.old.ended source.old source.new (HeaderTook inputs.now places.new.items (held lines.new) lines.new.ended result) }
     ensures places { length places.new.items ≡ length places.old.items }
     ensures ended { lines.new.ended ≡ true → IsAtEnd (S.left source.new) }
     ensures later { S.faults source.old ≤ S.faults source.new }
@@ -49,6 +51,7 @@ pub fn find_next<S: Source>(
 ) -> Result<Next, RowFault>
     requires ended { lines.old.ended ≡ true → IsAtEnd (S.left source.old) }
     ensures came { Came (held lines.old) (held lines.new) (S.left source.old) (S.left source.new) }
+    ensures reads { Gathers S.left S.faults S.down (held lines.old) lines.old.ended (held lines.new) source.old source.new }
     ensures finds { FindsNext limit given (held lines.new) lines.new.ended result }
     ensures ended { lines.new.ended ≡ true → IsAtEnd (S.left source.new) }
     ensures stays { lines.new.ended ≡ false → lines.old.ended ≡ false }

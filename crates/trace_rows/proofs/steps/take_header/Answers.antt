@@ -1,11 +1,11 @@
-use Rattle.std.proofs.Common.{◌≡◌, ◌≤◌, [], ◌++◌, ℕ, List, length, refl, sym, ap, subst, ◌∙◌, arith}
+use Rattle.std.proofs.Common.{◌≡◌, ◌≤◌, [], ◌++◌, ℕ, List, length, take, drop, Ok, refl, sym, ap, subst, ◌∙◌, arith}
 use Rattle.trace_rows.specs.declared.fault.RowFault.TheVariants as fault
 use Rattle.std.specs.List.{after_first}
 use Rattle.trace_rows.specs.Lines.{is_newline, lines_of}
 use Rattle.trace_rows.specs.Held.{held}
 use Rattle.trace_rows.specs.Reader.{Takes}
 use Rattle.trace_rows.specs.Steps.{NoHeader}
-use Rattle.trace_rows.specs.Trace.{most_bytes, rows_of_lines}
+use Rattle.trace_rows.specs.Trace.{most_bytes, header_at, rows_of_lines}
 use Rattle.trace_rows.proofs.Told.{told_map, end_told, long_told, LongLine, LineOf, line_told, takes_first}
 use Rattle.trace_rows.proofs.Heads.{header_long, header_bad, header_good, no_header, written}
 use Rattle.trace_rows.proofs.steps.take_header.Goals as goal
@@ -57,4 +57,23 @@ returns-clause-header g c =
       header_good c.args.inputs.now line _ short (yes.yes refl) (written c.read_header.new.places c.args.places.now.items c.args.places.now.len same ∙ yes.places refl),
       takes_first line w (held c.pass.new.self) bytes c.pass.new.self.ended (left c.args.source.now) (left c.find.new.source) c.find.ensures.came f.1
           (λ e. f.2 (sym c.pass.ensures.ended ∙ e)) c.line.ensures c.pass.ensures.held,
+    )
+
+pub returns-clause-reads : goal.returns-clause-reads
+returns-clause-reads g c =
+    let bytes : List ℕ = held c.find.new.self in
+    let line : List ℕ = c.line.result.now in
+    let f = rw c.in-Ok-Line.field-0-is at c.in-Ok-Line.ensures.finds in
+    let short : length line ≤ most_bytes = subst (λ (l : List ℕ). length l ≤ most_bytes) (sym c.line.ensures) f.0 in
+    let same : c.args.places.now.len ≡ length c.read_header.new.places = omega (arith, c.read_header.auto.places, c.deref_mut.ensures.len) in
+    let yes = c.if-not-read_header.ensures in
+    let places : List ℕ = take c.args.places.now.len (c.read_header.new.places ++ drop (length c.read_header.new.places) c.args.places.now.items) in
+    let header : header_at c.args.inputs.now line ≡ Ok places =
+    header_good c.args.inputs.now line places short (yes.yes refl) (written c.read_header.new.places c.args.places.now.items c.args.places.now.len same ∙ yes.places refl) in (
+      bytes,
+      c.find.ensures.reads,
+      record {
+        header = subst (λ (l : List ℕ). header_at c.args.inputs.now l ≡ Ok places) c.line.ensures header;
+        takes = record { rest = c.pass.ensures.held; whole = λ e. f.2 (sym c.pass.ensures.ended ∙ e) };
+      },
     )

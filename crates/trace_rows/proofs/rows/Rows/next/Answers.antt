@@ -4,11 +4,12 @@ use Rattle.trace_rows.specs.declared.fault.RowFault.TheVariants as fault
 use Rattle.trace_rows.specs.Calls.{IfTold}
 use Rattle.trace_rows.specs.Held.{held}
 use Rattle.trace_rows.specs.Reader.{Reader, NextSays, NextTakes}
+use Rattle.trace_rows.specs.Reads.{Reading, TakesRow}
 use Rattle.trace_rows.specs.Shown.{reader_of}
 use Rattle.trace_rows.specs.Steps.{FindsNext}
 use Rattle.trace_rows.specs.Trace.{numbers_in, arranged}
 use Rattle.trace_rows.specs.Words.{words_of}
-use Rattle.trace_rows.proofs.Following.{err_says, end_says, bad_says, row_takes, row_says}
+use Rattle.trace_rows.proofs.Following.{err_says, end_says, bad_says, row_takes, row_took, row_says}
 use Rattle.trace_rows.proofs.Heads.{written}
 use Rattle.trace_rows.proofs.rows.Rows.next.Goals as goal
 
@@ -78,3 +79,36 @@ returns-clause-bytes g c =
     subst (λ (r : Reader). NextTakes r new c.arrange.new.row (left c.args.source.now) (left c.find_next.new.source) (Ok next.Row)) c.self.view_is
     (row_takes old new c.arrange.new.row values c.line.result.now (held c.find_next.new.lines) c.find_next.new.lines.ended (left c.args.source.now) (left c.find_next.new.source)
     c.find_next.ensures.came finds c.line.ensures c.pass.ensures.held c.pass.ensures.ended good is)
+
+pub returns-in-Err-clause-reads : goal.returns-in-Err-clause-reads
+returns-in-Err-clause-reads g c =
+    let a = c.self.inside in
+    subst (λ (r : Reader). Reading g.S.Source.left g.S.Source.faults g.S.Source.down r.held r.ended c.args.source.now c.find_next.new.source (λ bytes. Unit {0})) c.self.view_is
+    (held c.find_next.new.lines, c.find_next.ensures.reads, tt)
+
+pub returns-in-Ok-End-clause-reads : goal.returns-in-Ok-End-clause-reads
+returns-in-Ok-End-clause-reads g c =
+    subst (λ (r : Reader). Reading g.S.Source.left g.S.Source.faults g.S.Source.down r.held r.ended c.args.source.now c.find_next.new.source (λ bytes. Unit {0})) c.self.view_is
+    (held c.find_next.new.lines, c.find_next.ensures.reads, tt)
+
+pub returns-then-not-read_numbers-clause-reads : goal.returns-then-not-read_numbers-clause-reads
+returns-then-not-read_numbers-clause-reads g c =
+    subst (λ (r : Reader). Reading g.S.Source.left g.S.Source.faults g.S.Source.down r.held r.ended c.args.source.now c.find_next.new.source (λ bytes. Unit {0})) c.self.view_is
+    (held c.find_next.new.lines, c.find_next.ensures.reads, tt)
+
+pub returns-clause-reads : goal.returns-clause-reads
+returns-clause-reads g c =
+    let a = c.self.inside in
+    let old : Reader = reader_of a in
+    let width : length c.deref_mut.result.now ≡ length a.places.items = ap (λ (l : List ℤ). length l) c.deref_mut.ensures.value ∙ c.self.invariant.values in
+    let bytes : List ℕ = held c.find_next.new.lines in
+    let finds : FindsNext old.limit old.given bytes c.find_next.new.lines.ended (Ok next.Row) = rw c.in-Ok-Row.field-0-is at c.in-Ok-Row.ensures.finds in
+    let values : List ℤ = c.read_numbers.new.values in
+    let good : numbers_in (length old.places) (words_of c.line.result.now) ≡ Some values =
+    subst (λ (n : ℕ). numbers_in n (words_of c.line.result.now) ≡ Some values) width (c.if-not-read_numbers.ensures.yes refl) in
+    let same : a.values.len ≡ length values = omega (arith, c.read_numbers.auto.values, c.deref_mut.ensures.len) in
+    let is : c.arrange.new.row ≡ arranged old.places values =
+    c.arrange.ensures ∙ ap (λ (ps : List ℕ). arranged ps c.deref.result.now) c.deref-2.ensures.value ∙ ap (arranged old.places) (c.deref.ensures.value ∙ written values a.values.items a.values.len same) in
+    let new : Reader = record { held = held c.pass.new.self; ended = c.pass.new.self.ended; places = old.places; limit = old.limit; given = old.given + 1; live = true } in
+    subst (λ (r : Reader). Reading g.S.Source.left g.S.Source.faults g.S.Source.down r.held r.ended c.args.source.now c.find_next.new.source (TakesRow r new c.arrange.new.row)) c.self.view_is
+    (bytes, c.find_next.ensures.reads, row_took old new c.arrange.new.row values c.line.result.now bytes c.find_next.new.lines.ended finds c.line.ensures c.pass.ensures.held c.pass.ensures.ended good is)

@@ -1,7 +1,8 @@
-use Rattle.std.proofs.Common.{◌≡◌, ◌<◌, ℕ, List, length, true, refl, sym, subst, arith}
+use Rattle.std.proofs.Common.{◌≡◌, ◌<◌, ℕ, List, [], length, true, false, refl, sym, subst, arith}
 use Rattle.std.specs.List.{All}
 use Rattle.trace_rows.specs.Held.{held}
-use Rattle.trace_rows.proofs.Starting.{err_says, ok_says, header_within}
+use Rattle.trace_rows.proofs.Gathering.{gathers_none}
+use Rattle.trace_rows.proofs.Starting.{took_none, err_says, ok_says, header_within}
 use Rattle.trace_rows.proofs.rows.Rows.start.Goals as goal
 
 pub returns-in-Err-clause-trace : goal.returns-in-Err-clause-trace
@@ -25,3 +26,15 @@ returns-clause-trace g c =
     ok_says c.args.inputs.now c.args.limit h.0 (held c.in_ok-lines.lines)
     (record { held = held c.take_header.new.lines; ended = c.take_header.new.lines.ended; places = c.take_header.new.places.items; limit = c.args.limit; given = 0; live = true })
     (left c.args.source.now) (left c.take_header.new.source) c.in_ok-lines.ensures.held h.1 h.2 c.take_header.ensures.ended refl refl
+
+pub returns-in_err-lines-clause-reads : goal.returns-in_err-lines-clause-reads
+returns-in_err-lines-clause-reads g c =
+    ([], gathers_none g.S.Source.left g.S.Source.faults g.S.Source.down [] false c.args.source.now, took_none c.args.inputs.now c.from_residual.result [] c.from_residual.ensures.0)
+
+pub returns-in_err-places-clause-reads : goal.returns-in_err-places-clause-reads
+returns-in_err-places-clause-reads g c =
+    ([], gathers_none g.S.Source.left g.S.Source.faults g.S.Source.down [] false c.args.source.now, took_none c.args.inputs.now c.from_residual-in_err-places.result [] c.from_residual-in_err-places.ensures.0)
+
+pub returns-in_err-values-clause-reads : goal.returns-in_err-values-clause-reads
+returns-in_err-values-clause-reads g c =
+    ([], gathers_none g.S.Source.left g.S.Source.faults g.S.Source.down [] false c.args.source.now, took_none c.args.inputs.now c.from_residual-in_err-values.result [] c.from_residual-in_err-values.ensures.0)
