@@ -32,7 +32,7 @@ const USAGE: &[u8] =
 // Makes all that a run needs, and runs. A tick may have so many units.
 fn start<S: Source, K: Sink, G: Gate>(
     alloc: Global,
-    kernel: Kernel,
+    kernel: &Kernel,
     budget: u64,
     trace: &mut S,
     out: &mut K,
@@ -40,12 +40,12 @@ fn start<S: Source, K: Sink, G: Gate>(
 ) -> Status
     requires { budget ≤ 2 ^ 62 }
     ensures own { IsOwn result → IfSome (S.left trace.old)
-        (λ x. Given (trace_report (plain_kernel kernel) budget x) result (K.held out.old) (K.held out.new)) }
+        (λ x. Given (trace_report (plain_kernel kernel.now) budget x) result (K.held out.old) (K.held out.new)) }
     ensures read { result ≡ Status.ReadFault → Fell (S.faults trace.old) (S.faults trace.new) (S.down trace.new)
-        × Wanted (plain_kernel kernel) budget (S.left trace.old) (S.left trace.new) (K.held out.old) (K.held out.new) }
+        × Wanted (plain_kernel kernel.now) budget (S.left trace.old) (S.left trace.new) (K.held out.old) (K.held out.new) }
     ensures write { result ≡ Status.WriteFault → Fell (K.faults out.old) (K.faults out.new) (K.down out.new)
-        × IfSome (S.left trace.old) (λ x. AppendsFront (K.held out.old) (K.held out.new) (trace_report (plain_kernel kernel) budget x).bytes) }
-    ensures trace { ReadFor S.left S.faults S.down (plain_kernel kernel) budget trace.old trace.new }
+        × IfSome (S.left trace.old) (λ x. AppendsFront (K.held out.old) (K.held out.new) (trace_report (plain_kernel kernel.now) budget x).bytes) }
+    ensures trace { ReadFor S.left S.faults S.down (plain_kernel kernel.now) budget trace.old trace.new }
     ensures memory { result ≡ Status.NoMemory → K.held out.new ≡ K.held out.old }
     ensures usage { result ≢ Status.Usage }
 {
@@ -59,7 +59,7 @@ fn start<S: Source, K: Sink, G: Gate>(
     let Ok(mut waiting) = Waiting::new(alloc, outputs) else {
         return Status::NoMemory;
     };
-    let Ok(code) = generate(alloc, &kernel) else {
+    let Ok(code) = generate(alloc, kernel) else {
         return Status::NoMemory;
     };
     let Ok(mut runner) = Runner::load(alloc, kernel, &code) else {
@@ -131,27 +131,27 @@ fn list<K: Sink>(alloc: Global, kernel: &Kernel, out: &mut K) -> Status
 fn answer<S: Source, K: Sink, G: Gate>(
     alloc: Global,
     command: Command,
-    accepted: Accepted,
+    accepted: &Accepted,
     trace: &mut S,
     out: &mut K,
     gate: &G,
 ) -> Status
     requires { HasSmallBudget command }
     ensures own { IsOwn result → TellsTrace command (S.left trace.old) → (r : Report)
-        × AcceptedReport command accepted.counts (plain_kernel accepted.kernel) (S.left trace.old) r
+        × AcceptedReport command accepted.now.counts (plain_kernel accepted.now.kernel) (S.left trace.old) r
         × Given r result (K.held out.old) (K.held out.new) }
     ensures read { result ≡ Status.ReadFault → (budget : ℕ) × (command ≡ Command.Run budget) × Fell (S.faults trace.old) (S.faults trace.new) (S.down trace.new)
-        × Wanted (plain_kernel accepted.kernel) budget (S.left trace.old) (S.left trace.new) (K.held out.old) (K.held out.new) }
+        × Wanted (plain_kernel accepted.now.kernel) budget (S.left trace.old) (S.left trace.new) (K.held out.old) (K.held out.new) }
     ensures write { result ≡ Status.WriteFault → Fell (K.faults out.old) (K.faults out.new) (K.down out.new)
         × (TellsTrace command (S.left trace.old) → (r : Report)
-        × AcceptedReport command accepted.counts (plain_kernel accepted.kernel) (S.left trace.old) r
+        × AcceptedReport command accepted.now.counts (plain_kernel accepted.now.kernel) (S.left trace.old) r
         × AppendsFront (K.held out.old) (K.held out.new) r.bytes) }
-    ensures trace { (trace.new ≡ trace.old) ⊎ ((budget : ℕ) × (command ≡ Command.Run budget) × ReadFor S.left S.faults S.down (plain_kernel accepted.kernel) budget trace.old trace.new) }
+    ensures trace { (trace.new ≡ trace.old) ⊎ ((budget : ℕ) × (command ≡ Command.Run budget) × ReadFor S.left S.faults S.down (plain_kernel accepted.now.kernel) budget trace.old trace.new) }
     ensures memory { result ≡ Status.NoMemory → K.held out.new ≡ K.held out.old }
     ensures usage { result ≢ Status.Usage }
 {
     match command {
-        Command::Run { budget } => start(alloc, accepted.kernel, budget, trace, out, gate),
+        Command::Run { budget } => start(alloc, &accepted.kernel, budget, trace, out, gate),
         Command::Check => tell(alloc, accepted.counts, out),
         Command::Code => list(alloc, &accepted.kernel, out),
     }
@@ -180,7 +180,7 @@ fn run_text<S: Source, K: Sink, G: Gate>(
     ensures usage { result ≢ Status.Usage }
 {
     match judge(alloc, text) {
-        Ok(accepted) => answer(alloc, command, accepted, trace, out, gate),
+        Ok(accepted) => answer(alloc, command, &accepted, trace, out, gate),
         Err(JudgeFault::Refused { why }) => refuse(alloc, why, out),
         Err(JudgeFault::OutOfMemory) => Status::NoMemory,
     }

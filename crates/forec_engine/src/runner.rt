@@ -23,7 +23,7 @@ use trace_rows::{Next, RowFault, Rows};
 /// and those of the outputs after the last one, each in order of declaration.
 #[derive(Drop)]
 pub struct Runner<'c> {
-    pub kernel: Kernel,
+    pub kernel: &'c Kernel,
     pub host: Host<'c, LocalPort<ForecWork>>,
     pub row: Vec<i32>,
     pub outputs: Vec<i32>,
@@ -38,9 +38,13 @@ impl<'c> Runner<'c> {
     ghost use Rattle.trace_rows.specs.Reads.{Reading};
 
     /// Nothing has run. It takes all the memory that the ticks need.
-    pub fn load(alloc: Global, kernel: Kernel, code: &'c Code) -> Result<Runner<'c>, OutOfMemory>
-        requires { Stands (plain_code code.now) (plain_kernel kernel) }
-        ensures kernel { IfOk result (λ r. kernel_in r ≡ plain_kernel kernel) }
+    pub fn load(
+        alloc: Global,
+        kernel: &'c Kernel,
+        code: &'c Code,
+    ) -> Result<Runner<'c>, OutOfMemory>
+        requires { Stands (plain_code code.now) (plain_kernel kernel.now) }
+        ensures kernel { IfOk result (λ r. kernel_in r ≡ plain_kernel kernel.now) }
         ensures follows { IfOk result (Follows Fresh) }
     {
         let row = vec![in alloc; 0i32; code.shape().inputs.len()]?;
