@@ -7,7 +7,7 @@ ghost use Rattle.thread_code.specs.Alone.{Stands};
 ghost use Rattle.thread_code.specs.Plain.{PlainCode};
 ghost use Rattle.forec_engine.specs.Calls.{AppendsFront};
 ghost use Rattle.forec_engine.specs.Commands.{program_of, command_of, usage, refused, counted, listed, IsReport, TextReport, AcceptedReport, TellsTrace, Tells, HasSmallBudget};
-ghost use Rattle.forec_engine.specs.Ends.{IsOwn, Given, Wanted, WantedByText, WantedByWords};
+ghost use Rattle.forec_engine.specs.Ends.{IsOwn, Given, Wanted, WantedByText, WantedByWords, ReadFor, ReadForText, ReadForWords};
 ghost use Rattle.forec_engine.specs.Report.{Report, trace_report};
 
 use crate::counts::Counts;
@@ -21,12 +21,10 @@ use crate::ticks::run;
 use crate::waiting::Waiting;
 use crate::words::{Command, read_words};
 use code_gen::generate;
-use forec_base::{Gate, Sink, Source, TextFault, Texts};
+use forec_base::{Gate, MAX_TEXT_BYTES, Sink, Source, TextFault, Texts};
 use forec_kernel::Kernel;
 use std::alloc::Global;
 use thread_code::listing;
-
-const MOST_BYTES: usize = 1_048_576;
 
 const USAGE: &[u8] =
     b"usage: forec run|check|threads|code|explain|gen PROGRAM [--cores N] [--place LIST] [--budget B] [--order N]\n";
@@ -47,6 +45,7 @@ fn start<S: Source, K: Sink, G: Gate>(
         × Wanted (plain_kernel kernel) budget (S.left trace.old) (S.left trace.new) (K.held out.old) (K.held out.new) }
     ensures write { result ≡ Status.WriteFault → Fell (K.faults out.old) (K.faults out.new) (K.down out.new)
         × IfSome (S.left trace.old) (λ x. AppendsFront (K.held out.old) (K.held out.new) (trace_report (plain_kernel kernel) budget x).bytes) }
+    ensures trace { ReadFor S.left S.faults S.down (plain_kernel kernel) budget trace.old trace.new }
     ensures memory { result ≡ Status.NoMemory → K.held out.new ≡ K.held out.old }
     ensures usage { result ≢ Status.Usage }
 {
@@ -147,6 +146,7 @@ fn answer<S: Source, K: Sink, G: Gate>(
         × (TellsTrace command (S.left trace.old) → (r : Report)
         × AcceptedReport command accepted.counts (plain_kernel accepted.kernel) (S.left trace.old) r
         × AppendsFront (K.held out.old) (K.held out.new) r.bytes) }
+    ensures trace { (trace.new ≡ trace.old) ⊎ ((budget : ℕ) × (command ≡ Command.Run budget) × ReadFor S.left S.faults S.down (plain_kernel accepted.kernel) budget trace.old trace.new) }
     ensures memory { result ≡ Status.NoMemory → K.held out.new ≡ K.held out.old }
     ensures usage { result ≢ Status.Usage }
 {
@@ -166,7 +166,7 @@ fn run_text<S: Source, K: Sink, G: Gate>(
     out: &mut K,
     gate: &G,
 ) -> Status
-    requires short { length text.now ≤ 1048576 }
+    requires short { length text.now ≤ MAX_TEXT_BYTES }
     requires small { HasSmallBudget command }
     ensures own { IsOwn result → TellsTrace command (S.left trace.old) → (r : Report) × TextReport command text.now (S.left trace.old) r
         × Given r result (K.held out.old) (K.held out.new) }
@@ -175,6 +175,7 @@ fn run_text<S: Source, K: Sink, G: Gate>(
     ensures write { result ≡ Status.WriteFault → Fell (K.faults out.old) (K.faults out.new) (K.down out.new)
         × (TellsTrace command (S.left trace.old) → (r : Report) × TextReport command text.now (S.left trace.old) r
         × AppendsFront (K.held out.old) (K.held out.new) r.bytes) }
+    ensures trace { (trace.new ≡ trace.old) ⊎ ((budget : ℕ) × (command ≡ Command.Run budget) × ReadForText S.left S.faults S.down budget text.now trace.old trace.new) }
     ensures memory { result ≡ Status.NoMemory → K.held out.new ≡ K.held out.old }
     ensures usage { result ≢ Status.Usage }
 {
@@ -214,6 +215,10 @@ fn run_command<T: Texts, S: Source, K: Sink, G: Gate>(
         × IsReport (map string_bytes words.now) (T.content texts.old) (S.left trace.old) r
         × AppendsFront (K.held out.old) (K.held out.new) r.bytes) }
 
+    // The trace is read by `run` alone, for a text that is accepted, and no read is asked for once a line that stops
+    // the program has come whole.
+    ensures trace { (trace.new ≡ trace.old) ⊎ ReadForWords S.left S.faults S.down (map string_bytes words.now) (T.content texts.old) trace.old trace.new }
+
     // Where memory was wanting, nothing was printed.
     ensures memory { result ≡ Status.NoMemory → K.held out.new ≡ K.held out.old }
 
@@ -223,7 +228,7 @@ fn run_command<T: Texts, S: Source, K: Sink, G: Gate>(
     let Some((command, name)) = read_words(words) else {
         return say(out, USAGE, Status::Usage);
     };
-    match texts.read(alloc, name, MOST_BYTES) {
+    match texts.read(alloc, name, MAX_TEXT_BYTES) {
         Ok(text) => run_text(alloc, command, &text, trace, out, gate),
         Err(TextFault::Failed) => Status::ReadFault,
         Err(TextFault::OutOfMemory) => Status::NoMemory,
@@ -263,6 +268,10 @@ pub fn forec<T: Texts, S: Source, K: Sink, G: Gate>(
         × (Tells (map string_bytes words.now) (T.content texts.old) (S.left trace.old) → (r : Report)
         × IsReport (map string_bytes words.now) (T.content texts.old) (S.left trace.old) r
         × AppendsFront (K.held out.old) (K.held out.new) r.bytes) }
+
+    // The trace is read by `run` alone, for a text that is accepted, and no read is asked for once a line that stops
+    // the program has come whole.
+    ensures trace { (trace.new ≡ trace.old) ⊎ ReadForWords S.left S.faults S.down (map string_bytes words.now) (T.content texts.old) trace.old trace.new }
 
     // Where memory was wanting, nothing was printed.
     ensures memory { result ≡ Status.NoMemory → K.held out.new ≡ K.held out.old }

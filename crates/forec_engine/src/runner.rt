@@ -34,7 +34,8 @@ pub struct Runner<'c> {
 
 impl<'c> Runner<'c> {
     ghost use Rattle.forec_engine.specs.Following.{Follows, kernel_in};
-    ghost use Rattle.forec_engine.specs.Progress.{FoundSays};
+    ghost use Rattle.forec_engine.specs.Progress.{FoundSays, FoundTook};
+    ghost use Rattle.trace_rows.specs.Reads.{Reading};
 
     /// Nothing has run. It takes all the memory that the ticks need.
     pub fn load(alloc: Global, kernel: Kernel, code: &'c Code) -> Result<Runner<'c>, OutOfMemory>
@@ -65,6 +66,7 @@ impl<'c> Runner<'c> {
         ensures follows { (s : State) → Follows s self.old → Follows s self.new }
         ensures live { is_live self.new.host ≡ is_live self.old.host }
         ensures next { FoundSays rows.old rows.new (S.left trace.old) (S.left trace.new) self.new.row.items result }
+        ensures trace { Reading S.left S.faults S.down rows.old.held rows.old.ended trace.old trace.new (FoundTook rows.old rows.new self.new.row.items result) }
         ensures reads { result ≡ Found.Row → rows.new.live ≡ true }
         ensures ended { rows.new.ended ≡ true → IsAtEnd (S.left trace.new) }
         ensures later { S.faults trace.old ≤ S.faults trace.new }

@@ -1,3 +1,4 @@
+use Rattle.std.proofs.Common.{inr}
 use Rattle.forec_kernel.specs.Shapes.{plain_kernel}
 use Rattle.forec_engine.specs.Calls.{AppendsFront}
 use Rattle.forec_engine.specs.Ends.{Given}
@@ -43,3 +44,6 @@ returns-in-Code-clause-write g c = λ is.
     let a = c.args.accepted in
     let w = c.list.ensures.write is in
     (w.0, λ told. code_answers c.args.command a.counts (plain_kernel a.kernel) (g.S.Source.left c.args.trace.now) (λ r. AppendsFront (g.K.Sink.held c.args.out.now) (g.K.Sink.held c.list.new.out) r.bytes) c.in-Code.is w.1)
+
+pub returns-in-Run-clause-trace : goal.returns-in-Run-clause-trace
+returns-in-Run-clause-trace g c = inr (c.in-Run.budget, c.in-Run.is, c.start.ensures.trace)
