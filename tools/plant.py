@@ -48,7 +48,8 @@ class Controller:
     """A program that runs, and waits for the inputs of its next tick."""
 
     def __init__(self, program, inputs=(), *, budget=None, record=None, forec=os.path.join(ROOT, "forec"), seconds=60):
-        """Starts `forec run` on the program; a tick that takes longer than so many seconds is a TimeoutError."""
+        """Starts `forec run` on the program; a tick that takes longer than so many seconds is a TimeoutError (the first one may take
+        five minutes more, since the program is compiled where it isn't built)."""
         self.program, self.seconds = program, seconds
         self.inputs = {name: self._number(name, value) for name, value in dict.fromkeys(inputs, 0).items()}
         if isinstance(inputs, dict):
@@ -118,7 +119,7 @@ class Controller:
 
     def _next_line(self):
         """The next line of the report, or None at its end."""
-        until = time.monotonic() + self.seconds
+        until = time.monotonic() + self.seconds + (0 if self.tick else 300)
         ready = select.poll()
         ready.register(self._child.stdout, select.POLLIN)
         while b"\n" not in self._held:

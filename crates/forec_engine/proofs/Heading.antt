@@ -30,11 +30,11 @@ header_row : (k : PlainKernel) (b : ℕ) (inputs : List (List ℕ)) (r : Reader)
 unfolding report_rest
 header_row k b inputs r x y e h = trace_reads k b inputs x (ahead r y) e h
 
-printed_none : (k : PlainKernel) (b : ℕ) → printed_for k b [] ≡ Some []
+pub printed_none : (k : PlainKernel) (b : ℕ) → printed_for k b [] ≡ Some []
 unfolding printed_for
 printed_none k b = refl
 
-printed_rows : (k : PlainKernel) (b : ℕ) (line ps : List ℕ) (lines : List (List ℕ)) (p : Pace) → header_at (input_names k) line ≡ Ok ps → advance k b ps Fresh 1 lines ≡ Some p →
+pub printed_rows : (k : PlainKernel) (b : ℕ) (line ps : List ℕ) (lines : List (List ℕ)) (p : Pace) → header_at (input_names k) line ≡ Ok ps → advance k b ps Fresh 1 lines ≡ Some p →
     printed_for k b (line ∷ lines) ≡ Some p.bytes
 unfolding printed_for
 printed_rows k b line ps lines p h e = rw (h, e) refl

@@ -1,4 +1,5 @@
 mod Advancing
+mod Asking
 mod Digits
 mod Endings
 mod Following

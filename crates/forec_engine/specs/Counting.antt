@@ -2,11 +2,12 @@
 use Rattle.std.specs.Prelude.{ℕ, List, ◌++◌, codes, decimal}
 use Rattle.forec_tree.specs.Terms.{Text}
 use Rattle.forec_check.specs.Checked.{inputs_of, outputs_of}
-use Rattle.forec_check.specs.Instances.{threads_of}
+use Rattle.forec_check.specs.Instances.{start_of}
+use Rattle.forec_tree.specs.Threads.{instances}
 use Rattle.forec_engine.specs.declared.counts.Counts.{Counts}
 
 abbrev pub counts_of : Text → List (List ℕ) → Counts
-counts_of text names = record { threads = threads_of text names; inputs = inputs_of text; outputs = outputs_of text }
+counts_of text names = record { threads = instances text (start_of names text); inputs = inputs_of text; outputs = outputs_of text }
 
 -- `ok threads T inputs I outputs O`
 unfoldable pub counts_line : Counts → List ℕ

@@ -1,9 +1,10 @@
 -- How a command ends.
-use Rattle.std.specs.Prelude.{◌≡◌, ℕ, List, ◌++◌, Option, Some, IfSome, ⊤}
+use Rattle.std.specs.Prelude.{◌≡◌, ℕ, Bool, List, ◌++◌, Option, Some, IfSome, ⊤}
 use Rattle.std.specs.Io.KnownBytes.{Appends}
 use Rattle.forec_kernel.specs.Shapes.{PlainKernel}
 use Rattle.trace_rows.specs.Calls.{IfTold}
 use Rattle.trace_rows.specs.Lines.{whole_lines}
+use Rattle.trace_rows.specs.Reads.{Reads}
 use Rattle.forec_engine.specs.Commands.{command_of}
 use Rattle.forec_engine.specs.Judging.{Accepts, Judged}
 use Rattle.forec_engine.specs.Report.{Report, printed_for}
@@ -48,3 +49,22 @@ WantedByText budget text left_old left_new held_old held_new =
 abbrev pub WantedByWords : List (List ℕ) → (List ℕ → Option (List ℕ)) → Option (List ℕ) → Option (List ℕ) → Option (List ℕ) → Option (List ℕ) → Type 0
 WantedByWords words content left_old left_new held_old held_new =
     (budget : ℕ) × (name : List ℕ) × (command_of words ≡ Some (command.Run budget, name)) × IfSome (content name) (λ text. WantedByText budget text left_old left_new held_old held_new)
+
+-- ---- reads of the trace
+
+-- none of the lines that have come whole stops the program: the first is the header, each further one a row, and it goes on at each
+abbrev pub GoesOn : PlainKernel → ℕ → List ℕ → Type 0
+GoesOn k budget came = (bytes : List ℕ) × (printed_for k budget (whole_lines came) ≡ Some bytes)
+
+-- the trace was read for a kernel: each read was asked for while no line that had come whole stops the program
+abbrev pub ReadFor : {S : Type 0} → (S → Option (List ℕ)) → (S → ℕ) → (S → Bool) → PlainKernel → ℕ → S → S → Type 0
+ReadFor left faults down k budget old new = (given : List ℕ) × Reads left faults down (GoesOn k budget) old given new
+
+-- the same for a text, which is accepted
+abbrev pub ReadForText : {S : Type 0} → (S → Option (List ℕ)) → (S → ℕ) → (S → Bool) → ℕ → List ℕ → S → S → Type 0
+ReadForText left faults down budget text old new = (counts : Counts) × (k : PlainKernel) × Judged text (Accepts counts k) × ReadFor left faults down k budget old new
+
+-- the same for words, which are the command `run`
+abbrev pub ReadForWords : {S : Type 0} → (S → Option (List ℕ)) → (S → ℕ) → (S → Bool) → List (List ℕ) → (List ℕ → Option (List ℕ)) → S → S → Type 0
+ReadForWords left faults down words content old new =
+    (budget : ℕ) × (name : List ℕ) × (command_of words ≡ Some (command.Run budget, name)) × IfSome (content name) (λ text. ReadForText left faults down budget text old new)

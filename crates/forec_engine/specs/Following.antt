@@ -10,7 +10,7 @@ use Rattle.forec_engine.specs.declared.runner.Runner.{Runner}
 
 -- the kernel that it runs
 abbrev pub kernel_in : Runner → PlainKernel
-kernel_in r = plain_kernel r.kernel
+kernel_in r = plain_kernel r.kernel.now
 
 -- its ticks so far have led the kernel to a state, and each has paused
 pub record Follows (s : State) (r : Runner) : Type 0 where

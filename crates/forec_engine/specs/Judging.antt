@@ -1,6 +1,7 @@
 -- What becomes of a text.
 use Rattle.std.specs.Prelude.{◌≤◌, ◌<◌, ℕ, List, ◌++◌, length, codes, decimal, Result, Ok, Err}
 use Rattle.forec_base.specs.declared.Place.{Place}
+use Rattle.forec_base.specs.declared.limits.TheConstants.{MAX_TEXT_BYTES, MAX_LEVEL}
 use Rattle.forec_kernel.specs.Shapes.{PlainKernel, plain_kernel}
 use Rattle.forec_tree.specs.declared.fault.Fault.{Fault}
 use Rattle.forec_tree.specs.declared.token.Token.{Token}
@@ -27,11 +28,11 @@ use Rattle.forec_engine.specs.declared.refusal.JudgeFault.{JudgeFault}
 use Rattle.forec_engine.specs.declared.refusal.JudgeFault.TheVariants as fault
 
 abbrev pub most_bytes : ℕ
-most_bytes = 1048576
+most_bytes = MAX_TEXT_BYTES
 
 -- the greatest level of a program
 abbrev pub most_levels : ℕ
-most_levels = 128
+most_levels = MAX_LEVEL
 
 -- ---- refusals
 

@@ -1,10 +1,11 @@
 -- How far a trace was taken.
-use Rattle.std.specs.Prelude.{◌≡◌, ℕ, ◌+◌, ◌<◌, false, true, List, [], ◌++◌, length, Option, Some, None, Ok}
+use Rattle.std.specs.Prelude.{◌≡◌, ℕ, ◌+◌, ◌<◌, false, true, List, [], ◌++◌, length, Option, Some, None, Result, Ok, Err}
 use Rattle.forec_kernel.specs.Shapes.{PlainKernel}
 use Rattle.forec_kernel.specs.Ticks.{Fresh}
 use Rattle.trace_rows.specs.Calls.{IfTold}
 use Rattle.trace_rows.specs.Lines.{whole_lines}
 use Rattle.trace_rows.specs.Reader.{Reader, Takes, Waits, ahead}
+use Rattle.trace_rows.specs.Reads.{TakesHead, TakesRow}
 use Rattle.trace_rows.specs.Trace.{Row, header_at, row_at, stop, onto, trace_of}
 use Rattle.forec_engine.specs.Report.{Report, Pace, most_rows, report_from, behind_bytes, advance}
 use Rattle.forec_engine.specs.declared.found.Found.{Found}
@@ -71,3 +72,21 @@ abbrev pub Led : PlainKernel → ℕ → Reader → List ℕ → List ℕ → Li
 Led k budget first bytes left_old left_new =
     (first.ended ≡ false) × (given : List ℕ) × (first.held ++ left_old ≡ given ++ left_new)
     × (p : Pace) × (advance k budget first.places Fresh 1 (whole_lines given) ≡ Some p) × (p.bytes ≡ bytes)
+
+-- ---- reads
+
+-- the row that was found, of the bytes that were held and came
+abbrev pub FoundTook : Reader → Reader → Row → Found → List ℕ → Type 0
+FoundTook old new row found.Row bytes = TakesRow old new row bytes
+FoundTook old new row found.End bytes = Unit {0}
+FoundTook old new row (found.Stops f) bytes = Unit {0}
+FoundTook old new row found.Failed bytes = Unit {0}
+
+-- the header that was read, of the bytes that came
+abbrev pub StartedTook : List (List ℕ) → Result Reader Unread → List ℕ → Type 0
+StartedTook inputs (Ok r) bytes = TakesHead inputs r.places bytes r.held r.ended
+StartedTook inputs (Err e) bytes = Unit {0}
+
+-- the source has not told its end, and the lines that have come whole behind a header are rows at which the program goes on
+abbrev pub GoesOnFrom : PlainKernel → ℕ → Reader → List ℕ → Type 0
+GoesOnFrom k budget first came = (first.ended ≡ false) × (p : Pace) × (advance k budget first.places Fresh 1 (whole_lines (first.held ++ came)) ≡ Some p)

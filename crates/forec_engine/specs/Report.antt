@@ -1,6 +1,7 @@
 -- What a kernel prints for a trace, and the status.
 use Rattle.std.specs.Prelude.{ℕ, ◌+◌, ◌-◌, List, [], ◌∷◌, ◌++◌, Option, Some, None, Result, Ok, Err, if◌then◌else◌}
 use Rattle.std.specs.Option.{option_map}
+use Rattle.forec_base.specs.declared.limits.TheConstants.{MAX_ROWS}
 use Rattle.forec_kernel.specs.declared.shape.Outcome.{Outcome}
 use Rattle.forec_kernel.specs.declared.shape.Outcome.TheVariants as outcome
 use Rattle.forec_kernel.specs.Shapes.{PlainKernel}
@@ -18,7 +19,7 @@ pub record Report : Type 0 where
 
 -- the most rows of a trace
 abbrev pub most_rows : ℕ
-most_rows = 1000000000
+most_rows = MAX_ROWS
 
 -- ---- the whole report
 

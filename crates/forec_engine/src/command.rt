@@ -7,7 +7,7 @@ ghost use Rattle.thread_code.specs.Alone.{Stands};
 ghost use Rattle.thread_code.specs.Plain.{PlainCode};
 ghost use Rattle.forec_engine.specs.Calls.{AppendsFront};
 ghost use Rattle.forec_engine.specs.Commands.{program_of, command_of, usage, refused, counted, listed, IsReport, TextReport, AcceptedReport, TellsTrace, Tells, HasSmallBudget};
-ghost use Rattle.forec_engine.specs.Ends.{IsOwn, Given, Wanted, WantedByText, WantedByWords};
+ghost use Rattle.forec_engine.specs.Ends.{IsOwn, Given, Wanted, WantedByText, WantedByWords, ReadFor, ReadForText, ReadForWords};
 ghost use Rattle.forec_engine.specs.Report.{Report, trace_report};
 
 use crate::counts::Counts;
@@ -21,12 +21,10 @@ use crate::ticks::run;
 use crate::waiting::Waiting;
 use crate::words::{Command, read_words};
 use code_gen::generate;
-use forec_base::{Gate, Sink, Source, TextFault, Texts};
+use forec_base::{Gate, MAX_TEXT_BYTES, Sink, Source, TextFault, Texts};
 use forec_kernel::Kernel;
 use std::alloc::Global;
 use thread_code::listing;
-
-const MOST_BYTES: usize = 1_048_576;
 
 const USAGE: &[u8] =
     b"usage: forec run|check|threads|code|explain|gen PROGRAM [--cores N] [--place LIST] [--budget B] [--order N]\n";
@@ -34,7 +32,7 @@ const USAGE: &[u8] =
 // Makes all that a run needs, and runs. A tick may have so many units.
 fn start<S: Source, K: Sink, G: Gate>(
     alloc: Global,
-    kernel: Kernel,
+    kernel: &Kernel,
     budget: u64,
     trace: &mut S,
     out: &mut K,
@@ -42,11 +40,12 @@ fn start<S: Source, K: Sink, G: Gate>(
 ) -> Status
     requires { budget ≤ 2 ^ 62 }
     ensures own { IsOwn result → IfSome (S.left trace.old)
-        (λ x. Given (trace_report (plain_kernel kernel) budget x) result (K.held out.old) (K.held out.new)) }
+        (λ x. Given (trace_report (plain_kernel kernel.now) budget x) result (K.held out.old) (K.held out.new)) }
     ensures read { result ≡ Status.ReadFault → Fell (S.faults trace.old) (S.faults trace.new) (S.down trace.new)
-        × Wanted (plain_kernel kernel) budget (S.left trace.old) (S.left trace.new) (K.held out.old) (K.held out.new) }
+        × Wanted (plain_kernel kernel.now) budget (S.left trace.old) (S.left trace.new) (K.held out.old) (K.held out.new) }
     ensures write { result ≡ Status.WriteFault → Fell (K.faults out.old) (K.faults out.new) (K.down out.new)
-        × IfSome (S.left trace.old) (λ x. AppendsFront (K.held out.old) (K.held out.new) (trace_report (plain_kernel kernel) budget x).bytes) }
+        × IfSome (S.left trace.old) (λ x. AppendsFront (K.held out.old) (K.held out.new) (trace_report (plain_kernel kernel.now) budget x).bytes) }
+    ensures trace { ReadFor S.left S.faults S.down (plain_kernel kernel.now) budget trace.old trace.new }
     ensures memory { result ≡ Status.NoMemory → K.held out.new ≡ K.held out.old }
     ensures usage { result ≢ Status.Usage }
 {
@@ -60,7 +59,7 @@ fn start<S: Source, K: Sink, G: Gate>(
     let Ok(mut waiting) = Waiting::new(alloc, outputs) else {
         return Status::NoMemory;
     };
-    let Ok(code) = generate(alloc, &kernel) else {
+    let Ok(code) = generate(alloc, kernel) else {
         return Status::NoMemory;
     };
     let Ok(mut runner) = Runner::load(alloc, kernel, &code) else {
@@ -132,26 +131,27 @@ fn list<K: Sink>(alloc: Global, kernel: &Kernel, out: &mut K) -> Status
 fn answer<S: Source, K: Sink, G: Gate>(
     alloc: Global,
     command: Command,
-    accepted: Accepted,
+    accepted: &Accepted,
     trace: &mut S,
     out: &mut K,
     gate: &G,
 ) -> Status
     requires { HasSmallBudget command }
     ensures own { IsOwn result → TellsTrace command (S.left trace.old) → (r : Report)
-        × AcceptedReport command accepted.counts (plain_kernel accepted.kernel) (S.left trace.old) r
+        × AcceptedReport command accepted.now.counts (plain_kernel accepted.now.kernel) (S.left trace.old) r
         × Given r result (K.held out.old) (K.held out.new) }
     ensures read { result ≡ Status.ReadFault → (budget : ℕ) × (command ≡ Command.Run budget) × Fell (S.faults trace.old) (S.faults trace.new) (S.down trace.new)
-        × Wanted (plain_kernel accepted.kernel) budget (S.left trace.old) (S.left trace.new) (K.held out.old) (K.held out.new) }
+        × Wanted (plain_kernel accepted.now.kernel) budget (S.left trace.old) (S.left trace.new) (K.held out.old) (K.held out.new) }
     ensures write { result ≡ Status.WriteFault → Fell (K.faults out.old) (K.faults out.new) (K.down out.new)
         × (TellsTrace command (S.left trace.old) → (r : Report)
-        × AcceptedReport command accepted.counts (plain_kernel accepted.kernel) (S.left trace.old) r
+        × AcceptedReport command accepted.now.counts (plain_kernel accepted.now.kernel) (S.left trace.old) r
         × AppendsFront (K.held out.old) (K.held out.new) r.bytes) }
+    ensures trace { (trace.new ≡ trace.old) ⊎ ((budget : ℕ) × (command ≡ Command.Run budget) × ReadFor S.left S.faults S.down (plain_kernel accepted.now.kernel) budget trace.old trace.new) }
     ensures memory { result ≡ Status.NoMemory → K.held out.new ≡ K.held out.old }
     ensures usage { result ≢ Status.Usage }
 {
     match command {
-        Command::Run { budget } => start(alloc, accepted.kernel, budget, trace, out, gate),
+        Command::Run { budget } => start(alloc, &accepted.kernel, budget, trace, out, gate),
         Command::Check => tell(alloc, accepted.counts, out),
         Command::Code => list(alloc, &accepted.kernel, out),
     }
@@ -166,7 +166,7 @@ fn run_text<S: Source, K: Sink, G: Gate>(
     out: &mut K,
     gate: &G,
 ) -> Status
-    requires short { length text.now ≤ 1048576 }
+    requires short { length text.now ≤ MAX_TEXT_BYTES }
     requires small { HasSmallBudget command }
     ensures own { IsOwn result → TellsTrace command (S.left trace.old) → (r : Report) × TextReport command text.now (S.left trace.old) r
         × Given r result (K.held out.old) (K.held out.new) }
@@ -175,11 +175,12 @@ fn run_text<S: Source, K: Sink, G: Gate>(
     ensures write { result ≡ Status.WriteFault → Fell (K.faults out.old) (K.faults out.new) (K.down out.new)
         × (TellsTrace command (S.left trace.old) → (r : Report) × TextReport command text.now (S.left trace.old) r
         × AppendsFront (K.held out.old) (K.held out.new) r.bytes) }
+    ensures trace { (trace.new ≡ trace.old) ⊎ ((budget : ℕ) × (command ≡ Command.Run budget) × ReadForText S.left S.faults S.down budget text.now trace.old trace.new) }
     ensures memory { result ≡ Status.NoMemory → K.held out.new ≡ K.held out.old }
     ensures usage { result ≢ Status.Usage }
 {
     match judge(alloc, text) {
-        Ok(accepted) => answer(alloc, command, accepted, trace, out, gate),
+        Ok(accepted) => answer(alloc, command, &accepted, trace, out, gate),
         Err(JudgeFault::Refused { why }) => refuse(alloc, why, out),
         Err(JudgeFault::OutOfMemory) => Status::NoMemory,
     }
@@ -214,6 +215,10 @@ fn run_command<T: Texts, S: Source, K: Sink, G: Gate>(
         × IsReport (map string_bytes words.now) (T.content texts.old) (S.left trace.old) r
         × AppendsFront (K.held out.old) (K.held out.new) r.bytes) }
 
+    // The trace is read by `run` alone, for a text that is accepted, and no read is asked for once a line that stops
+    // the program has come whole.
+    ensures trace { (trace.new ≡ trace.old) ⊎ ReadForWords S.left S.faults S.down (map string_bytes words.now) (T.content texts.old) trace.old trace.new }
+
     // Where memory was wanting, nothing was printed.
     ensures memory { result ≡ Status.NoMemory → K.held out.new ≡ K.held out.old }
 
@@ -223,7 +228,7 @@ fn run_command<T: Texts, S: Source, K: Sink, G: Gate>(
     let Some((command, name)) = read_words(words) else {
         return say(out, USAGE, Status::Usage);
     };
-    match texts.read(alloc, name, MOST_BYTES) {
+    match texts.read(alloc, name, MAX_TEXT_BYTES) {
         Ok(text) => run_text(alloc, command, &text, trace, out, gate),
         Err(TextFault::Failed) => Status::ReadFault,
         Err(TextFault::OutOfMemory) => Status::NoMemory,
@@ -263,6 +268,10 @@ pub fn forec<T: Texts, S: Source, K: Sink, G: Gate>(
         × (Tells (map string_bytes words.now) (T.content texts.old) (S.left trace.old) → (r : Report)
         × IsReport (map string_bytes words.now) (T.content texts.old) (S.left trace.old) r
         × AppendsFront (K.held out.old) (K.held out.new) r.bytes) }
+
+    // The trace is read by `run` alone, for a text that is accepted, and no read is asked for once a line that stops
+    // the program has come whole.
+    ensures trace { (trace.new ≡ trace.old) ⊎ ReadForWords S.left S.faults S.down (map string_bytes words.now) (T.content texts.old) trace.old trace.new }
 
     // Where memory was wanting, nothing was printed.
     ensures memory { result ≡ Status.NoMemory → K.held out.new ≡ K.held out.old }

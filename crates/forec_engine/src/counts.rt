@@ -1,15 +1,16 @@
 // What `check` counts of a program.
 
-ghost use Rattle.std.specs.Prelude.{◌≡◌, IfOk};
+ghost use Rattle.std.specs.Prelude.{◌≡◌, ◌≤◌, IfOk};
+ghost use Rattle.forec_tree.specs.Threads.{instances};
+ghost use Rattle.forec_check.specs.Instances.{start_of};
 ghost use Rattle.forec_check.specs.Checked.{text_of, names_of};
 ghost use Rattle.forec_engine.specs.Counting.{counts_of};
 
-use forec_base::OutOfMemory;
+use forec_base::{MAX_THREADS, OutOfMemory};
 use forec_check::Checked;
 use std::alloc::Global;
 
-/// The thread instances of a program, at most the greatest `u64`, its inputs and its outputs, shared
-/// ones among them.
+/// The thread instances of a program, its inputs and its outputs, shared ones among them.
 #[derive(Clone, Copy, Debug, PartialEq, Eq)]
 pub struct Counts {
     pub threads: u64,
@@ -17,8 +18,9 @@ pub struct Counts {
     pub outputs: usize,
 }
 
-/// Counts a program, in time linear in its text, however many thread instances it has.
+/// Counts a program that has not too many threads, in time linear in its text.
 pub fn count(alloc: Global, checked: &Checked<'_>) -> Result<Counts, OutOfMemory>
+    requires { instances (text_of checked.now) (start_of (names_of checked.now) (text_of checked.now)) ≤ MAX_THREADS }
     ensures { IfOk result (λ c. c ≡ counts_of (text_of checked.now) (names_of checked.now)) }
 {
     let threads = checked.threads(alloc)?;

@@ -10,7 +10,7 @@ ghost use Rattle.forec_engine.specs.Laws.{OneVerdict};
 
 use crate::counts::{Counts, count};
 use crate::refusal::{JudgeFault, Refusal};
-use forec_base::Labels;
+use forec_base::{Labels, MAX_TEXT_BYTES, MAX_TOKENS};
 use forec_check::{CheckFault, Checked, check};
 use forec_kernel::Kernel;
 use forec_lexer::{LexFault, lex, one_lexing};
@@ -74,7 +74,7 @@ fn judge_program(alloc: Global, program: Program, names: &Labels) -> Result<Acce
 }
 
 fn judge_tokens(alloc: Global, tokens: &[Token], names: &Labels) -> Result<Accepted, JudgeFault>
-    requires few { length tokens.now ≤ 200000 }
+    requires few { length tokens.now ≤ MAX_TOKENS }
     requires distinct { AreDistinct names.now }
     requires numbered { All (IsNumbered names.now) tokens.now }
     ensures { Says (OnTokens tokens.now names.now) result }
@@ -105,7 +105,7 @@ fn of_lexer(fault: LexFault) -> JudgeFault
 
 /// The kernel of a text of at most 1,048,576 bytes and what is counted of it, or why it is refused.
 pub fn judge(alloc: Global, text: &[u8]) -> Result<Accepted, JudgeFault>
-    requires { length text.now ≤ 1048576 }
+    requires { length text.now ≤ MAX_TEXT_BYTES }
     ensures { Says (Judged text.now) result }
 {
     match lex(alloc, text) {

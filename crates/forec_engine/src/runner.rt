@@ -23,7 +23,7 @@ use trace_rows::{Next, RowFault, Rows};
 /// and those of the outputs after the last one, each in order of declaration.
 #[derive(Drop)]
 pub struct Runner<'c> {
-    pub kernel: Kernel,
+    pub kernel: &'c Kernel,
     pub host: Host<'c, LocalPort<ForecWork>>,
     pub row: Vec<i32>,
     pub outputs: Vec<i32>,
@@ -34,12 +34,17 @@ pub struct Runner<'c> {
 
 impl<'c> Runner<'c> {
     ghost use Rattle.forec_engine.specs.Following.{Follows, kernel_in};
-    ghost use Rattle.forec_engine.specs.Progress.{FoundSays};
+    ghost use Rattle.forec_engine.specs.Progress.{FoundSays, FoundTook};
+    ghost use Rattle.trace_rows.specs.Reads.{Reading};
 
     /// Nothing has run. It takes all the memory that the ticks need.
-    pub fn load(alloc: Global, kernel: Kernel, code: &'c Code) -> Result<Runner<'c>, OutOfMemory>
-        requires { Stands (plain_code code.now) (plain_kernel kernel) }
-        ensures kernel { IfOk result (λ r. kernel_in r ≡ plain_kernel kernel) }
+    pub fn load(
+        alloc: Global,
+        kernel: &'c Kernel,
+        code: &'c Code,
+    ) -> Result<Runner<'c>, OutOfMemory>
+        requires { Stands (plain_code code.now) (plain_kernel kernel.now) }
+        ensures kernel { IfOk result (λ r. kernel_in r ≡ plain_kernel kernel.now) }
         ensures follows { IfOk result (Follows Fresh) }
     {
         let row = vec![in alloc; 0i32; code.shape().inputs.len()]?;
@@ -65,6 +70,7 @@ impl<'c> Runner<'c> {
         ensures follows { (s : State) → Follows s self.old → Follows s self.new }
         ensures live { is_live self.new.host ≡ is_live self.old.host }
         ensures next { FoundSays rows.old rows.new (S.left trace.old) (S.left trace.new) self.new.row.items result }
+        ensures trace { Reading S.left S.faults S.down rows.old.held rows.old.ended trace.old trace.new (FoundTook rows.old rows.new self.new.row.items result) }
         ensures reads { result ≡ Found.Row → rows.new.live ≡ true }
         ensures ended { rows.new.ended ≡ true → IsAtEnd (S.left trace.new) }
         ensures later { S.faults trace.old ≤ S.faults trace.new }

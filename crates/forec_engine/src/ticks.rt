@@ -1,28 +1,27 @@
 // The loop over the rows of a trace.
-ghost use Rattle.std.specs.Prelude.{◌≡◌, ◌≢◌, ◌≤◌, ◌++◌, ◌^◌, true, List, ℕ, OnOk, OnErr, IfOk, IfErr, Err, IfSome, [], length};
+ghost use Rattle.std.specs.Prelude.{◌≡◌, ◌≢◌, ◌≤◌, ◌++◌, ◌^◌, true, false, List, ℕ, OnOk, OnErr, IfOk, IfErr, Err, IfSome, [], length};
 ghost use Rattle.std.specs.Io.KnownBytes.{Appends, IsAtEnd};
 ghost use Rattle.forec_base.specs.Outside.{Fell};
 ghost use Rattle.forec_kernel.specs.Ticks.{Fresh};
 ghost use Rattle.trace_rows.specs.Calls.{IfTold, Faults};
 ghost use Rattle.trace_rows.specs.Reader.{HasLine};
+ghost use Rattle.trace_rows.specs.Reads.{Reads, Reading};
 ghost use Rattle.forec_engine.specs.Calls.{AppendsFront};
-ghost use Rattle.forec_engine.specs.Ends.{IsOwn, Given, Wanted};
+ghost use Rattle.forec_engine.specs.Ends.{IsOwn, Given, Wanted, ReadFor};
 ghost use Rattle.forec_engine.specs.Following.{Follows, kernel_in};
 ghost use Rattle.forec_engine.specs.Report.{trace_report};
 ghost use Rattle.forec_engine.specs.KernelNames.{input_names, output_names};
-ghost use Rattle.forec_engine.specs.Progress.{Led, Started, UnreadSays, report_rest};
+ghost use Rattle.forec_engine.specs.Progress.{Led, Started, UnreadSays, StartedTook, GoesOnFrom, report_rest};
 ghost use Rattle.forec_engine.specs.WaitingRoom.{HasRoom, HasTickRoom};
 
 use crate::found::{Found, Unread};
 use crate::runner::Runner;
 use crate::status::Status;
 use crate::waiting::Waiting;
-use forec_base::{Failed, Gate, Labels, Sink, Source};
+use forec_base::{Failed, Gate, Labels, MAX_INPUTS, MAX_ROWS, Sink, Source};
 use forec_kernel::Outcome;
 use std::alloc::Global;
 use trace_rows::{RowFault, Rows};
-
-const MOST_ROWS: u64 = 1_000_000_000;
 
 // Writes the lines that wait, where a read of the trace comes next, or the lines of a further tick don't fit.
 fn send_due<K: Sink>(rows: &Rows, waiting: &mut Waiting, out: &mut K) -> Result<(), Failed>
@@ -55,7 +54,7 @@ pub fn run_rows<S: Source, K: Sink, G: Gate>(
     requires small { budget ≤ 2 ^ 62 }
     requires none { waiting.old.bytes.items ≡ [] }
     requires names { waiting.old.names ≡ output_names (kernel_in runner.old) }
-    requires limit { rows.old.limit ≡ 1000000000 }
+    requires limit { rows.old.limit ≡ MAX_ROWS }
     requires number { rows.old.given ≡ 0 }
     requires inputs { length (rows.old.places) ≡ length (kernel_in runner.old).shape.inputs }
     requires live { rows.old.live ≡ true }
@@ -68,6 +67,7 @@ pub fn run_rows<S: Source, K: Sink, G: Gate>(
     ensures write { result ≡ Status.WriteFault → Fell (K.faults out.old) (K.faults out.new) (K.down out.new)
         × IfSome (S.left trace.old) (λ x. AppendsFront (K.held out.old) (K.held out.new)
         (report_rest (kernel_in runner.old) budget rows.old x).bytes) }
+    ensures trace { (given : List ℕ) × Reads S.left S.faults S.down (GoesOnFrom (kernel_in runner.old) budget rows.old) trace.old given trace.new }
     ensures memory { result ≢ Status.NoMemory }
     ensures usage { result ≢ Status.Usage }
 {
@@ -101,14 +101,15 @@ pub fn run_rows<S: Source, K: Sink, G: Gate>(
 
 // Reads the header, for inputs of these names.
 fn start_rows<S: Source>(alloc: Global, trace: &mut S, inputs: &Labels) -> Result<Rows, Unread>
-    requires { length inputs.now ≤ 64 }
+    requires { length inputs.now ≤ MAX_INPUTS }
     ensures ok { IfOk result (Started inputs.now (S.left trace.old) (S.left trace.new)) }
     ensures err { IfErr result (UnreadSays inputs.now (S.left trace.old) (S.left trace.new)) }
+    ensures trace { Reading S.left S.faults S.down [] false trace.old trace.new (StartedTook inputs.now result) }
     ensures ended { IfOk result (λ r. r.ended ≡ true → IsAtEnd (S.left trace.new)) }
     ensures later { S.faults trace.old ≤ S.faults trace.new }
     ensures fell { result ≡ Err Unread.Failed → Fell (S.faults trace.old) (S.faults trace.new) (S.down trace.new) }
 {
-    match Rows::start(alloc, trace, inputs, MOST_ROWS) {
+    match Rows::start(alloc, trace, inputs, MAX_ROWS) {
         Ok(rows) => Ok(rows),
         Err(RowFault::Bad) => Err(Unread::Stops(RowFault::Bad)),
         Err(RowFault::Long) => Err(Unread::Stops(RowFault::Long)),
@@ -130,7 +131,7 @@ pub fn run<S: Source, K: Sink, G: Gate>(
     out: &mut K,
 ) -> Status
     requires inputs { inputs.now ≡ input_names (kernel_in runner.old) }
-    requires few { length inputs.now ≤ 64 }
+    requires few { length inputs.now ≤ MAX_INPUTS }
     requires follows { Follows Fresh runner.old }
     requires small { budget ≤ 2 ^ 62 }
     requires none { waiting.old.bytes.items ≡ [] }
@@ -142,6 +143,7 @@ pub fn run<S: Source, K: Sink, G: Gate>(
         × Wanted (kernel_in runner.old) budget (S.left trace.old) (S.left trace.new) (K.held out.old) (K.held out.new) }
     ensures write { result ≡ Status.WriteFault → Fell (K.faults out.old) (K.faults out.new) (K.down out.new)
         × IfSome (S.left trace.old) (λ x. AppendsFront (K.held out.old) (K.held out.new) (trace_report (kernel_in runner.old) budget x).bytes) }
+    ensures trace { ReadFor S.left S.faults S.down (kernel_in runner.old) budget trace.old trace.new }
     ensures memory { result ≡ Status.NoMemory → K.held out.new ≡ K.held out.old }
     ensures usage { result ≢ Status.Usage }
 {

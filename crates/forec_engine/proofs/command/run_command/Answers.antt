@@ -1,7 +1,7 @@
-use Rattle.std.proofs.Common.{map, string_bytes, sym, ap, subst, List, ℕ, ◌≡◌, ◌∙◌, Some, inr, refl}
+use Rattle.std.proofs.Common.{map, string_bytes, sym, ap, subst, List, ℕ, ◌≡◌, ◌∙◌, Some, inl, inr, refl}
 use Rattle.forec_engine.specs.Calls.{AppendsFront}
 use Rattle.forec_engine.specs.Commands.{usage, Of_usage, TextReport, TellsTrace}
-use Rattle.forec_engine.specs.Ends.{Given, WantedByText}
+use Rattle.forec_engine.specs.Ends.{Given, WantedByText, ReadForText}
 use Rattle.forec_engine.specs.Report.{Report}
 use Rattle.forec_engine.specs.declared.words.Command.{Command}
 use Rattle.forec_engine.proofs.Running.{own_not}
@@ -60,3 +60,16 @@ returns-in-Err-Long-clause-write g c = λ is.
       words_long (map string_bytes c.args.words.now) (g.T.Texts.content c.args.texts.now) (g.S.Source.left c.args.trace.now) c.in-Some.command c.in-Some.name.now c.in-Some.ensures.command
           (λ r. AppendsFront (g.K.Sink.held c.args.out.now) (g.K.Sink.held c.refuse.new.out) r.bytes) (rw c.in-Err-Long.field-0-is at c.in-Err-Long.ensures.bytes) w.1,
     )
+
+pub returns-in-Ok-clause-trace : goal.returns-in-Ok-clause-trace
+returns-in-Ok-clause-trace g c =
+    let Read : ℕ → List ℕ → Type 0 = λ b t. ReadForText g.S.Source.left g.S.Source.faults g.S.Source.down b t c.args.trace.now c.run_text.new.trace in
+    elim c.run_text.ensures.trace [
+      | inl same ↦ inl same
+      | inr r ↦ inr (
+        r.0,
+        c.in-Some.name.now,
+        sym c.in-Some.ensures.command ∙ ap (λ (x : Command). Some (x, c.in-Some.name.now)) r.1,
+        some_map (g.T.Texts.content c.args.texts.now c.in-Some.name.now) (λ x. c.in-Ok.text.items ≡ x) (Read r.0) c.in-Ok.ensures.bytes.1 (λ x e. subst (Read r.0) (c.deref.ensures.value ∙ e) r.2),
+      )
+    ]

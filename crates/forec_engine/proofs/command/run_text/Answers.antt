@@ -1,3 +1,4 @@
+use Rattle.std.proofs.Common.{inl, inr}
 use Rattle.forec_kernel.specs.Shapes.{plain_kernel}
 use Rattle.forec_engine.specs.Calls.{AppendsFront}
 use Rattle.forec_engine.specs.Commands.{Of_accepted}
@@ -37,3 +38,8 @@ returns-in-Err-Refused-clause-write g c = λ is.
     let j = rw c.in-Err-Refused.field-0-is at c.in-Err-Refused.ensures in
     let w = (rw c.in-Err-Refused.field-0-is at c.refuse.ensures.write) is in
     (w.0, λ told. refusal_answers c.args.command c.args.text.now c.in-Err-Refused.why (g.S.Source.left c.args.trace.now) (λ r. AppendsFront h0 h2 r.bytes) j w.1)
+
+pub returns-in-Ok-clause-trace : goal.returns-in-Ok-clause-trace
+returns-in-Ok-clause-trace g c =
+    let a = c.in-Ok.accepted in
+    elim c.answer.ensures.trace [ inl same ↦ inl same | inr r ↦ inr (r.0, r.1, (a.counts, plain_kernel a.kernel, c.in-Ok.ensures, r.2)) ]

@@ -1,7 +1,8 @@
-use Rattle.std.proofs.Common.{subst, IfSome}
+use Rattle.std.proofs.Common.{[], subst, IfSome}
 use Rattle.forec_kernel.specs.Shapes.{PlainKernel}
+use Rattle.trace_rows.specs.Reads.{none}
 use Rattle.forec_engine.specs.Calls.{AppendsFront}
-use Rattle.forec_engine.specs.Ends.{Given}
+use Rattle.forec_engine.specs.Ends.{Given, ReadFor}
 use Rattle.forec_engine.specs.Report.{trace_report}
 use Rattle.forec_engine.proofs.command.start.Goals as goal
 
@@ -19,3 +20,22 @@ returns-clause-write g c = λ is.
       w.0,
       subst (λ (k : PlainKernel). IfSome (g.S.Source.left c.args.trace.now) (λ x. AppendsFront h0 h2 (trace_report k c.args.budget x).bytes)) c.in-Ok-load.ensures.kernel w.1,
     )
+
+pub returns-clause-trace : goal.returns-clause-trace
+returns-clause-trace g c =
+    subst (λ (k : PlainKernel). ReadFor g.S.Source.left g.S.Source.faults g.S.Source.down k c.args.budget c.args.trace.now c.run.new.trace) c.in-Ok-load.ensures.kernel c.run.ensures.trace
+
+pub returns-in_default-clause-trace : goal.returns-in_default-clause-trace
+returns-in_default-clause-trace g c = ([], none)
+
+pub returns-in_default-pick_names-clause-trace : goal.returns-in_default-pick_names-clause-trace
+returns-in_default-pick_names-clause-trace g c = ([], none)
+
+pub returns-in_default-new-clause-trace : goal.returns-in_default-new-clause-trace
+returns-in_default-new-clause-trace g c = ([], none)
+
+pub returns-in_default-generate-clause-trace : goal.returns-in_default-generate-clause-trace
+returns-in_default-generate-clause-trace g c = ([], none)
+
+pub returns-in_default-load-clause-trace : goal.returns-in_default-load-clause-trace
+returns-in_default-load-clause-trace g c = ([], none)

@@ -3,6 +3,7 @@ use Rattle.forec_engine.specs.Following.{kernel_in}
 use Rattle.forec_engine.specs.Report.{trace_report}
 use Rattle.trace_rows.specs.Report.{row_line}
 use Rattle.forec_engine.specs.declared.status.Status.TheVariants as status
+use Rattle.forec_engine.proofs.Asking.{asked_all, asked_none}
 use Rattle.forec_engine.proofs.Running.{fell_since}
 use Rattle.forec_engine.proofs.TickLines.{inputs_each}
 use Rattle.forec_engine.proofs.Heading.{head_failed, head_fault, head_own, head_front, head_wanted, line_own, line_front}
@@ -59,3 +60,20 @@ returns-in-Err-Stops-clause-write g c = λ is.
           (record { bytes = row_line 0 c.in-Err-Stops.fault; status = status.Trace })
           c.requires.none c.put_row.ensures.bytes_are (head_fault k c.args.budget c.args.inputs.now l (g.S.Source.left c.start_rows.new.trace) c.in-Err-Stops.fault c.requires.inputs n) (c.finish.ensures.front is),
     )
+
+pub returns-in-Ok-clause-trace : goal.returns-in-Ok-clause-trace
+returns-in-Ok-clause-trace g c =
+    asked_all g.S.Source.left g.S.Source.faults g.S.Source.down (kernel_in c.args.runner.now) c.args.budget c.args.inputs.now c.in-Ok.rows c.args.trace.now c.start_rows.new.trace c.run_rows.new.trace c.requires.inputs c.in-Ok.ensures.trace
+    c.run_rows.ensures.trace
+
+pub returns-in-Err-OutOfMemory-clause-trace : goal.returns-in-Err-OutOfMemory-clause-trace
+returns-in-Err-OutOfMemory-clause-trace g c =
+    asked_none g.S.Source.left g.S.Source.faults g.S.Source.down (kernel_in c.args.runner.now) c.args.budget c.args.trace.now c.start_rows.new.trace _ c.start_rows.ensures.trace
+
+pub returns-in-Err-Failed-clause-trace : goal.returns-in-Err-Failed-clause-trace
+returns-in-Err-Failed-clause-trace g c =
+    asked_none g.S.Source.left g.S.Source.faults g.S.Source.down (kernel_in c.args.runner.now) c.args.budget c.args.trace.now c.start_rows.new.trace _ c.start_rows.ensures.trace
+
+pub returns-in-Err-Stops-clause-trace : goal.returns-in-Err-Stops-clause-trace
+returns-in-Err-Stops-clause-trace g c =
+    asked_none g.S.Source.left g.S.Source.faults g.S.Source.down (kernel_in c.args.runner.now) c.args.budget c.args.trace.now c.start_rows.new.trace _ c.start_rows.ensures.trace

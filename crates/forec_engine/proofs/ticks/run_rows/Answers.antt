@@ -5,6 +5,7 @@ use Rattle.forec_engine.specs.Report.{Report, tick_lines}
 use Rattle.trace_rows.specs.Report.{rows_line, row_line}
 use Rattle.forec_engine.specs.WaitingRoom.{Gains}
 use Rattle.forec_engine.specs.declared.status.Status.TheVariants as status
+use Rattle.forec_engine.proofs.Asking.{asked_start, asked_last, asked_more}
 use Rattle.forec_engine.proofs.Running.{Run, Reached, reached_start, reached_sent, reached_more, row_within, waited, at_end, at_fault, own_all, front_all, front_now, stop_own, stop_front, failed, fell_since, stop_status}
 use Rattle.forec_engine.proofs.TickLines.{put_tick_lines, names_each}
 use Rattle.forec_engine.proofs.ticks.run_rows.Goals as goal
@@ -15,6 +16,7 @@ ticks-init g c =
     record {
       reached = reached_start run (λ s. Follows s c.args.runner.now) (g.S.Source.left c.args.trace.now) (g.K.Sink.held c.args.out.now) c.args.waiting.now.bytes.items c.requires.follows
           (record { limit = c.requires.limit; places = refl; number = ap (λ n. n + 1) c.requires.number }) c.requires.none;
+      asked = asked_start g.S.Source.left g.S.Source.faults g.S.Source.down run (λ s. Follows s c.args.runner.now) c.args.trace.now c.requires.follows;
       kernel = refl;
       live = c.requires.follows.live;
       reads = c.requires.live;
@@ -177,7 +179,13 @@ ticks-preserved g c =
     (c.send_due.ensures.names ∙ i.names ∙ c.requires.names) how
     (λ has. c.deref.ensures.value ∙ c.tick-outcome.ensures.outputs r.state follows has ∙ ap (λ x. (tick x run.budget r.state values).outputs) k) c.put_outcome.ensures in
     let gave = c.in-Row.ensures.next in
+    let a = i.asked in
+    let after : Follows a.pace.state c.next_row.new.self = c.next_row.ensures.follows a.pace.state a.follows in
+    let went : o ≡ (tick run.kernel run.budget a.pace.state values).outcome = c.tick-outcome.ensures.outcome a.pace.state after ∙ ap (λ x. (tick x run.budget a.pace.state values).outcome) k in
     record {
+      asked = asked_more g.S.Source.left g.S.Source.faults g.S.Source.down run F (λ s. Follows s c.tick-outcome.new.self) now new row c.args.trace.now c.ticks.trace c.next_row.new.trace values a r.stands c.in-Row.ensures.trace
+          gave.stays (ap goes_on (sym went ∙ c.in-Paused.is))
+          (subst (λ x. Follows (tick x run.budget a.pace.state values).state c.tick-outcome.new.self) k (c.tick-outcome.ensures.follows a.pace.state after (ap goes_on c.in-Paused.is)));
       reached = reached_more run F (λ s. Follows s c.tick-outcome.new.self) now new l0 l l' h0 h unsent c.put_outcome.new.self.bytes.items row values r gave
           (ap goes_on (sym how ∙ c.in-Paused.is))
           (subst (λ x. Follows (tick x run.budget r.state values).state c.tick-outcome.new.self) k (c.tick-outcome.ensures.follows r.state follows (ap goes_on c.in-Paused.is))) put.bytes_are;
@@ -365,3 +373,38 @@ returns-in-Over-clause-write g c = λ is.
       stop_front run F now new l0 l l' h0 h (g.K.Sink.held c.finish-in-Over.new.out) unsent c.put_outcome.new.self.bytes.items row values r c.in-Row.ensures.next o how
           (ap goes_on c.in-Over.is) put.bytes_are (c.finish-in-Over.ensures.front is),
     )
+
+-- ---- the reads of the trace
+
+pub returns-in-Err-clause-trace : goal.returns-in-Err-clause-trace
+returns-in-Err-clause-trace g c = (c.ticks.invariant.asked.given, c.ticks.invariant.asked.reads)
+
+pub returns-in-Failed-clause-trace : goal.returns-in-Failed-clause-trace
+returns-in-Failed-clause-trace g c =
+    let run : Run = record { kernel = kernel_in c.args.runner.now; budget = c.args.budget; first = c.args.rows.now } in
+    asked_last g.S.Source.left g.S.Source.faults g.S.Source.down run (λ s. Follows s c.ticks.runner) c.ticks.rows c.ticks.row c.args.trace.now c.ticks.trace c.next_row.new.trace _ c.ticks.invariant.asked c.next_row.ensures.trace
+
+pub returns-in-End-clause-trace : goal.returns-in-End-clause-trace
+returns-in-End-clause-trace g c =
+    let run : Run = record { kernel = kernel_in c.args.runner.now; budget = c.args.budget; first = c.args.rows.now } in
+    asked_last g.S.Source.left g.S.Source.faults g.S.Source.down run (λ s. Follows s c.ticks.runner) c.ticks.rows c.ticks.row c.args.trace.now c.ticks.trace c.next_row.new.trace _ c.ticks.invariant.asked c.next_row.ensures.trace
+
+pub returns-in-Stops-clause-trace : goal.returns-in-Stops-clause-trace
+returns-in-Stops-clause-trace g c =
+    let run : Run = record { kernel = kernel_in c.args.runner.now; budget = c.args.budget; first = c.args.rows.now } in
+    asked_last g.S.Source.left g.S.Source.faults g.S.Source.down run (λ s. Follows s c.ticks.runner) c.ticks.rows c.ticks.row c.args.trace.now c.ticks.trace c.next_row.new.trace _ c.ticks.invariant.asked c.next_row.ensures.trace
+
+pub returns-in-Ended-clause-trace : goal.returns-in-Ended-clause-trace
+returns-in-Ended-clause-trace g c =
+    let run : Run = record { kernel = kernel_in c.args.runner.now; budget = c.args.budget; first = c.args.rows.now } in
+    asked_last g.S.Source.left g.S.Source.faults g.S.Source.down run (λ s. Follows s c.ticks.runner) c.ticks.rows c.ticks.row c.args.trace.now c.ticks.trace c.next_row.new.trace _ c.ticks.invariant.asked c.next_row.ensures.trace
+
+pub returns-in-Trapped-clause-trace : goal.returns-in-Trapped-clause-trace
+returns-in-Trapped-clause-trace g c =
+    let run : Run = record { kernel = kernel_in c.args.runner.now; budget = c.args.budget; first = c.args.rows.now } in
+    asked_last g.S.Source.left g.S.Source.faults g.S.Source.down run (λ s. Follows s c.ticks.runner) c.ticks.rows c.ticks.row c.args.trace.now c.ticks.trace c.next_row.new.trace _ c.ticks.invariant.asked c.next_row.ensures.trace
+
+pub returns-in-Over-clause-trace : goal.returns-in-Over-clause-trace
+returns-in-Over-clause-trace g c =
+    let run : Run = record { kernel = kernel_in c.args.runner.now; budget = c.args.budget; first = c.args.rows.now } in
+    asked_last g.S.Source.left g.S.Source.faults g.S.Source.down run (λ s. Follows s c.ticks.runner) c.ticks.rows c.ticks.row c.args.trace.now c.ticks.trace c.next_row.new.trace _ c.ticks.invariant.asked c.next_row.ensures.trace

@@ -1,6 +1,8 @@
-use Rattle.std.proofs.Common.{◌≡◌, ◌≤◌, ◌-◌, true}
+use Rattle.std.proofs.Common.{◌≡◌, ◌≤◌, ◌+◌, ◌-◌, true}
 use Rattle.std.specs.Io.KnownBytes.{IsAtEnd}
 use Rattle.core_host.specs.Hosted.{is_live}
+use Rattle.forec_base.specs.declared.limits.TheConstants.{MAX_ROWS}
+use Rattle.forec_engine.proofs.Asking.{Asked}
 use Rattle.forec_engine.specs.Following.{Follows, kernel_in}
 use Rattle.forec_engine.proofs.Running.{Reached}
 use Rattle.forec_engine.proofs.ticks.run_rows.Given as goal
@@ -13,11 +15,12 @@ invariant-ticks g l =
     record {
       reached : Reached (record { kernel = kernel; budget = l.budget; first = l.fn.rows })
           (λ s. Follows s l.runner) l.rows (left l.fn.trace) (left l.trace) (held l.fn.out) (held l.out) l.waiting.bytes.items l.row;
+      asked : Asked left g.S.Source.faults g.S.Source.down (record { kernel = kernel; budget = l.budget; first = l.fn.rows }) (λ s. Follows s l.runner) l.rows l.row l.fn.trace l.trace;
       kernel : kernel_in l.runner ≡ kernel;
       live : is_live l.runner.host ≡ true;
       reads : l.rows.live ≡ true;
       low : 1 ≤ l.row;
-      high : l.row ≤ 1000000001;
+      high : l.row ≤ MAX_ROWS + 1;
       names : l.waiting.names ≡ l.fn.waiting.names;
       ended : l.rows.ended ≡ true → IsAtEnd (left l.trace);
       read : g.S.Source.faults l.fn.trace ≤ g.S.Source.faults l.trace;
@@ -25,4 +28,4 @@ invariant-ticks g l =
     }
 
 abbrev pub decreases-ticks : goal.decreases-ticks
-decreases-ticks g l = 1000000002 - l.row
+decreases-ticks g l = MAX_ROWS + 2 - l.row

@@ -8,11 +8,11 @@ use Rattle.forec_engine.proofs.runner.Runner.load.Goals as goal
 
 pub load-requires : goal.load-requires
 load-requires c =
-    let k = plain_kernel c.args.kernel in
+    let k = plain_kernel c.args.kernel.now in
     let code = plain_code c.args.code.now in
     let threads : length k.threads ≡ length code.threads = c.parts.ensures.well_formed.bodies ∙ ap (λ s. length s.threads) (sym c.requires.shape) ∙ sym c.shape.ensures.valid.threads in
-    let count : length c.in_ok-placement.placement.places ≡ vec_len c.args.kernel.threads = c.in_ok-placement.ensures.threads ∙ c.len-3.ensures ∙ ap (λ parts. vec_len parts.threads) c.parts.ensures.same in
-    let placed : length c.in_ok-placement.placement.places ≡ length code.threads = omega (arith, count, threads, length-map c.args.kernel.threads.items stmt) in
+    let count : length c.in_ok-placement.placement.places ≡ vec_len c.args.kernel.now.threads = c.in_ok-placement.ensures.threads ∙ c.len-3.ensures ∙ ap (λ parts. vec_len parts.threads) c.parts.ensures.same in
+    let placed : length c.in_ok-placement.placement.places ≡ length code.threads = omega (arith, count, threads, length-map c.args.kernel.now.threads.items stmt) in
     c.in_ok-port.ensures.serves c.in_ok-placement.placement (0 ∷ []) placed refl (all_below_one c.in_ok-placement.placement.cores c.in_ok-placement.ensures.cores)
     (none_but_0 c.in_ok-placement.placement.cores c.in_ok-placement.ensures.cores)
 
