@@ -1,2 +1,4 @@
 pub mod Few
 pub mod Listed
+mod Ordered
+mod Unique
