@@ -24,7 +24,7 @@ last_on : (t : Tick) (ts : List Tick) → goes_on t.outcome ≡ true → last_ou
 last_on t [] h = paused t.outcome h
 last_on t (u ∷ us) h = refl
 
-run_on : (k : PlainKernel) (budget : ℕ) (s : State) (row : Row) (rows : List Row) → goes_on (tick k budget s row).outcome ≡ true →
+pub run_on : (k : PlainKernel) (budget : ℕ) (s : State) (row : Row) (rows : List Row) → goes_on (tick k budget s row).outcome ≡ true →
     run_from k budget s (row ∷ rows) ≡ tick k budget s row ∷ run_from k budget (tick k budget s row).state rows
 run_on k budget s row rows h =
     let t = tick k budget s row in

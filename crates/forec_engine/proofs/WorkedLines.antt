@@ -1,5 +1,5 @@
--- Worked words, counts and lines, computed.
-use Rattle.std.proofs.Common.{ℕ, ◌≡◌, false, Some, None, [], ◌∷◌, refl, codes}
+-- Worked counts and lines, computed.
+use Rattle.std.proofs.Common.{ℕ, ◌≡◌, false, None, [], ◌∷◌, refl, codes}
 use Rattle.std.specs.Fmt.{digits}
 use Rattle.forec_tree.specs.declared.tree.Name.{Name}
 use Rattle.forec_tree.specs.declared.tree.GlobalKind.{GlobalKind}
@@ -7,22 +7,11 @@ use Rattle.forec_tree.specs.declared.tree.GlobalKind.TheVariants.{Input, SharedO
 use Rattle.forec_tree.specs.Terms.{Par, no_terms, Statements, no_statements, more_statements, no_branches, by_call, by_group, Text, PlainItem, IsGlobal, IsFunction}
 use Rattle.forec_tree.specs.Pauses.{within}
 use Rattle.forec_engine.specs.Counting.{counts_of, counts_line}
-use Rattle.forec_engine.specs.Commands.{command_of}
+use Rattle.core_alloc.specs.declared.fault.PlaceFault.TheVariants as fault
 use Rattle.forec_engine.specs.Judging.{refusal_line}
 use Rattle.forec_engine.specs.declared.refusal.Refusal.TheVariants as why
-use Rattle.forec_engine.specs.declared.words.Command.TheVariants as command
-
-run_is : command_of (codes "run" ∷ codes "P" ∷ []) ≡ Some (command.Run 10000000, codes "P")
-run_is = refl
-
-check_is : command_of (codes "check" ∷ codes "P" ∷ []) ≡ Some (command.Check, codes "P")
-check_is = refl
-
-no_command : command_of (codes "checks" ∷ codes "P" ∷ []) ≡ None
-no_command = refl
-
-too_many_words : command_of (codes "check" ∷ codes "P" ∷ codes "Q" ∷ []) ≡ None
-too_many_words = refl
+use Rattle.forec_engine.specs.Placing.{place_line}
+use Rattle.forec_engine.specs.Workload.{workload_line}
 
 rule_is : refusal_line (why.Rule (record { line = 1; column = 37 }) 20) ≡ codes "refused 1:37 rule 20\n"
 unfolding digits
@@ -31,6 +20,18 @@ rule_is = refl
 line_is : counts_line (record { threads = 1; inputs = 0; outputs = 1 }) ≡ codes "ok threads 1 inputs 0 outputs 1\n"
 unfolding counts_line digits
 line_is = refl
+
+shape_is : place_line (fault.Shape 1) ≡ codes "place shape 1\n"
+unfolding digits
+shape_is = refl
+
+core_is : place_line (fault.Core 12) ≡ codes "place core 12\n"
+unfolding digits
+core_is = refl
+
+gen_is : workload_line 3 2502500 ≡ codes "gen 3 ticks 1000 sum 2502500\n"
+unfolding workload_line digits
+gen_is = refl
 
 -- ---- a program with two inputs, a shared output, and a function with a branch that `main` starts twice
 

@@ -1,18 +1,22 @@
--- What the words of a command mean, and the report that they give.
-use Rattle.std.specs.Prelude.{◌≡◌, ◌≤◌, ◌^◌, ℕ, Bool, List, [], ◌∷◌, length, Option, Some, None, nat_eq, nat_le, if◌then◌else◌, codes}
-use Rattle.std.specs.Cmp.Lexicographic.{pointwise}
-use Rattle.std.specs.Option.{option_map}
+-- The report that words give.
+use Rattle.std.specs.Prelude.{◌≡◌, ◌≤◌, ℕ, List, Option, Some, None, codes}
+use Rattle.forec_base.specs.declared.limits.TheConstants.{MAX_CORES, MAX_BUDGET}
 use Rattle.forec_kernel.specs.Shapes.{PlainKernel}
 use Rattle.thread_code.specs.Alone.{Stands}
 use Rattle.thread_code.specs.Listing.{listing_of}
 use Rattle.thread_code.specs.Plain.{PlainCode}
-use Rattle.trace_rows.specs.Numbers.{magnitude_of}
+use Rattle.core_alloc.specs.Places.{Places}
+use Rattle.core_alloc.specs.declared.fault.PlaceFault.{PlaceFault}
+use Rattle.command_words.specs.Requests.{PlainPlacing, PlainRunning, PlainCommand, Run, Check, Threads, Code, PlainRequest, OnText, OnWorkload, request_of}
+use Rattle.thread_places.specs.Lines.{thread_lines}
+use Rattle.thread_places.specs.Placed.{IsPlacement}
+use Rattle.workload.specs.Text.{text_of}
 use Rattle.forec_engine.specs.Counting.{counts_line}
 use Rattle.forec_engine.specs.Judging.{refusal_line, Accepts, Refuses, Judged}
+use Rattle.forec_engine.specs.Placing.{misplaced, misplacing, unless_misplaced}
+use Rattle.forec_engine.specs.Workload.{workload_report}
 use Rattle.forec_engine.specs.declared.counts.Counts.{Counts}
 use Rattle.forec_engine.specs.declared.refusal.Refusal.{Refusal}
-use Rattle.forec_engine.specs.declared.words.Command.{Command}
-use Rattle.forec_engine.specs.declared.words.Command.TheVariants as command
 use Rattle.forec_engine.specs.Report.{Report, trace_report}
 use Rattle.forec_engine.specs.declared.status.Status.TheVariants as status
 
@@ -28,82 +32,82 @@ refused why = record { bytes = refusal_line why; status = status.Refused }
 abbrev pub counted : Counts → Report
 counted c = record { bytes = counts_line c; status = status.Done }
 
+-- the threads of a kernel, whose cores these are
+abbrev pub threads_listed : PlainKernel → List ℕ → Report
+threads_listed k places = record { bytes = thread_lines k places; status = status.Done }
+
 -- the listing of a code
 abbrev pub listed : PlainCode → Report
 listed code = record { bytes = listing_of code; status = status.Done }
 
--- ---- words
-
--- the units that a tick may have where no word says how many
-abbrev pub budget : ℕ
-budget = 10000000
-
-abbrev pub is_word : List ℕ → List ℕ → Bool
-is_word word other = pointwise nat_eq word other
-
-abbrev pub command_named : List ℕ → Option Command
-command_named word =
-    if is_word word (codes "run") then Some (command.Run budget)
-    else (if is_word word (codes "check") then Some command.Check else (if is_word word (codes "code") then Some command.Code else None))
-
--- a budget is a number from 1 to 2^62
-abbrev pub in_range : Option ℕ → Option ℕ
-in_range None = None
-in_range (Some n) = if nat_le 1 n then (if nat_le n (2 ^ 62) then Some n else None) else None
-
--- the budget that a word of 1 to 19 decimal digits is
-abbrev pub budget_of : List ℕ → Option ℕ
-budget_of word = if nat_le (length word) 19 then in_range (magnitude_of word) else None
-
--- the command that the words are, and the program that they name: `run P`, `run P --budget B`, `check P` or `code P`
-abbrev pub command_of : List (List ℕ) → Option (Command × List ℕ)
-command_of [] = None
-command_of (word ∷ []) = None
-command_of (word ∷ program ∷ []) = option_map (λ command. (command, program)) (command_named word)
-command_of (word ∷ program ∷ option ∷ []) = None
-command_of (word ∷ program ∷ option ∷ value ∷ []) =
-    if is_word word (codes "run") then (if is_word option (codes "--budget") then option_map (λ b. (command.Run b, program)) (budget_of value) else None) else None
-command_of (word ∷ program ∷ option ∷ value ∷ more ∷ words) = None
-
--- the program that the words name, where they are a command
-abbrev pub program_of : List (List ℕ) → Option (List ℕ)
-program_of words = option_map (λ c. c.1) (command_of words)
-
 -- ---- reports
+
+-- the report of a kernel that runs over a trace of these bytes; where the threads are placed doesn't show in it
+abbrev pub run_report : PlainKernel → PlainRunning → List ℕ → Report
+run_report k running bytes = unless_misplaced (misplacing k running.placing) (trace_report k running.budget bytes)
+
+-- r lists the threads of a kernel with their cores
+pub data ThreadsReport (k : PlainKernel) (placing : PlainPlacing) (r : Report) : Type 0 where
+  Of_misplaced : (why : PlaceFault) → misplacing k placing ≡ Some why → r ≡ misplaced why → ThreadsReport k placing r
+  Of_placed : (p : Places) → misplacing k placing ≡ None → IsPlacement k placing p → r ≡ threads_listed k p.places → ThreadsReport k placing r
 
 -- r is the report of a command on a text that is accepted, with these counts and this kernel, where the trace has these bytes.
 -- Of `code` it is the listing of a code that stands for the kernel; which one is left open
-abbrev pub AcceptedReport : Command → Counts → PlainKernel → Option (List ℕ) → Report → Type 0
-AcceptedReport (command.Run b) counts k trace r = (bytes : List ℕ) × (trace ≡ Some bytes) × (r ≡ trace_report k b bytes)
-AcceptedReport command.Check counts k trace r = r ≡ counted counts
-AcceptedReport command.Code counts k trace r = (code : PlainCode) × Stands code k × (r ≡ listed code)
+abbrev pub AcceptedReport : PlainCommand → Option (List ℕ) → Counts → PlainKernel → Report → Type 0
+AcceptedReport (Run running) trace counts k r = (bytes : List ℕ) × (trace ≡ Some bytes) × (r ≡ run_report k running bytes)
+AcceptedReport Check trace counts k r = r ≡ counted counts
+AcceptedReport (Threads placing) trace counts k r = ThreadsReport k placing r
+AcceptedReport Code trace counts k r = (code : PlainCode) × Stands code k × (r ≡ listed code)
 
--- r is the report of a command on a program's text
-pub data TextReport (command : Command) (text : List ℕ) (trace : Option (List ℕ)) (r : Report) : Type 0 where
-  Of_refusal : (why : Refusal) → Judged text (Refuses why) → r ≡ refused why → TextReport command text trace r
-  Of_accepted : (counts : Counts) (k : PlainKernel) → Judged text (Accepts counts k) → AcceptedReport command counts k trace r → TextReport command text trace r
+-- r is the report of a text, where this is said of the counts, the kernel and the report of one that is accepted
+pub data TextReport (text : List ℕ) (Says : Counts → PlainKernel → Report → Type 0) (r : Report) : Type 0 where
+  Of_refusal : (why : Refusal) → Judged text (Refuses why) → r ≡ refused why → TextReport text Says r
+  Of_accepted : (counts : Counts) (k : PlainKernel) → Judged text (Accepts counts k) → Says counts k r → TextReport text Says r
+
+-- r is the report of the workload of so many threads, of which the text is judged like any other
+abbrev pub WorkloadReport : ℕ → PlainRunning → Report → Type 0
+WorkloadReport threads running r = TextReport (text_of threads) (λ counts k q. q ≡ workload_report threads running k) r
 
 -- r is the report of these words, where the texts have this content, and the trace these bytes
 pub data IsReport (words : List (List ℕ)) (content : List ℕ → Option (List ℕ)) (trace : Option (List ℕ)) (r : Report) : Type 0 where
-  Of_usage : command_of words ≡ None → r ≡ usage → IsReport words content trace r
-  Of_text : (command : Command) (name text : List ℕ) → command_of words ≡ Some (command, name) → content name ≡ Some text → TextReport command text trace r
+  Of_usage : request_of words ≡ None → r ≡ usage → IsReport words content trace r
+  Of_text : (name : List ℕ) (command : PlainCommand) (text : List ℕ) → request_of words ≡ Some (OnText name command) → content name ≡ Some text
+      → TextReport text (AcceptedReport command trace) r → IsReport words content trace r
+  Of_workload : (threads : ℕ) (running : PlainRunning) → request_of words ≡ Some (OnWorkload threads running) → WorkloadReport threads running r
       → IsReport words content trace r
 
 -- ---- what is told
 
 -- the trace is told, where the command reads it
-abbrev pub TellsTrace : Command → Option (List ℕ) → Type 0
-TellsTrace (command.Run b) trace = (bytes : List ℕ) × (trace ≡ Some bytes)
-TellsTrace command.Check trace = Unit {0}
-TellsTrace command.Code trace = Unit {0}
+abbrev pub TellsTrace : PlainCommand → Option (List ℕ) → Type 0
+TellsTrace (Run running) trace = (bytes : List ℕ) × (trace ≡ Some bytes)
+TellsTrace Check trace = Unit {0}
+TellsTrace (Threads placing) trace = Unit {0}
+TellsTrace Code trace = Unit {0}
 
 -- the text that the words name is told, and the trace where it is read
 abbrev pub Tells : List (List ℕ) → (List ℕ → Option (List ℕ)) → Option (List ℕ) → Type 0
 Tells words content trace =
-    (command : Command) (name : List ℕ) → command_of words ≡ Some (command, name) → (text : List ℕ) × (content name ≡ Some text) × TellsTrace command trace
+    (name : List ℕ) (command : PlainCommand) → request_of words ≡ Some (OnText name command) → (text : List ℕ) × (content name ≡ Some text) × TellsTrace command trace
 
--- a command that runs has a budget of at most 2^62
-abbrev pub HasSmallBudget : Command → Type 0
-HasSmallBudget (command.Run b) = b ≤ 2 ^ 62
-HasSmallBudget command.Check = Unit {0}
-HasSmallBudget command.Code = Unit {0}
+-- ---- ranges
+
+-- there are 1 to 64 cores
+pub record IsPlaceable (placing : PlainPlacing) : Type 0 where
+  pub some : 1 ≤ placing.cores
+  pub few : placing.cores ≤ MAX_CORES
+
+-- and a budget of at most 2^62
+pub record IsRunnable (running : PlainRunning) : Type 0 where
+  pub placeable : IsPlaceable running.placing
+  pub small : running.budget ≤ MAX_BUDGET
+
+abbrev pub IsInRange : PlainCommand → Type 0
+IsInRange (Run running) = IsRunnable running
+IsInRange Check = Unit {0}
+IsInRange (Threads placing) = IsPlaceable placing
+IsInRange Code = Unit {0}
+
+abbrev pub HasRanges : PlainRequest → Type 0
+HasRanges (OnText name command) = IsInRange command
+HasRanges (OnWorkload threads running) = (threads ≤ 255) × IsRunnable running

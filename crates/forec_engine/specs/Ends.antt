@@ -1,17 +1,18 @@
 -- How a command ends.
-use Rattle.std.specs.Prelude.{◌≡◌, ℕ, Bool, List, ◌++◌, Option, Some, IfSome, ⊤}
+use Rattle.std.specs.Prelude.{◌≡◌, ℕ, Bool, List, ◌++◌, Option, None, Some, IfSome, ⊤}
 use Rattle.std.specs.Io.KnownBytes.{Appends}
 use Rattle.forec_kernel.specs.Shapes.{PlainKernel}
 use Rattle.trace_rows.specs.Calls.{IfTold}
 use Rattle.trace_rows.specs.Lines.{whole_lines}
 use Rattle.trace_rows.specs.Reads.{Reads}
-use Rattle.forec_engine.specs.Commands.{command_of}
+use Rattle.command_words.specs.Requests.{PlainPlacing, PlainRunning, PlainCommand, Run, Check, Threads, Code, OnText, OnWorkload, request_of}
+use Rattle.workload.specs.Text.{text_of}
 use Rattle.forec_engine.specs.Judging.{Accepts, Judged}
+use Rattle.forec_engine.specs.Placing.{misplacing, IsMisplaced}
 use Rattle.forec_engine.specs.Report.{Report, printed_for}
 use Rattle.forec_engine.specs.declared.counts.Counts.{Counts}
 use Rattle.forec_engine.specs.declared.status.Status.{Status}
 use Rattle.forec_engine.specs.declared.status.Status.TheVariants as status
-use Rattle.forec_engine.specs.declared.words.Command.TheVariants as command
 
 -- a status that a report ends with: neither a fault nor want of memory
 abbrev pub IsOwn : Status → Type 0
@@ -40,15 +41,22 @@ abbrev pub Wanted : PlainKernel → ℕ → Option (List ℕ) → Option (List �
 Wanted k budget left_old left_new held_old held_new =
     (bytes : List ℕ) × Appends held_old held_new bytes × IfTold left_old left_new (PrintedFor k budget bytes)
 
--- the same by a text, which is accepted
-abbrev pub WantedByText : ℕ → List ℕ → Option (List ℕ) → Option (List ℕ) → Option (List ℕ) → Option (List ℕ) → Type 0
-WantedByText budget text left_old left_new held_old held_new =
-    (counts : Counts) × (k : PlainKernel) × Judged text (Accepts counts k) × Wanted k budget left_old left_new held_old held_new
+-- a text runs as this kernel: it is accepted, and no list of places is refused
+pub record RunsAs (text : List ℕ) (placing : PlainPlacing) (k : PlainKernel) : Type 0 where
+  pub counts : Counts
+  pub judged : Judged text (Accepts counts k)
+  pub placed : misplacing k placing ≡ None
+
+-- the same by a text, which runs
+abbrev pub WantedByText : PlainRunning → List ℕ → Option (List ℕ) → Option (List ℕ) → Option (List ℕ) → Option (List ℕ) → Type 0
+WantedByText running text left_old left_new held_old held_new =
+    (k : PlainKernel) × RunsAs text running.placing k × Wanted k running.budget left_old left_new held_old held_new
 
 -- the same by words, which are the command `run`
 abbrev pub WantedByWords : List (List ℕ) → (List ℕ → Option (List ℕ)) → Option (List ℕ) → Option (List ℕ) → Option (List ℕ) → Option (List ℕ) → Type 0
 WantedByWords words content left_old left_new held_old held_new =
-    (budget : ℕ) × (name : List ℕ) × (command_of words ≡ Some (command.Run budget, name)) × IfSome (content name) (λ text. WantedByText budget text left_old left_new held_old held_new)
+    (running : PlainRunning) × (name : List ℕ) × (request_of words ≡ Some (OnText name (Run running)))
+    × IfSome (content name) (λ text. WantedByText running text left_old left_new held_old held_new)
 
 -- ---- reads of the trace
 
@@ -60,11 +68,36 @@ GoesOn k budget came = (bytes : List ℕ) × (printed_for k budget (whole_lines 
 abbrev pub ReadFor : {S : Type 0} → (S → Option (List ℕ)) → (S → ℕ) → (S → Bool) → PlainKernel → ℕ → S → S → Type 0
 ReadFor left faults down k budget old new = (given : List ℕ) × Reads left faults down (GoesOn k budget) old given new
 
--- the same for a text, which is accepted
-abbrev pub ReadForText : {S : Type 0} → (S → Option (List ℕ)) → (S → ℕ) → (S → Bool) → ℕ → List ℕ → S → S → Type 0
-ReadForText left faults down budget text old new = (counts : Counts) × (k : PlainKernel) × Judged text (Accepts counts k) × ReadFor left faults down k budget old new
+-- the same for a text, which runs
+abbrev pub ReadForText : {S : Type 0} → (S → Option (List ℕ)) → (S → ℕ) → (S → Bool) → PlainRunning → List ℕ → S → S → Type 0
+ReadForText left faults down running text old new = (k : PlainKernel) × RunsAs text running.placing k × ReadFor left faults down k running.budget old new
 
 -- the same for words, which are the command `run`
 abbrev pub ReadForWords : {S : Type 0} → (S → Option (List ℕ)) → (S → ℕ) → (S → Bool) → List (List ℕ) → (List ℕ → Option (List ℕ)) → S → S → Type 0
 ReadForWords left faults down words content old new =
-    (budget : ℕ) × (name : List ℕ) × (command_of words ≡ Some (command.Run budget, name)) × IfSome (content name) (λ text. ReadForText left faults down budget text old new)
+    (running : PlainRunning) × (name : List ℕ) × (request_of words ≡ Some (OnText name (Run running)))
+    × IfSome (content name) (λ text. ReadForText left faults down running text old new)
+
+-- ---- misuse
+
+-- how a command places threads, where it does
+abbrev pub placing_in : PlainCommand → Option PlainPlacing
+placing_in (Run running) = Some running.placing
+placing_in Check = None
+placing_in (Threads placing) = Some placing
+placing_in Code = None
+
+-- a command has a list of places that is refused for a kernel
+abbrev pub CommandIsMisplaced : PlainCommand → PlainKernel → Type 0
+CommandIsMisplaced command k = (placing : PlainPlacing) × (placing_in command ≡ Some placing) × IsMisplaced k placing
+
+-- a text is accepted, and this holds of its kernel
+abbrev pub AcceptedSo : (PlainKernel → Type 0) → List ℕ → Type 0
+AcceptedSo P text = (counts : Counts) × (k : PlainKernel) × Judged text (Accepts counts k) × P k
+
+-- the words ask for nothing, or the list of places in them is refused
+pub data IsMisuse (words : List (List ℕ)) (content : List ℕ → Option (List ℕ)) : Type 0 where
+  Asks_nothing : request_of words ≡ None → IsMisuse words content
+  Misplaces : (name : List ℕ) (command : PlainCommand) → request_of words ≡ Some (OnText name command) → IfSome (content name) (AcceptedSo (CommandIsMisplaced command)) → IsMisuse words content
+  Misplaces_workload : (threads : ℕ) (running : PlainRunning) → request_of words ≡ Some (OnWorkload threads running)
+      → AcceptedSo (λ k. IsMisplaced k running.placing) (text_of threads) → IsMisuse words content

@@ -3,8 +3,8 @@ use Rattle.std.specs.Prelude.{◌≡◌, ◌⊎◌, ℕ, List, Option, Some}
 use Rattle.forec_kernel.specs.Shapes.{PlainKernel}
 use Rattle.thread_code.specs.Alone.{Stands}
 use Rattle.thread_code.specs.Plain.{PlainCode}
-use Rattle.forec_engine.specs.Commands.{command_of, IsReport, Tells, listed}
-use Rattle.forec_engine.specs.declared.words.Command.TheVariants as command
+use Rattle.command_words.specs.Requests.{OnText, Code, request_of}
+use Rattle.forec_engine.specs.Commands.{IsReport, Tells, listed}
 use Rattle.forec_engine.specs.Judging.{Verdict, Judged}
 use Rattle.forec_engine.specs.Report.{Report}
 
@@ -14,7 +14,7 @@ OneVerdict = (text : List ℕ) (v w : Verdict) → Judged text v → Judged text
 
 -- the words ask for the listing of a code
 abbrev pub AskForCode : List (List ℕ) → Type 0
-AskForCode words = (name : List ℕ) × (command_of words ≡ Some (command.Code, name))
+AskForCode words = (name : List ℕ) × (request_of words ≡ Some (OnText name Code))
 
 -- words other than `code P` have one report at most
 abbrev pub OneReport : Type 0

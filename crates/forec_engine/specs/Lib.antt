@@ -6,7 +6,9 @@ pub mod Following
 pub mod Judging
 pub mod KernelNames
 pub mod Laws
+pub mod Placing
 pub mod Progress
 pub mod Report
 pub mod StatusNumbers
 pub mod WaitingRoom
+pub mod Workload

@@ -1,20 +1,20 @@
 //! The top call: from the words, the program's text and the trace to the bytes of the report.
 #![tactic(auto)]
 
+mod answering;
 mod command;
 mod counts;
 mod found;
+mod generated;
 mod judging;
 mod laws;
 mod names;
-mod placing;
 mod refusal;
 mod runner;
 mod sink;
 mod status;
 mod ticks;
 mod waiting;
-mod words;
 
 pub use command::forec;
 pub use laws::{each_command_has_a_report, reports_are_alike, reports_are_unique};

@@ -1,5 +1,6 @@
 // A program that runs.
-ghost use Rattle.std.specs.Prelude.{◌≡◌, ◌≤◌, ◌^◌, ◌∷◌, [], length, true, List, ℕ, IfOk};
+ghost use Rattle.std.specs.Prelude.{◌≡◌, ◌≤◌, ◌^◌, length, true, List, ℕ, IfOk};
+ghost use Rattle.std.specs.List.{range_with_len};
 ghost use Rattle.std.specs.Io.KnownBytes.{IsAtEnd};
 ghost use Rattle.forec_base.specs.Outside.{Fell};
 ghost use Rattle.forec_kernel.specs.Shapes.{plain_kernel};
@@ -10,14 +11,25 @@ ghost use Rattle.core_host.specs.Outcomes.{HasOutputs};
 ghost use Rattle.core_host.specs.Hosted.{IsWhole, code_of, is_live};
 
 use crate::found::Found;
-use crate::placing::on_one_core;
 use copy_slots::LocalPort;
+use core_alloc::Placement;
 use core_host::{ForecWork, Host, local_port};
 use forec_base::{Gate, OutOfMemory, Source};
 use forec_kernel::{Kernel, Outcome};
 use std::alloc::Global;
 use thread_code::Code;
 use trace_rows::{Next, RowFault, Rows};
+
+// The numbers of so many cores.
+fn all_cores(alloc: Global, count: u32) -> Result<Vec<u32>, OutOfMemory>
+    ensures { IfOk result (λ cores. cores.items ≡ range_with_len 0 count) }
+{
+    let mut cores = Vec::new(alloc);
+    for core in 0..count {
+        cores.push(core)?;
+    }
+    Ok(cores)
+}
 
 /// A program that runs: its kernel, the host of all threads of its code, the values of the inputs in the next tick,
 /// and those of the outputs after the last one, each in order of declaration.
@@ -35,23 +47,30 @@ pub struct Runner<'c> {
 impl<'c> Runner<'c> {
     ghost use Rattle.forec_engine.specs.Following.{Follows, kernel_in};
     ghost use Rattle.forec_engine.specs.Progress.{FoundSays, FoundTook};
+    ghost use Rattle.forec_engine.specs.Workload.{zero_row};
     ghost use Rattle.trace_rows.specs.Reads.{Reading};
 
-    /// Nothing has run. It takes all the memory that the ticks need.
+    /// Nothing has run, and each input is 0. The threads are placed so, and one host has all cores. It takes all the
+    /// memory that the ticks need.
     pub fn load(
         alloc: Global,
         kernel: &'c Kernel,
         code: &'c Code,
+        placement: &Placement,
     ) -> Result<Runner<'c>, OutOfMemory>
-        requires { Stands (plain_code code.now) (plain_kernel kernel.now) }
+        requires stands { Stands (plain_code code.now) (plain_kernel kernel.now) }
+        requires placed { length placement.now.places ≡ length (plain_kernel kernel.now).threads }
         ensures kernel { IfOk result (λ r. kernel_in r ≡ plain_kernel kernel.now) }
         ensures follows { IfOk result (Follows Fresh) }
+        ensures zeros { IfOk result (λ r. r.row.items ≡ zero_row (plain_kernel kernel.now)) }
     {
+        // Its clause tells that the kernel is well formed.
+        let _ = kernel.shape();
         let row = vec![in alloc; 0i32; code.shape().inputs.len()]?;
         let outputs = vec![in alloc; 0i32; code.shape().outputs.len()]?;
-        let placement = on_one_core(alloc, kernel.parts().threads.len())?;
+        let cores = all_cores(alloc, placement.cores())?;
         let port = local_port(alloc, code)?;
-        let host = Host::load(alloc, code, &placement, &[0], port)?;
+        let host = Host::load(alloc, code, placement, &cores, port)?;
         Ok(Runner {
             kernel,
             host,
@@ -93,6 +112,7 @@ impl<'c> Runner<'c> {
         requires small { budget ≤ 2 ^ 62 }
         ensures kernel { kernel_in self.new ≡ kernel_in self.old }
         ensures code { code_of self.new.host ≡ code_of self.old.host }
+        ensures row { self.new.row.items ≡ self.old.row.items }
         ensures outcome { (s : State) → Follows s self.old → result ≡ (tick (kernel_in self.old) budget s self.old.row.items).outcome }
         ensures outputs { (s : State) → Follows s self.old → HasOutputs result → self.new.outputs.items ≡ (tick (kernel_in self.old) budget s self.old.row.items).outputs }
         ensures follows { (s : State) → Follows s self.old → goes_on result ≡ true

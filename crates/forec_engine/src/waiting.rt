@@ -1,5 +1,5 @@
 // Finished lines of the report that aren't with the sink yet.
-ghost use Rattle.std.specs.Prelude.{◌≡◌, ◌≢◌, ◌+◌, ◌-◌, ◌^◌, ◌≤◌, ◌++◌, ◌∷◌, [], ℤ, List, length, min, take, decimal, vec_len, vec_capacity, IfOk, OnOk, OnErr, IsTrue};
+ghost use Rattle.std.specs.Prelude.{◌≡◌, ◌≢◌, ◌+◌, ◌-◌, ◌^◌, ◌≤◌, ◌++◌, ◌∷◌, [], ℤ, List, length, min, take, codes, decimal, vec_len, vec_capacity, IfOk, OnOk, OnErr, IsTrue};
 ghost use Rattle.std.specs.Io.KnownBytes.{Appends};
 ghost use Rattle.forec_base.specs.Outside.{Fell};
 ghost use Rattle.trace_rows.specs.Calls.{Faults};
@@ -8,11 +8,14 @@ ghost use Rattle.forec_engine.specs.Calls.{AppendsFront};
 ghost use Rattle.trace_rows.specs.Report.{tick_line, tick_room, end_line, trap_word, trap_line, over_line, rows_line, fault_word, row_line, outcome_lines};
 ghost use Rattle.forec_engine.specs.Counting.{counts_line};
 ghost use Rattle.forec_engine.specs.Judging.{limit_words, refused_at, refusal_line};
+ghost use Rattle.forec_engine.specs.Placing.{place_line};
+ghost use Rattle.forec_engine.specs.Workload.{workload_line};
 
 use crate::counts::Counts;
 use crate::refusal::Refusal;
 use crate::sink::write_all;
 use crate::status::Status;
+use core_alloc::PlaceFault;
 use forec_base::{Failed, Labels, OutOfMemory, Place, Sink, Trap};
 use forec_kernel::Outcome;
 use itoa::Buffer;
@@ -115,7 +118,8 @@ impl Waiting {
         self.put(b"\n");
     }
 
-    fn put_trap(&mut self, tick: u64, place: Place, trap: Trap)
+    /// Adds the line of a tick that trapped here.
+    pub fn put_trap(&mut self, tick: u64, place: Place, trap: Trap)
         requires { HasRoom self.old 64 }
         ensures { Gains self.old self.new (trap_line tick place trap) }
     {
@@ -128,7 +132,8 @@ impl Waiting {
         self.put(trap_text(trap));
     }
 
-    fn put_over(&mut self, tick: u64, budget: u64)
+    /// Adds the line of a tick whose units passed the budget.
+    pub fn put_over(&mut self, tick: u64, budget: u64)
         requires { HasRoom self.old 64 }
         ensures { Gains self.old self.new (over_line tick budget) }
     {
@@ -206,6 +211,43 @@ impl Waiting {
             Refusal::Rule { place, rule } => self.put_broken(place, rule),
             Refusal::Limit { what, count } => self.put_limit(what, count),
         }
+    }
+
+    // Adds a line of words and a number.
+    fn put_numbered(&mut self, words: &[u8], number: u64)
+        requires room { HasRoom self.old 64 }
+        requires short { length words.now ≤ 12 }
+        ensures { Gains self.old self.new (words.now ++ decimal number ++ codes "\n") }
+    {
+        self.put(words);
+        self.put_number(number);
+        self.put(b"\n");
+    }
+
+    /// Adds the line of a list of places that is refused.
+    pub fn put_misplaced(&mut self, why: PlaceFault)
+        requires { HasRoom self.old 64 }
+        ensures { Gains self.old self.new (place_line why) }
+    {
+        match why {
+            PlaceFault::Shape { at } => self.put_numbered(b"place shape ", at),
+            PlaceFault::Count { found } => self.put_numbered(b"place count ", found),
+            PlaceFault::Core { at } => self.put_numbered(b"place core ", at),
+            PlaceFault::OutOfMemory => {}
+        }
+    }
+
+    /// Adds the line of a workload of so many threads, whose outputs have this sum.
+    #[tactic(auto, unfolding(crate::specs::Workload::workload_line))]
+    pub fn put_workload(&mut self, threads: u32, sum: u32)
+        requires { HasRoom self.old 128 }
+        ensures { Gains self.old self.new (workload_line threads sum) }
+    {
+        self.put(b"gen ");
+        self.put_number(u64::from(threads));
+        self.put(b" ticks 1000 sum ");
+        self.put_number(u64::from(sum));
+        self.put(b"\n");
     }
 
     /// Adds the line of what is counted of a program.

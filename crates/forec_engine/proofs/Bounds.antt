@@ -1,0 +1,114 @@
+-- What words ask for is within its ranges.
+use Rattle.std.proofs.Common.{◌≡◌, ◌≤◌, ℕ, nat_le, cond, if◌then◌else◌, ◌&&◌, ◌||◌, is_some, Bool, true, false, Option, None, Some, option_map, option_and_then, Result, Ok, Err, List, [], ◌∷◌, refl, subst, arith}
+use Rattle.std.specs.Prelude.{codes, IfOk}
+use Rattle.std.proofs.lemmas.Bool.{leb-true}
+use Rattle.forec_base.specs.declared.limits.TheConstants.{MAX_CORES, MAX_BUDGET}
+use Rattle.command_words.specs.CommandLine.{PlainValues, kinds_of, values_of}
+use Rattle.command_words.specs.Numbers.{between, number_of, number_in, number_or}
+use Rattle.command_words.specs.Requests.{PlainPlacing, PlainRunning, PlainCommand, Run, Check, Threads, Code, PlainRequest, OnText, OnWorkload, placing_of, budget_of, running_of, placing_alone_of, has_no_options, is_word, command_of, workload_of, request_named, request_by, unless_refused, request_of, plain_request}
+use Rattle.command_words.specs.declared.request.TheConstants.{DEFAULT_BUDGET, MAX_WORKLOAD}
+use Rattle.command_words.specs.declared.request.Request.{Request}
+use Rattle.forec_engine.specs.Commands.{IsPlaceable, IsRunnable, IsInRange, HasRanges}
+
+map_some : {A B : Type 0} (f : A → B) (o : Option A) (b : B) → option_map f o ≡ Some b → (x : A) × (o ≡ Some x) × (f x ≡ b)
+map_some f None b e = absurd (let h : None ≡ Some b = e in cc)
+map_some f (Some x) b e = (x, refl, (let h : Some (f x) ≡ Some b = e in cc))
+
+then_some : {A B : Type 0} (f : A → Option B) (o : Option A) (b : B) → option_and_then f o ≡ Some b → (x : A) × (o ≡ Some x) × (f x ≡ Some b)
+then_some f None b e = absurd (let h : None ≡ Some b = e in cc)
+then_some f (Some x) b e = (x, refl, e)
+
+unless : {A : Type 0} (b : Bool) (o : Option A) (x : A) → cond b None o ≡ Some x → o ≡ Some x
+unless true o x e = absurd (let h : None ≡ Some x = e in cc)
+unless false o x e = e
+
+-- ---- numbers
+
+within : (least most n m : ℕ) (a b : Bool) → nat_le least n ≡ a → nat_le n most ≡ b → cond (a && b) (Some n) None ≡ Some m → (least ≤ m) × (m ≤ most)
+within least most n m true true e f h =
+    let is : n ≡ m = (let g : Some n ≡ Some m = h in cc) in
+    (subst (λ x. least ≤ x) is (leb-true _ _ e), subst (λ x. x ≤ most) is (leb-true _ _ f))
+within least most n m true false e f h = absurd (let g : None ≡ Some m = h in cc)
+within least most n m false b e f h = absurd (let g : None ≡ Some m = h in cc)
+
+in_range : (least most m : ℕ) (o : Option ℕ) → between least most o ≡ Some m → (least ≤ m) × (m ≤ most)
+in_range least most m None e = absurd (let h : None ≡ Some m = e in cc)
+in_range least most m (Some n) e = within least most n m (nat_le least n) (nat_le n most) refl refl e
+
+or_usual : (usual most m : ℕ) (word : Option (List ℕ)) → 1 ≤ usual → usual ≤ most → number_or usual most word ≡ Some m → (1 ≤ m) × (m ≤ most)
+or_usual usual most m None some few e = let is : usual ≡ m = (let h : Some usual ≡ Some m = e in cc) in (subst (λ x. 1 ≤ x) is some, subst (λ x. x ≤ most) is few)
+or_usual usual most m (Some word) some few e = in_range 1 most m (number_of word) e
+
+-- ---- commands
+
+placeable : (v : PlainValues) (p : PlainPlacing) → placing_of v ≡ Some p → IsPlaceable p
+placeable v p e =
+    let m = map_some _ (number_or 1 MAX_CORES v.cores) p e in
+    let n = or_usual 1 MAX_CORES m.0 v.cores (omega arith) (omega arith) m.1 in
+    subst IsPlaceable m.2 (record { some = n.0; few = n.1 })
+
+runnable : (v : PlainValues) (r : PlainRunning) → running_of v ≡ Some r → IsRunnable r
+runnable v r e =
+    let t = then_some _ (placing_of v) r (unless (is_some v.order) _ r e) in
+    let m = map_some _ (budget_of v) r t.2 in
+    let n = or_usual DEFAULT_BUDGET MAX_BUDGET m.0 v.budget (omega arith) (omega arith) m.1 in
+    subst IsRunnable m.2 (record { placeable = placeable v t.0 t.1; small = n.1 })
+
+module _ (v : PlainValues) (c : PlainCommand) where
+  runs : option_map Run (running_of v) ≡ Some c → IsInRange c
+  runs e = let m = map_some Run (running_of v) c e in subst IsInRange m.2 (runnable v m.0 m.1)
+
+  lists : option_map Threads (placing_alone_of v) ≡ Some c → IsInRange c
+  lists e =
+      let m = map_some Threads (placing_alone_of v) c e in
+      subst IsInRange m.2 (placeable v m.0 (unless (is_some v.budget || is_some v.order) (placing_of v) m.0 m.1))
+
+  alone : (b : Bool) (d : PlainCommand) → IsInRange d → cond b (Some d) None ≡ Some c → IsInRange c
+  alone true d h e = subst IsInRange (let g : Some d ≡ Some c = e in cc) h
+  alone false d h e = absurd (let g : None ≡ Some c = e in cc)
+
+  by_words : (run threads check code : Bool) →
+      (if run then option_map Run (running_of v)
+      else (if threads then option_map Threads (placing_alone_of v)
+      else (if check then cond (has_no_options v) (Some Check) None
+      else (if code then cond (has_no_options v) (Some Code) None
+      else None)))) ≡ Some c → IsInRange c
+  by_words true threads check code e = runs e
+  by_words false true check code e = lists e
+  by_words false false true code e = alone (has_no_options v) Check tt e
+  by_words false false false true e = alone (has_no_options v) Code tt e
+  by_words false false false false e = absurd (let g : None ≡ Some c = e in cc)
+
+module _ (v : PlainValues) (r : PlainRequest) where
+  workload : (number : List ℕ) → workload_of number v ≡ Some r → HasRanges r
+  workload number e =
+      let t = then_some _ (number_in 1 MAX_WORKLOAD number) r e in
+      let m = map_some (OnWorkload t.0) (running_of v) r t.2 in
+      subst HasRanges m.2 ((in_range 1 MAX_WORKLOAD t.0 (number_of number) t.1).1, runnable v m.0 m.1)
+
+  text : (name program : List ℕ) → option_map (OnText program) (command_of name v) ≡ Some r → HasRanges r
+  text name program e =
+      let m = map_some (OnText program) (command_of name v) r e in
+      subst HasRanges m.2 (by_words v m.0 (is_word name (codes "run")) (is_word name (codes "threads")) (is_word name (codes "check")) (is_word name (codes "code")) m.1)
+
+  by_name : (name program : List ℕ) (b : Bool) → (if b then workload_of program v else option_map (OnText program) (command_of name v)) ≡ Some r → HasRanges r
+  by_name name program true e = workload program e
+  by_name name program false e = text name program e
+
+  by_values : request_by v ≡ Some r → HasRanges r
+  by_values e =
+      let n = then_some _ v.command r e in
+      let p = then_some (λ program. request_named n.0 program v) v.program r n.2 in
+      by_name n.0 p.0 (is_word n.0 (codes "gen")) p.2
+
+  by_kinds : (kinds : List _) → unless_refused kinds (request_by v) ≡ Some r → HasRanges r
+  by_kinds [] e = by_values e
+  by_kinds (kind ∷ kinds) e = absurd (let g : None ≡ Some r = e in cc)
+
+ranges : (words : List (List ℕ)) (r : PlainRequest) → request_of words ≡ Some r → HasRanges r
+unfolding request_of
+ranges words r e = by_kinds (values_of words) r (kinds_of words) e
+
+pub all_ranges : {E : Type 0} (words : List (List ℕ)) (result : Result Request E) → IfOk result (λ r. request_of words ≡ Some (plain_request r)) → IfOk result (λ r. HasRanges (plain_request r))
+all_ranges words (Ok r) e = ranges words (plain_request r) e
+all_ranges words (Err f) e = tt

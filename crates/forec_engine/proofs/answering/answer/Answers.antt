@@ -1,0 +1,88 @@
+use Rattle.std.proofs.Common.{inl, inr, ap}
+use Rattle.forec_kernel.specs.Shapes.{plain_kernel}
+use Rattle.command_words.specs.Requests.{plain_placing, plain_running, plain_command}
+use Rattle.forec_engine.specs.Calls.{AppendsFront}
+use Rattle.forec_engine.specs.Ends.{Given}
+use Rattle.forec_engine.proofs.Answered.{run_answers, check_answers, threads_answers, code_answers, run_misplaced, threads_misplaced}
+use Rattle.forec_engine.proofs.answering.answer.Goals as goal
+
+pub returns-in-Run-clause-own : goal.returns-in-Run-clause-own
+returns-in-Run-clause-own g c = λ own told.
+    let a = c.args.accepted.now in
+    run_answers (plain_command c.args.command) (plain_running c.in-Run.running) a.counts (plain_kernel a.kernel) (g.S.Source.left c.args.trace.now)
+    (λ r. Given r c.place_and_start.result (g.K.Sink.held c.args.out.now) (g.K.Sink.held c.place_and_start.new.out)) (ap plain_command c.in-Run.is) (c.place_and_start.ensures.own own) told
+
+pub returns-in-Run-clause-read : goal.returns-in-Run-clause-read
+returns-in-Run-clause-read g c = λ is. let r = c.place_and_start.ensures.read is in (plain_running c.in-Run.running, ap plain_command c.in-Run.is, r.0, r.1, r.2)
+
+pub returns-in-Run-clause-write : goal.returns-in-Run-clause-write
+returns-in-Run-clause-write g c = λ is.
+    let a = c.args.accepted.now in
+    let w = c.place_and_start.ensures.write is in (
+      w.0,
+      λ told.
+          run_answers (plain_command c.args.command) (plain_running c.in-Run.running) a.counts (plain_kernel a.kernel) (g.S.Source.left c.args.trace.now)
+          (λ r. AppendsFront (g.K.Sink.held c.args.out.now) (g.K.Sink.held c.place_and_start.new.out) r.bytes) (ap plain_command c.in-Run.is) w.1 told,
+    )
+
+pub returns-in-Run-clause-trace : goal.returns-in-Run-clause-trace
+returns-in-Run-clause-trace g c =
+    elim c.place_and_start.ensures.trace [
+      | inl same ↦ inl same
+      | inr r ↦ inr (plain_running c.in-Run.running, ap plain_command c.in-Run.is, r.0, r.1)
+    ]
+
+pub returns-in-Run-clause-usage : goal.returns-in-Run-clause-usage
+returns-in-Run-clause-usage g c = λ is. run_misplaced (plain_command c.args.command) (plain_running c.in-Run.running) (plain_kernel c.args.accepted.now.kernel) (ap plain_command c.in-Run.is) (c.place_and_start.ensures.usage is)
+
+pub returns-in-Check-clause-own : goal.returns-in-Check-clause-own
+returns-in-Check-clause-own g c = λ own told.
+    let a = c.args.accepted.now in
+    check_answers (plain_command c.args.command) a.counts (plain_kernel a.kernel) (g.S.Source.left c.args.trace.now)
+    (λ r. Given r c.tell.result (g.K.Sink.held c.args.out.now) (g.K.Sink.held c.tell.new.out)) (ap plain_command c.in-Check.is) (c.tell.ensures.own own)
+
+pub returns-in-Check-clause-write : goal.returns-in-Check-clause-write
+returns-in-Check-clause-write g c = λ is.
+    let a = c.args.accepted.now in
+    let w = c.tell.ensures.write is in (
+      w.0,
+      λ told.
+          check_answers (plain_command c.args.command) a.counts (plain_kernel a.kernel) (g.S.Source.left c.args.trace.now)
+          (λ r. AppendsFront (g.K.Sink.held c.args.out.now) (g.K.Sink.held c.tell.new.out) r.bytes) (ap plain_command c.in-Check.is) w.1,
+    )
+
+pub returns-in-Threads-clause-own : goal.returns-in-Threads-clause-own
+returns-in-Threads-clause-own g c = λ own told.
+    let a = c.args.accepted.now in
+    threads_answers (plain_command c.args.command) (plain_placing c.in-Threads.placing) a.counts (plain_kernel a.kernel) (g.S.Source.left c.args.trace.now)
+    (λ r. Given r c.list_threads.result (g.K.Sink.held c.args.out.now) (g.K.Sink.held c.list_threads.new.out)) (ap plain_command c.in-Threads.is) (c.list_threads.ensures.own own)
+
+pub returns-in-Threads-clause-write : goal.returns-in-Threads-clause-write
+returns-in-Threads-clause-write g c = λ is.
+    let a = c.args.accepted.now in
+    let w = c.list_threads.ensures.write is in (
+      w.0,
+      λ told.
+          threads_answers (plain_command c.args.command) (plain_placing c.in-Threads.placing) a.counts (plain_kernel a.kernel) (g.S.Source.left c.args.trace.now)
+          (λ r. AppendsFront (g.K.Sink.held c.args.out.now) (g.K.Sink.held c.list_threads.new.out) r.bytes) (ap plain_command c.in-Threads.is) w.1,
+    )
+
+pub returns-in-Threads-clause-usage : goal.returns-in-Threads-clause-usage
+returns-in-Threads-clause-usage g c = λ is.
+    threads_misplaced (plain_command c.args.command) (plain_placing c.in-Threads.placing) (plain_kernel c.args.accepted.now.kernel) (ap plain_command c.in-Threads.is) (c.list_threads.ensures.usage is)
+
+pub returns-in-Code-clause-own : goal.returns-in-Code-clause-own
+returns-in-Code-clause-own g c = λ own told.
+    let a = c.args.accepted.now in
+    code_answers (plain_command c.args.command) a.counts (plain_kernel a.kernel) (g.S.Source.left c.args.trace.now)
+    (λ r. Given r c.list.result (g.K.Sink.held c.args.out.now) (g.K.Sink.held c.list.new.out)) (ap plain_command c.in-Code.is) (c.list.ensures.own own)
+
+pub returns-in-Code-clause-write : goal.returns-in-Code-clause-write
+returns-in-Code-clause-write g c = λ is.
+    let a = c.args.accepted.now in
+    let w = c.list.ensures.write is in (
+      w.0,
+      λ told.
+          code_answers (plain_command c.args.command) a.counts (plain_kernel a.kernel) (g.S.Source.left c.args.trace.now)
+          (λ r. AppendsFront (g.K.Sink.held c.args.out.now) (g.K.Sink.held c.list.new.out) r.bytes) (ap plain_command c.in-Code.is) w.1,
+    )
