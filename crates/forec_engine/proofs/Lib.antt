@@ -11,9 +11,5 @@ mod Running
 mod Splitting
 mod TickLines
 mod Told
-mod Lexing
 mod Picking
-mod LeastFault
-mod Limits
-mod Verdicts
 mod WorkedLines

@@ -5,14 +5,15 @@ use Rattle.forec_kernel.specs.Shapes.{PlainKernel}
 use Rattle.thread_code.specs.Alone.{Stands}
 use Rattle.thread_code.specs.Plain.{PlainCode}
 use Rattle.forec_engine.specs.Commands.{AcceptedReport, Of_refusal, Of_accepted, Of_usage, Of_text, TextReport, IsReport, TellsTrace, Tells, command_of, usage, refused, counted, listed}
-use Rattle.forec_engine.specs.Judging.{Verdict, Refuses, Accepts, Judged, too_long, most_bytes}
-use Rattle.forec_engine.specs.Laws.{OneVerdict, AskForCode, OneReport, ListOneKernel, AlikeReports, SomeReport}
-use Rattle.forec_engine.specs.declared.counts.Counts.{Counts}
-use Rattle.forec_engine.specs.declared.refusal.Refusal.{Refusal}
-use Rattle.forec_engine.specs.declared.refusal.Refusal.TheVariants as why
+use Rattle.text_verdict.specs.Judging.{Verdict, Refuses, Accepts, Judged, too_long, most_bytes}
+use Rattle.forec_engine.specs.Laws.{AskForCode, OneReport, ListOneKernel, AlikeReports, SomeReport}
+use Rattle.text_verdict.specs.Laws.{OneVerdict}
+use Rattle.text_verdict.specs.declared.counts.Counts.{Counts}
+use Rattle.text_verdict.specs.declared.refusal.Refusal.{Refusal}
+use Rattle.text_verdict.specs.declared.refusal.Refusal.TheVariants as why
 use Rattle.forec_engine.specs.declared.words.Command.{Command}
 use Rattle.forec_engine.specs.declared.words.Command.TheVariants as kind
-use Rattle.forec_engine.proofs.Verdicts.{some_verdict}
+use Rattle.text_verdict.proofs.Verdicts.{some_verdict}
 use Rattle.forec_engine.specs.Report.{Report, trace_report}
 
 some_same : {A : Type 0} (x y : A) → Some x ≡ Some y → x ≡ y

@@ -7,10 +7,10 @@ use Rattle.thread_code.specs.Alone.{Stands}
 use Rattle.thread_code.specs.Listing.{listing_of}
 use Rattle.thread_code.specs.Plain.{PlainCode}
 use Rattle.trace_rows.specs.Numbers.{magnitude_of}
-use Rattle.forec_engine.specs.Counting.{counts_line}
-use Rattle.forec_engine.specs.Judging.{refusal_line, Accepts, Refuses, Judged}
-use Rattle.forec_engine.specs.declared.counts.Counts.{Counts}
-use Rattle.forec_engine.specs.declared.refusal.Refusal.{Refusal}
+use Rattle.text_verdict.specs.Counting.{counts_line}
+use Rattle.text_verdict.specs.Judging.{refusal_line, Accepts, Refuses, Judged}
+use Rattle.text_verdict.specs.declared.counts.Counts.{Counts}
+use Rattle.text_verdict.specs.declared.refusal.Refusal.{Refusal}
 use Rattle.forec_engine.specs.declared.words.Command.{Command}
 use Rattle.forec_engine.specs.declared.words.Command.TheVariants as command
 use Rattle.forec_engine.specs.Report.{Report, trace_report}

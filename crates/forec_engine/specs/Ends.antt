@@ -6,9 +6,9 @@ use Rattle.trace_rows.specs.Calls.{IfTold}
 use Rattle.trace_rows.specs.Lines.{whole_lines}
 use Rattle.trace_rows.specs.Reads.{Reads}
 use Rattle.forec_engine.specs.Commands.{command_of}
-use Rattle.forec_engine.specs.Judging.{Accepts, Judged}
+use Rattle.text_verdict.specs.Judging.{Accepts, Judged}
 use Rattle.forec_engine.specs.Report.{Report, printed_for}
-use Rattle.forec_engine.specs.declared.counts.Counts.{Counts}
+use Rattle.text_verdict.specs.declared.counts.Counts.{Counts}
 use Rattle.forec_engine.specs.declared.status.Status.{Status}
 use Rattle.forec_engine.specs.declared.status.Status.TheVariants as status
 use Rattle.forec_engine.specs.declared.words.Command.TheVariants as command

@@ -10,10 +10,7 @@ ghost use Rattle.forec_engine.specs.Commands.{program_of, command_of, usage, ref
 ghost use Rattle.forec_engine.specs.Ends.{IsOwn, Given, Wanted, WantedByText, WantedByWords, ReadFor, ReadForText, ReadForWords};
 ghost use Rattle.forec_engine.specs.Report.{Report, trace_report};
 
-use crate::counts::Counts;
-use crate::judging::{Accepted, judge};
 use crate::names::pick_names;
-use crate::refusal::{JudgeFault, Refusal};
 use crate::runner::Runner;
 use crate::sink::say;
 use crate::status::Status;
@@ -24,6 +21,7 @@ use code_gen::generate;
 use forec_base::{Gate, MAX_TEXT_BYTES, Sink, Source, TextFault, Texts};
 use forec_kernel::Kernel;
 use std::alloc::Global;
+use text_verdict::{Accepted, Counts, JudgeFault, Refusal, judge};
 use thread_code::listing;
 
 const USAGE: &[u8] =

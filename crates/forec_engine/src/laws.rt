@@ -1,7 +1,7 @@
 // Laws of the reports.
 ghost use Rattle.forec_engine.specs.Laws.{OneReport, AlikeReports, SomeReport};
 
-use crate::judging::one_verdict;
+use text_verdict::one_verdict;
 
 /// Words other than `code P` have one report at most, and its bytes and status are those that the top
 /// call gives.

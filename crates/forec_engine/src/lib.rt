@@ -2,13 +2,10 @@
 #![tactic(auto)]
 
 mod command;
-mod counts;
 mod found;
-mod judging;
 mod laws;
 mod names;
 mod placing;
-mod refusal;
 mod runner;
 mod sink;
 mod status;
