@@ -8,7 +8,7 @@ use Rattle.command_words.specs.Requests.{PlainPlacing, PlainRunning, PlainComman
 use Rattle.forec_engine.specs.Commands.{ThreadsReport, AcceptedReport, TellsTrace, counted, listed, run_report}
 use Rattle.forec_engine.specs.Ends.{CommandIsMisplaced}
 use Rattle.forec_engine.specs.Placing.{IsMisplaced}
-use Rattle.forec_engine.specs.declared.counts.Counts.{Counts}
+use Rattle.text_verdict.specs.declared.counts.Counts.{Counts}
 use Rattle.forec_engine.specs.Report.{Report}
 
 -- what holds of the report of what the trace holds, where it is told

@@ -6,9 +6,6 @@ mod Cores
 mod Endings
 mod Following
 mod Heading
-mod LeastFault
-mod Lexing
-mod Limits
 mod Named
 mod Picking
 mod Placed
@@ -19,5 +16,4 @@ mod Splitting
 mod TickLines
 mod Ticking
 mod Told
-mod Verdicts
 mod WorkedLines

@@ -3,9 +3,9 @@ use Rattle.std.proofs.Common.{◌≡◌, ℕ, ◌<◌, List, Option, Some, lengt
 use Rattle.std.specs.Option.{IfSome}
 use Rattle.forec_kernel.specs.Shapes.{PlainKernel}
 use Rattle.forec_engine.specs.Commands.{Of_refusal, TextReport, refused}
-use Rattle.forec_engine.specs.Judging.{too_long, most_bytes}
-use Rattle.forec_engine.specs.declared.counts.Counts.{Counts}
-use Rattle.forec_engine.specs.declared.refusal.Refusal.TheVariants as why
+use Rattle.text_verdict.specs.Judging.{too_long, most_bytes}
+use Rattle.text_verdict.specs.declared.counts.Counts.{Counts}
+use Rattle.text_verdict.specs.declared.refusal.Refusal.TheVariants as why
 use Rattle.forec_engine.specs.Report.{Report}
 
 pub told_same : (o : Option (List ℕ)) (Q : List ℕ → Type 0) (text : List ℕ) → IfSome o Q → o ≡ Some text → Q text

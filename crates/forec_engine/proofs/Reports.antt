@@ -6,11 +6,11 @@ use Rattle.core_alloc.specs.declared.fault.PlaceFault.{PlaceFault}
 use Rattle.command_words.specs.Requests.{PlainPlacing, PlainRunning, PlainCommand, Run, Check, Threads, Code, PlainRequest, OnText, OnWorkload, request_of}
 use Rattle.thread_places.specs.Laws.{OnePlacement, SomePlacement}
 use Rattle.forec_engine.specs.Commands.{ThreadsReport, Of_misplaced, Of_placed, AcceptedReport, Of_refusal, Of_accepted, TextReport, WorkloadReport, Of_usage, Of_text, Of_workload, IsReport, TellsTrace, Tells, usage, refused, counted, threads_listed, run_report}
-use Rattle.forec_engine.specs.Judging.{Verdict, Refuses, Accepts, Judged}
-use Rattle.forec_engine.specs.Laws.{OneVerdict, AskForCode, OneReport, ListOneKernel, AlikeReports, SomeReport}
-use Rattle.forec_engine.specs.declared.counts.Counts.{Counts}
-use Rattle.forec_engine.specs.declared.refusal.Refusal.{Refusal}
-use Rattle.forec_engine.proofs.Verdicts.{some_verdict}
+use Rattle.text_verdict.specs.Judging.{Verdict, Refuses, Accepts, Judged}
+use Rattle.text_verdict.specs.Laws.{OneVerdict, SomeVerdict}
+use Rattle.forec_engine.specs.Laws.{AskForCode, OneReport, ListOneKernel, AlikeReports, SomeReport}
+use Rattle.text_verdict.specs.declared.counts.Counts.{Counts}
+use Rattle.text_verdict.specs.declared.refusal.Refusal.{Refusal}
 use Rattle.forec_engine.specs.Placing.{misplaced, misplacing}
 use Rattle.forec_engine.specs.Report.{Report}
 use Rattle.forec_engine.specs.Workload.{workload_report}
@@ -152,22 +152,22 @@ some_of_accepted some Check trace c k other told never = never (counted c) refl
 some_of_accepted some (Threads placing) trace c k other told never = some_threads some k placing (misplacing k placing) refl never
 some_of_accepted some Code trace c k other told never = other refl
 
-some_of_text : (text : List ℕ) (Says : Counts → PlainKernel → Report → Type 0) → ((c : Counts) (k : PlainKernel) → ((r : Report) → Says c k r → ⊥) → ⊥) → ((r : Report) → TextReport text Says r → ⊥) → ⊥
-some_of_text text Says some never = some_verdict text by
+some_of_text : SomeVerdict → (text : List ℕ) (Says : Counts → PlainKernel → Report → Type 0) → ((c : Counts) (k : PlainKernel) → ((r : Report) → Says c k r → ⊥) → ⊥) → ((r : Report) → TextReport text Says r → ⊥) → ⊥
+some_of_text verdict text Says some never = verdict text by
   where
     by : (v : Verdict) → Judged text v → ⊥
     by (Accepts c k) j = some c k (λ r x. never r (Of_accepted c k j x))
     by (Refuses why) j = never (refused why) (Of_refusal why j refl)
 
-some_of_words : SomePlacement → (words : List (List ℕ)) (content : List ℕ → Option (List ℕ)) (trace : Option (List ℕ)) (x : Option PlainRequest) → request_of words ≡ x → (AskForCode words → ⊥) →
+some_of_words : SomeVerdict → SomePlacement → (words : List (List ℕ)) (content : List ℕ → Option (List ℕ)) (trace : Option (List ℕ)) (x : Option PlainRequest) → request_of words ≡ x → (AskForCode words → ⊥) →
     Tells words content trace → ((r : Report) → IsReport words content trace r → ⊥) → ⊥
-some_of_words some words content trace None e not told never = never usage (Of_usage e refl)
-some_of_words some words content trace (Some (OnText name command)) e not told never =
+some_of_words verdict some words content trace None e not told never = never usage (Of_usage e refl)
+some_of_words verdict some words content trace (Some (OnText name command)) e not told never =
     let text = told name command e in
-    some_of_text text.0 (AcceptedReport command trace) (λ c k. some_of_accepted some command trace c k (λ z. not (name, subst (λ m. request_of words ≡ Some (OnText name m)) z e)) text.2)
+    some_of_text verdict text.0 (AcceptedReport command trace) (λ c k. some_of_accepted some command trace c k (λ z. not (name, subst (λ m. request_of words ≡ Some (OnText name m)) z e)) text.2)
     (λ r t. never r (Of_text name command text.0 e text.1 t))
-some_of_words some words content trace (Some (OnWorkload threads running)) e not told never =
-    some_of_text _ (λ c k x. x ≡ workload_report threads running k) (λ c k none. none (workload_report threads running k) refl) (λ r t. never r (Of_workload threads running e t))
+some_of_words verdict some words content trace (Some (OnWorkload threads running)) e not told never =
+    some_of_text verdict _ (λ c k x. x ≡ workload_report threads running k) (λ c k none. none (workload_report threads running k) refl) (λ r t. never r (Of_workload threads running e t))
 
-pub some_report : SomePlacement → SomeReport
-some_report some words content trace not told never = some_of_words some words content trace (request_of words) refl not told never
+pub some_report : SomeVerdict → SomePlacement → SomeReport
+some_report verdict some words content trace not told never = some_of_words verdict some words content trace (request_of words) refl not told never

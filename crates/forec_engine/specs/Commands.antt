@@ -11,12 +11,12 @@ use Rattle.command_words.specs.Requests.{PlainPlacing, PlainRunning, PlainComman
 use Rattle.thread_places.specs.Lines.{thread_lines}
 use Rattle.thread_places.specs.Placed.{IsPlacement}
 use Rattle.workload.specs.Text.{text_of}
-use Rattle.forec_engine.specs.Counting.{counts_line}
-use Rattle.forec_engine.specs.Judging.{refusal_line, Accepts, Refuses, Judged}
+use Rattle.text_verdict.specs.Counting.{counts_line}
+use Rattle.text_verdict.specs.Judging.{refusal_line, Accepts, Refuses, Judged}
 use Rattle.forec_engine.specs.Placing.{misplaced, misplacing, unless_misplaced}
 use Rattle.forec_engine.specs.Workload.{workload_report}
-use Rattle.forec_engine.specs.declared.counts.Counts.{Counts}
-use Rattle.forec_engine.specs.declared.refusal.Refusal.{Refusal}
+use Rattle.text_verdict.specs.declared.counts.Counts.{Counts}
+use Rattle.text_verdict.specs.declared.refusal.Refusal.{Refusal}
 use Rattle.forec_engine.specs.Report.{Report, trace_report}
 use Rattle.forec_engine.specs.declared.status.Status.TheVariants as status
 

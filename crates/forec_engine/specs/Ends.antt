@@ -7,10 +7,10 @@ use Rattle.trace_rows.specs.Lines.{whole_lines}
 use Rattle.trace_rows.specs.Reads.{Reads}
 use Rattle.command_words.specs.Requests.{PlainPlacing, PlainRunning, PlainCommand, Run, Check, Threads, Code, OnText, OnWorkload, request_of}
 use Rattle.workload.specs.Text.{text_of}
-use Rattle.forec_engine.specs.Judging.{Accepts, Judged}
+use Rattle.text_verdict.specs.Judging.{Accepts, Judged}
 use Rattle.forec_engine.specs.Placing.{misplacing, IsMisplaced}
 use Rattle.forec_engine.specs.Report.{Report, printed_for}
-use Rattle.forec_engine.specs.declared.counts.Counts.{Counts}
+use Rattle.text_verdict.specs.declared.counts.Counts.{Counts}
 use Rattle.forec_engine.specs.declared.status.Status.{Status}
 use Rattle.forec_engine.specs.declared.status.Status.TheVariants as status
 

@@ -5,12 +5,7 @@ use Rattle.thread_code.specs.Alone.{Stands}
 use Rattle.thread_code.specs.Plain.{PlainCode}
 use Rattle.command_words.specs.Requests.{OnText, Code, request_of}
 use Rattle.forec_engine.specs.Commands.{IsReport, Tells, listed}
-use Rattle.forec_engine.specs.Judging.{Verdict, Judged}
 use Rattle.forec_engine.specs.Report.{Report}
-
--- a text has one verdict at most
-abbrev pub OneVerdict : Type 0
-OneVerdict = (text : List ℕ) (v w : Verdict) → Judged text v → Judged text w → v ≡ w
 
 -- the words ask for the listing of a code
 abbrev pub AskForCode : List (List ℕ) → Type 0

@@ -1,9 +1,7 @@
 pub mod Calls
 pub mod Commands
-pub mod Counting
 pub mod Ends
 pub mod Following
-pub mod Judging
 pub mod KernelNames
 pub mod Laws
 pub mod Placing

@@ -13,11 +13,8 @@ ghost use Rattle.forec_engine.specs.Placing.{misplaced, misplacing, IsMisplaced}
 ghost use Rattle.forec_engine.specs.Report.{Report, trace_report};
 ghost use Rattle.forec_engine.specs.Workload.{ticked_report, workload_report};
 
-use crate::counts::Counts;
 use crate::generated::run_workload;
-use crate::judging::Accepted;
 use crate::names::pick_names;
-use crate::refusal::Refusal;
 use crate::runner::Runner;
 use crate::sink::say;
 use crate::status::Status;
@@ -29,6 +26,7 @@ use core_alloc::{PlaceFault, Placement};
 use forec_base::{Gate, Sink, Source};
 use forec_kernel::Kernel;
 use std::alloc::Global;
+use text_verdict::{Accepted, Counts, Refusal};
 use thread_code::listing;
 use thread_places::{place, thread_list};
 

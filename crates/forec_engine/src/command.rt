@@ -7,18 +7,17 @@ ghost use Rattle.workload.specs.Text.{text_of};
 ghost use Rattle.forec_engine.specs.Calls.{AppendsFront};
 ghost use Rattle.forec_engine.specs.Commands.{usage, IsReport, TextReport, AcceptedReport, WorkloadReport, TellsTrace, Tells, IsInRange, IsRunnable, HasRanges};
 ghost use Rattle.forec_engine.specs.Ends.{IsOwn, Given, WantedByText, WantedByWords, ReadForText, ReadForWords, CommandIsMisplaced, AcceptedSo, IsMisuse};
-ghost use Rattle.forec_engine.specs.Judging.{Judged, Says};
+ghost use Rattle.text_verdict.specs.Judging.{Judged, Says};
 ghost use Rattle.forec_engine.specs.Placing.{IsMisplaced};
 ghost use Rattle.forec_engine.specs.Report.{Report};
 
 use crate::answering::{answer, answer_workload, refuse};
-use crate::judging::{Accepted, judge};
-use crate::refusal::{JudgeFault, Refusal};
 use crate::sink::say;
 use crate::status::Status;
 use command_words::{Command, Request, Running, WordsFault, read_words};
 use forec_base::{Gate, MAX_TEXT_BYTES, Sink, Source, TextFault, Texts};
 use std::alloc::Global;
+use text_verdict::{Accepted, JudgeFault, Refusal, judge};
 use workload::workload_text;
 
 const USAGE: &[u8] =

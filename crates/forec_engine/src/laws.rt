@@ -1,7 +1,7 @@
 // Laws of the reports.
 ghost use Rattle.forec_engine.specs.Laws.{OneReport, AlikeReports, SomeReport};
 
-use crate::judging::one_verdict;
+use text_verdict::{each_text_has_a_verdict, one_verdict};
 use thread_places::{one_placement, some_placement};
 
 /// Words other than `code P` have one report at most, and its bytes and status are those that the top
@@ -26,5 +26,6 @@ pub fn reports_are_alike()
 pub fn each_command_has_a_report()
     ensures { SomeReport }
 {
+    each_text_has_a_verdict();
     some_placement();
 }

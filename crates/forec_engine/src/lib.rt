@@ -3,13 +3,10 @@
 
 mod answering;
 mod command;
-mod counts;
 mod found;
 mod generated;
-mod judging;
 mod laws;
 mod names;
-mod refusal;
 mod runner;
 mod sink;
 mod status;

@@ -6,13 +6,11 @@ ghost use Rattle.trace_rows.specs.Calls.{Faults};
 ghost use Rattle.core_host.specs.Outcomes.{HasOutputs};
 ghost use Rattle.forec_engine.specs.Calls.{AppendsFront};
 ghost use Rattle.trace_rows.specs.Report.{tick_line, tick_room, end_line, trap_word, trap_line, over_line, rows_line, fault_word, row_line, outcome_lines};
-ghost use Rattle.forec_engine.specs.Counting.{counts_line};
-ghost use Rattle.forec_engine.specs.Judging.{limit_words, refused_at, refusal_line};
+ghost use Rattle.text_verdict.specs.Counting.{counts_line};
+ghost use Rattle.text_verdict.specs.Judging.{limit_words, refused_at, refusal_line};
 ghost use Rattle.forec_engine.specs.Placing.{place_line};
 ghost use Rattle.forec_engine.specs.Workload.{workload_line};
 
-use crate::counts::Counts;
-use crate::refusal::Refusal;
 use crate::sink::write_all;
 use crate::status::Status;
 use core_alloc::PlaceFault;
@@ -20,7 +18,7 @@ use forec_base::{Failed, Labels, OutOfMemory, Place, Sink, Trap};
 use forec_kernel::Outcome;
 use itoa::Buffer;
 use std::alloc::Global;
-use text_kernel::Quantity;
+use text_verdict::{Counts, Quantity, Refusal};
 use trace_rows::{RowFault, line, line_room};
 
 // Room for the lines of a tick, that of its outputs apart.
@@ -251,7 +249,7 @@ impl Waiting {
     }
 
     /// Adds the line of what is counted of a program.
-    #[tactic(auto, unfolding(crate::specs::Counting::counts_line))]
+    #[tactic(auto, unfolding(text_verdict::specs::Counting::counts_line))]
     pub fn put_counts(&mut self, counts: Counts)
         requires { HasRoom self.old 128 }
         ensures { Gains self.old self.new (counts_line counts) }

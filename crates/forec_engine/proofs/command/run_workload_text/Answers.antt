@@ -2,7 +2,7 @@ use Rattle.std.proofs.Common.{List, ℕ, refl, subst, ◌∙◌}
 use Rattle.forec_kernel.specs.Shapes.{plain_kernel}
 use Rattle.command_words.specs.Requests.{plain_running}
 use Rattle.forec_engine.specs.Commands.{Of_refusal, Of_accepted, refused}
-use Rattle.forec_engine.specs.Judging.{Accepts, Refuses, Judged}
+use Rattle.text_verdict.specs.Judging.{Accepts, Refuses, Judged}
 use Rattle.forec_engine.specs.Workload.{workload_report}
 use Rattle.forec_engine.proofs.command.run_workload_text.Goals as goal
 

@@ -4,7 +4,7 @@ use Rattle.forec_tree.specs.Terms.{Text}
 use Rattle.forec_check.specs.Checked.{inputs_of, outputs_of}
 use Rattle.forec_check.specs.Instances.{start_of}
 use Rattle.forec_tree.specs.Threads.{instances}
-use Rattle.forec_engine.specs.declared.counts.Counts.{Counts}
+use Rattle.text_verdict.specs.declared.counts.Counts.{Counts}
 
 abbrev pub counts_of : Text → List (List ℕ) → Counts
 counts_of text names = record { threads = instances text (start_of names text); inputs = inputs_of text; outputs = outputs_of text }

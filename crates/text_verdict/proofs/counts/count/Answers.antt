@@ -2,8 +2,8 @@ use Rattle.std.proofs.Common.{◌≡◌, ℕ, ap, ◌∙◌, arith}
 use Rattle.forec_tree.specs.Threads.{instances}
 use Rattle.forec_check.specs.Checked.{text_of, names_of, inputs_of}
 use Rattle.forec_check.specs.Instances.{start_of}
-use Rattle.forec_engine.specs.declared.counts.Counts.{Counts}
-use Rattle.forec_engine.proofs.counts.count.Goals as goal
+use Rattle.text_verdict.specs.declared.counts.Counts.{Counts}
+use Rattle.text_verdict.proofs.counts.count.Goals as goal
 
 abbrev counts : ℕ → ℕ → ℕ → Counts
 counts t i o = record { threads = t; inputs = i; outputs = o }

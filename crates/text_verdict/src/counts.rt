@@ -4,7 +4,7 @@ ghost use Rattle.std.specs.Prelude.{◌≡◌, ◌≤◌, IfOk};
 ghost use Rattle.forec_tree.specs.Threads.{instances};
 ghost use Rattle.forec_check.specs.Instances.{start_of};
 ghost use Rattle.forec_check.specs.Checked.{text_of, names_of};
-ghost use Rattle.forec_engine.specs.Counting.{counts_of};
+ghost use Rattle.text_verdict.specs.Counting.{counts_of};
 
 use forec_base::{MAX_THREADS, OutOfMemory};
 use forec_check::Checked;

@@ -15,23 +15,25 @@ use Rattle.forec_lexer.specs.Answers.{HasCause}
 use Rattle.forec_lexer.specs.declared.fault.LexFault.{LexFault}
 use Rattle.forec_lexer.specs.declared.fault.LexFault.TheVariants as lexer
 use Rattle.forec_lexer.proofs.OneWay.{one_lexed, lexed_not_bad, lexed_not_many, bad_not_many, one_bad, one_many}
+use Rattle.forec_parser.specs.declared.fault.ParseFault.{ParseFault}
+use Rattle.forec_parser.specs.declared.fault.ParseFault.TheVariants as parser
 use Rattle.text_kernel.specs.Kernels.{kernel_of}
 use Rattle.text_kernel.specs.Limits.{limit_of, WithinLimits, IsLimit}
 use Rattle.text_kernel.specs.declared.limits.Quantity.{Quantity}
 use Rattle.kernel_lower.specs.Refusals as refusals
 use Rattle.kernel_lower.specs.declared.lower_fault.LowerFault.{LowerFault}
 use Rattle.kernel_lower.specs.declared.lower_fault.LowerFault.TheVariants as lower
-use Rattle.forec_engine.specs.Judging.{most_bytes, most_levels, Verdict, Accepts, Refuses, OnUnbroken, accepted, beyond, OnProgram, broken, unbroken, OnTokens, spelled, unspelled, Judged, too_long, stops, too_many, lexed, Says, lexer_fault, check_fault, lower_fault}
-use Rattle.forec_engine.specs.Counting.{counts_of}
-use Rattle.forec_engine.specs.Laws.{OneVerdict}
-use Rattle.forec_engine.specs.declared.counts.Counts.{Counts}
-use Rattle.forec_engine.specs.declared.judging.Accepted.{Accepted}
-use Rattle.forec_engine.specs.declared.refusal.Refusal.TheVariants as why
-use Rattle.forec_engine.specs.declared.refusal.JudgeFault.{JudgeFault}
-use Rattle.forec_engine.specs.declared.refusal.JudgeFault.TheVariants as fault
-use Rattle.forec_engine.proofs.LeastFault.{one_least, no_fault}
-use Rattle.forec_engine.proofs.Lexing.{some_lexing}
-use Rattle.forec_engine.proofs.Limits.{one_limit, no_limit, limits_kept}
+use Rattle.text_verdict.specs.Judging.{most_bytes, most_levels, Verdict, Accepts, Refuses, OnUnbroken, accepted, beyond, OnProgram, broken, unbroken, OnTokens, spelled, unspelled, Judged, too_long, stops, too_many, lexed, Says, lexer_fault, parser_fault, check_fault, lower_fault}
+use Rattle.text_verdict.specs.Counting.{counts_of}
+use Rattle.text_verdict.specs.Laws.{OneVerdict}
+use Rattle.text_verdict.specs.declared.counts.Counts.{Counts}
+use Rattle.text_verdict.specs.declared.judging.Accepted.{Accepted}
+use Rattle.text_verdict.specs.declared.refusal.Refusal.TheVariants as why
+use Rattle.text_verdict.specs.declared.refusal.JudgeFault.{JudgeFault}
+use Rattle.text_verdict.specs.declared.refusal.JudgeFault.TheVariants as fault
+use Rattle.text_verdict.proofs.LeastFault.{one_least, no_fault}
+use Rattle.text_verdict.proofs.Lexing.{some_lexing}
+use Rattle.text_verdict.proofs.Limits.{one_limit, no_limit, limits_kept}
 
 -- ---- one
 
@@ -131,6 +133,14 @@ says_too P Q f (Ok a) h = f (Accepts a.counts (plain_kernel a.kernel)) h
 says_too P Q f (Err (fault.Refused why)) h = f (Refuses why) h
 says_too P Q f (Err fault.OutOfMemory) h = tt
 
+pub said_of_text : (text : List ℕ) (tokens : List Token) (names : List (List ℕ)) → length text ≤ most_bytes → IsLexed text tokens names →
+    (r : Result Accepted JudgeFault) → Says (OnTokens tokens names) r → Says (Judged text) r
+said_of_text text tokens names short is r h = says_too (OnTokens tokens names) (Judged text) (λ v x. lexed tokens names short is x) r h
+
+pub said_of_tokens : (tokens : List Token) (names : List (List ℕ)) (program : Text) → IsSpelled most_levels program tokens →
+    (r : Result Accepted JudgeFault) → Says (OnProgram program names) r → Says (OnTokens tokens names) r
+said_of_tokens tokens names program spells r h = says_too (OnProgram program names) (OnTokens tokens names) (λ v x. spelled program spells x) r h
+
 abbrev given : JudgeFault → Result Accepted JudgeFault
 given e = Err e
 
@@ -141,6 +151,15 @@ told_exactly text lexer.OutOfMemory le h = tt
 
 pub told : (text : List ℕ) (f : LexFault) (e : JudgeFault) → length text ≤ most_bytes → HasCause text f → e ≡ lexer_fault f → Says (Judged text) (given e)
 told text f e le h is = subst (λ x. Says (Judged text) (given x)) (sym is) (told_exactly text f le h)
+
+parsed_exactly : (tokens : List Token) (names : List (List ℕ)) (f : ParseFault) → (f ≡ parser.Unfit → (program : Text) → IsSpelled most_levels program tokens → ⊥) →
+    Says (OnTokens tokens names) (given (parser_fault f))
+parsed_exactly tokens names parser.Unfit none = unspelled (none refl)
+parsed_exactly tokens names parser.OutOfMemory none = tt
+
+pub told_by_parser : (tokens : List Token) (names : List (List ℕ)) (f : ParseFault) (e : JudgeFault) →
+    (f ≡ parser.Unfit → (program : Text) → IsSpelled most_levels program tokens → ⊥) → e ≡ parser_fault f → Says (OnTokens tokens names) (given e)
+told_by_parser tokens names f e none is = subst (λ x. Says (OnTokens tokens names) (given x)) (sym is) (parsed_exactly tokens names f none)
 
 checked_exactly : (program : Text) (names : List (List ℕ)) (f : CheckFault) → Causes f program names → Says (OnProgram program names) (given (check_fault f))
 checked_exactly program names (check.Broken place rule) h = broken place rule h

@@ -13,19 +13,21 @@ use Rattle.forec_check.specs.declared.check_fault.CheckFault.{CheckFault}
 use Rattle.forec_check.specs.declared.check_fault.CheckFault.TheVariants as check
 use Rattle.forec_lexer.specs.declared.fault.LexFault.{LexFault}
 use Rattle.forec_lexer.specs.declared.fault.LexFault.TheVariants as lexer
+use Rattle.forec_parser.specs.declared.fault.ParseFault.{ParseFault}
+use Rattle.forec_parser.specs.declared.fault.ParseFault.TheVariants as parser
 use Rattle.text_kernel.specs.Kernels.{kernel_of}
 use Rattle.text_kernel.specs.Limits.{WithinLimits, IsLimit}
 use Rattle.kernel_lower.specs.declared.lower_fault.LowerFault.{LowerFault}
 use Rattle.kernel_lower.specs.declared.lower_fault.LowerFault.TheVariants as lower
 use Rattle.text_kernel.specs.declared.limits.Quantity.{Quantity}
 use Rattle.text_kernel.specs.declared.limits.Quantity.TheVariants.{Threads, Words, Globals, Tables, Terms, Depth}
-use Rattle.forec_engine.specs.Counting.{counts_of}
-use Rattle.forec_engine.specs.declared.counts.Counts.{Counts}
-use Rattle.forec_engine.specs.declared.judging.Accepted.{Accepted}
-use Rattle.forec_engine.specs.declared.refusal.Refusal.{Refusal}
-use Rattle.forec_engine.specs.declared.refusal.Refusal.TheVariants as why
-use Rattle.forec_engine.specs.declared.refusal.JudgeFault.{JudgeFault}
-use Rattle.forec_engine.specs.declared.refusal.JudgeFault.TheVariants as fault
+use Rattle.text_verdict.specs.Counting.{counts_of}
+use Rattle.text_verdict.specs.declared.counts.Counts.{Counts}
+use Rattle.text_verdict.specs.declared.judging.Accepted.{Accepted}
+use Rattle.text_verdict.specs.declared.refusal.Refusal.{Refusal}
+use Rattle.text_verdict.specs.declared.refusal.Refusal.TheVariants as why
+use Rattle.text_verdict.specs.declared.refusal.JudgeFault.{JudgeFault}
+use Rattle.text_verdict.specs.declared.refusal.JudgeFault.TheVariants as fault
 
 abbrev pub most_bytes : ℕ
 most_bytes = MAX_TEXT_BYTES
@@ -97,6 +99,11 @@ abbrev pub lexer_fault : LexFault → JudgeFault
 lexer_fault (lexer.Bad place) = fault.Refused (why.Lex place)
 lexer_fault (lexer.Many place) = fault.Refused (why.Many place)
 lexer_fault lexer.OutOfMemory = fault.OutOfMemory
+
+-- what a fault of the parser is for the text
+abbrev pub parser_fault : ParseFault → JudgeFault
+parser_fault parser.Unfit = fault.Refused why.Syntax
+parser_fault parser.OutOfMemory = fault.OutOfMemory
 
 -- what a fault of the check is for the text
 abbrev pub check_fault : CheckFault → JudgeFault

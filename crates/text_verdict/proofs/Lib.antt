@@ -1,0 +1,5 @@
+mod LeastFault
+mod Lexing
+mod Limits
+pub mod Verdicts
+mod WorkedVerdicts

@@ -1,0 +1,13 @@
+//! From a program's text to its verdict: its kernel and what is counted of it, or the first cause for which it is refused.
+#![tactic(auto)]
+
+mod counts;
+mod judging;
+mod laws;
+mod refusal;
+
+pub use counts::Counts;
+pub use judging::{Accepted, judge};
+pub use laws::{each_text_has_a_verdict, one_verdict};
+pub use refusal::{JudgeFault, Refusal};
+pub use text_kernel::Quantity;
