@@ -1,0 +1,7 @@
+mod Worked
+pub mod Agreeing
+pub mod Ranks
+pub mod Unfolds
+pub mod CappedBounds
+pub mod Searching
+pub mod Tables
