@@ -5,3 +5,4 @@ pub mod Unfolds
 pub mod CappedBounds
 pub mod Searching
 pub mod Tables
+pub mod Visiting
