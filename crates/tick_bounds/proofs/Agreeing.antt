@@ -132,11 +132,11 @@ abbrev pub EachAbove : ℕ → List (List ℕ) → Type 0
 EachAbove t [] = Unit {0}
 EachAbove t (bs ∷ rest) = AllAbove t bs × EachAbove t rest
 
-above_left : (t : ℕ) (xs ys : List (List ℕ)) → EachAbove t (xs ++ ys) → EachAbove t xs
+pub above_left : (t : ℕ) (xs ys : List (List ℕ)) → EachAbove t (xs ++ ys) → EachAbove t xs
 above_left t [] ys h = tt
 above_left t (x ∷ xs) ys h = (h.0, above_left t xs ys h.1)
 
-above_right : (t : ℕ) (xs ys : List (List ℕ)) → EachAbove t (xs ++ ys) → EachAbove t ys
+pub above_right : (t : ℕ) (xs ys : List (List ℕ)) → EachAbove t (xs ++ ys) → EachAbove t ys
 above_right t [] ys h = h
 above_right t (x ∷ xs) ys h = above_right t xs ys h.1
 

@@ -145,5 +145,5 @@ unfolding chain_length
 calls_fall k wf f g h c =
     let n = length k.functions in
     let fixed = settled k wf (chain_within k) (chain_past k)
-        (λ deep f' l agree. ap (λ m. one_each k f' + m) (greatest_same (chain_within k (suc deep)) (chain_within k deep) (stmt_calls (function_body k f')) agree)) f in
+    (λ deep f' l agree. ap (λ m. one_each k f' + m) (greatest_same (chain_within k (suc deep)) (chain_within k deep) (stmt_calls (function_body k f')) agree)) f in
     omega (arith, fixed, one_within k f h, le_greatest (chain_within k n) (stmt_calls (function_body k f)) g c)

@@ -1,5 +1,5 @@
 -- Whether an ascending list of variables has one, by a binary search; the variables of a thread ascend.
-use Rattle.std.proofs.Common.{ℕ, zero, suc, ◌<◌, ◌≤◌, ◌≡◌, ◌≢◌, ◌∙◌, ◌==◌, nat_lt, ◌&&◌, Bool, true, false, cond, Result, Ok, Err, List, [], ◌∷◌, length, map, get_or, refl, ap, sym, subst, arith}
+use Rattle.std.proofs.Common.{ℕ, zero, suc, ◌<◌, ◌≤◌, ◌≡◌, ◌==◌, nat_lt, ◌&&◌, Bool, true, false, cond, Result, Ok, Err, List, [], ◌∷◌, length, map, get_or, refl, ap, sym, arith}
 use Rattle.std.proofs.lemmas.Bool.Decides.{nat_tests}
 use Rattle.std.proofs.lemmas.List.Sorted.{searched}
 use Rattle.std.specs.Prelude.{is_ok, MatchResult}

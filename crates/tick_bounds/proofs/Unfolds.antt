@@ -1,5 +1,5 @@
 -- A thread's bound, and a function's, from the bounds of what they name.
-use Rattle.std.proofs.Common.{ℕ, zero, suc, ◌+◌, ◌<◌, ◌≤◌, ◌≡◌, ◌∙◌, ◌==◌, nat_lt, IsTrue, Bool, true, false, cond, Option, Some, None, is_some, List, [], ◌∷◌, length, get_or, refl, ap, sym, arith}
+use Rattle.std.proofs.Common.{ℕ, zero, suc, ◌+◌, ◌<◌, ◌≤◌, ◌≡◌, ◌∙◌, nat_lt, IsTrue, Bool, true, false, Option, Some, None, is_some, List, [], ◌∷◌, length, get_or, refl, ap, sym, arith}
 use Rattle.std.proofs.lemmas.Bool.Decides.{nat_tests}
 use Rattle.std.proofs.lemmas.List.{get_or_past}
 use Rattle.forec_kernel.specs.Terms.{Nop}

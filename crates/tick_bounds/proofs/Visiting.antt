@@ -1,6 +1,5 @@
 -- What the walks over int functions and threads know of the bodies that they read.
-use Rattle.std.proofs.Common.{ℕ, suc, ◌+◌, ◌-◌, ◌<◌, ◌≤◌, ◌≡◌, ◌∙◌, nat_lt, Bool, true, false, Option, Some, List, [], ◌∷◌, ◌++◌, length, set, get_or, refl, ap, sym, subst, arith}
-use Rattle.std.proofs.Math.ListN.{length-set}
+use Rattle.std.proofs.Common.{ℕ, ◌+◌, ◌<◌, ◌≤◌, ◌≡◌, ◌∙◌, nat_lt, Bool, true, false, Option, Some, List, [], ◌++◌, length, set, get_or, refl, ap, sym, subst, arith}
 use Rattle.std.proofs.lemmas.List.{length-map}
 use Rattle.std.proofs.lemmas.Bool.Decides.{nat_tests}
 use Rattle.forec_kernel.specs.Shapes.{PlainKernel, plain_kernel}
@@ -12,7 +11,7 @@ use Rattle.forec_kernel.specs.Combining.{contains}
 use Rattle.forec_kernel.specs.WellFormed.{WellFormed, function_body, stmt_calls}
 use Rattle.forec_kernel.proofs.Weights.{body_read}
 use Rattle.tick_bounds.specs.Bound.{stmt_bound, function_bound, thread_bound, worst_case}
-use Rattle.tick_bounds.specs.Capped.{capped, at_table, by_tables, as_budget}
+use Rattle.tick_bounds.specs.Capped.{capped, by_tables, as_budget}
 use Rattle.tick_bounds.specs.Known.{Tells, IsRight}
 use Rattle.tick_bounds.proofs.Ranks.{chain_length, calls_fall}
 use Rattle.tick_bounds.proofs.Searching.{found}

@@ -96,7 +96,12 @@ pub fn statement_bound(scope: &Scope<'_>, s: &Statement) -> u64
             plus(expression_bound(scope.functions, test), 1),
             statement_bound(scope, yes).max(statement_bound(scope, no)),
         ),
-        Statement::While { test, bound, body, .. } => {
+        Statement::While {
+            test,
+            bound,
+            body,
+            ..
+        } => {
             let turn = plus(
                 plus(expression_bound(scope.functions, test), 1),
                 statement_bound(scope, body),

@@ -15,7 +15,11 @@ use std::alloc::Global;
 fn as_budget(bound: u64) -> Option<u64>
     ensures { result ≡ plain.as_budget bound }
 {
-    if bound <= MAX_BUDGET { Some(bound) } else { None }
+    if bound <= MAX_BUDGET {
+        Some(bound)
+    } else {
+        None
+    }
 }
 
 /// The bound of a kernel's ticks, in units: the worst case of one. None where it is past the greatest budget.

@@ -1,7 +1,6 @@
 use Rattle.std.proofs.Common.{◌<◌, length, arith}
 use Rattle.std.proofs.lemmas.List.{length-map}
 use Rattle.forec_kernel.specs.Plain.{stmt}
-use Rattle.forec_kernel.specs.declared.shape.KernelParts.{KernelParts}
 use Rattle.tick_bounds.proofs.Visiting.{Read, callee_falls, visited_right, visited_told, visited_kept}
 use Rattle.tick_bounds.proofs.functions.+visit.Goals as goal
 

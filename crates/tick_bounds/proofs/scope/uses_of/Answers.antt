@@ -1,4 +1,4 @@
-use Rattle.std.proofs.Common.{◌≡◌, ◌∙◌, ◌≤◌, IsTrue, length, map, sym, ap, subst}
+use Rattle.std.proofs.Common.{◌≡◌, ◌∙◌, IsTrue, map, sym, ap, subst}
 use Rattle.forec_kernel.specs.Shapes.{plain_kernel, plain_thread}
 use Rattle.forec_kernel.specs.Texts.{uses_in, uses_of}
 use Rattle.forec_kernel.specs.WellFormed.{ascends}
