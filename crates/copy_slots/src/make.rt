@@ -62,7 +62,7 @@ pub fn new_table<W: Work>(
 }
 
 /// A seat with both ends of the keeper's next mailbox.
-pub(crate) fn deal_one<W: Work>(
+pub fn deal_one<W: Work>(
     top: &MailTable<W>,
     keeper: &mut MailSeat<W>,
     from: usize,
