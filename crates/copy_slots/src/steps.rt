@@ -37,11 +37,7 @@ pub fn open<W: Work>(top: &MailTable<W>, seat: &mut MailSeat<W>, k: u32) -> W::P
 }
 
 /// The parent looks for a reply.
-pub fn collect<W: Work>(
-    top: &MailTable<W>,
-    seat: &mut MailSeat<W>,
-    k: u32,
-) -> Option<W::Packet>
+pub fn collect<W: Work>(top: &MailTable<W>, seat: &mut MailSeat<W>, k: u32) -> Option<W::Packet>
     requires board { (n : ℕ) × IsBoard top.now.table_id n × (k < n) }
     requires seat { (bs : List W.Plain) × (x : Sender W.Plain) × (c : Option (Taker W.Plain)) × (x.place ≡ Out) × Sits top.now.table_id top.now.key.work.value bs k (Some x) c seat.old }
     ensures seat { (bs : List W.Plain) (x : Sender W.Plain) (c : Option (Taker W.Plain)) → Sits top.now.table_id top.now.key.work.value bs k (Some x) c seat.old → Sits top.now.table_id top.now.key.work.value bs k (Some (sender_seen (in_plain W.plain result) x)) c seat.new }

@@ -1,5 +1,5 @@
 -- A port with a seat for each end.
-use Rattle.std.proofs.Common.{◌≡◌, ◌≢◌, ◌⊎◌, ℕ, suc, zero, ◌+◌, ◌<◌, List, [], ◌∷◌, length, map, set, sym, refl, ap, ◌∙◌, subst, ⊎_elim, inl, inr, arith, Option, Some, None, Bool, true, false, slice_get}
+use Rattle.std.proofs.Common.{◌≡◌, ℕ, suc, zero, ◌<◌, List, [], ◌∷◌, length, map, set, sym, refl, ap, ◌∙◌, subst, ⊎_elim, arith, Option, Some, None, Bool, true, slice_get}
 use Rattle.atomic_table.specs.Seated.{TableId}
 use Rattle.atomic_table.specs.declared.shared.Seat.{Seat}
 use Rattle.copy_slots.specs.declared.view.Place.{Place}
@@ -11,7 +11,7 @@ use Rattle.copy_slots.specs.declared.view.View.{View}
 use Rattle.slot_board.specs.declared.seats.EndSeats.{EndSeats}
 use Rattle.copy_slots.specs.Mail.{role_checked, role_stopped}
 use Rattle.copy_slots.specs.Places.{Sits}
-use Rattle.copy_slots.specs.Ports.{Ends, PortState, parent_at, child_at, on_sender, on_taker, on_parent, on_child, IsParent, IsChild, sender_in, taker_in, root_of, stops_of, stored_of, stop_word, after_check, after_stop}
+use Rattle.copy_slots.specs.Ports.{Ends, PortState, parent_at, child_at, on_sender, on_taker, on_parent, on_child, IsParent, IsChild, sender_in, taker_in, root_of, stop_word, after_check, after_stop}
 use Rattle.slot_board.specs.Slots.{PairSits, sender_of, taker_of, pair_ends, slot_state, is_watch}
 use Rattle.copy_slots.proofs.Placing.{role_is}
 use Rattle.copy_slots.proofs.Seating.{set_cases}

@@ -1,5 +1,5 @@
 -- Seats that are split off and joined keep the rule of the mailboxes.
-use Rattle.std.proofs.Common.{◌≡◌, ◌≢◌, ◌⊎◌, ℕ, ◌<◌, ◌≤◌, Bool, true, false, List, [], ◌∷◌, ◌++◌, length, set, sym, refl, ap, ◌∙◌, subst, ⊎_elim, inl, inr, arith, Option, Some, None, length-set}
+use Rattle.std.proofs.Common.{◌≡◌, ◌≢◌, ◌⊎◌, ℕ, Bool, true, false, List, ◌++◌, length, set, sym, refl, ap, ◌∙◌, subst, ⊎_elim, inl, inr, Option, Some, None}
 use mathlib.Core.Logic.{dite}
 use mathlib.Core.Option.{some, some-injective}
 use native.Mathlib.Decide.{ℕ_discrete}
@@ -11,7 +11,7 @@ use Rattle.copy_slots.specs.declared.view.Taker.{Taker}
 use Rattle.copy_slots.specs.declared.view.Role.{Role}
 use Rattle.copy_slots.specs.declared.view.Role.TheVariants.{Idle, Keeper, Mailbox}
 use Rattle.copy_slots.specs.declared.view.View.{View}
-use Rattle.copy_slots.specs.Mail.{Mail, End, parent_of, child_of, root, owner_of, KnowsParent, KnowsChild, Knows, Has, IsEnd, spent, Seated, Kept, posed}
+use Rattle.copy_slots.specs.Mail.{Mail, End, parent_of, child_of, root, owner_of, KnowsParent, KnowsChild, Knows, Has, IsEnd, spent, Seated, Kept}
 use Rattle.copy_slots.proofs.Mailing.{put, put_here, put_else, knows, below}
 use Rattle.copy_slots.proofs.Dealing.{resplit}
 use Rattle.slot_board.specs.Slots.{is_watch}

@@ -1,5 +1,5 @@
 -- Two ports of one board become one.
-use Rattle.std.specs.Prelude.{◌≡◌, ℕ, List, [], ◌∷◌, ◌++◌, length, slice_get, Option, Some, None, Bool, true, false}
+use Rattle.std.specs.Prelude.{◌≡◌, ℕ, List, [], ◌∷◌, ◌++◌, length, slice_get, Option, Some, None, true, false}
 use Rattle.copy_slots.specs.Ports.{Ends, PortState}
 use Rattle.slot_board.specs.declared.seats.EndSeats.{EndSeats}
 use Rattle.slot_board.specs.Splits.{pick}

@@ -1,11 +1,11 @@
 -- A port with a seat for each end.
-use Rattle.std.specs.Prelude.{◌≡◌, ℕ, List, [], map, Option, Some, None, Bool, true, false}
+use Rattle.std.specs.Prelude.{◌≡◌, ℕ, List, map, Option, Some, None, Bool, true, false}
 use Rattle.atomic_table.specs.Seated.{TableId}
 use Rattle.atomic_table.specs.declared.shared.Seat.{Seat}
 use Rattle.copy_slots.specs.declared.view.Sender.{Sender}
 use Rattle.copy_slots.specs.declared.view.Taker.{Taker}
 use Rattle.copy_slots.specs.declared.view.Role.{Role}
-use Rattle.copy_slots.specs.declared.view.Role.TheVariants.{Idle, Keeper, Mailbox}
+use Rattle.copy_slots.specs.declared.view.Role.TheVariants.{Mailbox}
 use Rattle.copy_slots.specs.declared.view.View.{View}
 use Rattle.copy_slots.specs.Places.{Sits}
 use Rattle.copy_slots.specs.Ports.{Ends, PortState, sender_in, taker_in, stops_of, stored_of, root_of}

@@ -1,5 +1,5 @@
 -- How a seat's view is cut in two, and how two are made one.
-use Rattle.std.specs.Prelude.{List, [], ◌++◌, None, Bool, true, false}
+use Rattle.std.specs.Prelude.{[], ◌++◌, None, Bool, true, false}
 use Rattle.copy_slots.specs.declared.view.Role.{Role}
 use Rattle.copy_slots.specs.declared.view.Role.TheVariants.{Idle, Keeper, Mailbox}
 use Rattle.copy_slots.specs.declared.view.View.{View}

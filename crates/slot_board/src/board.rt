@@ -73,10 +73,7 @@ impl<W: Work> SlotBoard<W> {
             cores,
             root,
         )?;
-        Ok(SlotBoard {
-            board,
-            hands,
-        })
+        Ok(SlotBoard { board, hands })
     }
 
     /// A port for each core, in order. The board must not have given them out before.
@@ -91,12 +88,9 @@ impl<W: Work> SlotBoard<W> {
         let SlotBoard { board, hands } = self;
         let mut ports = Vec::with_capacity(alloc, hands.len())?;
         let top: &'b Board<W> = board;
-        'cores: while let Some(CoreSeats { watch, seats }) = hands.pop_front() {
-            ports.push_reserved(SlotPort {
-                top,
-                watch,
-                seats,
-            });
+        'cores: while let Some(hand) = hands.pop_front() {
+            let CoreSeats { watch, seats } = hand;
+            ports.push_reserved(SlotPort { top, watch, seats });
         }
         Ok(ports)
     }

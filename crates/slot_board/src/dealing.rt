@@ -63,10 +63,7 @@ fn take_ends<W: Work>(all: &mut EndSeats<W>, cores: (u32, u32), core: u32) -> En
 {
     let parent = take_if(&mut all.parent, cores.0 == core);
     let child = take_if(&mut all.child, cores.1 == core);
-    EndSeats {
-        parent,
-        child,
-    }
+    EndSeats { parent, child }
 }
 
 /// A core's ends of each mailbox.

@@ -81,7 +81,7 @@ impl<'b, W: Work> SlotPort<'b, W> {
 
     /// One port with the ends of both. It is the port of the root's core where one of them is.
     pub fn join(self, other: SlotPort<'b, W>) -> SlotPort<'b, W>
-        requires { IsOneBoard (⟦<SlotPort<'b, W> as Port<W>>⟧.state self.entry) (⟦<SlotPort<'b, W> as Port<W>>⟧.state other.entry) }
+        requires { IsOneBoard (⟦<SlotPort<'b, W> as Port<W>>⟧.state self) (⟦<SlotPort<'b, W> as Port<W>>⟧.state other) }
         ensures { ⟦<SlotPort<'b, W> as Port<W>>⟧.state result ≡ joined_state (⟦<SlotPort<'b, W> as Port<W>>⟧.state self.entry) (⟦<SlotPort<'b, W> as Port<W>>⟧.state other.entry) }
     {
         let SlotPort {
@@ -96,10 +96,6 @@ impl<'b, W: Work> SlotPort<'b, W> {
         } = other;
         merge(&top.shared, &mut watch, more);
         join_seats(&mut seats, others);
-        SlotPort {
-            top,
-            watch,
-            seats,
-        }
+        SlotPort { top, watch, seats }
     }
 }

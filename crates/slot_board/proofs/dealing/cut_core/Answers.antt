@@ -1,10 +1,10 @@
-use Rattle.std.proofs.Common.{rules, arith, ◌≡◌, ◌<◌, ◌++◌, ◌∷◌, [], length, get_or, ap, ◌∙◌, sym, true, Some}
+use Rattle.std.proofs.Common.{rules, arith, ◌≡◌, ◌<◌, ◌++◌, ◌∷◌, [], length, ap, ◌∙◌, true}
 use Rattle.std.specs.Result.{is_ok}
 use Rattle.std.proofs.lemmas.Grind.{common_steps}
 use Rattle.std.proofs.lemmas.Option.{get_or_from_slice_get}
 use Rattle.copy_slots.proofs.Seating.{at_index}
 use Rattle.slot_board.specs.Dealt.{taken_by_core, left_by_core}
-use Rattle.slot_board.proofs.Cutting.{Partly, partly_start, partly_more, partly_all, get_there}
+use Rattle.slot_board.proofs.Cutting.{partly_start, partly_more, partly_all, get_there}
 use Rattle.slot_board.proofs.dealing.cut_core.Goals as goal
 
 pub loop-k-init : goal.loop-k-init

@@ -1,9 +1,9 @@
-use Rattle.std.proofs.Common.{rules, arith, ◌≡◌, ◌+◌, ◌<◌, ◌++◌, ◌∷◌, [], ℕ, suc, List, length, map, refl, ap, ◌∙◌, sym, subst, true, Some, slice_get, add-one}
+use Rattle.std.proofs.Common.{rules, arith, ◌≡◌, ◌+◌, ◌++◌, ◌∷◌, [], ℕ, suc, List, length, map, refl, ap, ◌∙◌, sym, subst, true, Some, slice_get, add-one}
 use Rattle.std.specs.Result.{is_ok}
 use Rattle.std.proofs.lemmas.Grind.{common_steps}
 use Rattle.copy_slots.specs.Places.{Watches}
 use Rattle.slot_board.specs.declared.seats.CoreSeats.{CoreSeats}
-use Rattle.slot_board.specs.Dealt.{AllFit, Waits, core_state, new_ports, seats_state, spare_role}
+use Rattle.slot_board.specs.Dealt.{new_ports, seats_state, spare_role}
 use Rattle.slot_board.proofs.Cutting.{cut_waits, core_fits, core_is, fit_more, map_snoc}
 use Rattle.slot_board.proofs.dealing.deal_cores.Goals as goal
 
@@ -27,7 +27,7 @@ loop-core-preserved g c bs w h = let z = c.args.top.now.table_id in let work = c
     let went : is_ok c.push_back.result ≡ true = first_of (search rules, grind (arith, common_steps)) in let items : c.push_back.new.self.items ≡ c.loop-core.hands.items ++ seats ∷ [] = rw went at c.push_back.ensures.items in
     let fits = core_fits z work bs core ends c.loop-core.all.items c.in_ok-seats.seats.items c.cut_core.new.all.items i.1 cut root n c.next_watch-watch.result c.requires.board nw.1 seats refl refl in
     let is = core_is z work bs core ends c.loop-core.all.items c.in_ok-seats.seats.items c.cut_core.new.all.items i.1 cut root n c.next_watch-watch.result nw.1 seats refl refl in
-    let next : (core + 1) ≡ suc core = add-one in (
+    let next : (core + 1) ≡ suc core = add-one core in (
       subst (λ (m : ℕ). Watches z work bs (spare_role root n m) c.next_watch-watch.new.spare) (sym next) nw.0,
       cut_waits z work bs core ends c.loop-core.all.items c.in_ok-seats.seats.items c.cut_core.new.all.items i.1 cut,
       rw items (fit_more z work bs c.loop-core.hands.items seats i.2 fits),

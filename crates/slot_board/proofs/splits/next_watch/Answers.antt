@@ -1,4 +1,4 @@
-use Rattle.std.proofs.Common.{arith, ◌<◌}
+use Rattle.std.proofs.Common.{arith}
 use Rattle.copy_slots.specs.Mail.{plain_list}
 use Rattle.copy_slots.proofs.Placing.{not_spent}
 use Rattle.slot_board.proofs.Splitting.{idles}

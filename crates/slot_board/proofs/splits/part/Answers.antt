@@ -1,6 +1,5 @@
-use Rattle.std.proofs.Common.{arith, ◌<◌, List, refl, ap, ◌∙◌, Some, None}
+use Rattle.std.proofs.Common.{arith, ap}
 use Rattle.copy_slots.specs.Mail.{plain_list, new_sender, new_taker}
-use Rattle.slot_board.specs.Splits.{parent_part, child_part}
 use Rattle.slot_board.proofs.Splitting.{parts}
 use Rattle.slot_board.proofs.splits.part.Goals as goal
 

@@ -1,6 +1,6 @@
 use Rattle.std.proofs.Common.{◌≡◌, ◌+◌, ◌≤◌, ◌++◌, map}
 use Rattle.std.specs.Prelude.{vec_len, vec_capacity}
-use Rattle.std_alloc.specs.VecDeque.{deque_len}
+use Rattle.std.proofs.Common.{deque_len}
 use Rattle.slot_board.specs.Dealt.{AllFit, seats_state}
 use Rattle.slot_board.specs.Slots.{slot_state}
 use Rattle.slot_board.proofs.board.SlotBoard.ports.Given as goal

@@ -1,6 +1,5 @@
-use Rattle.std.proofs.Common.{arith, ◌≡◌, ◌<◌, ◌^◌, List, length, sym, refl, ap, ◌∙◌, subst, true}
+use Rattle.std.proofs.Common.{◌<◌, ◌^◌, List, length, sym, ap, ◌∙◌, subst}
 use Rattle.atomic_table.specs.Seated.{TableId}
-use Rattle.copy_slots.specs.declared.view.Role.{Role}
 use Rattle.copy_slots.specs.Places.{IsBoard, Watches}
 use Rattle.slot_board.specs.Slots.{is_watch}
 use Rattle.slot_board.specs.Splits.{role_joined}
@@ -13,9 +12,15 @@ pub merge-requires-clause-board : goal.merge-requires-clause-board
 merge-requires-clause-board g c = let s = c.args.self in (length s.seats.items, s.sized.1)
 
 pub merge-requires-clause-seats : goal.merge-requires-clause-seats
-merge-requires-clause-seats g c = let s = c.args.self in let t = c.args.other in let r = c.requires in let z = one_table s.top.now.shared.table_id t.top.now.shared.table_id r.0 in
-    (s.watch.me.0.blanks, s.watch.me.0.role, t.watch.me.0.role, s.watches.1, t.watches.1, s.watches.0,
-      subst (λ (q : TableId × (g.row.W.Denot × List g.row.W-Plain.Denot)). Watches q.0 q.1.0 q.1.1 t.watch.me.0.role t.watch) (λ i. (sym z i, (sym r.1 i, sym r.2 i))) t.watches.0)
+merge-requires-clause-seats g c = let s = c.args.self in let t = c.args.other in let r = c.requires in let z = one_table s.top.now.shared.table_id t.top.now.shared.table_id r.0 in (
+  s.watch.me.0.blanks,
+  s.watch.me.0.role,
+  t.watch.me.0.role,
+  s.watches.1,
+  t.watches.1,
+  s.watches.0,
+  subst (λ (q : TableId × (g.row.W.Denot × List g.row.W-Plain.Denot)). Watches q.0 q.1.0 q.1.1 t.watch.me.0.role t.watch) (λ i. (sym z i, (sym r.1 i, sym r.2 i))) t.watches.0,
+)
 
 pub join_seats-requires : goal.join_seats-requires
 join_seats-requires g c = let s = c.args.self in let t = c.args.other in as_many s.top.now.shared.table_id t.top.now.shared.table_id (length s.seats.items) (length t.seats.items) (one_table s.top.now.shared.table_id t.top.now.shared.table_id c.requires.0) s.sized.1 t.sized.1

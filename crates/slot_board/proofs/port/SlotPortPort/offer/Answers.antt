@@ -1,14 +1,12 @@
-use Rattle.std.proofs.Common.{rules, arith, ◌≡◌, ◌≢◌, ◌<◌, ◌^◌, ◌++◌, ◌∷◌, [], ℕ, length, List, slice_get, set, Option, Some, None, true, false, sym, refl, ap, ◌∙◌, subst, length-set}
-use Rattle.std.proofs.lemmas.Option.{IfSome_then}
-use Rattle.copy_slots.specs.declared.view.Place.TheVariants.{Fresh, Held, Out}
+use Rattle.std.proofs.Common.{arith, ◌<◌, ◌^◌, ◌++◌, ◌∷◌, [], length, Some, None, sym, ap, ◌∙◌, subst, length-set}
+use Rattle.copy_slots.specs.declared.view.Place.TheVariants.{Held}
 use Rattle.slot_board.specs.declared.seats.EndSeats.{EndSeats}
-use Rattle.copy_slots.specs.Mail.{sender_opened, sender_sent, taker_answered}
-use Rattle.copy_slots.specs.Places.{IsBoard, Sits}
-use Rattle.copy_slots.specs.Ports.{IsParent, IsChild, sender_in, taker_in, sender_seen, taker_seen, in_plain, sent_by, taken_by}
-use Rattle.slot_board.specs.Slots.{pair_ends, sender_of, taker_of}
-use Rattle.copy_slots.proofs.Porting.{job_then, set_at}
+use Rattle.copy_slots.specs.Mail.{sender_sent}
+use Rattle.copy_slots.specs.Places.{IsBoard}
+use Rattle.copy_slots.specs.Ports.{IsParent, sender_in, sent_by}
+use Rattle.slot_board.specs.Slots.{pair_ends, sender_of}
 use Rattle.copy_slots.proofs.Seating.{at_index}
-use Rattle.slot_board.proofs.Pairing.{both_of, parent_inside, child_inside, parent_is, child_is, parent_state, child_state, repairs, parent_repaired, child_repaired}
+use Rattle.slot_board.proofs.Pairing.{both_of, parent_inside, parent_is, parent_state, repairs, parent_repaired}
 use Rattle.slot_board.proofs.port.SlotPortPort.offer.Goals as goal
 
 pub index_mut-requires : goal.index_mut-requires

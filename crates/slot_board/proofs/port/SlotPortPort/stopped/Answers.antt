@@ -1,4 +1,4 @@
-use Rattle.std.proofs.Common.{◌≡◌, map, List, Bool, true, false, sym, refl, ap, ◌∙◌, subst}
+use Rattle.std.proofs.Common.{map, sym, ap, ◌∙◌, subst}
 use Rattle.copy_slots.specs.Mail.{role_checked}
 use Rattle.copy_slots.specs.Places.{Watches}
 use Rattle.copy_slots.specs.Ports.{stored_of, stop_word}
