@@ -26,7 +26,7 @@ module _ {W P Q : Type 0} (plain : P → Q) (asks : W → ℕ → List Q → Typ
   Sits mail parent child keeper stored = Seated plain asks answers work blanks mail (owner_of parent child keeper) stored
 
   -- the seat id has a new role with the same ends, and only the stop word may change
-  reseat : (s : St) (r : Rule s) (id : ℕ) (v w : View W Q) (words : List ℕ) (stored : Bool) → get_elem? s.views id ≡ some v → length words ≡ length s.words
+  pub reseat : (s : St) (r : Rule s) (id : ℕ) (v w : View W Q) (words : List ℕ) (stored : Bool) → get_elem? s.views id ≡ some v → length words ≡ length s.words
       → ((k : ℕ) → k < length blanks → get_or words k 0 ≡ get_or s.words k 0)
       → (get_or words (length blanks) 0 < 2) × (get_or words (length blanks) 0 ≡ 1 → stored ≡ true)
       → Sits r.mail r.parent r.child r.keeper stored id w
@@ -115,7 +115,7 @@ module _ {W P Q : Type 0} (plain : P → Q) (asks : W → ℕ → List Q → Typ
           children (Some x) t = t
 
   -- a seat is split, and the new one stands behind the others
-  resplit : (s : St) (r : Rule s) (id : ℕ) (v left right : View W Q) (parent child : ℕ → ℕ) → get_elem? s.views id ≡ some v
+  pub resplit : (s : St) (r : Rule s) (id : ℕ) (v left right : View W Q) (parent child : ℕ → ℕ) → get_elem? s.views id ≡ some v
       → Sits r.mail parent child r.keeper r.stored id left → Sits r.mail parent child r.keeper r.stored (length s.views) right
       → ((j : ℕ) (u : View W Q) → j ≢ id → Sits r.mail r.parent r.child r.keeper r.stored j u → Sits r.mail parent child r.keeper r.stored j u)
       → ((e : End) → IsEnd (length blanks) e → ((owner_of parent child r.keeper e ≡ owner_of r.parent r.child r.keeper e) × (Has v.role e → Has left.role e)) ⊎ ((owner_of parent child r.keeper e ≡ length s.views) × Has right.role e))

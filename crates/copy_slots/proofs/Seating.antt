@@ -1,5 +1,5 @@
 -- A port whose seats have both ends of a mailbox each.
-use Rattle.std.proofs.Common.{◌≡◌, ◌⊎◌, ℕ, suc, zero, ◌<◌, List, [], ◌∷◌, ◌++◌, length, map, get_or, set, sym, refl, ap, ◌∙◌, subst, ⊎_elim, inl, inr, arith, Option, Some, Bool, true, false, slice_get}
+use Rattle.std.proofs.Common.{◌≡◌, ◌⊎◌, ℕ, suc, zero, ◌<◌, List, [], ◌∷◌, ◌++◌, length, map, get_or, set, sym, refl, ap, ◌∙◌, subst, ⊎_elim, inl, inr, arith, Option, Some, None, Bool, true, false, slice_get}
 use Rattle.std.proofs.lemmas.Option.{slice_get-get_or}
 use Rattle.atomic_table.specs.Table.{Me}
 use Rattle.atomic_table.specs.Seated.{TableId}
@@ -148,6 +148,6 @@ module _ {W P Q : Type 0} (plain : P → Q) (z : TableId) (work : W) (packets : 
 
   pub fresh_state : (l : List (BothEnds W P Q)) (n : ℕ) → length l ≡ length packets → AllFresh z work (map plain packets) l
       → local_state work (map plain packets) (map (λ (b : BothEnds W P Q). b.seat.me.0.role) l) (Keeper n false []) ≡ new_state plain work packets
-  fresh_state l n long h = ap (λ (es : List (Ends Q)). let s : PortState W Q = record { work = work; blanks = map plain packets; ends = es; tells = true; root = true; stored = false; stops = [] } in s)
+  fresh_state l n long h = ap (λ (es : List (Ends Q)). let s : PortState W Q = record { board = None; work = work; blanks = map plain packets; ends = es; tells = true; root = true; stored = false; stops = [] } in s)
       (map_map (λ (b : BothEnds W P Q). b.seat.me.0.role) ends_of l ∙ all_same (λ (b : BothEnds W P Q). ends_of b.seat.me.0.role) fresh_ends l packets long
       (λ j s e. ap ends_of (role_is z work (map plain packets) j (Some new_sender) (Some new_taker) s.seat (h j s e))))

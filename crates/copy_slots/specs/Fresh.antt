@@ -1,5 +1,5 @@
 -- A port with all ends, before its first call.
-use Rattle.std.specs.Prelude.{◌≡◌, ℕ, List, [], map, slice_get, Some, true, false}
+use Rattle.std.specs.Prelude.{◌≡◌, ℕ, List, [], map, slice_get, Some, None, true, false}
 use Rattle.atomic_table.specs.Seated.{TableId}
 use Rattle.copy_slots.specs.declared.both.BothEnds.{BothEnds}
 use Rattle.copy_slots.specs.Mail.{new_sender, new_taker}
@@ -16,4 +16,4 @@ fresh_ends = record { parent = Some new_sender; child = Some new_taker }
 
 -- a port with all ends, before its first call
 abbrev pub new_state : {W P Q : Type 0} → (P → Q) → W → List P → PortState W Q
-new_state plain work blanks = record { work = work; blanks = map plain blanks; ends = map (λ p. fresh_ends) blanks; tells = true; root = true; stored = false; stops = [] }
+new_state plain work blanks = record { board = None; work = work; blanks = map plain blanks; ends = map (λ p. fresh_ends) blanks; tells = true; root = true; stored = false; stops = [] }

@@ -1,5 +1,6 @@
 -- What a port means to its callers.
 use Rattle.std.specs.Prelude.{◌≡◌, ℕ, suc, zero, List, [], ◌∷◌, ◌++◌, map, Option, Some, None, Bool, true, false}
+use Rattle.atomic_table.specs.Seated.{TableId}
 use Rattle.copy_slots.specs.declared.view.Place.{Place}
 use Rattle.copy_slots.specs.declared.view.Sender.{Sender}
 use Rattle.copy_slots.specs.declared.view.Taker.{Taker}
@@ -12,9 +13,10 @@ pub record Ends (Q : Type 0) : Type 0 where
   pub parent : Option (Sender Q)
   pub child : Option (Taker Q)
 
--- `blanks`: the packet of each mailbox at the start. `ends`: at k, the ends of mailbox k. `tells`: whose turn it is is told. `root`: it is the port of the root's core.
+-- `board`: the table that it shares with the ports of other cores; None where it has one alone. `blanks`: the packet of each mailbox at the start. `ends`: at k, the ends of mailbox k. `tells`: whose turn it is is told. `root`: it is the port of the root's core.
 -- `stored`: it stored the stop word. `stops`: the stop words that it loaded, in order
 pub record PortState (W Q : Type 0) : Type 0 where
+  pub board : Option TableId
   pub work : W
   pub blanks : List Q
   pub ends : List (Ends Q)
@@ -133,7 +135,7 @@ module _ {Q : Type 0} where
 
 -- the state of a port with both ends of each mailbox, by the roles of its seats
 abbrev pub local_state : {W Q : Type 0} → W → List Q → List (Role Q) → Role Q → PortState W Q
-local_state work blanks roles watch = record { work = work; blanks = blanks; ends = map ends_of roles; tells = true; root = true; stored = stored_of watch; stops = stops_of watch }
+local_state work blanks roles watch = record { board = None; work = work; blanks = blanks; ends = map ends_of roles; tells = true; root = true; stored = stored_of watch; stops = stops_of watch }
 
 module _ {W Q : Type 0} where
   -- the jobs that the parent's end has sent and the replies that it has got, in order

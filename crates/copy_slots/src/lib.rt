@@ -4,11 +4,11 @@
 mod both;
 mod laws;
 mod local;
-mod make;
+pub mod make;
 mod port;
-mod rule;
-mod steps;
-mod view;
+pub mod rule;
+pub mod steps;
+pub mod view;
 mod work;
 
 pub use laws::mailboxes_are_ruled;

@@ -62,11 +62,7 @@ pub fn new_table<W: Work>(
 }
 
 /// A seat with both ends of the keeper's next mailbox.
-pub(crate) fn deal_one<W: Work>(
-    top: &MailTable<W>,
-    keeper: &mut MailSeat<W>,
-    from: usize,
-) -> MailSeat<W>
+pub fn deal_one<W: Work>(top: &MailTable<W>, keeper: &mut MailSeat<W>, from: usize) -> MailSeat<W>
     requires board { (n : ℕ) × IsBoard top.now.table_id n }
     requires keeper { (bs : List W.Plain) × (from < length bs) × Watches top.now.table_id top.now.key.work.value bs (Keeper from false []) keeper.old }
     ensures { (bs : List W.Plain) → Watches top.now.table_id top.now.key.work.value bs (Keeper from false []) keeper.old → Watches top.now.table_id top.now.key.work.value bs (Keeper (from + 1) false []) keeper.new × Sits top.now.table_id top.now.key.work.value bs from (Some new_sender) (Some new_taker) result }

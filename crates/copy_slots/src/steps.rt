@@ -26,7 +26,7 @@ pub type MailTable<W> = Shared<
 pub type MailSeat<W> = Seat<Option<<W as Work>::Packet>, View<W, <W as Work>::Plain>>;
 
 /// The parent takes the blank packet.
-pub(crate) fn open<W: Work>(top: &MailTable<W>, seat: &mut MailSeat<W>, k: u32) -> W::Packet
+pub fn open<W: Work>(top: &MailTable<W>, seat: &mut MailSeat<W>, k: u32) -> W::Packet
     requires board { (n : ℕ) × IsBoard top.now.table_id n × (k < n) }
     requires seat { (bs : List W.Plain) × (x : Sender W.Plain) × (c : Option (Taker W.Plain)) × (x.place ≡ Fresh) × Sits top.now.table_id top.now.key.work.value bs k (Some x) c seat.old }
     ensures seat { (bs : List W.Plain) (x : Sender W.Plain) (c : Option (Taker W.Plain)) → Sits top.now.table_id top.now.key.work.value bs k (Some x) c seat.old → Sits top.now.table_id top.now.key.work.value bs k (Some (sender_opened x)) c seat.new }
@@ -37,11 +37,7 @@ pub(crate) fn open<W: Work>(top: &MailTable<W>, seat: &mut MailSeat<W>, k: u32) 
 }
 
 /// The parent looks for a reply.
-pub(crate) fn collect<W: Work>(
-    top: &MailTable<W>,
-    seat: &mut MailSeat<W>,
-    k: u32,
-) -> Option<W::Packet>
+pub fn collect<W: Work>(top: &MailTable<W>, seat: &mut MailSeat<W>, k: u32) -> Option<W::Packet>
     requires board { (n : ℕ) × IsBoard top.now.table_id n × (k < n) }
     requires seat { (bs : List W.Plain) × (x : Sender W.Plain) × (c : Option (Taker W.Plain)) × (x.place ≡ Out) × Sits top.now.table_id top.now.key.work.value bs k (Some x) c seat.old }
     ensures seat { (bs : List W.Plain) (x : Sender W.Plain) (c : Option (Taker W.Plain)) → Sits top.now.table_id top.now.key.work.value bs k (Some x) c seat.old → Sits top.now.table_id top.now.key.work.value bs k (Some (sender_seen (in_plain W.plain result) x)) c seat.new }
@@ -55,7 +51,7 @@ pub(crate) fn collect<W: Work>(
 }
 
 /// The parent sends a job.
-pub(crate) fn offer<W: Work>(top: &MailTable<W>, seat: &mut MailSeat<W>, k: u32, packet: W::Packet)
+pub fn offer<W: Work>(top: &MailTable<W>, seat: &mut MailSeat<W>, k: u32, packet: W::Packet)
     requires board { (n : ℕ) × IsBoard top.now.table_id n × (k < n) }
     requires seat { (bs : List W.Plain) × (x : Sender W.Plain) × (c : Option (Taker W.Plain)) × (x.place ≡ Held) × Sits top.now.table_id top.now.key.work.value bs k (Some x) c seat.old × W.asks top.now.key.work.value k (x.sent ++ W.plain packet ∷ []) }
     ensures { (bs : List W.Plain) (x : Sender W.Plain) (c : Option (Taker W.Plain)) → Sits top.now.table_id top.now.key.work.value bs k (Some x) c seat.old → Sits top.now.table_id top.now.key.work.value bs k (Some (sender_sent (W.plain packet) x)) c seat.new }
@@ -66,7 +62,7 @@ pub(crate) fn offer<W: Work>(top: &MailTable<W>, seat: &mut MailSeat<W>, k: u32,
 }
 
 /// The child looks for a job.
-pub(crate) fn take<W: Work>(top: &MailTable<W>, seat: &mut MailSeat<W>, k: u32) -> Option<W::Packet>
+pub fn take<W: Work>(top: &MailTable<W>, seat: &mut MailSeat<W>, k: u32) -> Option<W::Packet>
     requires board { (n : ℕ) × IsBoard top.now.table_id n × (k < n) }
     requires seat { (bs : List W.Plain) × (b : Option (Sender W.Plain)) × (y : Taker W.Plain) × (y.holds ≡ false) × Sits top.now.table_id top.now.key.work.value bs k b (Some y) seat.old }
     ensures seat { (bs : List W.Plain) (b : Option (Sender W.Plain)) (y : Taker W.Plain) → Sits top.now.table_id top.now.key.work.value bs k b (Some y) seat.old → Sits top.now.table_id top.now.key.work.value bs k b (Some (taker_seen (in_plain W.plain result) y)) seat.new }
@@ -80,7 +76,7 @@ pub(crate) fn take<W: Work>(top: &MailTable<W>, seat: &mut MailSeat<W>, k: u32) 
 }
 
 /// The child sends a reply.
-pub(crate) fn answer<W: Work>(top: &MailTable<W>, seat: &mut MailSeat<W>, k: u32, packet: W::Packet)
+pub fn answer<W: Work>(top: &MailTable<W>, seat: &mut MailSeat<W>, k: u32, packet: W::Packet)
     requires board { (n : ℕ) × IsBoard top.now.table_id n × (k < n) }
     requires seat { (bs : List W.Plain) × (b : Option (Sender W.Plain)) × (y : Taker W.Plain) × (y.holds ≡ true) × Sits top.now.table_id top.now.key.work.value bs k b (Some y) seat.old × W.answers top.now.key.work.value k y.taken (W.plain packet) }
     ensures { (bs : List W.Plain) (b : Option (Sender W.Plain)) (y : Taker W.Plain) → Sits top.now.table_id top.now.key.work.value bs k b (Some y) seat.old → Sits top.now.table_id top.now.key.work.value bs k b (Some (taker_answered (W.plain packet) y)) seat.new }
@@ -91,7 +87,7 @@ pub(crate) fn answer<W: Work>(top: &MailTable<W>, seat: &mut MailSeat<W>, k: u32
 }
 
 /// The root's core stores the stop word.
-pub(crate) fn stop<W: Work>(top: &MailTable<W>, seat: &mut MailSeat<W>, word: usize)
+pub fn stop<W: Work>(top: &MailTable<W>, seat: &mut MailSeat<W>, word: usize)
     requires board { IsBoard top.now.table_id word }
     requires seat { (bs : List W.Plain) × (from : ℕ) × (st : Bool) × (ws : List ℕ) × Watches top.now.table_id top.now.key.work.value bs (Keeper from st ws) seat.old }
     ensures { (bs : List W.Plain) (role : Role W.Plain) → Watches top.now.table_id top.now.key.work.value bs role seat.old → Watches top.now.table_id top.now.key.work.value bs (role_stopped role) seat.new }
@@ -100,7 +96,7 @@ pub(crate) fn stop<W: Work>(top: &MailTable<W>, seat: &mut MailSeat<W>, word: us
 }
 
 /// A look at the stop word.
-pub(crate) fn check<W: Work>(top: &MailTable<W>, seat: &mut MailSeat<W>, word: usize) -> bool
+pub fn check<W: Work>(top: &MailTable<W>, seat: &mut MailSeat<W>, word: usize) -> bool
     requires board { IsBoard top.now.table_id word }
     requires seat { (bs : List W.Plain) × (role : Role W.Plain) × Watches top.now.table_id top.now.key.work.value bs role seat.old }
     ensures seat { (bs : List W.Plain) (role : Role W.Plain) → Watches top.now.table_id top.now.key.work.value bs role seat.old → Watches top.now.table_id top.now.key.work.value bs (role_checked (stop_word result) role) seat.new }

@@ -1,0 +1,4 @@
+pub mod Cutting
+pub mod Pairing
+pub mod Splitting
+pub mod Uniting

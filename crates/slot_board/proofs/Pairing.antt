@@ -1,0 +1,124 @@
+-- A port with a seat for each end.
+use Rattle.std.proofs.Common.{◌≡◌, ℕ, suc, zero, ◌<◌, List, [], ◌∷◌, length, map, set, sym, refl, ap, ◌∙◌, subst, ⊎_elim, arith, Option, Some, None, Bool, true, slice_get}
+use Rattle.atomic_table.specs.Seated.{TableId}
+use Rattle.atomic_table.specs.declared.shared.Seat.{Seat}
+use Rattle.copy_slots.specs.declared.view.Place.{Place}
+use Rattle.copy_slots.specs.declared.view.Sender.{Sender}
+use Rattle.copy_slots.specs.declared.view.Taker.{Taker}
+use Rattle.copy_slots.specs.declared.view.Role.{Role}
+use Rattle.copy_slots.specs.declared.view.Role.TheVariants.{Idle, Keeper, Mailbox}
+use Rattle.copy_slots.specs.declared.view.View.{View}
+use Rattle.slot_board.specs.declared.seats.EndSeats.{EndSeats}
+use Rattle.copy_slots.specs.Mail.{role_checked, role_stopped}
+use Rattle.copy_slots.specs.Places.{Sits}
+use Rattle.copy_slots.specs.Ports.{Ends, PortState, parent_at, child_at, on_sender, on_taker, on_parent, on_child, IsParent, IsChild, sender_in, taker_in, root_of, stop_word, after_check, after_stop}
+use Rattle.slot_board.specs.Slots.{PairSits, sender_of, taker_of, pair_ends, slot_state, is_watch}
+use Rattle.copy_slots.proofs.Placing.{role_is}
+use Rattle.copy_slots.proofs.Seating.{set_cases}
+
+module _ {A B Q : Type 0} (f : A → B) (h : B → Ends Q) where
+  abbrev pub all_ends : List A → List (Ends Q)
+  all_ends l = map h (map f l)
+
+  pub parent_inside : (l : List A) (k : ℕ) (p : Place) → IsParent (parent_at (all_ends l) k) p → k < length l
+  parent_inside [] k p e = absurd e
+  parent_inside (a ∷ l) zero p e = omega arith
+  parent_inside (a ∷ l) (suc k) p e = let t = parent_inside l k p e in omega arith
+
+  pub child_inside : (l : List A) (k : ℕ) (b : Bool) → IsChild (child_at (all_ends l) k) b → k < length l
+  child_inside [] k b e = absurd e
+  child_inside (a ∷ l) zero b e = omega arith
+  child_inside (a ∷ l) (suc k) b e = let t = child_inside l k b e in omega arith
+
+  pub parent_is : (l : List A) (k : ℕ) (a : A) → slice_get l k ≡ Some a → parent_at (all_ends l) k ≡ (h (f a)).parent
+  parent_is [] k a e = absurd (cc)
+  parent_is (b ∷ l) zero a e = let same : b ≡ a = cc in ap (λ z. (h (f z)).parent) same
+  parent_is (b ∷ l) (suc k) a e = parent_is l k a e
+
+  pub child_is : (l : List A) (k : ℕ) (a : A) → slice_get l k ≡ Some a → child_at (all_ends l) k ≡ (h (f a)).child
+  child_is [] k a e = absurd (cc)
+  child_is (b ∷ l) zero a e = let same : b ≡ a = cc in ap (λ z. (h (f z)).child) same
+  child_is (b ∷ l) (suc k) a e = child_is l k a e
+
+  pub parent_moved : (l : List A) (k : ℕ) (a b : A) (g : Sender Q → Sender Q) → slice_get l k ≡ Some a → h (f b) ≡ (record { parent = on_sender g (h (f a)).parent; child = (h (f a)).child }) → all_ends (set l k b) ≡ on_parent (all_ends l) k g
+  parent_moved [] k a b g e is = absurd (cc)
+  parent_moved (c ∷ l) zero a b g e is = let same : c ≡ a = cc in ap (λ z. z ∷ all_ends l) is ∙ ap (λ z. on_parent (h (f z) ∷ all_ends l) zero g) (sym same)
+  parent_moved (c ∷ l) (suc k) a b g e is = ap (λ t. h (f c) ∷ t) (parent_moved l k a b g e is)
+
+  pub child_moved : (l : List A) (k : ℕ) (a b : A) (g : Taker Q → Taker Q) → slice_get l k ≡ Some a → h (f b) ≡ (record { parent = (h (f a)).parent; child = on_taker g (h (f a)).child }) → all_ends (set l k b) ≡ on_child (all_ends l) k g
+  child_moved [] k a b g e is = absurd (cc)
+  child_moved (c ∷ l) zero a b g e is = let same : c ≡ a = cc in ap (λ z. z ∷ all_ends l) is ∙ ap (λ z. on_child (h (f z) ∷ all_ends l) zero g) (sym same)
+  child_moved (c ∷ l) (suc k) a b g e is = ap (λ t. h (f c) ∷ t) (child_moved l k a b g e is)
+
+module _ {W P Q : Type 0} where
+  abbrev pub both_of : EndSeats W P Q → Option (Seat (Option P) (View W Q)) × Option (Seat (Option P) (View W Q))
+  both_of b = (b.parent, b.child)
+
+module _ {W P Q : Type 0} (z : TableId) (work : W) (blanks : List Q) where
+  abbrev pub AllPairs : List (EndSeats W P Q) → Type 0
+  AllPairs l = (j : ℕ) (s : EndSeats W P Q) → slice_get l j ≡ Some s → PairSits z work blanks j s.parent s.child
+
+  pub repairs : (l : List (EndSeats W P Q)) (k : ℕ) (b : EndSeats W P Q) → AllPairs l → PairSits z work blanks k b.parent b.child → AllPairs (set l k b)
+  repairs l k b all h j s e = ⊎_elim (λ (t : (j ≡ k) × (b ≡ s)). subst (λ (q : ℕ × EndSeats W P Q). PairSits z work blanks q.0 q.1.parent q.1.child) (λ i. (sym t.0 i, t.1 i)) h)
+      (λ t. all j s t) (set_cases l k j b s e)
+
+  some_seat : (s t : Seat (Option P) (View W Q)) → Some s ≡ Some t → s ≡ t
+  some_seat s t e = cc
+
+  pub parent_repaired : (k : ℕ) (a : EndSeats W P Q) (t : Seat (Option P) (View W Q)) (x : Sender Q) → PairSits z work blanks k a.parent a.child → Sits z work blanks k (Some x) None t → PairSits z work blanks k (Some t) a.child
+  parent_repaired k a t x old h = record {
+    of_parent = λ s e. subst (λ (q : Seat (Option P) (View W Q)). Sits z work blanks k (Some (sender_in q.me.0.role)) None q) (some_seat t s e)
+        (subst (λ (q : Sender Q). Sits z work blanks k (Some q) None t) (sym (ap sender_in (role_is z work blanks k (Some x) None t h))) h);
+    of_child = old.of_child;
+  }
+
+  pub child_repaired : (k : ℕ) (a : EndSeats W P Q) (t : Seat (Option P) (View W Q)) (y : Taker Q) → PairSits z work blanks k a.parent a.child → Sits z work blanks k None (Some y) t → PairSits z work blanks k a.parent (Some t)
+  child_repaired k a t y old h = record {
+    of_parent = old.of_parent;
+    of_child = λ s e. subst (λ (q : Seat (Option P) (View W Q)). Sits z work blanks k None (Some (taker_in q.me.0.role)) q) (some_seat t s e)
+        (subst (λ (q : Taker Q). Sits z work blanks k None (Some q) t) (sym (ap taker_in (role_is z work blanks k None (Some y) t h))) h);
+  }
+
+module _ {W P Q : Type 0} (work : W) (blanks : List Q) (watch : Role Q) where
+  abbrev pub state_of : TableId → List (EndSeats W P Q) → PortState W Q
+  state_of z l = slot_state z work blanks (map both_of l) watch
+
+  pub parent_state : (z : TableId) (l : List (EndSeats W P Q)) (k : ℕ) (a : EndSeats W P Q) (s t : Seat (Option P) (View W Q)) (g : Sender Q → Sender Q) → slice_get l k ≡ Some a → a.parent ≡ Some s → Sits z work blanks k (Some (g (sender_in s.me.0.role))) None t
+      → state_of z (set l k (record { parent = Some t; child = a.child })) ≡ record (state_of z l) { ends = on_parent (all_ends both_of pair_ends l) k g }
+  parent_state z l k a s t g e is h = let b : EndSeats W P Q = record { parent = Some t; child = a.child } in
+      ap (λ (es : List (Ends Q)). let st : PortState W Q = record (state_of z l) { ends = es } in st)
+      (parent_moved both_of pair_ends l k a b g e (ap (λ (o : Option (Sender Q)). let st : Ends Q = record { parent = o; child = taker_of a.child } in st)
+      (ap (λ (r : Role Q). Some (sender_in r)) (role_is z work blanks k _ None t h) ∙ ap (λ (o : Option (Seat (Option P) (View W Q))). on_sender g (sender_of o)) (sym is))))
+
+  pub child_state : (z : TableId) (l : List (EndSeats W P Q)) (k : ℕ) (a : EndSeats W P Q) (s t : Seat (Option P) (View W Q)) (g : Taker Q → Taker Q) → slice_get l k ≡ Some a → a.child ≡ Some s → Sits z work blanks k None (Some (g (taker_in s.me.0.role))) t
+      → state_of z (set l k (record { parent = a.parent; child = Some t })) ≡ record (state_of z l) { ends = on_child (all_ends both_of pair_ends l) k g }
+  child_state z l k a s t g e is h = let b : EndSeats W P Q = record { parent = a.parent; child = Some t } in
+      ap (λ (es : List (Ends Q)). let st : PortState W Q = record (state_of z l) { ends = es } in st)
+      (child_moved both_of pair_ends l k a b g e (ap (λ (o : Option (Taker Q)). let st : Ends Q = record { parent = sender_of a.parent; child = o } in st)
+      (ap (λ (r : Role Q). Some (taker_in r)) (role_is z work blanks k None _ t h) ∙ ap (λ (o : Option (Seat (Option P) (View W Q))). on_taker g (taker_of o)) (sym is))))
+
+module _ {W P Q : Type 0} (z : TableId) (work : W) (blanks : List Q) (l : List (EndSeats W P Q)) where
+  pub watch_checked : (w : ℕ) (role : Role Q) → is_watch role ≡ true → is_watch (role_checked w role) ≡ true
+  watch_checked w (Idle ws) e = refl
+  watch_checked w (Keeper from st ws) e = refl
+  watch_checked w (Mailbox k p c) e = e
+
+  pub watch_stopped : (role : Role Q) → is_watch role ≡ true → is_watch (role_stopped role) ≡ true
+  watch_stopped (Idle ws) e = refl
+  watch_stopped (Keeper from st ws) e = refl
+  watch_stopped (Mailbox k p c) e = e
+
+  pub checked_state : (stopped : Bool) (role : Role Q) → is_watch role ≡ true → slot_state z work blanks (map both_of l) (role_checked (stop_word stopped) role) ≡ after_check stopped (slot_state z work blanks (map both_of l) role)
+  checked_state w (Idle ws) e = refl
+  checked_state w (Keeper from st ws) e = refl
+  checked_state w (Mailbox k p c) e = absurd (cc)
+
+  pub stopped_state : (role : Role Q) → root_of role ≡ true → slot_state z work blanks (map both_of l) (role_stopped role) ≡ after_stop (slot_state z work blanks (map both_of l) role)
+  stopped_state (Idle ws) e = absurd (cc)
+  stopped_state (Keeper from st ws) e = refl
+  stopped_state (Mailbox k p c) e = absurd (cc)
+
+pub root_kept : {Q : Type 0} (role : Role Q) → root_of role ≡ true → (from : ℕ) × (st : Bool) × (ws : List ℕ) × (role ≡ Keeper from st ws)
+root_kept (Idle ws) e = absurd (cc)
+root_kept (Keeper from st ws) e = (from, st, ws, refl)
+root_kept (Mailbox k p c) e = absurd (cc)

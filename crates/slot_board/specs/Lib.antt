@@ -1,0 +1,5 @@
+pub mod Dealt
+pub mod Joined
+pub mod Laws
+pub mod Slots
+pub mod Splits

@@ -1,0 +1,90 @@
+//! How seats are split off, before the first call of a port, and joined.
+ghost use Rattle.std.specs.Prelude.{◌≡◌, ℕ, [], List, Option, Some, None, Bool, true, false};
+ghost use Rattle.copy_slots.specs.declared.view.Role.{Role};
+ghost use Rattle.copy_slots.specs.declared.view.Role.TheVariants.{Idle};
+ghost use Rattle.copy_slots.specs.Mail.{new_sender, new_taker};
+ghost use Rattle.copy_slots.specs.Places.{IsBoard, Sits, Watches};
+ghost use Rattle.slot_board.specs.Slots.{is_watch};
+ghost use Rattle.slot_board.specs.Splits.{pick, role_joined};
+
+use atomic_table::{Join, Split};
+use copy_slots::Work;
+use copy_slots::steps::{MailSeat, MailTable};
+use copy_slots::view::View;
+use std::marker::PhantomData;
+use std::mem;
+
+/// The two ends of a mailbox part.
+pub struct Parts<W> {
+    work: PhantomData<W>,
+}
+
+impl<W: Work> Split<View<W, W::Plain>> for Parts<W> {
+    ghost use Rattle.slot_board.specs.Splits.{parent_part, child_part};
+
+    ghost left = { parent_part };
+
+    ghost right = { child_part };
+}
+
+/// A seat that has no end, and looks at the stop word.
+pub struct Idles<W> {
+    work: PhantomData<W>,
+}
+
+impl<W: Work> Split<View<W, W::Plain>> for Idles<W> {
+    ghost use Rattle.slot_board.specs.Splits.{idle};
+
+    ghost left = { λ v. v };
+
+    ghost right = { idle };
+}
+
+/// Two seats that look at the stop word become one.
+pub struct Merges<W> {
+    work: PhantomData<W>,
+}
+
+impl<W: Work> Join<View<W, W::Plain>> for Merges<W> {
+    ghost use Rattle.copy_slots.specs.Mail.{spent};
+    ghost use Rattle.slot_board.specs.Splits.{joined};
+
+    ghost both = { joined };
+
+    ghost spent = { spent };
+}
+
+/// The child's end of a mailbox of which nothing was done, off the seat that has both ends.
+pub(crate) fn part<W: Work>(top: &MailTable<W>, seat: &mut MailSeat<W>) -> MailSeat<W>
+    requires board { (n : ℕ) × IsBoard top.now.table_id n }
+    requires seat { (bs : List W.Plain) × (k : ℕ) × Sits top.now.table_id top.now.key.work.value bs k (Some new_sender) (Some new_taker) seat.old }
+    ensures { (bs : List W.Plain) (k : ℕ) → Sits top.now.table_id top.now.key.work.value bs k (Some new_sender) (Some new_taker) seat.old → Sits top.now.table_id top.now.key.work.value bs k (Some new_sender) None seat.new × Sits top.now.table_id top.now.key.work.value bs k None (Some new_taker) result }
+{
+    top.split_seat::<Parts<W>>(seat)
+}
+
+/// A seat that looks at the stop word, off another one. For the root's core it has what the other had.
+pub(crate) fn next_watch<W: Work>(
+    top: &MailTable<W>,
+    spare: &mut MailSeat<W>,
+    is_root: bool,
+) -> MailSeat<W>
+    requires board { (n : ℕ) × IsBoard top.now.table_id n }
+    requires spare { (bs : List W.Plain) × (role : Role W.Plain) × Watches top.now.table_id top.now.key.work.value bs role spare.old }
+    ensures { (bs : List W.Plain) (role : Role W.Plain) → Watches top.now.table_id top.now.key.work.value bs role spare.old → Watches top.now.table_id top.now.key.work.value bs (pick is_root (Idle []) role) spare.new × Watches top.now.table_id top.now.key.work.value bs (pick is_root role (Idle [])) result }
+{
+    let mut next = top.split_seat::<Idles<W>>(spare);
+    if is_root {
+        mem::swap(spare, &mut next);
+    }
+    next
+}
+
+/// What one seat at the stop word has, into another one.
+pub(crate) fn merge<W: Work>(top: &MailTable<W>, seat: &mut MailSeat<W>, other: MailSeat<W>)
+    requires board { (n : ℕ) × IsBoard top.now.table_id n }
+    requires seats { (bs : List W.Plain) × (role : Role W.Plain) × (more : Role W.Plain) × (is_watch role ≡ true) × (is_watch more ≡ true) × Watches top.now.table_id top.now.key.work.value bs role seat.old × Watches top.now.table_id top.now.key.work.value bs more other }
+    ensures { (bs : List W.Plain) (role more : Role W.Plain) → Watches top.now.table_id top.now.key.work.value bs role seat.old → Watches top.now.table_id top.now.key.work.value bs more other → Watches top.now.table_id top.now.key.work.value bs (role_joined role more) seat.new }
+{
+    top.join_seat::<Merges<W>>(seat, other);
+}
