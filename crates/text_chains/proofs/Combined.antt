@@ -151,7 +151,7 @@ module _ (u : ℕ → ℕ) (k : PlainKernel) where
       let r = no_worth x rest in
       omega (arith, e, r)
     where
-      none : (c : Bool) → cond c 0 0 ≡ 0
+      none : (c : Bool) → ◌≡◌ {A = ℕ} (cond c 0 0) 0
       none true = refl
       none false = refl
 
@@ -195,12 +195,9 @@ module _ (u : ℕ → ℕ) (k : PlainKernel) where
       let own = greatest_above (λ t. thread_measure u k y 0 (words_of k t) (body_of k t)) (count_up 0 (length k.threads)) t i in
       let c = greatest_append u (stmt_calls (body_of k t)) (par_calls k (uses_of k t) (pars_of (body_of k t))) in
       let e =
-      pars_least (uses_of k t) (pars_of (body_of k t)) (called_rest t b)
+      pars_least (uses_of k t) (pars_of (body_of k t)) (b - words_of k t)
       (λ x j.
       let n = g t x (omega (arith, l)) j in
       let m = greatest_above (λ t. thread_measure u k x (combined u k x) (words_of k t) (body_of k t)) (count_up 0 (length k.threads)) t i in
       omega (arith, n, m)) in
       omega (arith, own, c, e, h))
-    where
-      abbrev called_rest : ℕ → ℕ → ℕ
-      called_rest t b = b - words_of k t

@@ -69,20 +69,20 @@ module _ (text : Text) (names : List (List ℕ)) where
       ∙ (ap (λ n. thread_measure u (kernel_of text names) v worth n (body_of (kernel_of text names) (suc j))) (below_words j l)
       ∙ ap (thread_measure u (kernel_of text names) v worth (at (root text names).made j).words) (fields.made_body text names j l))
 
+  first_words : words_of (kernel_of text names) 0 ≡ (root text names).next.slot
+  unfolding kernel_of
+  first_words = refl
+
+  first_body : body_of (kernel_of text names) 0 ≡ (root text names).stmt
+  unfolding kernel_of
+  first_body = refl
+
   first_thread : (u : ℕ → ℕ) (v worth : ℕ) →
       thread_measure u (kernel_of text names) v worth (words_of (kernel_of text names) 0) (body_of (kernel_of text names) 0)
       ≡ thread_measure u (kernel_of text names) v worth (root text names).next.slot (root text names).stmt
   first_thread u v worth =
       ap (λ n. thread_measure u (kernel_of text names) v worth n (body_of (kernel_of text names) 0)) first_words
       ∙ ap (thread_measure u (kernel_of text names) v worth (root text names).next.slot) first_body
-    where
-      first_words : words_of (kernel_of text names) 0 ≡ (root text names).next.slot
-      unfolding kernel_of
-      first_words = refl
-
-      first_body : body_of (kernel_of text names) 0 ≡ (root text names).stmt
-      unfolding kernel_of
-      first_body = refl
 
   as_many : length (kernel_of text names).threads ≡ suc (length (root text names).made)
   unfolding kernel_of
@@ -185,43 +185,43 @@ module _ (text : Text) (names : List (List ℕ)) where
     combine_is n l = ap (λ (x : Variable). x.combine) (get_or-map (variable_shape text names) (variable_items text names text) n blank _ l)
 
     module _ (u : ℕ → ℕ) where
-      abbrev value : ℕ → ℕ
-      value id = u (number_among is_int_function id text)
+      abbrev valued : ℕ → ℕ
+      valued id = u (number_among is_int_function id text)
 
       -- the peak for the combine function of one variable
       abbrev part : PlainGlobal → ℕ
-      part g = elim g.combine [ None ↦ 0 | Some c ↦ peak_by g.name.id value (value c.with.id) text (main_id text names) ]
+      part g = elim g.combine [ None ↦ 0 | Some c ↦ peak_by g.name.id valued (valued c.with.id) text (main_id text names) ]
 
-      variable_told : (n worth : ℕ) → n < variable_count text names → peak_by (item n).name.id value worth text (main_id text names) ≡ min (by_variable u (kernel_of text names) n worth) (2 ^ 64 - 1)
+      variable_told : (n worth : ℕ) → n < variable_count text names → peak_by (item n).name.id valued worth text (main_id text names) ≡ min (by_variable u (kernel_of text names) n worth) (2 ^ 64 - 1)
       variable_told n worth l =
           let i = (item n).name.id in
           let e = number_is n l in
           peak_told text names u i (number_among is_variable i text) worth (Unit {0}) (inl tt) (λ r. omega (arith, e, l)) (λ r. reads text (item n) (is_item n l) (item_at text n l).changes)
           ∙ ap (λ x. min (by_variable u (kernel_of text names) x worth) (2 ^ 64 - 1)) e
 
-      combined_is : (n : ℕ) (o : Option Combine) → n < variable_count text names → (item n).combine ≡ o → combined u (kernel_of text names) n ≡ elim o [ None ↦ 0 | Some c ↦ value c.with.id ]
+      combined_is : (n : ℕ) (o : Option Combine) → n < variable_count text names → (item n).combine ≡ o → combined u (kernel_of text names) n ≡ elim o [ None ↦ 0 | Some c ↦ valued c.with.id ]
       combined_is n o l e = ap (λ x. elim x [ None ↦ 0 | Some f ↦ u f ]) (combine_is n l ∙ ap (combine_of text names) e) ∙ pick o
         where
-          pick : (o : Option Combine) → elim (combine_of text names o) [ None ↦ 0 | Some f ↦ u f ] ≡ elim o [ None ↦ 0 | Some c ↦ value c.with.id ]
+          pick : (o : Option Combine) → ◌≡◌ {A = ℕ} (elim (combine_of text names o) [ None ↦ 0 | Some f ↦ u f ]) (elim o [ None ↦ 0 | Some c ↦ valued c.with.id ])
           pick None = refl
           pick (Some c) = refl
 
       part_none : (n : ℕ) → (item n).combine ≡ None → part (item n) ≡ 0
-      part_none n e = ap (λ o. elim o [ None ↦ 0 | Some c ↦ peak_by (item n).name.id value (value c.with.id) text (main_id text names) ]) e
+      part_none n e = ap (λ o. elim o [ None ↦ 0 | Some c ↦ peak_by (item n).name.id valued (valued c.with.id) text (main_id text names) ]) e
 
       part_some : (n : ℕ) (c : Combine) → n < variable_count text names → (item n).combine ≡ Some c → part (item n) ≡ min (by_variable u (kernel_of text names) n (combined u (kernel_of text names) n)) (2 ^ 64 - 1)
       part_some n c l e =
-          ap (λ o. elim o [ None ↦ 0 | Some c ↦ peak_by (item n).name.id value (value c.with.id) text (main_id text names) ]) e
-          ∙ (variable_told n (value c.with.id) l ∙ ap (λ w. min (by_variable u (kernel_of text names) n w) (2 ^ 64 - 1)) (sym (combined_is n (Some c) l e)))
+          ap (λ o. elim o [ None ↦ 0 | Some c ↦ peak_by (item n).name.id valued (valued c.with.id) text (main_id text names) ]) e
+          ∙ (variable_told n (valued c.with.id) l ∙ ap (λ w. min (by_variable u (kernel_of text names) n w) (2 ^ 64 - 1)) (sym (combined_is n (Some c) l e)))
 
-      over_least : (gs : List PlainGlobal) (b : ℕ) → ((n : ℕ) → n < length gs → part (get_or gs n blank) ≤ b) → peak_over value text (main_id text names) gs ≤ b
+      over_least : (gs : List PlainGlobal) (b : ℕ) → ((n : ℕ) → n < length gs → part (get_or gs n blank) ≤ b) → peak_over valued text (main_id text names) gs ≤ b
       over_least [] b h = omega arith
       over_least (g ∷ gs) b h =
           let e = h 0 (omega arith) in
           let d = over_least gs b (λ n l. h (suc n) (omega (arith, l))) in
           omega (arith, e, d)
 
-      over_above : (gs : List PlainGlobal) (n : ℕ) → n < length gs → part (get_or gs n blank) ≤ peak_over value text (main_id text names) gs
+      over_above : (gs : List PlainGlobal) (n : ℕ) → n < length gs → part (get_or gs n blank) ≤ peak_over valued text (main_id text names) gs
       over_above [] n l = absurd (omega arith)
       over_above (g ∷ gs) zero l = omega arith
       over_above (g ∷ gs) (suc n) l = let e = over_above gs n (omega (arith, l)) in omega (arith, e)
@@ -273,12 +273,12 @@ module _ (text : Text) (names : List (List ℕ)) where
           omega (arith, a, b, c))
 
       abbrev told : ℕ
-      told = max (peak_by 0 value 0 text (main_id text names)) (peak_over value text (main_id text names) (variable_items text names text))
+      told = max (peak_by 0 valued 0 text (main_id text names)) (peak_over valued text (main_id text names) (variable_items text names text))
 
       told_least : told ≤ min (most_words u (kernel_of text names)) (2 ^ 64 - 1)
       told_least =
           let a = none_told text names u in
-          let b = none_above u (kernel_of text names) 0 in
+          let b = none_above u (kernel_of text names) pars_below 0 in
           let c =
           over_least (variable_items text names text) (min (most_words u (kernel_of text names)) (2 ^ 64 - 1))
           (λ n l. part_least n (item n).combine refl l) in

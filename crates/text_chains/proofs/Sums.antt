@@ -1,6 +1,7 @@
 -- Sums of what texts bring.
-use Rattle.std.proofs.Common.{ℕ, ◌+◌, ◌-◌, ◌^◌, ◌<◌, ◌≤◌, ◌≡◌, ◌∙◌, min, max, sym, ap, refl, Bool, true, false, ◌||◌, List, [], ◌∷◌, length, get_or, drop, add-one, arith}
+use Rattle.std.proofs.Common.{ℕ, ◌+◌, ◌-◌, ◌^◌, ◌<◌, ◌≤◌, ◌≡◌, ◌∙◌, min, max, sym, ap, refl, Bool, true, false, cond, ◌||◌, List, [], ◌∷◌, length, get_or, drop, add-one, arith}
 use Rattle.std.proofs.Math.Seq.{drop-cons}
+use mir.Val.{bool_byte}
 use Rattle.forec_tree.specs.Terms.{Terms, no_terms, more_terms, Declared, Statements, no_statements, more_statements, Branches, no_branches, by_call, by_group}
 use Rattle.text_chains.specs.declared.tally.Tally.{Tally}
 use Rattle.text_chains.specs.Tallies as of
@@ -25,6 +26,10 @@ join_first a l = by_fields _ _ _ _ _ _ _ _ refl (omega arith) (omega (arith, l))
 
 pub join_last : (a : Tally) → a.words ≤ 2 ^ 64 - 1 → joined a nothing ≡ a
 join_last a l = by_fields _ _ _ _ _ _ _ _ (or_none a.named) (omega arith) (omega (arith, l)) (omega arith)
+
+pub named_byte : (b : Bool) → bool_byte b ≡ cond b 1 0
+named_byte true = refl
+named_byte false = refl
 
 -- a walk begins with nothing
 pub begin_low : (n : Tally) → n ≡ nothing → n.words ≤ 2 ^ 64 - 1

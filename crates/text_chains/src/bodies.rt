@@ -57,7 +57,9 @@ fn statement(w: &Weights<'_>, table: &[Tally], hidden: bool, s: &Stmt) -> Tally
         StmtKind::Group { body } => all(w, table, hidden, body.as_slice()),
         StmtKind::Declare { locals: list } => locals(w, hidden, list.as_slice()),
         StmtKind::Assign {
-            target: to, value, ..
+            target: to,
+            value,
+            ..
         } => joined(target(w, hidden, to), term(w, hidden, value)),
         StmtKind::Call { name, args } => {
             joined(sets(w, hidden, args.as_slice()), known_of(table, name.id))
@@ -88,7 +90,10 @@ fn statement(w: &Weights<'_>, table: &[Tally], hidden: bool, s: &Stmt) -> Tally
             joined(calling(folded(w, all.naming)), all.tally)
         }
         StmtKind::Abort { test, body, .. } => {
-            joined(term(w, hidden, test), all(w, table, hidden, body.as_slice()))
+            joined(
+                term(w, hidden, test),
+                all(w, table, hidden, body.as_slice()),
+            )
         }
         StmtKind::Return { value } => term(w, hidden, value),
     }

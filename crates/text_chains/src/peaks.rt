@@ -81,8 +81,8 @@ fn peak_with(
 ) -> Result<u64, OutOfMemory>
     requires { Settled (text_of w.now.globals.now.index) order.now }
     ensures { IfOk result (λ n. n ≡ elim (plain_global global.now).combine [
-        | None ↦ 0
-        | Some c ↦ peaks.peak_by (plain_global global.now).name.id (value_by w.now) (value_by w.now c.with.id) (text_of w.now.globals.now.index) first
+      | None ↦ 0
+      | Some c ↦ peaks.peak_by (plain_global global.now).name.id (value_by w.now) (value_by w.now c.with.id) (text_of w.now.globals.now.index) first
     ]) }
 {
     match global.combine {

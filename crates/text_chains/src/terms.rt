@@ -19,7 +19,10 @@ pub fn term(w: &Weights<'_>, hidden: bool, e: &Expr) -> Tally
         ExprKind::Read { name } => naming(names(w, hidden, name.id)),
         ExprKind::Element { index, .. } => term(w, hidden, index),
         ExprKind::Unary { of, .. } => term(w, hidden, of),
-        ExprKind::Binary { left, right, .. } => joined(term(w, hidden, left), term(w, hidden, right)),
+        ExprKind::Binary { left, right, .. } => joined(
+            term(w, hidden, left),
+            term(w, hidden, right),
+        ),
         ExprKind::And { left, right } => joined(term(w, hidden, left), term(w, hidden, right)),
         ExprKind::Or { left, right } => joined(term(w, hidden, left), term(w, hidden, right)),
         ExprKind::Choose { test, yes, no } => {
@@ -27,7 +30,10 @@ pub fn term(w: &Weights<'_>, hidden: bool, e: &Expr) -> Tally
             joined(term(w, hidden, test), sides)
         }
         ExprKind::Call { name, args } => {
-            joined(calling(value(w, name.id)), terms(w, hidden, args.as_slice()))
+            joined(
+                calling(value(w, name.id)),
+                terms(w, hidden, args.as_slice()),
+            )
         }
     }
 }

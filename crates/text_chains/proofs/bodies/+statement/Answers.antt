@@ -1,4 +1,4 @@
-use Rattle.std.proofs.Common.{◌≡◌, ◌∙◌, ◌+◌, ℕ, sym, ap, refl, cond, false, length, arith}
+use Rattle.std.proofs.Common.{◌≡◌, ◌∙◌, ◌+◌, ℕ, sym, ap, refl, cond, false, length, arith, Bool}
 use Rattle.forec_tree.specs.Terms as tree
 use Rattle.forec_tree.specs.Plain.{terms, statements, branches, branch_with}
 use Rattle.forec_tree.proofs.Rows.{of_group, of_abort, of_par, branch-group}
@@ -7,7 +7,7 @@ use Rattle.text_chains.specs.declared.tally.Tally.{Tally}
 use Rattle.text_chains.specs.Tallies as of
 use Rattle.text_chains.specs.Tallies.{joined, calling, started, tally_at}
 use Rattle.text_chains.specs.Views.{value_by}
-use Rattle.text_chains.proofs.Sums.{both, begin_low, begin_told, all_low, branches_low}
+use Rattle.text_chains.proofs.Sums.{both, named_byte, begin_low, begin_told, all_low, branches_low}
 use Rattle.text_chains.proofs.bodies.+statement.Goals as goal
 
 pub all-loop-s-init : goal.all-loop-s-init
@@ -46,13 +46,16 @@ branch-returns-in-Group-clause-tally t c rest =
     let body = c.all-body.ensures ∙ ap (λ l. of.all_tally w.variable (value_by w) w.worth (tally_at table) false (statements l)) c.as_slice.ensures in
     ap (λ x. joined x (all rest)) (c.started.ensures ∙ ap (started 0) body) ∙ (ap all (sym (branch-group c.in-Group.place c.in-Group.body rest)) ∙ ap (λ b. all (branch_with b rest)) (sym c.in-Group.is))
 
+abbrev one_if : Bool → ℕ
+one_if b = cond b 1 0
+
 pub branch-returns-in-Group-clause-naming : goal.branch-returns-in-Group-clause-naming
 branch-returns-in-Group-clause-naming t c rest =
     let w = c.args.w.now in
     let table = c.args.table.now in
     let all : tree.Branches → ℕ = of.count_naming w.variable (value_by w) w.worth (tally_at table) in
     let body = c.all-body.ensures ∙ ap (λ l. of.all_tally w.variable (value_by w) w.worth (tally_at table) false (statements l)) c.as_slice.ensures in
-    ap (λ n. n + all rest) (c.from-in-Group.ensures ∙ ap (λ (x : Tally). cond x.named 1 0) body) ∙ (ap all (sym (branch-group c.in-Group.place c.in-Group.body rest)) ∙ ap (λ b. all (branch_with b rest)) (sym c.in-Group.is))
+    ap (λ n. n + all rest) (c.from-in-Group.ensures ∙ (named_byte c.all-body.result.named ∙ ap (λ (x : Tally). one_if x.named) body)) ∙ (ap all (sym (branch-group c.in-Group.place c.in-Group.body rest)) ∙ ap (λ b. all (branch_with b rest)) (sym c.in-Group.is))
 
 pub statement-returns-in-Group : goal.statement-returns-in-Group
 statement-returns-in-Group t c =
