@@ -25,7 +25,7 @@ use Rattle.kernel_lower.specs.Marks.{is_marked, row_uses, shape_uses}
 use Rattle.kernel_lower.specs.Measures.{plain_draft, words_of_shape, depth_of_body, Fits, CallsLow, HasChains}
 use Rattle.kernel_lower.specs.declared.measure.Draft.{Draft}
 use Rattle.kernel_lower.specs.declared.measure.Chains.{Chains}
-use Rattle.text_kernel.specs.Limits.{thread_words, thread_depth, function_depth, amount, longest}
+use Rattle.text_kernel.specs.Limits.{thread_words, thread_depth, function_depth, amount}
 use Rattle.text_kernel.specs.declared.limits.Quantity.TheVariants.{Words, Depth}
 use Rattle.std.proofs.lemmas.List.{length-map, get_or-map}
 
@@ -297,13 +297,3 @@ module _ (d : Draft) (fits : Fits d) where
       greatest_capped (value_at c.depths.items) (function_depth k) (2 ^ 64 - 1) (count_up 0 (length d.functions.bodies.items)) (λ g i. h.depths g (let l = in_count g 0 (length d.functions.bodies.items) i in omega (arith, l, long))) in
       let q = m ∙ (ap (λ x. greatest (value_at x) numbers) p ∙ (ap (greatest (value_at c.depths.items)) n ∙ chained)) in
       omega (arith, a, b, e, q, w)
-
-  pub longest_amount : (c : Chains) (most : ℕ) (numbers table : List ℕ) → HasChains k c → table ≡ c.words.items → numbers ≡ count_up 0 (length d.functions.bodies.items) → most ≡ greatest (value_at table) numbers → most ≡ min (longest k) (2 ^ 64 - 1)
-  longest_amount c most numbers table h p n m =
-      let long = length-map d.functions.bodies.items stmt in
-      let b = ap (λ n. greatest (chain (function_words k.shape.functions) k (length k.functions)) (count_up 0 n)) long in
-      let chained =
-      greatest_capped (value_at c.words.items) (chain (function_words k.shape.functions) k (length k.functions)) (2 ^ 64 - 1) (count_up 0 (length d.functions.bodies.items))
-      (λ g i. h.words g (let l = in_count g 0 (length d.functions.bodies.items) i in omega (arith, l, long))) in
-      let q = m ∙ (ap (λ x. greatest (value_at x) numbers) p ∙ (ap (greatest (value_at c.words.items)) n ∙ chained)) in
-      omega (arith, b, q)

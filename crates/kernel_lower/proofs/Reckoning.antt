@@ -20,8 +20,11 @@ use Rattle.kernel_lower.specs.declared.lower_fault.LowerFault.TheVariants as fau
 use Rattle.text_kernel.specs.Lowering.{Made}
 use Rattle.text_kernel.specs.Kernels.{kernel_of, variable_items, variable_shape, root, thread_shape, main_id}
 use Rattle.text_sizes.specs.Spans.{span_value}
-use Rattle.text_kernel.specs.Limits.{amount, limit_of, earlier, Fits, thread_words, thread_depth, widest, longest}
-use Rattle.kernel_lower.specs.Measures.{CallsLow}
+use Rattle.text_kernel.specs.Limits.{amount, limit_of, earlier, Fits, thread_words, thread_depth, widest}
+use Rattle.kernel_lower.specs.Measures.{CallsLow, HasWords}
+use Rattle.kernel_lower.specs.Reach.{value_at}
+use Rattle.kernel_lower.proofs.Measuring.{greatest_capped}
+use Rattle.text_chains.specs.Peaks.{called_words, most_words}
 use Rattle.kernel_lower.specs.declared.judge.Amounts.{Amounts}
 use Rattle.kernel_lower.specs.Refusals.{amount_in, Passes, First, Causes}
 use Rattle.text_sizes.proofs.Widening.{span_kept}
@@ -57,11 +60,6 @@ count_below from (suc n) g i =
 
 -- ---- words
 
-wide_above : (shapes : List PlainThread) (t : ℕ) → words_in shapes t ≤ widest shapes
-wide_above [] t = omega arith
-wide_above (s ∷ rest) zero = omega arith
-wide_above (s ∷ rest) (suc t) = let e = wide_above rest t in omega (arith, e)
-
 wide_least : (shapes : List PlainThread) (x : ℕ) → ((t : ℕ) → t < length shapes → words_in shapes t ≤ x) → widest shapes ≤ x
 wide_least [] x h = omega arith
 wide_least (s ∷ rest) x h =
@@ -78,19 +76,24 @@ module _ (k : PlainKernel) (many : length k.threads ≡ length k.shape.threads) 
       let e = greatest_above (thread_words k) (count_up 0 (length k.threads)) t (count_has 0 (length k.threads) t (omega arith) (omega (arith, l, many))) in
       omega (arith, e))
 
-  pub words_greatest : CallsLow k → amount Words k ≤ widest k.shape.threads + longest k
-  unfolding amount
-  words_greatest low =
-      greatest_least (thread_words k) (count_up 0 (length k.threads)) (widest k.shape.threads + longest k)
-      (λ t i.
-      let l = count_below 0 (length k.threads) t i in
-      let w = wide_above k.shape.threads t in
-      let c =
-      greatest_least (chain (function_words k.shape.functions) k (length k.functions)) (thread_calls k t) (longest k)
-      (λ g j.
-      let h = low.threads t g (omega (arith, l)) j in
-      greatest_above (chain (function_words k.shape.functions) k (length k.functions)) (count_up 0 (length k.functions)) g (count_has 0 (length k.functions) g (omega arith) (omega (arith, h)))) in
-      omega (arith, w, c))
+greatest_near : (f g : ℕ → ℕ) (c : ℕ) (xs : List ℕ) → ((x : ℕ) → contains x xs ≡ true → min (f x) c ≡ min (g x) c) → min (greatest f xs) c ≡ min (greatest g xs) c
+greatest_near f g c [] h = refl
+greatest_near f g c (x ∷ xs) h =
+    let e = h x (let q : (x == x) ≡ true = grind (arith, nat_tests) in ap (λ c. cond c true (contains x xs)) q) in
+    let d = greatest_near f g c xs (λ y i. h y (elim (x == y) as (λ c. cond c true (contains y xs) ≡ true) [ true ↦ refl | false ↦ i ])) in
+    omega (arith, e, d)
+
+-- the words that are told of a text, with those along chains of calls
+pub words_are : (k : PlainKernel) (table : List ℕ) (n : ℕ) → CallsLow k → HasWords k table → n ≡ min (most_words (value_at table) k) (2 ^ 64 - 1) → n ≡ min (amount Words k) (2 ^ 64 - 1)
+unfolding amount
+words_are k table n low h e =
+    e
+    ∙ greatest_near (called_words (value_at table) k) (thread_words k) (2 ^ 64 - 1) (count_up 0 (length k.threads))
+    (λ t i.
+    let l = count_below 0 (length k.threads) t i in
+    let c =
+    greatest_capped (value_at table) (chain (function_words k.shape.functions) k (length k.functions)) (2 ^ 64 - 1) (thread_calls k t) (λ g j. h g (low.threads t g (omega (arith, l)) j)) in
+    omega (arith, c))
 
 -- ---- depth
 
@@ -171,10 +174,12 @@ module _ (k j : PlainKernel) (words : k.shape.functions ≡ j.shape.functions) (
       ap (λ n. n + greatest (chain a k deep) (stmt_calls (function_body k f))) (h f)
       ∙ (ap (λ x. b f + greatest (chain a k deep) (stmt_calls x)) (one_body f) ∙ ap (λ n. b f + n) (greatest_each (chain a k deep) (chain b j deep) (stmt_calls (function_body j f)) (one_chain a b h deep)))
 
-  pub longest_same : longest k ≡ longest j
-  longest_same =
-      greatest_each _ _ (count_up 0 (length k.functions)) (one_chain (function_words k.shape.functions) (function_words j.shape.functions) (λ f. ap (λ l. function_words l f) words) (length k.functions))
-      ∙ ap (λ (l : List Stmt). greatest (chain (function_words j.shape.functions) j (length l)) (count_up 0 (length l))) bodies
+  pub words_too : (table : List ℕ) → HasWords k table → HasWords j table
+  words_too table h f l =
+      h f (subst (λ (x : List Stmt). f < length x) (sym bodies) l)
+      ∙ ap (λ n. min n (2 ^ 64 - 1))
+      (one_chain (function_words k.shape.functions) (function_words j.shape.functions) (λ f. ap (λ l. function_words l f) words) (length k.functions) f
+      ∙ ap (λ (l : List Stmt). chain (function_words j.shape.functions) j (length l) f) bodies)
 
   pub ranked_too : Ranked j → Ranked k
   ranked_too r =
@@ -218,7 +223,7 @@ told_causes text names amounts fault.OutOfMemory h f = tt
 exactly : (l a n : ℕ) → l < 2 ^ 64 - 1 → a ≡ min n (2 ^ 64 - 1) → l < a → l < n
 exactly l a n s e h = omega (arith, s, e, h)
 
-at_most : (l a n : ℕ) → l < 2 ^ 64 - 1 → a ≡ min n (2 ^ 64 - 1) → a ≤ l → n ≤ l
+pub at_most : (l a n : ℕ) → l < 2 ^ 64 - 1 → a ≡ min n (2 ^ 64 - 1) → a ≤ l → n ≤ l
 at_most l a n s e h = omega (arith, s, e, h)
 
 -- the widest thread alone passes the limit of words, and no earlier one is passed
@@ -238,14 +243,13 @@ words_cause text names threads words e many t f w p =
     only Terms (later m) = elim m [ ]
     only Depth (later m) = elim m [ ]
 
-pub tells : (k : PlainKernel) (a : Amounts) (chained both : ℕ) → length k.threads ≡ length k.shape.threads → CallsLow k → a.threads ≡ min (amount Threads k) (2 ^ 64 - 1) → a.words ≡ min (widest k.shape.threads) (2 ^ 64 - 1) →
-    chained ≡ min (longest k) (2 ^ 64 - 1) → both ≡ min (a.words + chained) (2 ^ 64 - 1) → (a.words ≤ 65536 → both ≤ 65536) → a.globals ≡ amount Globals k → a.tables ≡ min (amount Tables k) (2 ^ 64 - 1) → a.terms ≡ min (amount Terms k) (2 ^ 64 - 1) →
-    a.depth ≤ amount Depth k → Tells k (amount_in a)
-tells k a chained both many low t w c b s g x e d = record { passes = passes; fits = fits }
+pub tells : (k : PlainKernel) (a : Amounts) → a.threads ≡ min (amount Threads k) (2 ^ 64 - 1) → a.words ≡ min (amount Words k) (2 ^ 64 - 1) → a.globals ≡ amount Globals k → a.tables ≡ min (amount Tables k) (2 ^ 64 - 1) →
+    a.terms ≡ min (amount Terms k) (2 ^ 64 - 1) → a.depth ≤ amount Depth k → Tells k (amount_in a)
+tells k a t w g x e d = record { passes = passes; fits = fits }
   where
     passes : (q : Quantity) → limit_of q < amount_in a q → limit_of q < amount q k
     passes Threads h = exactly 256 a.threads (amount Threads k) (omega arith) t h
-    passes Words h = let l = words_least k many in let m = exactly 65536 a.words (widest k.shape.threads) (omega arith) w h in omega (arith, l, m)
+    passes Words h = exactly 65536 a.words (amount Words k) (omega arith) w h
     passes Globals h = omega (arith, g, h)
     passes Tables h = exactly 1048576 a.tables (amount Tables k) (omega arith) x h
     passes Terms h = exactly 200000 a.terms (amount Terms k) (omega arith) e h
@@ -253,7 +257,7 @@ tells k a chained both many low t w c b s g x e d = record { passes = passes; fi
 
     fits : (q : Quantity) → (q ≡ Depth → ⊥) → amount_in a q ≤ limit_of q → amount q k ≤ limit_of q
     fits Threads n h = at_most 256 a.threads (amount Threads k) (omega arith) t h
-    fits Words n h = let l = words_greatest k many low in let r = s h in let m = at_most 65536 a.words (widest k.shape.threads) (omega arith) w h in omega (arith, l, r, m, b, c, w)
+    fits Words n h = at_most 65536 a.words (amount Words k) (omega arith) w h
     fits Globals n h = omega (arith, g, h)
     fits Tables n h = at_most 1048576 a.tables (amount Tables k) (omega arith) x h
     fits Terms n h = at_most 200000 a.terms (amount Terms k) (omega arith) e h

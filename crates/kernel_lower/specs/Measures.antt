@@ -1,5 +1,5 @@
 -- The parts of a kernel on which words and depth depend.
-use Rattle.std.specs.Prelude.{ℕ, ◌≡◌, ◌<◌, ◌-◌, ◌^◌, min, true, [], map, length}
+use Rattle.std.specs.Prelude.{ℕ, ◌≡◌, ◌<◌, ◌-◌, ◌^◌, min, true, List, [], map, length}
 use Rattle.forec_kernel.specs.declared.shape.FunctionShape.{FunctionShape}
 use Rattle.forec_kernel.specs.declared.terms.Statement.{Statement}
 use Rattle.forec_kernel.specs.Plain.{stmt}
@@ -51,6 +51,10 @@ depth_of_body s = min (stmt_depth (stmt s)) (2 ^ 64 - 1)
 pub record HasChains (k : PlainKernel) (c : Chains) : Type 0 where
   pub words : (f : ℕ) → f < length k.functions → value_at c.words.items f ≡ min (chain (function_words k.shape.functions) k (length k.functions) f) (2 ^ 64 - 1)
   pub depths : (f : ℕ) → f < length k.functions → value_at c.depths.items f ≡ min (function_depth k f) (2 ^ 64 - 1)
+
+-- the sums of words alone
+abbrev pub HasWords : PlainKernel → List ℕ → Type 0
+HasWords k table = (f : ℕ) → f < length k.functions → value_at table f ≡ min (chain (function_words k.shape.functions) k (length k.functions) f) (2 ^ 64 - 1)
 
 -- the draft of a kernel
 pub record IsDraft (k : PlainKernel) (d : Draft) : Type 0 where

@@ -1,79 +1,81 @@
 // Programs that are too large or too deep to be made: which limit they pass first.
 
-ghost use Rattle.std.specs.Prelude.{◌≡◌, ◌≤◌, ◌-◌, ◌^◌, ℕ, false, min, map, IfOk, IfErr};
+ghost use Rattle.std.specs.Prelude.{◌≡◌, ◌≤◌, ◌-◌, ◌^◌, ℕ, min, map, IfOk, IfErr, OnOk};
 ghost use Rattle.forec_tree.specs.Plain.{plain_item};
 ghost use Rattle.forec_tree.specs.Faults.{Leads};
 ghost use Rattle.forec_tree.specs.Pauses.{starts};
+ghost use Rattle.forec_check.specs.Checks.{Faultless};
 ghost use Rattle.forec_kernel.specs.WellFormed.{Ranked};
 ghost use Rattle.loop_check.specs.Views.{text_of};
 ghost use Rattle.text_kernel.specs.Kernels.{kernel_of, int_functions, main_id};
 ghost use Rattle.text_kernel.specs.Items.{functions_of};
 ghost use Rattle.text_kernel.specs.Limits as limits;
 ghost use Rattle.text_kernel.specs.declared.limits.Quantity.TheVariants as quantity;
-ghost use Rattle.kernel_lower.specs.Measures.{CallsLow};
+ghost use Rattle.kernel_lower.specs.Measures.{CallsLow, HasWords};
 ghost use Rattle.kernel_lower.specs.Refusals.{Causes};
 ghost use Rattle.body_lower.specs.Views.{OneText};
 
 use crate::int_functions::lowered_functions;
 use crate::judge::{Amounts, judge, within};
 use crate::lower_fault::LowerFault;
-use crate::measure::{Draft, longest};
+use crate::measure::{Draft, words_along};
 use crate::tables::{arrays, table_words};
 use crate::variables::variables;
 use body_lower::Source;
-use forec_base::{Labels, MAX_WORDS, OutOfMemory};
+use forec_base::{Labels, OutOfMemory};
 use forec_tree::{Function, Item};
 use loop_check::Index;
 use std::alloc::Global;
+use text_chains::most_words;
 use text_kernel::Quantity;
-use text_sizes::{add, span_of, spans};
+use text_sizes::{span_of, spans};
 
-/// The words of the widest thread, and how many statements at least stand in one another in some thread.
+/// What the text tells of a program: the function that it starts with, its threads and terms, and how many
+/// statements at least stand in one another in some thread.
 #[derive(Clone, Copy)]
 pub struct Outlook {
-    pub words: u64,
+    pub first: u32,
+    pub threads: u64,
+    pub terms: u64,
     pub levels: u64,
 }
 
-/// What the text tells of a program that starts with the function of a name and has so many threads.
-/// It is refused where a thread's own words pass their limit.
+/// How many statements at least stand in one another in some thread of a program that starts with the
+/// function of a name and has so many threads. It is refused where a thread's own words pass their limit.
 pub fn foresee(
     alloc: Global,
     index: &Index<'_>,
     names: &Labels,
     first: u32,
     threads: u64,
-) -> Result<Outlook, LowerFault>
+) -> Result<u64, LowerFault>
     requires free { (f : ℕ) → Leads (starts (text_of index.now)) f f → ⊥ }
     requires first { first ≡ main_id (text_of index.now) names.now }
     requires threads { threads ≡ min (limits.amount quantity.Threads (kernel_of (text_of index.now) names.now)) (2 ^ 64 - 1) }
     requires few { threads ≤ limits.limit_of quantity.Threads }
-    ensures words { IfOk result (λ o. o.words ≡ min (limits.widest (kernel_of (text_of index.now) names.now).shape.threads) (2 ^ 64 - 1)) }
-    ensures levels { IfOk result (λ o. o.levels ≤ limits.amount quantity.Depth (kernel_of (text_of index.now) names.now)) }
+    ensures words { OnOk result (limits.widest (kernel_of (text_of index.now) names.now).shape.threads ≤ limits.limit_of quantity.Words) }
+    ensures levels { IfOk result (λ n. n ≤ limits.amount quantity.Depth (kernel_of (text_of index.now) names.now)) }
     ensures fault { IfErr result (λ e. Causes e (text_of index.now) names.now) }
 {
     let table = spans(alloc, index)?;
     let main = span_of(&table, first);
     let words = main.slots.max(main.widest);
     within(Quantity::Words, words)?;
-    Ok(Outlook {
-        words,
-        levels: main.levels.max(main.deepest),
-    })
+    Ok(main.levels.max(main.deepest))
 }
 
-/// The most words that a chain of calls of these int functions takes.
-fn longest_chain(
+/// The words along the chains of calls of these int functions.
+fn chain_words(
     alloc: Global,
     source: &Source<'_>,
     names: &Labels,
     functions: &[&Function],
-) -> Result<u64, OutOfMemory>
+) -> Result<Vec<u64>, OutOfMemory>
     requires text { OneText source.now }
     requires functions { functions_of functions.now ≡ int_functions (text_of source.now.globals.index) names.now (text_of source.now.globals.index) }
     requires ranked { Ranked (kernel_of (text_of source.now.globals.index) names.now) }
     requires low { CallsLow (kernel_of (text_of source.now.globals.index) names.now) }
-    ensures { IfOk result (λ n. n ≡ min (limits.longest (kernel_of (text_of source.now.globals.index) names.now)) (2 ^ 64 - 1)) }
+    ensures { IfOk result (λ list. HasWords (kernel_of (text_of source.now.globals.index) names.now) list.items) }
 {
     let functions = lowered_functions(alloc, source, names, functions)?;
     let alone = Draft {
@@ -83,15 +85,8 @@ fn longest_chain(
         functions,
         rows: Vec::new(alloc),
     };
-    let most = longest(alloc, &alone)?;
-    Ok(most)
-}
-
-/// Whether threads alone are within the limit of words, and might not be with a chain of calls.
-fn is_open(words: u64, both: u64) -> bool
-    ensures { result ≡ false → words ≤ MAX_WORDS → both ≤ MAX_WORDS }
-{
-    words <= MAX_WORDS && MAX_WORDS < both
+    let list = words_along(alloc, &alone)?;
+    Ok(list)
 }
 
 /// The first limit that a program passes, where the text tells it. Nothing is put in place for it.
@@ -101,34 +96,38 @@ pub fn beyond(
     names: &Labels,
     items: &[Item],
     functions: &[&Function],
-    threads: u64,
-    terms: u64,
     known: Outlook,
 ) -> Result<(), LowerFault>
     requires text { OneText source.now }
     requires items { map plain_item items.now ≡ text_of source.now.globals.index }
     requires functions { functions_of functions.now ≡ int_functions (text_of source.now.globals.index) names.now (text_of source.now.globals.index) }
+    requires free { (f : ℕ) → Leads (starts (text_of source.now.globals.index)) f f → ⊥ }
+    requires faultless { Faultless (text_of source.now.globals.index) names.now }
     requires ranked { Ranked (kernel_of (text_of source.now.globals.index) names.now) }
     requires low { CallsLow (kernel_of (text_of source.now.globals.index) names.now) }
-    requires threads { threads ≡ min (limits.amount quantity.Threads (kernel_of (text_of source.now.globals.index) names.now)) (2 ^ 64 - 1) }
-    requires terms { terms ≡ min (limits.amount quantity.Terms (kernel_of (text_of source.now.globals.index) names.now)) (2 ^ 64 - 1) }
-    requires words { known.words ≡ min (limits.widest (kernel_of (text_of source.now.globals.index) names.now).shape.threads) (2 ^ 64 - 1) }
+    requires first { known.first ≡ main_id (text_of source.now.globals.index) names.now }
+    requires threads { known.threads ≡ min (limits.amount quantity.Threads (kernel_of (text_of source.now.globals.index) names.now)) (2 ^ 64 - 1) }
+    requires terms { known.terms ≡ min (limits.amount quantity.Terms (kernel_of (text_of source.now.globals.index) names.now)) (2 ^ 64 - 1) }
     requires levels { known.levels ≤ limits.amount quantity.Depth (kernel_of (text_of source.now.globals.index) names.now) }
     ensures { IfErr result (λ e. Causes e (text_of source.now.globals.index) names.now) }
 {
-    let chained = longest_chain(alloc, source, names, functions)?;
-    let both = add(known.words, chained);
-    if is_open(known.words, both) {
-        return Err(LowerFault::OutOfMemory);
-    }
+    let values = chain_words(alloc, source, names, functions)?;
     let globals = variables(alloc, &source.globals, names, items)?;
+    let words = most_words(
+        alloc,
+        &source.globals,
+        names,
+        &globals,
+        &values,
+        known.first,
+    )?;
     let arrays = arrays(alloc, items)?;
     judge(Amounts {
-        threads,
-        words: known.words,
+        threads: known.threads,
+        words,
         globals: globals.len() as u64,
         tables: table_words(&arrays),
-        terms,
+        terms: known.terms,
         depth: known.levels,
     })
 }

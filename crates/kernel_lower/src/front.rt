@@ -8,7 +8,7 @@ ghost use Rattle.text_kernel.specs.Limits.{WithinLimits, amount, limit_of};
 ghost use Rattle.text_kernel.specs.declared.limits.Quantity.TheVariants.{Threads};
 ghost use Rattle.kernel_lower.specs.Refusals.{Causes};
 
-use crate::beyond::{beyond, foresee};
+use crate::beyond::{Outlook, beyond, foresee};
 use crate::draft::{complete, draft};
 use crate::int_functions::int_functions;
 use crate::judge::{Amounts, judge, within};
@@ -42,11 +42,15 @@ fn parts_of(
     let first = checked.start();
     let functions = int_functions(alloc, &source.globals, names, items)?;
     let terms = program_terms(alloc, &source.globals.index, names, &functions, first)?;
-    let known = foresee(alloc, &source.globals.index, names, first, threads)?;
-    if MAX_TERMS < terms || MAX_DEPTH < known.levels {
-        beyond(
-            alloc, &source, names, items, &functions, threads, terms, known,
-        )?;
+    let levels = foresee(alloc, &source.globals.index, names, first, threads)?;
+    if MAX_TERMS < terms || MAX_DEPTH < levels {
+        let known = Outlook {
+            first,
+            threads,
+            terms,
+            levels,
+        };
+        beyond(alloc, &source, names, items, &functions, known)?;
         return Err(LowerFault::OutOfMemory);
     }
     let draft = draft(alloc, &source, names, items, first)?;

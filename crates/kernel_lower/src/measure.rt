@@ -4,7 +4,7 @@ ghost use Rattle.std.specs.Prelude.{◌≡◌, ◌+◌, ◌-◌, ◌^◌, ◌<�
 ghost use Rattle.forec_kernel.specs.WellFormed.{Ranked};
 ghost use Rattle.text_kernel.specs.Limits as limits;
 ghost use Rattle.text_kernel.specs.declared.limits.Quantity.TheVariants as quantity;
-ghost use Rattle.kernel_lower.specs.Measures.{plain_draft, CallsLow, Fits, words_of_shape, depth_of_body, HasChains};
+ghost use Rattle.kernel_lower.specs.Measures.{plain_draft, CallsLow, Fits, words_of_shape, depth_of_body, HasChains, HasWords};
 
 use crate::depths::statement_depth;
 use crate::int_functions::Functions;
@@ -74,16 +74,15 @@ fn chains_of(alloc: Global, draft: &Draft) -> Result<Chains, OutOfMemory>
     Ok(Chains { words, depths })
 }
 
-/// The most words that a chain of calls of int functions takes.
-pub fn longest(alloc: Global, draft: &Draft) -> Result<u64, OutOfMemory>
+/// The words along the chains of calls of int functions, by the number of the function where each begins.
+pub fn words_along(alloc: Global, draft: &Draft) -> Result<Vec<u64>, OutOfMemory>
     requires ranked { Ranked (plain_draft draft.now) }
     requires low { CallsLow (plain_draft draft.now) }
     requires fits { Fits draft.now }
-    ensures { IfOk result (λ n. n ≡ min (limits.longest (plain_draft draft.now)) (2 ^ 64 - 1)) }
+    ensures { IfOk result (λ list. HasWords (plain_draft draft.now) list.items) }
 {
     let chains = chains_of(alloc, draft)?;
-    let functions = numbers(alloc, draft.functions.bodies.len())?;
-    Ok(greatest(&chains.words, &functions))
+    Ok(chains.words)
 }
 
 /// The words and the depth of a thread, with those along the chains of calls from it.

@@ -5,9 +5,11 @@ use Rattle.kernel_lower.specs.declared.judge.Amounts.{Amounts}
 use Rattle.text_kernel.specs.Items.{globals_of, array_items, array_length}
 use Rattle.text_kernel.specs.Kernels as kernels
 use Rattle.text_kernel.specs.Kernels.{kernel_of}
+use Rattle.kernel_lower.specs.Reach.{value_at}
+use Rattle.text_chains.specs.Peaks.{most_words}
 use Rattle.kernel_lower.specs.Refusals.{amount_in, Causes}
-use Rattle.kernel_lower.proofs.Finishing.{tables_amount, as_many}
-use Rattle.kernel_lower.proofs.Reckoning.{tells, told_causes, variables_amount, err_more}
+use Rattle.kernel_lower.proofs.Finishing.{tables_amount}
+use Rattle.kernel_lower.proofs.Reckoning.{tells, words_are, told_causes, variables_amount, err_more}
 use Rattle.kernel_lower.proofs.beyond.beyond.Goals as goal
 
 pub returns : goal.returns
@@ -15,7 +17,8 @@ returns c =
     let text = text_of c.args.source.now.globals.index in
     let names = c.args.names.now in
     let k = kernel_of text names in
-    let a : Amounts = record { threads = c.args.threads; words = c.args.known.words; globals = c.len.result; tables = c.table_words.result; terms = c.args.terms; depth = c.args.known.levels } in
+    let known = c.args.known in
+    let a : Amounts = record { threads = known.threads; words = c.in_ok-words.words; globals = c.len.result; tables = c.table_words.result; terms = known.terms; depth = known.levels } in
     let list = c.in_ok-globals.globals.items in
     let vs = globals_of list in
     let are : vs ≡ kernels.variable_items text names text = c.in_ok-globals.ensures ∙ ap (kernels.variable_items text names) c.requires.items in
@@ -23,5 +26,7 @@ returns c =
     let tables =
     tables_amount text names c.table_words.result (globals_of c.in_ok-arrays.arrays.items) (c.in_ok-arrays.ensures ∙ ap array_items c.requires.items)
     (c.table_words.ensures ∙ ap (λ l. min (sum (map array_length (globals_of l))) (2 ^ 64 - 1)) c.deref.ensures.value) in
-    let all = tells k a c.in_ok-chained.chained c.add-both.result (as_many text names) c.requires.low c.requires.threads c.requires.words c.in_ok-chained.ensures c.add-both.ensures (c.is_open.ensures c.if-is_open.false) globals tables c.requires.terms c.requires.levels in
+    let values = c.in_ok-values.values.items in
+    let words = words_are k values c.in_ok-words.words c.requires.low c.in_ok-values.ensures (c.in_ok-words.ensures ∙ ap (λ l. min (most_words (value_at l) k) (2 ^ 64 - 1)) c.deref-2.ensures.value) in
+    let all = tells k a c.requires.threads words globals tables c.requires.terms c.requires.levels in
     err_more c.judge.result _ (λ e. Causes e text names) c.judge.ensures.err (λ e f. told_causes text names (amount_in a) e all f)

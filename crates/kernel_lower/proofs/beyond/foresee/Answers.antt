@@ -1,19 +1,25 @@
-use Rattle.std.proofs.Common.{◌∙◌, ap, sym, subst}
+use Rattle.std.proofs.Common.{◌∙◌, ap, sym, subst, arith}
+use Rattle.text_kernel.specs.declared.limits.Quantity.TheVariants.{Words}
+use Rattle.text_kernel.specs.Kernels.{kernel_of}
+use Rattle.text_kernel.specs.Limits.{limit_of, widest}
 use Rattle.text_sizes.specs.declared.span.Span.{Span}
 use Rattle.text_sizes.specs.Spans.{span_at}
 use Rattle.loop_check.specs.Views.{text_of}
 use Rattle.kernel_lower.specs.Refusals.{Causes}
 use Rattle.kernel_lower.proofs.Finishing.{as_many}
-use Rattle.kernel_lower.proofs.Reckoning.{words_told, levels_told, words_cause}
+use Rattle.kernel_lower.proofs.Reckoning.{at_most, words_told, levels_told, words_cause}
 use Rattle.kernel_lower.proofs.Tallying.{err_passed}
 use Rattle.kernel_lower.proofs.beyond.foresee.Goals as goal
 
 pub returns-clause-words : goal.returns-clause-words
 returns-clause-words c =
+    let text = text_of c.args.index.now in
+    let names = c.args.names.now in
     let first = c.args.first in
     let main = c.span_of-main.result in
     let same = c.span_of-main.ensures ∙ (ap (λ l. span_at l first) c.deref.ensures.value ∙ c.in_ok-table.ensures first) in
-    words_told (text_of c.args.index.now) c.args.names.now first main.slots main.widest c.max-words.result c.requires.first (ap (λ (x : Span). x.slots) same) (ap (λ (x : Span). x.widest) same) c.max-words.ensures
+    let are = words_told text names first main.slots main.widest c.max-words.result c.requires.first (ap (λ (x : Span). x.slots) same) (ap (λ (x : Span). x.widest) same) c.max-words.ensures in
+    at_most (limit_of Words) c.max-words.result (widest (kernel_of text names).shape.threads) (omega arith) are c.in_ok-within.ensures.ok
 
 pub returns-clause-levels : goal.returns-clause-levels
 returns-clause-levels c =

@@ -4,6 +4,7 @@ use Rattle.forec_tree.specs.Pauses.{starts}
 use Rattle.forec_tree.specs.Faults.{Leads}
 use Rattle.forec_kernel.specs.WellFormed.{Ranked}
 use Rattle.forec_check.specs.Checked.{text_of, names_of}
+use Rattle.forec_check.specs.Checks.{Faultless}
 use Rattle.forec_check.proofs.Acyclic.{no_circle}
 use Rattle.loop_check.specs.Views as views
 use Rattle.text_kernel.specs.Kernels.{kernel_of}
@@ -110,3 +111,16 @@ beyond-requires-clause-low c =
     let same : views.text_of c.in_ok-source.source.globals.index ≡ text = c.in_ok-source.ensures.text ∙ (ap (map plain.plain_item) c.as_slice-items.ensures ∙ ap plain.program c.program.ensures) in
     let equal = ap (λ t. kernel_of t c.args.names.now) same ∙ ap (kernel_of text) c.requires.names in
     subst CallsLow (sym equal) (calls_low text names (clean_of text names kept.faultless))
+
+pub beyond-requires-clause-free : goal.beyond-requires-clause-free
+beyond-requires-clause-free c =
+    let kept = c.args.checked.now in
+    let same = c.in_ok-source.ensures.text ∙ (ap (map plain.plain_item) c.as_slice-items.ensures ∙ ap plain.program c.program.ensures) in
+    λ f l. no_circle (plain.program kept.program) kept.names.now (λ fault e. kept.faultless fault (inl e)) f (subst (λ t. Leads (starts t) f f) same l)
+
+pub beyond-requires-clause-faultless : goal.beyond-requires-clause-faultless
+beyond-requires-clause-faultless c =
+    let kept = c.args.checked.now in
+    let text = text_of kept in
+    let same : views.text_of c.in_ok-source.source.globals.index ≡ text = c.in_ok-source.ensures.text ∙ (ap (map plain.plain_item) c.as_slice-items.ensures ∙ ap plain.program c.program.ensures) in
+    subst (λ t. Faultless t c.args.names.now) (sym same) (subst (Faultless text) (sym c.requires.names) kept.faultless)

@@ -1,4 +1,4 @@
-use Rattle.std.proofs.Common.{◌≡◌, ◌∙◌, ◌-◌, ◌^◌, min, ap, map}
+use Rattle.std.proofs.Common.{◌≡◌, ◌∙◌, ap, map}
 use Rattle.forec_kernel.specs.Plain.{stmt}
 use Rattle.loop_check.specs.Views.{text_of}
 use Rattle.kernel_lower.specs.declared.measure.Draft.{Draft}
@@ -6,11 +6,11 @@ use Rattle.text_kernel.specs.Items.{functions_of}
 use Rattle.text_kernel.specs.Kernels.{kernel_of}
 use Rattle.kernel_lower.specs.Measures.{plain_draft}
 use Rattle.kernel_lower.proofs.Finishing.{draft_shapes, draft_bodies}
-use Rattle.kernel_lower.proofs.Reckoning.{longest_same, ranked_too, low_too}
-use Rattle.kernel_lower.proofs.beyond.longest_chain.Goals as goal
+use Rattle.kernel_lower.proofs.Reckoning.{words_too, ranked_too, low_too}
+use Rattle.kernel_lower.proofs.beyond.chain_words.Goals as goal
 
-pub longest-requires-clause-ranked : goal.longest-requires-clause-ranked
-longest-requires-clause-ranked c =
+pub words_along-requires-clause-ranked : goal.words_along-requires-clause-ranked
+words_along-requires-clause-ranked c =
     let text = text_of c.args.source.now.globals.index in
     let names = c.args.names.now in
     let k = kernel_of text names in
@@ -20,8 +20,8 @@ longest-requires-clause-ranked c =
     let bodies : map stmt d.functions.bodies.items ≡ k.functions = c.in_ok-functions.ensures.bodies ∙ draft_bodies text names fs c.requires.functions in
     ranked_too (plain_draft d) k words bodies c.requires.ranked
 
-pub longest-requires-clause-low : goal.longest-requires-clause-low
-longest-requires-clause-low c =
+pub words_along-requires-clause-low : goal.words_along-requires-clause-low
+words_along-requires-clause-low c =
     let text = text_of c.args.source.now.globals.index in
     let names = c.args.names.now in
     let k = kernel_of text names in
@@ -40,4 +40,4 @@ returns c =
     let fs = functions_of c.args.functions.now in
     let words : d.functions.shapes.items ≡ k.shape.functions = c.in_ok-functions.ensures.shapes ∙ draft_shapes text names fs c.requires.functions in
     let bodies : map stmt d.functions.bodies.items ≡ k.functions = c.in_ok-functions.ensures.bodies ∙ draft_bodies text names fs c.requires.functions in
-    c.in_ok-most.ensures ∙ ap (λ n. min n (2 ^ 64 - 1)) (longest_same (plain_draft d) k words bodies)
+    words_too (plain_draft d) k words bodies c.in_ok-list.list.items c.in_ok-list.ensures

@@ -1,0 +1,126 @@
+-- What a function brings depends on the functions that it calls or starts alone.
+use Rattle.std.proofs.Common.{ℕ, zero, suc, ◌+◌, ◌<◌, ◌≡◌, ◌∙◌, ◌==◌, sym, ap, refl, Bool, true, false, cond, not, Option, Some, None, List, [], ◌∷◌, ◌++◌, length, set, get_or, arith, get_or-set_same, get_or-set_other}
+use Rattle.std.proofs.lemmas.Bool.{eqb-true}
+use Rattle.forec_tree.specs.Terms.{count_terms, Statement, Declare, Nothing, Group, Assign, Invoke, If, While, For, Pause, Par, Abort, Return, Statements, no_statements, more_statements, Perhaps, absent, present, Branches, no_branches, by_call, by_group, Text, PlainFunction}
+use Rattle.forec_tree.specs.Rules.{is_none}
+use Rattle.forec_tree.specs.Pauses.{within, find_function, function_starts, starts, started, all_started, perhaps_started, branches_started}
+use Rattle.forec_tree.specs.Faults.{is_in, Leads}
+use Rattle.forec_tree.proofs.Agrees.{in_left, in_right, in_head, in_tail}
+use Rattle.loop_check.specs.Graph.{IsOrder}
+use Rattle.loop_check.specs.Known.{Read, started_in, is_function, list_at}
+use Rattle.loop_check.proofs.Indexed.{split}
+use Rattle.loop_check.proofs.Ordered.{other_id}
+use Rattle.loop_check.proofs.Reading.{leads_same}
+use Rattle.forec_check.specs.Table.{Settles, put_at}
+use Rattle.forec_check.proofs.Tables.{settles_by}
+use Rattle.text_chains.specs.declared.tally.Tally.{Tally}
+use Rattle.text_chains.specs.Tallies as of
+use Rattle.text_chains.proofs.Sums.{both}
+use Rattle.text_chains.specs.Tallies.{nothing, joined, tally_at, tally_step, tally_value, behind, behind_perhaps, hides_params}
+
+-- ---- tables
+
+pub tally_push : (xs : List Tally) (k : ℕ) → tally_at (xs ++ nothing ∷ []) k ≡ tally_at xs k
+tally_push [] zero = refl
+tally_push [] (suc k) = refl
+tally_push (x ∷ xs) zero = refl
+tally_push (x ∷ xs) (suc k) = tally_push xs k
+
+pub tally_set : (xs : List Tally) (id h : ℕ) (v : Tally) → id < length xs → tally_at (set xs id v) h ≡ put_at id h v (tally_at xs h)
+tally_set xs id h v l =
+    split (id == h)
+    (λ e.
+    let q : id ≡ h = eqb-true id h e in
+    ap (λ n. get_or (set xs id v) n nothing) (sym q) ∙ get_or-set_same xs id v nothing l ∙ sym (ap (λ b. cond b v (tally_at xs h)) e))
+    (λ e. get_or-set_other xs id h v nothing (other_id id h e) ∙ sym (ap (λ b. cond b v (tally_at xs h)) e))
+
+pub tally_unknown : (h : ℕ) → tally_at [] h ≡ nothing
+tally_unknown zero = refl
+tally_unknown (suc h) = refl
+
+-- ---- tables that agree
+
+abbrev Agree : (ℕ → Tally) → (ℕ → Tally) → List ℕ → Type 0
+Agree a b gs = (g : ℕ) → is_in g gs ≡ true → a g ≡ b g
+
+left : (a b : ℕ → Tally) (xs ys : List ℕ) → Agree a b (xs ++ ys) → Agree a b xs
+left a b xs ys h g i = h g (in_left g xs ys i)
+
+right : (a b : ℕ → Tally) (xs ys : List ℕ) → Agree a b (xs ++ ys) → Agree a b ys
+right a b xs ys h g i = h g (in_right g xs ys i)
+
+tail : (a b : ℕ → Tally) (x : ℕ) (xs : List ℕ) → Agree a b (x ∷ xs) → Agree a b xs
+tail a b x xs h g i = h g (in_tail g x xs i)
+
+module _ (i : ℕ) (value : ℕ → ℕ) (worth : ℕ) (a b : ℕ → Tally) where
+  counted_same : (x y : Tally) (m n : ℕ) → x ≡ y → m ≡ n → cond x.named 1 0 + m ≡ cond y.named 1 0 + n
+  counted_same x y m n e d = ap (λ (t : Tally). cond t.named 1 0 + m) e ∙ ap (λ k. cond y.named 1 0 + k) d
+
+  mutual
+    tally_same : (h : Bool) (s : Statement) → Agree a b (started s) → of.tally i value worth a h s ≡ of.tally i value worth b h s
+    tally_same h (Nothing at) w = refl
+    tally_same h (Group at body) w = all_same h body w
+    tally_same h (Declare at locals) w = refl
+    tally_same h (Assign at target op e) w = refl
+    tally_same h (Invoke at name args) w = ap (joined (of.of_sets i value h args)) (w name.id (in_head name.id []))
+    tally_same h (If at test x y) w =
+        ap (joined (of.of_term i value h test))
+        (both _ _ _ _ (tally_same h x (left a b (started x) (perhaps_started y) w)) (perhaps_same h y (right a b (started x) (perhaps_started y) w)))
+    tally_same h (While at test bound body) w = ap (joined (of.of_term i value h test)) (tally_same h body w)
+    tally_same h (For at start test step bound body) w =
+        let inside = behind_perhaps i h start in
+        let rest = right a b (perhaps_started start) (perhaps_started step ++ started body) w in
+        both _ _ _ _ (perhaps_same h start (left a b (perhaps_started start) (perhaps_started step ++ started body) w))
+        (ap (joined (of.of_optional i value inside test))
+        (both _ _ _ _ (perhaps_same inside step (left a b (perhaps_started step) (started body) rest)) (tally_same (behind_perhaps i inside step) body (right a b (perhaps_started step) (started body) rest))))
+    tally_same h (Pause at) w = refl
+    tally_same h (Par at bs) w = both _ _ _ _ (ap (λ n. of.calling (cond (Rattle.std.proofs.Common.nat_lt 1 n) worth 0)) (naming_same bs w)) (branches_same h bs w)
+    tally_same h (Abort at weak immediate test body) w = ap (joined (of.of_term i value h test)) (all_same h body w)
+    tally_same h (Return at e) w = refl
+
+    all_same : (h : Bool) (s : Statements) → Agree a b (all_started s) → of.all_tally i value worth a h s ≡ of.all_tally i value worth b h s
+    all_same h no_statements w = refl
+    all_same h (more_statements x rest) w = both _ _ _ _ (tally_same h x (left a b (started x) (all_started rest) w)) (all_same (behind i h x) rest (right a b (started x) (all_started rest) w))
+
+    perhaps_same : (h : Bool) (s : Perhaps) → Agree a b (perhaps_started s) → of.perhaps_tally i value worth a h s ≡ of.perhaps_tally i value worth b h s
+    perhaps_same h absent w = refl
+    perhaps_same h (present x) w = tally_same h x w
+
+    branches_same : (h : Bool) (bs : Branches) → Agree a b (branches_started bs) → of.branches_tally i value worth a h bs ≡ of.branches_tally i value worth b h bs
+    branches_same h no_branches w = refl
+    branches_same h (by_call name args rest) w =
+        both _ _ _ _ (ap (λ t. joined (of.of_terms i value h args) (of.started (count_terms args) t)) (w name.id (in_head name.id (branches_started rest)))) (branches_same h rest (tail a b name.id (branches_started rest) w))
+    branches_same h (by_group at body rest) w =
+        both _ _ _ _ (ap (of.started 0) (all_same false body (left a b (all_started body) (branches_started rest) w))) (branches_same h rest (right a b (all_started body) (branches_started rest) w))
+
+    naming_same : (bs : Branches) → Agree a b (branches_started bs) → of.count_naming i value worth a bs ≡ of.count_naming i value worth b bs
+    naming_same no_branches w = refl
+    naming_same (by_call name args rest) w = counted_same _ _ _ _ (w name.id (in_head name.id (branches_started rest))) (naming_same rest (tail a b name.id (branches_started rest) w))
+    naming_same (by_group at body rest) w =
+        counted_same _ _ _ _ (all_same false body (left a b (all_started body) (branches_started rest) w)) (naming_same rest (right a b (all_started body) (branches_started rest) w))
+
+  body_same : (f : Option PlainFunction) → Agree a b (function_starts f) → of.body_tally i value worth a f ≡ of.body_tally i value worth b f
+  body_same None w = refl
+  body_same (Some f) w = all_same (hides_params i false f.params) f.body w
+
+no_function : (i : ℕ) (value : ℕ → ℕ) (worth : ℕ) (text : Text) (a : ℕ → Tally) (g : ℕ) → is_function text g ≡ false → tally_step i value worth text a g ≡ nothing
+no_function i value worth text a g h = pick (find_function g text) h
+  where
+    pick : (f : Option PlainFunction) → not (is_none f) ≡ false → of.body_tally i value worth a f ≡ nothing
+    pick None h = refl
+    pick (Some f) h = absurd (let q : true ≡ false = h in cc)
+
+started_list : (f : Option PlainFunction) → list_at started_in f ≡ function_starts f
+started_list None = refl
+started_list (Some f) = refl
+
+pub tallies_settle : (i : ℕ) (value : ℕ → ℕ) (worth : ℕ) (text : Text) (functions order : List ℕ) (calls : ℕ → List ℕ) → Read started_in text functions calls → IsOrder functions calls order →
+    ((f : ℕ) → Leads (starts text) f f → ⊥) → Settles nothing (tally_step i value worth text) (tally_value i value worth text) order
+unfolding tally_value
+tallies_settle i value worth text functions order calls r o free =
+    let lists = λ (f : ℕ). r.lists f ∙ started_list (find_function f text) in
+    let short = o.short in
+    let few = r.few in
+    settles_by nothing (tally_step i value worth text) (length text) functions order calls o
+    (record { agrees = λ f a b h. body_same i value worth a b (find_function f text) (λ g e. h g (ap (is_in g) (lists f) ∙ e)) })
+    (λ g h a. no_function i value worth text a g (sym (r.stands g) ∙ h)) (λ g l. free g (leads_same calls (starts text) lists l)) (omega (arith, short, few))

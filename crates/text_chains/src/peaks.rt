@@ -1,0 +1,149 @@
+// The most words of a thread: each function is looked at once for each variable that has a combine
+// function, after those that it calls or starts.
+
+ghost use Rattle.std.specs.Prelude.{◌≡◌, ◌-◌, ◌^◌, ℕ, min, max, Some, None, IfOk, OnOk};
+ghost use Rattle.forec_tree.specs.Plain.{plain_global};
+ghost use Rattle.forec_tree.specs.Faults.{Leads};
+ghost use Rattle.forec_tree.specs.Pauses.{starts};
+ghost use Rattle.loop_check.specs.Views.{text_of};
+ghost use Rattle.forec_check.specs.Table.{put_at, Settles};
+ghost use Rattle.forec_check.specs.Checks.{Faultless};
+ghost use Rattle.text_kernel.specs.Bindings.{number_among, is_int_function};
+ghost use Rattle.text_kernel.specs.Items.{globals_of};
+ghost use Rattle.text_kernel.specs.Kernels.{kernel_of, main_id, variable_items};
+ghost use Rattle.text_chains.specs.Tallies as of;
+ghost use Rattle.text_chains.specs.Peaks as peaks;
+ghost use Rattle.text_chains.specs.Views.{value_by, Settled};
+
+use crate::bodies::all;
+use crate::tally::{Tally, Weights, known_of, nothing, started, value};
+use crate::terms::hides_params;
+use body_lower::Globals;
+use forec_base::{Labels, OutOfMemory};
+use forec_tree::Global as Declared;
+use loop_check::{find_function, order, read_calls};
+use std::alloc::Global;
+
+/// What the text of the function of a number brings.
+fn function_tally(w: &Weights<'_>, table: &[Tally], id: u32) -> Tally
+    ensures { result ≡ of.tally_step w.now.variable (value_by w.now) w.now.worth (text_of w.now.globals.now.index) (of.tally_at table.now) id }
+{
+    match find_function(&w.globals.index, id) {
+        None => nothing(),
+        Some(function) => {
+            let hidden = hides_params(w, function.params.as_slice());
+            all(w, table, hidden, function.body.as_slice())
+        }
+    }
+}
+
+fn put(table: &mut Vec<Tally>, id: u32, known: Tally) -> Result<(), OutOfMemory>
+    ensures { OnOk result ((h : ℕ) → of.tally_at table.new.items h ≡ put_at id h known (of.tally_at table.old.items h)) }
+{
+    let place = id as usize;
+    'room: while table.len() <= place {
+        table.push(nothing())?;
+    }
+    table[place] = known;
+    Ok(())
+}
+
+/// What each function brings, each after those that it calls or starts.
+fn table_of(alloc: Global, w: &Weights<'_>, order: &[u32]) -> Result<Vec<Tally>, OutOfMemory>
+    requires { Settled (text_of w.now.globals.now.index) order.now }
+    ensures { IfOk result (λ table. (id : ℕ) → of.tally_at table.items id ≡ of.tally_value w.now.variable (value_by w.now) w.now.worth (text_of w.now.globals.now.index) id) }
+{
+    let mut table = Vec::new(alloc);
+    for f in order {
+        let known = function_tally(w, &table, *f);
+        put(&mut table, *f, known)?;
+    }
+    Ok(table)
+}
+
+/// The most words of a thread of a program that starts with the function of a name, with the combine
+/// function of one variable.
+fn peak(alloc: Global, w: &Weights<'_>, order: &[u32], first: u32) -> Result<u64, OutOfMemory>
+    requires { Settled (text_of w.now.globals.now.index) order.now }
+    ensures { IfOk result (λ n. n ≡ peaks.peak_by w.now.variable (value_by w.now) w.now.worth (text_of w.now.globals.now.index) first) }
+{
+    let table = table_of(alloc, w, order)?;
+    Ok(started(0, known_of(&table, first)).peak)
+}
+
+/// The same with the combine function of a global; nothing where it has none.
+fn peak_with(
+    alloc: Global,
+    w: &Weights<'_>,
+    order: &[u32],
+    first: u32,
+    global: &Declared,
+) -> Result<u64, OutOfMemory>
+    requires { Settled (text_of w.now.globals.now.index) order.now }
+    ensures { IfOk result (λ n. n ≡ elim (plain_global global.now).combine [
+      | None ↦ 0
+      | Some c ↦ peaks.peak_by (plain_global global.now).name.id (value_by w.now) (value_by w.now c.with.id) (text_of w.now.globals.now.index) first
+    ]) }
+{
+    match global.combine {
+        None => Ok(0),
+        Some(combine) => {
+            let own = Weights {
+                globals: w.globals,
+                values: w.values,
+                variable: global.name.id,
+                worth: value(w, combine.with.id),
+            };
+            peak(alloc, &own, order, first)
+        }
+    }
+}
+
+/// The same with the combine function of each of some globals, the greatest of them.
+fn peaks_with(
+    alloc: Global,
+    w: &Weights<'_>,
+    order: &[u32],
+    first: u32,
+    globals: &[&Declared],
+) -> Result<u64, OutOfMemory>
+    requires { Settled (text_of w.now.globals.now.index) order.now }
+    ensures { IfOk result (λ n. n ≡ peaks.peak_over (value_by w.now) (text_of w.now.globals.now.index) first (globals_of globals.now)) }
+{
+    let mut most = 0;
+    for global in globals {
+        most = most.max(peak_with(alloc, w, order, first, global)?);
+    }
+    Ok(most)
+}
+
+/// The most words of a thread of a program that breaks no rule and starts with the function of a name, with
+/// those along the chains of calls of the int functions that it can call, combine functions among them.
+/// `values` has the words along these chains, by the number of the int function where they begin, and
+/// `variables` all variables. Nothing is put in place for it.
+pub fn most_words(
+    alloc: Global,
+    globals: &Globals<'_>,
+    names: &Labels,
+    variables: &[&Declared],
+    values: &[u64],
+    first: u32,
+) -> Result<u64, OutOfMemory>
+    requires free { (f : ℕ) → Leads (starts (text_of globals.now.index)) f f → ⊥ }
+    requires faultless { Faultless (text_of globals.now.index) names.now }
+    requires first { first ≡ main_id (text_of globals.now.index) names.now }
+    requires variables { globals_of variables.now ≡ variable_items (text_of globals.now.index) names.now (text_of globals.now.index) }
+    ensures { IfOk result (λ n. n ≡ min (peaks.most_words (of.value_at values.now) (kernel_of (text_of globals.now.index) names.now)) (2 ^ 64 - 1)) }
+{
+    let calls = read_calls(alloc, &globals.index)?;
+    let order = order(alloc, &calls.functions, &calls.lists)?;
+    let none = Weights {
+        globals,
+        values,
+        variable: 0,
+        worth: 0,
+    };
+    let most = peak(alloc, &none, &order, first)?;
+    let with = peaks_with(alloc, &none, &order, first, variables)?;
+    Ok(most.max(with))
+}

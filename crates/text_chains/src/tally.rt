@@ -1,0 +1,136 @@
+// What a text brings to its thread, and to the threads below it.
+
+ghost use Rattle.std.specs.Prelude.{◌≡◌};
+ghost use Rattle.text_chains.specs.Tallies as of;
+ghost use Rattle.text_chains.specs.Views.{value_by};
+
+use body_lower::Globals;
+use text_sizes::add;
+
+/// What a text brings: whether it, or a thread below it, names a variable; the most words of an int
+/// function that it calls and of all that this one calls; its own words; and the most words of a thread
+/// below it. Words go up to the greatest `u64`.
+#[derive(Clone, Copy)]
+pub struct Tally {
+    pub named: bool,
+    pub calls: u64,
+    pub words: u64,
+    pub peak: u64,
+}
+
+/// The words of each int function and of all that it calls, by its number, and those of the combine
+/// function of one variable, whose name is given.
+#[derive(Clone, Copy)]
+pub struct Weights<'a> {
+    pub globals: &'a Globals<'a>,
+    pub values: &'a [u64],
+    pub variable: u32,
+    pub worth: u64,
+}
+
+/// What a text of no statement brings.
+pub fn nothing() -> Tally
+    ensures { result ≡ of.nothing }
+{
+    Tally {
+        named: false,
+        calls: 0,
+        words: 0,
+        peak: 0,
+    }
+}
+
+/// What a name brings.
+pub fn naming(named: bool) -> Tally
+    ensures { result ≡ of.naming named }
+{
+    Tally {
+        named,
+        calls: 0,
+        words: 0,
+        peak: 0,
+    }
+}
+
+/// What a call of an int function of so many words brings.
+pub fn calling(words: u64) -> Tally
+    ensures { result ≡ of.calling words }
+{
+    Tally {
+        named: false,
+        calls: words,
+        words: 0,
+        peak: 0,
+    }
+}
+
+/// What so many words bring.
+pub fn taking(words: u64) -> Tally
+    ensures { result ≡ of.taking words }
+{
+    Tally {
+        named: false,
+        calls: 0,
+        words: add(words, 0),
+        peak: 0,
+    }
+}
+
+/// One text, and another.
+pub fn joined(a: Tally, b: Tally) -> Tally
+    ensures { result ≡ of.joined a b }
+{
+    Tally {
+        named: a.named || b.named,
+        calls: a.calls.max(b.calls),
+        words: add(a.words, b.words),
+        peak: a.peak.max(b.peak),
+    }
+}
+
+/// A thread of its own, which has so many parameters.
+pub fn started(params: u64, a: Tally) -> Tally
+    ensures { result ≡ of.started params a }
+{
+    let whole = add(add(params, a.words), a.calls);
+    Tally {
+        named: a.named,
+        calls: 0,
+        words: 0,
+        peak: whole.max(a.peak),
+    }
+}
+
+/// What is known of the function of a number; one that isn't known brings nothing.
+pub fn known_of(table: &[Tally], id: u32) -> Tally
+    ensures { result ≡ of.tally_at table.now id }
+{
+    match table.get(id as usize) {
+        None => nothing(),
+        Some(known) => *known,
+    }
+}
+
+/// The words of the int function of a name, and of all that it calls.
+pub fn value(w: &Weights<'_>, id: u32) -> u64
+    ensures { result ≡ value_by w.now id }
+{
+    match w.values.get(w.globals.function(id) as usize) {
+        None => 0,
+        Some(known) => *known,
+    }
+}
+
+/// Whether a name is the variable's, where no local hides it.
+pub fn names(w: &Weights<'_>, hidden: bool, id: u32) -> bool
+    ensures { result ≡ of.names w.now.variable hidden id }
+{
+    !hidden && id == w.variable
+}
+
+/// Whether the variable is hidden behind a local of a name.
+pub fn hides(w: &Weights<'_>, hidden: bool, id: u32) -> bool
+    ensures { result ≡ of.hides w.now.variable hidden id }
+{
+    hidden || id == w.variable
+}
