@@ -2,8 +2,15 @@
 #
 # Usage: source this file, or install it as share/bash-completion/completions/forec under a prefix.
 
-_forec_commands="run check code"
-_forec_options="--budget"
+_forec_commands="run check threads code gen"
+
+# The options that a command takes.
+_forec_options_of() {
+  case $1 in
+    run | gen) echo "--cores --place --budget" ;;
+    threads) echo "--cores --place" ;;
+  esac
+}
 
 # The pages of help that lie beside the command, if there are any.
 _forec_pages() {
@@ -26,17 +33,47 @@ _forec_offer_words() {
   mapfile -t COMPREPLY < <(compgen -W "$1" -- "$2")
 }
 
-# Offers the options that don't stand among the words yet, or where an option stands last its usual value.
+# Offers the value of an option: some numbers of cores, or the usual budget.
+_forec_offer_value() {
+  case $1 in
+    --cores) _forec_offer_words "1 2 4 8 16 32 64" "$2" ;;
+    --budget) _forec_offer_words 10000000 "$2" ;;
+  esac
+}
+
+# Offers the options of a command that don't stand among the words yet.
 _forec_offer_options() {
-  local option left="" given=" ${*:1:$#-1} " word=${!#}
-  if [ $(($# % 2)) = 0 ]; then
-    [ "${*:$#-1:1}" = --budget ] && _forec_offer_words 10000000 "$word"
-    return
-  fi
-  for option in $_forec_options; do
+  local option left="" given=" ${*:3} "
+  for option in $(_forec_options_of "$1"); do
     [[ $given = *" $option "* ]] || left+=" $option"
   done
-  _forec_offer_words "$left" "$word"
+  _forec_offer_words "$left" "$2"
+}
+
+# Offers what fits after these words of a command: a value, an option, or the program.
+_forec_offer_after() {
+  local word=$1 command=$2 each value="" plain="" positional=0 given=()
+  shift 2
+  for each; do
+    if [ "$each" = = ]; then
+      continue
+    elif [ -n "$value" ]; then
+      value=""
+    elif [ -n "$plain" ] || [[ $each != -* ]]; then
+      positional=$((positional + 1))
+    elif [ "$each" = -- ]; then
+      plain=yes
+    else
+      value=$each given+=("$each")
+    fi
+  done
+  if [ -n "$value" ]; then
+    _forec_offer_value "$value" "${word#=}"
+  elif [[ $word = -* || $positional -gt 0 ]] && [ -z "$plain" ]; then
+    _forec_offer_options "$command" "$word" "${given[@]}"
+  elif [ "$positional" = 0 ] && [ "$command" != gen ]; then
+    _forec_offer_files '*.forec' "$word"
+  fi
 }
 
 _forec() {
@@ -54,8 +91,7 @@ _forec() {
   case ${#before[@]}:${before[0]-} in
     0:*) _forec_offer_words "$_forec_commands ${pages:+help --help --version}" "$word" ;;
     1:help) _forec_offer_words "$pages" "$word" ;;
-    1:run | 1:check | 1:code) _forec_offer_files '*.forec' "$word" ;;
-    *:run) _forec_offer_options "${before[@]:2}" "$word" ;;
+    *:run | *:check | *:threads | *:code | *:gen) _forec_offer_after "$word" "${before[@]}" ;;
   esac
 }
 
