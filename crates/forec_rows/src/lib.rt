@@ -6,6 +6,8 @@ mod aborts;
 #[cfg(test)]
 mod branches;
 #[cfg(test)]
+mod cores;
+#[cfg(test)]
 mod gate;
 #[cfg(test)]
 mod memory;

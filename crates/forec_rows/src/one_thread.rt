@@ -199,7 +199,7 @@ const NO_COMMANDS: [&[&str]; 12] = [
     &["run", "P", "--budget", "-7"],
     &["run", "P", "--budget", ""],
     &["run", "P", "--budget"],
-    &["run", "--budget", "7", "P"],
+    &["run", "P", "--order", "1"],
     &["check", "P", "--budget", "7"],
 ];
 
