@@ -90,7 +90,8 @@ function_bound k = function_within k (length k.functions)
 -- at most so many pars deep: branches have greater numbers than their parent
 abbrev pub thread_within : PlainKernel → ℕ → ℕ → ℕ
 thread_within k zero t = 0
-thread_within k (suc deep) t = stmt_bound k (record { function = function_bound k; thread = thread_within k deep }) (uses_of k t) (body_of k t)
+thread_within k (suc deep) t =
+    stmt_bound k (record { function = function_bound k; thread = thread_within k deep }) (uses_of k t) (body_of k t)
 
 abbrev pub thread_bound : PlainKernel → ℕ → ℕ
 thread_bound k = thread_within k (length k.threads)

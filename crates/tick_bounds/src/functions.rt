@@ -30,7 +30,8 @@ fn visit(
     requires { IsRight (plain_kernel kernel.now) known.old.items }
     ensures right { OnOk result (IsRight (plain_kernel kernel.now) known.new.items) }
     ensures told { OnOk result (Tells (plain_kernel kernel.now) known.new.items function) }
-    ensures kept { OnOk result ((g : ℕ) → Tells (plain_kernel kernel.now) known.old.items g → Tells (plain_kernel kernel.now) known.new.items g) }
+    ensures kept { OnOk result ((g : ℕ) → Tells (plain_kernel kernel.now) known.old.items g
+        → Tells (plain_kernel kernel.now) known.new.items g) }
 {
     if function >= known.len() || is_known(known, function) {
         return Ok(());
