@@ -25,7 +25,7 @@ returns c =
     let globals = variables_amount text names c.len.result vs are (c.len.ensures ∙ (c.in_ok-globals.globals.ok.0 ∙ Rattle.std.proofs.Common.sym (Rattle.std.proofs.lemmas.List.length-map list (λ r. plain.plain_global r.now)))) in
     let tables =
     tables_amount text names c.table_words.result (globals_of c.in_ok-arrays.arrays.items) (c.in_ok-arrays.ensures ∙ ap array_items c.requires.items)
-    (c.table_words.ensures ∙ ap (λ l. min (sum (map array_length (globals_of l))) (2 ^ 64 - 1)) c.deref.ensures.value) in
+    (c.table_words.ensures ∙ ap (λ l. min (sum (map array_length (globals_of l))) (2 ^ 64 - 1)) c.deref-3.ensures.value) in
     let values = c.in_ok-values.values.items in
     let words = words_are k values c.in_ok-words.words c.requires.low c.in_ok-values.ensures (c.in_ok-words.ensures ∙ ap (λ l. min (most_words (value_at l) k) (2 ^ 64 - 1)) c.deref-2.ensures.value) in
     let all = tells k a c.requires.threads words globals tables c.requires.terms c.requires.levels in
