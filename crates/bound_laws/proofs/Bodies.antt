@@ -1,13 +1,12 @@
 -- Each thread's body costs at most its bound.
-use Rattle.std.proofs.Common.{ℕ, zero, suc, ◌+◌, ◌<◌, ◌≤◌, ◌≡◌, ◌==◌, nat_lt, IsTrue, ℤ, Bool, true, false, cond, Option, Some, None, is_some, List, [], ◌∷◌, length, get_or, refl, ap, sym, subst, ◌∙◌, arith}
+use Rattle.std.proofs.Common.{ℕ, zero, suc, ◌+◌, ◌<◌, ◌≤◌, ◌≡◌, nat_lt, ℤ, Bool, true, false, List, [], ◌∷◌, length, get_or, refl, sym, subst, arith}
 use Rattle.std.proofs.lemmas.Bool.Decides.{nat_tests}
 use Rattle.std.proofs.lemmas.List.{get_or_past}
 use Rattle.forec_kernel.specs.declared.shape.VarCopy.{VarCopy}
 use Rattle.forec_kernel.specs.Terms.{Nop}
 use Rattle.forec_kernel.specs.Shapes.{PlainKernel, PlainThread}
 use Rattle.forec_kernel.specs.Texts.{text_of, params_in, params_of, uses_of, words_of, body_of}
-use Rattle.forec_kernel.specs.Combining.{contains}
-use Rattle.forec_kernel.specs.WellFormed.{WellFormed, pars_of, thread_of, blank_thread}
+use Rattle.forec_kernel.specs.WellFormed.{WellFormed, blank_thread}
 use Rattle.tick_bounds.specs.Bound.{Bounds, function_bound, stmt_bound, thread_within}
 use Rattle.bound_laws.specs.Paced.{Paced}
 use Rattle.bound_laws.proofs.Within.{Within, done_within}

@@ -1,5 +1,5 @@
 -- A kernel that is paced, and a body that is only with its thread's words.
-use Rattle.std.proofs.Common.{true, ℕ, zero, suc, ◌<◌, ◌≡◌, ℤ, pos, false, Some, None, List, [], ◌∷◌, length, slice_set, int_lt, refl, subst, arith}
+use Rattle.std.proofs.Common.{ℕ, zero, suc, ◌<◌, ◌≡◌, ℤ, pos, false, Some, None, List, [], ◌∷◌, length, slice_set, int_lt, refl, subst, arith}
 use Rattle.forec_kernel.specs.declared.shape.VarCopy.{VarCopy}
 use Rattle.forec_base.specs.Numbers.{truth, is_zero}
 use Rattle.forec_base.specs.declared.operators.Binary.TheVariants as binary

@@ -56,14 +56,13 @@ module _ (k parts : KernelParts) (wf : WellFormed (plain_kernel k)) (f : ℕ) (x
     inside : f < length table
     inside = let h = plain_within in let e = right.long in omega arith
 
-    pub visited_right : IsRight (plain_kernel k) (set table f (Some b))
-    visited_right = put_right (plain_kernel k) table f b inside bound_is right
-
-    pub visited_told : Tells (plain_kernel k) (set table f (Some b)) f
-    visited_told = put_tells (plain_kernel k) table f b inside bound_is
-
-    pub visited_kept : (g : ℕ) → Tells (plain_kernel k) table g → Tells (plain_kernel k) (set table f (Some b)) g
-    visited_kept g h = put_keeps (plain_kernel k) table f b inside bound_is g h
+    -- what the table with the function's bound tells
+    pub visited : IsRight (plain_kernel k) (set table f (Some b)) × Tells (plain_kernel k) (set table f (Some b)) f × ((g : ℕ) → Tells (plain_kernel k) table g → Tells (plain_kernel k) (set table f (Some b)) g)
+    visited = (
+      put_right (plain_kernel k) table f b inside bound_is right,
+      put_tells (plain_kernel k) table f b inside bound_is,
+      λ g h. put_keeps (plain_kernel k) table f b inside bound_is g h,
+    )
 
 -- once all functions were visited
 pub all_told : (k : PlainKernel) (table : List (Option ℕ)) (n : ℕ) → IsRight k table → length k.functions ≤ n → ((g : ℕ) → g < n → Tells k table g) → (g : ℕ) → Tells k table g
