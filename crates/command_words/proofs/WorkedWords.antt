@@ -3,7 +3,7 @@ use Rattle.std.proofs.Common.{◌≡◌, refl, List, ℕ, [], ◌∷◌, Option,
 use Rattle.clap.proofs.OnLiterals.{clap_on_literals}
 use Rattle.clap.specs.Words.{Text}
 use Rattle.command_words.specs.CommandLine.{command_line}
-use Rattle.command_words.specs.Requests.{PlainPlacing, PlainRunning, PlainRequest, OnText, OnWorkload, Run, Check, Threads, Code, request_of}
+use Rattle.command_words.specs.Requests.{PlainPlacing, PlainRunning, PlainRequest, OnText, OnWorkload, Run, Check, Threads, Code, Explain, request_of}
 
 placed : ℕ → Option Text → PlainPlacing
 placed cores list = record { cores = cores; list = list }
@@ -59,3 +59,11 @@ checked_with_cores = refl
 no_program : request_of (codes "run" ∷ []) ≡ None
 unfolding request_of running placed command_line clap_on_literals
 no_program = refl
+
+explained : request_of (codes "explain" ∷ codes "p" ∷ codes "--order" ∷ codes "7" ∷ []) ≡ Some (OnText (codes "p") (Explain 10000000 7))
+unfolding request_of running placed command_line clap_on_literals
+explained = refl
+
+explained_on_cores : request_of (codes "explain" ∷ codes "p" ∷ codes "--cores" ∷ codes "2" ∷ []) ≡ None
+unfolding request_of running placed command_line clap_on_literals
+explained_on_cores = refl

@@ -20,7 +20,7 @@ between least most (Some n) = cond (nat_le least n && nat_le n most) (Some n) No
 abbrev pub number_in : ℕ → ℕ → List ℕ → Option ℕ
 number_in least most word = between least most (number_of word)
 
--- the number of a word from 1 to the most, or the usual one where there is no word
-abbrev pub number_or : ℕ → ℕ → Option (List ℕ) → Option ℕ
-number_or usual most None = Some usual
-number_or usual most (Some word) = number_in 1 most word
+-- the number of a word, where it is one from the least to the most, or the usual one where there is no word
+abbrev pub number_or : ℕ → ℕ → ℕ → Option (List ℕ) → Option ℕ
+number_or usual least most None = Some usual
+number_or usual least most (Some word) = number_in least most word

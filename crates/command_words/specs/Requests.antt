@@ -5,7 +5,7 @@ use Rattle.clap.specs.Words.{Kinds, Text}
 use Rattle.forec_base.specs.declared.limits.TheConstants.{MAX_CORES, MAX_BUDGET}
 use Rattle.command_words.specs.CommandLine.{PlainValues, kinds_of, values_of}
 use Rattle.command_words.specs.Numbers.{number_in, number_or}
-use Rattle.command_words.specs.declared.request.TheConstants.{DEFAULT_BUDGET, MAX_WORKLOAD}
+use Rattle.command_words.specs.declared.request.TheConstants.{DEFAULT_BUDGET, MAX_ORDER, MAX_WORKLOAD}
 use Rattle.command_words.specs.declared.request.Placing.{Placing}
 use Rattle.command_words.specs.declared.request.Running.{Running}
 use Rattle.command_words.specs.declared.request.Command.{Command}
@@ -27,6 +27,7 @@ pub data PlainCommand : Type 0 where
   Check : PlainCommand
   Threads : PlainPlacing → PlainCommand
   Code : PlainCommand
+  Explain : (budget order : ℕ) → PlainCommand
 
 pub data PlainRequest : Type 0 where
   OnText : (program : Text) → PlainCommand → PlainRequest
@@ -35,10 +36,13 @@ pub data PlainRequest : Type 0 where
 -- ---- of the values of words
 
 abbrev pub placing_of : PlainValues → Option PlainPlacing
-placing_of v = option_map (λ cores. record { cores = cores; list = v.place }) (number_or 1 MAX_CORES v.cores)
+placing_of v = option_map (λ cores. record { cores = cores; list = v.place }) (number_or 1 1 MAX_CORES v.cores)
 
 abbrev pub budget_of : PlainValues → Option ℕ
-budget_of v = number_or DEFAULT_BUDGET MAX_BUDGET v.budget
+budget_of v = number_or DEFAULT_BUDGET 1 MAX_BUDGET v.budget
+
+abbrev pub order_of : PlainValues → Option ℕ
+order_of v = number_or 0 0 MAX_ORDER v.order
 
 -- no order is given
 abbrev pub running_of : PlainValues → Option PlainRunning
@@ -47,6 +51,10 @@ running_of v = cond (is_some v.order) None (option_and_then (λ p. option_map (�
 -- neither a budget nor an order is given
 abbrev pub placing_alone_of : PlainValues → Option PlainPlacing
 placing_alone_of v = cond (is_some v.budget || is_some v.order) None (placing_of v)
+
+-- neither cores nor a list of places is given
+abbrev pub explaining_of : PlainValues → Option PlainCommand
+explaining_of v = cond (is_some v.cores || is_some v.place) None (option_and_then (λ b. option_map (Explain b) (order_of v)) (budget_of v))
 
 abbrev pub has_no_options : PlainValues → Bool
 has_no_options v = is_none v.cores && (is_none v.place && (is_none v.budget && is_none v.order))
@@ -58,9 +66,10 @@ abbrev pub command_of : Text → PlainValues → Option PlainCommand
 command_of name v =
     if is_word name (codes "run") then option_map Run (running_of v)
     else (if is_word name (codes "threads") then option_map Threads (placing_alone_of v)
+    else (if is_word name (codes "explain") then explaining_of v
     else (if is_word name (codes "check") then cond (has_no_options v) (Some Check) None
     else (if is_word name (codes "code") then cond (has_no_options v) (Some Code) None
-    else None)))
+    else None))))
 
 -- a workload of 1 to 255 threads
 abbrev pub workload_of : Text → PlainValues → Option PlainRequest
@@ -94,6 +103,7 @@ plain_command (command.Run r) = Run (plain_running r)
 plain_command command.Check = Check
 plain_command (command.Threads p) = Threads (plain_placing p)
 plain_command command.Code = Code
+plain_command (command.Explain b n) = Explain b n
 
 abbrev pub plain_request : Request → PlainRequest
 plain_request (request.Text program c) = OnText program.now (plain_command c)

@@ -40,12 +40,12 @@ pub fn in_range(word: &str, least: u64, most: u64) -> Option<u64>
     }
 }
 
-/// The number of a word from 1 to `most`, or `usual` where there is no word.
-pub fn or_usual(word: Option<&str>, usual: u64, most: u64) -> Option<u64>
-    ensures { result ≡ number_or usual most (option_map (λ s. s.now) word.entry) }
+/// The number of a word, where it is one from `least` to `most`, or `usual` where there is no word.
+pub fn or_usual(word: Option<&str>, usual: u64, least: u64, most: u64) -> Option<u64>
+    ensures { result ≡ number_or usual least most (option_map (λ s. s.now) word.entry) }
 {
     match word {
         None => Some(usual),
-        Some(word) => in_range(word, 1, most),
+        Some(word) => in_range(word, least, most),
     }
 }

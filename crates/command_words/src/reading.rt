@@ -8,7 +8,7 @@ ghost use Rattle.command_words.specs.declared.fault.WordsFault.TheVariants as fa
 use crate::fault::WordsFault;
 use crate::matching::values;
 use crate::number::{in_range, or_usual};
-use crate::request::{Command, DEFAULT_BUDGET, MAX_WORKLOAD, Placing, Request, Running};
+use crate::request::{Command, DEFAULT_BUDGET, MAX_ORDER, MAX_WORKLOAD, Placing, Request, Running};
 use crate::values::Values;
 use forec_base::{MAX_BUDGET, MAX_CORES};
 use std::alloc::Global;
@@ -17,7 +17,7 @@ use std::alloc::Global;
 fn placing<'a>(values: &Values<'a>) -> Option<Placing<'a>>
     ensures { option_map asked.plain_placing result ≡ asked.placing_of (plain_values values.now) }
 {
-    let cores = or_usual(values.cores, 1, u64::from(MAX_CORES))?;
+    let cores = or_usual(values.cores, 1, 1, u64::from(MAX_CORES))?;
     Some(Placing {
         cores: cores as u32,
         list: values.place,
@@ -32,7 +32,7 @@ fn running<'a>(values: &Values<'a>) -> Option<Running<'a>>
         return None;
     }
     let placing = placing(values)?;
-    let budget = or_usual(values.budget, DEFAULT_BUDGET, MAX_BUDGET)?;
+    let budget = or_usual(values.budget, DEFAULT_BUDGET, 1, MAX_BUDGET)?;
     Some(Running { placing, budget })
 }
 
@@ -44,6 +44,18 @@ fn placing_alone<'a>(values: &Values<'a>) -> Option<Placing<'a>>
         return None;
     }
     placing(values)
+}
+
+/// How a program is rewritten.
+fn explaining<'a>(values: &Values<'a>) -> Option<Command<'a>>
+    ensures { option_map asked.plain_command result ≡ asked.explaining_of (plain_values values.now) }
+{
+    if values.cores.is_some() || values.place.is_some() {
+        return None;
+    }
+    let budget = or_usual(values.budget, DEFAULT_BUDGET, 1, MAX_BUDGET)?;
+    let order = or_usual(values.order, 0, 0, MAX_ORDER)? as u32;
+    Some(Command::Explain { budget, order })
 }
 
 /// Whether no option is given.
@@ -69,6 +81,7 @@ fn command<'a>(name: &str, values: &Values<'a>) -> Option<Command<'a>>
             let placing = placing_alone(values)?;
             Some(Command::Threads { placing })
         }
+        "explain" => explaining(values),
         "check" if is_plain(values) => Some(Command::Check),
         "code" if is_plain(values) => Some(Command::Code),
         _ => None,

@@ -3,6 +3,9 @@
 /// The units that a tick may have where no word says how many.
 pub const DEFAULT_BUDGET: u64 = 10_000_000;
 
+/// The greatest number of an order of steps.
+pub const MAX_ORDER: u64 = 4_294_967_295;
+
 /// The most threads of the workload that `gen` makes, `main` apart.
 pub const MAX_WORKLOAD: u64 = 255;
 
@@ -31,6 +34,9 @@ pub enum Command<'a> {
     Threads { placing: Placing<'a> },
     /// Its code is listed.
     Code,
+    /// It runs over the trace by rewriting, in an order of steps that has a number. A tick may have so many units,
+    /// 1 to 2^62.
+    Explain { budget: u64, order: u32 },
 }
 
 /// What words ask for.

@@ -4,8 +4,9 @@ use Rattle.std.specs.Option.{IfSome}
 use Rattle.forec_kernel.specs.Shapes.{PlainKernel}
 use Rattle.thread_code.specs.Alone.{Stands}
 use Rattle.thread_code.specs.Plain.{PlainCode}
-use Rattle.command_words.specs.Requests.{PlainPlacing, PlainRunning, PlainCommand, Run, Check, Threads, Code}
+use Rattle.command_words.specs.Requests.{PlainPlacing, PlainRunning, PlainCommand, Run, Check, Threads, Code, Explain}
 use Rattle.forec_engine.specs.Commands.{ThreadsReport, AcceptedReport, TellsTrace, counted, listed, run_report}
+use Rattle.forec_engine.specs.Report.{trace_report}
 use Rattle.forec_engine.specs.Ends.{CommandIsMisplaced}
 use Rattle.forec_engine.specs.Placing.{IsMisplaced}
 use Rattle.text_verdict.specs.declared.counts.Counts.{Counts}
@@ -23,6 +24,12 @@ module _ (command : PlainCommand) where
       TellsTrace command trace → Answers trace c k Q command
   run_answers running c k trace Q e q told =
       subst (λ m. TellsTrace m trace → Answers trace c k Q m) (sym e) (λ t. (run_report k running t.0, (t.0, t.1, refl), ran k running trace Q q t.0 t.1)) told
+
+  pub explain_answers : (budget order : ℕ) (c : Counts) (k : PlainKernel) (trace : Option (List ℕ)) (Q : Report → Type 0) → command ≡ Explain budget order → IfSome trace (λ x. Q (trace_report k budget x)) →
+      TellsTrace command trace → Answers trace c k Q command
+  explain_answers budget order c k trace Q e q told =
+      subst (λ m. TellsTrace m trace → Answers trace c k Q m) (sym e)
+      (λ t. (trace_report k budget t.0, (t.0, t.1, refl), subst (λ (o : Option (List ℕ)). IfSome o (λ x. Q (trace_report k budget x))) t.1 q)) told
 
   pub check_answers : (c : Counts) (k : PlainKernel) (trace : Option (List ℕ)) (Q : Report → Type 0) → command ≡ Check → Q (counted c) → Answers trace c k Q command
   check_answers c k trace Q e q = subst (Answers trace c k Q) (sym e) (counted c, refl, q)

@@ -5,7 +5,7 @@ use Rattle.std.proofs.lemmas.Bool.{leb-true}
 use Rattle.forec_base.specs.declared.limits.TheConstants.{MAX_CORES, MAX_BUDGET}
 use Rattle.command_words.specs.CommandLine.{PlainValues, kinds_of, values_of}
 use Rattle.command_words.specs.Numbers.{between, number_of, number_in, number_or}
-use Rattle.command_words.specs.Requests.{PlainPlacing, PlainRunning, PlainCommand, Run, Check, Threads, Code, PlainRequest, OnText, OnWorkload, placing_of, budget_of, running_of, placing_alone_of, has_no_options, is_word, command_of, workload_of, request_named, request_by, unless_refused, request_of, plain_request}
+use Rattle.command_words.specs.Requests.{PlainPlacing, PlainRunning, PlainCommand, Run, Check, Threads, Code, Explain, PlainRequest, OnText, OnWorkload, placing_of, budget_of, order_of, running_of, explaining_of, placing_alone_of, has_no_options, is_word, command_of, workload_of, request_named, request_by, unless_refused, request_of, plain_request}
 use Rattle.command_words.specs.declared.request.TheConstants.{DEFAULT_BUDGET, MAX_WORKLOAD}
 use Rattle.command_words.specs.declared.request.Request.{Request}
 use Rattle.forec_engine.specs.Commands.{IsPlaceable, IsRunnable, IsInRange, HasRanges}
@@ -35,7 +35,7 @@ in_range : (least most m : ℕ) (o : Option ℕ) → between least most o ≡ So
 in_range least most m None e = absurd (let h : None ≡ Some m = e in cc)
 in_range least most m (Some n) e = within least most n m (nat_le least n) (nat_le n most) refl refl e
 
-or_usual : (usual most m : ℕ) (word : Option (List ℕ)) → 1 ≤ usual → usual ≤ most → number_or usual most word ≡ Some m → (1 ≤ m) × (m ≤ most)
+or_usual : (usual most m : ℕ) (word : Option (List ℕ)) → 1 ≤ usual → usual ≤ most → number_or usual 1 most word ≡ Some m → (1 ≤ m) × (m ≤ most)
 or_usual usual most m None some few e = let is : usual ≡ m = (let h : Some usual ≡ Some m = e in cc) in (subst (λ x. 1 ≤ x) is some, subst (λ x. x ≤ most) is few)
 or_usual usual most m (Some word) some few e = in_range 1 most m (number_of word) e
 
@@ -43,7 +43,7 @@ or_usual usual most m (Some word) some few e = in_range 1 most m (number_of word
 
 placeable : (v : PlainValues) (p : PlainPlacing) → placing_of v ≡ Some p → IsPlaceable p
 placeable v p e =
-    let m = map_some _ (number_or 1 MAX_CORES v.cores) p e in
+    let m = map_some _ (number_or 1 1 MAX_CORES v.cores) p e in
     let n = or_usual 1 MAX_CORES m.0 v.cores (omega arith) (omega arith) m.1 in
     subst IsPlaceable m.2 (record { some = n.0; few = n.1 })
 
@@ -58,6 +58,13 @@ module _ (v : PlainValues) (c : PlainCommand) where
   runs : option_map Run (running_of v) ≡ Some c → IsInRange c
   runs e = let m = map_some Run (running_of v) c e in subst IsInRange m.2 (runnable v m.0 m.1)
 
+  explains : explaining_of v ≡ Some c → IsInRange c
+  explains e =
+      let t = then_some _ (budget_of v) c (unless (is_some v.cores || is_some v.place) _ c e) in
+      let m = map_some (Explain t.0) (order_of v) c t.2 in
+      let n = or_usual DEFAULT_BUDGET MAX_BUDGET t.0 v.budget (omega arith) (omega arith) t.1 in
+      subst IsInRange m.2 n.1
+
   lists : option_map Threads (placing_alone_of v) ≡ Some c → IsInRange c
   lists e =
       let m = map_some Threads (placing_alone_of v) c e in
@@ -67,17 +74,19 @@ module _ (v : PlainValues) (c : PlainCommand) where
   alone true d h e = subst IsInRange (let g : Some d ≡ Some c = e in cc) h
   alone false d h e = absurd (let g : None ≡ Some c = e in cc)
 
-  by_words : (run threads check code : Bool) →
+  by_words : (run threads explain check code : Bool) →
       (if run then option_map Run (running_of v)
       else (if threads then option_map Threads (placing_alone_of v)
+      else (if explain then explaining_of v
       else (if check then cond (has_no_options v) (Some Check) None
       else (if code then cond (has_no_options v) (Some Code) None
-      else None)))) ≡ Some c → IsInRange c
-  by_words true threads check code e = runs e
-  by_words false true check code e = lists e
-  by_words false false true code e = alone (has_no_options v) Check tt e
-  by_words false false false true e = alone (has_no_options v) Code tt e
-  by_words false false false false e = absurd (let g : None ≡ Some c = e in cc)
+      else None))))) ≡ Some c → IsInRange c
+  by_words true threads explain check code e = runs e
+  by_words false true explain check code e = lists e
+  by_words false false true check code e = explains e
+  by_words false false false true code e = alone (has_no_options v) Check tt e
+  by_words false false false false true e = alone (has_no_options v) Code tt e
+  by_words false false false false false e = absurd (let g : None ≡ Some c = e in cc)
 
 module _ (v : PlainValues) (r : PlainRequest) where
   workload : (number : List ℕ) → workload_of number v ≡ Some r → HasRanges r
@@ -89,7 +98,7 @@ module _ (v : PlainValues) (r : PlainRequest) where
   text : (name program : List ℕ) → option_map (OnText program) (command_of name v) ≡ Some r → HasRanges r
   text name program e =
       let m = map_some (OnText program) (command_of name v) r e in
-      subst HasRanges m.2 (by_words v m.0 (is_word name (codes "run")) (is_word name (codes "threads")) (is_word name (codes "check")) (is_word name (codes "code")) m.1)
+      subst HasRanges m.2 (by_words v m.0 (is_word name (codes "run")) (is_word name (codes "threads")) (is_word name (codes "explain")) (is_word name (codes "check")) (is_word name (codes "code")) m.1)
 
   by_name : (name program : List ℕ) (b : Bool) → (if b then workload_of program v else option_map (OnText program) (command_of name v)) ≡ Some r → HasRanges r
   by_name name program true e = workload program e

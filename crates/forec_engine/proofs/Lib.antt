@@ -4,9 +4,11 @@ mod Asking
 mod Bounds
 mod Cores
 mod Endings
+mod Fine
 mod Following
 mod Heading
 mod Named
+mod Numbered
 mod Picking
 mod Placed
 mod Ranges

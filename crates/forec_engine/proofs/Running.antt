@@ -287,6 +287,17 @@ front_now run F now l0 l h0 h h2 unsent row r b =
     some_map l0 _ _ (at_any run F now l0 l h0 h unsent row r) (λ x k.
     front_by (report_rest run.kernel run.budget run.first x) k.0 h0 h h2 r.bytes r.sent unsent unsent k.0.bytes k.1 r.split r.appended refl b)
 
+-- all that waited was written, as a front
+pub front_whole : (old new : Option (List ℕ)) (bytes : List ℕ) → Appends old new bytes → AppendsFront old new bytes
+front_whole old new bytes a = (bytes, [], sym (append-nil bytes), a)
+
+-- what was said is no fault of reading, unless a write failed
+pub not_read : (result end : Status) → (result ≢ status.WriteFault → result ≡ end) → end ≢ status.ReadFault → result ≢ status.ReadFault
+not_read result end said other is = other (sym (said (λ w. (let h : status.ReadFault ≡ status.WriteFault = sym is ∙ w in cc))) ∙ is)
+
+pub not_write : (result : Status) → result ≡ status.NoMemory → result ≢ status.WriteFault
+not_write result is w = (let h : status.NoMemory ≡ status.WriteFault = sym is ∙ w in cc)
+
 pub fell_since : (before mid now : ℕ) (d : Bool) → before ≤ mid → Fell mid now d → Fell before now d
 fell_since before mid now d le f = let r = f.rose in record { rose = omega arith; down = f.down }
 

@@ -7,7 +7,7 @@ use Rattle.thread_code.specs.Listing.{listing_of}
 use Rattle.thread_code.specs.Plain.{PlainCode}
 use Rattle.core_alloc.specs.Places.{Places}
 use Rattle.core_alloc.specs.declared.fault.PlaceFault.{PlaceFault}
-use Rattle.command_words.specs.Requests.{PlainPlacing, PlainRunning, PlainCommand, Run, Check, Threads, Code, PlainRequest, OnText, OnWorkload, request_of}
+use Rattle.command_words.specs.Requests.{PlainPlacing, PlainRunning, PlainCommand, Run, Check, Threads, Code, Explain, PlainRequest, OnText, OnWorkload, request_of}
 use Rattle.thread_places.specs.Lines.{thread_lines}
 use Rattle.thread_places.specs.Placed.{IsPlacement}
 use Rattle.workload.specs.Text.{text_of}
@@ -57,6 +57,7 @@ abbrev pub AcceptedReport : PlainCommand → Option (List ℕ) → Counts → Pl
 AcceptedReport (Run running) trace counts k r = (bytes : List ℕ) × (trace ≡ Some bytes) × (r ≡ run_report k running bytes)
 AcceptedReport Check trace counts k r = r ≡ counted counts
 AcceptedReport (Threads placing) trace counts k r = ThreadsReport k placing r
+AcceptedReport (Explain b order) trace counts k r = (bytes : List ℕ) × (trace ≡ Some bytes) × (r ≡ trace_report k b bytes)
 AcceptedReport Code trace counts k r = (code : PlainCode) × Stands code k × (r ≡ listed code)
 
 -- r is the report of a text, where this is said of the counts, the kernel and the report of one that is accepted
@@ -84,6 +85,7 @@ TellsTrace (Run running) trace = (bytes : List ℕ) × (trace ≡ Some bytes)
 TellsTrace Check trace = Unit {0}
 TellsTrace (Threads placing) trace = Unit {0}
 TellsTrace Code trace = Unit {0}
+TellsTrace (Explain b order) trace = (bytes : List ℕ) × (trace ≡ Some bytes)
 
 -- the text that the words name is told, and the trace where it is read
 abbrev pub Tells : List (List ℕ) → (List ℕ → Option (List ℕ)) → Option (List ℕ) → Type 0
@@ -107,6 +109,7 @@ IsInRange (Run running) = IsRunnable running
 IsInRange Check = Unit {0}
 IsInRange (Threads placing) = IsPlaceable placing
 IsInRange Code = Unit {0}
+IsInRange (Explain b order) = b ≤ MAX_BUDGET
 
 abbrev pub HasRanges : PlainRequest → Type 0
 HasRanges (OnText name command) = IsInRange command

@@ -5,7 +5,7 @@ use Rattle.forec_kernel.specs.Shapes.{PlainKernel}
 use Rattle.trace_rows.specs.Calls.{IfTold}
 use Rattle.trace_rows.specs.Lines.{whole_lines}
 use Rattle.trace_rows.specs.Reads.{Reads}
-use Rattle.command_words.specs.Requests.{PlainPlacing, PlainRunning, PlainCommand, Run, Check, Threads, Code, OnText, OnWorkload, request_of}
+use Rattle.command_words.specs.Requests.{PlainPlacing, PlainRunning, PlainCommand, Run, Check, Threads, Code, Explain, OnText, OnWorkload, request_of}
 use Rattle.workload.specs.Text.{text_of}
 use Rattle.text_verdict.specs.Judging.{Accepts, Judged}
 use Rattle.forec_engine.specs.Placing.{misplacing, IsMisplaced}
@@ -52,10 +52,18 @@ abbrev pub WantedByText : PlainRunning → List ℕ → Option (List ℕ) → Op
 WantedByText running text left_old left_new held_old held_new =
     (k : PlainKernel) × RunsAs text running.placing k × Wanted k running.budget left_old left_new held_old held_new
 
--- the same by words, which are the command `run`
+-- how a command runs over the trace, where it does; rewriting has no list of places
+abbrev pub running_in : PlainCommand → Option PlainRunning
+running_in (Run running) = Some running
+running_in Check = None
+running_in (Threads placing) = None
+running_in (Explain budget order) = Some (record { placing = record { cores = 1; list = None }; budget = budget })
+running_in Code = None
+
+-- the same by words, which are a command that runs over the trace
 abbrev pub WantedByWords : List (List ℕ) → (List ℕ → Option (List ℕ)) → Option (List ℕ) → Option (List ℕ) → Option (List ℕ) → Option (List ℕ) → Type 0
 WantedByWords words content left_old left_new held_old held_new =
-    (running : PlainRunning) × (name : List ℕ) × (request_of words ≡ Some (OnText name (Run running)))
+    (running : PlainRunning) × (name : List ℕ) × (command : PlainCommand) × (request_of words ≡ Some (OnText name command)) × (running_in command ≡ Some running)
     × IfSome (content name) (λ text. WantedByText running text left_old left_new held_old held_new)
 
 -- ---- reads of the trace
@@ -72,10 +80,10 @@ ReadFor left faults down k budget old new = (given : List ℕ) × Reads left fau
 abbrev pub ReadForText : {S : Type 0} → (S → Option (List ℕ)) → (S → ℕ) → (S → Bool) → PlainRunning → List ℕ → S → S → Type 0
 ReadForText left faults down running text old new = (k : PlainKernel) × RunsAs text running.placing k × ReadFor left faults down k running.budget old new
 
--- the same for words, which are the command `run`
+-- the same for words, which are a command that runs over the trace
 abbrev pub ReadForWords : {S : Type 0} → (S → Option (List ℕ)) → (S → ℕ) → (S → Bool) → List (List ℕ) → (List ℕ → Option (List ℕ)) → S → S → Type 0
 ReadForWords left faults down words content old new =
-    (running : PlainRunning) × (name : List ℕ) × (request_of words ≡ Some (OnText name (Run running)))
+    (running : PlainRunning) × (name : List ℕ) × (command : PlainCommand) × (request_of words ≡ Some (OnText name command)) × (running_in command ≡ Some running)
     × IfSome (content name) (λ text. ReadForText left faults down running text old new)
 
 -- ---- misuse
@@ -86,6 +94,7 @@ placing_in (Run running) = Some running.placing
 placing_in Check = None
 placing_in (Threads placing) = Some placing
 placing_in Code = None
+placing_in (Explain b order) = None
 
 -- a command has a list of places that is refused for a kernel
 abbrev pub CommandIsMisplaced : PlainCommand → PlainKernel → Type 0
@@ -101,3 +110,12 @@ pub data IsMisuse (words : List (List ℕ)) (content : List ℕ → Option (List
   Misplaces : (name : List ℕ) (command : PlainCommand) → request_of words ≡ Some (OnText name command) → IfSome (content name) (AcceptedSo (CommandIsMisplaced command)) → IsMisuse words content
   Misplaces_workload : (threads : ℕ) (running : PlainRunning) → request_of words ≡ Some (OnWorkload threads running)
       → AcceptedSo (λ k. IsMisplaced k running.placing) (text_of threads) → IsMisuse words content
+
+-- ---- rewriting
+
+abbrev pub Rewrites : PlainCommand → Type 0
+Rewrites command = (budget : ℕ) × (order : ℕ) × (command ≡ Explain budget order)
+
+-- the words ask for rewriting
+abbrev pub AskForRewriting : List (List ℕ) → Type 0
+AskForRewriting words = (name : List ℕ) × (command : PlainCommand) × (request_of words ≡ Some (OnText name command)) × Rewrites command

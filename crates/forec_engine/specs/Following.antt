@@ -1,21 +1,28 @@
 -- What a program that runs stands for.
-use Rattle.std.specs.Prelude.{◌≡◌, true, List}
-use Rattle.forec_kernel.specs.Composed.{Turn, state_after}
+use Rattle.std.specs.Prelude.{◌≡◌, Bool, true, false}
 use Rattle.forec_kernel.specs.Shapes.{PlainKernel, plain_kernel}
-use Rattle.forec_kernel.specs.Ticks.{State, Fresh}
-use Rattle.thread_code.specs.Alone.{Stands}
-use Rattle.core_host.specs.Hosted.{code_of, is_live}
-use Rattle.core_host.specs.Runs.{HasRun}
-use Rattle.forec_engine.specs.declared.runner.Runner.{Runner}
+use Rattle.forec_kernel.specs.Ticks.{State}
+use Rattle.kernel_meaning.specs.States.{plain_state}
+use Rattle.forec_engine.specs.Hosting.{HostFollows}
+use Rattle.forec_engine.specs.declared.ticker.Ticker.{Ticker}
+use Rattle.forec_engine.specs.declared.ticker.Ticker.TheVariants as ticker
 
--- the kernel that it runs
-abbrev pub kernel_in : Runner → PlainKernel
-kernel_in r = plain_kernel r.kernel.now
+-- the kernel that runs
+abbrev pub kernel_in : Ticker → PlainKernel
+kernel_in (ticker.Hosted r) = plain_kernel r.kernel.now
+kernel_in (ticker.Rewritten r) = plain_kernel r.kernel.now
 
--- its ticks so far have led the kernel to a state, and each has paused
-pub record Follows (s : State) (r : Runner) : Type 0 where
-  pub stands : Stands (code_of r.host) (kernel_in r)
-  pub turns : List Turn
-  pub ran : HasRun r.host turns
-  pub state : s ≡ state_after (kernel_in r) Fresh turns
-  pub live : is_live r.host ≡ true
+-- its ticks so far have led the kernel to a state
+abbrev pub Follows : Ticker → State → Type 0
+Follows (ticker.Hosted r) s = HostFollows (plain_kernel r.kernel.now) r.host s
+Follows (ticker.Rewritten r) s = s ≡ plain_state r.state.value
+
+-- each of them has paused
+abbrev pub is_live : Ticker → Bool
+is_live (ticker.Hosted r) = r.host.live
+is_live (ticker.Rewritten r) = r.live
+
+-- it has all the memory that its ticks need
+abbrev pub is_ready : Ticker → Bool
+is_ready (ticker.Hosted r) = true
+is_ready (ticker.Rewritten r) = false

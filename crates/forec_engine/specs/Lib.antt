@@ -2,8 +2,10 @@ pub mod Calls
 pub mod Commands
 pub mod Ends
 pub mod Following
+pub mod Hosting
 pub mod KernelNames
 pub mod Laws
+pub mod Orders
 pub mod Placing
 pub mod Progress
 pub mod Report

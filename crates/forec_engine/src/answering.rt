@@ -1,23 +1,27 @@
 // What is done with a text that was judged.
 ghost use Rattle.std.specs.Prelude.{◌≡◌, ◌≤◌, ◌≢◌, ◌^◌, ◌⊎◌, length, IfSome, Some, None};
 ghost use Rattle.forec_base.specs.Outside.{Fell};
+ghost use Rattle.forec_base.specs.declared.limits.TheConstants.{MAX_BUDGET};
 ghost use Rattle.forec_kernel.specs.Shapes.{plain_kernel};
 ghost use Rattle.thread_code.specs.Alone.{Stands};
 ghost use Rattle.thread_code.specs.Plain.{PlainCode};
-ghost use Rattle.command_words.specs.Requests.{PlainRunning, Run, plain_placing, plain_running, plain_command};
+ghost use Rattle.command_words.specs.Requests.{PlainRunning, plain_placing, plain_running, plain_command};
 ghost use Rattle.core_alloc.specs.declared.fault.PlaceFault.TheVariants as fault;
 ghost use Rattle.forec_engine.specs.Calls.{AppendsFront};
 ghost use Rattle.forec_engine.specs.Commands.{refused, counted, threads_listed, listed, run_report, ThreadsReport, AcceptedReport, TellsTrace, IsPlaceable, IsRunnable, IsInRange};
-ghost use Rattle.forec_engine.specs.Ends.{IsOwn, Given, Wanted, ReadFor, CommandIsMisplaced};
+ghost use Rattle.forec_engine.specs.Ends.{IsOwn, Given, Wanted, ReadFor, CommandIsMisplaced, Rewrites, running_in};
 ghost use Rattle.forec_engine.specs.Placing.{misplaced, misplacing, IsMisplaced};
 ghost use Rattle.forec_engine.specs.Report.{Report, trace_report};
 ghost use Rattle.forec_engine.specs.Workload.{ticked_report, workload_report};
 
 use crate::generated::run_workload;
+use crate::image::Image;
 use crate::names::pick_names;
+use crate::rewriter::Rewriter;
 use crate::runner::Runner;
 use crate::sink::say;
 use crate::status::Status;
+use crate::ticker::Ticker;
 use crate::ticks::run;
 use crate::waiting::Waiting;
 use code_gen::generate;
@@ -111,13 +115,69 @@ fn start<S: Source, K: Sink, G: Gate>(
     let Ok(code) = generate(alloc, kernel) else {
         return Status::NoMemory;
     };
-    let Ok(mut runner) = Runner::load(alloc, kernel, &code, placement) else {
+    let Ok(mut image) = Image::new(alloc, shape.inputs.len(), shape.outputs.len()) else {
+        return Status::NoMemory;
+    };
+    let Ok(runner) = Runner::load(alloc, kernel, &code, placement) else {
         return Status::NoMemory;
     };
     run(
         alloc,
         &inputs,
-        &mut runner,
+        &mut Ticker::Hosted(runner),
+        &mut image,
+        budget,
+        gate,
+        &mut waiting,
+        trace,
+        out,
+    )
+}
+
+// Rewrites a kernel's texts over the trace, each tick in the order of steps with this number. A tick may have so many
+// units.
+fn explain<S: Source, K: Sink, G: Gate>(
+    alloc: Global,
+    kernel: &Kernel,
+    order: u32,
+    budget: u64,
+    trace: &mut S,
+    out: &mut K,
+    gate: &G,
+) -> Status
+    requires { budget ≤ MAX_BUDGET }
+    ensures own { IsOwn result → IfSome (S.left trace.old)
+        (λ x. Given (trace_report (plain_kernel kernel.now) budget x) result (K.held out.old) (K.held out.new)) }
+    ensures read { result ≡ Status.ReadFault → Fell (S.faults trace.old) (S.faults trace.new) (S.down trace.new)
+        × Wanted (plain_kernel kernel.now) budget (S.left trace.old) (S.left trace.new) (K.held out.old) (K.held out.new) }
+    ensures write { result ≡ Status.WriteFault → Fell (K.faults out.old) (K.faults out.new) (K.down out.new)
+        × IfSome (S.left trace.old) (λ x. AppendsFront (K.held out.old) (K.held out.new) (trace_report (plain_kernel kernel.now) budget x).bytes) }
+    ensures trace { ReadFor S.left S.faults S.down (plain_kernel kernel.now) budget trace.old trace.new }
+    ensures memory { result ≡ Status.NoMemory
+        → IfSome (S.left trace.old) (λ x. AppendsFront (K.held out.old) (K.held out.new) (trace_report (plain_kernel kernel.now) budget x).bytes) }
+    ensures usage { result ≢ Status.Usage }
+{
+    let shape = kernel.shape();
+    let Ok(inputs) = pick_names(alloc, &shape.names, &shape.inputs) else {
+        return Status::NoMemory;
+    };
+    let Ok(outputs) = pick_names(alloc, &shape.names, &shape.outputs) else {
+        return Status::NoMemory;
+    };
+    let Ok(mut waiting) = Waiting::new(alloc, outputs) else {
+        return Status::NoMemory;
+    };
+    let Ok(mut image) = Image::new(alloc, shape.inputs.len(), shape.outputs.len()) else {
+        return Status::NoMemory;
+    };
+    let Ok(rewriter) = Rewriter::new(alloc, kernel, order) else {
+        return Status::NoMemory;
+    };
+    run(
+        alloc,
+        &inputs,
+        &mut Ticker::Rewritten(rewriter),
+        &mut image,
         budget,
         gate,
         &mut waiting,
@@ -246,7 +306,7 @@ pub fn answer<S: Source, K: Sink, G: Gate>(
     ensures own { IsOwn result → TellsTrace (plain_command command.entry) (S.left trace.old) → (r : Report)
         × AcceptedReport (plain_command command.entry) (S.left trace.old) accepted.now.counts (plain_kernel accepted.now.kernel) r
         × Given r result (K.held out.old) (K.held out.new) }
-    ensures read { result ≡ Status.ReadFault → (running : PlainRunning) × (plain_command command.entry ≡ Run running)
+    ensures read { result ≡ Status.ReadFault → (running : PlainRunning) × (running_in (plain_command command.entry) ≡ Some running)
         × Fell (S.faults trace.old) (S.faults trace.new) (S.down trace.new)
         × (misplacing (plain_kernel accepted.now.kernel) running.placing ≡ None)
         × Wanted (plain_kernel accepted.now.kernel) running.budget (S.left trace.old) (S.left trace.new) (K.held out.old) (K.held out.new) }
@@ -254,10 +314,13 @@ pub fn answer<S: Source, K: Sink, G: Gate>(
         × (TellsTrace (plain_command command.entry) (S.left trace.old) → (r : Report)
         × AcceptedReport (plain_command command.entry) (S.left trace.old) accepted.now.counts (plain_kernel accepted.now.kernel) r
         × AppendsFront (K.held out.old) (K.held out.new) r.bytes) }
-    ensures trace { (trace.new ≡ trace.old) ⊎ ((running : PlainRunning) × (plain_command command.entry ≡ Run running)
+    ensures trace { (trace.new ≡ trace.old) ⊎ ((running : PlainRunning) × (running_in (plain_command command.entry) ≡ Some running)
         × (misplacing (plain_kernel accepted.now.kernel) running.placing ≡ None)
         × ReadFor S.left S.faults S.down (plain_kernel accepted.now.kernel) running.budget trace.old trace.new) }
-    ensures memory { result ≡ Status.NoMemory → K.held out.new ≡ K.held out.old }
+    ensures memory { result ≡ Status.NoMemory → (K.held out.new ≡ K.held out.old)
+        ⊎ (Rewrites (plain_command command.entry) × (TellsTrace (plain_command command.entry) (S.left trace.old) → (r : Report)
+        × AcceptedReport (plain_command command.entry) (S.left trace.old) accepted.now.counts (plain_kernel accepted.now.kernel) r
+        × AppendsFront (K.held out.old) (K.held out.new) r.bytes)) }
     ensures usage { result ≡ Status.Usage → CommandIsMisplaced (plain_command command.entry) (plain_kernel accepted.now.kernel) }
 {
     match command {
@@ -266,6 +329,9 @@ pub fn answer<S: Source, K: Sink, G: Gate>(
         }
         Command::Check => tell(alloc, accepted.counts, out),
         Command::Threads { placing } => list_threads(alloc, &accepted.kernel, placing, out),
+        Command::Explain { budget, order } => {
+            explain(alloc, &accepted.kernel, order, budget, trace, out, gate)
+        }
         Command::Code => list(alloc, &accepted.kernel, out),
     }
 }
@@ -295,10 +361,15 @@ fn tick_workload<K: Sink, G: Gate>(
     let Ok(code) = generate(alloc, kernel) else {
         return Status::NoMemory;
     };
-    let Ok(mut runner) = Runner::load(alloc, kernel, &code, placement) else {
+    let shape = kernel.shape();
+    let Ok(mut image) = Image::new(alloc, shape.inputs.len(), shape.outputs.len()) else {
         return Status::NoMemory;
     };
-    let status = run_workload(&mut runner, threads, budget, gate, &mut waiting);
+    let Ok(runner) = Runner::load(alloc, kernel, &code, placement) else {
+        return Status::NoMemory;
+    };
+    let mut ticker = Ticker::Hosted(runner);
+    let status = run_workload(&mut ticker, &mut image, threads, budget, gate, &mut waiting);
     waiting.finish(out, status)
 }
 

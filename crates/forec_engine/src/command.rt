@@ -1,12 +1,12 @@
 // The top call.
 ghost use Rattle.std.specs.Prelude.{◌≡◌, ◌≤◌, ◌≢◌, ◌⊎◌, List, ℕ, map, length, string_bytes, IfOk, IfSome, Err, Some, None};
 ghost use Rattle.forec_base.specs.Outside.{Fell, Rose};
-ghost use Rattle.command_words.specs.Requests.{PlainCommand, PlainRunning, Run, OnText, plain_running, plain_command, plain_request, request_of};
+ghost use Rattle.command_words.specs.Requests.{PlainCommand, PlainRunning, OnText, plain_running, plain_command, plain_request, request_of};
 ghost use Rattle.command_words.specs.declared.fault.WordsFault.TheVariants as words_fault;
 ghost use Rattle.workload.specs.Text.{text_of};
 ghost use Rattle.forec_engine.specs.Calls.{AppendsFront};
 ghost use Rattle.forec_engine.specs.Commands.{usage, IsReport, TextReport, AcceptedReport, WorkloadReport, TellsTrace, Tells, IsInRange, IsRunnable, HasRanges};
-ghost use Rattle.forec_engine.specs.Ends.{IsOwn, Given, WantedByText, WantedByWords, ReadForText, ReadForWords, CommandIsMisplaced, AcceptedSo, IsMisuse};
+ghost use Rattle.forec_engine.specs.Ends.{IsOwn, Given, WantedByText, WantedByWords, ReadForText, ReadForWords, CommandIsMisplaced, AcceptedSo, IsMisuse, Rewrites, AskForRewriting, running_in};
 ghost use Rattle.text_verdict.specs.Judging.{Judged, Says};
 ghost use Rattle.forec_engine.specs.Placing.{IsMisplaced};
 ghost use Rattle.forec_engine.specs.Report.{Report};
@@ -46,16 +46,19 @@ fn run_text<S: Source, K: Sink, G: Gate>(
     ensures own { IsOwn result → TellsTrace (plain_command command.entry) (S.left trace.old) → (r : Report)
         × TextReport text.now (AcceptedReport (plain_command command.entry) (S.left trace.old)) r
         × Given r result (K.held out.old) (K.held out.new) }
-    ensures read { result ≡ Status.ReadFault → (running : PlainRunning) × (plain_command command.entry ≡ Run running)
+    ensures read { result ≡ Status.ReadFault → (running : PlainRunning) × (running_in (plain_command command.entry) ≡ Some running)
         × Fell (S.faults trace.old) (S.faults trace.new) (S.down trace.new)
         × WantedByText running text.now (S.left trace.old) (S.left trace.new) (K.held out.old) (K.held out.new) }
     ensures write { result ≡ Status.WriteFault → Fell (K.faults out.old) (K.faults out.new) (K.down out.new)
         × (TellsTrace (plain_command command.entry) (S.left trace.old) → (r : Report)
         × TextReport text.now (AcceptedReport (plain_command command.entry) (S.left trace.old)) r
         × AppendsFront (K.held out.old) (K.held out.new) r.bytes) }
-    ensures trace { (trace.new ≡ trace.old) ⊎ ((running : PlainRunning) × (plain_command command.entry ≡ Run running)
+    ensures trace { (trace.new ≡ trace.old) ⊎ ((running : PlainRunning) × (running_in (plain_command command.entry) ≡ Some running)
         × ReadForText S.left S.faults S.down running text.now trace.old trace.new) }
-    ensures memory { result ≡ Status.NoMemory → K.held out.new ≡ K.held out.old }
+    ensures memory { result ≡ Status.NoMemory → (K.held out.new ≡ K.held out.old)
+        ⊎ (Rewrites (plain_command command.entry) × (TellsTrace (plain_command command.entry) (S.left trace.old) → (r : Report)
+        × TextReport text.now (AcceptedReport (plain_command command.entry) (S.left trace.old)) r
+        × AppendsFront (K.held out.old) (K.held out.new) r.bytes)) }
     ensures usage { result ≡ Status.Usage → AcceptedSo (CommandIsMisplaced (plain_command command.entry)) text.now }
 {
     match judge(alloc, text) {
@@ -82,15 +85,18 @@ fn run_named<T: Texts, S: Source, K: Sink, G: Gate>(
         × Given r result (K.held out.old) (K.held out.new) }
     ensures read { result ≡ Status.ReadFault →
         (Fell (T.faults texts.old) (T.faults texts.new) (T.down texts.new) × (K.held out.new ≡ K.held out.old))
-        ⊎ ((running : PlainRunning) × (plain_command command.entry ≡ Run running) × Fell (S.faults trace.old) (S.faults trace.new) (S.down trace.new)
+        ⊎ ((running : PlainRunning) × (running_in (plain_command command.entry) ≡ Some running) × Fell (S.faults trace.old) (S.faults trace.new) (S.down trace.new)
         × IfSome (T.content texts.old name.now) (λ text. WantedByText running text (S.left trace.old) (S.left trace.new) (K.held out.old) (K.held out.new))) }
     ensures write { result ≡ Status.WriteFault → Fell (K.faults out.old) (K.faults out.new) (K.down out.new)
         × ((text : List ℕ) → T.content texts.old name.now ≡ Some text → TellsTrace (plain_command command.entry) (S.left trace.old)
         → (r : Report) × TextReport text (AcceptedReport (plain_command command.entry) (S.left trace.old)) r
         × AppendsFront (K.held out.old) (K.held out.new) r.bytes) }
-    ensures trace { (trace.new ≡ trace.old) ⊎ ((running : PlainRunning) × (plain_command command.entry ≡ Run running)
+    ensures trace { (trace.new ≡ trace.old) ⊎ ((running : PlainRunning) × (running_in (plain_command command.entry) ≡ Some running)
         × IfSome (T.content texts.old name.now) (λ text. ReadForText S.left S.faults S.down running text trace.old trace.new)) }
-    ensures memory { result ≡ Status.NoMemory → K.held out.new ≡ K.held out.old }
+    ensures memory { result ≡ Status.NoMemory → (K.held out.new ≡ K.held out.old)
+        ⊎ (Rewrites (plain_command command.entry) × ((text : List ℕ) → T.content texts.old name.now ≡ Some text → TellsTrace (plain_command command.entry) (S.left trace.old)
+        → (r : Report) × TextReport text (AcceptedReport (plain_command command.entry) (S.left trace.old)) r
+        × AppendsFront (K.held out.old) (K.held out.new) r.bytes)) }
     ensures usage { result ≡ Status.Usage → IfSome (T.content texts.old name.now) (AcceptedSo (CommandIsMisplaced (plain_command command.entry))) }
 {
     match texts.read(alloc, name, MAX_TEXT_BYTES) {
@@ -168,12 +174,15 @@ fn run_command<T: Texts, S: Source, K: Sink, G: Gate>(
         × IsReport (map string_bytes words.now) (T.content texts.old) (S.left trace.old) r
         × AppendsFront (K.held out.old) (K.held out.new) r.bytes) }
 
-    // The trace is read by `run` alone, for a text that is accepted, whose list of places isn't refused, and no read is
+    // The trace is read by `run` and `explain` alone, for a text that is accepted, whose list of places isn't refused, and no read is
     // asked for once a line that stops the program has come whole.
     ensures trace { (trace.new ≡ trace.old) ⊎ ReadForWords S.left S.faults S.down (map string_bytes words.now) (T.content texts.old) trace.old trace.new }
 
-    // Where memory was wanting, nothing was printed.
-    ensures memory { result ≡ Status.NoMemory → K.held out.new ≡ K.held out.old }
+    // Where memory was wanting, nothing was printed. Of a program that is rewritten a front of a report may be.
+    ensures memory { result ≡ Status.NoMemory → (K.held out.new ≡ K.held out.old)
+        ⊎ (AskForRewriting (map string_bytes words.now) × (Tells (map string_bytes words.now) (T.content texts.old) (S.left trace.old) → (r : Report)
+        × IsReport (map string_bytes words.now) (T.content texts.old) (S.left trace.old) r
+        × AppendsFront (K.held out.old) (K.held out.new) r.bytes)) }
 
     // This status comes only where the words ask for nothing, or the list of places is refused.
     ensures usage { result ≡ Status.Usage → IsMisuse (map string_bytes words.now) (T.content texts.old) }
@@ -195,7 +204,9 @@ fn run_command<T: Texts, S: Source, K: Sink, G: Gate>(
 /// `run P` runs the program whose text `texts` has under the name `P`, a tick for each row of `trace`, of which each
 /// may have `--budget B` units, or 10,000,000. `check P` counts the program's thread instances, inputs and outputs,
 /// `threads P` lists its threads with their cores and weights, and `code P` its code. `gen N` runs a workload of `N`
-/// threads for 1,000 ticks, and prints the sum of the outputs. `run` alone reads the trace, and `gen` reads no text.
+/// threads for 1,000 ticks, and prints the sum of the outputs. `explain P` prints what `run P` does, made by rewriting
+/// the kernel's texts in the order of steps `--order N`; it alone may want memory between ticks. `run` and `explain`
+/// read the trace, and `gen` reads no text.
 ///
 /// `run`, `threads` and `gen` place the threads on `--cores N` cores, or on one: by the list `--place L`, or balanced.
 /// What `run` and `gen` print doesn't depend on it. All other words give the usage line.
@@ -227,12 +238,15 @@ pub fn forec<T: Texts, S: Source, K: Sink, G: Gate>(
         × IsReport (map string_bytes words.now) (T.content texts.old) (S.left trace.old) r
         × AppendsFront (K.held out.old) (K.held out.new) r.bytes) }
 
-    // The trace is read by `run` alone, for a text that is accepted, whose list of places isn't refused, and no read is
+    // The trace is read by `run` and `explain` alone, for a text that is accepted, whose list of places isn't refused, and no read is
     // asked for once a line that stops the program has come whole.
     ensures trace { (trace.new ≡ trace.old) ⊎ ReadForWords S.left S.faults S.down (map string_bytes words.now) (T.content texts.old) trace.old trace.new }
 
-    // Where memory was wanting, nothing was printed.
-    ensures memory { result ≡ Status.NoMemory → K.held out.new ≡ K.held out.old }
+    // Where memory was wanting, nothing was printed. Of a program that is rewritten a front of a report may be.
+    ensures memory { result ≡ Status.NoMemory → (K.held out.new ≡ K.held out.old)
+        ⊎ (AskForRewriting (map string_bytes words.now) × (Tells (map string_bytes words.now) (T.content texts.old) (S.left trace.old) → (r : Report)
+        × IsReport (map string_bytes words.now) (T.content texts.old) (S.left trace.old) r
+        × AppendsFront (K.held out.old) (K.held out.new) r.bytes)) }
 
     // This status comes only where the words ask for nothing, or the list of places is refused.
     ensures usage { result ≡ Status.Usage → IsMisuse (map string_bytes words.now) (T.content texts.old) }

@@ -1,13 +1,14 @@
 // The ticks of a workload.
-ghost use Rattle.std.specs.Prelude.{◌≡◌, ◌≢◌, ◌≤◌, ◌+◌, ◌%◌, ◌^◌};
+ghost use Rattle.std.specs.Prelude.{◌≡◌, ◌≢◌, ◌≤◌, ◌+◌, ◌%◌, ◌^◌, true, length};
 ghost use Rattle.forec_kernel.specs.Ticks.{Fresh};
 ghost use Rattle.forec_engine.specs.Ends.{IsOwn};
-ghost use Rattle.forec_engine.specs.Following.{Follows, kernel_in};
 ghost use Rattle.forec_engine.specs.WaitingRoom.{HasRoom, Gains};
 ghost use Rattle.forec_engine.specs.Workload.{values_sum, zero_row, ticked_report};
+ghost use Rattle.forec_engine.specs.Following.{kernel_in, Follows, is_live, is_ready};
 
-use crate::runner::Runner;
+use crate::image::Image;
 use crate::status::Status;
+use crate::ticker::Ticker;
 use crate::waiting::Waiting;
 use forec_base::Gate;
 use forec_kernel::Outcome;
@@ -26,30 +27,37 @@ fn with_values(sum: u32, values: &[i32]) -> u32
     sum
 }
 
-/// Runs the ticks of a workload of so many threads, each over the row of the runner, which is 0 for each input. The
-/// line that tells of them waits, and the status is its.
+/// Runs the ticks of a workload of so many threads, each over a row that is 0 for each input, by a ticker that
+/// is ready. The line that tells of them waits, and the status is its.
 pub fn run_workload<G: Gate>(
-    runner: &mut Runner<'_>,
+    ticker: &mut Ticker<'_>,
+    image: &mut Image,
     threads: u32,
     budget: u64,
     gate: &G,
     waiting: &mut Waiting,
 ) -> Status
-    requires follows { Follows Fresh runner.old }
-    requires zeros { runner.old.row.items ≡ zero_row (kernel_in runner.old) }
+    requires follows { Follows ticker.old Fresh }
+    requires live { is_live ticker.old ≡ true }
+    requires ready { is_ready ticker.old ≡ true }
+    requires zeros { image.old.inputs.items ≡ zero_row (kernel_in ticker.old) }
+    requires outputs { length image.old.outputs.items ≡ length (kernel_in ticker.old).shape.outputs }
     requires small { budget ≤ 2 ^ 62 }
     requires room { HasRoom waiting.old 128 }
     ensures own { IsOwn result }
     ensures usage { result ≢ Status.Usage }
-    ensures status { result ≡ (ticked_report threads (kernel_in runner.old) budget).status }
-    ensures bytes { Gains waiting.old waiting.new (ticked_report threads (kernel_in runner.old) budget).bytes }
+    ensures status { result ≡ (ticked_report threads (kernel_in ticker.old) budget).status }
+    ensures bytes { Gains waiting.old waiting.new (ticked_report threads (kernel_in ticker.old) budget).bytes }
 {
     let mut sum = 0;
     for tick in 0..WORKLOAD_TICKS {
-        match runner.tick(budget, gate) {
-            Outcome::Paused => sum = with_values(sum, &runner.outputs),
+        let Ok(outcome) = image.tick(ticker, budget, gate) else {
+            unreachable!()
+        };
+        match outcome {
+            Outcome::Paused => sum = with_values(sum, &image.outputs),
             Outcome::Ended => {
-                waiting.put_workload(threads, with_values(sum, &runner.outputs));
+                waiting.put_workload(threads, with_values(sum, &image.outputs));
                 return Status::Done;
             }
             Outcome::Trapped { place, trap } => {

@@ -5,11 +5,15 @@ mod answering;
 mod command;
 mod found;
 mod generated;
+mod image;
 mod laws;
 mod names;
+mod orders;
+mod rewriter;
 mod runner;
 mod sink;
 mod status;
+mod ticker;
 mod ticks;
 mod waiting;
 

@@ -1,5 +1,5 @@
-use Rattle.std.proofs.Common.{ap, ◌∙◌, Some, inl, inr, refl}
-use Rattle.command_words.specs.Requests.{PlainCommand, OnText, plain_command, plain_running}
+use Rattle.std.proofs.Common.{inl, inr, refl}
+use Rattle.command_words.specs.Requests.{plain_command, plain_running}
 use Rattle.forec_engine.specs.Commands.{usage, Of_usage, Of_text, Of_workload}
 use Rattle.forec_engine.specs.Ends.{Asks_nothing, Misplaces, Misplaces_workload}
 use Rattle.forec_engine.proofs.Running.{own_not}
@@ -22,7 +22,7 @@ returns-in-Ok-Text-clause-read g c = λ is.
     let name = c.in-Ok-Text.program.now in
     elim (c.run_named.ensures.read is) [
       | inl store ↦ inl store
-      | inr r ↦ inr (r.2, (r.0, name, request ∙ ap (λ (x : PlainCommand). Some (OnText name x)) r.1, r.3))
+      | inr r ↦ inr (r.2, (r.0, name, plain_command c.in-Ok-Text.command, request, r.1, r.3))
     ]
 
 pub returns-in-Ok-Text-clause-write : goal.returns-in-Ok-Text-clause-write
@@ -44,7 +44,7 @@ returns-in-Ok-Text-clause-trace g c =
     let name = c.in-Ok-Text.program.now in
     elim c.run_named.ensures.trace [
       | inl same ↦ inl same
-      | inr r ↦ inr (r.0, name, request ∙ ap (λ (x : PlainCommand). Some (OnText name x)) r.1, r.2)
+      | inr r ↦ inr (r.0, name, plain_command c.in-Ok-Text.command, request, r.1, r.2)
     ]
 
 pub returns-in-Ok-Text-clause-usage : goal.returns-in-Ok-Text-clause-usage
@@ -52,7 +52,26 @@ returns-in-Ok-Text-clause-usage g c = λ is.
     let request = rw c.in-Ok-Text.field-0-is at c.in-Ok-Text.ensures.request in
     Misplaces c.in-Ok-Text.program.now (plain_command c.in-Ok-Text.command) request (c.run_named.ensures.usage is)
 
+pub returns-in-Ok-Text-clause-memory : goal.returns-in-Ok-Text-clause-memory
+returns-in-Ok-Text-clause-memory g c = λ is.
+    let request = rw c.in-Ok-Text.field-0-is at c.in-Ok-Text.ensures.request in
+    let name = c.in-Ok-Text.program.now in
+    let command = plain_command c.in-Ok-Text.command in
+    elim (c.run_named.ensures.memory is) [
+      | inl same ↦ inl same
+      | inr m ↦ inr (
+        (name, command, request, m.0),
+        λ told.
+            let t = told name command request in
+            let r = m.1 t.0 t.1 t.2 in
+            (r.0, Of_text name command t.0 request t.1 r.1, r.2),
+      )
+    ]
+
 -- a workload
+
+pub returns-in-Ok-Workload-clause-memory : goal.returns-in-Ok-Workload-clause-memory
+returns-in-Ok-Workload-clause-memory g c = λ is. inl (c.run_workload_text.ensures.memory is)
 
 pub returns-in-Ok-Workload-clause-own : goal.returns-in-Ok-Workload-clause-own
 returns-in-Ok-Workload-clause-own g c = λ own told.

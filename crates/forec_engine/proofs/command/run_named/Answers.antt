@@ -59,3 +59,13 @@ returns-in-Err-Long-clause-write g c = λ is.
           told_long (g.T.Texts.content c.args.texts.now c.args.name.now) (AcceptedReport (plain_command c.args.command) (g.S.Source.left c.args.trace.now))
           (λ r. AppendsFront (g.K.Sink.held c.args.out.now) (g.K.Sink.held c.refuse.new.out) r.bytes) (rw c.in-Err-Long.field-0-is at c.in-Err-Long.ensures.bytes) w.1 text named,
     )
+
+pub returns-in-Ok-clause-memory : goal.returns-in-Ok-clause-memory
+returns-in-Ok-clause-memory g c = λ is.
+    let left = g.S.Source.left c.args.trace.now in
+    let command = plain_command c.args.command in
+    let Q : List ℕ → Type 0 = λ t. TellsTrace command left → (r : Report) × TextReport t (AcceptedReport command left) r × AppendsFront (g.K.Sink.held c.args.out.now) (g.K.Sink.held c.run_text.new.out) r.bytes in
+    elim (c.run_text.ensures.memory is) [
+      | inl same ↦ inl same
+      | inr m ↦ inr (m.0, told_text (g.T.Texts.content c.args.texts.now c.args.name.now) c.in-Ok.text.items Q c.in-Ok.ensures.bytes.1 (subst Q c.deref.ensures.value m.1))
+    ]

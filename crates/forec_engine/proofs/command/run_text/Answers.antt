@@ -46,3 +46,11 @@ returns-in-Err-Refused-clause-write g c = λ is.
     let j = rw c.in-Err-Refused.field-0-is at c.in-Err-Refused.ensures in
     let w = c.refuse.ensures.write is in
     (w.0, λ told. (refused why, Of_refusal why j refl, w.1))
+
+pub returns-in-Ok-clause-memory : goal.returns-in-Ok-clause-memory
+returns-in-Ok-clause-memory g c = λ is.
+    let a = c.in-Ok.accepted in
+    elim (c.answer.ensures.memory is) [
+      | inl same ↦ inl same
+      | inr m ↦ inr (m.0, λ told. let r = m.1 told in (r.0, Of_accepted a.counts (plain_kernel a.kernel) c.in-Ok.ensures r.1, r.2))
+    ]

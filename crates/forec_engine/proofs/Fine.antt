@@ -1,0 +1,8 @@
+-- Facts of what was found.
+use Rattle.std.specs.declared.result.Result.{Result}
+use Rattle.std.specs.declared.result.Result.TheVariants.{Ok, Err}
+use Rattle.std.specs.Prelude.{IfOk}
+
+pub ok_map : {T E : Type 0} (r : Result T E) (P Q : T → Type 0) → ((x : T) → P x → Q x) → IfOk r P → IfOk r Q
+ok_map (Ok x) P Q f h = f x h
+ok_map (Err e) P Q f h = h
