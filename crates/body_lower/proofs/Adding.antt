@@ -2,6 +2,7 @@
 use Rattle.std.proofs.Common.{ℕ, zero, suc, ◌+◌, ◌-◌, ◌<◌, ◌≤◌, ◌≡◌, ◌==◌, ◌∙◌, sym, ap, refl, subst, true, false, cond, Option, Some, None, List, [], ◌∷◌, length, get_or, drop, arith}
 use Rattle.std.proofs.lemmas.List.{drop_all}
 use Rattle.std.proofs.lemmas.Bool.Decides.{nat_tests}
+use Rattle.std.proofs.lemmas.Bool.{eqb-true}
 use Rattle.forec_base.specs.declared.Place.{Place}
 use Rattle.forec_tree.specs.declared.tree.Number.{Number}
 use Rattle.forec_tree.specs.declared.tree.Name.{Name}
@@ -15,7 +16,7 @@ use Rattle.forec_tree.specs.Pauses.{within, find_function}
 use Rattle.loop_check.proofs.Indexed.{split}
 use Rattle.text_kernel.specs.declared.names.Slot.{Slot}
 use Rattle.text_kernel.specs.Bindings.{params_at}
-use Rattle.text_kernel.specs.Lowering.{Next, from_slot, scope_behind, scope_behind_perhaps, par_behind, body_in_place, lower_statement, lower_list, lower_perhaps, lower_branches}
+use Rattle.text_kernel.specs.Lowering.{Next, Lowered, Started, from_slot, scope_behind, scope_behind_perhaps, par_behind, body_in_place, lower_statement, lower_list, lower_perhaps, lower_branches}
 use Rattle.body_lower.specs.declared.added.Added.{Added}
 use Rattle.body_lower.specs.Additions.{nothing, Moves, StatementAdds, PerhapsAdds, ListAdds, BranchesAdd, BodyAdds, FunctionAdds, AllAdd, Joins, put_at}
 use Rattle.body_lower.specs.Landings.{called_within}
@@ -103,7 +104,7 @@ module _ (text : Text) where
       let called = called_within text deep in
       let l = lower_branches text called t s p n (branch_with b no_branches) in
       let m = lower_branches text called t s p l.next rest in
-      subst (Moves d n) (ap (λ x. x.next) (sym (branch_first text called t s p n b rest)))
+      subst (Moves d n) (ap (λ (x : Started). x.next) (sym (branch_first text called t s p n b rest)))
       (moves_then a c d n l.next m.next j (f deep t p s n (omega (arith, h, j.first))) (g deep t p s l.next (omega (arith, h, j.second))))
 
   pub called_adds : (name : Name) (args : Terms) (one a c : Added) → one.threads ≡ 1 → one.pars ≡ 0 → FunctionAdds text name.id (Some a) → Joins one a c → BranchesAdd text (by_call name args no_branches) c
@@ -119,12 +120,13 @@ module _ (text : Text) where
       record { thread = omega (arith, m.thread, j.threads, e); par = omega (arith, m.par, j.pars, z) }
 
   pub par_none : (at : Place) (all : List tree_branch.Branch) → (length all == 0) ≡ true → StatementAdds text (tree.Par at (branches all)) nothing
-  par_none at [] e deep t s n h = record { thread = omega arith; par = omega arith }
-  par_none at (b ∷ rest) e = absurd (let q : false ≡ true = e in cc)
+  par_none at [] e = λ deep t s n h. (let m = still n in record { thread = m.thread; par = m.par })
+  par_none at (b ∷ rest) e = absurd (let z = eqb-true (length (b ∷ rest)) 0 e in omega (arith, z))
 
   pub par_adds : (at : Place) (all : List tree_branch.Branch) (one a c : Added) → (length all == 0) ≡ false → one.threads ≡ 0 → one.pars ≡ 1 → BranchesAdd text (branches all) a → Joins one a c → StatementAdds text (tree.Par at (branches all)) c
   par_adds at [] one a c some e z f j = absurd (let q : true ≡ false = some in cc)
-  par_adds at (b ∷ rest) one a c some e z f j deep t s n h =
+  par_adds at (b ∷ rest) one a c some e z f j =
+      λ deep t s n h.
       let next = (par_some text (called_within text deep) t s n.par n.par n b (branches rest)).1 in
       let from : Next = record { slot = n.slot; thread = n.thread; par = par_behind (branches (b ∷ rest)) n.par } in
       let m = f deep t n.par s from (omega (arith, h, j.second)) in
@@ -184,18 +186,20 @@ module _ (text : Text) where
 
   -- ---- functions
 
-  pub function_none : (id : ℕ) (a : Added) → a ≡ nothing → find_function id text ≡ None → FunctionAdds text id (Some a)
+  none_moves : (id deep first t : ℕ) (n : Next) → find_function id text ≡ None → Moves nothing n (called_within text deep id first t n).next
   unfolding within
-  function_none id a z e zero first t n h = subst (λ x. Moves x n n) (sym z) (still n)
-  function_none id a z e (suc deep) first t n h =
-      subst (Moves a n) (ap (λ (o : Option PlainFunction). (body_in_place text (called_within text deep) o first t n).next) (sym e)) (subst (λ x. Moves x n n) (sym z) (still n))
+  none_moves id zero first t n e = still n
+  none_moves id (suc deep) first t n e = subst (Moves nothing n) (ap (λ (o : Option PlainFunction). (body_in_place text (called_within text deep) o first t n).next) (sym e)) (still n)
+
+  pub function_none : (id : ℕ) (a : Added) → a ≡ nothing → find_function id text ≡ None → FunctionAdds text id (Some a)
+  function_none id a z e = λ deep first t n h. subst (λ x. Moves x n (called_within text deep id first t n).next) (sym z) (none_moves id deep first t n e)
 
   pub body_adds : (f : PlainFunction) (a c : Added) → ListAdds text f.body a → c.threads ≡ a.threads → c.pars ≡ a.pars → c.calls ≡ a.calls + 1 → BodyAdds text f c
   body_adds f a c g x y z id e deep first t n h =
       let m = g (deep - 1) t (params_at first f.params) n (omega (arith, h, z)) in
       let moved : Moves c n (lower_list text (called_within text (deep - 1)) t (params_at first f.params) n f.body).next = record { thread = omega (arith, m.thread, x); par = omega (arith, m.par, y) } in
       subst (Moves c n)
-      (ap (λ l. l.next) (sym (place_is text deep id first t n (λ q. absurd (omega (arith, q, h, z))) ∙ ap (λ (o : Option PlainFunction). body_in_place text (called_within text (deep - 1)) o first t n) e)))
+      (ap (λ (l : Lowered). l.next) (sym (place_is text deep id first t n (λ q. absurd (omega (arith, q, h, z))) ∙ ap (λ (o : Option PlainFunction). body_in_place text (called_within text (deep - 1)) o first t n) e)))
       moved
 
 -- a statement whose kind is known

@@ -1,6 +1,6 @@
 -- How the translation of a statement is put together from those of its parts, from state to state.
-use Rattle.std.proofs.Common.{ℕ, zero, suc, ◌+◌, ◌-◌, ◌≡◌, ◌∙◌, sym, ap, refl, Option, Some, None, List, [], ◌∷◌, ◌++◌, append-nil, append_assoc, length, length-append, length-set, map, take, drop, set, subst, arith}
-use Rattle.std.proofs.lemmas.List.{map-append, length-map, take_all}
+use Rattle.std.proofs.Common.{ℕ, suc, ◌+◌, ◌≡◌, ◌∙◌, sym, ap, refl, Option, Some, None, List, [], ◌∷◌, ◌++◌, append-nil, append_assoc, length, map, take, drop, subst, arith}
+use Rattle.std.proofs.lemmas.List.{map-append, take_all}
 use Rattle.forec_base.specs.declared.Place.{Place}
 use Rattle.forec_tree.specs.declared.tree.Number.{Number}
 use Rattle.forec_tree.specs.declared.tree.Name.{Name}
@@ -20,7 +20,7 @@ use Rattle.body_lower.specs.declared.scope.Scope.{Scope}
 use Rattle.body_lower.specs.declared.state.State.{State}
 use Rattle.text_kernel.specs.Lowering.{joined, Next, Made, Lowered, Listed, Started, InPlace, as_one, params_of, lower_terms, sequence, ends_with, bound_of, or_inferred, optional_test, after_start, then_step, set_params, scope_behind, scope_behind_perhaps, par_of, par_behind, thread_of, lower_statement, lower_list, lower_perhaps, lower_branches}
 use Rattle.body_lower.proofs.Statements.{joined_none, joined_more}
-use Rattle.body_lower.specs.Views.{seen, Kept, Same, next_of, threads_of, of_thread, Bare, bare, blank, Does, DoesList, DoesBranches, Begins, Finishes}
+use Rattle.body_lower.specs.Views.{seen, Kept, Same, next_of, threads_of, Bare, bare, Does, DoesList, DoesBranches}
 
 pub does_as : {text : Text} (l m : Lowered) (k : Stmt) (old new : State) → l ≡ m → Does text l k old new → Does text m k old new
 does_as {text} l m k old new e d = subst (λ x. Does text x k old new) e d

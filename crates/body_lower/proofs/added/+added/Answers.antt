@@ -5,7 +5,7 @@ use Rattle.forec_tree.specs.Terms as tree
 use Rattle.forec_tree.specs.Terms.{no_branches}
 use Rattle.forec_tree.proofs.Rows.{of_kind, of_group, of_if, of_for, of_par, of_abort, branch-group}
 use Rattle.body_lower.specs.Additions.{nothing, StatementAdds, PerhapsAdds, ListAdds, BranchesAdd}
-use Rattle.body_lower.proofs.Adding.{nothing_adds, pause_adds, declare_adds, assign_adds, return_adds, kind_adds, group_adds, abort_adds, if_adds, for_adds, while_adds, call_adds, called_adds, block_adds, perhaps_none, perhaps_some, par_none, par_adds, list_starts, list_goes, list_ends, branches_start, branches_go, branches_end, by_table}
+use Rattle.body_lower.proofs.Adding.{nothing_adds, pause_adds, declare_adds, assign_adds, return_adds, kind_adds, group_adds, abort_adds, if_adds, for_adds, while_adds, call_adds, called_adds, block_adds, perhaps_none, par_none, par_adds, list_starts, list_goes, list_ends, branches_start, branches_go, branches_end, by_table}
 use Rattle.body_lower.proofs.added.+added.Goals as goal
 
 pub of_statement-returns-in-Nothing : goal.of_statement-returns-in-Nothing
@@ -57,7 +57,7 @@ of_statement-returns-in_ok-added-in-If t c =
     let at = c.args.s.now.place in
     subst (λ s. StatementAdds text s added)
     (ap (λ y. tree.If at (term c.in-If.test) (statement y) (perhaps_of c.in-If.no)) c.deref.ensures ∙ of_if (λ s. s) c.args.s.now c.in-If.test c.in-If.yes c.in-If.no c.in-If.is)
-    (if_adds text at (term c.in-If.test) (statement c.deref.result.now) (perhaps_of c.in-If.no) c.in_ok-yes.yes c.in_ok-no.no added (c.in_ok-yes.ensures text all) (c.in_ok-no.ensures text all) c.in_ok-added-in-If.ensures)
+    (if_adds text at (term c.in-If.test) (statement c.deref.result.now) (perhaps_of c.in-If.no) c.in_ok-yes-in-If.yes c.in_ok-no-in-If.no added (c.in_ok-yes-in-If.ensures text all) (c.in_ok-no-in-If.ensures text all) c.in_ok-added-in-If.ensures)
 
 pub of_statement-returns-in_ok-added-in-While : goal.of_statement-returns-in_ok-added-in-While
 of_statement-returns-in_ok-added-in-While t c =
@@ -78,8 +78,8 @@ of_statement-returns-in_ok-added-in-For t c =
     let test = optional_term c.in-For.test in
     subst (λ s. StatementAdds text s added)
     (ap (λ y. tree.For at start test step c.in-For.bound (statement y)) c.deref-in-For.ensures ∙ of_for (λ s. s) c.args.s.now c.in-For.start c.in-For.step c.in-For.test c.in-For.bound c.in-For.body c.in-For.is)
-    (for_adds text at start test step c.in-For.bound (statement c.deref-in-For.result.now) c.in_ok-start.start c.in_ok-step.step c.in_ok-body.body c.in_ok-turned.turned added (c.in_ok-start.ensures text all)
-    (c.in_ok-step.ensures text all) (c.in_ok-body.ensures text all) c.in_ok-turned.ensures c.in_ok-added-in-For.ensures)
+    (for_adds text at start test step c.in-For.bound (statement c.deref-in-For.result.now) c.in_ok-start-in-For.start c.in_ok-step-in-For.step c.in_ok-body-in-For.body c.in_ok-turned-in-For.turned added (c.in_ok-start-in-For.ensures text all)
+    (c.in_ok-step-in-For.ensures text all) (c.in_ok-body-in-For.ensures text all) c.in_ok-turned-in-For.ensures c.in_ok-added-in-For.ensures)
 
 pub of_statement-returns-in_ok-added-in-Par : goal.of_statement-returns-in_ok-added-in-Par
 of_statement-returns-in_ok-added-in-Par t c =
@@ -90,12 +90,6 @@ of_statement-returns-in_ok-added-in-Par t c =
 pub of_optional-returns-in-None : goal.of_optional-returns-in-None
 of_optional-returns-in-None t c =
     λ text all. subst (λ o. PerhapsAdds text (perhaps_of o) c.nothing.result) (sym c.in-None.is) (subst (PerhapsAdds text tree.absent) (sym c.nothing.ensures) (perhaps_none text))
-
-pub of_optional-returns-in_ok-added : goal.of_optional-returns-in_ok-added
-of_optional-returns-in_ok-added t c =
-    λ text all.
-    subst (λ o. PerhapsAdds text (perhaps_of o) c.in_ok-added.added) (sym c.in-Some.is)
-    (perhaps_some text (statement c.in-Some.there.value) c.in_ok-added.added (subst (λ y. StatementAdds text (statement y) c.in_ok-added.added) c.deref.ensures (c.in_ok-added.ensures text all)))
 
 pub of_branch-returns-in_ok-added-in-Call : goal.of_branch-returns-in_ok-added-in-Call
 of_branch-returns-in_ok-added-in-Call t c =
@@ -113,7 +107,7 @@ of_branch-returns-in_ok-added-in-Group t c =
 
 pub of_par-returns-then-is_empty : goal.of_par-returns-then-is_empty
 of_par-returns-then-is_empty t c =
-    λ text all at. kind_adds text nothing c.nothing.result _ _ refl c.nothing.ensures (par_none text at c.args.list.now (sym c.is_empty.ensures ∙ c.if-is_empty.true))
+    λ text all at. kind_adds text nothing c.nothing.result (tree.Par at (branches c.args.list.now)) (tree.Par at (branches c.args.list.now)) refl c.nothing.ensures (par_none text at c.args.list.now (sym c.is_empty.ensures ∙ c.if-is_empty.true))
 
 pub of_par-returns : goal.of_par-returns
 of_par-returns t c =
@@ -126,7 +120,7 @@ of_list-loop-s-init t c = λ text all. list_starts text (statements c.args.list.
 pub of_list-loop-s-preserved : goal.of_list-loop-s-preserved
 of_list-loop-s-preserved t c =
     λ text all.
-    list_goes text c.args.list.now c.loop-s.s-index c.s-item.result (statements c.args.list.now) c.loop-s.total c.in_ok-more.more c.in_ok-total.field-0 c.loop-s-test.true (sym c.s-item.is) (c.in_ok-more.ensures text all) c.in_ok-total.ensures
+    list_goes text c.args.list.now c.loop-s.s-index c.s-item.result (statements c.args.list.now) c.loop-s.total c.in_ok-more.more c.in_ok-total.total c.loop-s-test.true (sym c.s-item.is) (c.in_ok-more.ensures text all) c.in_ok-total.ensures
     (c.loop-s.invariant text all)
 
 pub of_list-returns : goal.of_list-returns
@@ -138,7 +132,7 @@ of_branches-loop-one-init t c = λ text all. branches_start text (branches c.arg
 pub of_branches-loop-one-preserved : goal.of_branches-loop-one-preserved
 of_branches-loop-one-preserved t c =
     λ text all.
-    branches_go text c.args.list.now c.loop-one.one-index c.one-item.result (branches c.args.list.now) c.loop-one.total c.in_ok-more.more c.in_ok-total.field-0 c.loop-one-test.true (sym c.one-item.is) (c.in_ok-more.ensures text all)
+    branches_go text c.args.list.now c.loop-one.one-index c.one-item.result (branches c.args.list.now) c.loop-one.total c.in_ok-more.more c.in_ok-total.total c.loop-one-test.true (sym c.one-item.is) (c.in_ok-more.ensures text all)
     c.in_ok-total.ensures (c.loop-one.invariant text all)
 
 pub of_branches-returns : goal.of_branches-returns
