@@ -14,7 +14,6 @@ use Rattle.forec_tree.specs.Terms as tree
 use Rattle.forec_tree.specs.Terms.{Text, Term, Terms, count_terms, Declared, Written, Statement, Statements, no_statements, more_statements, Perhaps, absent, present, Branches, no_branches, by_call, by_group, PlainFunction}
 use Rattle.forec_tree.specs.Pauses.{within, find_function}
 use Rattle.loop_check.proofs.Indexed.{split}
-use Rattle.text_kernel.specs.declared.names.Slot.{Slot}
 use Rattle.text_kernel.specs.Bindings.{params_at}
 use Rattle.text_kernel.specs.Lowering.{Next, Lowered, Started, from_slot, scope_behind, scope_behind_perhaps, par_behind, body_in_place, lower_statement, lower_list, lower_perhaps, lower_branches}
 use Rattle.body_lower.specs.declared.added.Added.{Added}

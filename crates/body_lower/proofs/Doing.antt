@@ -229,4 +229,3 @@ pub branches_step : (text : Text) (called : ℕ → InPlace) (t : ℕ) (s s1 : L
     let m = lower_branches text called t s1 p n1 rest in
     let r : Started = record { launches = l.launches ++ m.launches; next = m.next; made = l.made ++ m.made } in r)
 branches_step text called t s s1 p n n1 b rest e d = rw (e, d) (branch_first text called t s p n b rest)
-

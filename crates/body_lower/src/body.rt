@@ -528,7 +528,9 @@ pub fn in_function<'p>(
     ensures same { OnOk result (Same state.old.scope state.new.scope) }
 {
     let base = state.scope.hide();
-    state.scope.declare_params(first, function.params.as_slice())?;
+    state
+        .scope
+        .declare_params(first, function.params.as_slice())?;
     let body = function.body.as_slice();
     let list = list(context, fuel, state, body)?;
     state.scope.show(base);

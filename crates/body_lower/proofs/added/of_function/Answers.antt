@@ -1,4 +1,4 @@
-use Rattle.std.proofs.Common.{ap, refl, subst}
+use Rattle.std.proofs.Common.{refl, subst}
 use Rattle.forec_tree.specs.Plain.{statements, plain_function}
 use Rattle.body_lower.specs.Additions.{ListAdds}
 use Rattle.body_lower.proofs.Adding.{body_adds}

@@ -1,4 +1,3 @@
-use Rattle.forec_tree.specs.Plain.{plain_function}
 use Rattle.loop_check.specs.Views.{text_of}
 use Rattle.body_lower.proofs.Adding.{function_none}
 use Rattle.body_lower.proofs.added.of_name.Goals as goal

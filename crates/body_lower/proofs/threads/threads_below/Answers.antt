@@ -22,7 +22,7 @@ loop-one-preserved c =
     record {
       threads =
           thread_next text c.loop-one.threads.items c.push.new.self.items c.in_ok-thread.thread c.loop-one.stack.items c.pop.new.self.items c.in-Some.one (threads_of text c.translated.new.state)
-              (threads_on text c.stacked-in-Some.new.stack.items) c.in-Some.ensures.items c.in_ok-thread.ensures (c.in_ok-stacked-2.ensures.stack text) _ c.in_ok-push.ensures.items c.loop-one.invariant.threads;
+          (threads_on text c.stacked-in-Some.new.stack.items) c.in-Some.ensures.items c.in_ok-thread.ensures (c.in_ok-stacked-2.ensures.stack text) _ c.in_ok-push.ensures.items c.loop-one.invariant.threads;
       none = c.in_ok-stacked-2.ensures.none;
     }
 
