@@ -36,7 +36,7 @@ fn exchange<'b>(
     mut parent: SlotPort<'b, AnyNumber>,
     mut child: SlotPort<'b, AnyNumber>,
 ) -> Option<Told>
-    requires { (z : TableId) × (⟦<SlotPort<'b, AnyNumber> as Port<AnyNumber>>⟧.state parent.entry ≡ core_state z AnyNumber (7 ∷ []) ((0, 1) ∷ []) 0 0) × (⟦<SlotPort<'b, AnyNumber> as Port<AnyNumber>>⟧.state child.entry ≡ core_state z AnyNumber (7 ∷ []) ((0, 1) ∷ []) 0 1) }
+    requires { (z : TableId) × (⟦<SlotPort<'b, AnyNumber> as Port<AnyNumber>>⟧.state parent ≡ core_state z AnyNumber (7 ∷ []) ((0, 1) ∷ []) 0 0) × (⟦<SlotPort<'b, AnyNumber> as Port<AnyNumber>>⟧.state child ≡ core_state z AnyNumber (7 ∷ []) ((0, 1) ∷ []) 0 1) }
 {
     let None = child.take(0) else { return None };
     let blank = parent.first(0);

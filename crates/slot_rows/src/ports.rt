@@ -9,7 +9,7 @@ pub fn both<'b, W: Work>(
     mut ports: Vec<SlotPort<'b, W>>,
 ) -> Option<(SlotPort<'b, W>, SlotPort<'b, W>)>
     requires { length ports.items ≡ 2 }
-    ensures { IfSome result (λ r. ports.items ≡ r.0 ∷ r.1 ∷ []) }
+    ensures { IfSome result (λ r. ports.entry.items ≡ r.0 ∷ r.1 ∷ []) }
 {
     let second = ports.pop()?;
     let first = ports.pop()?;

@@ -36,10 +36,11 @@ impl Work for Sums {
 fn ask<R: Wait, P: Port<Sums>>(rt: &R, port: &mut P, job: u64) -> u64
     requires { ParentIs (P.state port.old) 0 Held }
     ensures held { ParentIs (P.state port.new) 0 Held }
+    ensures root { (P.state port.new).root ≡ (P.state port.old).root }
     ensures board { IsOneBoard (P.state port.old) (P.state port.new) }
 {
     port.offer(0, job);
-    for _ in rt.forever() {
+    'waiting: for _ in rt.forever() {
         if let Some(reply) = port.collect(0) {
             return reply;
         }
@@ -84,7 +85,7 @@ fn answer_all<R: Wait, P: Port<Sums> + Drop>(rt: &R, mut port: P) -> P
     ensures { IsOneBoard (P.state port) (P.state result) }
 {
     let mut total = 0;
-    for _ in rt.forever() {
+    'serving: for _ in rt.forever() {
         if !answer(&mut port, &mut total) {
             if port.stopped() {
                 return port;
@@ -101,9 +102,9 @@ fn summed<'b, R: Threads + Wait + Sync>(
     parent: SlotPort<'b, Sums>,
     child: SlotPort<'b, Sums>,
 ) -> (u64, bool)
-    requires parent { ParentIs (⟦<SlotPort<'b, Sums> as Port<Sums>>⟧.state parent.entry) 0 Fresh × ((⟦<SlotPort<'b, Sums> as Port<Sums>>⟧.state parent.entry).root ≡ true) }
-    requires child { ChildIs (⟦<SlotPort<'b, Sums> as Port<Sums>>⟧.state child.entry) 0 false × (taken (⟦<SlotPort<'b, Sums> as Port<Sums>>⟧.state child.entry) 0 ≡ []) }
-    requires board { IsOneBoard (⟦<SlotPort<'b, Sums> as Port<Sums>>⟧.state parent.entry) (⟦<SlotPort<'b, Sums> as Port<Sums>>⟧.state child.entry) }
+    requires parent { ParentIs (⟦<SlotPort<'b, Sums> as Port<Sums>>⟧.state parent) 0 Fresh × ((⟦<SlotPort<'b, Sums> as Port<Sums>>⟧.state parent).root ≡ true) }
+    requires child { ChildIs (⟦<SlotPort<'b, Sums> as Port<Sums>>⟧.state child) 0 false × (taken (⟦<SlotPort<'b, Sums> as Port<Sums>>⟧.state child) 0 ≡ []) }
+    requires board { IsOneBoard (⟦<SlotPort<'b, Sums> as Port<Sums>>⟧.state parent) (⟦<SlotPort<'b, Sums> as Port<Sums>>⟧.state child) }
 {
     let ((reply, parent), child) = thread::join(
         rt,
