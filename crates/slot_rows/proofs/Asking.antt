@@ -1,6 +1,7 @@
 -- What a call of a port leaves as it was, and where the packet is after it.
 use Rattle.std.proofs.Common.{◌≡◌, ◌+◌, ◌*◌, ◌/◌, ◌%◌, ◌^◌, ℕ, List, [], ◌∷◌, ◌++◌, length, refl, sym, ap, ◌∙◌, subst, arith, Option, Some, None, Bool, true, false}
 use Rattle.std.specs.List.{sum}
+use Rattle.std.proofs.lemmas.List.Sums.{sum_by_push}
 use Rattle.std.proofs.Math.Nat.{div-add-mod, mul-add-mod_self_left}
 use Rattle.copy_slots.specs.declared.view.Place.{Place}
 use Rattle.copy_slots.specs.declared.view.Place.TheVariants.{Fresh, Held, Out}
@@ -12,8 +13,7 @@ use Rattle.copy_slots.proofs.Porting.{parent_moves, child_moves, child_here, chi
 use Rattle.slot_board.specs.Joined.{IsOneBoard}
 
 pub sum_more : (l : List ℕ) (x : ℕ) → sum (l ++ x ∷ []) ≡ sum l + x
-sum_more [] x = omega arith
-sum_more (y ∷ l) x = let h = sum_more l x in let a : sum (y ∷ (l ++ x ∷ [])) ≡ y + sum (l ++ x ∷ []) = refl in let b : sum (y ∷ l) ≡ y + sum l = refl in omega arith
+sum_more l x = sum_by_push (λ n. n) l x
 
 module _ {W Q : Type 0} where
   pub one_board_then : (s t u : PortState W Q) → IsOneBoard s t → IsOneBoard t u → IsOneBoard s u
@@ -22,6 +22,9 @@ module _ {W Q : Type 0} where
   -- only the ends change
   pub same_board : (s t : PortState W Q) (es : List (Ends Q)) → t ≡ (record s { ends = es }) → IsOneBoard s t
   same_board s t es e = (sym (ap (λ (r : PortState W Q). r.board) e), sym (ap (λ (r : PortState W Q). r.work) e), sym (ap (λ (r : PortState W Q). r.blanks) e))
+
+  pub root_kept : (s t : PortState W Q) (es : List (Ends Q)) → t ≡ (record s { ends = es }) → t.root ≡ s.root
+  root_kept s t es e = ap (λ (r : PortState W Q). r.root) e
 
   -- the parent's end changes, or the child's
   pub parent_after : (s t : PortState W Q) (f : Sender Q → Sender Q) (p p' : Place) → t ≡ (record s { ends = on_parent s.ends 0 f }) → ParentIs s 0 p → ((x : Sender Q) → x.place ≡ p → (f x).place ≡ p') → ParentIs t 0 p'

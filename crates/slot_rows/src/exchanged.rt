@@ -1,7 +1,7 @@
 //! One mailbox, with its ends in the ports of two cores.
-ghost use Rattle.std.specs.Prelude.{◌≡◌, ◌∷◌, [], true};
-ghost use Rattle.atomic_table.specs.Seated.{TableId};
-ghost use Rattle.slot_board.specs.Dealt.{core_state};
+ghost use Rattle.std.specs.Prelude.{◌≡◌, true};
+ghost use Rattle.slot_board.specs.Joined.{IsOneBoard};
+ghost use Rattle.slot_rows.specs.Pairs.{ArePair};
 
 use crate::ports::both;
 use copy_slots::{Port, Work};
@@ -28,15 +28,11 @@ impl Work for AnyNumber {
     ghost answers = { λ work k jobs reply. Unit {0} };
 }
 
-/// What the mailbox gives: the blank packet, the job, the reply, and whether each port stops before and after it is told to.
-type Told = ([u32; 3], [bool; 3]);
-
-/// None where a packet came too early or too late.
-fn exchange<'b>(
-    mut parent: SlotPort<'b, AnyNumber>,
-    mut child: SlotPort<'b, AnyNumber>,
-) -> Option<Told>
-    requires { (z : TableId) × (⟦<SlotPort<'b, AnyNumber> as Port<AnyNumber>>⟧.state parent ≡ core_state z AnyNumber (7 ∷ []) ((0, 1) ∷ []) 0 0) × (⟦<SlotPort<'b, AnyNumber> as Port<AnyNumber>>⟧.state child ≡ core_state z AnyNumber (7 ∷ []) ((0, 1) ∷ []) 0 1) }
+/// What the mailbox gives: the blank packet, the job and the reply. None where a packet came too early or too late.
+fn exchange<P: Port<AnyNumber>>(parent: &mut P, child: &mut P) -> Option<[u32; 3]>
+    requires { ArePair (P.state parent.old) (P.state child.old) }
+    ensures root { (P.state parent.new).root ≡ true }
+    ensures board { IsOneBoard (P.state parent.new) (P.state child.new) }
 {
     let None = child.take(0) else { return None };
     let blank = parent.first(0);
@@ -47,14 +43,25 @@ fn exchange<'b>(
     let job = child.take(0)?;
     child.answer(0, 9);
     let reply = parent.collect(0)?;
+    Some([blank, job, reply])
+}
+
+/// What the mailbox gives, and whether each port stops before and after it is told to.
+type Told = (Option<[u32; 3]>, [bool; 3]);
+
+/// Then the two ports are one.
+fn exchanged<'b>(
+    mut parent: SlotPort<'b, AnyNumber>,
+    mut child: SlotPort<'b, AnyNumber>,
+) -> Told
+    requires { ArePair (⟦<SlotPort<'b, AnyNumber> as Port<AnyNumber>>⟧.state parent) (⟦<SlotPort<'b, AnyNumber> as Port<AnyNumber>>⟧.state child) }
+{
+    let packets = exchange(&mut parent, &mut child);
     let before = child.stopped();
     parent.stop();
     let after = child.stopped();
     let mut whole = parent.join(child);
-    Some((
-        [blank, job, reply],
-        [before, after, whole.stopped()],
-    ))
+    (packets, [before, after, whole.stopped()])
 }
 
 fn told(alloc: Global) -> Result<Option<Told>, OutOfMemory> {
@@ -63,10 +70,10 @@ fn told(alloc: Global) -> Result<Option<Told>, OutOfMemory> {
     let Some((parent, child)) = both(ports) else {
         return Ok(None);
     };
-    Ok(exchange(parent, child))
+    Ok(Some(exchanged(parent, child)))
 }
 
-const WANTED: Told = ([7, 8, 9], [false, true, true]);
+const WANTED: Told = (Some([7, 8, 9]), [false, true, true]);
 
 #[test]
 fn hands_a_packet_to_and_fro(rt: HostRuntime) -> Result<(), Fail> {

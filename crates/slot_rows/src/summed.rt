@@ -1,8 +1,9 @@
 //! Two threads: one sends jobs, each after the reply to the one before, and the other answers with their sums.
-ghost use Rattle.std.specs.Prelude.{◌≡◌, ◌%◌, ◌^◌, ◌∷◌, [], sum, true, false};
-ghost use Rattle.copy_slots.specs.declared.view.Place.TheVariants.{Fresh, Held, Out};
+ghost use Rattle.std.specs.Prelude.{◌≡◌, ◌%◌, ◌^◌, sum, false};
+ghost use Rattle.copy_slots.specs.declared.view.Place.TheVariants.{Held};
 ghost use Rattle.copy_slots.specs.Ports.{ChildIs, ParentIs, taken};
 ghost use Rattle.slot_board.specs.Joined.{IsOneBoard};
+ghost use Rattle.slot_rows.specs.Pairs.{ArePair, IsAnswerer, IsAsker};
 
 use crate::ports::both;
 use copy_slots::{Port, Work};
@@ -53,8 +54,7 @@ const LAST: u64 = 1000;
 
 /// Sends 1, 2 and so on, and gives the last reply.
 fn ask_all<R: Wait, P: Port<Sums> + Drop>(rt: &R, mut port: P) -> (u64, P)
-    requires parent { ParentIs (P.state port) 0 Fresh }
-    requires root { (P.state port).root ≡ true }
+    requires { IsAsker (P.state port) }
     ensures { IsOneBoard (P.state port) (P.state result.1) }
 {
     let mut reply = port.first(0);
@@ -81,7 +81,7 @@ fn answer<P: Port<Sums>>(port: &mut P, total: &mut u64) -> bool
 
 /// Answers each job with the sum so far, until it is stopped.
 fn answer_all<R: Wait, P: Port<Sums> + Drop>(rt: &R, mut port: P) -> P
-    requires { ChildIs (P.state port) 0 false × (taken (P.state port) 0 ≡ []) }
+    requires { IsAnswerer (P.state port) }
     ensures { IsOneBoard (P.state port) (P.state result) }
 {
     let mut total = 0;
@@ -96,21 +96,37 @@ fn answer_all<R: Wait, P: Port<Sums> + Drop>(rt: &R, mut port: P) -> P
     unreachable!()
 }
 
+/// The last reply, and both ports after both threads.
+fn by_two<R: Threads + Wait + Sync, P: Port<Sums> + Drop + Send>(
+    rt: &R,
+    parent: P,
+    child: P,
+) -> ((u64, P), P)
+    requires { ArePair (P.state parent) (P.state child) }
+    ensures { IsOneBoard (P.state result.0.1) (P.state result.1) }
+{
+    thread::join(
+        rt,
+        move || -> (u64, P)
+            requires { IsAsker (P.state parent) }
+            ensures { IsOneBoard (P.state parent) (P.state result.1) }
+        { ask_all(rt, parent) },
+        move || -> P
+            requires { IsAnswerer (P.state child) }
+            ensures { IsOneBoard (P.state child) (P.state result) }
+        { answer_all(rt, child) },
+    )
+}
+
 /// The last reply, and whether the two ports are one that stops.
 fn summed<'b, R: Threads + Wait + Sync>(
     rt: &R,
     parent: SlotPort<'b, Sums>,
     child: SlotPort<'b, Sums>,
 ) -> (u64, bool)
-    requires parent { ParentIs (⟦<SlotPort<'b, Sums> as Port<Sums>>⟧.state parent) 0 Fresh × ((⟦<SlotPort<'b, Sums> as Port<Sums>>⟧.state parent).root ≡ true) }
-    requires child { ChildIs (⟦<SlotPort<'b, Sums> as Port<Sums>>⟧.state child) 0 false × (taken (⟦<SlotPort<'b, Sums> as Port<Sums>>⟧.state child) 0 ≡ []) }
-    requires board { IsOneBoard (⟦<SlotPort<'b, Sums> as Port<Sums>>⟧.state parent) (⟦<SlotPort<'b, Sums> as Port<Sums>>⟧.state child) }
+    requires { ArePair (⟦<SlotPort<'b, Sums> as Port<Sums>>⟧.state parent) (⟦<SlotPort<'b, Sums> as Port<Sums>>⟧.state child) }
 {
-    let ((reply, parent), child) = thread::join(
-        rt,
-        move || ask_all(rt, parent),
-        move || answer_all(rt, child),
-    );
+    let ((reply, parent), child) = by_two(rt, parent, child);
     (reply, parent.join(child).stopped())
 }
 
