@@ -1,15 +1,13 @@
 -- What a call of a port leaves as it was, and where the packet is after it.
-use Rattle.std.proofs.Common.{◌≡◌, ◌+◌, ◌*◌, ◌/◌, ◌%◌, ◌^◌, ℕ, List, [], ◌∷◌, ◌++◌, length, refl, sym, ap, ◌∙◌, subst, arith, Option, Some, None, Bool, true, false}
+use Rattle.std.proofs.Common.{◌≡◌, ◌+◌, ◌*◌, ◌/◌, ◌%◌, ℕ, List, [], ◌∷◌, ◌++◌, sym, ap, ◌∙◌, subst, arith, Option, Some, None, Bool}
 use Rattle.std.specs.List.{sum}
 use Rattle.std.proofs.lemmas.List.Sums.{sum_by_push}
 use Rattle.std.proofs.Math.Nat.{div-add-mod, mul-add-mod_self_left}
 use Rattle.copy_slots.specs.declared.view.Place.{Place}
-use Rattle.copy_slots.specs.declared.view.Place.TheVariants.{Fresh, Held, Out}
 use Rattle.copy_slots.specs.declared.view.Sender.{Sender}
 use Rattle.copy_slots.specs.declared.view.Taker.{Taker}
-use Rattle.copy_slots.specs.Mail.{sender_opened, sender_sent, sender_got, sender_looked, taker_took, taker_looked, taker_answered}
-use Rattle.copy_slots.specs.Ports.{Ends, PortState, parent_at, child_at, on_parent, on_child, taken_by, on_taker, IsParent, IsChild, ParentIs, ChildIs, after_first, after_offer, after_collect, after_take, after_answer, after_check, after_stop}
-use Rattle.copy_slots.proofs.Porting.{parent_moves, child_moves, child_here, child_on_parent}
+use Rattle.copy_slots.specs.Ports.{Ends, PortState, child_at, on_parent, on_child, taken_by, on_taker, IsChild, ParentIs, ChildIs}
+use Rattle.copy_slots.proofs.Porting.{parent_moves, child_moves, child_here}
 use Rattle.slot_board.specs.Joined.{IsOneBoard}
 
 pub sum_more : (l : List ℕ) (x : ℕ) → sum (l ++ x ∷ []) ≡ sum l + x
