@@ -13,7 +13,8 @@ pub record Ends (Q : Type 0) : Type 0 where
   pub parent : Option (Sender Q)
   pub child : Option (Taker Q)
 
--- `board`: the table that it shares with the ports of other cores; None where it has one alone. `blanks`: the packet of each mailbox at the start. `ends`: at k, the ends of mailbox k. `tells`: whose turn it is is told. `root`: it is the port of the root's core.
+-- `board`: the table that it shares with the ports of other cores; None where it has one alone. `blanks`: the packet of each mailbox at the
+-- start. `ends`: at k, the ends of mailbox k. `tells`: whose turn it is is told. `root`: it is the port of the root's core.
 -- `stored`: it stored the stop word. `stops`: the stop words that it loaded, in order
 pub record PortState (W Q : Type 0) : Type 0 where
   pub board : Option TableId

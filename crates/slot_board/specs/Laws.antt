@@ -1,5 +1,5 @@
--- What every order of steps on a table of mailboxes keeps. A state meets the rule at the start, each step of a seat that has the ends it needs
--- leads from a state that meets it to one that does, and a state that meets it has each of the rule's parts.
+-- What every order of steps on a table of mailboxes keeps. A state meets the rule at the start, each step of a seat that has the ends that it
+-- needs leads from a state that meets it to one that does, and a state that meets it has each of the rule's parts.
 use Rattle.std.specs.Prelude.{◌≡◌, ◌≢◌, ℕ, ◌+◌, ◌<◌, List, [], ◌∷◌, ◌++◌, map, length, slice_index, Option, Some, Bool, true, false}
 use mathlib.Core.Option.{none}
 use Rattle.atomic_table.specs.Table.{State, Me, step, Allows, Splits, Joins, opening}
