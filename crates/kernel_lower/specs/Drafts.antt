@@ -2,7 +2,7 @@
 use Rattle.std.specs.Prelude.{◌≡◌, ◌-◌, ℕ, suc, Bool, cond, Option, Some, None, List, [], ◌∷◌, ◌++◌, map, length, take, drop}
 use Rattle.forec_tree.specs.Terms.{Text, PlainFunction}
 use Rattle.forec_tree.specs.Rules.{bytes_of}
-use Rattle.forec_kernel.specs.Terms.{Stmt}
+use Rattle.forec_kernel.specs.Terms.{Stmt, Nop}
 use Rattle.forec_kernel.specs.Plain.{stmt}
 use Rattle.forec_kernel.specs.Shapes.{PlainThread}
 use Rattle.forec_kernel.specs.WellFormed.{count_up}
@@ -74,7 +74,7 @@ marked_from v [] = []
 marked_from v (m ∷ rest) = cond m (v ∷ marked_from (suc v) rest) (marked_from (suc v) rest)
 
 abbrev pub blank_bare : Bare
-blank_bare = Rattle.body_lower.specs.Views.blank
+blank_bare = record { parent = 0; par = 0; name = None; params = 0; words = 0; behind = 0; body = Nop }
 
 abbrev pub thread_body : Thread → Stmt
 thread_body t = stmt t.body
