@@ -146,8 +146,8 @@ call_lands text at name args l e h = subst (λ q. CallLands text (Invoke at name
 -- ---- a statement from where it lands
 
 pub inner_lands : (text : Text) (deep t : ℕ) (a b : Statement) (l : Landing) (k : Stmt) (old new : State) → SameKernel a b → CallLands text b (Some l) → l.calls ≤ deep →
-    Does (lower_statement text (called_within text (deep - l.calls)) t [] (next_of old) (statement l.statement.now)) k old new →
-    Does (lower_statement text (called_within text deep) t (seen old.scope) (next_of old) a) k old new
+    Does text (lower_statement text (called_within text (deep - l.calls)) t [] (next_of old) (statement l.statement.now)) k old new →
+    Does text (lower_statement text (called_within text deep) t (seen old.scope) (next_of old) a) k old new
 inner_lands text deep t a b l k old new s c h d =
     let z : deep ≡ l.calls + (deep - l.calls) = omega (arith, h) in
     does_as _ _ k old new
@@ -160,38 +160,38 @@ ok_then (Ok k) P Q f h = f k h
 ok_then (Err e) P Q f h = h
 
 -- a statement between two states that differ in their scopes
-pub does_shown : (F : List Slot → Lowered) (k : Stmt) (s : List Slot) (old one two new : State) → threads_of one ≡ threads_of old → s ≡ [] → Does (F s) k one two → next_of new ≡ next_of two → threads_of new ≡ threads_of two →
-    Does (F []) k old new
-does_shown F k s old one two new h e d n w =
-    let q : Does (F []) k one two = subst (λ x. Does (F x) k one two) e d in
+pub does_shown : (text : Text) (F : List Slot → Lowered) (k : Stmt) (s : List Slot) (old one two new : State) → threads_of text one ≡ threads_of text old → s ≡ [] → Does text (F s) k one two → next_of new ≡ next_of two → threads_of text new ≡ threads_of text two →
+    Does text (F []) k old new
+does_shown text F k s old one two new h e d n w =
+    let q : Does text (F []) k one two = subst (λ x. Does text (F x) k one two) e d in
     record { is = q.is; next = n ∙ q.next; threads = w ∙ (q.threads ∙ ap (λ x. x ++ map bare (F []).made) h) }
 
 -- ---- statements in boxes
 
-pub does_boxed : (l : Lowered) (k b : rust.Statement) → b ≡ k → {old : State} (new : State) → Does l (stmt k) old new → Does l (stmt b) old new
-does_boxed l k b e {old} new d = subst (λ x. Does l (stmt x) old new) (sym e) d
+pub does_boxed : {text : Text} (l : Lowered) (k b : rust.Statement) → b ≡ k → {old : State} (new : State) → Does text l (stmt k) old new → Does text l (stmt b) old new
+does_boxed {text} l k b e {old} new d = subst (λ x. Does text l (stmt x) old new) (sym e) d
 
 module _ (text : Text) (called : ℕ → InPlace) (t : ℕ) where
   pub if_does : (at : Place) (test : Term) (a : Statement) (b : Perhaps) (old one two : State) (k1 k2 : Stmt) (kt : kernel.Expr) → Same old.scope one.scope → Same one.scope two.scope →
-      Does (lower_statement text called t (seen old.scope) (next_of old) a) k1 old one → Does (lower_perhaps text called t (seen one.scope) (next_of one) b) k2 one two →
-      kt ≡ lower_term text (seen two.scope) test → Does (lower_statement text called t (seen old.scope) (next_of old) (If at test a b)) (kernel.If kt k1 k2) old two
+      Does text (lower_statement text called t (seen old.scope) (next_of old) a) k1 old one → Does text (lower_perhaps text called t (seen one.scope) (next_of one) b) k2 one two →
+      kt ≡ lower_term text (seen two.scope) test → Does text (lower_statement text called t (seen old.scope) (next_of old) (If at test a b)) (kernel.If kt k1 k2) old two
   if_does at test a b old one two k1 k2 kt g h d e v =
       let l = lower_statement text called t (seen old.scope) (next_of old) a in
       let s1 = same_seen old.scope one.scope g in
       let s2 = same_seen one.scope two.scope h ∙ s1 in
       let m = lower_perhaps text called t (seen old.scope) l.next b in
-      let q : Does m k2 one two = does_as _ _ k2 one two (ap (λ s. lower_perhaps text called t s (next_of one) b) s1 ∙ ap (λ n. lower_perhaps text called t (seen old.scope) n b) d.next) e in
+      let q : Does text m k2 one two = does_as _ _ k2 one two (ap (λ s. lower_perhaps text called t s (next_of one) b) s1 ∙ ap (λ n. lower_perhaps text called t (seen old.scope) n b) d.next) e in
       record {
         is =
             ap (λ x. kernel.If x k1 k2) (v ∙ ap (λ s. lower_term text s test) s2)
             ∙ (ap (λ x. kernel.If (lower_term text (seen old.scope) test) x k2) d.is ∙ ap (λ x. kernel.If (lower_term text (seen old.scope) test) l.stmt x) q.is);
         next = q.next;
-        threads = threads_two (threads_of old) (threads_of one) (threads_of two) l.made m.made d.threads q.threads;
+        threads = threads_two (threads_of text old) (threads_of text one) (threads_of text two) l.made m.made d.threads q.threads;
       }
 
   pub while_does : (at : Place) (test : Term) (bound : Option Number) (body : Statement) (old new : State) (kb : Stmt) (kt : kernel.Expr) (turns : Option ℕ) → Same old.scope new.scope →
-      Does (lower_statement text called t (seen old.scope) (next_of old) body) kb old new → kt ≡ lower_term text (seen new.scope) test → turns ≡ bound_of bound →
-      Does (lower_statement text called t (seen old.scope) (next_of old) (While at test bound body)) (kernel.While kt turns kb at) old new
+      Does text (lower_statement text called t (seen old.scope) (next_of old) body) kb old new → kt ≡ lower_term text (seen new.scope) test → turns ≡ bound_of bound →
+      Does text (lower_statement text called t (seen old.scope) (next_of old) (While at test bound body)) (kernel.While kt turns kb at) old new
   while_does at test bound body old new kb kt turns g d v w =
       let l = lower_statement text called t (seen old.scope) (next_of old) body in
       record {
@@ -203,8 +203,8 @@ module _ (text : Text) (called : ℕ → InPlace) (t : ℕ) where
       }
 
   pub abort_does : (at : Place) (weak immediate : Bool) (test : Term) (body : Statements) (old new : State) (kb : Stmt) (kt : kernel.Expr) → Same old.scope new.scope →
-      Does (as_one (lower_list text called t (seen old.scope) (next_of old) body)) kb old new → kt ≡ lower_term text (seen new.scope) test →
-      Does (lower_statement text called t (seen old.scope) (next_of old) (Abort at weak immediate test body)) (kernel.Enter weak immediate kt kb) old new
+      Does text (as_one (lower_list text called t (seen old.scope) (next_of old) body)) kb old new → kt ≡ lower_term text (seen new.scope) test →
+      Does text (lower_statement text called t (seen old.scope) (next_of old) (Abort at weak immediate test body)) (kernel.Enter weak immediate kt kb) old new
   abort_does at weak immediate test body old new kb kt g d v =
       record {
         is = ap (λ x. kernel.Enter weak immediate x kb) (v ∙ ap (λ s. lower_term text s test) (same_seen old.scope new.scope g)) ∙ ap (kernel.Enter weak immediate (lower_term text (seen old.scope) test)) d.is;

@@ -6,3 +6,5 @@ pub mod Doing
 pub mod Numbered
 pub mod Going
 pub mod Landed
+pub mod Pended
+pub mod Adding

@@ -1,3 +1,4 @@
+pub mod Additions
 pub mod Landings
 pub mod Numbering
 pub mod Trail

@@ -2,9 +2,9 @@
 //
 // `fuel` is how many levels of the kernel may stand in one another: each takes a part of the stack, of
 // which there is only so much. Groups and functions of one statement add no level, so they are gone
-// through in a loop.
+// through in a loop; and the bodies of branches, which are threads of their own, are left for later.
 
-ghost use Rattle.std.specs.Prelude.{◌≡◌, ◌≤◌, ◌-◌, ◌∷◌, [], Some, map, IfOk, OnOk};
+ghost use Rattle.std.specs.Prelude.{◌≡◌, ◌≤◌, ◌-◌, [], Some, map, IfOk, OnOk};
 ghost use Rattle.forec_tree.specs.Plain as plain;
 ghost use Rattle.forec_tree.specs.Terms as tree;
 ghost use Rattle.forec_tree.specs.Turns.{inferred};
@@ -12,32 +12,31 @@ ghost use Rattle.forec_tree.specs.Plain.{perhaps_of};
 ghost use Rattle.forec_kernel.specs.Plain as kernel;
 ghost use Rattle.text_kernel.specs.Lowering as lowering;
 ghost use Rattle.body_lower.specs.Landings.{called_within};
-ghost use Rattle.body_lower.specs.Views.{OneText, context_text, seen, Kept, Same, next_of, Does, Done, DonePerhaps, DoneList, DoneAsOne, DoneBranches};
+ghost use Rattle.body_lower.specs.Views.{OneText, context_text, seen, Kept, Same, next_of, Does, Done, DonePerhaps, DoneList, DoneAsOne};
 
 use crate::assign::{assign, lower_locals, set_params};
+use crate::branches::branches;
 use crate::context::Context;
 use crate::landing::innermost;
 use crate::loops::{after_start, bound_of, optional_test, or_inferred, then_step};
 use crate::parts::{boxed, count, sequence, sum};
 use crate::state::State;
-use crate::term::{lower_term, lower_terms};
-use crate::threads::{Begun, begin, declare_params, finish, params_of};
+use crate::term::lower_term;
 use forec_base::{OutOfMemory, Place};
-use forec_kernel::{Launch, Statement};
+use forec_kernel::Statement;
 use forec_tree::{Branch, Expr, Function, Local, Name, Number, Stmt, StmtKind};
 
-/// How many levels of the kernel may stand in one another, those of a thread below counted behind the
-/// levels round its `par`. Past it there is no memory: each takes up to 5 KB of stack, so the caller has
-/// 64 MB of it.
+/// How many levels of the kernel may stand in one another in a body. Past it there is no memory: each
+/// takes up to 5 KB of stack, so the caller has 64 MB of it.
 pub const FUEL: u32 = 8192;
 
 /// A statement in the scope that stands. Only the locals of a declaration stay in it.
 #[cycle(body)]
-pub fn statement(
-    context: &Context<'_, '_>,
+pub fn statement<'p>(
+    context: &Context<'_, 'p>,
     fuel: u32,
-    state: &mut State,
-    s: &Stmt,
+    state: &mut State<'p>,
+    s: &'p Stmt,
 ) -> Result<Statement, OutOfMemory>
     requires { OneText context.now.source.now }
     ensures does { IfOk result (λ k. Done context.now (plain.statement s.now) (kernel.stmt k) state.old state.new) }
@@ -58,11 +57,11 @@ pub fn statement(
 
 /// A statement by its kind. Each takes a level of the kernel, and so one of `fuel`.
 #[cycle(body)]
-fn by_kind(
-    context: &Context<'_, '_>,
+fn by_kind<'p>(
+    context: &Context<'_, 'p>,
     fuel: u32,
-    state: &mut State,
-    s: &Stmt,
+    state: &mut State<'p>,
+    s: &'p Stmt,
 ) -> Result<Statement, OutOfMemory>
     requires { OneText context.now.source.now }
     ensures does { IfOk result (λ k. Done context.now (plain.statement s.now) (kernel.stmt k) state.old state.new) }
@@ -129,7 +128,7 @@ fn by_kind(
         }
         StmtKind::Par { branches: all } => {
             let all = all.as_slice();
-            let k = par(context, fuel, s.place, state, all)?;
+            let k = par(context, s.place, state, all)?;
             Ok(k)
         }
         StmtKind::Abort {
@@ -146,10 +145,10 @@ fn by_kind(
 }
 
 /// A declaration.
-fn declare(
-    context: &Context<'_, '_>,
+fn declare<'p>(
+    context: &Context<'_, 'p>,
     place: Place,
-    state: &mut State,
+    state: &mut State<'p>,
     locals: &[Local],
 ) -> Result<Statement, OutOfMemory>
     ensures does { IfOk result (λ k. Done context.now (tree.Declare place (map plain.declared locals.now)) (kernel.stmt k) state.old state.new) }
@@ -169,14 +168,14 @@ fn declare(
 
 /// An `if`.
 #[cycle(body)]
-fn either(
-    context: &Context<'_, '_>,
+fn either<'p>(
+    context: &Context<'_, 'p>,
     fuel: u32,
     place: Place,
-    state: &mut State,
+    state: &mut State<'p>,
     test: &Expr,
-    yes: &Stmt,
-    no: &Option<Box<Stmt>>,
+    yes: &'p Stmt,
+    no: &'p Option<Box<Stmt>>,
 ) -> Result<Statement, OutOfMemory>
     requires { OneText context.now.source.now }
     ensures does { IfOk result (λ k. Done context.now (tree.If place (plain.term test.now) (plain.statement yes.now) (perhaps_of no.now)) (kernel.stmt k) state.old state.new) }
@@ -190,14 +189,14 @@ fn either(
 
 /// A `while`.
 #[cycle(body)]
-fn turning(
-    context: &Context<'_, '_>,
+fn turning<'p>(
+    context: &Context<'_, 'p>,
     fuel: u32,
     place: Place,
-    state: &mut State,
+    state: &mut State<'p>,
     test: &Expr,
     bound: Option<Number>,
-    body: &Stmt,
+    body: &'p Stmt,
 ) -> Result<Statement, OutOfMemory>
     requires { OneText context.now.source.now }
     ensures does { IfOk result (λ k. Done context.now (tree.While place (plain.term test.now) bound (plain.statement body.now)) (kernel.stmt k) state.old state.new) }
@@ -216,17 +215,17 @@ fn turning(
 
 /// A `for`, with its turns by its bound or its form.
 #[cycle(body)]
-fn heading(
-    context: &Context<'_, '_>,
+fn heading<'p>(
+    context: &Context<'_, 'p>,
     fuel: u32,
     place: Place,
-    state: &mut State,
+    state: &mut State<'p>,
     turns: Option<u32>,
-    start: &Option<Box<Stmt>>,
+    start: &'p Option<Box<Stmt>>,
     test: &Option<Expr>,
-    step: &Option<Box<Stmt>>,
+    step: &'p Option<Box<Stmt>>,
     bound: Option<Number>,
-    body: &Stmt,
+    body: &'p Stmt,
 ) -> Result<Statement, OutOfMemory>
     requires text { OneText context.now.source.now }
     requires turns { turns ≡ lowering.or_inferred (lowering.bound_of bound) (inferred (context_text context.now)
@@ -255,11 +254,11 @@ fn heading(
 
 /// A call of a void function.
 #[cycle(body)]
-fn call(
-    context: &Context<'_, '_>,
+fn call<'p>(
+    context: &Context<'_, 'p>,
     fuel: u32,
     place: Place,
-    state: &mut State,
+    state: &mut State<'p>,
     name: Name,
     args: &[Expr],
 ) -> Result<Statement, OutOfMemory>
@@ -284,13 +283,11 @@ fn call(
 }
 
 /// A `par`.
-#[cycle(body)]
-fn par(
-    context: &Context<'_, '_>,
-    fuel: u32,
+fn par<'p>(
+    context: &Context<'_, 'p>,
     place: Place,
-    state: &mut State,
-    all: &[Branch],
+    state: &mut State<'p>,
+    all: &'p [Branch],
 ) -> Result<Statement, OutOfMemory>
     requires { OneText context.now.source.now }
     ensures does { IfOk result (λ k. Done context.now (tree.Par place (plain.branches all.now)) (kernel.stmt k) state.old state.new) }
@@ -301,21 +298,21 @@ fn par(
     }
     let par = state.par;
     state.par = sum(par, 1)?;
-    let branches = branches(context, fuel, par, state, all)?;
+    let branches = branches(context, par, state, all)?;
     Ok(Statement::Par { branches })
 }
 
 /// An abort.
 #[cycle(body)]
-fn abort(
-    context: &Context<'_, '_>,
+fn abort<'p>(
+    context: &Context<'_, 'p>,
     fuel: u32,
     place: Place,
-    state: &mut State,
+    state: &mut State<'p>,
     weak: bool,
     immediate: bool,
     test: &Expr,
-    body: &[Stmt],
+    body: &'p [Stmt],
 ) -> Result<Statement, OutOfMemory>
     requires { OneText context.now.source.now }
     ensures does { IfOk result (λ k. Done context.now (tree.Abort place weak immediate (plain.term test.now) (plain.statements body.now)) (kernel.stmt k) state.old state.new) }
@@ -334,11 +331,11 @@ fn abort(
 
 /// A statement in a scope of its own, from where it lands.
 #[cycle(body)]
-fn inner(
-    context: &Context<'_, '_>,
+fn inner<'p>(
+    context: &Context<'_, 'p>,
     fuel: u32,
-    state: &mut State,
-    s: &Stmt,
+    state: &mut State<'p>,
+    s: &'p Stmt,
 ) -> Result<Statement, OutOfMemory>
     requires { OneText context.now.source.now }
     ensures does { IfOk result (λ k. Done context.now (plain.statement s.now) (kernel.stmt k) state.old state.new) }
@@ -358,16 +355,16 @@ fn inner(
 
 /// The statement to which so many calls come. It sees global names alone.
 #[cycle(body)]
-fn landed(
-    context: &Context<'_, '_>,
+fn landed<'p>(
+    context: &Context<'_, 'p>,
     fuel: u32,
-    state: &mut State,
+    state: &mut State<'p>,
     calls: usize,
-    s: &Stmt,
+    s: &'p Stmt,
 ) -> Result<Statement, OutOfMemory>
     requires text { OneText context.now.source.now }
     requires calls { calls ≤ context.now.deep }
-    ensures does { IfOk result (λ k. Does (lowering.lower_statement (context_text context.now) (called_within (context_text context.now) (context.now.deep - calls))
+    ensures does { IfOk result (λ k. Does (context_text context.now) (lowering.lower_statement (context_text context.now) (called_within (context_text context.now) (context.now.deep - calls))
         context.now.owner [] (next_of state.old) (plain.statement s.now)) (kernel.stmt k) state.old state.new) }
     ensures same { OnOk result (Same state.old.scope state.new.scope) }
 {
@@ -385,11 +382,11 @@ fn landed(
 
 /// A statement in a scope of its own, in a box.
 #[cycle(body)]
-fn boxed_inner(
-    context: &Context<'_, '_>,
+fn boxed_inner<'p>(
+    context: &Context<'_, 'p>,
     fuel: u32,
-    state: &mut State,
-    s: &Stmt,
+    state: &mut State<'p>,
+    s: &'p Stmt,
 ) -> Result<Box<Statement>, OutOfMemory>
     requires { OneText context.now.source.now }
     ensures does { IfOk result (λ k. Done context.now (plain.statement s.now) (kernel.stmt k.value) state.old state.new) }
@@ -401,11 +398,11 @@ fn boxed_inner(
 
 /// An optional statement in a scope of its own, in a box; a missing one is `nop`.
 #[cycle(body)]
-fn optional_inner(
-    context: &Context<'_, '_>,
+fn optional_inner<'p>(
+    context: &Context<'_, 'p>,
     fuel: u32,
-    state: &mut State,
-    s: &Option<Box<Stmt>>,
+    state: &mut State<'p>,
+    s: &'p Option<Box<Stmt>>,
 ) -> Result<Box<Statement>, OutOfMemory>
     requires { OneText context.now.source.now }
     ensures does { IfOk result (λ k. DonePerhaps context.now (perhaps_of s.now) (kernel.stmt k.value) state.old state.new) }
@@ -419,11 +416,11 @@ fn optional_inner(
 
 /// An optional statement in the scope that stands, in a box; a missing one is `nop`.
 #[cycle(body)]
-fn optional_statement(
-    context: &Context<'_, '_>,
+fn optional_statement<'p>(
+    context: &Context<'_, 'p>,
     fuel: u32,
-    state: &mut State,
-    s: &Option<Box<Stmt>>,
+    state: &mut State<'p>,
+    s: &'p Option<Box<Stmt>>,
 ) -> Result<Box<Statement>, OutOfMemory>
     requires { OneText context.now.source.now }
     ensures does { IfOk result (λ k. DonePerhaps context.now (perhaps_of s.now) (kernel.stmt k.value) state.old state.new) }
@@ -441,11 +438,11 @@ fn optional_statement(
 
 /// Statements in the scope that stands.
 #[cycle(body)]
-fn list(
-    context: &Context<'_, '_>,
+fn list<'p>(
+    context: &Context<'_, 'p>,
     fuel: u32,
-    state: &mut State,
-    body: &[Stmt],
+    state: &mut State<'p>,
+    body: &'p [Stmt],
 ) -> Result<Vec<Statement>, OutOfMemory>
     requires { OneText context.now.source.now }
     ensures does { IfOk result (λ k. DoneList context.now (seen state.old.scope) (plain.statements body.now) (kernel.stmts k.items) state.old state.new) }
@@ -461,11 +458,11 @@ fn list(
 
 /// Statements in a scope of their own.
 #[cycle(body)]
-fn block(
-    context: &Context<'_, '_>,
+fn block<'p>(
+    context: &Context<'_, 'p>,
     fuel: u32,
-    state: &mut State,
-    body: &[Stmt],
+    state: &mut State<'p>,
+    body: &'p [Stmt],
 ) -> Result<Statement, OutOfMemory>
     requires { OneText context.now.source.now }
     ensures does { IfOk result (λ k. DoneAsOne context.now (seen state.old.scope) (plain.statements body.now) (kernel.stmt k) state.old state.new) }
@@ -481,18 +478,17 @@ fn block(
 ///
 /// # Errors
 ///
-/// Want of memory, also where more than `fuel` levels of the kernel stand in one another, with those of a
-/// thread below behind the levels round its `par`.
+/// Want of memory, also where more than `fuel` levels of the kernel stand in one another.
 #[cycle(body)]
-pub fn in_place(
-    context: &Context<'_, '_>,
+pub fn in_place<'p>(
+    context: &Context<'_, 'p>,
     fuel: u32,
     first: u32,
-    state: &mut State,
+    state: &mut State<'p>,
     id: u32,
 ) -> Result<Statement, OutOfMemory>
     requires { OneText context.now.source.now }
-    ensures does { IfOk result (λ k. Does (called_within (context_text context.now) context.now.deep id first context.now.owner (next_of state.old)) (kernel.stmt k) state.old state.new) }
+    ensures does { IfOk result (λ k. Does (context_text context.now) (called_within (context_text context.now) context.now.deep id first context.now.owner (next_of state.old)) (kernel.stmt k) state.old state.new) }
     ensures same { OnOk result (Same state.old.scope state.new.scope) }
 {
     if context.deep == 0 {
@@ -517,23 +513,24 @@ pub fn in_place(
 ///
 /// # Errors
 ///
-/// Want of memory, also where more than `fuel` levels of the kernel stand in one another, with those of a
-/// thread below behind the levels round its `par`.
+/// Want of memory, also where more than `fuel` levels of the kernel stand in one another.
 #[cycle(body)]
-pub fn in_function(
-    context: &Context<'_, '_>,
+pub fn in_function<'p>(
+    context: &Context<'_, 'p>,
     fuel: u32,
     first: u32,
-    state: &mut State,
-    function: &Function,
+    state: &mut State<'p>,
+    function: &'p Function,
 ) -> Result<Statement, OutOfMemory>
     requires { OneText context.now.source.now }
-    ensures does { IfOk result (λ k. Does (lowering.body_in_place (context_text context.now) (called_within (context_text context.now) context.now.deep)
+    ensures does { IfOk result (λ k. Does (context_text context.now) (lowering.body_in_place (context_text context.now) (called_within (context_text context.now) context.now.deep)
         (Some (plain.plain_function function.now)) first context.now.owner (next_of state.old)) (kernel.stmt k) state.old state.new) }
     ensures same { OnOk result (Same state.old.scope state.new.scope) }
 {
     let base = state.scope.hide();
-    declare_params(state, first, function.params.as_slice())?;
+    state
+        .scope
+        .declare_params(first, function.params.as_slice())?;
     let body = function.body.as_slice();
     let list = list(context, fuel, state, body)?;
     state.scope.show(base);
@@ -541,12 +538,11 @@ pub fn in_function(
 }
 
 /// A block that is a branch: it sees global names alone.
-#[cycle(body)]
-fn hidden(
-    context: &Context<'_, '_>,
+pub fn hidden<'p>(
+    context: &Context<'_, 'p>,
     fuel: u32,
-    state: &mut State,
-    body: &[Stmt],
+    state: &mut State<'p>,
+    body: &'p [Stmt],
 ) -> Result<Statement, OutOfMemory>
     requires { OneText context.now.source.now }
     ensures does { IfOk result (λ k. DoneAsOne context.now [] (plain.statements body.now) (kernel.stmt k) state.old state.new) }
@@ -556,128 +552,4 @@ fn hidden(
     let list = list(context, fuel, state, body)?;
     state.scope.show(base);
     Ok(sequence(list))
-}
-
-/// A branch that calls a function.
-#[cycle(body)]
-fn calling(
-    context: &Context<'_, '_>,
-    fuel: u32,
-    par: u32,
-    state: &mut State,
-    name: Name,
-    args: &[Expr],
-) -> Result<Launch, OutOfMemory>
-    requires { OneText context.now.source.now }
-    ensures does { IfOk result (λ k. DoneBranches context.now par (tree.by_call name (plain.terms args.now) tree.no_branches) (kernel.branch k ∷ []) state.old state.new) }
-    ensures same { OnOk result (Same state.old.scope state.new.scope) }
-{
-    let slot = state.slot;
-    let params = params_of(context.source, name.id)?;
-    let taken = count(args.len())?;
-    let thread = begin(state)?;
-    state.slot = taken;
-    let inside = Context {
-        alloc: context.alloc,
-        source: context.source,
-        deep: context.deep,
-        owner: thread,
-    };
-    let body = in_place(&inside, fuel, 0, state, name.id)?;
-    let body = boxed(context.alloc, body)?;
-    let begun = Begun {
-        number: thread,
-        parent: context.owner,
-        par,
-        name: Some(name.id),
-        params,
-    };
-    finish(state, begun, body, slot)?;
-    let list = lower_terms(context.alloc, &context.source.globals, &state.scope, args)?;
-    Ok(Launch { thread, args: list })
-}
-
-/// A branch that is a block.
-#[cycle(body)]
-fn blocking(
-    context: &Context<'_, '_>,
-    fuel: u32,
-    par: u32,
-    place: Place,
-    state: &mut State,
-    body: &[Stmt],
-) -> Result<Launch, OutOfMemory>
-    requires { OneText context.now.source.now }
-    ensures does { IfOk result (λ k. DoneBranches context.now par (tree.by_group place (plain.statements body.now) tree.no_branches) (kernel.branch k ∷ []) state.old state.new) }
-    ensures same { OnOk result (Same state.old.scope state.new.scope) }
-{
-    let slot = state.slot;
-    let thread = begin(state)?;
-    state.slot = 0;
-    let inside = Context {
-        alloc: context.alloc,
-        source: context.source,
-        deep: context.deep,
-        owner: thread,
-    };
-    let body = hidden(&inside, fuel, state, body)?;
-    let body = boxed(context.alloc, body)?;
-    let begun = Begun {
-        number: thread,
-        parent: context.owner,
-        par,
-        name: None,
-        params: 0,
-    };
-    finish(state, begun, body, slot)?;
-    let args = Vec::new(context.alloc);
-    Ok(Launch { thread, args })
-}
-
-/// A branch of a `par`.
-#[cycle(body)]
-fn branch(
-    context: &Context<'_, '_>,
-    fuel: u32,
-    par: u32,
-    state: &mut State,
-    one: &Branch,
-) -> Result<Launch, OutOfMemory>
-    requires { OneText context.now.source.now }
-    ensures does { IfOk result (λ k. DoneBranches context.now par (plain.branches (one.now ∷ [])) (kernel.branch k ∷ []) state.old state.new) }
-    ensures same { OnOk result (Same state.old.scope state.new.scope) }
-{
-    match one {
-        Branch::Call { name, args } => {
-            let args = args.as_slice();
-            let k = calling(context, fuel, par, state, *name, args)?;
-            Ok(k)
-        }
-        Branch::Group { place, body } => {
-            let body = body.as_slice();
-            let k = blocking(context, fuel, par, *place, state, body)?;
-            Ok(k)
-        }
-    }
-}
-
-/// The branches of a `par`.
-#[cycle(body)]
-fn branches(
-    context: &Context<'_, '_>,
-    fuel: u32,
-    par: u32,
-    state: &mut State,
-    all: &[Branch],
-) -> Result<Vec<Launch>, OutOfMemory>
-    requires { OneText context.now.source.now }
-    ensures does { IfOk result (λ k. DoneBranches context.now par (plain.branches all.now) (map kernel.branch k.items) state.old state.new) }
-    ensures same { OnOk result (Same state.old.scope state.new.scope) }
-{
-    let mut launches = Vec::new(context.alloc);
-    for one in all {
-        let launch = branch(context, fuel, par, state, one)?;
-        launches.push(launch)?;
-    }
-    Ok(launches)
 }

@@ -1,8 +1,10 @@
 //! From the statements of a function's body to those of the kernel.
 #![tactic(auto)]
 
+mod added;
 mod assign;
 mod body;
+mod branches;
 mod context;
 mod globals;
 mod landing;
@@ -22,3 +24,4 @@ pub use parts::{count, sum};
 pub use scope::Scope;
 pub use source::Source;
 pub use state::{State, Thread};
+pub use threads::threads_below;

@@ -42,7 +42,7 @@ pub fn or_inferred(bound: Option<u32>, inferred: Option<u32>) -> Option<u32>
 pub fn optional_test(
     alloc: Global,
     source: &Source<'_>,
-    state: &State,
+    state: &State<'_>,
     test: &Option<Expr>,
 ) -> Result<Box<Expression>, OutOfMemory>
     ensures { IfOk result (λ k. kernel.expr k.value ≡ lowering.optional_test (text_of source.now.globals.index) (seen state.now.scope) (plain.optional_term test.now)) }

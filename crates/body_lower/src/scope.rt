@@ -4,8 +4,10 @@ ghost use Rattle.std.specs.Prelude.{◌≡◌, ◌≤◌, ◌++◌, ◌∷◌, [
 ghost use Rattle.body_lower.specs.Trail.{id_of};
 ghost use Rattle.text_kernel.specs.Bindings as bindings;
 
+use crate::parts::sum;
 use crate::trail::Trail;
 use forec_base::OutOfMemory;
+use forec_tree::Name;
 use std::alloc::Global;
 use text_kernel::Slot;
 
@@ -61,6 +63,23 @@ impl Scope {
         if let Err(e) = self.trail.push(slot.id) {
             let _ = self.slots.pop();
             return Err(e);
+        }
+        Ok(())
+    }
+
+    /// Declares parameters, whose slots begin at `first`.
+    pub fn declare_params(&mut self, first: u32, params: &[Name]) -> Result<(), OutOfMemory>
+        ensures seen { OnOk result (seen self.new ≡ seen self.old ++ bindings.params_at first params.now) }
+        ensures kept { OnOk result (Kept self.old self.new) }
+    {
+        let mut at = first;
+        for p in params {
+            self.declare(Slot {
+                id: p.id,
+                slot: at,
+                size: None,
+            })?;
+            at = sum(at, 1)?;
         }
         Ok(())
     }

@@ -1,27 +1,31 @@
 // The program that is translated.
 
-ghost use Rattle.std.specs.Prelude.{◌≡◌, ℕ, None, Some, option_map, map, IfOk};
+ghost use Rattle.std.specs.Prelude.{◌≡◌, ◌∷◌, [], ℕ, None, Some, option_map, map, IfOk};
 ghost use Rattle.forec_tree.specs.Plain as plain;
 ghost use Rattle.forec_tree.specs.Pauses as pauses;
 ghost use Rattle.forec_tree.specs.Faults.{Leads};
 ghost use Rattle.loop_check.specs.Views.{text_of};
 ghost use Rattle.loop_check.specs.Known.{FunctionOf};
+ghost use Rattle.body_lower.specs.Additions.{BranchesAdd};
 ghost use Rattle.body_lower.specs.Landings.{CallLands};
 ghost use Rattle.body_lower.specs.Views.{OneText};
 
+use crate::added::{Added, additions, of_branch};
 use crate::globals::Globals;
 use crate::landing::{Landing, landings, lands};
 use forec_base::OutOfMemory;
-use forec_tree::{Function, Item, Stmt};
+use forec_tree::{Branch, Function, Item, Stmt};
 use loop_check::{Pauses, order, read_calls};
 use std::alloc::Global;
 
-/// A program, with what its names stand for, the turns of its loops, and where its calls land.
+/// A program, with what its names stand for, the turns of its loops, where its calls land, and how many
+/// threads and `par`s they add.
 #[derive(Drop)]
 pub struct Source<'p> {
     pub globals: Globals<'p>,
     pub pauses: Pauses<'p>,
     pub landings: Vec<Option<Landing<'p>>>,
+    pub added: Vec<Option<Added>>,
 }
 
 impl<'p> Source<'p> {
@@ -40,10 +44,12 @@ impl<'p> Source<'p> {
         let calls = read_calls(alloc, &globals.index)?;
         let order = order(alloc, &calls.functions, &calls.lists)?;
         let landings = landings(alloc, &globals.index, &order)?;
+        let added = additions(alloc, &globals.index, &order)?;
         Ok(Source {
             globals,
             pauses,
             landings,
+            added,
         })
     }
 
@@ -63,5 +69,18 @@ impl<'p> Source<'p> {
         ensures { CallLands (text_of self.now.globals.index) (plain.statement s.now) result }
     {
         lands(&self.globals.index, &self.landings, s)
+    }
+
+    /// How many threads and `par`s a branch adds.
+    ///
+    /// # Errors
+    ///
+    /// Want of memory, also where there are more than 32 bits hold.
+    pub fn added_by(&self, one: &Branch) -> Result<Added, OutOfMemory>
+        requires { OneText self.now }
+        ensures { IfOk result (BranchesAdd (text_of self.now.globals.index) (plain.branches (one.now ∷ []))) }
+    {
+        let added = of_branch(&self.added, one)?;
+        Ok(added)
     }
 }

@@ -2,6 +2,7 @@
 
 use crate::scope::Scope;
 use forec_kernel::Statement;
+use forec_tree::Branch;
 use std::alloc::Global;
 
 /// A thread below: its parent, the `par` whose branch it is, the name of its function, how many of its
@@ -18,32 +19,47 @@ pub struct Thread {
     pub body: Statement,
 }
 
-/// The locals that are seen, the next free slot of the thread, the number of the next `par`, and the
-/// threads below so far.
-#[derive(Drop)]
-pub struct State {
-    pub scope: Scope,
-    pub slot: u32,
+/// A branch whose body is still to be translated: the number of its thread, its parent, the `par` whose
+/// branch it is, the number of the first `par` in it, and how many calls may stand in one another there.
+#[derive(Clone, Copy)]
+pub struct Pending<'p> {
+    pub number: u32,
+    pub parent: u32,
     pub par: u32,
-    pub threads: Vec<Thread>,
+    pub first: u32,
+    pub deep: usize,
+    pub branch: &'p Branch,
 }
 
-impl State {
+/// The locals that are seen, the next free slot of the thread, the numbers of the next thread and the
+/// next `par`, and the branches so far whose bodies are still to be translated.
+#[derive(Drop)]
+pub struct State<'p> {
+    pub scope: Scope,
+    pub slot: u32,
+    pub thread: u32,
+    pub par: u32,
+    pub pending: Vec<Pending<'p>>,
+}
+
+impl<'p> State<'p> {
     ghost use Rattle.std.specs.Prelude.{◌≡◌, []};
     ghost use Rattle.body_lower.specs.Views.{seen};
 
     /// No locals, no slot taken, no thread below.
-    pub fn new(alloc: Global) -> State
+    pub fn new(alloc: Global) -> State<'p>
         ensures seen { seen result.scope ≡ [] }
         ensures slot { result.slot ≡ 0 }
+        ensures thread { result.thread ≡ 1 }
         ensures par { result.par ≡ 0 }
-        ensures threads { result.threads.items ≡ [] }
+        ensures pending { result.pending.items ≡ [] }
     {
         State {
             scope: Scope::new(alloc),
             slot: 0,
+            thread: 1,
             par: 0,
-            threads: Vec::new(alloc),
+            pending: Vec::new(alloc),
         }
     }
 }

@@ -1,115 +1,153 @@
-// Threads below, and the parameters of functions that are put in place.
+// The threads below thread 0: the body of each is translated by itself, in the order of their numbers.
 
-ghost use Rattle.std.specs.Prelude.{◌≡◌, ◌≤◌, ◌++◌, length, IfOk, OnOk};
+ghost use Rattle.std.specs.Prelude.{◌≡◌, ◌+◌, ◌∷◌, ◌++◌, [], map, length, IfOk, OnOk};
+ghost use Rattle.forec_base.specs.declared.Place.{Place};
 ghost use Rattle.forec_tree.specs.Pauses as pauses;
-ghost use Rattle.forec_kernel.specs.Plain as kernel;
+ghost use Rattle.forec_tree.specs.Plain as plain;
+ghost use Rattle.forec_tree.specs.Terms as tree;
+ghost use Rattle.forec_tree.specs.Terms.{Text};
 ghost use Rattle.loop_check.specs.Views.{text_of};
-ghost use Rattle.text_kernel.specs.Bindings as bindings;
 ghost use Rattle.text_kernel.specs.Lowering as lowering;
-ghost use Rattle.body_lower.specs.Views.{seen, Kept, next_of, Begins, Finishes};
+ghost use Rattle.body_lower.specs.Views.{OneText, context_text, of_thread, bare, made_by, made_of, threads_in, threads_of, threads_on};
 
+use crate::body::{FUEL, hidden, in_place};
+use crate::context::Context;
 use crate::parts::{count, sum};
 use crate::source::Source;
-use crate::state::{State, Thread};
+use crate::state::{Pending, State, Thread};
 use forec_base::OutOfMemory;
-use forec_kernel::Statement;
-use forec_tree::Name;
-use text_kernel::Slot;
-
-/// The number of the next thread below.
-fn next_thread(state: &State) -> Result<u32, OutOfMemory>
-    ensures { IfOk result (λ n. n ≡ (next_of state.now).thread) }
-{
-    sum(count(state.threads.len())?, 1)
-}
-
-/// Begins a thread below, whose text is to come; the answer is its number.
-pub fn begin(state: &mut State) -> Result<u32, OutOfMemory>
-    ensures number { IfOk result (λ n. n ≡ (next_of state.old).thread) }
-    ensures begun { OnOk result (Begins state.old state.new) }
-{
-    let number = next_thread(state)?;
-    state.threads.push(Thread {
-        parent: 0,
-        par: 0,
-        name: None,
-        params: 0,
-        words: 0,
-        behind: 0,
-        body: Statement::Nop,
-    })?;
-    Ok(number)
-}
-
-/// A thread below that has begun: its number, its parent, the `par` whose branch it is, the name of its
-/// function, and how many of its words are parameters.
-#[derive(Clone, Copy)]
-pub struct Begun {
-    pub number: u32,
-    pub parent: u32,
-    pub par: u32,
-    pub name: Option<u32>,
-    pub params: u32,
-}
-
-/// Ends a thread below: its text is all there, and its parent goes on at a slot.
-pub fn finish(
-    state: &mut State,
-    begun: Begun,
-    body: Box<Statement>,
-    slot: u32,
-) -> Result<(), OutOfMemory>
-    requires above { 1 ≤ begun.number }
-    requires begun { begun.number ≤ length state.old.threads.items }
-    ensures { OnOk result (Finishes (record {
-      parent = begun.parent;
-      par = begun.par;
-      name = begun.name;
-      params = begun.params;
-      words = state.old.slot;
-      behind = (next_of state.old).thread;
-      body = kernel.stmt body.value;
-    }) begun.number slot state.old state.new) }
-{
-    let behind = next_thread(state)?;
-    let words = state.slot;
-    state.threads[begun.number as usize - 1] = Thread {
-        parent: begun.parent,
-        par: begun.par,
-        name: begun.name,
-        params: begun.params,
-        words,
-        behind,
-        body: Box::into_inner(body),
-    };
-    state.slot = slot;
-    Ok(())
-}
-
-/// Parameters, whose slots begin at `first`.
-pub fn declare_params(state: &mut State, first: u32, params: &[Name]) -> Result<(), OutOfMemory>
-    ensures seen { OnOk result (seen state.new.scope ≡ seen state.old.scope ++ bindings.params_at first params.now) }
-    ensures kept { OnOk result (Kept state.old.scope state.new.scope) }
-    ensures rest { (state.new.slot ≡ state.old.slot) × (state.new.par ≡ state.old.par) × (state.new.threads ≡ state.old.threads) }
-{
-    let mut at = first;
-    for p in params {
-        state.scope.declare(Slot {
-            id: p.id,
-            slot: at,
-            size: None,
-        })?;
-        at = sum(at, 1)?;
-    }
-    Ok(())
-}
+use forec_tree::{Branch, Expr, Name, Stmt};
+use std::alloc::Global;
 
 /// How many parameters the function of a name has.
-pub fn params_of(source: &Source<'_>, id: u32) -> Result<u32, OutOfMemory>
+fn params_of(source: &Source<'_>, id: u32) -> Result<u32, OutOfMemory>
     ensures { IfOk result (λ n. n ≡ length (lowering.params_of (pauses.find_function id (text_of source.now.globals.index)))) }
 {
     match source.function(id) {
         None => Ok(0),
         Some(function) => count(function.params.len()),
     }
+}
+
+/// Translates a branch that calls a function.
+fn calling<'p>(
+    context: &Context<'_, 'p>,
+    state: &mut State<'p>,
+    one: Pending<'p>,
+    name: Name,
+    args: &'p [Expr],
+) -> Result<Thread, OutOfMemory>
+    requires text { OneText context.now.source.now }
+    requires number { state.old.thread ≡ context.now.owner + 1 }
+    requires none { state.old.pending.items ≡ [] }
+    ensures { IfOk result (λ t. of_thread t ∷ threads_of (context_text context.now) state.new
+        ≡ map bare (made_by (context_text context.now) context.now.deep one.entry.parent one.entry.par context.now.owner state.old.par (tree.by_call name (plain.terms args.now) tree.no_branches))) }
+{
+    let params = params_of(context.source, name.id)?;
+    let taken = count(args.len())?;
+    state.slot = taken;
+    let body = in_place(context, FUEL, 0, state, name.id)?;
+    Ok(Thread {
+        parent: one.parent,
+        par: one.par,
+        name: Some(name.id),
+        params,
+        words: state.slot,
+        behind: state.thread,
+        body,
+    })
+}
+
+/// Translates a branch that is a block.
+fn blocking<'p>(
+    context: &Context<'_, 'p>,
+    state: &mut State<'p>,
+    one: Pending<'p>,
+    body: &'p [Stmt],
+) -> Result<Thread, OutOfMemory>
+    requires text { OneText context.now.source.now }
+    requires number { state.old.thread ≡ context.now.owner + 1 }
+    requires none { state.old.pending.items ≡ [] }
+    ensures { IfOk result (λ t. (place : Place) → of_thread t ∷ threads_of (context_text context.now) state.new
+        ≡ map bare (made_by (context_text context.now) context.now.deep one.entry.parent one.entry.par context.now.owner state.old.par (tree.by_group place (plain.statements body.now) tree.no_branches))) }
+{
+    state.slot = 0;
+    let body = hidden(context, FUEL, state, body)?;
+    Ok(Thread {
+        parent: one.parent,
+        par: one.par,
+        name: None,
+        params: 0,
+        words: state.slot,
+        behind: state.thread,
+        body,
+    })
+}
+
+/// Translates the body of a branch. The branches in it are pending behind it.
+fn translated<'p>(
+    alloc: Global,
+    source: &Source<'p>,
+    state: &mut State<'p>,
+    one: Pending<'p>,
+) -> Result<Thread, OutOfMemory>
+    requires text { OneText source.now }
+    requires none { state.old.pending.items ≡ [] }
+    ensures { IfOk result (λ t. of_thread t ∷ threads_of (text_of source.now.globals.index) state.new ≡ map bare (made_of (text_of source.now.globals.index) one.entry)) }
+{
+    let behind = sum(one.number, 1)?;
+    state.thread = behind;
+    state.par = one.first;
+    let context = Context {
+        alloc,
+        source,
+        deep: one.deep,
+        owner: one.number,
+    };
+    match one.branch {
+        Branch::Call { name, args } => {
+            let args = args.as_slice();
+            let thread = calling(&context, state, one, *name, args)?;
+            Ok(thread)
+        }
+        Branch::Group { body, .. } => {
+            let body = body.as_slice();
+            let thread = blocking(&context, state, one, body)?;
+            Ok(thread)
+        }
+    }
+}
+
+/// Puts branches on a stack, so that the first one is taken first.
+fn stacked<'p>(
+    stack: &mut Vec<Pending<'p>>,
+    pending: &mut Vec<Pending<'p>>,
+) -> Result<(), OutOfMemory>
+    ensures stack { OnOk result ((text : Text) → threads_on text stack.new.items ≡ threads_in text pending.old.items ++ threads_on text stack.old.items) }
+    ensures none { OnOk result (pending.new.items ≡ []) }
+{
+    while let Some(one) = pending.pop() {
+        stack.push(one)?;
+    }
+    Ok(())
+}
+
+/// Translates the branches that are pending, and those in them.
+pub fn threads_below<'p>(
+    alloc: Global,
+    source: &Source<'p>,
+    mut state: State<'p>,
+) -> Result<Vec<Thread>, OutOfMemory>
+    requires { OneText source.now }
+    ensures { IfOk result (λ list. map of_thread list.items ≡ threads_of (text_of source.now.globals.index) state.entry) }
+{
+    let mut stack = Vec::new(alloc);
+    stacked(&mut stack, &mut state.pending)?;
+    let mut threads = Vec::new(alloc);
+    while let Some(one) = stack.pop() {
+        let thread = translated(alloc, source, &mut state, one)?;
+        threads.push(thread)?;
+        stacked(&mut stack, &mut state.pending)?;
+    }
+    Ok(threads)
 }

@@ -7,6 +7,8 @@ use Rattle.forec_tree.specs.declared.tree.Global.{Global}
 use Rattle.forec_tree.specs.declared.tree.Number.{Number}
 use Rattle.forec_tree.specs.Terms.{Text, PlainFunction}
 use Rattle.forec_tree.specs.Pauses.{within}
+use Rattle.forec_kernel.specs.Terms.{Stmt}
+use Rattle.forec_kernel.specs.Plain.{stmt}
 use Rattle.forec_kernel.specs.declared.shape.ThreadShape.{ThreadShape}
 use Rattle.forec_kernel.specs.Shapes.{PlainThread, plain_thread}
 use Rattle.std.specs.declared.vec.Vec.{Vec}
@@ -17,8 +19,9 @@ use Rattle.text_kernel.specs.Bindings.{first_value}
 use Rattle.text_kernel.specs.Lowering.{Next, as_one, body_in_place}
 use Rattle.text_kernel.specs.Kernels.{padded, function_body}
 use Rattle.body_lower.specs.Landings.{called_within}
-use Rattle.body_lower.specs.Views.{Bare, of_thread, next_of, Does}
-use Rattle.kernel_lower.specs.Drafts.{bare_shapes, named_at, part_at, marked_from}
+use Rattle.body_lower.specs.Views.{Bare, bare, of_thread, next_of, threads_in, threads_of, Does}
+use Rattle.kernel_lower.specs.declared.expand.Bodies.{Bodies}
+use Rattle.kernel_lower.specs.Drafts.{bare_shapes, named_at, part_at, marked_from, Expanded}
 use Rattle.text_kernel.specs.Items.{globals_of}
 use Rattle.kernel_lower.specs.Marks.{row_uses, shape_uses, with_uses, MarksOf}
 use Rattle.kernel_lower.proofs.Drafted.{marks_uses}
@@ -35,14 +38,27 @@ alone : (text : Text) (names : List (List ℕ)) (f : PlainFunction) (n : Next) �
 unfolding within
 alone text names f n e = ap (body_in_place text (called_within text 0) (Some f) 0 0) e
 
-begins : (s : State) (p : ℕ) (f : PlainFunction) → s.slot ≡ p → p ≡ length f.params → s.par ≡ 0 → s.threads.items ≡ [] → next_of s ≡ (let m : Next = record { slot = length f.params; thread = 1; par = 0 } in m)
-begins s p f e d q t =
+begins : (s : State) (p : ℕ) → s.slot ≡ p → s.thread ≡ 1 → s.par ≡ 0 → next_of s ≡ (let m : Next = record { slot = p; thread = 1; par = 0 } in m)
+begins s p e t q =
     let at = λ (a : ℕ) (b : ℕ) (c : ℕ). let m : Next = record { slot = a; thread = b; par = c } in m in
-    ap (λ x. at x (suc (length s.threads.items)) s.par) (e ∙ d) ∙ (ap (λ l. at (length f.params) (suc (length l)) s.par) t ∙ ap (at (length f.params) 1) q)
+    ap (λ x. at x s.thread s.par) e ∙ (ap (λ x. at p x s.par) t ∙ ap (at p 1) q)
 
-pub translated : (text : Text) (names : List (List ℕ)) (f : PlainFunction) (k : Rattle.forec_kernel.specs.Terms.Stmt) (old new : State) → old.slot ≡ length f.params → old.par ≡ 0 → old.threads.items ≡ [] →
-    Does (body_in_place text (called_within text 0) (Some f) 0 0 (next_of old)) k old new → Does (as_one (function_body text names f)) k old new
-translated text names f k old new s p t d = subst (λ l. Does l k old new) (alone text names f (next_of old) (begins old old.slot f refl s p t)) d
+pub translated : (text : Text) (names : List (List ℕ)) (f : PlainFunction) (k : Stmt) (old new : State) → old.slot ≡ length f.params → old.thread ≡ 1 → old.par ≡ 0 →
+    Does text (body_in_place text (called_within text 0) (Some f) 0 0 (next_of old)) k old new → Does text (as_one (function_body text names f)) k old new
+translated text names f k old new s t p d = subst (λ l. Does text l k old new) (alone text names f (next_of old) (begins old (length f.params) s t p)) d
+
+-- thread 0 and those below it
+pub expanded : (text : Text) (deep first : ℕ) (b : Bodies) (old new : State) → deep ≡ length text → old.slot ≡ 0 → old.thread ≡ 1 → old.par ≡ 0 → old.pending.items ≡ [] →
+    Does text (called_within text deep first 0 0 (next_of old)) (stmt b.main) old new → b.words ≡ new.slot → map of_thread b.threads.items ≡ threads_of text new → Expanded text first b
+expanded text deep first b old new e s t p none d w threads =
+    let n : Next = record { slot = 0; thread = 1; par = 0 } in
+    let root : Does text (called_within text (length text) first 0 0 n) (stmt b.main) old new =
+    subst (λ x. Does text (called_within text (length text) first 0 0 x) (stmt b.main) old new) (begins old 0 s t p) (subst (λ x. Does text (called_within text x first 0 0 (next_of old)) (stmt b.main) old new) e d) in
+    record {
+      main = root.is;
+      words = w ∙ ap (λ (x : Next). x.slot) root.next;
+      threads = threads ∙ (root.threads ∙ ap (λ l. threads_in text l ++ map bare (called_within text (length text) first 0 0 n).made) none);
+    }
 
 -- ---- threads
 

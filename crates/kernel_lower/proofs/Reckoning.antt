@@ -1,5 +1,5 @@
 -- What the text tells of words and depth bounds those of the kernel.
-use Rattle.std.proofs.Common.{ℕ, zero, suc, ◌+◌, ◌-◌, ◌^◌, ◌<◌, ◌≤◌, ◌≡◌, ◌∙◌, ◌==◌, min, max, ap, sym, refl, subst, Bool, true, false, cond, List, [], ◌∷◌, length, map, get_or, arith, Result, Ok, Err}
+use Rattle.std.proofs.Common.{ℕ, zero, suc, ◌+◌, ◌-◌, ◌^◌, ◌<◌, ◌≤◌, ◌≡◌, ◌∙◌, ◌==◌, min, max, ap, sym, refl, subst, Bool, true, false, cond, List, [], ◌∷◌, length, map, get_or, arith, Result, Ok, Err, OnOk}
 use Rattle.std.proofs.lemmas.Bool.Decides.{nat_tests}
 use Rattle.std.proofs.lemmas.List.{length-map}
 use Rattle.std.specs.Result.{IfErr}
@@ -266,6 +266,10 @@ tells k a t w g x e d = record { passes = passes; fits = fits }
 pub variables_amount : (text : Text) (names : List (List ℕ)) (n : ℕ) (vs : List PlainGlobal) → vs ≡ variable_items text names text → n ≡ length vs → n ≡ amount Globals (kernel_of text names)
 unfolding amount kernel_of
 variables_amount text names n vs e l = l ∙ (ap (λ (x : List PlainGlobal). length x) e ∙ sym (length-map (variable_items text names text) (variable_shape text names)))
+
+pub ok_more : {T E : Type 0} (r : Result T E) {P Q : Type 0} → (P → Q) → OnOk r P → OnOk r Q
+ok_more (Ok t) f h = f h
+ok_more (Err e) f h = tt
 
 pub err_more : {T E : Type 0} (r : Result T E) (P Q : E → Type 0) → IfErr r P → ((e : E) → P e → Q e) → IfErr r Q
 err_more (Ok t) P Q h k = tt

@@ -22,7 +22,7 @@ use crate::measure::{Draft, words_along};
 use crate::tables::{arrays, table_words};
 use crate::variables::variables;
 use body_lower::Source;
-use forec_base::{Labels, OutOfMemory};
+use forec_base::{Labels, MAX_DEPTH, MAX_TERMS, OutOfMemory};
 use forec_tree::{Function, Item};
 use loop_check::Index;
 use std::alloc::Global;
@@ -109,7 +109,8 @@ pub fn beyond(
     requires threads { known.threads ≡ min (limits.amount quantity.Threads (kernel_of (text_of source.now.globals.index) names.now)) (2 ^ 64 - 1) }
     requires terms { known.terms ≡ min (limits.amount quantity.Terms (kernel_of (text_of source.now.globals.index) names.now)) (2 ^ 64 - 1) }
     requires levels { known.levels ≤ limits.amount quantity.Depth (kernel_of (text_of source.now.globals.index) names.now) }
-    ensures { IfErr result (λ e. Causes e (text_of source.now.globals.index) names.now) }
+    ensures ok { OnOk result ((known.terms ≤ MAX_TERMS) × (known.levels ≤ MAX_DEPTH)) }
+    ensures fault { IfErr result (λ e. Causes e (text_of source.now.globals.index) names.now) }
 {
     let values = chain_words(alloc, source, names, functions)?;
     let globals = variables(alloc, &source.globals, names, items)?;

@@ -51,7 +51,7 @@ fn parts_of(
             levels,
         };
         beyond(alloc, &source, names, items, &functions, known)?;
-        return Err(LowerFault::OutOfMemory);
+        unreachable!();
     }
     let draft = draft(alloc, &source, names, items, first)?;
     let peak = most(alloc, &draft)?;

@@ -2,13 +2,14 @@
 
 ghost use Rattle.std.specs.Prelude.{◌≡◌, ◌<◌, ◌++◌, ℕ, List, length, decimal, OnOk, IfOk};
 ghost use Rattle.forec_kernel.specs.Shapes.{plain_kernel, named};
-ghost use Rattle.thread_places.specs.Lines.{parent_word, name_word, thread_line, thread_lines};
+ghost use Rattle.thread_places.specs.Lines.{parent_word, name_word, thread_line, lines_to, bound_line, thread_lines};
 
 use core_alloc::Placement;
 use forec_base::OutOfMemory;
 use forec_kernel::{Kernel, ThreadShape};
 use itoa::Buffer;
 use std::alloc::Global;
+use tick_bounds::tick_bound;
 
 fn add(text: &mut Vec<u8>, bytes: &[u8]) -> Result<(), OutOfMemory>
     ensures { OnOk result (text.new.items ≡ text.old.items ++ bytes.now) }
@@ -68,19 +69,29 @@ fn add_row(text: &mut Vec<u8>, row: Row<'_>) -> Result<(), OutOfMemory>
     Ok(())
 }
 
-/// A line for each thread of a kernel, in the order of their numbers: its parent, its name (`{}` for a block), its
-/// core and its weight.
-///
-/// # Errors
-///
-/// Want of memory.
-pub fn thread_list(
+/// Adds the line of the bound of ticks.
+#[tactic(auto, unfolding(crate::specs::Lines::bound_line))]
+fn add_bound(text: &mut Vec<u8>, bound: Option<u64>) -> Result<(), OutOfMemory>
+    ensures { OnOk result (text.new.items ≡ text.old.items ++ bound_line bound) }
+{
+    match bound {
+        None => add(text, b"bound none\n"),
+        Some(units) => {
+            add(text, b"bound ")?;
+            add_number(text, units)?;
+            add(text, b"\n")
+        }
+    }
+}
+
+/// A line for each thread of a kernel, in the order of their numbers.
+fn thread_rows(
     alloc: Global,
     kernel: &Kernel,
     placement: &Placement,
 ) -> Result<Vec<u8>, OutOfMemory>
     requires { length placement.now.places ≡ length (plain_kernel kernel.now).threads }
-    ensures { IfOk result (λ text. text.items ≡ thread_lines (plain_kernel kernel.now) placement.now.places) }
+    ensures { IfOk result (λ text. text.items ≡ lines_to (plain_kernel kernel.now) placement.now.places (length (plain_kernel kernel.now).threads)) }
 {
     let shapes = kernel.shape().threads.as_slice();
     let mut text = Vec::new(alloc);
@@ -93,5 +104,25 @@ pub fn thread_list(
         };
         add_row(&mut text, row)?;
     }
+    Ok(text)
+}
+
+/// A line for each thread of a kernel, in the order of their numbers: its parent, its name (`{}` for a block), its
+/// core and its weight. Then the line of the most units that a tick can take.
+///
+/// # Errors
+///
+/// Want of memory.
+pub fn thread_list(
+    alloc: Global,
+    kernel: &Kernel,
+    placement: &Placement,
+) -> Result<Vec<u8>, OutOfMemory>
+    requires { length placement.now.places ≡ length (plain_kernel kernel.now).threads }
+    ensures { IfOk result (λ text. text.items ≡ thread_lines (plain_kernel kernel.now) placement.now.places) }
+{
+    let bound = tick_bound(alloc, kernel)?;
+    let mut text = thread_rows(alloc, kernel, placement)?;
+    add_bound(&mut text, bound)?;
     Ok(text)
 }

@@ -1,21 +1,20 @@
-use Rattle.std.proofs.Common.{◌≡◌, ◌+◌, ◌-◌, ◌∙◌, sym, ap, refl, subst, ◌++◌, ◌∷◌, [], length}
-use Rattle.forec_tree.specs.Plain.{statement, statements, term, terms, branch_with, optional_term, plain_function}
+use Rattle.std.proofs.Common.{◌≡◌, ◌+◌, ◌-◌, ◌∙◌, sym, ap, refl, ◌++◌, []}
+use Rattle.forec_tree.specs.Plain.{statement, statements, term, terms, optional_term, plain_function}
 use Rattle.forec_tree.specs.Terms as tree
-use Rattle.forec_tree.specs.Terms.{count_terms, no_branches}
 use Rattle.forec_tree.specs.Turns.{inferred}
-use Rattle.forec_tree.proofs.Rows.{of_group, of_if, of_for, of_par, of_abort, branch-group}
+use Rattle.forec_tree.proofs.Rows.{of_group, of_if, of_for, of_par, of_abort}
 use Rattle.forec_tree.specs.Plain.{perhaps_of}
 use Rattle.forec_kernel.specs.Terms as kernel
-use Rattle.forec_kernel.specs.Plain.{stmt, stmts, expr, exprs}
+use Rattle.forec_kernel.specs.Plain.{stmt, stmts, expr}
 use Rattle.body_lower.specs.declared.state.State.{State}
-use Rattle.text_kernel.specs.Lowering.{Next, sequence, bound_of, or_inferred, after_start, lower_terms, lower_statement, lower_branches}
+use Rattle.text_kernel.specs.Lowering.{Next, sequence, bound_of, or_inferred, after_start, lower_statement}
 use Rattle.text_kernel.specs.Bindings.{params_at}
 use Rattle.body_lower.specs.Landings.{called_within}
-use Rattle.body_lower.specs.Views.{context_text, seen, next_of, Does, Done, DoesBranches}
+use Rattle.body_lower.specs.Views.{context_text, seen, next_of, Does, Done}
 use Rattle.body_lower.proofs.Statements.{kept_then}
 use Rattle.body_lower.proofs.Landed.{if_does, while_does, abort_does, does_boxed, does_shown, inner_lands, ok_then}
-use Rattle.body_lower.proofs.Doing.{does_as, same_seen, for_does, call_does, call_branch_at, group_branch_at, count_args, ends_pushed, same_then, same_kept, kept_cut}
-use Rattle.body_lower.proofs.Going.{list_goes, list_ends, branches_go, branches_end, par_goes, branches_as, as_one_does, same_list, shown_same, place_none, place_unknown, place_known}
+use Rattle.body_lower.proofs.Doing.{does_as, for_does, call_does, count_args, ends_pushed, same_kept, kept_cut}
+use Rattle.body_lower.proofs.Going.{list_goes, list_ends, as_one_does, same_list, shown_same, place_none, place_unknown, place_known}
 use Rattle.body_lower.proofs.body.+body.Goals as goal
 
 pub list-loop-s-preserved : goal.list-loop-s-preserved
@@ -34,71 +33,23 @@ list-returns-clause-does t c =
 pub list-returns-clause-kept : goal.list-returns-clause-kept
 list-returns-clause-kept t c = c.loop-s.invariant.1
 
-pub branches-loop-one-preserved : goal.branches-loop-one-preserved
-branches-loop-one-preserved t c =
-    let text = context_text c.args.context.now in (
-      branches_go text (called_within text c.args.context.now.deep) c.args.context.now.owner c.args.par c.args.all.now c.loop-one.one-index c.one-item.result c.loop-one.launches.items c.push.new.self.items c.in_ok-launch.launch _ c.args.state.now
-          c.loop-one.state c.branch-context.new.state c.loop-one-test.true (sym c.one-item.is) c.in_ok-launch.ensures.same c.in_ok-launch.ensures.does c.in_ok-push.ensures.items c.loop-one.invariant.0,
-      same_then c.args.state.now.scope c.loop-one.state.scope c.branch-context.new.state.scope c.loop-one.invariant.1 c.in_ok-launch.ensures.same,
-    )
-
-pub branches-returns-clause-does : goal.branches-returns-clause-does
-branches-returns-clause-does t c =
-    let text = context_text c.args.context.now in
-    branches_end text (called_within text c.args.context.now.deep) c.args.context.now.owner c.args.par c.args.all.now c.loop-one.one-index c.loop-one.launches.items _ c.args.state.now c.loop-one.state c.loop-one-test.false c.loop-one.invariant.0
-
-pub branches-returns-clause-same : goal.branches-returns-clause-same
-branches-returns-clause-same t c = c.loop-one.invariant.1
-
-pub blocking-returns-clause-same : goal.blocking-returns-clause-same
-blocking-returns-clause-same t c =
-    same_then c.args.state.now.scope c.hidden.new.state.scope c.finish.new.state.scope
-    (same_then c.args.state.now.scope c.begin.new.state.scope c.hidden.new.state.scope c.in_ok-thread.ensures.begun.scope c.in_ok-body.ensures.same) c.in_ok-finish.ensures.scope
-
-pub par-returns-clause-does : goal.par-returns-clause-does
-par-returns-clause-does t c =
-    let text = context_text c.args.context.now in
-    let old = c.args.state.now in
-    let one : State = record old { par = c.in_ok-state.field-0 } in
-    let at = λ (x : Rattle.std.proofs.Common.ℕ). let n : Next = record { slot = old.slot; thread = (next_of old).thread; par = x } in n in
-    par_goes text (called_within text c.args.context.now.deep) c.args.context.now.owner (seen old.scope) (next_of old) c.args.place c.args.all.now old one c.branches.new.state _ (sym c.is_empty.ensures ∙ c.if-is_empty.false) (ap at c.in_ok-state.ensures) refl
-    c.in_ok-branches.ensures.does
-
 pub in_function-returns-clause-does : goal.in_function-returns-clause-does
 in_function-returns-clause-does t c =
     let text = context_text c.args.context.now in
     let old = c.args.state.now in
-    let one = c.declare_params.new.state in
+    let one : State = record old { scope = c.declare_params.new.self } in
     let two = c.list.new.state in
     let new : State = record two { scope = c.show.new.self } in
-    let rest = c.in_ok-declare_params.ensures.rest in
-    let at = λ (a : Rattle.std.proofs.Common.ℕ) (b : Rattle.std.proofs.Common.ℕ) (d : Rattle.std.proofs.Common.ℕ). let n : Next = record { slot = a; thread = b; par = d } in n in
-    as_one_does _ _ (stmts c.in_ok-list.list.items) _ old one two new
+    as_one_does text _ _ (stmts c.in_ok-list.list.items) _ old one two new
     (same_list text (called_within text c.args.context.now.deep) c.args.context.now.owner (seen one.scope) (params_at c.args.first c.args.function.now.params) (next_of one) (next_of old) c.as_slice-body.result.now c.args.function.now.body
-    (c.in_ok-declare_params.ensures.seen ∙ (ap (λ l. l ++ params_at c.args.first c.as_slice.result.now) c.hide-base.ensures.seen ∙ ap (params_at c.args.first) c.as_slice.ensures))
-    (ap (λ x. at x (next_of one).thread one.par) rest.0 ∙ (ap (λ l. at old.slot (Rattle.std.proofs.Common.suc (length (Rattle.std.specs.declared.vec.Vec.Vec.items l))) one.par) rest.2 ∙ ap (λ x. at old.slot (next_of old).thread x) rest.1))
+    (c.in_ok-declare_params.ensures.seen ∙ (ap (λ l. l ++ params_at c.args.first c.as_slice.result.now) c.hide-base.ensures.seen ∙ ap (params_at c.args.first) c.as_slice.ensures)) refl
     c.as_slice-body.ensures)
-    (ap (λ l. Rattle.std.proofs.Common.map Rattle.body_lower.specs.Views.of_thread (Rattle.std.specs.declared.vec.Vec.Vec.items l)) rest.2) c.in_ok-list.ensures.does c.sequence.ensures refl refl
+    refl c.in_ok-list.ensures.does c.sequence.ensures refl refl
 
 pub in_function-returns-clause-same : goal.in_function-returns-clause-same
 in_function-returns-clause-same t c =
     shown_same c.args.state.now.scope c.hide-base.new.self c.list.new.state.scope c.show.new.self c.hide-base.result c.hide-base.ensures.before c.hide-base.ensures.base c.hide-base.ensures.slots
-    (kept_then c.hide-base.new.self c.declare_params.new.state.scope c.list.new.state.scope c.in_ok-declare_params.ensures.kept c.in_ok-list.ensures.kept) c.show.ensures.slots c.show.ensures.base
-
-pub hidden-returns-clause-does : goal.hidden-returns-clause-does
-hidden-returns-clause-does t c =
-    let text = context_text c.args.context.now in
-    let old = c.args.state.now in
-    let one : State = record old { scope = c.hide-base.new.self } in
-    let two = c.list.new.state in
-    let new : State = record two { scope = c.show.new.self } in
-    as_one_does _ _ (stmts c.in_ok-list.list.items) _ old one two new
-    (same_list text (called_within text c.args.context.now.deep) c.args.context.now.owner (seen one.scope) [] (next_of one) (next_of old) c.args.body.now c.args.body.now c.hide-base.ensures.seen refl refl) refl c.in_ok-list.ensures.does c.sequence.ensures refl refl
-
-pub hidden-returns-clause-same : goal.hidden-returns-clause-same
-hidden-returns-clause-same t c =
-    shown_same c.args.state.now.scope c.hide-base.new.self c.list.new.state.scope c.show.new.self c.hide-base.result c.hide-base.ensures.before c.hide-base.ensures.base c.hide-base.ensures.slots c.in_ok-list.ensures.kept
-    c.show.ensures.slots c.show.ensures.base
+    (kept_then c.hide-base.new.self c.declare_params.new.self c.list.new.state.scope c.in_ok-declare_params.ensures.kept c.in_ok-list.ensures.kept) c.show.ensures.slots c.show.ensures.base
 
 pub by_kind-returns-in_ok-k-in-Group-clause-does : goal.by_kind-returns-in_ok-k-in-Group-clause-does
 by_kind-returns-in_ok-k-in-Group-clause-does t c =
@@ -139,15 +90,6 @@ by_kind-returns-in_ok-k-in-Abort-clause-does t c =
     c.as_slice-body-in-Abort.result.now c.in-Abort.is c.as_slice-body-in-Abort.ensures)
     c.in_ok-k-in-Abort.ensures.does
 
-pub branch-returns-in_ok-k-in-Group-clause-does : goal.branch-returns-in_ok-k-in-Group-clause-does
-branch-returns-in_ok-k-in-Group-clause-does t c =
-    let text = context_text c.args.context.now in
-    let F = lower_branches text (called_within text c.args.context.now.deep) c.args.context.now.owner (seen c.args.state.now.scope) c.args.par (next_of c.args.state.now) in
-    branches_as _ _ _ c.args.state.now c.blocking.new.state
-    (ap (λ l. F (tree.by_group c.in-Group.place (statements l) no_branches)) c.as_slice-body.ensures
-    ∙ (ap F (sym (branch-group c.in-Group.place c.in-Group.body no_branches)) ∙ ap (λ b. F (branch_with b no_branches)) (sym c.in-Group.is)))
-    c.in_ok-k-in-Group.ensures.does
-
 pub in_place-returns-then-context-eq0-clause-does : goal.in_place-returns-then-context-eq0-clause-does
 in_place-returns-then-context-eq0-clause-does t c =
     place_none (context_text c.args.context.now) c.args.context.now.deep c.args.id c.args.first c.args.context.now.owner c.args.state.now c.if-context-eq0.true
@@ -160,39 +102,6 @@ pub in_place-returns-in_ok-k-in-Some-clause-does : goal.in_place-returns-in_ok-k
 in_place-returns-in_ok-k-in-Some-clause-does t c =
     place_known (context_text c.args.context.now) c.args.context.now.deep (c.args.context.now.deep - 1) c.args.id c.args.first c.args.context.now.owner (plain_function c.in-Some.function.now) (stmt c.in_ok-k-in-Some.k) c.args.state.now c.in_function.new.state
     c.if-context-eq0.false refl c.in-Some.ensures c.in_ok-k-in-Some.ensures.does
-
-pub calling-returns-clause-does : goal.calling-returns-clause-does
-calling-returns-clause-does t c =
-    let text = context_text c.args.context.now in
-    let old = c.args.state.now in
-    let one = c.begin.new.state in
-    let two : State = record one { slot = c.in_ok-taken.taken } in
-    let at = λ (x : Rattle.std.proofs.Common.ℕ). let n : Next = record { slot = x; thread = (next_of one).thread; par = one.par } in n in
-    let same =
-    same_then old.scope c.in_place.new.state.scope c.finish.new.state.scope
-    (same_then old.scope c.begin.new.state.scope c.in_place.new.state.scope c.in_ok-thread.ensures.begun.scope c.in_ok-body.ensures.same) c.in_ok-finish.ensures.scope in
-    call_branch_at text (called_within text c.args.context.now.deep) c.args.context.now.owner c.args.par c.in_ok-thread.thread (seen old.scope) c.args.name (terms c.args.args.now) old one two c.in_place.new.state c.finish.new.state
-    c.in_ok-params.params (stmt c.in_ok-body-2.body.value) (exprs c.in_ok-list.list.items) c.in_ok-thread.ensures.number
-    (c.in_ok-list.ensures ∙ ap (λ s. lower_terms text s (terms c.args.args.now)) (same_seen old.scope c.finish.new.state.scope same)) c.in_ok-params.ensures c.in_ok-thread.ensures.begun refl
-    (ap at (c.in_ok-taken.ensures ∙ count_args c.args.args.now)) (does_boxed _ _ _ c.in_ok-body-2.ensures c.in_place.new.state c.in_ok-body.ensures.does) c.in_ok-finish.ensures
-
-pub calling-returns-clause-same : goal.calling-returns-clause-same
-calling-returns-clause-same t c =
-    same_then c.args.state.now.scope c.in_place.new.state.scope c.finish.new.state.scope
-    (same_then c.args.state.now.scope c.begin.new.state.scope c.in_place.new.state.scope c.in_ok-thread.ensures.begun.scope c.in_ok-body.ensures.same) c.in_ok-finish.ensures.scope
-
-pub blocking-returns-clause-does : goal.blocking-returns-clause-does
-blocking-returns-clause-does t c =
-    let text = context_text c.args.context.now in
-    let one = c.begin.new.state in
-    let two : State = record one { slot = 0 } in
-    let done =
-    group_branch_at text (called_within text c.args.context.now.deep) c.args.context.now.owner c.args.par c.in_ok-thread.thread (seen c.args.state.now.scope) c.args.place (statements c.args.body.now) c.args.state.now one two
-    c.hidden.new.state c.finish.new.state (stmt c.in_ok-body-2.body.value) c.in_ok-thread.ensures.number c.in_ok-thread.ensures.begun refl refl
-    (does_boxed _ _ _ c.in_ok-body-2.ensures c.hidden.new.state c.in_ok-body.ensures.does) c.in_ok-finish.ensures in
-    subst (λ l. DoesBranches (lower_branches text (called_within text c.args.context.now.deep) c.args.context.now.owner (seen c.args.state.now.scope) c.args.par (next_of c.args.state.now) (tree.by_group c.args.place (statements c.args.body.now) no_branches))
-    (record { thread = c.in_ok-thread.thread; args = exprs l } ∷ []) c.args.state.now c.finish.new.state)
-    (sym c.new-args.ensures.items) done
 
 pub call-returns-clause-does : goal.call-returns-clause-does
 call-returns-clause-does t c =
@@ -263,7 +172,7 @@ landed-returns-clause-does t c =
     let one : State = record old { scope = c.hide-base.new.self } in
     let two = c.by_kind.new.state in
     let new : State = record two { scope = c.show.new.self } in
-    does_shown (λ s. lower_statement text (called_within text (c.args.context.now.deep - c.args.calls)) c.args.context.now.owner s (next_of old) (statement c.args.s.now)) _ (seen one.scope) old one two new refl
+    does_shown text (λ s. lower_statement text (called_within text (c.args.context.now.deep - c.args.calls)) c.args.context.now.owner s (next_of old) (statement c.args.s.now)) _ (seen one.scope) old one two new refl
     c.hide-base.ensures.seen c.in_ok-k.ensures.does refl refl
 
 pub landed-returns-clause-same : goal.landed-returns-clause-same
@@ -279,5 +188,5 @@ inner-returns-then-landing-context-clause-does t c =
     let old = c.args.state.now in
     let new = c.landed.new.state in
     let l = c.in-Some.landing in
-    ok_then c.landed.result (λ k. Does (lower_statement text (called_within text (deep - l.calls)) owner [] (next_of old) (statement l.statement.now)) (stmt k) old new) (λ k. Done c.args.context.now (statement c.args.s.now) (stmt k) old new)
+    ok_then c.landed.result (λ k. Does text (lower_statement text (called_within text (deep - l.calls)) owner [] (next_of old) (statement l.statement.now)) (stmt k) old new) (λ k. Done c.args.context.now (statement c.args.s.now) (stmt k) old new)
     (λ k d. inner_lands text deep owner (statement c.args.s.now) (statement c.innermost-one.result.now) l (stmt k) old new c.innermost-one.ensures.same c.in-Some.ensures c.if-landing-context.true d) c.landed.ensures.does

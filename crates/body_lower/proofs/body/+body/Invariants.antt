@@ -1,10 +1,10 @@
-use Rattle.std.proofs.Common.{◌+◌, ◌*◌, map, drop}
+use Rattle.std.proofs.Common.{◌+◌, ◌*◌, drop}
 use Rattle.forec_tree.specs.Plain as plain
 use Rattle.forec_kernel.specs.Plain as kernel
 use Rattle.text_kernel.specs.Lowering as lowering
 use Rattle.body_lower.specs.Landings.{called_within}
-use Rattle.body_lower.specs.Views.{context_text, seen, Kept, Same, next_of}
-use Rattle.body_lower.proofs.Doing.{ListLeft, BranchesLeft}
+use Rattle.body_lower.specs.Views.{context_text, seen, Kept, next_of}
+use Rattle.body_lower.proofs.Doing.{ListLeft}
 use Rattle.body_lower.proofs.body.+body.Given as goal
 
 abbrev pub decreases-by_kind : goal.decreases-by_kind
@@ -34,26 +34,11 @@ decreases-list l = 12 * l.fuel + 4
 abbrev pub decreases-block : goal.decreases-block
 decreases-block l = 12 * l.fuel + 5
 
-abbrev pub decreases-hidden : goal.decreases-hidden
-decreases-hidden l = 12 * l.fuel + 5
-
 abbrev pub decreases-in_function : goal.decreases-in_function
 decreases-in_function l = 12 * l.fuel + 5
 
 abbrev pub decreases-in_place : goal.decreases-in_place
 decreases-in_place l = 12 * l.fuel + 6
-
-abbrev pub decreases-calling : goal.decreases-calling
-decreases-calling l = 12 * l.fuel + 7
-
-abbrev pub decreases-blocking : goal.decreases-blocking
-decreases-blocking l = 12 * l.fuel + 6
-
-abbrev pub decreases-branch : goal.decreases-branch
-decreases-branch l = 12 * l.fuel + 8
-
-abbrev pub decreases-branches : goal.decreases-branches
-decreases-branches l = 12 * l.fuel + 9
 
 abbrev pub decreases-either : goal.decreases-either
 decreases-either l = 12 * l.fuel + 5
@@ -67,9 +52,6 @@ decreases-heading l = 12 * l.fuel + 5
 abbrev pub decreases-call : goal.decreases-call
 decreases-call l = 12 * l.fuel + 7
 
-abbrev pub decreases-par : goal.decreases-par
-decreases-par l = 12 * l.fuel + 10
-
 abbrev pub decreases-abort : goal.decreases-abort
 decreases-abort l = 12 * l.fuel + 6
 
@@ -77,14 +59,6 @@ abbrev pub invariant-list-loop-s : goal.invariant-list-loop-s
 invariant-list-loop-s l =
     let text = context_text l.context in
     let called = called_within text l.context.deep in
-    ListLeft (lowering.lower_list text called l.context.owner (seen l.state.scope) (next_of l.state) (plain.statements (drop l.s-index l.body)))
+    ListLeft text (lowering.lower_list text called l.context.owner (seen l.state.scope) (next_of l.state) (plain.statements (drop l.s-index l.body)))
     (lowering.lower_list text called l.context.owner (seen l.fn.state.scope) (next_of l.fn.state) (plain.statements l.body)) (kernel.stmts l.list.items) l.fn.state l.state
     × Kept l.fn.state.scope l.state.scope
-
-abbrev pub invariant-branches-loop-one : goal.invariant-branches-loop-one
-invariant-branches-loop-one l =
-    let text = context_text l.context in
-    let called = called_within text l.context.deep in
-    BranchesLeft (lowering.lower_branches text called l.context.owner (seen l.state.scope) l.par (next_of l.state) (plain.branches (drop l.one-index l.all)))
-    (lowering.lower_branches text called l.context.owner (seen l.fn.state.scope) l.par (next_of l.fn.state) (plain.branches l.all)) (map kernel.branch l.launches.items) l.fn.state l.state
-    × Same l.fn.state.scope l.state.scope

@@ -9,11 +9,15 @@ use Rattle.kernel_lower.specs.Reach.{value_at}
 use Rattle.text_chains.specs.Peaks.{most_words}
 use Rattle.kernel_lower.specs.Refusals.{amount_in, Causes}
 use Rattle.kernel_lower.proofs.Finishing.{tables_amount}
-use Rattle.kernel_lower.proofs.Reckoning.{tells, words_are, told_causes, variables_amount, err_more}
+use Rattle.kernel_lower.proofs.Reckoning.{tells, words_are, told_causes, variables_amount, ok_more, err_more}
+use Rattle.text_kernel.specs.declared.limits.Quantity.TheVariants as quantity
 use Rattle.kernel_lower.proofs.beyond.beyond.Goals as goal
 
-pub returns : goal.returns
-returns c =
+pub returns-clause-ok : goal.returns-clause-ok
+returns-clause-ok c = ok_more c.judge.result (λ within. (within quantity.Terms, within quantity.Depth)) c.judge.ensures.ok
+
+pub returns-clause-fault : goal.returns-clause-fault
+returns-clause-fault c =
     let text = text_of c.args.source.now.globals.index in
     let names = c.args.names.now in
     let k = kernel_of text names in

@@ -6,7 +6,7 @@ use Rattle.forec_kernel.specs.declared.shape.ThreadShape.{ThreadShape}
 use Rattle.forec_kernel.specs.declared.shape.Shape.{Shape}
 use Rattle.thread_places.specs.Lines.{lines_to}
 use Rattle.thread_places.proofs.Listed.{one_more, shape_at}
-use Rattle.thread_places.proofs.listing.thread_list.Goals as goal
+use Rattle.thread_places.proofs.listing.thread_rows.Goals as goal
 
 pub loop-number-preserved : goal.loop-number-preserved
 loop-number-preserved c =
