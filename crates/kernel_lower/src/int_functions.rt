@@ -59,11 +59,11 @@ struct IntFunction {
 }
 
 /// Translates an int function, in which nothing is put in place.
-fn translated(
+fn translated<'p>(
     alloc: Global,
-    source: &Source<'_>,
+    source: &Source<'p>,
     names: &Labels,
-    function: &Function,
+    function: &'p Function,
 ) -> Result<IntFunction, OutOfMemory>
     requires { OneText source.now }
     ensures shape { IfOk result (λ l. l.shape ≡ function_shape (text_of source.now.globals.index) names.now (plain_function function.now)) }
@@ -87,11 +87,11 @@ fn translated(
 }
 
 /// Translates int functions.
-pub fn lowered_functions(
+pub fn lowered_functions<'p>(
     alloc: Global,
-    source: &Source<'_>,
+    source: &Source<'p>,
     names: &Labels,
-    functions: &[&Function],
+    functions: &[&'p Function],
 ) -> Result<Functions, OutOfMemory>
     requires { OneText source.now }
     ensures shapes { IfOk result (λ l. l.shapes.items ≡ map (function_shape (text_of source.now.globals.index) names.now) (functions_of functions.now)) }
