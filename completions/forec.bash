@@ -2,13 +2,14 @@
 #
 # Usage: source this file, or install it as share/bash-completion/completions/forec under a prefix.
 
-_forec_commands="run check threads code gen"
+_forec_commands="run check threads code explain gen"
 
 # The options that a command takes.
 _forec_options_of() {
   case $1 in
     run | gen) echo "--cores --place --budget" ;;
     threads) echo "--cores --place" ;;
+    explain) echo "--budget --order" ;;
   esac
 }
 
@@ -33,11 +34,12 @@ _forec_offer_words() {
   mapfile -t COMPREPLY < <(compgen -W "$1" -- "$2")
 }
 
-# Offers the value of an option: some numbers of cores, or the usual budget.
+# Offers the value of an option: some numbers of cores, the usual budget, or some orders of steps.
 _forec_offer_value() {
   case $1 in
     --cores) _forec_offer_words "1 2 4 8 16 32 64" "$2" ;;
     --budget) _forec_offer_words 10000000 "$2" ;;
+    --order) _forec_offer_words "0 1 2 3" "$2" ;;
   esac
 }
 
@@ -91,7 +93,7 @@ _forec() {
   case ${#before[@]}:${before[0]-} in
     0:*) _forec_offer_words "$_forec_commands ${pages:+help --help --version}" "$word" ;;
     1:help) _forec_offer_words "$pages" "$word" ;;
-    *:run | *:check | *:threads | *:code | *:gen) _forec_offer_after "$word" "${before[@]}" ;;
+    *:run | *:check | *:threads | *:code | *:explain | *:gen) _forec_offer_after "$word" "${before[@]}" ;;
   esac
 }
 
