@@ -18,16 +18,18 @@ const ADDED: &[u8] = b"tick 1 s=5\ntick 2 s=10\nend 2\n";
 const LISTED: &[u8] = b"thread 0 parent - name main core 0 weight 1
 thread 1 parent 0 name a core 0 weight 5
 thread 2 parent 0 name b core 1 weight 5
+bound 15
 ";
 
 /// Words that run over a trace of three rows, what is held in the end, and the status.
-const RUNS: [(&[&str], &[u8], Status); 7] = [
+const RUNS: [(&[&str], &[u8], Status); 8] = [
     (
         &["run", "--cores=2", "P", "--place", "0,1,1"],
         ADDED,
         Status::Done,
     ),
     (&["run", "--", "P"], ADDED, Status::Done),
+    (&["explain", "P", "--order", "7"], ADDED, Status::Done),
     (&["--cores", "02", "run", "P"], ADDED, Status::Done),
     (
         &["run", "P", "--cores", "2", "--place", "0,2,1"],
@@ -99,7 +101,7 @@ fn lists_and_workloads(rt: HostRuntime) -> Result<(), Fail> {
         let streams = single(alloc, 1, 0)?;
         shows(&rt, alloc, words, ADDS, b"", streams, (want, *status))?;
     }
-    let alone = b"thread 0 parent - name main core 0 weight 7\n";
+    let alone = b"thread 0 parent - name main core 0 weight 7\nbound 14\n";
     let want = (alone.as_slice(), Status::Done);
     shows(
         &rt,
