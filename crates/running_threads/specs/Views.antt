@@ -1,0 +1,52 @@
+-- Threads in Rust as plain ones.
+use Rattle.std.specs.Prelude.{List, [], ◌∷◌}
+use Rattle.forec_kernel.specs.Plain.{expr, stmt, stmts}
+use Rattle.forec_kernel.specs.Texts as plain
+use Rattle.forec_kernel.specs.Texts.{Threads, no_threads, child}
+use Rattle.running_threads.specs.declared.threads.Turn.{Turn}
+use Rattle.running_threads.specs.declared.threads.Frame.{Frame}
+use Rattle.running_threads.specs.declared.threads.Frame.TheVariants as frame
+use Rattle.running_threads.specs.declared.threads.Status.{Status}
+use Rattle.running_threads.specs.declared.threads.Status.TheVariants as stands
+use Rattle.running_threads.specs.declared.threads.Focus.{Focus, Done, Run, Turning, Resting, Fork', Held'}
+use Rattle.running_threads.specs.declared.threads.Thread.{Thread}
+use Rattle.running_threads.specs.declared.threads.Children.{Children, Nobody, Child'}
+
+abbrev pub looping : Turn → plain.Loop
+looping t = record { test = expr t.test.now; bound = t.bound; left = t.left; body = stmt t.body.now; place = t.place }
+
+abbrev pub standing : Status → plain.Status
+standing stands.Running = plain.Running
+standing stands.Paused = plain.Paused
+standing stands.Ended = plain.Ended
+standing stands.Gone = plain.Gone
+standing (stands.Trapped place trap) = plain.Trapped place trap
+
+-- a text inside a frame
+abbrev pub framed : Frame → plain.Text → plain.Text
+framed (frame.Rest list) R = plain.Then R (plain.Go_on (stmts list.now))
+framed (frame.Again turn) R = plain.Then R (plain.Again (looping turn))
+framed (frame.Watch weak e) R = plain.Watch weak (expr e.now) R
+framed frame.Last R = plain.Last R
+
+-- a text inside frames, the outermost first
+abbrev pub plugged : List Frame → plain.Text → plain.Text
+plugged [] R = R
+plugged (f ∷ fs) R = framed f (plugged fs R)
+
+abbrev mutual
+  pub focused : Focus → plain.Text
+  focused Done = plain.Done
+  focused (Run s) = plain.Run (stmt s.now)
+  focused (Turning turn) = plain.Turning (looping turn)
+  focused Resting = plain.Resting
+  focused (Fork' p cs) = plain.Fork (threads cs)
+  focused (Held' p cs) = plain.Held (threads cs)
+
+  pub threads : Children → Threads
+  threads Nobody = no_threads
+  threads (Child' t fs F w c st q rest) = child t (plugged fs.items (focused F)) w.items c.items (standing st) (threads rest)
+
+abbrev pub plain_thread : Thread → plain.Thread
+plain_thread t =
+    record { number = t.number; text = plugged t.frames.items (focused t.focus); words = t.words.items; copies = t.copies.items; status = standing t.status }
