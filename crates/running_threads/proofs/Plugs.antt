@@ -83,6 +83,12 @@ pub resumed : (fs gs : List Frame) (f : Frame) (R : Text) → fs ≡ gs ++ f ∷
 resumed fs gs f R e h w c =
     ap (λ l. plugged_move l w c Finished) e ∙ plugged_move_in gs (f ∷ []) w c Finished ∙ ap (plugged_move gs w c) (h w c) ∙ plugged_goes gs w w c c R 0
 
+-- the same at a frame that is known by an equation
+pub resumed_as : (fs gs : List Frame) (f g : Frame) (R : Text) → fs ≡ gs ++ f ∷ [] → f ≡ g →
+    ((w : List ℤ) (c : List VarCopy) → framed_move g w c Finished ≡ Moves R w c 0) →
+    (w : List ℤ) (c : List VarCopy) → plugged_move fs w c Finished ≡ Moves (plugged gs R) w c 0
+resumed_as fs gs f g R e is h = resumed fs gs g R (e ∙ ap (λ x. gs ++ x ∷ []) is) h
+
 pub one_more : (fs gs : List Frame) (f : Frame) (R : Text) → gs ≡ fs ++ f ∷ [] → plugged gs R ≡ plugged fs (framed f R)
 one_more fs gs f R e = ap (λ l. plugged l R) e ∙ plugged_in fs (f ∷ []) R
 
@@ -108,14 +114,14 @@ none_through fs at z h w c = h w c ∙ ap (λ n. plugged_move (take n fs) w c Ha
 
 pub one_through : (fs : List Frame) (at next : ℕ) (f : Frame) (b : Bool) → next + 1 ≡ at → next < length fs → f ≡ get_or fs next f →
     Tells f b → b ≡ false → LetsThrough fs at → LetsThrough fs next
-one_through fs at next f b e lt read t no h w c =
+one_through fs at next f b e lt read t b-is h w c =
     h w c ∙ ap (λ n. plugged_move (take n fs) w c Halts) (sym e) ∙ halts_past fs next f lt read w c
-    ∙ ap (plugged_move (take next fs) w c) (t w c ∙ ap (λ x. cond x (Moves Done w c 0) Halts) no)
+    ∙ ap (plugged_move (take next fs) w c) (t w c ∙ ap (λ x. cond x (Moves Done w c 0) Halts) b-is)
 
 pub stops_at : (fs : List Frame) (at next : ℕ) (f : Frame) (b : Bool) → next + 1 ≡ at → next < length fs → f ≡ get_or fs next f →
     Tells f b → b ≡ true → LetsThrough fs at → (w : List ℤ) (c : List VarCopy) →
     plugged_move fs w c Halts ≡ Moves (plugged (take next fs) Done) w c 0
-stops_at fs at next f b e lt read t yes h w c =
+stops_at fs at next f b e lt read t b-is h w c =
     h w c ∙ ap (λ n. plugged_move (take n fs) w c Halts) (sym e) ∙ halts_past fs next f lt read w c
-    ∙ ap (plugged_move (take next fs) w c) (t w c ∙ ap (λ x. cond x (Moves Done w c 0) Halts) yes)
+    ∙ ap (plugged_move (take next fs) w c) (t w c ∙ ap (λ x. cond x (Moves Done w c 0) Halts) b-is)
     ∙ plugged_goes (take next fs) w w c c Done 0

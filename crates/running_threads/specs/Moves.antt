@@ -3,7 +3,7 @@ use Rattle.std.specs.Prelude.{◌≡◌, ℕ, ℤ, Option, Some, None, List, [],
 use Rattle.forec_kernel.specs.declared.shape.VarCopy.{VarCopy}
 use Rattle.forec_kernel.specs.Plain.{expr, stmt, stmts}
 use Rattle.forec_kernel.specs.Texts as plain
-use Rattle.forec_kernel.specs.Texts.{text_of, texts_of}
+use Rattle.forec_kernel.specs.Texts.{text_of, texts_of, Threads, no_threads, child, ended_is_gone}
 use Rattle.forec_kernel.specs.Steps.{Move, Finished, Halts, Moves, move_before, move_watched, move_last}
 use Rattle.running_threads.specs.declared.threads.Frame.{Frame}
 use Rattle.running_threads.specs.declared.threads.Frame.TheVariants as frame
@@ -44,3 +44,8 @@ next_text (next.Enters turn) = plain.Then (text_of (stmt turn.body.now)) (plain.
 next_text (next.Watches weak e body) = plain.Watch weak (expr e.now) (text_of (stmt body.now))
 next_text (next.Lasts body) = plain.Last (text_of (stmt body.now))
 next_text (next.Forks cs) = plain.Fork (threads cs)
+
+-- the first child, if it ended, is gone
+abbrev pub first_is_gone : Threads → Threads
+first_is_gone no_threads = no_threads
+first_is_gone (child t R w c st rest) = child t R w c (ended_is_gone st) rest

@@ -3,6 +3,7 @@
 ghost use Rattle.std.specs.Prelude.{◌≡◌, IfOk};
 ghost use Rattle.forec_kernel.specs.Texts.{is_running, is_active, is_over, some_running, all_over, runs_at, first_trap, trap_of, ended_is_gone, ended_are_gone};
 ghost use Rattle.running_threads.specs.Views.{threads, standing, focused, plain_thread};
+ghost use Rattle.running_threads.specs.Moves.{first_is_gone};
 
 use crate::threads::{Children, Focus, Status, Thread};
 use forec_base::{Place, Trap};
@@ -95,15 +96,24 @@ fn gone_if_ended(status: Status) -> Status
     }
 }
 
+// The first child, if it ended, is gone.
+fn retire_first(children: &mut Children<'_>)
+    ensures { threads children.new ≡ first_is_gone (threads children.old) }
+{
+    if let Children::Child { first, .. } = children {
+        first.status = gone_if_ended(first.status);
+    }
+}
+
 /// Makes each child that ended gone.
 pub fn retire(children: &mut Children<'_>)
     ensures { threads children.new ≡ ended_are_gone (threads children.old) }
 {
     match children {
         Children::Nobody => {}
-        Children::Child { first, rest } => {
-            first.status = gone_if_ended(first.status);
+        Children::Child { rest, .. } => {
             retire(rest);
+            retire_first(children);
         }
     }
 }

@@ -72,7 +72,8 @@ pub fn resume<'k>(frames: &mut Vec<Frame<'k>>) -> Result<Option<Focus<'k>>, Allo
         None => Ok(None),
         Some(Frame::Rest { list }) => Ok(Some(start_list(frames, list)?)),
         Some(Frame::Again { turn }) => Ok(Some(Focus::Turning { turn })),
-        Some(_) => Ok(Some(Focus::Done)),
+        Some(Frame::Watch { .. }) => Ok(Some(Focus::Done)),
+        Some(Frame::Last) => Ok(Some(Focus::Done)),
     }
 }
 

@@ -9,8 +9,8 @@ pub returns-then-is_empty : goal.returns-then-is_empty
 returns-then-is_empty c =
     ap (plugged c.args.frames.now.items) (texts_none c.args.list.now (sym c.is_empty.ensures ∙ c.if-is_empty.true))
 
-pub returns-in_ok-push_rest : goal.returns-in_ok-push_rest
-returns-in_ok-push_rest c =
+pub returns : goal.returns
+returns c =
     let whole = texts_some c.args.list.now c.index-list-0.result (sym c.is_empty.ensures ∙ c.if-is_empty.false) c.index-list-0.is in
     subst (λ T. IfOk c.start.result (λ x. plugged c.start.new.frames.items (focused x) ≡ T))
     (c.in_ok-push_rest.ensures (text_of (stmt c.index-list-0.result)) ∙ ap (plugged c.args.frames.now.items) whole) c.start.ensures
