@@ -118,8 +118,9 @@ pub fn retire(children: &mut Children<'_>)
     }
 }
 
+/// A focus like another.
 #[cycle(copying)]
-fn duplicate_focus<'k>(alloc: Global, from: &Focus<'k>) -> Result<Focus<'k>, AllocError>
+pub fn duplicate_focus<'k>(alloc: Global, from: &Focus<'k>) -> Result<Focus<'k>, AllocError>
     ensures { IfOk result (λ x. focused x ≡ focused from.now) }
 {
     match from {
@@ -157,9 +158,8 @@ pub fn duplicate_thread<'k>(alloc: Global, from: &Thread<'k>) -> Result<Thread<'
     })
 }
 
-/// Children like others.
 #[cycle(copying)]
-pub fn duplicate_children<'k>(
+fn duplicate_children<'k>(
     alloc: Global,
     from: &Children<'k>,
 ) -> Result<Children<'k>, AllocError>

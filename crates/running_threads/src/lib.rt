@@ -7,7 +7,7 @@ mod frames;
 mod threads;
 
 pub use children::{
-    all_done, duplicate_children, duplicate_thread, leftmost_trap, ran, retire, runs, runs_there,
+    all_done, duplicate_focus, duplicate_thread, leftmost_trap, ran, retire, runs, runs_there,
     some_run,
 };
 pub use frames::{Next, go_on, leave_last, resume, start, start_list};

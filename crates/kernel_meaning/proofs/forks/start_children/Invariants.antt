@@ -2,8 +2,8 @@ use Rattle.std.proofs.Common.{◌≡◌, ◌≤◌, length, drop, map}
 use Rattle.forec_kernel.specs.Plain.{branch}
 use Rattle.forec_kernel.specs.Shapes.{plain_kernel}
 use Rattle.forec_kernel.specs.Steps.{started}
-use Rattle.running_texts.specs.Views.{threads}
-use Rattle.running_texts.proofs.forks.start_children.Given as goal
+use Rattle.running_threads.specs.Views.{threads}
+use Rattle.kernel_meaning.proofs.forks.start_children.Given as goal
 
 abbrev pub invariant-loop-at : goal.invariant-loop-at
 invariant-loop-at l =

@@ -1,7 +1,7 @@
 use Rattle.std.proofs.Common.{arith}
 use Rattle.forec_kernel.specs.Shapes.{plain_kernel}
 use Rattle.running_texts.proofs.Kernels.{started_none}
-use Rattle.running_texts.proofs.forks.start_children.Goals as goal
+use Rattle.kernel_meaning.proofs.forks.start_children.Goals as goal
 
 pub loop-at-init : goal.loop-at-init
 loop-at-init c = (
