@@ -1,5 +1,8 @@
 pub mod Puts
 pub mod Arguments
 pub mod Stepping
+pub mod Threads
 pub mod Loops
+pub mod Fates
+pub mod Running
 pub mod Transposed

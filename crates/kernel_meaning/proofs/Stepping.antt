@@ -166,3 +166,11 @@ fork_err s old new Over o bs a m = let l = m.by in record { by = omega (arith, f
     fork_least (Ready ls u) = omega arith
     fork_least (Refused place trap u) = omega arith
 fork_err s old new OutOfMemory o bs a m = record { by = tt }
+
+-- ---- steps that cost nothing
+
+pub finishes : (s : Site) (left : ℕ) → IsMoved s left left (Ok step.Finishes) Finished
+finishes s left = record { by = record { units = 0; is = refl; left = omega arith } }
+
+pub halts : (s : Site) (left : ℕ) → IsMoved s left left (Ok step.Halts) Halts
+halts s left = record { by = record { units = 0; is = refl; left = omega arith } }

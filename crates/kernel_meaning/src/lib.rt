@@ -5,4 +5,10 @@
 mod forks;
 mod joins;
 mod moving;
+mod orders;
 mod statements;
+mod steps;
+mod ticks;
+mod wakes;
+
+pub use ticks::{State, rewrite_tick};

@@ -289,11 +289,16 @@ pub(crate) fn statement_step<'k>(
         Statement::If { test, yes, no } => {
             let test = number_of(alloc, kernel, uses, words, copies, test, left);
             match tested(test, left) {
-                Ok(n) => Ok(Step::Goes {
-                    next: Next::Does {
-                        statement: if n == 0 { no } else { yes },
-                    },
-                }),
+                Ok(n) => {
+                    if n == 0 {
+                        return Ok(Step::Goes {
+                            next: Next::Does { statement: no },
+                        });
+                    }
+                    Ok(Step::Goes {
+                        next: Next::Does { statement: yes },
+                    })
+                }
                 Err(halt) => Err(halt),
             }
         }

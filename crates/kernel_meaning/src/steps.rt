@@ -1,0 +1,279 @@
+// One step of a thread, in place, along a path that picks the child at each fork.
+
+ghost use Rattle.std.specs.Prelude.{◌≡◌, ◌<◌, ◌+◌, ℕ, ℤ, IfOk, List, true, false};
+ghost use Rattle.forec_kernel.specs.Shapes.{plain_kernel};
+ghost use Rattle.forec_kernel.specs.Texts as plain;
+ghost use Rattle.forec_kernel.specs.Steps.{Path, Move, Finished, Halts, place_at, path_below, text_move, child_move, thread_move, thread_after};
+ghost use Rattle.running_threads.specs.Views.{threads, focused, standing, plain_thread};
+ghost use Rattle.running_threads.specs.Moves.{plugged_move};
+ghost use Rattle.kernel_meaning.specs.Moving.{IsMoved, site, leads, rested, AreStepped, IsForked, IsThread, after_move, place_or_first, first_is_here, place_behind, running_below};
+ghost use Rattle.kernel_meaning.specs.States.{site_of};
+ghost use Rattle.kernel_meaning.specs.declared.moving.Step.TheVariants.{Sets};
+
+use crate::joins::join_step;
+use crate::moving::{Step, set_copy};
+use crate::statements::{loop_step, statement_step};
+use forec_kernel::{KernelParts, Spot, VarCopy};
+use running_texts::{Halt, clear_words, set_word, thread_uses};
+use running_threads::{
+    Children, Focus, Status, Thread, all_done, go_on, leave_last, resume, retire, runs, runs_there,
+    some_run,
+};
+use std::alloc::{AllocError, Global};
+use std::mem;
+
+/// Whether the focus is a fork one of whose children is running.
+fn runs_below(focus: &Focus<'_>) -> bool
+    ensures { result ≡ running_below (focused focus.now) }
+{
+    match focus {
+        Focus::Fork { children } => some_run(children),
+        _ => false,
+    }
+}
+
+// One step of a focus none of whose children is running.
+fn focus_step<'k>(
+    alloc: Global,
+    kernel: &'k KernelParts,
+    uses: &[u32],
+    words: &[i32],
+    copies: &[VarCopy],
+    focus: &Focus<'k>,
+    left: &mut u64,
+) -> Result<Step<'k>, Halt>
+    requires { running_below (focused focus.now) ≡ false }
+    ensures { (path : Path) → IsMoved (site uses.now words.now copies.now (focused focus.now)) left.old left.new result
+        (text_move (plain_kernel kernel.now) path uses.now words.now copies.now (focused focus.now)) }
+{
+    match focus {
+        Focus::Done => Ok(Step::Finishes),
+        Focus::Run { statement } => {
+            statement_step(alloc, kernel, uses, words, copies, statement, left)
+        }
+        Focus::Turning { turn } => loop_step(alloc, kernel, uses, words, copies, *turn, left),
+        Focus::Resting | Focus::Held { .. } => Ok(Step::Halts),
+        Focus::Fork { children } => join_step(alloc, kernel, uses, words, copies, children, left),
+    }
+}
+
+// A thread whose focus has nothing left to do: what follows it, or the thread's end.
+fn finish(t: &mut Thread<'_>) -> Result<(), AllocError>
+    ensures { IfOk result (λ _. plain_thread t.new ≡ thread_after (plain_thread t.old) (plugged_move t.old.frames.items t.old.words.items t.old.copies.items Finished)) }
+{
+    match resume(&mut t.frames)? {
+        Some(focus) => t.focus = focus,
+        None => t.status = Status::Ended,
+    }
+    Ok(())
+}
+
+// A thread whose focus halts: it leaves the last piece of a weak abort, or the thread is paused.
+fn halt(t: &mut Thread<'_>)
+    ensures { plain_thread t.new ≡ thread_after (plain_thread t.old) (plugged_move t.old.frames.items t.old.words.items t.old.copies.items Halts) }
+{
+    if leave_last(&mut t.frames) {
+        t.focus = Focus::Done;
+    } else {
+        t.status = Status::Paused;
+    }
+}
+
+// What is left of a fork whose copies are combined.
+fn rest(focus: &mut Focus<'_>)
+    ensures { focused focus.new ≡ rested (focused focus.old) }
+{
+    match mem::replace(focus, Focus::Done) {
+        Focus::Fork { mut children } => {
+            if !all_done(&children) {
+                retire(&mut children);
+                *focus = Focus::Held { children };
+            }
+        }
+        other => *focus = other,
+    }
+}
+
+fn set(uses: &[u32], t: &mut Thread<'_>, to: Spot, value: i32)
+    ensures { plain_thread t.new ≡ thread_after (plain_thread t.old) (plugged_move t.old.frames.items t.old.words.items t.old.copies.items (leads (site_of uses.now t.old) (Sets to value) 0)) }
+{
+    match to {
+        Spot::Local { slot } => set_word(&mut t.words, slot as usize, value),
+        Spot::Variable { variable } => {
+            let copy = VarCopy {
+                value,
+                modified: true,
+            };
+            set_copy(uses, &mut t.copies, variable, copy);
+        }
+    }
+    t.focus = Focus::Done;
+}
+
+// A thread after a step of its focus.
+fn after_step<'k>(
+    alloc: Global,
+    uses: &[u32],
+    t: &mut Thread<'k>,
+    step: Result<Step<'k>, Halt>,
+) -> Result<(), Halt>
+    ensures { (old new : ℕ) (m : Move) → IsMoved (site_of uses.now t.old) old new step.entry m →
+        IsThread old new (plain_thread t.new) result (after_move (plain_thread t.old) (plugged_move t.old.frames.items t.old.words.items t.old.copies.items m)) }
+{
+    match step {
+        Ok(Step::Finishes) => Ok(finish(t)?),
+        Ok(Step::Halts) => {
+            halt(t);
+            Ok(())
+        }
+        Ok(Step::Sets { to, value }) => {
+            set(uses, t, to, value);
+            Ok(())
+        }
+        Ok(Step::SetsAt { slot, value }) => {
+            set_word(&mut t.words, slot, value);
+            t.focus = Focus::Done;
+            Ok(())
+        }
+        Ok(Step::Clears { slot, length }) => {
+            clear_words(&mut t.words, slot, length);
+            t.focus = Focus::Done;
+            Ok(())
+        }
+        Ok(Step::Joins { copies }) => {
+            t.copies = copies;
+            rest(&mut t.focus);
+            Ok(())
+        }
+        Ok(Step::Goes { next }) => {
+            t.focus = go_on(alloc, &mut t.frames, next)?;
+            Ok(())
+        }
+        Err(Halt::Trapped { place, trap }) => {
+            t.status = Status::Trapped { place, trap };
+            Ok(())
+        }
+        Err(halt) => Err(halt),
+    }
+}
+
+fn here(at: Option<u32>, children: &Children<'_>) -> bool
+    ensures { result ≡ first_is_here at (threads children.now) }
+{
+    match (at, children) {
+        (Some(i), _) => i == 0,
+        (None, Children::Child { first, .. }) => runs(first.status),
+        (None, Children::Nobody) => false,
+    }
+}
+
+fn behind(at: Option<u32>) -> Option<u32>
+    ensures { result ≡ place_behind at }
+{
+    match at {
+        Some(i) => Some(i.saturating_sub(1)),
+        None => None,
+    }
+}
+
+// The child that a path picks; none for the leftmost running one.
+fn picked(path: &[u32], children: &Children<'_>) -> Option<u32>
+    ensures { place_or_first result (threads children.now) ≡ place_at path.now (threads children.now) }
+{
+    match path {
+        [] => None,
+        [first, ..] => {
+            if runs_there(*first, children) {
+                Some(*first)
+            } else {
+                None
+            }
+        }
+    }
+}
+
+// The path on from the child that it picks.
+fn path_on<'a>(path: &'a [u32], children: &Children<'_>) -> &'a [u32]
+    ensures { result.now ≡ path_below path.now (threads children.now) }
+{
+    match path {
+        [] => &[],
+        [first, rest @ ..] => {
+            if runs_there(*first, children) {
+                rest
+            } else {
+                &[]
+            }
+        }
+    }
+}
+
+/// One step of a thread, in place.
+#[cycle(stepping)]
+pub(crate) fn thread_step<'k>(
+    alloc: Global,
+    kernel: &'k KernelParts,
+    path: &[u32],
+    t: &mut Thread<'k>,
+    left: &mut u64,
+) -> Result<(), Halt>
+    ensures { IsThread left.old left.new (plain_thread t.new) result
+        (after_move (plain_thread t.old) (thread_move (plain_kernel kernel.now) path.now (plain_thread t.old))) }
+{
+    if runs_below(&t.focus) {
+        return fork_step(alloc, kernel, path, &mut t.focus, left);
+    }
+    let uses = thread_uses(kernel, t.number);
+    let step = focus_step(alloc, kernel, uses, &t.words, &t.copies, &t.focus, left);
+    after_step(alloc, uses, t, step)
+}
+
+// A step of one of the running children of a fork.
+#[cycle(stepping)]
+fn fork_step<'k>(
+    alloc: Global,
+    kernel: &'k KernelParts,
+    path: &[u32],
+    focus: &mut Focus<'k>,
+    left: &mut u64,
+) -> Result<(), Halt>
+    requires { running_below (focused focus.old) ≡ true }
+    ensures { (uses : List ℕ) (w : List ℤ) (c : List VarCopy) → IsForked left.old left.new w c (focused focus.new) result
+        (text_move (plain_kernel kernel.now) path.now uses w c (focused focus.old)) }
+{
+    match focus {
+        Focus::Fork { children } => {
+            let at = picked(path, children);
+            let below = path_on(path, children);
+            child_step(alloc, kernel, below, at, children, left)
+        }
+        _ => Ok(()),
+    }
+}
+
+// A step of the child at a place, or of the leftmost running one.
+#[cycle(stepping)]
+fn child_step<'k>(
+    alloc: Global,
+    kernel: &'k KernelParts,
+    path: &[u32],
+    at: Option<u32>,
+    children: &mut Children<'k>,
+    left: &mut u64,
+) -> Result<(), Halt>
+    ensures { AreStepped left.old left.new (threads children.new) result
+        (child_move (plain_kernel kernel.now) path.now (place_or_first at (threads children.old)) (threads children.old)) }
+{
+    if here(at, children) {
+        return match children {
+            Children::Nobody => Ok(()),
+            Children::Child { first, .. } => thread_step(alloc, kernel, path, first, left),
+        };
+    }
+    match children {
+        Children::Nobody => Ok(()),
+        Children::Child { rest, .. } => {
+            child_step(alloc, kernel, path, behind(at), rest, left)
+        }
+    }
+}
