@@ -179,3 +179,23 @@ others_step k path at old new t rest now r e h =
     by_case (Err (Trapped place trap)) h = record { by = h.by }
     by_case (Err Over) h = record { by = h.by }
     by_case (Err OutOfMemory) h = record { by = tt }
+
+-- ---- a focus
+
+pub fork_joins : (k : PlainKernel) (path : Path) (uses : List ℕ) (w : List ℤ) (c : List VarCopy) (cs : Threads) → some_running cs ≡ false →
+    text_move k path uses w c (Fork cs) ≡ joined (record { kernel = k; uses = uses }) w c cs (first_trap cs)
+fork_joins k path uses w c cs none =
+    let branch : Bool → Move =
+    λ t. elim t [
+      | true ↦
+          let s = child_move k (path_below path cs) (place_at path cs) cs in Moves (Fork s.children) w c s.units
+      | false ↦ joined (record { kernel = k; uses = uses }) w c cs (first_trap cs)
+    ] in
+    ap branch none
+
+pub after_write : {A : Type 0} (s : Site) (a : Step) (old new : ℕ) (m : Move) (t now : Thread) (fs : List Frame) (w' : List ℤ) (c' : List VarCopy) (R : Text) (x : A) →
+    IsMoved s old new (Ok a) m → ((u : ℕ) → leads s a u ≡ Moves R w' c' u) → now ≡ record t { text = plugged fs R; words = w'; copies = c' } →
+    IsThread old new now (Ok x) (after_move t (plugged_move fs s.words s.copies m))
+after_write s a old new m t now fs w' c' R x h e same =
+    after_ok s a old new m t now fs x h
+    (λ u. after_goes t now fs s.words w' s.copies c' R u same ∙ ap (λ n. thread_after t (plugged_move fs s.words s.copies n)) (sym (e u)))

@@ -94,20 +94,24 @@ fn rest(focus: &mut Focus<'_>)
     }
 }
 
+// A number goes to a word, or marked to a copy.
 fn set(uses: &[u32], t: &mut Thread<'_>, to: Spot, value: i32)
-    ensures { plain_thread t.new ≡ thread_after (plain_thread t.old) (plugged_move t.old.frames.items t.old.words.items t.old.copies.items (leads (site_of uses.now t.old) (Sets to value) 0)) }
+    ensures { (u : ℕ) → plain_thread t.new ≡ thread_after (plain_thread t.old) (plugged_move t.old.frames.items t.old.words.items t.old.copies.items (leads (site_of uses.now t.old) (Sets to value) u)) }
 {
     match to {
-        Spot::Local { slot } => set_word(&mut t.words, slot as usize, value),
+        Spot::Local { slot } => {
+            set_word(&mut t.words, slot as usize, value);
+            t.focus = Focus::Done;
+        }
         Spot::Variable { variable } => {
             let copy = VarCopy {
                 value,
                 modified: true,
             };
             set_copy(uses, &mut t.copies, variable, copy);
+            t.focus = Focus::Done;
         }
     }
-    t.focus = Focus::Done;
 }
 
 // A thread after a step of its focus.

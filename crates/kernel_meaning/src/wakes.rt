@@ -1,6 +1,6 @@
 // Waking: a thread of the state before, as it begins a tick.
 
-ghost use Rattle.std.specs.Prelude.{◌≡◌, ◌<◌, ◌+◌, ℕ, ℤ, List, IfOk, Some};
+ghost use Rattle.std.specs.Prelude.{◌≡◌, ◌<◌, ◌+◌, ℕ, ℤ, List, ◌++◌, IfOk, Some};
 ghost use Rattle.forec_kernel.specs.Shapes.{plain_kernel};
 ghost use Rattle.forec_kernel.specs.Steps.{woken, woken_children};
 ghost use Rattle.running_texts.specs.Metered.{IsMetered};
@@ -41,6 +41,15 @@ fn refilled<'k>(frame: &Frame<'k>) -> Frame<'k>
     }
 }
 
+fn push_all<'k>(after: &mut Vec<Frame<'k>>, frames: &[Frame<'k>]) -> Result<(), AllocError>
+    ensures { IfOk result (λ _. after.new.items ≡ after.old.items ++ frames.now) }
+{
+    for frame in frames {
+        after.push(*frame)?;
+    }
+    Ok(())
+}
+
 // The frames that a text has when it wakes, and how far waking goes.
 fn wake_frames<'k>(
     alloc: Global,
@@ -75,7 +84,7 @@ fn wake_frames<'k>(
                 }
             }
             Frame::Last => {
-                after.extend_from_slice(frames)?;
+                push_all(after, frames)?;
                 Ok(Reach::Last)
             }
             _ => {
