@@ -5,4 +5,3 @@ pub mod Threads
 pub mod Loops
 pub mod Fates
 pub mod Running
-pub mod Transposed

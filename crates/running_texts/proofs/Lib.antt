@@ -1,5 +1,7 @@
 pub mod Copies
 pub mod Kernels
+pub mod Lists
+pub mod Pushes
 pub mod Words
 pub mod Metering
 pub mod Falls

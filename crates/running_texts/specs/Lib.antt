@@ -1,2 +1,3 @@
 pub mod Metered
+pub mod Views
 pub mod Folding

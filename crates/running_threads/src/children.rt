@@ -159,10 +159,7 @@ pub fn duplicate_thread<'k>(alloc: Global, from: &Thread<'k>) -> Result<Thread<'
 }
 
 #[cycle(copying)]
-fn duplicate_children<'k>(
-    alloc: Global,
-    from: &Children<'k>,
-) -> Result<Children<'k>, AllocError>
+fn duplicate_children<'k>(alloc: Global, from: &Children<'k>) -> Result<Children<'k>, AllocError>
     ensures { IfOk result (λ x. threads x ≡ threads from.now) }
 {
     match from {

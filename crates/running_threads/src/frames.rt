@@ -14,10 +14,7 @@ use forec_kernel::{Expression, Statement};
 use std::alloc::{AllocError, Global};
 
 // A frame for the statements that follow the first of a sequence, if there are any.
-fn push_rest<'k>(
-    frames: &mut Vec<Frame<'k>>,
-    rest: &'k [Statement],
-) -> Result<(), AllocError>
+fn push_rest<'k>(frames: &mut Vec<Frame<'k>>, rest: &'k [Statement]) -> Result<(), AllocError>
     ensures { IfOk result (λ _. (R : plain.Text) → plugged frames.new.items R ≡ plugged frames.old.items (plain.then_list R (stmts rest.now))) }
 {
     if rest.is_empty() {
@@ -29,10 +26,7 @@ fn push_rest<'k>(
 
 /// A statement at its start, inside some frames; a sequence is its first statement, with a frame for the
 /// others.
-pub fn start<'k>(
-    frames: &mut Vec<Frame<'k>>,
-    s: &'k Statement,
-) -> Result<Focus<'k>, AllocError>
+pub fn start<'k>(frames: &mut Vec<Frame<'k>>, s: &'k Statement) -> Result<Focus<'k>, AllocError>
     ensures { IfOk result (λ x. plugged frames.new.items (focused x) ≡ plugged frames.old.items (text_of (stmt s.now))) }
 {
     match s {
@@ -121,13 +115,21 @@ pub enum Next<'k> {
     /// A pause that was reached.
     Rests,
     /// A statement at its start.
-    Does { statement: &'k Statement },
+    Does {
+        statement: &'k Statement,
+    },
     /// Statements at their start.
-    DoesAll { list: &'k [Statement] },
+    DoesAll {
+        list: &'k [Statement],
+    },
     /// A loop before its test.
-    Turns { turn: Turn<'k> },
+    Turns {
+        turn: Turn<'k>,
+    },
     /// The body of a loop, and then the loop.
-    Enters { turn: Turn<'k> },
+    Enters {
+        turn: Turn<'k>,
+    },
     /// The body of an abort, in progress.
     Watches {
         weak: bool,
@@ -135,9 +137,13 @@ pub enum Next<'k> {
         body: &'k Statement,
     },
     /// The body of a weak abort, in its last piece.
-    Lasts { body: &'k Statement },
+    Lasts {
+        body: &'k Statement,
+    },
     /// The branches of a `par` at their start.
-    Forks { children: Children<'k> },
+    Forks {
+        children: Children<'k>,
+    },
 }
 
 // A statement at its start inside one more frame.
