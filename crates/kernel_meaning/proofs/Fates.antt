@@ -24,7 +24,7 @@ use Rattle.running_threads.specs.declared.threads.Thread as rust
 use Rattle.running_threads.specs.Views.{framed, plugged, focused, plain_thread}
 use Rattle.kernel_meaning.specs.declared.wakes.Reach.{Reach}
 use Rattle.kernel_meaning.specs.declared.wakes.Reach.TheVariants as reach
-use Rattle.kernel_meaning.specs.Waking.{refilled_frame, Fate, Reaches, Sticks, fate_units, more_fate, fate_in, fate_with, fate_on, fate, Reached, waking, woken_thread, WokenTo}
+use Rattle.kernel_meaning.specs.Waking.{Fate, Reaches, Sticks, fate_units, more_fate, fate_in, fate_with, fate_on, fate, Reached, waking, woken_thread, WokenTo}
 
 -- ---- what the whole text comes to
 
@@ -94,13 +94,13 @@ append_nil [] = refl
 append_nil (x ∷ xs) = ap (λ l. x ∷ l) (append_nil xs)
 
 pub reached_here : (before : List Frame) (left : ℕ) → Reached (Reaches reach.Focus [] 0) before before left left (Ok reach.Focus)
-reached_here before left = record { by = record { frames = []; units = 0; is = refl; after = append_nil before; left = omega arith } }
+reached_here before left = record { by = record { frames = []; units = 0; is = refl; grown = append_nil before; left = omega arith } }
 
 pub reached_out : (before : List Frame) (left : ℕ) → Reached (Reaches reach.Out [] 0) before before left left (Ok reach.Out)
-reached_out before left = record { by = record { frames = []; units = 0; is = refl; after = append_nil before; left = omega arith } }
+reached_out before left = record { by = record { frames = []; units = 0; is = refl; grown = append_nil before; left = omega arith } }
 
 pub reached_last : (before after fs : List Frame) (left : ℕ) → after ≡ before ++ fs → Reached (Reaches reach.Last fs 0) before after left left (Ok reach.Last)
-reached_last before after fs left e = record { by = record { frames = fs; units = 0; is = refl; after = e; left = omega arith } }
+reached_last before after fs left e = record { by = record { frames = fs; units = 0; is = refl; grown = e; left = omega arith } }
 
 in_units : (f : Frame) (x : Fate) → fate_units (fate_in f x) ≡ fate_units x
 in_units f (Reaches to fs u) = refl
@@ -118,7 +118,7 @@ reached_in f x before mid after old new (Ok to) e h =
         frames = f ∷ h.by.frames;
         units = h.by.units;
         is = ap (fate_in f) h.by.is;
-        after = h.by.after ∙ ap (λ l. l ++ h.by.frames) e ∙ append_assoc before (f ∷ []) h.by.frames;
+        grown = h.by.grown ∙ ap (λ l. l ++ h.by.frames) e ∙ append_assoc before (f ∷ []) h.by.frames;
         left = h.by.left;
       };
     }
@@ -131,7 +131,7 @@ reached_more : (u : ℕ) (x : Fate) (before after : List Frame) (old mid new : �
     Reached x before after mid new r → Reached (more_fate u x) before after old new r
 reached_more u x before after old mid new (Ok to) e h =
     record {
-      by = record { frames = h.by.frames; units = u + h.by.units; is = ap (more_fate u) h.by.is; after = h.by.after; left = let l = h.by.left in omega arith };
+      by = record { frames = h.by.frames; units = u + h.by.units; is = ap (more_fate u) h.by.is; grown = h.by.grown; left = let l = h.by.left in omega arith };
     }
 reached_more u x before after old mid new (Err (Trapped place trap)) e h =
     record { by = record { units = u + h.by.units; is = ap (more_fate u) h.by.is; left = let l = h.by.left in omega arith } }
@@ -208,7 +208,7 @@ wakes_focus k uses t copies old mid new fs gs R F x text h m same =
     wakes_as k uses t copies old new (h.by.units + m.by.units) (plugged gs (focused F)) x
     (ap (woken k uses t.words copies) text ∙ woken_fate k uses t.words copies fs R ∙ ap (λ y. by_fate R y (woken k uses t.words copies R)) h.by.is
     ∙ ap (by_fate R (Reaches reach.Focus h.by.frames h.by.units)) m.by.is
-    ∙ ap (λ l. Wakes (plugged l (focused F)) (h.by.units + m.by.units)) (sym h.by.after))
+    ∙ ap (λ l. Wakes (plugged l (focused F)) (h.by.units + m.by.units)) (sym h.by.grown))
     same (omega arith)
 
 pub wakes_last : (k : PlainKernel) (uses : List ℕ) (t : Thread) (copies : List VarCopy) (old new : ℕ) (fs gs : List Frame) (R : Text) (x : rust.Thread) →
@@ -218,7 +218,7 @@ pub wakes_last : (k : PlainKernel) (uses : List ℕ) (t : Thread) (copies : List
 wakes_last k uses t copies old new fs gs R x text h same =
     wakes_as k uses t copies old new h.by.units (plugged gs R) x
     (ap (woken k uses t.words copies) text ∙ woken_fate k uses t.words copies fs R ∙ ap (λ y. by_fate R y (woken k uses t.words copies R)) h.by.is
-    ∙ ap (λ l. Wakes (plugged l R) h.by.units) (sym h.by.after))
+    ∙ ap (λ l. Wakes (plugged l R) h.by.units) (sym h.by.grown))
     same h.by.left
 
 pub wakes_out : (k : PlainKernel) (uses : List ℕ) (t : Thread) (copies : List VarCopy) (old new : ℕ) (fs gs : List Frame) (R : Text) (x : rust.Thread) →
@@ -228,7 +228,7 @@ pub wakes_out : (k : PlainKernel) (uses : List ℕ) (t : Thread) (copies : List 
 wakes_out k uses t copies old new fs gs R x text h same =
     wakes_as k uses t copies old new h.by.units (plugged gs Done) x
     (ap (woken k uses t.words copies) text ∙ woken_fate k uses t.words copies fs R ∙ ap (λ y. by_fate R y (woken k uses t.words copies R)) h.by.is
-    ∙ ap (λ l. Wakes (plugged l Done) h.by.units) (sym h.by.after))
+    ∙ ap (λ l. Wakes (plugged l Done) h.by.units) (sym h.by.grown))
     same h.by.left
 
 pub wakes_not : (k : PlainKernel) (uses : List ℕ) (t : Thread) (copies : List VarCopy) (old new : ℕ) (fs gs : List Frame) (R : Text) (place : Place) (trap : Trap) (x : rust.Thread) →

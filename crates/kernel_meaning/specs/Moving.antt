@@ -1,5 +1,5 @@
 -- Steps under an allowance of units.
-use Rattle.std.specs.Prelude.{ℕ, ◌<◌, ◌≡◌, ◌+◌, ◌-◌, ◌==◌, ℤ, Bool, false, cond, Option, Some, None, List, map, slice_set}
+use Rattle.std.specs.Prelude.{ℕ, ◌<◌, ◌≡◌, ◌+◌, ◌-◌, ◌==◌, ℤ, Bool, true, false, cond, Option, Some, None, List, map, slice_set}
 use Rattle.std.specs.declared.vec.Vec.{Vec}
 use Rattle.std.specs.declared.alloc.Global.{Global}
 use Rattle.std.specs.declared.result.Result.{Result}

@@ -24,13 +24,6 @@ use Rattle.running_threads.specs.Views.{plugged, focused, threads, plain_thread}
 use Rattle.kernel_meaning.specs.declared.wakes.Reach.{Reach}
 use Rattle.kernel_meaning.specs.declared.wakes.Reach.TheVariants as reach
 
--- a loop gets its turns again
-abbrev pub refilled_frame : Frame → Frame
-refilled_frame (frame.Rest list) = frame.Rest list
-refilled_frame (frame.Again turn) = frame.Again (record turn { left = turn.bound })
-refilled_frame (frame.Watch weak e) = frame.Watch weak e
-refilled_frame frame.Last = frame.Last
-
 -- what becomes of the frames of a text that wakes: these, to so far; or a test traps
 pub data Fate : Type 0 where
   Reaches : (to : Reach) → (frames : List Frame) → (units : ℕ) → Fate
@@ -70,7 +63,7 @@ pub record ReachedTo (f : Fate) (before after : List Frame) (old new : ℕ) (to 
   pub frames : List Frame
   pub units : ℕ
   pub is : f ≡ Reaches to frames units
-  pub after : after ≡ before ++ frames
+  pub grown : after ≡ before ++ frames
   pub left : new + units ≡ old
 
 abbrev pub ReachedBy : Fate → List Frame → List Frame → ℕ → ℕ → Result Reach Halt → Type 0

@@ -164,10 +164,12 @@ fn after_step<'k>(
 fn here(at: Option<u32>, children: &Children<'_>) -> bool
     ensures { result ≡ first_is_here at (threads children.now) }
 {
-    match (at, children) {
-        (Some(i), _) => i == 0,
-        (None, Children::Child { first, .. }) => runs(first.status),
-        (None, Children::Nobody) => false,
+    match at {
+        Some(i) => i == 0,
+        None => match children {
+            Children::Nobody => false,
+            Children::Child { first, .. } => runs(first.status),
+        },
     }
 }
 

@@ -6,7 +6,7 @@ ghost use Rattle.forec_kernel.specs.Steps.{woken, woken_children};
 ghost use Rattle.running_texts.specs.Metered.{IsMetered};
 ghost use Rattle.forec_kernel.specs.Texts.{child_of, Running};
 ghost use Rattle.running_threads.specs.Views.{threads, focused, plugged, plain_thread, standing};
-ghost use Rattle.kernel_meaning.specs.Waking.{refilled_frame, Reached, fate, waking, WokenTo, woken_thread, AreWoken};
+ghost use Rattle.kernel_meaning.specs.Waking.{Reached, fate, waking, WokenTo, woken_thread, AreWoken};
 
 use crate::statements::number_of;
 use forec_kernel::{KernelParts, VarCopy};
@@ -23,21 +23,16 @@ pub(crate) enum Reach {
     Out,
 }
 
-// A frame as it is at the start of a tick: a loop gets its turns again.
-fn refilled<'k>(frame: &Frame<'k>) -> Frame<'k>
-    ensures { result ≡ refilled_frame frame.now }
+// A loop gets its turns again.
+fn refilled<'k>(turn: &Turn<'k>) -> Turn<'k>
+    ensures { result ≡ record turn.now { left = turn.now.bound } }
 {
-    match frame {
-        Frame::Again { turn } => Frame::Again {
-            turn: Turn {
-                test: turn.test,
-                bound: turn.bound,
-                left: turn.bound,
-                body: turn.body,
-                place: turn.place,
-            },
-        },
-        other => *other,
+    Turn {
+        test: turn.test,
+        bound: turn.bound,
+        left: turn.bound,
+        body: turn.body,
+        place: turn.place,
     }
 }
 
@@ -87,8 +82,13 @@ fn wake_frames<'k>(
                 push_all(after, frames)?;
                 Ok(Reach::Last)
             }
-            _ => {
-                after.push(refilled(first))?;
+            Frame::Rest { .. } => {
+                after.push(*first)?;
+                wake_frames(alloc, kernel, uses, words, copies, rest, after, left)
+            }
+            Frame::Again { turn } => {
+                let turn = refilled(turn);
+                after.push(Frame::Again { turn })?;
                 wake_frames(alloc, kernel, uses, words, copies, rest, after, left)
             }
         },

@@ -1,10 +1,10 @@
 -- Steps of a text inside frames.
-use Rattle.std.specs.Prelude.{◌≡◌, ℕ, ℤ, Option, Some, None, List, [], ◌∷◌}
+use Rattle.std.specs.Prelude.{◌≡◌, ℤ, Option, Some, None, List, [], ◌∷◌}
 use Rattle.forec_kernel.specs.declared.shape.VarCopy.{VarCopy}
 use Rattle.forec_kernel.specs.Plain.{expr, stmt, stmts}
 use Rattle.forec_kernel.specs.Texts as plain
 use Rattle.forec_kernel.specs.Texts.{text_of, texts_of, Threads, no_threads, child, ended_is_gone}
-use Rattle.forec_kernel.specs.Steps.{Move, Finished, Halts, Moves, move_before, move_watched, move_last}
+use Rattle.forec_kernel.specs.Steps.{Move, Finished, Moves, move_before, move_watched, move_last}
 use Rattle.running_threads.specs.declared.threads.Frame.{Frame}
 use Rattle.running_threads.specs.declared.threads.Frame.TheVariants as frame
 use Rattle.running_threads.specs.declared.threads.Focus.{Focus}

@@ -1,4 +1,4 @@
-use Rattle.std.proofs.Common.{◌≡◌, ◌∙◌, ap, sym}
+use Rattle.std.proofs.Common.{◌∙◌, ap, sym}
 use Rattle.running_threads.specs.Views.{plugged}
 use Rattle.running_threads.proofs.Plugs.{one_more, then_list_some}
 use Rattle.running_threads.proofs.frames.push_rest.Goals as goal
