@@ -5,3 +5,4 @@ pub mod Threads
 pub mod Loops
 pub mod Fates
 pub mod Running
+pub mod Transposed

@@ -8,8 +8,7 @@ ghost use Rattle.forec_kernel.specs.Steps.{started};
 ghost use Rattle.running_threads.specs.Views.{threads, plugged, focused};
 
 use forec_kernel::{KernelParts, Launch, VarCopy};
-use crate::joins::started_words;
-use running_texts::{copies_below, thread_uses};
+use running_texts::{copies_below, started_words, thread_uses};
 use running_threads::{Children, Focus, Frame, Status, Thread, start};
 use std::alloc::{AllocError, Global};
 

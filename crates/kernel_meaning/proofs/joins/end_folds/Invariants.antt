@@ -1,8 +1,8 @@
 use Rattle.std.proofs.Common.{◌≡◌, ◌++◌, drop}
 use Rattle.forec_kernel.specs.Shapes.{plain_kernel}
-use Rattle.running_texts.specs.Views.{threads}
+use Rattle.running_threads.specs.Views.{threads}
 use Rattle.running_texts.specs.Folding.{folded_copies}
-use Rattle.running_texts.proofs.folds.end_folds.Given as goal
+use Rattle.kernel_meaning.proofs.joins.end_folds.Given as goal
 
 abbrev pub invariant-loop-i : goal.invariant-loop-i
 invariant-loop-i l =

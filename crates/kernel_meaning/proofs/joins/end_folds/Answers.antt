@@ -1,9 +1,9 @@
 use Rattle.std.proofs.Common.{◌≤◌, min, length, false, pos, arith}
 use Rattle.forec_kernel.specs.declared.shape.VarCopy.{VarCopy}
 use Rattle.forec_kernel.specs.Shapes.{plain_kernel}
-use Rattle.running_texts.specs.Views.{threads}
+use Rattle.running_threads.specs.Views.{threads}
 use Rattle.running_texts.proofs.FoldLists.{folded_keep, folded_end}
-use Rattle.running_texts.proofs.folds.end_folds.Goals as goal
+use Rattle.kernel_meaning.proofs.joins.end_folds.Goals as goal
 
 pub returns : goal.returns
 returns c =
