@@ -3,10 +3,12 @@ use Rattle.std.proofs.Common.{◌≡◌, ◌∙◌, ℕ, ◌+◌, ◌≤◌, ◌
 use Rattle.forec_base.specs.declared.Place.{Place}
 use Rattle.forec_base.specs.declared.Trap.{Trap}
 use Rattle.forec_kernel.specs.declared.shape.VarCopy.{VarCopy}
+use Rattle.forec_kernel.specs.declared.terms.Spot.{Spot}
 use Rattle.forec_kernel.specs.declared.terms.Spot.TheVariants as spot
+use Rattle.forec_kernel.specs.Shapes.{PlainKernel}
 use Rattle.forec_kernel.specs.Values.{Value, Gives, Stops}
 use Rattle.forec_kernel.specs.Texts as plain
-use Rattle.forec_kernel.specs.Steps.{Move, Finished, Halts, Moves, Traps, more_move, move_with, units_of, Arguments, Ready, Refused, Owner, forked, started, assigned_at}
+use Rattle.forec_kernel.specs.Steps.{Move, Finished, Halts, Moves, Traps, more_move, move_with, units_of, Arguments, Ready, Refused, Owner, forked, started, assigned, assigned_at}
 use Rattle.forec_kernel.specs.Terms.{Branch}
 use Rattle.running_texts.specs.declared.meter.Halt.{Halt}
 use Rattle.running_texts.specs.declared.meter.Halt.TheVariants.{Trapped, Over, OutOfMemory}
@@ -174,3 +176,18 @@ finishes s left = record { by = record { units = 0; is = refl; left = omega arit
 
 pub halts : (s : Site) (left : ℕ) → IsMoved s left left (Ok step.Halts) Halts
 halts s left = record { by = record { units = 0; is = refl; left = omega arith } }
+
+-- ---- assignments
+
+pub assigned_ok : (k : PlainKernel) (s : Site) (to : Spot) (n : ℤ) (old mid new : ℕ) (v : Value) → IsMetered number old mid (Ok n) v → new + 1 ≡ mid →
+    IsMoved s old new (Ok (step.Sets to n)) (move_with v (λ x. assigned (record { kernel = k; uses = s.uses }) s.words s.copies to x))
+assigned_ok k s (spot.Local slot) n old mid new v m e =
+    let is = ap (λ y. move_with y (λ x. assigned (record { kernel = k; uses = s.uses }) s.words s.copies (spot.Local slot) x)) m.by.is in
+    let u = ap units_of is in
+    let l = m.by.left in
+    record { by = record { units = m.by.units + 1; is = is; left = omega arith } }
+assigned_ok k s (spot.Variable x) n old mid new v m e =
+    let is = ap (λ y. move_with y (λ z. assigned (record { kernel = k; uses = s.uses }) s.words s.copies (spot.Variable x) z)) m.by.is in
+    let u = ap units_of is in
+    let l = m.by.left in
+    record { by = record { units = m.by.units + 1; is = is; left = omega arith } }

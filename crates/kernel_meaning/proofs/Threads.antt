@@ -77,7 +77,7 @@ after_trap s old new m t now fs x place trap h e =
 
 pub after_err : {A : Type 0} (s : Site) (old new : ℕ) (h : Halt) (m : Move) (t now : Thread) (fs : List Frame) →
     ((place : Place) (trap : Trap) → h ≡ Trapped place trap → ⊥) → IsMoved s old new (Err h) m →
-    IsThread {A} old new now (Err h) (after_move t (plugged_move fs s.words s.copies m))
+    IsThread {A = A} old new now (Err h) (after_move t (plugged_move fs s.words s.copies m))
 after_err s old new (Trapped place trap) m t now fs out h = absurd (out place trap refl)
 after_err s old new Over m t now fs out h = let u = plugged_units fs s.words s.copies m in let l = h.by in record { by = omega arith }
 after_err s old new OutOfMemory m t now fs out h = record { by = tt }
@@ -93,31 +93,32 @@ quiet_step k path old new t now fs R r e h =
     subst (λ m. IsThread old new now r (after_move t m))
     (sym (ap (text_move k path (uses_of k t.number) t.words t.copies) e ∙ move_plugged k path (uses_of k t.number) t.words t.copies fs R)) h
 
+forked_by : {A : Type 0} (old new : ℕ) (t now : Thread) (fs : List Frame) (R' : Text) (r : Result A Halt) (inner : Move) →
+    now ≡ record t { text = plugged fs R' } → IsForked old new t.words t.copies R' r inner →
+    IsThread old new now r (after_move t (plugged_move fs t.words t.copies inner))
+forked_by old new t now fs R' (Ok x) inner same h =
+    let u = plugged_units fs t.words t.copies inner in
+    let v = ap units_of h.by.is in
+    let l = h.by.left in
+    let left : new + units_of (plugged_move fs t.words t.copies inner) ≡ old = omega arith in
+    record {
+      by = (
+        after_goes t now fs t.words t.words t.copies t.copies R' h.by.units same
+        ∙ ap (λ n. thread_after t (plugged_move fs t.words t.copies n)) (sym h.by.is),
+        left,
+      );
+    }
+forked_by old new t now fs R' (Err (Trapped place trap)) inner same h = record { by = h.by }
+forked_by old new t now fs R' (Err Over) inner same h =
+    let u = plugged_units fs t.words t.copies inner in let l = h.by in record { by = omega arith }
+forked_by old new t now fs R' (Err OutOfMemory) inner same h = record { by = tt }
+
 pub forked_step : {A : Type 0} (k : PlainKernel) (path : Path) (old new : ℕ) (t now : Thread) (fs : List Frame) (R R' : Text) (r : Result A Halt) →
     t.text ≡ plugged fs R → now ≡ record t { text = plugged fs R' } →
     IsForked old new t.words t.copies R' r (text_move k path (uses_of k t.number) t.words t.copies R) →
     IsThread old new now r (after_move t (thread_move k path t))
-forked_step k path old new t now fs R R' r e same h = quiet_step k path old new t now fs R r e (at r h)
-  where
-    abbrev inner : Move
-    inner = text_move k path (uses_of k t.number) t.words t.copies R
-
-    at : {A : Type 0} (r : Result A Halt) → IsForked old new t.words t.copies R' r inner → IsThread old new now r (after_move t (plugged_move fs t.words t.copies inner))
-    at (Ok x) h =
-        let u = plugged_units fs t.words t.copies inner in
-        let v = ap units_of h.by.is in
-        let l = h.by.left in
-        let left : new + units_of (plugged_move fs t.words t.copies inner) ≡ old = omega arith in
-        record {
-          by = (
-            after_goes t now fs t.words t.words t.copies t.copies R' h.by.units same
-            ∙ ap (λ n. thread_after t (plugged_move fs t.words t.copies n)) (sym h.by.is),
-            left,
-          );
-        }
-    at (Err (Trapped place trap)) h = record { by = h.by }
-    at (Err Over) h = let u = plugged_units fs t.words t.copies inner in let l = h.by in record { by = omega arith }
-    at (Err OutOfMemory) h = record { by = tt }
+forked_step k path old new t now fs R R' r e same h =
+    quiet_step k path old new t now fs R r e (forked_by old new t now fs R' r (text_move k path (uses_of k t.number) t.words t.copies R) same h)
 
 -- ---- a fork
 

@@ -52,7 +52,8 @@ fn focus_step<'k>(
             statement_step(alloc, kernel, uses, words, copies, statement, left)
         }
         Focus::Turning { turn } => loop_step(alloc, kernel, uses, words, copies, *turn, left),
-        Focus::Resting | Focus::Held { .. } => Ok(Step::Halts),
+        Focus::Resting => Ok(Step::Halts),
+        Focus::Held { .. } => Ok(Step::Halts),
         Focus::Fork { children } => join_step(alloc, kernel, uses, words, copies, children, left),
     }
 }

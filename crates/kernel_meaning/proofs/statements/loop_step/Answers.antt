@@ -26,7 +26,7 @@ pub returns-else-turns-eq0 : goal.returns-else-turns-eq0
 returns-else-turns-eq0 c = λ R.
     loop_turns (plain_kernel c.args.kernel.now) (site c.args.uses.now c.args.words.now c.args.copies.now R) (looping c.args.turn) _ _ _ c.in-Some.turns _ _
     (c.in-Ok.ensures _ _ c.number_of-test.ensures) (nonzero_of _ c.if-n-eq0.false) c.in-Some.is c.if-turns-eq0.false refl
-    (turned_text _ _ c.with_left-turn.ensures)
+    (turned_text c.with_left-turn.result _ c.with_left-turn.ensures)
 
 pub returns-in-Err : goal.returns-in-Err
 returns-in-Err c = λ R.
