@@ -1,5 +1,6 @@
 -- Waking a text inside frames, under one allowance.
-use Rattle.std.proofs.Common.{◌≡◌, ◌≢◌, ◌∙◌, ℕ, ◌+◌, ◌≤◌, ◌<◌, ℤ, pos, Bool, true, false, cond, Result, Ok, Err, List, [], ◌∷◌, ◌++◌, append_assoc, refl, ap, sym, subst, arith}
+use Rattle.std.proofs.Common.{◌≡◌, ◌≢◌, ◌∙◌, ℕ, ◌+◌, ◌-◌, ◌≤◌, ◌<◌, ℤ, pos, Bool, true, false, cond, Result, Ok, Err, List, [], ◌∷◌, ◌++◌, length, take, drop, get_or, append_assoc, refl, ap, sym, subst, arith}
+use Rattle.std.proofs.lemmas.List.{take_all, length-drop}
 use Rattle.forec_base.specs.Numbers.{is_zero}
 use Rattle.forec_base.specs.declared.Place.{Place}
 use Rattle.forec_base.specs.declared.Trap.{Trap}
@@ -20,6 +21,7 @@ use Rattle.running_texts.proofs.Tests.{AfterTest}
 use Rattle.running_threads.specs.declared.threads.Frame.{Frame}
 use Rattle.running_threads.specs.declared.threads.Frame.TheVariants as frame
 use Rattle.running_threads.specs.declared.threads.Focus.{Focus}
+use Rattle.running_threads.specs.declared.threads.Focus as focus
 use Rattle.running_threads.specs.declared.threads.Thread as rust
 use Rattle.running_threads.specs.Views.{framed, plugged, focused, plain_thread}
 use Rattle.kernel_meaning.specs.declared.wakes.Reach.{Reach}
@@ -88,6 +90,13 @@ woken_fate k uses w c (frame.Watch weak e ∷ fs) R =
 woken_fate k uses w c (frame.Last ∷ fs) R = refl
 
 -- ---- the frames so far
+
+pub head_is : (fs : List Frame) (f r : Frame) → 1 ≤ length fs → r ≡ get_or fs 0 r → r ≡ f → fs ≡ f ∷ drop 1 fs
+head_is [] f r l a b = absurd (omega arith)
+head_is (x ∷ xs) f r l a b = ap (λ y. y ∷ xs) (sym a ∙ b)
+
+pub tail_is : (fs : List Frame) → take (length fs - 1) (drop 1 fs) ≡ drop 1 fs
+tail_is fs = take_all (length fs - 1) (drop 1 fs) (let e = length-drop 1 fs in omega arith)
 
 append_nil : (l : List Frame) → l ≡ l ++ []
 append_nil [] = refl
@@ -210,6 +219,32 @@ wakes_focus k uses t copies old mid new fs gs R F x text h m same =
     ∙ ap (by_fate R (Reaches reach.Focus h.by.frames h.by.units)) m.by.is
     ∙ ap (λ l. Wakes (plugged l (focused F)) (h.by.units + m.by.units)) (sym h.by.grown))
     same (omega arith)
+
+focus_wakes : (k : PlainKernel) (uses : List ℕ) (w : List ℤ) (c : List VarCopy) (F : Focus) (place : Place) (trap : Trap) (u : ℕ) →
+    woken k uses w c (focused F) ≡ Stays place trap u → ⊥
+focus_wakes k uses w c focus.Done place trap u e = absurd (cc)
+focus_wakes k uses w c (focus.Run s) place trap u e = absurd (cc)
+focus_wakes k uses w c (focus.Turning turn) place trap u e = absurd (cc)
+focus_wakes k uses w c focus.Resting place trap u e = absurd (cc)
+focus_wakes k uses w c (focus.Fork' p cs) place trap u e = absurd (cc)
+focus_wakes k uses w c (focus.Held' p cs) place trap u e = absurd (cc)
+
+focus_units : (R : Text) (fs : List Frame) (u : ℕ) (inner : Woken) → waking_units (by_fate R (Reaches reach.Focus fs u) inner) ≡ u + waking_units inner
+focus_units R fs u (Wakes R' v) = refl
+focus_units R fs u (Stays place trap v) = refl
+
+pub wakes_focus_err : (k : PlainKernel) (uses : List ℕ) (t : Thread) (copies : List VarCopy) (old mid new : ℕ) (fs gs : List Frame) (F : Focus) (h : Halt) →
+    t.text ≡ plugged fs (focused F) → Reached (fate k uses t.words copies fs) [] gs old mid (Ok reach.Focus) →
+    IsMetered waking mid new (Err h) (woken k uses t.words copies (focused F)) → WokenTo old new (Err h) (woken_thread k uses t copies)
+wakes_focus_err k uses t copies old mid new fs gs F (Trapped place trap) text r m = absurd (focus_wakes k uses t.words copies F place trap m.by.units m.by.is)
+wakes_focus_err k uses t copies old mid new fs gs F Over text r m =
+    let a = r.by.left in
+    let b = m.by in
+    let inner = woken k uses t.words copies (focused F) in
+    let same = ap waking_units (ap (woken k uses t.words copies) text ∙ woken_fate k uses t.words copies fs (focused F) ∙ ap (λ y. by_fate (focused F) y inner) r.by.is)
+    ∙ focus_units (focused F) r.by.frames r.by.units inner in
+    record { by = omega arith }
+wakes_focus_err k uses t copies old mid new fs gs F OutOfMemory text r m = record { by = tt }
 
 pub wakes_last : (k : PlainKernel) (uses : List ℕ) (t : Thread) (copies : List VarCopy) (old new : ℕ) (fs gs : List Frame) (R : Text) (x : rust.Thread) →
     t.text ≡ plugged fs R → Reached (fate k uses t.words copies fs) [] gs old new (Ok reach.Last) →

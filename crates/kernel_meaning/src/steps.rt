@@ -1,6 +1,6 @@
 // One step of a thread, in place, along a path that picks the child at each fork.
 
-ghost use Rattle.std.specs.Prelude.{◌≡◌, ◌<◌, ◌+◌, ℕ, ℤ, IfOk, List, true, false};
+ghost use Rattle.std.specs.Prelude.{◌≡◌, ◌<◌, ◌+◌, ℕ, ℤ, IfOk, List, Err, true, false};
 ghost use Rattle.forec_kernel.specs.Shapes.{plain_kernel};
 ghost use Rattle.forec_kernel.specs.Texts as plain;
 ghost use Rattle.forec_kernel.specs.Steps.{Path, Move, Finished, Halts, place_at, path_below, text_move, child_move, thread_move, thread_after};
@@ -115,6 +115,21 @@ fn set(uses: &[u32], t: &mut Thread<'_>, to: Spot, value: i32)
     }
 }
 
+// A thread whose focus stops: it traps, or the step isn't taken.
+fn stop(t: &mut Thread<'_>, halt: Halt) -> Result<(), Halt>
+    ensures { (uses : List ℕ) (old new : ℕ) (m : Move) → IsMoved (site_of uses t.old) old new (Err halt) m →
+        IsThread old new (plain_thread t.new) result (after_move (plain_thread t.old) (plugged_move t.old.frames.items t.old.words.items t.old.copies.items m)) }
+{
+    match halt {
+        Halt::Trapped { place, trap } => {
+            t.status = Status::Trapped { place, trap };
+            Ok(())
+        }
+        Halt::Over => Err(Halt::Over),
+        Halt::OutOfMemory => Err(Halt::OutOfMemory),
+    }
+}
+
 // A thread after a step of its focus.
 fn after_step<'k>(
     alloc: Global,
@@ -154,11 +169,7 @@ fn after_step<'k>(
             t.focus = go_on(alloc, &mut t.frames, next)?;
             Ok(())
         }
-        Err(Halt::Trapped { place, trap }) => {
-            t.status = Status::Trapped { place, trap };
-            Ok(())
-        }
-        Err(halt) => Err(halt),
+        Err(halt) => stop(t, halt),
     }
 }
 

@@ -157,7 +157,8 @@ pub(crate) fn wake_thread<'k>(
         Err(Halt::Trapped { place, trap }) => {
             Ok(trapped_at(alloc, t, copies, Status::Trapped { place, trap })?)
         }
-        Err(halt) => Err(halt),
+        Err(Halt::Over) => Err(Halt::Over),
+        Err(Halt::OutOfMemory) => Err(Halt::OutOfMemory),
     }
 }
 
