@@ -70,7 +70,7 @@ after_trap s old new m t now fs x place trap h e =
     record {
       by = (
         e ∙ ap (thread_after t) (sym (plugged_traps fs s.words s.copies place trap h.by.units))
-        ∙ ap (λ n. thread_after t (plugged_move fs s.words s.copies n)) (sym h.by.is),
+            ∙ ap (λ n. thread_after t (plugged_move fs s.words s.copies n)) (sym h.by.is),
         left,
       );
     }
@@ -104,7 +104,7 @@ forked_by old new t now fs R' (Ok x) inner same h =
     record {
       by = (
         after_goes t now fs t.words t.words t.copies t.copies R' h.by.units same
-        ∙ ap (λ n. thread_after t (plugged_move fs t.words t.copies n)) (sym h.by.is),
+            ∙ ap (λ n. thread_after t (plugged_move fs t.words t.copies n)) (sym h.by.is),
         left,
       );
     }

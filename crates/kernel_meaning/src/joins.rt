@@ -51,7 +51,10 @@ fn some_mark(kernel: &KernelParts, variable: u32, children: &Children<'_>) -> bo
         Children::Child { first, rest } => {
             let uses = thread_uses(kernel, first.number);
             let copies = first.copies.as_slice();
-            if ran(first.status) && has(uses, variable) && copy_in(uses, copies, variable).modified {
+            if ran(first.status)
+                && has(uses, variable)
+                && copy_in(uses, copies, variable).modified
+            {
                 return true;
             }
             some_mark(kernel, variable, rest)

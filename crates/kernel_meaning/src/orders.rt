@@ -56,7 +56,11 @@ fn add_path_among(
     match children {
         Children::Nobody => Ok(()),
         Children::Child { first, rest } => {
-            let count = if runs(first.status) { steppable(first) } else { 0 };
+            let count = if runs(first.status) {
+                steppable(first)
+            } else {
+                0
+            };
             if pick < count {
                 path.push(place)?;
                 return add_path(first, pick, path);

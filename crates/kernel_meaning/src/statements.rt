@@ -195,11 +195,7 @@ fn par_step<'k>(
 }
 
 // A number goes to a word or a copy, for one unit.
-fn after_assign<'k>(
-    to: Spot,
-    part: Result<i32, Halt>,
-    left: &mut u64,
-) -> Result<Step<'k>, Halt>
+fn after_assign<'k>(to: Spot, part: Result<i32, Halt>, left: &mut u64) -> Result<Step<'k>, Halt>
     ensures { (k : PlainKernel) (s : Site) (old : ℕ) (v : Value) → IsMetered number old left.old part v →
         IsMoved s old left.new result (move_with v (λ n. assigned (record { kernel = k; uses = s.uses }) s.words s.copies to n)) }
 {

@@ -290,8 +290,6 @@ fn child_step<'k>(
     }
     match children {
         Children::Nobody => Ok(()),
-        Children::Child { rest, .. } => {
-            child_step(alloc, kernel, path, behind(at), rest, left)
-        }
+        Children::Child { rest, .. } => { child_step(alloc, kernel, path, behind(at), rest, left) }
     }
 }

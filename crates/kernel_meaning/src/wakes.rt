@@ -11,7 +11,9 @@ ghost use Rattle.kernel_meaning.specs.Waking.{Reached, fate, waking, WokenTo, wo
 use crate::statements::number_of;
 use forec_kernel::{KernelParts, VarCopy};
 use running_texts::{Halt, copies_below, tested, thread_uses};
-use running_threads::{Children, Focus, Frame, Status, Thread, Turn, duplicate_focus, duplicate_thread, ran};
+use running_threads::{
+    Children, Focus, Frame, Status, Thread, Turn, duplicate_focus, duplicate_thread, ran,
+};
 use std::alloc::{AllocError, Global};
 
 /// How far waking goes into a text: to its focus, to the last piece of a weak abort, or out of a strong
@@ -67,11 +69,15 @@ fn wake_frames<'k>(
                     Ok(n) => {
                         if n == 0 {
                             after.push(*first)?;
-                            return wake_frames(alloc, kernel, uses, words, copies, rest, after, left);
+                            return wake_frames(
+                                alloc, kernel, uses, words, copies, rest, after, left,
+                            );
                         }
                         if *weak {
                             after.push(Frame::Last)?;
-                            return wake_frames(alloc, kernel, uses, words, copies, rest, after, left);
+                            return wake_frames(
+                                alloc, kernel, uses, words, copies, rest, after, left,
+                            );
                         }
                         Ok(Reach::Out)
                     }
@@ -144,7 +150,16 @@ pub(crate) fn wake_thread<'k>(
     ensures { WokenTo left.old left.new result (woken_thread (plain_kernel kernel.now) uses.now (plain_thread t.now) copies.items) }
 {
     let mut frames = Vec::new(alloc);
-    match wake_frames(alloc, kernel, uses, &t.words, &copies, &t.frames, &mut frames, left) {
+    match wake_frames(
+        alloc,
+        kernel,
+        uses,
+        &t.words,
+        &copies,
+        &t.frames,
+        &mut frames,
+        left,
+    ) {
         Ok(Reach::Focus) => match wake_focus(alloc, kernel, uses, &copies, &t.focus, left) {
             Ok(focus) => Ok(with_text(alloc, t, frames, focus, copies)?),
             Err(halt) => Err(halt),
