@@ -17,7 +17,7 @@ use std::alloc::Global;
 #[derive(Drop)]
 pub struct Rewriter<'k> {
     pub kernel: &'k Kernel,
-    pub state: Box<State>,
+    pub state: Box<State<'k>>,
     pub order: Vec<u32>,
     pub live: bool,
     pub alloc: Global,

@@ -1,8 +1,8 @@
 pub mod Puts
 pub mod Arguments
 pub mod Stepping
-pub mod Forking
-pub mod Awaking
+pub mod Threads
 pub mod Loops
+pub mod Fates
 pub mod Running
 pub mod Transposed

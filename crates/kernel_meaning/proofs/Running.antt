@@ -12,9 +12,11 @@ use Rattle.forec_kernel.proofs.Measure.{Falls, text_falls}
 use Rattle.forec_kernel.proofs.AnyOrder.{any_order}
 use Rattle.running_texts.specs.declared.meter.Halt.{Halt}
 use Rattle.running_texts.specs.declared.meter.Halt.TheVariants.{Trapped, Over, OutOfMemory}
-use Rattle.kernel_meaning.specs.declared.ticks.Main.{Main}
-use Rattle.running_texts.specs.Views.{standing}
-use Rattle.kernel_meaning.specs.States.{main_thread, IsMain, Along, PassesBudget, CameTo, GoesOn, after_move, Advances, told}
+use Rattle.running_threads.specs.declared.threads.Thread as rust
+use Rattle.running_threads.specs.Views.{plain_thread, standing}
+use Rattle.kernel_meaning.specs.Moving.{IsThread, after_move}
+use Rattle.kernel_meaning.specs.Waking.{WokenTo}
+use Rattle.kernel_meaning.specs.States.{Along, PassesBudget, CameTo, GoesOn, Advances, told}
 
 -- ---- one step more
 
@@ -49,38 +51,38 @@ along_next : (k : PlainKernel) (budget : ℕ) (from : Going) (t : Thread) (old :
 along_next k budget from t old path r a =
     steps_more k budget a.order path from ∙ ap (step k budget path) a.is ∙ one_step k budget path t a.units old r a.left
 
-advanced : (k : PlainKernel) (main : Main) (path : Path) (old new : ℕ) (r : Result Main Halt) → is_running (standing main.status) ≡ true →
-    IsMain old new r (after_move (main_thread main) (thread_move k path (main_thread main))) → (budget : ℕ) (from : Going) →
-    Along k budget from (main_thread main) old → CameTo k budget from new r
-advanced k main path old new (Ok m) run h budget from a =
+advanced : {A : Type 0} (k : PlainKernel) (t now : Thread) (path : Path) (old new : ℕ) (r : Result A Halt) → is_running t.status ≡ true →
+    IsThread old new now r (after_move t (thread_move k path t)) → (budget : ℕ) (from : Going) →
+    Along k budget from t old → CameTo k budget from now new r
+advanced k t now path old new (Ok x) run h budget from a =
     let paid = h.by.1 in
     let left = a.left in
     record {
       order = a.order ++ path ∷ [];
-      units = a.units + units_of (thread_move k path (main_thread main));
-      is = along_next k budget from (main_thread main) old path run a
-          ∙ ap (λ t. record { thread = t; units = a.units + units_of (thread_move k path (main_thread main)) }) (sym h.by.0);
+      units = a.units + units_of (thread_move k path t);
+      is = along_next k budget from t old path run a
+          ∙ ap (λ u. record { thread = u; units = a.units + units_of (thread_move k path t) }) (sym h.by.0);
       left = omega arith;
     }
-advanced k main path old new (Err (Trapped place trap)) run h budget from a = h.by
-advanced k main path old new (Err Over) run h budget from a =
+advanced k t now path old new (Err (Trapped place trap)) run h budget from a = h.by
+advanced k t now path old new (Err Over) run h budget from a =
     let low = h.by in
     let left = a.left in
-    let all = ap (λ g. g.units) (along_next k budget from (main_thread main) old path run a) in
+    let all = ap (λ g. g.units) (along_next k budget from t old path run a) in
     record { order = a.order ++ path ∷ []; over = omega arith }
-advanced k main path old new (Err OutOfMemory) run h budget from a = tt
+advanced k t now path old new (Err OutOfMemory) run h budget from a = tt
 
-pub advance_goes : (k : PlainKernel) (main : Main) (old new : ℕ) (r : Result Main Halt) → is_running (standing main.status) ≡ true → Advances k main old new r →
-    GoesOn k main old new r
-advance_goes k main old new r run a = record { on = advanced k main a.path old new r run a.is }
+pub advance_goes : {A : Type 0} (k : PlainKernel) (t now : Thread) (old new : ℕ) (r : Result A Halt) → is_running t.status ≡ true → Advances k t now old new r →
+    GoesOn k t now old new r
+advance_goes k t now old new r run a = record { on = advanced k t now a.path old new r run a.is }
 
-pub advance_pays : (k : PlainKernel) (main m : Main) (old new : ℕ) → Advances k main old new (Ok m) → new ≤ old
-advance_pays k main m old new a = let paid = a.is.by.1 in omega arith
+pub advance_pays : {A : Type 0} (k : PlainKernel) (t now : Thread) (old new : ℕ) (x : A) → Advances k t now old new (Ok x) → new ≤ old
+advance_pays k t now old new x a = let paid = a.is.by.1 in omega arith
 
-pub then_goes : (k : PlainKernel) (first main : Main) (start old new : ℕ) (r : Result Main Halt) →
-    ((budget : ℕ) (from : Going) → Along k budget from (main_thread first) start → Along k budget from (main_thread main) old) →
-    GoesOn k main old new r → GoesOn k first start new r
-then_goes k first main start old new r before g = record { on = λ budget from a. g.on budget from (before budget from a) }
+pub then_goes : {A : Type 0} (k : PlainKernel) (first t now : Thread) (start old new : ℕ) (r : Result A Halt) →
+    ((budget : ℕ) (from : Going) → Along k budget from first start → Along k budget from t old) →
+    GoesOn k t now old new r → GoesOn k first now start new r
+then_goes k first t now start old new r before g = record { on = λ budget from a. g.on budget from (before budget from a) }
 
 -- ---- a step that costs nothing
 
@@ -104,25 +106,24 @@ falls_main t (Moves R words copies u) r (inl h) z = absurd (omega arith)
 falls_main t (Moves R words copies u) r (inr h) z = omega arith
 falls_main t (Traps place trap u) r f z = less (text_size t.text) (is_running t.status) r
 
-pub free_falls : (k : PlainKernel) (main m : Main) (old new : ℕ) → is_running (standing main.status) ≡ true → Advances k main old new (Ok m) → new ≡ old →
-    size_of (main_thread m) < size_of (main_thread main)
-free_falls k main m old new r a e =
+pub free_falls : {A : Type 0} (k : PlainKernel) (t now : Thread) (old new : ℕ) (x : A) → is_running t.status ≡ true → Advances k t now old new (Ok x) → new ≡ old →
+    size_of now < size_of t
+free_falls k t now old new x r a e =
     let paid = a.is.by.1 in
-    let t = main_thread main in
     let h : size_of (thread_after t (thread_move k a.path t)) < size_of t =
-    falls_main t (thread_move k a.path t) r (text_falls k a.path (uses_of k 0) t.words t.copies t.text) (omega arith) in
-    subst (λ x. size_of x < size_of (main_thread main)) (sym a.is.by.0) h
+    falls_main t (thread_move k a.path t) r (text_falls k a.path (uses_of k t.number) t.words t.copies t.text) (omega arith) in
+    subst (λ x. size_of x < size_of t) (sym a.is.by.0) h
 
 -- ---- a whole tick
 
-pub begun : (k : PlainKernel) (budget new : ℕ) (g : Going) (m : Main) → IsMain budget new (Ok m) g → Along k budget g (main_thread m) new
+pub begun : (k : PlainKernel) (budget new : ℕ) (g : Going) (m : rust.Thread) → WokenTo budget new (Ok m) g → Along k budget g (plain_thread m) new
 begun k budget new g m h = record { order = []; units = g.units; is = ap (λ t. record { thread = t; units = g.units }) (sym h.by.0); left = h.by.1 }
 
-pub tick_told : (k : PlainKernel) (budget left : ℕ) (old : ticks.State) (row : List ℤ) (m : Main) → Along k budget (begin k old row) (main_thread m) left →
+pub tick_told : (k : PlainKernel) (budget left : ℕ) (old : ticks.State) (row : List ℤ) (m : rust.Thread) → Along k budget (begin k old row) (plain_thread m) left →
     is_running (standing m.status) ≡ false → tick k budget old row ≡ told k old (Some m)
 tick_told k budget left old row m a r =
     let low : nat_lt budget a.units ≡ false = within budget a.units left a.left in
-    let here : Going = record { thread = main_thread m; units = a.units } in
+    let here : Going = record { thread = plain_thread m; units = a.units } in
     let done : is_stopped budget here ≡ true = ap (λ b. not b || nat_lt budget a.units) r in
     let branch : Bool → ticks.Tick =
     λ b. elim b [
@@ -151,5 +152,5 @@ tick_over k budget old row p =
     concludes : (g : Going) → nat_lt budget g.units ≡ true → concluded k budget old g ≡ told k old None
     concludes g e = rw (concluded, e)
 
-pub begin_over : (k : PlainKernel) (budget new : ℕ) (g : Going) → IsMain budget new (Err Over) g → PassesBudget k budget g
+pub begin_over : (k : PlainKernel) (budget new : ℕ) (g : Going) → WokenTo budget new (Err Over) g → PassesBudget k budget g
 begin_over k budget new g h = record { order = []; over = h.by }

@@ -3,59 +3,65 @@ use Rattle.std.proofs.Common.{◌≡◌, ◌∙◌, ℕ, ◌+◌, ◌≤◌, ◌
 use Rattle.forec_base.specs.declared.Place.{Place}
 use Rattle.forec_base.specs.declared.Trap.{Trap}
 use Rattle.forec_kernel.specs.declared.shape.VarCopy.{VarCopy}
+use Rattle.forec_kernel.specs.declared.terms.Spot.{Spot}
+use Rattle.forec_kernel.specs.declared.terms.Spot.TheVariants as spot
+use Rattle.forec_kernel.specs.Shapes.{PlainKernel}
 use Rattle.forec_kernel.specs.Values.{Value, Gives, Stops}
-use Rattle.forec_kernel.specs.Texts.{Text}
-use Rattle.forec_kernel.specs.Steps.{Move, Finished, Halts, Moves, Traps, more_move, move_with, units_of, Arguments, Ready, Refused, Owner, forked, started, assigned_at}
-use Rattle.forec_kernel.specs.Terms.{Branch}
 use Rattle.forec_kernel.specs.Texts as plain
+use Rattle.forec_kernel.specs.Steps.{Move, Finished, Halts, Moves, Traps, more_move, move_with, units_of, Arguments, Ready, Refused, Owner, forked, started, assigned, assigned_at}
+use Rattle.forec_kernel.specs.Terms.{Branch}
 use Rattle.running_texts.specs.declared.meter.Halt.{Halt}
 use Rattle.running_texts.specs.declared.meter.Halt.TheVariants.{Trapped, Over, OutOfMemory}
-use Rattle.kernel_meaning.specs.declared.moving.Step.{Step}
-use Rattle.kernel_meaning.specs.declared.moving.Step.TheVariants as step
 use Rattle.running_texts.specs.Metered.{IsMetered, number, value_units}
-use Rattle.kernel_meaning.specs.Moving.{IsMoved, lists}
 use Rattle.running_texts.proofs.Metering.{tested_gives}
 use Rattle.running_texts.proofs.Tests.{AfterTest}
+use Rattle.running_threads.specs.declared.frames.Next.{Next}
+use Rattle.running_threads.specs.Moves.{next_text}
+use Rattle.kernel_meaning.specs.declared.moving.Step.{Step}
+use Rattle.kernel_meaning.specs.declared.moving.Step.TheVariants as step
+use Rattle.kernel_meaning.specs.Moving.{Site, leads, IsMoved, lists}
 
--- a move of these units, whatever they are
-abbrev pub Carries : ℕ → ℕ → Result Step Halt → Text → List ℤ → List VarCopy → Type 0
-Carries old mid r R words copies = (u : ℕ) → mid + u ≡ old → IsMoved old mid r (Moves R words copies u)
+module _ (s : Site) where
+  -- a step of these units, whatever they are
+  pub went : (old new u : ℕ) (next : Next) → new + u ≡ old → IsMoved s old new (Ok (step.Goes next)) (Moves (next_text next) s.words s.copies u)
+  went old new u next e = record { by = record { units = u; is = refl; left = e } }
 
-pub step_tested : (old mid : ℕ) (n : ℤ) (r : Result Step Halt) (v : Value) (go : ℤ → Move) (R : Text) (words : List ℤ) (copies : List VarCopy) →
-    AfterTest old mid (Ok n) v → go n ≡ Moves R words copies 1 → Carries old mid r R words copies → IsMoved old mid r (move_with v go)
-step_tested old mid n r v go R words copies t e carries =
-    let given = tested_gives old mid n v t in
-    let left : mid + (given.units + 1) ≡ old = let l = given.left in omega arith in
-    subst (λ m. IsMoved old mid r m) (sym (ap (λ x. move_with x go) given.is ∙ ap (more_move given.units) e)) (carries (given.units + 1) left)
+  pub step_tested : (old mid : ℕ) (n : ℤ) (v : Value) (go : ℤ → Move) (next : Next) →
+      AfterTest old mid (Ok n) v → go n ≡ Moves (next_text next) s.words s.copies 1 → IsMoved s old mid (Ok (step.Goes next)) (move_with v go)
+  step_tested old mid n v go next t e =
+      let given = tested_gives old mid n v t in
+      let l = given.left in
+      subst (λ m. IsMoved s old mid (Ok (step.Goes next)) m) (sym (ap (λ x. move_with x go) given.is ∙ ap (more_move given.units) e))
+      (went old mid (given.units + 1) next (omega arith))
 
-pub step_trapped : (old mid : ℕ) (n : ℤ) (v : Value) (go : ℤ → Move) (place : Place) (trap : Trap) →
-    AfterTest old mid (Ok n) v → go n ≡ Traps place trap 1 → IsMoved old mid (Err (Trapped place trap)) (move_with v go)
-step_trapped old mid n v go place trap t e =
-    let given = tested_gives old mid n v t in
-    record {
-      by = record {
-        units = given.units + 1;
-        is = ap (λ x. move_with x go) given.is ∙ ap (more_move given.units) e;
-        left = let l = given.left in omega arith;
-      };
-    }
+  pub step_trapped : (old mid : ℕ) (n : ℤ) (v : Value) (go : ℤ → Move) (place : Place) (trap : Trap) →
+      AfterTest old mid (Ok n) v → go n ≡ Traps place trap 1 → IsMoved s old mid (Err (Trapped place trap)) (move_with v go)
+  step_trapped old mid n v go place trap t e =
+      let given = tested_gives old mid n v t in
+      record {
+        by = record {
+          units = given.units + 1;
+          is = ap (λ x. move_with x go) given.is ∙ ap (more_move given.units) e;
+          left = let l = given.left in omega arith;
+        };
+      }
 
-units_more : (u : ℕ) (m : Move) → 1 ≤ units_of m → units_of (more_move u m) ≡ u + units_of m
-units_more u Finished h = absurd (omega arith)
-units_more u Halts h = absurd (omega arith)
-units_more u (Moves R words copies w) h = refl
-units_more u (Traps place trap w) h = refl
+  units_more : (u : ℕ) (m : Move) → 1 ≤ units_of m → units_of (more_move u m) ≡ u + units_of m
+  units_more u Finished h = absurd (omega arith)
+  units_more u Halts h = absurd (omega arith)
+  units_more u (Moves R words copies w) h = refl
+  units_more u (Traps place trap w) h = refl
 
-pub step_failed : (old new : ℕ) (h : Halt) (v : Value) (go : ℤ → Move) → ((x : ℤ) → 1 ≤ units_of (go x)) →
-    AfterTest old new (Err h) v → IsMoved old new (Err h) (move_with v go)
-step_failed old new (Trapped place trap) (Gives n u) go least t = let e : Gives n (u + 1) ≡ Stops place trap t.by.units = t.by.is in absurd (cc)
-step_failed old new (Trapped place trap) (Stops p q u) go least t =
-    let e : Stops p q u ≡ Stops place trap t.by.units = t.by.is in
-    record { by = record { units = t.by.units; is = ap (λ x. move_with x go) e; left = t.by.left } }
-step_failed old new Over (Gives n u) go least t =
-    let h : old < u + 1 = t.by in record { by = omega (arith, units_more u (go n) (least n), least n) }
-step_failed old new Over (Stops p q u) go least t = record { by = t.by }
-step_failed old new OutOfMemory v go least t = record { by = tt }
+  pub step_failed : (old new : ℕ) (h : Halt) (v : Value) (go : ℤ → Move) → ((x : ℤ) → 1 ≤ units_of (go x)) →
+      AfterTest old new (Err h) v → IsMoved s old new (Err h) (move_with v go)
+  step_failed old new (Trapped place trap) (Gives n u) go least t = let e : Gives n (u + 1) ≡ Stops place trap t.by.units = t.by.is in absurd (cc)
+  step_failed old new (Trapped place trap) (Stops p q u) go least t =
+      let e : Stops p q u ≡ Stops place trap t.by.units = t.by.is in
+      record { by = record { units = t.by.units; is = ap (λ x. move_with x go) e; left = t.by.left } }
+  step_failed old new Over (Gives n u) go least t =
+      let h : old < u + 1 = t.by in record { by = omega (arith, units_more u (go n) (least n), least n) }
+  step_failed old new Over (Stops p q u) go least t = record { by = t.by }
+  step_failed old new OutOfMemory v go least t = record { by = tt }
 
 -- ---- an operand before the one that decides
 
@@ -76,26 +82,42 @@ pub with_goes : (v : Value) (go : ℤ → Move) → ((x : ℤ) → Goes (go x)) 
 with_goes (Gives n u) go h = more_goes u (go n) (h n)
 with_goes (Stops place trap u) go h = tt
 
-pub more_moved : (old mid new u : ℕ) (r : Result Step Halt) (m : Move) → mid + u ≡ old → Goes m → IsMoved mid new r m → IsMoved old new r (more_move u m)
-more_moved old mid new u (Ok step.Finished) m e g h = absurd (subst Goes h.by.0 g)
-more_moved old mid new u (Ok step.Halts) m e g h = absurd (subst Goes h.by.0 g)
-more_moved old mid new u (Ok (step.Moves R words copies)) m e g h =
-    record { by = record { units = u + h.by.units; is = ap (more_move u) h.by.is; left = let l = h.by.left in omega arith } }
-more_moved old mid new u (Err (Trapped place trap)) m e g h =
-    record { by = record { units = u + h.by.units; is = ap (more_move u) h.by.is; left = let l = h.by.left in omega arith } }
-more_moved old mid new u (Err Over) m e g h = let l = h.by in record { by = omega (arith, units_add u m g) }
-  where
-    units_add : (u : ℕ) (m : Move) → Goes m → units_of (more_move u m) ≡ u + units_of m
-    units_add u Finished g = absurd g
-    units_add u Halts g = absurd g
-    units_add u (Moves R words copies w) g = refl
-    units_add u (Traps place trap w) g = refl
-more_moved old mid new u (Err OutOfMemory) m e g h = record { by = tt }
+units_add : (u : ℕ) (m : Move) → Goes m → units_of (more_move u m) ≡ u + units_of m
+units_add u Finished g = absurd g
+units_add u Halts g = absurd g
+units_add u (Moves R words copies w) g = refl
+units_add u (Traps place trap w) g = refl
 
-pub operand_ok : (old mid new : ℕ) (x : ℤ) (r : Result Step Halt) (v : Value) (go : ℤ → Move) →
-    IsMetered number old mid (Ok x) v → Goes (go x) → IsMoved mid new r (go x) → IsMoved old new r (move_with v go)
-operand_ok old mid new x r v go m g n =
-    subst (λ w. IsMoved old new r w) (ap (λ w. move_with w go) (sym m.by.is)) (more_moved old mid new m.by.units r (go x) m.by.left g n)
+more_leads : (s : Site) (a : Step) (u w : ℕ) → Goes (leads s a w) → more_move u (leads s a w) ≡ leads s a (u + w)
+more_leads s step.Finishes u w g = absurd g
+more_leads s step.Halts u w g = absurd g
+more_leads s (step.Sets (spot.Local slot) n) u w g = refl
+more_leads s (step.Sets (spot.Variable v) n) u w g = refl
+more_leads s (step.SetsAt at n) u w g = refl
+more_leads s (step.Clears slot n) u w g = refl
+more_leads s (step.Joins copies) u w g = refl
+more_leads s (step.Goes next) u w g = refl
+
+pub more_moved : (s : Site) (old mid new u : ℕ) (r : Result Step Halt) (m : Move) → mid + u ≡ old → Goes m → IsMoved s mid new r m → IsMoved s old new r (more_move u m)
+more_moved s old mid new u (Ok a) m e g h =
+    let l = h.by.left in
+    let add = units_add u m g in
+    record {
+      by = record {
+        units = u + h.by.units;
+        is = ap (more_move u) h.by.is ∙ more_leads s a u h.by.units (subst Goes h.by.is g);
+        left = omega arith;
+      };
+    }
+more_moved s old mid new u (Err (Trapped place trap)) m e g h =
+    record { by = record { units = u + h.by.units; is = ap (more_move u) h.by.is; left = let l = h.by.left in omega arith } }
+more_moved s old mid new u (Err Over) m e g h = let l = h.by in record { by = omega (arith, units_add u m g) }
+more_moved s old mid new u (Err OutOfMemory) m e g h = record { by = tt }
+
+pub operand_ok : (s : Site) (old mid new : ℕ) (x : ℤ) (r : Result Step Halt) (v : Value) (go : ℤ → Move) →
+    IsMetered number old mid (Ok x) v → Goes (go x) → IsMoved s mid new r (go x) → IsMoved s old new r (move_with v go)
+operand_ok s old mid new x r v go m g n =
+    subst (λ w. IsMoved s old new r w) (ap (λ w. move_with w go) (sym m.by.is)) (more_moved s old mid new m.by.units r (go x) m.by.left g n)
 
 units_least : (v : Value) (go : ℤ → Move) → ((x : ℤ) → Goes (go x)) → value_units v ≤ units_of (move_with v go)
 units_least (Gives n u) go g = at (go n) (g n)
@@ -107,12 +129,12 @@ units_least (Gives n u) go g = at (go n) (g n)
     at (Traps place trap w) g = omega arith
 units_least (Stops place trap u) go g = omega arith
 
-pub operand_err : (old new : ℕ) (h : Halt) (v : Value) (go : ℤ → Move) → ((x : ℤ) → Goes (go x)) →
-    IsMetered number old new (Err h) v → IsMoved old new (Err h) (move_with v go)
-operand_err old new (Trapped place trap) v go g m =
+pub operand_err : (s : Site) (old new : ℕ) (h : Halt) (v : Value) (go : ℤ → Move) → ((x : ℤ) → Goes (go x)) →
+    IsMetered number old new (Err h) v → IsMoved s old new (Err h) (move_with v go)
+operand_err s old new (Trapped place trap) v go g m =
     record { by = record { units = m.by.units; is = ap (λ w. move_with w go) m.by.is; left = m.by.left } }
-operand_err old new Over v go g m = let l = m.by in record { by = omega (arith, units_least v go g) }
-operand_err old new OutOfMemory v go g m = record { by = tt }
+operand_err s old new Over v go g m = let l = m.by in record { by = omega (arith, units_least v go g) }
+operand_err s old new OutOfMemory v go g m = record { by = tt }
 
 pub assigned_at_goes : (words : List ℤ) (copies : List VarCopy) (slot : ℕ) (i : Option ℕ) (x : ℤ) (place : Place) → Goes (assigned_at words copies slot i x place)
 assigned_at_goes words copies slot (Some i) x place = tt
@@ -120,28 +142,52 @@ assigned_at_goes words copies slot None x place = tt
 
 -- ---- forks
 
-pub fork_ok : (old mid new : ℕ) (o : Owner) (words : List ℤ) (copies : List VarCopy) (bs : List Branch) (ls : Vec (Vec ℤ Global) Global) (r : Result Step Halt) (a : Arguments) →
-    IsMetered lists old mid (Ok ls) a → new + 1 ≡ mid → Carries old new r (plain.Fork (started o copies bs (map (λ w. w.items) ls.items))) words copies →
-    IsMoved old new r (forked o words copies bs a)
-fork_ok old mid new o words copies bs ls r a m e carries =
+pub fork_ok : (s : Site) (old mid new : ℕ) (o : Owner) (bs : List Branch) (ls : Vec (Vec ℤ Global) Global) (next : Next) (a : Arguments) →
+    IsMetered lists old mid (Ok ls) a → new + 1 ≡ mid → next_text next ≡ plain.Fork (started o s.copies bs (map (λ w. w.items) ls.items)) →
+    IsMoved s old new (Ok (step.Goes next)) (forked o s.words s.copies bs a)
+fork_ok s old mid new o bs ls next a m e same =
     let left : new + (m.by.units + 1) ≡ old = let l = m.by.left in omega arith in
-    subst (λ x. IsMoved old new r (forked o words copies bs x)) (sym m.by.is) (carries (m.by.units + 1) left)
+    subst (λ x. IsMoved s old new (Ok (step.Goes next)) (forked o s.words s.copies bs x)) (sym m.by.is)
+    (subst (λ R. IsMoved s old new (Ok (step.Goes next)) (Moves R s.words s.copies (m.by.units + 1))) same (went s old new (m.by.units + 1) next left))
 
-pub fork_over : (old mid new : ℕ) (h : Halt) (o : Owner) (words : List ℤ) (copies : List VarCopy) (bs : List Branch) (ls : Vec (Vec ℤ Global) Global) (a : Arguments) →
-    IsMetered lists old mid (Ok ls) a → (h ≡ Over) × (mid < 1) → IsMoved old new (Err h) (forked o words copies bs a)
-fork_over old mid new h o words copies bs ls a m e =
+pub fork_over : (s : Site) (old mid new : ℕ) (h : Halt) (o : Owner) (bs : List Branch) (ls : Vec (Vec ℤ Global) Global) (a : Arguments) →
+    IsMetered lists old mid (Ok ls) a → (h ≡ Over) × (mid < 1) → IsMoved s old new (Err h) (forked o s.words s.copies bs a)
+fork_over s old mid new h o bs ls a m e =
     let l = m.by.left in
     let low = e.1 in
-    let whole : units_of (forked o words copies bs a) ≡ m.by.units + 1 = ap (λ x. units_of (forked o words copies bs x)) m.by.is in
-    subst (λ k. IsMoved old new (Err k) (forked o words copies bs a)) (sym e.0) (record { by = omega arith })
+    let whole : units_of (forked o s.words s.copies bs a) ≡ m.by.units + 1 = ap (λ x. units_of (forked o s.words s.copies bs x)) m.by.is in
+    subst (λ k. IsMoved s old new (Err k) (forked o s.words s.copies bs a)) (sym e.0) (record { by = omega arith })
 
-pub fork_err : (old new : ℕ) (h : Halt) (o : Owner) (words : List ℤ) (copies : List VarCopy) (bs : List Branch) (a : Arguments) →
-    IsMetered lists old new (Err h) a → IsMoved old new (Err h) (forked o words copies bs a)
-fork_err old new (Trapped place trap) o words copies bs a m =
-    record { by = record { units = m.by.units; is = ap (forked o words copies bs) m.by.is; left = m.by.left } }
-fork_err old new Over o words copies bs a m = let l = m.by in record { by = omega (arith, fork_least a) }
+pub fork_err : (s : Site) (old new : ℕ) (h : Halt) (o : Owner) (bs : List Branch) (a : Arguments) →
+    IsMetered lists old new (Err h) a → IsMoved s old new (Err h) (forked o s.words s.copies bs a)
+fork_err s old new (Trapped place trap) o bs a m =
+    record { by = record { units = m.by.units; is = ap (forked o s.words s.copies bs) m.by.is; left = m.by.left } }
+fork_err s old new Over o bs a m = let l = m.by in record { by = omega (arith, fork_least a) }
   where
-    fork_least : (a : Arguments) → lists.units a ≤ units_of (forked o words copies bs a)
+    fork_least : (a : Arguments) → lists.units a ≤ units_of (forked o s.words s.copies bs a)
     fork_least (Ready ls u) = omega arith
     fork_least (Refused place trap u) = omega arith
-fork_err old new OutOfMemory o words copies bs a m = record { by = tt }
+fork_err s old new OutOfMemory o bs a m = record { by = tt }
+
+-- ---- steps that cost nothing
+
+pub finishes : (s : Site) (left : ℕ) → IsMoved s left left (Ok step.Finishes) Finished
+finishes s left = record { by = record { units = 0; is = refl; left = omega arith } }
+
+pub halts : (s : Site) (left : ℕ) → IsMoved s left left (Ok step.Halts) Halts
+halts s left = record { by = record { units = 0; is = refl; left = omega arith } }
+
+-- ---- assignments
+
+pub assigned_ok : (k : PlainKernel) (s : Site) (to : Spot) (n : ℤ) (old mid new : ℕ) (v : Value) → IsMetered number old mid (Ok n) v → new + 1 ≡ mid →
+    IsMoved s old new (Ok (step.Sets to n)) (move_with v (λ x. assigned (record { kernel = k; uses = s.uses }) s.words s.copies to x))
+assigned_ok k s (spot.Local slot) n old mid new v m e =
+    let is = ap (λ y. move_with y (λ x. assigned (record { kernel = k; uses = s.uses }) s.words s.copies (spot.Local slot) x)) m.by.is in
+    let u = ap units_of is in
+    let l = m.by.left in
+    record { by = record { units = m.by.units + 1; is = is; left = omega arith } }
+assigned_ok k s (spot.Variable x) n old mid new v m e =
+    let is = ap (λ y. move_with y (λ z. assigned (record { kernel = k; uses = s.uses }) s.words s.copies (spot.Variable x) z)) m.by.is in
+    let u = ap units_of is in
+    let l = m.by.left in
+    record { by = record { units = m.by.units + 1; is = is; left = omega arith } }

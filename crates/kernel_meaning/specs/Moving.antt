@@ -1,36 +1,64 @@
 -- Steps under an allowance of units.
-use Rattle.std.specs.Prelude.{ℕ, ◌<◌, ◌≡◌, ◌+◌, ◌-◌, ◌==◌, ℤ, Bool, Option, Some, None, List, map}
+use Rattle.std.specs.Prelude.{ℕ, ◌<◌, ◌≡◌, ◌+◌, ◌-◌, ◌==◌, ℤ, Bool, true, false, cond, Option, Some, None, List, map, slice_set}
 use Rattle.std.specs.declared.vec.Vec.{Vec}
 use Rattle.std.specs.declared.alloc.Global.{Global}
 use Rattle.std.specs.declared.result.Result.{Result}
 use Rattle.std.specs.declared.result.Result.TheVariants.{Ok, Err}
-use Rattle.forec_kernel.specs.Steps as plain
-use Rattle.forec_kernel.specs.Steps.{Move, units_of, Arguments, Ready, Refused, Stepped, Woken, Wakes, Stays, waking_units, text_if, status_of}
-use Rattle.forec_kernel.specs.Texts as texts
-use Rattle.kernel_meaning.specs.declared.wakes.Settled.{Settled}
-use Rattle.forec_kernel.specs.Texts.{Threads, Status, first_running, is_running}
-use Rattle.forec_kernel.specs.Combining.{Cost, Costs, Fails}
+use Rattle.forec_kernel.specs.declared.terms.Spot.TheVariants as spot
 use Rattle.forec_kernel.specs.declared.shape.VarCopy.{VarCopy}
-use Rattle.running_texts.specs.declared.texts.Children.{Children}
-use Rattle.running_texts.specs.declared.texts.Text.{Text}
+use Rattle.forec_kernel.specs.Values.{cleared}
+use Rattle.forec_kernel.specs.Texts.{Text, Done, Run, Then, Turning, Resting, Fork, Held, Watch, Last, Thread, Threads, no_threads, child, first_running, is_running, some_running, all_over, ended_are_gone, put_copy}
+use Rattle.forec_kernel.specs.Steps as plain
+use Rattle.forec_kernel.specs.Steps.{Move, Moves, Traps, units_of, thread_after, Arguments, Ready, Refused, Stepped}
+use Rattle.forec_kernel.specs.Ticks.{Going}
+use Rattle.forec_kernel.specs.Combining.{Cost, Costs, Fails}
 use Rattle.running_texts.specs.declared.meter.Halt.{Halt}
 use Rattle.running_texts.specs.declared.meter.Halt.TheVariants.{Trapped, Over, OutOfMemory}
-use Rattle.kernel_meaning.specs.declared.moving.Step.{Step}
-use Rattle.kernel_meaning.specs.declared.moving.Step.TheVariants.{Finished, Halts, Moves}
-use Rattle.running_texts.specs.Views.{text, threads, standing}
 use Rattle.running_texts.specs.Metered.{Paid, Kind}
+use Rattle.running_threads.specs.Moves.{next_text}
+use Rattle.kernel_meaning.specs.declared.moving.Step.{Step}
+use Rattle.kernel_meaning.specs.declared.moving.Step.TheVariants.{Finishes, Halts, Sets, SetsAt, Clears, Joins, Goes}
 
-abbrev pub MovedBy : ℕ → ℕ → Result Step Halt → Move → Type 0
-MovedBy old new (Ok Finished) m = (m ≡ plain.Finished) × (new ≡ old)
-MovedBy old new (Ok Halts) m = (m ≡ plain.Halts) × (new ≡ old)
-MovedBy old new (Ok (Moves R words copies)) m = Paid old new m (plain.Moves (text R) words.items copies.items)
-MovedBy old new (Err (Trapped place trap)) m = Paid old new m (plain.Traps place trap)
-MovedBy old new (Err Over) m = old < units_of m
-MovedBy old new (Err OutOfMemory) m = Unit {0}
+-- what a step of a focus sees: the variables that the thread uses, its words and copies, and the focus
+pub record Site : Type 0 where
+  pub uses : List ℕ
+  pub words : List ℤ
+  pub copies : List VarCopy
+  pub text : Text
+
+abbrev pub site : List ℕ → List ℤ → List VarCopy → Text → Site
+site uses words copies R = record { uses = uses; words = words; copies = copies; text = R }
+
+-- what is left of a fork whose copies are combined
+abbrev pub rested : Text → Text
+rested (Fork cs) = cond (all_over cs) Done (Held (ended_are_gone cs))
+rested R = R
+
+-- a step, at so many units
+abbrev pub leads : Site → Step → ℕ → Move
+leads s Finishes u = plain.Finished
+leads s Halts u = plain.Halts
+leads s (Sets (spot.Local slot) n) u = Moves Done (slice_set s.words slot n) s.copies u
+leads s (Sets (spot.Variable v) n) u = Moves Done s.words (put_copy s.uses s.copies v (record { value = n; modified = true })) u
+leads s (SetsAt at n) u = Moves Done (slice_set s.words at n) s.copies u
+leads s (Clears slot n) u = Moves Done (cleared s.words slot n) s.copies u
+leads s (Joins copies) u = Moves (rested s.text) s.words copies.items u
+leads s (Goes next) u = Moves (next_text next) s.words s.copies u
+
+pub record Led (s : Site) (old new : ℕ) (a : Step) (m : Move) : Type 0 where
+  pub units : ℕ
+  pub is : m ≡ leads s a units
+  pub left : new + units_of m ≡ old
+
+abbrev pub MovedBy : Site → ℕ → ℕ → Result Step Halt → Move → Type 0
+MovedBy s old new (Ok a) m = Led s old new a m
+MovedBy s old new (Err (Trapped place trap)) m = Paid old new m (Traps place trap)
+MovedBy s old new (Err Over) m = old < units_of m
+MovedBy s old new (Err OutOfMemory) m = Unit {0}
 
 -- What a step under an allowance answers: the step or the trap, with its units paid; or Over exactly where the units exceed the allowance.
-pub record IsMoved (old new : ℕ) (result : Result Step Halt) (m : Move) : Type 0 where
-  pub by : MovedBy old new result m
+pub record IsMoved (s : Site) (old new : ℕ) (result : Result Step Halt) (m : Move) : Type 0 where
+  pub by : MovedBy s old new result m
 
 -- ---- the arguments of the branches of a `par`
 
@@ -41,17 +69,46 @@ lists_units (Refused place trap u) = u
 abbrev pub lists : Kind (Vec (Vec ℤ Global) Global) Arguments
 lists = record { gives = λ v u. Ready (map (λ w. w.items) v.items) u; stops = Refused; units = lists_units }
 
--- ---- the children of a fork
+-- ---- threads and children, changed in place
 
-abbrev pub SteppedBy : ℕ → ℕ → Result Children Halt → Stepped → Type 0
-SteppedBy old new (Ok cs) s = (threads cs ≡ s.children) × (new + s.units ≡ old)
-SteppedBy old new (Err (Trapped place trap)) s = ⊥
-SteppedBy old new (Err Over) s = old < s.units
-SteppedBy old new (Err OutOfMemory) s = Unit {0}
+-- a thread after a move, with the move's units
+abbrev pub after_move : Thread → Move → Going
+after_move t m = record { thread = thread_after t m; units = units_of m }
 
--- What a step of one of several children answers: the children, with the units paid; or Over exactly where they exceed the allowance.
-pub record AreStepped (old new : ℕ) (result : Result Children Halt) (s : Stepped) : Type 0 where
-  pub by : SteppedBy old new result s
+abbrev pub StandsBy : {A : Type 0} → ℕ → ℕ → Thread → Result A Halt → Going → Type 0
+StandsBy old new t (Ok x) g = (t ≡ g.thread) × (new + g.units ≡ old)
+StandsBy old new t (Err (Trapped place trap)) g = ⊥
+StandsBy old new t (Err Over) g = old < g.units
+StandsBy old new t (Err OutOfMemory) g = Unit {0}
+
+-- the thread that it came to, with its units paid; or Over exactly where they exceed the allowance
+pub record IsThread {A : Type 0} (old new : ℕ) (t : Thread) (result : Result A Halt) (g : Going) : Type 0 where
+  pub by : StandsBy old new t result g
+
+abbrev pub SteppedBy : {A : Type 0} → ℕ → ℕ → Threads → Result A Halt → Stepped → Type 0
+SteppedBy old new cs (Ok x) s = (cs ≡ s.children) × (new + s.units ≡ old)
+SteppedBy old new cs (Err (Trapped place trap)) s = ⊥
+SteppedBy old new cs (Err Over) s = old < s.units
+SteppedBy old new cs (Err OutOfMemory) s = Unit {0}
+
+-- the same of children
+pub record AreStepped {A : Type 0} (old new : ℕ) (cs : Threads) (result : Result A Halt) (s : Stepped) : Type 0 where
+  pub by : SteppedBy old new cs result s
+
+-- a focus that is a fork one of whose children is running
+abbrev pub running_below : Text → Bool
+running_below (Fork cs) = some_running cs
+running_below R = false
+
+abbrev pub ForkedBy : {A : Type 0} → ℕ → ℕ → List ℤ → List VarCopy → Text → Result A Halt → Move → Type 0
+ForkedBy old new w c R (Ok x) m = Paid old new m (Moves R w c)
+ForkedBy old new w c R (Err (Trapped place trap)) m = ⊥
+ForkedBy old new w c R (Err Over) m = old < units_of m
+ForkedBy old new w c R (Err OutOfMemory) m = Unit {0}
+
+-- the focus that a step of one of its children gives
+pub record IsForked {A : Type 0} (old new : ℕ) (w : List ℤ) (c : List VarCopy) (R : Text) (result : Result A Halt) (m : Move) : Type 0 where
+  pub by : ForkedBy old new w c R result m
 
 -- a place among children, or the leftmost running one
 abbrev pub place_or_first : Option ℕ → Threads → ℕ
@@ -59,9 +116,10 @@ place_or_first None cs = first_running cs
 place_or_first (Some i) cs = i
 
 -- the first child is the one at the place
-abbrev pub is_here : Option ℕ → Status → Bool
-is_here None st = is_running st
-is_here (Some i) st = i == 0
+abbrev pub first_is_here : Option ℕ → Threads → Bool
+first_is_here None no_threads = false
+first_is_here None (child t R w c st rest) = is_running st
+first_is_here (Some i) cs = i == 0
 
 -- the place among the children behind the first
 abbrev pub place_behind : Option ℕ → Option ℕ
@@ -74,14 +132,14 @@ abbrev pub cost_units : Cost → ℕ
 cost_units (Costs u) = u
 cost_units (Fails place trap u) = u
 
-pub record Joins (old new : ℕ) (given joined : List VarCopy) (cost : Cost) : Type 0 where
+pub record Joined (old new : ℕ) (given joined : List VarCopy) (cost : Cost) : Type 0 where
   pub units : ℕ
   pub is : cost ≡ Costs units
   pub copies : given ≡ joined
   pub left : new + units ≡ old
 
 abbrev pub JoinedBy : ℕ → ℕ → Result (Vec VarCopy Global) Halt → List VarCopy → Cost → Type 0
-JoinedBy old new (Ok v) joined cost = Joins old new v.items joined cost
+JoinedBy old new (Ok v) joined cost = Joined old new v.items joined cost
 JoinedBy old new (Err (Trapped place trap)) joined cost = Paid old new cost (Fails place trap)
 JoinedBy old new (Err Over) joined cost = old < cost_units cost
 JoinedBy old new (Err OutOfMemory) joined cost = Unit {0}
@@ -89,18 +147,3 @@ JoinedBy old new (Err OutOfMemory) joined cost = Unit {0}
 -- What combining answers: the parent's copies, with the units of the calls paid; or their first trap; or Over exactly where they exceed the allowance.
 pub record AreJoined (old new : ℕ) (result : Result (Vec VarCopy Global) Halt) (joined : List VarCopy) (cost : Cost) : Type 0 where
   pub by : JoinedBy old new result joined cost
-
--- ---- waking
-
-abbrev pub waking : Kind Text Woken
-waking = record { gives = λ R u. Wakes (text R) u; stops = Stays; units = waking_units }
-
-abbrev pub SettledBy : ℕ → ℕ → Result Settled Halt → texts.Text → Woken → Type 0
-SettledBy old new (Ok s) R w = (text s.text ≡ text_if R w) × (standing s.status ≡ status_of w) × (new + waking_units w ≡ old)
-SettledBy old new (Err (Trapped place trap)) R w = ⊥
-SettledBy old new (Err Over) R w = old < waking_units w
-SettledBy old new (Err OutOfMemory) R w = Unit {0}
-
--- what a thread that wakes is: its text and how it stands; or Over exactly where the units exceed the allowance
-pub record IsSettled (old new : ℕ) (result : Result Settled Halt) (R : texts.Text) (w : Woken) : Type 0 where
-  pub by : SettledBy old new result R w

@@ -1,7 +1,8 @@
-//! The meaning of kernels as a plain program: a tick rewrites the running texts of all threads, step by
-//! step in any order, and gives the outcome, the outputs and the state that the definition gives.
+//! The meaning of kernels as a plain program: a tick steps the threads' texts in place, in any order, and
+//! gives the outcome, the outputs and the state that the definition gives.
 #![tactic(auto)]
 
+mod forks;
 mod joins;
 mod moving;
 mod orders;

@@ -1,16 +1,13 @@
 // Which thread steps next.
 
-use running_texts::{Children, Text, runs, some_run};
+use running_threads::{Children, Focus, Thread, runs, some_run};
 use std::alloc::AllocError;
 
-/// How many threads of a text can step: the thread itself, or those of its running branches.
+/// How many threads of a thread's text can step: the thread itself, or those of its running branches.
 #[cycle(counting)]
-pub(crate) fn steppable(from: &Text) -> u32 {
-    match from {
-        Text::Then { first: inner, .. } | Text::Watch { inner, .. } | Text::Last { inner } => {
-            steppable(inner)
-        }
-        Text::Fork { children } => {
+pub(crate) fn steppable(from: &Thread<'_>) -> u32 {
+    match &from.focus {
+        Focus::Fork { children } => {
             if some_run(children) {
                 steppable_among(children)
             } else {
@@ -22,18 +19,13 @@ pub(crate) fn steppable(from: &Text) -> u32 {
 }
 
 #[cycle(counting)]
-fn steppable_among(children: &Children) -> u32 {
+fn steppable_among(children: &Children<'_>) -> u32 {
     match children {
         Children::Nobody => 0,
-        Children::Child {
-            text,
-            status,
-            rest,
-            ..
-        } => {
+        Children::Child { first, rest } => {
             let others = steppable_among(rest);
-            if runs(*status) {
-                steppable(text).saturating_add(others)
+            if runs(first.status) {
+                steppable(first).saturating_add(others)
             } else {
                 others
             }
@@ -43,35 +35,35 @@ fn steppable_among(children: &Children) -> u32 {
 
 /// The path to the thread with this number among those that can step, in preorder from 0.
 #[cycle(picking)]
-pub(crate) fn add_path(from: &Text, pick: u32, path: &mut Vec<u32>) -> Result<(), AllocError> {
-    match from {
-        Text::Then { first: inner, .. } | Text::Watch { inner, .. } | Text::Last { inner } => {
-            add_path(inner, pick, path)
-        }
-        Text::Fork { children } => add_path_among(children, pick, 0, path),
+pub(crate) fn add_path(
+    from: &Thread<'_>,
+    pick: u32,
+    path: &mut Vec<u32>,
+) -> Result<(), AllocError> {
+    match &from.focus {
+        Focus::Fork { children } => add_path_among(children, pick, 0, path),
         _ => Ok(()),
     }
 }
 
 #[cycle(picking)]
 fn add_path_among(
-    children: &Children,
+    children: &Children<'_>,
     pick: u32,
     place: u32,
     path: &mut Vec<u32>,
 ) -> Result<(), AllocError> {
     match children {
         Children::Nobody => Ok(()),
-        Children::Child {
-            text,
-            status,
-            rest,
-            ..
-        } => {
-            let count = if runs(*status) { steppable(text) } else { 0 };
+        Children::Child { first, rest } => {
+            let count = if runs(first.status) {
+                steppable(first)
+            } else {
+                0
+            };
             if pick < count {
                 path.push(place)?;
-                return add_path(text, pick, path);
+                return add_path(first, pick, path);
             }
             add_path_among(rest, pick - count, place.saturating_add(1), path)
         }

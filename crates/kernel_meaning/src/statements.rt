@@ -1,25 +1,23 @@
 // One step of a statement, and of a loop in progress.
 
-ghost use Rattle.std.specs.Prelude.{◌≡◌, ◌<◌, ◌+◌, ℕ, ℤ, IfOk, map, true};
+ghost use Rattle.std.specs.Prelude.{◌≡◌, ◌<◌, ◌+◌, ℕ, ℤ, IfOk, map, true, Some};
 ghost use Rattle.forec_kernel.specs.Shapes.{PlainKernel, plain_kernel};
 ghost use Rattle.forec_kernel.specs.Plain.{expr, exprs, stmt, branch};
 ghost use Rattle.forec_kernel.specs.Terms as terms;
 ghost use Rattle.forec_kernel.specs.Texts as plain;
-ghost use Rattle.forec_kernel.specs.Texts.{text_of, handed_down, uses_of};
-ghost use Rattle.forec_kernel.specs.Values.{vals, setting};
-ghost use Rattle.forec_kernel.specs.Steps.{evaluated, arguments, started, statement_move, loop_move, turned, entered};
-ghost use Rattle.running_texts.specs.Views.{text, threads, looping};
+ghost use Rattle.forec_kernel.specs.Values.{Value, vals, setting, index_in, cleared};
+ghost use Rattle.forec_kernel.specs.Steps.{Moves, evaluated, arguments, statement_move, loop_move, move_with, assigned, assigned_at};
 ghost use Rattle.running_texts.specs.Metered.{IsMetered, number, numbers, sight};
-ghost use Rattle.kernel_meaning.specs.Moving.{IsMoved, lists};
+ghost use Rattle.running_threads.specs.Views.{looping};
+ghost use Rattle.kernel_meaning.specs.Moving.{IsMoved, Site, site, lists};
 
-use crate::moving::{Step, after_assign, after_assign_at, clear_step, moved};
+use crate::forks::start_children;
+use crate::moving::Step;
 use forec_base::{Place, Trap};
-use forec_kernel::{Expression, KernelParts, Launch, Statement, VarCopy};
-use running_texts::{
-    After, Halt, Loop, Text, duplicate, duplicate_statement, evaluate, evaluate_all, fork_text,
-    pay, start_children, start_list, start_text, tested,
-};
-use std::alloc::{AllocError, Global};
+use forec_kernel::{Expression, KernelParts, Launch, Spot, Statement, VarCopy};
+use running_texts::{Halt, evaluate, evaluate_all, index_within, pay, tested};
+use running_threads::{Next, Turn};
+use std::alloc::Global;
 
 // The value of an expression in a thread.
 pub(crate) fn number_of(
@@ -81,92 +79,41 @@ fn arguments_of(
     Ok(all)
 }
 
-// One turn of a loop: its body, and then the loop with so many turns left.
-fn turn_text(alloc: Global, turn: &Loop, left: Option<u32>) -> Result<Text, AllocError>
-    ensures { IfOk result (λ x. text x ≡ plain.Then (text_of (stmt turn.now.body)) (plain.Again (record (looping turn.now) { left = left }))) }
+// A loop with so many turns left.
+fn with_left<'k>(turn: Turn<'k>, left: u32) -> Turn<'k>
+    ensures { looping result ≡ record (looping turn.entry) { left = Some left } }
 {
-    let first = start_text(alloc, &turn.body)?;
-    let first = Box::new(alloc, first)?;
-    let test = duplicate(alloc, &turn.test)?;
-    let body = duplicate_statement(alloc, &turn.body)?;
-    let turn = Loop {
-        test,
+    Turn {
+        test: turn.test,
         bound: turn.bound,
-        left,
-        body,
+        left: Some(left),
+        body: turn.body,
         place: turn.place,
-    };
-    Ok(Text::Then {
-        first,
-        after: After::Again { turn },
-    })
+    }
 }
 
-// A loop that begins.
-fn loop_text(
+pub(crate) fn loop_step<'k>(
     alloc: Global,
-    test: &Expression,
-    bound: Option<u32>,
-    body: &Statement,
-    place: Place,
-) -> Result<Text, AllocError>
-    ensures { IfOk result (λ x. text x ≡ plain.Turning (record { test = expr test.now; bound = bound; left = bound; body = stmt body.now; place = place })) }
-{
-    let test = duplicate(alloc, test)?;
-    let body = duplicate_statement(alloc, body)?;
-    Ok(Text::Turning {
-        turn: Loop {
-            test,
-            bound,
-            left: bound,
-            body,
-            place,
-        },
-    })
-}
-
-fn watch_text(
-    alloc: Global,
-    weak: bool,
-    test: &Expression,
-    body: &Statement,
-) -> Result<Text, AllocError>
-    ensures { IfOk result (λ x. text x ≡ plain.Watch weak (expr test.now) (text_of (stmt body.now))) }
-{
-    let inner = start_text(alloc, body)?;
-    let inner = Box::new(alloc, inner)?;
-    let test = duplicate(alloc, test)?;
-    Ok(Text::Watch { weak, test, inner })
-}
-
-fn last_text(alloc: Global, body: &Statement) -> Result<Text, AllocError>
-    ensures { IfOk result (λ x. text x ≡ plain.Last (text_of (stmt body.now))) }
-{
-    let inner = start_text(alloc, body)?;
-    let inner = Box::new(alloc, inner)?;
-    Ok(Text::Last { inner })
-}
-
-pub(crate) fn loop_step(
-    alloc: Global,
-    kernel: &KernelParts,
+    kernel: &'k KernelParts,
     uses: &[u32],
     words: &[i32],
     copies: &[VarCopy],
-    turn: &Loop,
+    turn: Turn<'k>,
     left: &mut u64,
-) -> Result<Step, Halt>
-    ensures { IsMoved left.old left.new result
-        (loop_move (record { kernel = plain_kernel kernel.now; uses = uses.now }) words.now copies.now (looping turn.now)) }
+) -> Result<Step<'k>, Halt>
+    ensures { (R : plain.Text) → IsMoved (site uses.now words.now copies.now R) left.old left.new result
+        (loop_move (record { kernel = plain_kernel kernel.now; uses = uses.now }) words.now copies.now (looping turn.entry)) }
 {
-    let test = number_of(alloc, kernel, uses, words, copies, &turn.test, left);
+    let test = number_of(alloc, kernel, uses, words, copies, turn.test, left);
     match tested(test, left) {
         Ok(n) => {
             if n == 0 {
-                return moved(alloc, Ok(Text::Done), words, copies);
+                return Ok(Step::Goes { next: Next::Done });
             }
             match turn.left {
-                None => moved(alloc, turn_text(alloc, turn, None), words, copies),
+                None => Ok(Step::Goes {
+                    next: Next::Enters { turn },
+                }),
                 Some(turns) => {
                     if turns == 0 {
                         return Err(Halt::Trapped {
@@ -174,12 +121,10 @@ pub(crate) fn loop_step(
                             trap: Trap::Turns,
                         });
                     }
-                    moved(
-                        alloc,
-                        turn_text(alloc, turn, Some(turns - 1)),
-                        words,
-                        copies,
-                    )
+                    let turn = with_left(turn, turns - 1);
+                    Ok(Step::Goes {
+                        next: Next::Enters { turn },
+                    })
                 }
             }
         }
@@ -188,18 +133,18 @@ pub(crate) fn loop_step(
 }
 
 // An abort that is tested at its start.
-fn enter_step(
+fn enter_step<'k>(
     alloc: Global,
-    kernel: &KernelParts,
+    kernel: &'k KernelParts,
     uses: &[u32],
     words: &[i32],
     copies: &[VarCopy],
     weak: bool,
-    test: &Expression,
-    body: &Statement,
+    test: &'k Expression,
+    body: &'k Statement,
     left: &mut u64,
-) -> Result<Step, Halt>
-    ensures { IsMoved left.old left.new result
+) -> Result<Step<'k>, Halt>
+    ensures { (R : plain.Text) → IsMoved (site uses.now words.now copies.now R) left.old left.new result
         (statement_move (record { kernel = plain_kernel kernel.now; uses = uses.now }) words.now copies.now
         (terms.Enter weak true (expr test.now) (stmt body.now))) }
 {
@@ -207,35 +152,41 @@ fn enter_step(
     match tested(part, left) {
         Ok(n) => {
             if n == 0 {
-                return moved(alloc, watch_text(alloc, weak, test, body), words, copies);
+                return Ok(Step::Goes {
+                    next: Next::Watches { weak, test, body },
+                });
             }
             if weak {
-                return moved(alloc, last_text(alloc, body), words, copies);
+                return Ok(Step::Goes {
+                    next: Next::Lasts { body },
+                });
             }
-            moved(alloc, Ok(Text::Done), words, copies)
+            Ok(Step::Goes { next: Next::Done })
         }
         Err(halt) => Err(halt),
     }
 }
 
-fn par_step(
+fn par_step<'k>(
     alloc: Global,
-    kernel: &KernelParts,
+    kernel: &'k KernelParts,
     uses: &[u32],
     words: &[i32],
     copies: &[VarCopy],
     branches: &[Launch],
     left: &mut u64,
-) -> Result<Step, Halt>
-    ensures { IsMoved left.old left.new result
+) -> Result<Step<'k>, Halt>
+    ensures { (R : plain.Text) → IsMoved (site uses.now words.now copies.now R) left.old left.new result
         (statement_move (record { kernel = plain_kernel kernel.now; uses = uses.now }) words.now copies.now
         (terms.Par (map branch branches.now))) }
 {
     match arguments_of(alloc, kernel, uses, words, copies, branches, left) {
         Ok(arguments) => match pay(1, left) {
             Ok(()) => {
-                let children = start_children(alloc, kernel, uses, copies, branches, &arguments);
-                moved(alloc, fork_text(alloc, children), words, copies)
+                let children = start_children(alloc, kernel, uses, copies, branches, &arguments)?;
+                Ok(Step::Goes {
+                    next: Next::Forks { children },
+                })
             }
             Err(halt) => Err(halt),
         },
@@ -243,24 +194,76 @@ fn par_step(
     }
 }
 
+// A number goes to a word or a copy, for one unit.
+fn after_assign<'k>(to: Spot, part: Result<i32, Halt>, left: &mut u64) -> Result<Step<'k>, Halt>
+    ensures { (k : PlainKernel) (s : Site) (old : ℕ) (v : Value) → IsMetered number old left.old part v →
+        IsMoved s old left.new result (move_with v (λ n. assigned (record { kernel = k; uses = s.uses }) s.words s.copies to n)) }
+{
+    match part {
+        Ok(n) => match pay(1, left) {
+            Ok(()) => Ok(Step::Sets { to, value: n }),
+            Err(halt) => Err(halt),
+        },
+        Err(halt) => Err(halt),
+    }
+}
+
+fn after_assign_at<'k>(
+    slot: u32,
+    length: u32,
+    index: i32,
+    place: Place,
+    part: Result<i32, Halt>,
+    left: &mut u64,
+) -> Result<Step<'k>, Halt>
+    ensures { (s : Site) (old : ℕ) (v : Value) → IsMetered number old left.old part v →
+        IsMoved s old left.new result (move_with v (λ x. assigned_at s.words s.copies slot (index_in length index) x place)) }
+{
+    match part {
+        Ok(n) => match pay(1, left) {
+            Ok(()) => match index_within(length as usize, index) {
+                Some(at) => Ok(Step::SetsAt {
+                    slot: slot as usize + at,
+                    value: n,
+                }),
+                None => Err(Halt::Trapped {
+                    place,
+                    trap: Trap::Index,
+                }),
+            },
+            Err(halt) => Err(halt),
+        },
+        Err(halt) => Err(halt),
+    }
+}
+
+fn clear_step<'k>(slot: u32, length: u32, left: &mut u64) -> Result<Step<'k>, Halt>
+    ensures { (s : Site) → IsMoved s left.old left.new result (Moves plain.Done (cleared s.words slot length) s.copies length) }
+{
+    match pay(u64::from(length), left) {
+        Ok(()) => Ok(Step::Clears { slot, length }),
+        Err(halt) => Err(halt),
+    }
+}
+
 // A step of a statement other than a sequence's parts.
-pub(crate) fn statement_step(
+pub(crate) fn statement_step<'k>(
     alloc: Global,
-    kernel: &KernelParts,
+    kernel: &'k KernelParts,
     uses: &[u32],
     words: &[i32],
     copies: &[VarCopy],
-    s: &Statement,
+    s: &'k Statement,
     left: &mut u64,
-) -> Result<Step, Halt>
-    ensures { IsMoved left.old left.new result
+) -> Result<Step<'k>, Halt>
+    ensures { (R : plain.Text) → IsMoved (site uses.now words.now copies.now R) left.old left.new result
         (statement_move (record { kernel = plain_kernel kernel.now; uses = uses.now }) words.now copies.now (stmt s.now)) }
 {
     match s {
-        Statement::Nop | Statement::Return { .. } => Ok(Step::Finished),
+        Statement::Nop | Statement::Return { .. } => Ok(Step::Finishes),
         Statement::Set { to, value } => {
             let part = number_of(alloc, kernel, uses, words, copies, value, left);
-            after_assign(alloc, uses, words, copies, *to, part, left)
+            after_assign(*to, part, left)
         }
         Statement::SetAt {
             slot,
@@ -271,22 +274,26 @@ pub(crate) fn statement_step(
         } => match number_of(alloc, kernel, uses, words, copies, index, left) {
             Ok(at) => {
                 let part = number_of(alloc, kernel, uses, words, copies, value, left);
-                after_assign_at(alloc, words, copies, *slot, *length, at, *place, part, left)
+                after_assign_at(*slot, *length, at, *place, part, left)
             }
             Err(halt) => Err(halt),
         },
-        Statement::Clear { slot, length } => {
-            clear_step(alloc, words, copies, *slot, *length, left)
-        }
-        Statement::Sequence { list } => moved(alloc, start_list(alloc, list), words, copies),
+        Statement::Clear { slot, length } => clear_step(*slot, *length, left),
+        Statement::Sequence { list } => Ok(Step::Goes {
+            next: Next::DoesAll { list },
+        }),
         Statement::If { test, yes, no } => {
             let test = number_of(alloc, kernel, uses, words, copies, test, left);
             match tested(test, left) {
                 Ok(n) => {
                     if n == 0 {
-                        return moved(alloc, start_text(alloc, no), words, copies);
+                        return Ok(Step::Goes {
+                            next: Next::Does { statement: no },
+                        });
                     }
-                    moved(alloc, start_text(alloc, yes), words, copies)
+                    Ok(Step::Goes {
+                        next: Next::Does { statement: yes },
+                    })
                 }
                 Err(halt) => Err(halt),
             }
@@ -296,14 +303,19 @@ pub(crate) fn statement_step(
             bound,
             body,
             place,
-        } => moved(
-            alloc,
-            loop_text(alloc, test, *bound, body, *place),
-            words,
-            copies,
-        ),
+        } => Ok(Step::Goes {
+            next: Next::Turns {
+                turn: Turn {
+                    test,
+                    bound: *bound,
+                    left: *bound,
+                    body,
+                    place: *place,
+                },
+            },
+        }),
         Statement::Pause => match pay(1, left) {
-            Ok(()) => moved(alloc, Ok(Text::Resting), words, copies),
+            Ok(()) => Ok(Step::Goes { next: Next::Rests }),
             Err(halt) => Err(halt),
         },
         Statement::Par { branches } => {
@@ -318,7 +330,13 @@ pub(crate) fn statement_step(
             if *immediate {
                 return enter_step(alloc, kernel, uses, words, copies, *weak, test, body, left);
             }
-            moved(alloc, watch_text(alloc, *weak, test, body), words, copies)
+            Ok(Step::Goes {
+                next: Next::Watches {
+                    weak: *weak,
+                    test,
+                    body,
+                },
+            })
         }
     }
 }

@@ -1,260 +1,187 @@
-// One step of a text, along a path that picks the child at each fork.
+// One step of a thread, in place, along a path that picks the child at each fork.
 
-ghost use Rattle.std.specs.Prelude.{◌≡◌, ◌<◌, ◌+◌, ℕ, ℤ, IfOk, List};
-ghost use Rattle.forec_kernel.specs.Shapes.{PlainKernel, plain_kernel};
+ghost use Rattle.std.specs.Prelude.{◌≡◌, ◌<◌, ◌+◌, ℕ, ℤ, IfOk, List, Err, true, false};
+ghost use Rattle.forec_kernel.specs.Shapes.{plain_kernel};
 ghost use Rattle.forec_kernel.specs.Texts as plain;
-ghost use Rattle.forec_kernel.specs.Texts.{uses_of, child_of};
-ghost use Rattle.forec_kernel.specs.Steps.{Move, Moves, thread_after, units_of, move_before, move_watched, move_last, place_at, path_below, text_move, child_move};
-ghost use Rattle.running_texts.specs.Views.{text, threads, after};
-ghost use Rattle.kernel_meaning.specs.Moving.{IsMoved, AreStepped, place_or_first, is_here, place_behind};
-ghost use Rattle.running_texts.specs.Views.{standing};
-ghost use Rattle.forec_kernel.specs.Plain.{expr};
+ghost use Rattle.forec_kernel.specs.Steps.{Path, Move, Finished, Halts, place_at, path_below, text_move, child_move, thread_move, thread_after};
+ghost use Rattle.running_threads.specs.Views.{threads, focused, standing, plain_thread};
+ghost use Rattle.running_threads.specs.Moves.{plugged_move};
+ghost use Rattle.kernel_meaning.specs.Moving.{IsMoved, site, leads, rested, AreStepped, IsForked, IsThread, after_move, place_or_first, first_is_here, place_behind, running_below};
+ghost use Rattle.kernel_meaning.specs.States.{site_of};
+ghost use Rattle.kernel_meaning.specs.declared.moving.Step.TheVariants.{Sets};
 
 use crate::joins::join_step;
-use crate::moving::{Step, moved};
+use crate::moving::{Step, set_copy};
 use crate::statements::{loop_step, statement_step};
-use forec_kernel::{Expression, KernelParts, VarCopy};
-use running_texts::{
-    After, Children, Halt, Status, Text, duplicate, duplicate_after, duplicate_children,
-    duplicate_text, fork_text, runs, runs_there, some_run, start_after, thread_uses,
+use forec_kernel::{KernelParts, Spot, VarCopy};
+use running_texts::{Halt, clear_words, set_word, thread_uses};
+use running_threads::{
+    Children, Focus, Status, Thread, all_done, go_on, leave_last, resume, retire, runs, runs_there,
+    some_run,
 };
 use std::alloc::{AllocError, Global};
+use std::mem;
 
-fn then_text(alloc: Global, first: Text, next: &After) -> Result<Text, AllocError>
-    ensures { IfOk result (λ x. text x ≡ plain.Then (text first) (after next.now)) }
+/// Whether the focus is a fork one of whose children is running.
+fn runs_below(focus: &Focus<'_>) -> bool
+    ensures { result ≡ running_below (focused focus.now) }
 {
-    let first = Box::new(alloc, first)?;
-    Ok(Text::Then {
-        first,
-        after: duplicate_after(alloc, next)?,
-    })
-}
-
-fn watched_text(
-    alloc: Global,
-    weak: bool,
-    test: &Expression,
-    inner: Text,
-) -> Result<Text, AllocError>
-    ensures { IfOk result (λ x. text x ≡ plain.Watch weak (expr test.now) (text inner)) }
-{
-    let inner = Box::new(alloc, inner)?;
-    Ok(Text::Watch {
-        weak,
-        test: duplicate(alloc, test)?,
-        inner,
-    })
-}
-
-// A text before what follows it, after its step.
-fn step_before(
-    alloc: Global,
-    next: &After,
-    words: &[i32],
-    copies: &[VarCopy],
-    part: Result<Step, Halt>,
-) -> Result<Step, Halt>
-    ensures { (old new : ℕ) (m : Move) → IsMoved old new part m → IsMoved old new result (move_before (after next.now) words.now copies.now m) }
-{
-    match part {
-        Ok(Step::Finished) => moved(alloc, start_after(alloc, next), words, copies),
-        Ok(Step::Halts) => Ok(Step::Halts),
-        Ok(
-            Step::Moves {
-                text,
-                words,
-                copies,
-            },
-        ) => Ok(Step::Moves {
-            text: then_text(alloc, text, next)?,
-            words,
-            copies,
-        }),
-        Err(halt) => Err(halt),
+    match focus {
+        Focus::Fork { children } => some_run(children),
+        _ => false,
     }
 }
 
-// An abort in progress, after a step of its body.
-fn step_watched(
+// One step of a focus none of whose children is running.
+fn focus_step<'k>(
     alloc: Global,
-    weak: bool,
-    test: &Expression,
+    kernel: &'k KernelParts,
+    uses: &[u32],
     words: &[i32],
     copies: &[VarCopy],
-    part: Result<Step, Halt>,
-) -> Result<Step, Halt>
-    ensures { (old new : ℕ) (m : Move) → IsMoved old new part m → IsMoved old new result (move_watched weak (expr test.now) words.now copies.now m) }
+    focus: &Focus<'k>,
+    left: &mut u64,
+) -> Result<Step<'k>, Halt>
+    requires { running_below (focused focus.now) ≡ false }
+    ensures { (path : Path) → IsMoved (site uses.now words.now copies.now (focused focus.now)) left.old left.new result
+        (text_move (plain_kernel kernel.now) path uses.now words.now copies.now (focused focus.now)) }
 {
-    match part {
-        Ok(Step::Finished) => moved(alloc, Ok(Text::Done), words, copies),
-        Ok(Step::Halts) => Ok(Step::Halts),
-        Ok(
-            Step::Moves {
-                text,
-                words,
-                copies,
-            },
-        ) => Ok(Step::Moves {
-            text: watched_text(alloc, weak, test, text)?,
-            words,
-            copies,
-        }),
-        Err(halt) => Err(halt),
-    }
-}
-
-// A weak abort's last piece, after a step of its body.
-fn step_last(
-    alloc: Global,
-    words: &[i32],
-    copies: &[VarCopy],
-    part: Result<Step, Halt>,
-) -> Result<Step, Halt>
-    ensures { (old new : ℕ) (m : Move) → IsMoved old new part m → IsMoved old new result (move_last words.now copies.now m) }
-{
-    match part {
-        Ok(Step::Finished | Step::Halts) => moved(alloc, Ok(Text::Done), words, copies),
-        Ok(
-            Step::Moves {
-                text,
-                words,
-                copies,
-            },
-        ) => Ok(Step::Moves {
-            text: Text::Last {
-                inner: Box::new(alloc, text)?,
-            },
-            words,
-            copies,
-        }),
-        Err(halt) => Err(halt),
-    }
-}
-
-// A child as it is, but for how it stands.
-fn child_standing(
-    alloc: Global,
-    number: u32,
-    from: &Text,
-    words: &[i32],
-    copies: &[VarCopy],
-    status: Status,
-    rest: &Children,
-) -> Result<Children, AllocError>
-    ensures { IfOk result (λ x. threads x ≡ plain.child number (text from.now) words.now copies.now (standing status) (threads rest.now)) }
-{
-    let text = Box::new(alloc, duplicate_text(alloc, from)?)?;
-    let words = Vec::from_slice(alloc, words)?;
-    let copies = Vec::from_slice(alloc, copies)?;
-    let rest = Box::new(alloc, duplicate_children(alloc, rest)?)?;
-    Ok(Children::Child {
-        number,
-        text,
-        words,
-        copies,
-        status,
-        rest,
-    })
-}
-
-// A child after a step of its text.
-fn child_after(
-    alloc: Global,
-    number: u32,
-    from: &Text,
-    words: &[i32],
-    copies: &[VarCopy],
-    status: Status,
-    rest: &Children,
-    part: Result<Step, Halt>,
-) -> Result<Children, Halt>
-    ensures { (old new : ℕ) (m : Move) → IsMoved old new part m → AreStepped old new result (record {
-      children = child_of (thread_after (record { number = number; text = text from.now; words = words.now; copies = copies.now; status = standing status }) m) (threads rest.now);
-      units = units_of m;
-    }) }
-{
-    match part {
-        Ok(Step::Finished) => Ok(child_standing(
-            alloc,
-            number,
-            from,
-            words,
-            copies,
-            Status::Ended,
-            rest,
-        )?),
-        Ok(Step::Halts) => Ok(child_standing(
-            alloc,
-            number,
-            from,
-            words,
-            copies,
-            Status::Paused,
-            rest,
-        )?),
-        Ok(
-            Step::Moves {
-                text,
-                words,
-                copies,
-            },
-        ) => {
-            let text = Box::new(alloc, text)?;
-            let rest = Box::new(alloc, duplicate_children(alloc, rest)?)?;
-            Ok(Children::Child {
-                number,
-                text,
-                words,
-                copies,
-                status,
-                rest,
-            })
+    match focus {
+        Focus::Done => Ok(Step::Finishes),
+        Focus::Run { statement } => {
+            statement_step(alloc, kernel, uses, words, copies, statement, left)
         }
-        Err(Halt::Trapped { place, trap }) => Ok(child_standing(
-            alloc,
-            number,
-            from,
-            words,
-            copies,
-            Status::Trapped { place, trap },
-            rest,
-        )?),
-        Err(halt) => Err(halt),
+        Focus::Turning { turn } => loop_step(alloc, kernel, uses, words, copies, *turn, left),
+        Focus::Resting => Ok(Step::Halts),
+        Focus::Held { .. } => Ok(Step::Halts),
+        Focus::Fork { children } => join_step(alloc, kernel, uses, words, copies, children, left),
     }
 }
 
-// A child in front of others that have stepped.
-pub(crate) fn child_before(
-    alloc: Global,
-    number: u32,
-    from: &Text,
-    words: &[i32],
-    copies: &[VarCopy],
-    status: Status,
-    rest: Children,
-) -> Result<Children, AllocError>
-    ensures { IfOk result (λ x. threads x ≡ plain.child number (text from.now) words.now copies.now (standing status) (threads rest)) }
+// A thread whose focus has nothing left to do: what follows it, or the thread's end.
+fn finish(t: &mut Thread<'_>) -> Result<(), AllocError>
+    ensures { IfOk result (λ _. plain_thread t.new ≡ thread_after (plain_thread t.old) (plugged_move t.old.frames.items t.old.words.items t.old.copies.items Finished)) }
 {
-    let text = Box::new(alloc, duplicate_text(alloc, from)?)?;
-    let words = Vec::from_slice(alloc, words)?;
-    let copies = Vec::from_slice(alloc, copies)?;
-    let rest = Box::new(alloc, rest)?;
-    Ok(Children::Child {
-        number,
-        text,
-        words,
-        copies,
-        status,
-        rest,
-    })
+    match resume(&mut t.frames)? {
+        Some(focus) => t.focus = focus,
+        None => t.status = Status::Ended,
+    }
+    Ok(())
 }
 
-fn here(at: Option<u32>, status: Status) -> bool
-    ensures { result ≡ is_here at (standing status) }
+// A thread whose focus halts: it leaves the last piece of a weak abort, or the thread is paused.
+fn halt(t: &mut Thread<'_>)
+    ensures { plain_thread t.new ≡ thread_after (plain_thread t.old) (plugged_move t.old.frames.items t.old.words.items t.old.copies.items Halts) }
+{
+    if leave_last(&mut t.frames) {
+        t.focus = Focus::Done;
+    } else {
+        t.status = Status::Paused;
+    }
+}
+
+// What is left of a fork whose copies are combined.
+fn rest(focus: &mut Focus<'_>)
+    ensures { focused focus.new ≡ rested (focused focus.old) }
+{
+    match mem::replace(focus, Focus::Done) {
+        Focus::Fork { mut children } => {
+            if !all_done(&children) {
+                retire(&mut children);
+                *focus = Focus::Held { children };
+            }
+        }
+        other => *focus = other,
+    }
+}
+
+// A number goes to a word, or marked to a copy.
+fn set(uses: &[u32], t: &mut Thread<'_>, to: Spot, value: i32)
+    ensures { (u : ℕ) → plain_thread t.new ≡ thread_after (plain_thread t.old) (plugged_move t.old.frames.items t.old.words.items t.old.copies.items (leads (site_of uses.now t.old) (Sets to value) u)) }
+{
+    match to {
+        Spot::Local { slot } => {
+            set_word(&mut t.words, slot as usize, value);
+            t.focus = Focus::Done;
+        }
+        Spot::Variable { variable } => {
+            let copy = VarCopy {
+                value,
+                modified: true,
+            };
+            set_copy(uses, &mut t.copies, variable, copy);
+            t.focus = Focus::Done;
+        }
+    }
+}
+
+// A thread whose focus stops: it traps, or the step isn't taken.
+fn stop(t: &mut Thread<'_>, halt: Halt) -> Result<(), Halt>
+    ensures { (uses : List ℕ) (old new : ℕ) (m : Move) → IsMoved (site_of uses t.old) old new (Err halt) m →
+        IsThread old new (plain_thread t.new) result (after_move (plain_thread t.old) (plugged_move t.old.frames.items t.old.words.items t.old.copies.items m)) }
+{
+    match halt {
+        Halt::Trapped { place, trap } => {
+            t.status = Status::Trapped { place, trap };
+            Ok(())
+        }
+        Halt::Over => Err(Halt::Over),
+        Halt::OutOfMemory => Err(Halt::OutOfMemory),
+    }
+}
+
+// A thread after a step of its focus.
+fn after_step<'k>(
+    alloc: Global,
+    uses: &[u32],
+    t: &mut Thread<'k>,
+    step: Result<Step<'k>, Halt>,
+) -> Result<(), Halt>
+    ensures { (old new : ℕ) (m : Move) → IsMoved (site_of uses.now t.old) old new step.entry m →
+        IsThread old new (plain_thread t.new) result (after_move (plain_thread t.old) (plugged_move t.old.frames.items t.old.words.items t.old.copies.items m)) }
+{
+    match step {
+        Ok(Step::Finishes) => Ok(finish(t)?),
+        Ok(Step::Halts) => {
+            halt(t);
+            Ok(())
+        }
+        Ok(Step::Sets { to, value }) => {
+            set(uses, t, to, value);
+            Ok(())
+        }
+        Ok(Step::SetsAt { slot, value }) => {
+            set_word(&mut t.words, slot, value);
+            t.focus = Focus::Done;
+            Ok(())
+        }
+        Ok(Step::Clears { slot, length }) => {
+            clear_words(&mut t.words, slot, length);
+            t.focus = Focus::Done;
+            Ok(())
+        }
+        Ok(Step::Joins { copies }) => {
+            t.copies = copies;
+            rest(&mut t.focus);
+            Ok(())
+        }
+        Ok(Step::Goes { next }) => {
+            t.focus = go_on(alloc, &mut t.frames, next)?;
+            Ok(())
+        }
+        Err(halt) => stop(t, halt),
+    }
+}
+
+fn here(at: Option<u32>, children: &Children<'_>) -> bool
+    ensures { result ≡ first_is_here at (threads children.now) }
 {
     match at {
         Some(i) => i == 0,
-        None => runs(status),
+        None => match children {
+            Children::Nobody => false,
+            Children::Child { first, .. } => runs(first.status),
+        },
     }
 }
 
@@ -268,7 +195,7 @@ fn behind(at: Option<u32>) -> Option<u32>
 }
 
 // The child that a path picks; none for the leftmost running one.
-fn picked(path: &[u32], children: &Children) -> Option<u32>
+fn picked(path: &[u32], children: &Children<'_>) -> Option<u32>
     ensures { place_or_first result (threads children.now) ≡ place_at path.now (threads children.now) }
 {
     match path {
@@ -284,7 +211,7 @@ fn picked(path: &[u32], children: &Children) -> Option<u32>
 }
 
 // The path on from the child that it picks.
-fn path_on<'a>(path: &'a [u32], children: &Children) -> &'a [u32]
+fn path_on<'a>(path: &'a [u32], children: &Children<'_>) -> &'a [u32]
     ensures { result.now ≡ path_below path.now (threads children.now) }
 {
     match path {
@@ -299,89 +226,70 @@ fn path_on<'a>(path: &'a [u32], children: &Children) -> &'a [u32]
     }
 }
 
-/// One step of a text.
+/// One step of a thread, in place.
 #[cycle(stepping)]
-pub(crate) fn text_step(
+pub(crate) fn thread_step<'k>(
     alloc: Global,
-    kernel: &KernelParts,
+    kernel: &'k KernelParts,
     path: &[u32],
-    uses: &[u32],
-    words: &[i32],
-    copies: &[VarCopy],
-    from: &Text,
+    t: &mut Thread<'k>,
     left: &mut u64,
-) -> Result<Step, Halt>
-    ensures { IsMoved left.old left.new result (text_move (plain_kernel kernel.now) path.now uses.now words.now copies.now (text from.now)) }
+) -> Result<(), Halt>
+    ensures { IsThread left.old left.new (plain_thread t.new) result
+        (after_move (plain_thread t.old) (thread_move (plain_kernel kernel.now) path.now (plain_thread t.old))) }
 {
-    match from {
-        Text::Done => Ok(Step::Finished),
-        Text::Run { statement } => {
-            statement_step(alloc, kernel, uses, words, copies, statement, left)
+    if runs_below(&t.focus) {
+        return fork_step(alloc, kernel, path, &mut t.focus, left);
+    }
+    let uses = thread_uses(kernel, t.number);
+    let step = focus_step(alloc, kernel, uses, &t.words, &t.copies, &t.focus, left);
+    after_step(alloc, uses, t, step)
+}
+
+// A step of one of the running children of a fork.
+#[cycle(stepping)]
+fn fork_step<'k>(
+    alloc: Global,
+    kernel: &'k KernelParts,
+    path: &[u32],
+    focus: &mut Focus<'k>,
+    left: &mut u64,
+) -> Result<(), Halt>
+    requires { running_below (focused focus.old) ≡ true }
+    ensures { (uses : List ℕ) (w : List ℤ) (c : List VarCopy) → IsForked left.old left.new w c (focused focus.new) result
+        (text_move (plain_kernel kernel.now) path.now uses w c (focused focus.old)) }
+{
+    match focus {
+        Focus::Fork { children } => {
+            let at = picked(path, children);
+            let below = path_on(path, children);
+            child_step(alloc, kernel, below, at, children, left)
         }
-        Text::Then { first, after } => {
-            let part = text_step(alloc, kernel, path, uses, words, copies, first, left);
-            step_before(alloc, after, words, copies, part)
-        }
-        Text::Turning { turn } => loop_step(alloc, kernel, uses, words, copies, turn, left),
-        Text::Resting | Text::Held { .. } => Ok(Step::Halts),
-        Text::Fork { children } => {
-            if some_run(children) {
-                let at = picked(path, children);
-                let below = path_on(path, children);
-                match child_step(alloc, kernel, below, at, children, left) {
-                    Ok(children) => { moved(alloc, fork_text(alloc, Ok(children)), words, copies) }
-                    Err(halt) => Err(halt),
-                }
-            } else {
-                join_step(alloc, kernel, uses, words, copies, children, left)
-            }
-        }
-        Text::Watch { weak, test, inner } => {
-            let part = text_step(alloc, kernel, path, uses, words, copies, inner, left);
-            step_watched(alloc, *weak, test, words, copies, part)
-        }
-        Text::Last { inner } => {
-            let part = text_step(alloc, kernel, path, uses, words, copies, inner, left);
-            step_last(alloc, words, copies, part)
-        }
+        _ => Ok(()),
     }
 }
 
 // A step of the child at a place, or of the leftmost running one.
 #[cycle(stepping)]
-fn child_step(
+fn child_step<'k>(
     alloc: Global,
-    kernel: &KernelParts,
+    kernel: &'k KernelParts,
     path: &[u32],
     at: Option<u32>,
-    children: &Children,
+    children: &mut Children<'k>,
     left: &mut u64,
-) -> Result<Children, Halt>
-    ensures { AreStepped left.old left.new result
-        (child_move (plain_kernel kernel.now) path.now (place_or_first at (threads children.now)) (threads children.now)) }
+) -> Result<(), Halt>
+    ensures { AreStepped left.old left.new (threads children.new) result
+        (child_move (plain_kernel kernel.now) path.now (place_or_first at (threads children.old)) (threads children.old)) }
 {
+    if here(at, children) {
+        return match children {
+            Children::Nobody => Ok(()),
+            Children::Child { first, .. } => thread_step(alloc, kernel, path, first, left),
+        };
+    }
     match children {
-        Children::Nobody => Ok(Children::Nobody),
-        Children::Child {
-            number,
-            text,
-            words,
-            copies,
-            status,
-            rest,
-        } => {
-            if here(at, *status) {
-                let uses = thread_uses(kernel, *number);
-                let part = text_step(alloc, kernel, path, uses, words, copies, text, left);
-                child_after(alloc, *number, text, words, copies, *status, rest, part)
-            } else {
-                match child_step(alloc, kernel, path, behind(at), rest, left) {
-                    Ok(rest) => Ok(child_before(
-                        alloc, *number, text, words, copies, *status, rest,
-                    )?),
-                    Err(halt) => Err(halt),
-                }
-            }
-        }
+        Children::Nobody => Ok(()),
+        Children::Child { rest, .. } => { child_step(alloc, kernel, path, behind(at), rest, left) }
     }
 }

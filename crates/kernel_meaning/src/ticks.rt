@@ -1,64 +1,39 @@
 // Ticks.
 
-ghost use Rattle.std.specs.Prelude.{◌≡◌, ◌<◌, ◌+◌, ◌≤◌, ℕ, ℤ, Bool, cond, true, false, length, List, get_or, pos, IfOk, OnErr};
+ghost use Rattle.std.specs.Prelude.{◌≡◌, ◌<◌, ◌+◌, ◌≤◌, ℕ, ℤ, Bool, cond, true, false, length, List, [], get_or, pos, IfOk, OnErr};
 ghost use Rattle.forec_kernel.specs.Shapes.{PlainKernel, plain_kernel};
-ghost use Rattle.forec_kernel.specs.Texts as plain;
-ghost use Rattle.forec_kernel.specs.Texts.{uses_of, is_running};
-ghost use Rattle.forec_kernel.specs.Steps.{Move, thread_move};
+ghost use Rattle.forec_kernel.specs.Texts.{uses_of, is_running, text_of, body_of, words_of, Running};
+ghost use Rattle.forec_kernel.specs.Values.{fresh_words};
 ghost use Rattle.forec_kernel.specs.Ticks as ticks;
 ghost use Rattle.forec_kernel.specs.Ticks.{begin, start_copies, unmarked, with_row, values_of, outcome_of, tick};
-ghost use Rattle.running_texts.specs.Views.{text, standing};
-ghost use Rattle.kernel_meaning.specs.Moving.{IsMoved};
-ghost use Rattle.kernel_meaning.specs.States.{plain_state, main_thread, IsMain, StepsAlong, Advances, GoesOn, after_move, told, is_told};
+ghost use Rattle.running_threads.specs.Views.{plain_thread, standing};
+ghost use Rattle.kernel_meaning.specs.Waking.{WokenTo};
+ghost use Rattle.kernel_meaning.specs.States.{plain_state, Advances, GoesOn, told, is_told};
 
-use crate::moving::{Step, set_copy};
+use crate::forks::start_body;
+use crate::moving::set_copy;
 use crate::orders::{add_path, steppable};
-use crate::steps::text_step;
-use crate::wakes::{settle, wake};
+use crate::steps::thread_step;
+use crate::wakes::wake_thread;
 use forec_base::OutOfMemory;
 use forec_kernel::{Kernel, KernelParts, Outcome, VarCopy, Variable};
-use running_texts::{
-    Halt, Status, Text, body_text, copy_value, duplicate_text, runs, thread_uses, thread_words,
-    words_from,
-};
+use running_texts::{Halt, copy_value, thread_uses, thread_words, words_from};
+use running_threads::{Status, Thread, duplicate_thread, runs};
 use std::alloc::{AllocError, Global};
-
-/// Thread 0.
-#[derive(Drop)]
-pub(crate) struct Main {
-    pub(crate) text: Text,
-    pub(crate) words: Vec<i32>,
-    pub(crate) copies: Vec<VarCopy>,
-    pub(crate) status: Status,
-}
 
 /// A program between two ticks.
 #[derive(Drop)]
-pub struct State {
-    main: Option<Main>,
+pub struct State<'k> {
+    main: Option<Thread<'k>>,
 }
 
-fn duplicate_main(alloc: Global, main: &Main) -> Result<Main, AllocError>
-    ensures { IfOk result (λ x. main_thread x ≡ main_thread main.now) }
-{
-    let text = duplicate_text(alloc, &main.text)?;
-    let words = Vec::from_slice(alloc, &main.words)?;
-    let copies = Vec::from_slice(alloc, &main.copies)?;
-    Ok(Main {
-        text,
-        words,
-        copies,
-        status: main.status,
-    })
-}
-
-fn duplicate_state(alloc: Global, state: &State) -> Result<State, AllocError>
+fn duplicate_state<'k>(alloc: Global, state: &State<'k>) -> Result<State<'k>, AllocError>
     ensures { IfOk result (λ x. plain_state x ≡ plain_state state.now) }
 {
     match &state.main {
         None => Ok(State { main: None }),
         Some(main) => Ok(State {
-            main: Some(duplicate_main(alloc, main)?),
+            main: Some(duplicate_thread(alloc, main)?),
         }),
     }
 }
@@ -117,111 +92,66 @@ fn take_row(uses: &[u32], inputs: &[u32], row: &[i32], copies: &mut Vec<VarCopy>
     }
 }
 
-// Thread 0 at the start of a tick.
-fn begin_tick(
+// Thread 0 at the start of a program.
+fn first_thread<'k>(
     alloc: Global,
-    kernel: &KernelParts,
-    state: &State,
+    kernel: &'k KernelParts,
+    copies: Vec<VarCopy>,
+) -> Result<Thread<'k>, AllocError>
+    ensures { IfOk result (λ x. plain_thread x ≡ record {
+      number = 0;
+      text = text_of (body_of (plain_kernel kernel.now) 0);
+      words = fresh_words [] (words_of (plain_kernel kernel.now) 0);
+      copies = copies.items;
+      status = Running;
+    }) }
+{
+    let mut frames = Vec::new(alloc);
+    let focus = start_body(kernel, 0, &mut frames)?;
+    let words = words_from(alloc, &[], thread_words(kernel, 0))?;
+    Ok(Thread {
+        number: 0,
+        frames,
+        focus,
+        words,
+        copies,
+        status: Status::Running,
+    })
+}
+
+// Thread 0 at the start of a tick.
+fn begin_tick<'k>(
+    alloc: Global,
+    kernel: &'k KernelParts,
+    state: &State<'k>,
     row: &[i32],
     left: &mut u64,
-) -> Result<Main, Halt>
-    ensures { IsMain left.old left.new result (begin (plain_kernel kernel.now) (plain_state state.now) row.now) }
+) -> Result<Thread<'k>, Halt>
+    ensures { WokenTo left.old left.new result (begin (plain_kernel kernel.now) (plain_state state.now) row.now) }
 {
     let uses = thread_uses(kernel, 0);
     let inputs = kernel.shape.inputs.as_slice();
     match &state.main {
         None => {
-            let text = body_text(alloc, kernel, 0)?;
-            let words = words_from(alloc, &[], thread_words(kernel, 0))?;
             let mut copies = first_copies(alloc, &kernel.shape.variables)?;
             take_row(uses, inputs, row, &mut copies);
-            Ok(Main {
-                text,
-                words,
-                copies,
-                status: Status::Running,
-            })
+            Ok(first_thread(alloc, kernel, copies)?)
         }
         Some(main) => {
             let mut copies = without_marks(alloc, &main.copies)?;
             take_row(uses, inputs, row, &mut copies);
-            let words = Vec::from_slice(alloc, &main.words)?;
-            let part = wake(alloc, kernel, uses, &words, &copies, &main.text, left);
-            match settle(alloc, &main.text, part) {
-                Ok(settled) => Ok(Main {
-                    text: settled.text,
-                    words,
-                    copies,
-                    status: settled.status,
-                }),
-                Err(halt) => Err(halt),
-            }
+            wake_thread(alloc, kernel, uses, main, copies, left)
         }
-    }
-}
-
-fn standing_as(main: Main, status: Status) -> Main
-    ensures { main_thread result ≡ record (main_thread main) { status = standing status } }
-{
-    Main {
-        text: main.text,
-        words: main.words,
-        copies: main.copies,
-        status,
-    }
-}
-
-// A step of thread 0 along a path.
-fn step_along(
-    alloc: Global,
-    kernel: &KernelParts,
-    path: &[u32],
-    main: &Main,
-    left: &mut u64,
-) -> Result<Step, Halt>
-    ensures { IsMoved left.old left.new result (thread_move (plain_kernel kernel.now) path.now (main_thread main.now)) }
-{
-    let uses = thread_uses(kernel, 0);
-    text_step(
-        alloc,
-        kernel,
-        path,
-        uses,
-        &main.words,
-        &main.copies,
-        &main.text,
-        left,
-    )
-}
-
-// Thread 0 after a step.
-fn after_step(main: Main, step: Result<Step, Halt>) -> Result<Main, Halt>
-    ensures { (old new : ℕ) (m : Move) → IsMoved old new step m → IsMain old new result (after_move (main_thread main) m) }
-{
-    match step {
-        Ok(Step::Finished) => Ok(standing_as(main, Status::Ended)),
-        Ok(Step::Halts) => Ok(standing_as(main, Status::Paused)),
-        Ok(
-            Step::Moves {
-                text,
-                words,
-                copies,
-            },
-        ) => Ok(Main {
-            text,
-            words,
-            copies,
-            status: main.status,
-        }),
-        Err(Halt::Trapped { place, trap }) => {
-            Ok(standing_as(main, Status::Trapped { place, trap }))
-        }
-        Err(halt) => Err(halt),
     }
 }
 
 // The path to the thread that the order picks, or to the first that can step.
-fn next_path(alloc: Global, order: &[u32], at: usize, from: &Text) -> Result<Vec<u32>, AllocError> {
+fn next_path(
+    alloc: Global,
+    order: &[u32],
+    at: usize,
+    from: &Thread<'_>,
+) -> Result<Vec<u32>, AllocError> {
     let mut path = Vec::new(alloc);
     if at < order.len() {
         let count = steppable(from);
@@ -233,102 +163,86 @@ fn next_path(alloc: Global, order: &[u32], at: usize, from: &Text) -> Result<Vec
 }
 
 // The next step of thread 0, along the path that the order picks.
-fn next_step(
+fn advance<'k>(
     alloc: Global,
-    kernel: &KernelParts,
+    kernel: &'k KernelParts,
     order: &[u32],
     at: usize,
-    main: &Main,
+    main: &mut Thread<'k>,
     left: &mut u64,
-) -> Result<Step, Halt>
-    ensures { StepsAlong (plain_kernel kernel.now) main.now left.old left.new result }
+) -> Result<(), Halt>
+    ensures { Advances (plain_kernel kernel.now) (plain_thread main.old) (plain_thread main.new) left.old left.new result }
 {
-    match next_path(alloc, order, at, &main.text) {
-        Ok(path) => step_along(alloc, kernel, &path, main, left),
+    match next_path(alloc, order, at, main) {
+        Ok(path) => thread_step(alloc, kernel, &path, main, left),
         Err(_) => Err(Halt::OutOfMemory),
     }
 }
 
-// Thread 0 after its next step.
-fn advance(
-    alloc: Global,
-    kernel: &KernelParts,
-    order: &[u32],
-    at: usize,
-    main: Main,
-    left: &mut u64,
-) -> Result<Main, Halt>
-    ensures { Advances (plain_kernel kernel.now) main left.old left.new result }
-{
-    let step = next_step(alloc, kernel, order, at, &main, left);
-    after_step(main, step)
-}
-
 // Steps that cost nothing, up to one that costs units or to the end.
-fn run_free(
+fn run_free<'k>(
     alloc: Global,
-    kernel: &KernelParts,
+    kernel: &'k KernelParts,
     order: &[u32],
     at: &mut usize,
-    mut main: Main,
+    main: &mut Thread<'k>,
     left: &mut u64,
-) -> Result<Main, Halt>
-    ensures on { GoesOn (plain_kernel kernel.now) main left.old left.new result }
-    ensures paid { IfOk result (λ m. (left.new ≤ left.old) × (is_running (standing m.status) ≡ true → left.new < left.old)) }
+) -> Result<(), Halt>
+    ensures on { GoesOn (plain_kernel kernel.now) (plain_thread main.old) (plain_thread main.new) left.old left.new result }
+    ensures paid { IfOk result (λ _. (left.new ≤ left.old) × (is_running (standing main.new.status) ≡ true → left.new < left.old)) }
 {
     let before = *left;
     'free: while runs(main.status) {
         let place = *at;
         *at = place.saturating_add(1);
         match advance(alloc, kernel, order, place, main, left) {
-            Ok(next) => {
+            Ok(()) => {
                 if *left < before {
-                    return Ok(next);
+                    return Ok(());
                 }
-                main = next;
             }
             Err(halt) => return Err(halt),
         }
     }
-    Ok(main)
+    Ok(())
 }
 
 // All steps of a tick.
-fn run_tick(
+fn run_tick<'k>(
     alloc: Global,
-    kernel: &KernelParts,
+    kernel: &'k KernelParts,
     order: &[u32],
-    mut main: Main,
+    main: &mut Thread<'k>,
     left: &mut u64,
-) -> Result<Main, Halt>
-    ensures on { GoesOn (plain_kernel kernel.now) main left.old left.new result }
-    ensures stopped { IfOk result (λ m. is_running (standing m.status) ≡ false) }
+) -> Result<(), Halt>
+    ensures on { GoesOn (plain_kernel kernel.now) (plain_thread main.old) (plain_thread main.new) left.old left.new result }
+    ensures stopped { IfOk result (λ _. is_running (standing main.new.status) ≡ false) }
 {
     let mut at = 0;
     'steps: while runs(main.status) {
         match run_free(alloc, kernel, order, &mut at, main, left) {
-            Ok(next) => main = next,
+            Ok(()) => {}
             Err(halt) => return Err(halt),
         }
     }
-    Ok(main)
+    Ok(())
 }
 
 // Thread 0 at the end of a tick; none where the units pass the budget.
-fn tick_of(
+fn tick_of<'k>(
     alloc: Global,
-    kernel: &KernelParts,
-    state: &State,
+    kernel: &'k KernelParts,
+    state: &State<'k>,
     row: &[i32],
     order: &[u32],
     budget: u64,
-) -> Result<Option<Main>, OutOfMemory>
+) -> Result<Option<Thread<'k>>, OutOfMemory>
     ensures { IfOk result (λ o. tick (plain_kernel kernel.now) budget (plain_state state.now) row.now ≡ told (plain_kernel kernel.now) (plain_state state.now) o) }
 {
     let mut left = budget;
     match begin_tick(alloc, kernel, state, row, &mut left) {
-        Ok(main) => match run_tick(alloc, kernel, order, main, &mut left) {
-            Ok(main) => Ok(Some(main)),
+        Ok(mut main) => match run_tick(alloc, kernel, order, &mut main, &mut left) {
+            Ok(()) => Ok(Some(main)),
             Err(Halt::Over) => Ok(None),
             Err(_) => Err(OutOfMemory),
         },
@@ -364,7 +278,7 @@ fn write_outputs(uses: &[u32], copies: &[VarCopy], variables: &[u32], outputs: &
 }
 
 // How a tick ended; its outputs are written where the program goes on or has ended.
-fn tell(kernel: &KernelParts, main: &Main, outputs: &mut [i32]) -> Outcome
+fn tell(kernel: &KernelParts, main: &Thread<'_>, outputs: &mut [i32]) -> Outcome
     requires { length outputs.old ≡ length kernel.now.shape.outputs.items }
     ensures outcome { result ≡ outcome_of (standing main.now.status) }
     ensures outputs { outputs.new ≡ cond (is_told (outcome_of (standing main.now.status)))
@@ -379,9 +293,9 @@ fn tell(kernel: &KernelParts, main: &Main, outputs: &mut [i32]) -> Outcome
     outcome
 }
 
-impl State {
+impl<'k> State<'k> {
     /// The state before the first tick: nothing has run.
-    pub fn first(alloc: Global, kernel: &Kernel) -> Result<State, OutOfMemory>
+    pub fn first(alloc: Global, kernel: &'k Kernel) -> Result<State<'k>, OutOfMemory>
         ensures { IfOk result (λ s. plain_state s ≡ ticks.Fresh) }
     {
         Ok(State { main: None })
@@ -392,15 +306,15 @@ impl State {
 ///
 /// At step i the thread steps that `order[i]`, modulo the number of threads that can step, picks in
 /// preorder; past the list it is the first one. The answer is the same for every order.
-pub fn rewrite_tick(
+pub fn rewrite_tick<'k>(
     alloc: Global,
-    kernel: &Kernel,
-    state: &State,
+    kernel: &'k Kernel,
+    state: &State<'k>,
     row: &[i32],
     order: &[u32],
     budget: u64,
     outputs: &mut [i32],
-) -> Result<(Outcome, State), OutOfMemory>
+) -> Result<(Outcome, State<'k>), OutOfMemory>
     requires { length outputs.old ≡ length kernel.now.shape.outputs.items }
     ensures outcome { IfOk result (λ p. p.0 ≡ (tick (plain_kernel kernel.now) budget (plain_state state.now) row.now).outcome) }
     ensures state { IfOk result (λ p. plain_state p.1 ≡ (tick (plain_kernel kernel.now) budget (plain_state state.now) row.now).state) }

@@ -1,214 +1,251 @@
-// Waking.
+// Waking: a thread of the state before, as it begins a tick.
 
-ghost use Rattle.std.specs.Prelude.{◌≡◌, ◌<◌, ◌+◌, ℕ, ℤ, Bool, cond, IfOk};
-ghost use Rattle.forec_kernel.specs.Shapes.{PlainKernel, plain_kernel};
-ghost use Rattle.forec_kernel.specs.Plain.{expr};
-ghost use Rattle.forec_kernel.specs.Texts as plain;
-ghost use Rattle.forec_kernel.specs.Steps.{Woken, Wakes, Stepped, refilled, woken_in, woken, woken_children};
-ghost use Rattle.running_texts.specs.Views.{text, threads, after, standing};
+ghost use Rattle.std.specs.Prelude.{◌≡◌, ◌<◌, ◌+◌, ℕ, ℤ, List, ◌++◌, IfOk, Some};
+ghost use Rattle.forec_kernel.specs.Shapes.{plain_kernel};
+ghost use Rattle.forec_kernel.specs.Steps.{woken, woken_children};
 ghost use Rattle.running_texts.specs.Metered.{IsMetered};
-ghost use Rattle.kernel_meaning.specs.Moving.{AreStepped, IsSettled, waking};
+ghost use Rattle.forec_kernel.specs.Texts.{child_of, Running};
+ghost use Rattle.running_threads.specs.Views.{threads, focused, plugged, plain_thread, standing};
+ghost use Rattle.kernel_meaning.specs.Waking.{Reached, fate, waking, WokenTo, woken_thread, AreWoken};
 
 use crate::statements::number_of;
-use crate::steps::child_before;
-use forec_kernel::{Expression, KernelParts, VarCopy};
-use running_texts::{
-    After, Children, Halt, Loop, Status, Text, copies_below, duplicate, duplicate_after,
-    duplicate_loop, duplicate_text, ran, tested, thread_uses,
+use forec_kernel::{KernelParts, VarCopy};
+use running_texts::{Halt, copies_below, tested, thread_uses};
+use running_threads::{
+    Children, Focus, Frame, Status, Thread, Turn, duplicate_focus, duplicate_thread, ran,
 };
 use std::alloc::{AllocError, Global};
 
-// What follows a text, where a loop gets its turns again.
-fn refill(alloc: Global, next: &After) -> Result<After, AllocError>
-    ensures { IfOk result (λ x. after x ≡ refilled (after next.now)) }
+/// How far waking goes into a text: to its focus, to the last piece of a weak abort, or out of a strong
+/// abort.
+#[derive(Clone, Copy)]
+pub(crate) enum Reach {
+    Focus,
+    Last,
+    Out,
+}
+
+// A loop gets its turns again.
+fn refilled<'k>(turn: &Turn<'k>) -> Turn<'k>
+    ensures { result ≡ record turn.now { left = turn.now.bound } }
 {
-    match next {
-        After::GoOn { .. } => duplicate_after(alloc, next),
-        After::Again { turn } => {
-            let mut turn = duplicate_loop(alloc, turn)?;
-            turn.left = turn.bound;
-            Ok(After::Again { turn })
-        }
+    Turn {
+        test: turn.test,
+        bound: turn.bound,
+        left: turn.bound,
+        body: turn.body,
+        place: turn.place,
     }
 }
 
-fn woken_before(alloc: Global, next: &After, part: Result<Text, Halt>) -> Result<Text, Halt>
-    ensures { (old new : ℕ) (w : Woken) → IsMetered waking old new part w → IsMetered waking old new result (woken_in (λ R. plain.Then R (refilled (after next.now))) w) }
+fn push_all<'k>(after: &mut Vec<Frame<'k>>, frames: &[Frame<'k>]) -> Result<(), AllocError>
+    ensures { IfOk result (λ _. after.new.items ≡ after.old.items ++ frames.now) }
 {
-    match part {
-        Ok(first) => {
-            let first = Box::new(alloc, first)?;
-            let after = refill(alloc, next)?;
-            Ok(Text::Then { first, after })
-        }
-        Err(halt) => Err(halt),
+    for frame in frames {
+        after.push(*frame)?;
     }
+    Ok(())
 }
 
-// An abort in progress, or the last piece of one.
-fn woken_watch(
+// The frames that a text has when it wakes, and how far waking goes.
+fn wake_frames<'k>(
     alloc: Global,
-    weak: bool,
-    test: &Expression,
-    part: Result<Text, Halt>,
-) -> Result<Text, Halt>
-    ensures { (old new : ℕ) (w : Woken) → IsMetered waking old new part w → IsMetered waking old new result (woken_in (plain.Watch weak (expr test.now)) w) }
-{
-    match part {
-        Ok(inner) => {
-            let inner = Box::new(alloc, inner)?;
-            let test = duplicate(alloc, test)?;
-            Ok(Text::Watch { weak, test, inner })
-        }
-        Err(halt) => Err(halt),
-    }
-}
-
-fn woken_last(alloc: Global, part: Result<Text, Halt>) -> Result<Text, Halt>
-    ensures { (old new : ℕ) (w : Woken) → IsMetered waking old new part w → IsMetered waking old new result (woken_in plain.Last w) }
-{
-    match part {
-        Ok(inner) => {
-            let inner = Box::new(alloc, inner)?;
-            Ok(Text::Last { inner })
-        }
-        Err(halt) => Err(halt),
-    }
-}
-
-fn woken_fork(alloc: Global, children: Result<Children, Halt>) -> Result<Text, Halt>
-    ensures { (old new : ℕ) (s : Stepped) → AreStepped old new children s → IsMetered waking old new result (Wakes (plain.Fork s.children) s.units) }
-{
-    match children {
-        Ok(children) => {
-            let children = Box::new(alloc, children)?;
-            Ok(Text::Fork { children })
-        }
-        Err(halt) => Err(halt),
-    }
-}
-
-/// A thread's text and how it stands, after waking.
-#[derive(Drop)]
-pub(crate) struct Settled {
-    pub(crate) text: Text,
-    pub(crate) status: Status,
-}
-
-// A test that traps leaves the text as it was.
-pub(crate) fn settle(alloc: Global, from: &Text, part: Result<Text, Halt>) -> Result<Settled, Halt>
-    ensures { (old new : ℕ) (w : Woken) → IsMetered waking old new part w → IsSettled old new result (text from.now) w }
-{
-    match part {
-        Ok(text) => Ok(Settled {
-            text,
-            status: Status::Running,
-        }),
-        Err(Halt::Trapped { place, trap }) => Ok(Settled {
-            text: duplicate_text(alloc, from)?,
-            status: Status::Trapped { place, trap },
-        }),
-        Err(halt) => Err(halt),
-    }
-}
-
-/// A text that wakes.
-#[cycle(waking)]
-pub(crate) fn wake(
-    alloc: Global,
-    kernel: &KernelParts,
+    kernel: &'k KernelParts,
     uses: &[u32],
     words: &[i32],
     copies: &[VarCopy],
-    from: &Text,
+    frames: &[Frame<'k>],
+    after: &mut Vec<Frame<'k>>,
     left: &mut u64,
-) -> Result<Text, Halt>
-    ensures { IsMetered waking left.old left.new result (woken (plain_kernel kernel.now) uses.now words.now copies.now (text from.now)) }
+) -> Result<Reach, Halt>
+    ensures { Reached (fate (plain_kernel kernel.now) uses.now words.now copies.now frames.now) after.old.items after.new.items left.old left.new result }
 {
-    match from {
-        Text::Resting => Ok(Text::Done),
-        Text::Then { first, after } => {
-            let part = wake(alloc, kernel, uses, words, copies, first, left);
-            woken_before(alloc, after, part)
-        }
-        Text::Held { children } => {
-            let children = wake_children(alloc, kernel, uses, copies, children, left);
-            woken_fork(alloc, children)
-        }
-        Text::Watch { weak, test, inner } => {
-            let part = number_of(alloc, kernel, uses, words, copies, test, left);
-            match tested(part, left) {
-                Ok(n) => {
-                    if n == 0 {
-                        let part = wake(alloc, kernel, uses, words, copies, inner, left);
-                        return woken_watch(alloc, *weak, test, part);
+    match frames {
+        [] => Ok(Reach::Focus),
+        [first, rest @ ..] => match first {
+            Frame::Watch { weak, test } => {
+                let part = number_of(alloc, kernel, uses, words, copies, test, left);
+                match tested(part, left) {
+                    Ok(n) => {
+                        if n == 0 {
+                            after.push(*first)?;
+                            return wake_frames(
+                                alloc, kernel, uses, words, copies, rest, after, left,
+                            );
+                        }
+                        if *weak {
+                            after.push(Frame::Last)?;
+                            return wake_frames(
+                                alloc, kernel, uses, words, copies, rest, after, left,
+                            );
+                        }
+                        Ok(Reach::Out)
                     }
-                    if *weak {
-                        let part = wake(alloc, kernel, uses, words, copies, inner, left);
-                        return woken_last(alloc, part);
-                    }
-                    Ok(Text::Done)
+                    Err(halt) => Err(halt),
+                }
+            }
+            Frame::Last => {
+                push_all(after, frames)?;
+                Ok(Reach::Last)
+            }
+            Frame::Rest { .. } => {
+                after.push(*first)?;
+                wake_frames(alloc, kernel, uses, words, copies, rest, after, left)
+            }
+            Frame::Again { turn } => {
+                let turn = refilled(turn);
+                after.push(Frame::Again { turn })?;
+                wake_frames(alloc, kernel, uses, words, copies, rest, after, left)
+            }
+        },
+    }
+}
+
+// A thread with another text, other copies and another status.
+fn with_text<'k>(
+    alloc: Global,
+    t: &Thread<'k>,
+    frames: Vec<Frame<'k>>,
+    focus: Focus<'k>,
+    copies: Vec<VarCopy>,
+) -> Result<Thread<'k>, AllocError>
+    ensures { IfOk result (λ x. plain_thread x ≡ record (plain_thread t.now) { text = plugged frames.entry.items (focused focus.entry); copies = copies.items; status = Running }) }
+{
+    let words = Vec::from_slice(alloc, &t.words)?;
+    Ok(Thread {
+        number: t.number,
+        frames,
+        focus,
+        words,
+        copies,
+        status: Status::Running,
+    })
+}
+
+// A thread whose waking traps: its text stays.
+fn trapped_at<'k>(
+    alloc: Global,
+    t: &Thread<'k>,
+    copies: Vec<VarCopy>,
+    status: Status,
+) -> Result<Thread<'k>, AllocError>
+    ensures { IfOk result (λ x. plain_thread x ≡ record (plain_thread t.now) { copies = copies.items; status = standing status }) }
+{
+    let mut stays = duplicate_thread(alloc, t)?;
+    stays.copies = copies;
+    stays.status = status;
+    Ok(stays)
+}
+
+/// A thread that wakes with these copies.
+#[cycle(waking)]
+pub(crate) fn wake_thread<'k>(
+    alloc: Global,
+    kernel: &'k KernelParts,
+    uses: &[u32],
+    t: &Thread<'k>,
+    copies: Vec<VarCopy>,
+    left: &mut u64,
+) -> Result<Thread<'k>, Halt>
+    ensures { WokenTo left.old left.new result (woken_thread (plain_kernel kernel.now) uses.now (plain_thread t.now) copies.items) }
+{
+    let mut frames = Vec::new(alloc);
+    match wake_frames(
+        alloc,
+        kernel,
+        uses,
+        &t.words,
+        &copies,
+        &t.frames,
+        &mut frames,
+        left,
+    ) {
+        Ok(Reach::Focus) => match wake_focus(alloc, kernel, uses, &copies, &t.focus, left) {
+            Ok(focus) => Ok(with_text(alloc, t, frames, focus, copies)?),
+            Err(halt) => Err(halt),
+        },
+        Ok(Reach::Last) => {
+            let focus = duplicate_focus(alloc, &t.focus)?;
+            Ok(with_text(alloc, t, frames, focus, copies)?)
+        }
+        Ok(Reach::Out) => Ok(with_text(alloc, t, frames, Focus::Done, copies)?),
+        Err(Halt::Trapped { place, trap }) => {
+            Ok(trapped_at(alloc, t, copies, Status::Trapped { place, trap })?)
+        }
+        Err(Halt::Over) => Err(Halt::Over),
+        Err(Halt::OutOfMemory) => Err(Halt::OutOfMemory),
+    }
+}
+
+// A focus that wakes: a pause is over, and the branches of a fork wake.
+#[cycle(waking)]
+fn wake_focus<'k>(
+    alloc: Global,
+    kernel: &'k KernelParts,
+    uses: &[u32],
+    copies: &[VarCopy],
+    focus: &Focus<'k>,
+    left: &mut u64,
+) -> Result<Focus<'k>, Halt>
+    ensures { (words : List ℤ) → IsMetered waking left.old left.new result (woken (plain_kernel kernel.now) uses.now words copies.now (focused focus.now)) }
+{
+    match focus {
+        Focus::Resting => Ok(Focus::Done),
+        Focus::Held { children } => {
+            match wake_children(alloc, kernel, uses, copies, children, left) {
+                Ok(children) => {
+                    let children = Box::new(alloc, children)?;
+                    Ok(Focus::Fork { children })
                 }
                 Err(halt) => Err(halt),
             }
         }
-        _ => Ok(duplicate_text(alloc, from)?),
+        _ => Ok(duplicate_focus(alloc, focus)?),
     }
 }
 
 // Each child that has not ended gets the parent's present values, unmarked, and wakes.
 #[cycle(waking)]
-fn wake_children(
+fn wake_children<'k>(
     alloc: Global,
-    kernel: &KernelParts,
+    kernel: &'k KernelParts,
     uses: &[u32],
     copies: &[VarCopy],
-    children: &Children,
+    children: &Children<'k>,
     left: &mut u64,
-) -> Result<Children, Halt>
-    ensures { AreStepped left.old left.new result (woken_children (plain_kernel kernel.now) uses.now copies.now (threads children.now)) }
+) -> Result<Children<'k>, Halt>
+    ensures { AreWoken left.old left.new result (woken_children (plain_kernel kernel.now) uses.now copies.now (threads children.now)) }
 {
     match children {
         Children::Nobody => Ok(Children::Nobody),
-        Children::Child {
-            number,
-            text,
-            words,
-            copies: own,
-            status,
-            rest,
-        } => {
-            if !ran(*status) {
+        Children::Child { first, rest } => {
+            if !ran(first.status) {
                 return match wake_children(alloc, kernel, uses, copies, rest, left) {
-                    Ok(rest) => Ok(child_before(alloc, *number, text, words, own, *status, rest)?),
+                    Ok(others) => Ok(child_before(alloc, duplicate_thread(alloc, first)?, others)?),
                     Err(halt) => Err(halt),
                 };
             }
-            let below = copies_below(alloc, uses, copies, thread_uses(kernel, *number))?;
-            let part = wake(
-                alloc,
-                kernel,
-                thread_uses(kernel, *number),
-                words,
-                &below,
-                text,
-                left,
-            );
-            match settle(alloc, text, part) {
-                Ok(settled) => match wake_children(alloc, kernel, uses, copies, rest, left) {
-                    Ok(rest) => Ok(child_before(
-                        alloc,
-                        *number,
-                        &settled.text,
-                        words,
-                        &below,
-                        settled.status,
-                        rest,
-                    )?),
+            let own = thread_uses(kernel, first.number);
+            let below = copies_below(alloc, uses, copies, own)?;
+            match wake_thread(alloc, kernel, own, first, below, left) {
+                Ok(first) => match wake_children(alloc, kernel, uses, copies, rest, left) {
+                    Ok(others) => Ok(child_before(alloc, first, others)?),
                     Err(halt) => Err(halt),
                 },
                 Err(halt) => Err(halt),
             }
         }
     }
+}
+
+// A child in front of others.
+fn child_before<'k>(
+    alloc: Global,
+    first: Thread<'k>,
+    rest: Children<'k>,
+) -> Result<Children<'k>, AllocError>
+    ensures { IfOk result (λ x. threads x ≡ child_of (plain_thread first.entry) (threads rest.entry)) }
+{
+    let rest = Box::new(alloc, rest)?;
+    Ok(Children::Child { first, rest })
 }

@@ -113,14 +113,14 @@ const RUNS: [Run; 10] = [
 ];
 
 /// The next tick by rewriting: how it ends, the output, and the state after it.
-fn next_tick(
+fn next_tick<'k>(
     alloc: Global,
-    kernel: &Kernel,
-    state: &State,
+    kernel: &'k Kernel,
+    state: &State<'k>,
     input: i32,
     order: &[u32],
     budget: u64,
-) -> Result<(Outcome, i32, Box<State>), OutOfMemory> {
+) -> Result<(Outcome, i32, Box<State<'k>>), OutOfMemory> {
     if kernel.shape().outputs.len() != 1 {
         return Err(OutOfMemory);
     }

@@ -1,7 +1,5 @@
 pub mod Copies
 pub mod Kernels
-pub mod Lists
-pub mod Pushes
 pub mod Words
 pub mod Metering
 pub mod Falls

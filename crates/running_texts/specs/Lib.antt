@@ -1,3 +1,2 @@
 pub mod Metered
-pub mod Views
 pub mod Folding

@@ -3,17 +3,13 @@
 ghost use Rattle.std.specs.Prelude.{◌≡◌, ◌<◌, ◌+◌, ℕ, ℤ, Option, Some, None, IfOk, length, not, ◌&&◌, ◌||◌, unwrap_or};
 ghost use Rattle.forec_base.specs.Numbers.{int_same};
 ghost use Rattle.forec_kernel.specs.Shapes.{plain_kernel};
-ghost use Rattle.forec_kernel.specs.Combining.{contains, takes_part, variable_of, combine_of, shares, some_marked};
-ghost use Rattle.running_texts.specs.Views.{threads};
+ghost use Rattle.forec_kernel.specs.Combining.{contains, takes_part, variable_of, combine_of};
 ghost use Rattle.running_texts.specs.Metered.{IsMetered};
-ghost use Rattle.running_texts.specs.Folding.{added, takes, branch_added, branch_folds, all_folds, first_folds, folded_copies, adding, folding};
+ghost use Rattle.running_texts.specs.Folding.{added, takes, branch_added, branch_folds, first_folds, adding, folding};
 
-use crate::children::ran;
 use crate::evaluation::call_function;
-use crate::forks::thread_uses;
 use crate::meter::{Halt, pay};
 use crate::operators::copy_in;
-use crate::texts::Children;
 use forec_base::Policy;
 use forec_kernel::{KernelParts, VarCopy, Variable};
 use std::alloc::{AllocError, Global};
@@ -27,7 +23,8 @@ pub struct Fold {
     pub total: Option<i32>,
 }
 
-fn has(uses: &[u32], variable: u32) -> bool
+/// Whether a variable is among those that are used.
+pub fn has(uses: &[u32], variable: u32) -> bool
     ensures { result ≡ contains variable uses.now }
 {
     for other in uses {
@@ -139,8 +136,8 @@ fn come_to(fold: Fold, total: Option<i32>) -> Fold
     }
 }
 
-// All folds after one branch.
-fn fold_branch(
+/// All folds after one branch.
+pub fn fold_branch(
     alloc: Global,
     kernel: &KernelParts,
     uses: &[u32],
@@ -164,37 +161,6 @@ fn fold_branch(
     Ok(next)
 }
 
-/// All folds after all branches that ran.
-pub fn fold_children(
-    alloc: Global,
-    kernel: &KernelParts,
-    children: &Children,
-    folds: Vec<Fold>,
-    left: &mut u64,
-) -> Result<Vec<Fold>, Halt>
-    ensures { IsMetered folding left.old left.new result (all_folds (plain_kernel kernel.now) (threads children.now) folds.items) }
-{
-    match children {
-        Children::Nobody => Ok(folds),
-        Children::Child {
-            number,
-            copies,
-            status,
-            rest,
-            ..
-        } => {
-            if !ran(*status) {
-                return fold_children(alloc, kernel, rest, folds, left);
-            }
-            let uses = thread_uses(kernel, *number);
-            match fold_branch(alloc, kernel, uses, copies, &folds, left) {
-                Ok(next) => fold_children(alloc, kernel, rest, next, left),
-                Err(halt) => Err(halt),
-            }
-        }
-    }
-}
-
 fn begin_fold(variable: u32, copy: VarCopy) -> Fold
     ensures { result ≡ record { variable = variable; base = copy.value; total = None } }
 {
@@ -214,66 +180,4 @@ pub fn begin_folds(alloc: Global, uses: &[u32], copies: &[VarCopy]) -> Result<Ve
         folds.push(begin_fold(uses[i], copies[i]))?;
     }
     Ok(folds)
-}
-
-// Whether some branch that ran has marked its copy of a variable.
-fn some_mark(kernel: &KernelParts, variable: u32, children: &Children) -> bool
-    ensures { (j : ℕ) → result ≡ some_marked (shares (plain_kernel kernel.now) variable j (threads children.now)) }
-{
-    match children {
-        Children::Nobody => false,
-        Children::Child {
-            number,
-            copies,
-            status,
-            rest,
-            ..
-        } => {
-            let uses = thread_uses(kernel, *number);
-            if ran(*status) && has(uses, variable) && copy_in(uses, copies, variable).modified {
-                return true;
-            }
-            some_mark(kernel, variable, rest)
-        }
-    }
-}
-
-// The parent's copy of a variable after the last branch.
-fn end_fold(
-    kernel: &KernelParts,
-    children: &Children,
-    variable: u32,
-    copy: VarCopy,
-    fold: Fold,
-) -> VarCopy
-    ensures { result ≡ record { value = unwrap_or fold.total copy.value; modified = copy.modified || some_marked (shares (plain_kernel kernel.now) variable 0 (threads children.now)) } }
-{
-    let marked = some_mark(kernel, variable, children);
-    VarCopy {
-        value: fold.total.unwrap_or(copy.value),
-        modified: copy.modified || marked,
-    }
-}
-
-/// The parent's copies after the last branch.
-pub fn end_folds(
-    alloc: Global,
-    kernel: &KernelParts,
-    children: &Children,
-    uses: &[u32],
-    copies: &[VarCopy],
-    folds: &[Fold],
-) -> Result<Vec<VarCopy>, AllocError>
-    ensures { IfOk result (λ v. v.items ≡ folded_copies (plain_kernel kernel.now) (threads children.now) uses.now copies.now folds.now) }
-{
-    let some = uses.len().min(folds.len());
-    let mut list = Vec::new(alloc);
-    for i in 0..copies.len() {
-        if some <= i {
-            list.push(copies[i])?;
-            continue;
-        }
-        list.push(end_fold(kernel, children, uses[i], copies[i], folds[i]))?;
-    }
-    Ok(list)
 }

@@ -1,6 +1,6 @@
 use Rattle.std.proofs.Common.{◌≡◌}
 use Rattle.forec_kernel.specs.Shapes.{plain_kernel}
-use Rattle.running_texts.specs.Views.{threads}
+use Rattle.running_threads.specs.Views.{threads}
 use Rattle.kernel_meaning.proofs.Transposed.{joined_ok, joined_err}
 use Rattle.kernel_meaning.proofs.joins.join_copies.Goals as goal
 

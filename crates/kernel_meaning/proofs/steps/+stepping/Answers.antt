@@ -1,16 +1,23 @@
-use Rattle.std.proofs.Common.{◌≡◌, ◌∙◌, sym, refl}
-use Rattle.kernel_meaning.proofs.Forking.{fork_goes}
+use Rattle.std.proofs.Common.{◌≡◌, ◌∙◌, refl, ap, sym, subst}
+use Rattle.forec_kernel.specs.Shapes.{plain_kernel}
+use Rattle.forec_kernel.specs.Texts.{uses_of}
+use Rattle.forec_kernel.specs.Steps.{text_move}
+use Rattle.running_threads.specs.Views.{focused, plain_thread}
+use Rattle.kernel_meaning.specs.Moving.{site, IsForked, IsMoved}
+use Rattle.kernel_meaning.proofs.Threads.{forked_step, quiet_step}
 use Rattle.kernel_meaning.proofs.steps.+stepping.Goals as goal
 
-pub text_step-returns-in-Ok : goal.text_step-returns-in-Ok
-text_step-returns-in-Ok t c =
-    let asked : c.deref-in-Fork.result.now ≡ c.in-Fork.children.value = c.deref-in-Fork.ensures in
-    let one : c.deref-then-some_run.result.now ≡ c.in-Fork.children.value = c.deref-then-some_run.ensures in
-    let two : c.deref-then-some_run-2.result.now ≡ c.in-Fork.children.value = c.deref-then-some_run-2.ensures in
-    let three : c.deref-then-some_run-3.result.now ≡ c.in-Fork.children.value = c.deref-then-some_run-3.ensures in
-    let some = sym (rw asked at c.some_run.ensures) ∙ c.if-some_run.true in
-    let below = rw two at c.path_on-below.ensures in
-    let place = rw one at c.picked-at.ensures in
-    let stepped = rw three at c.in-Ok.ensures in
-    rw c.in-Fork.is
-    (fork_goes _ _ _ _ _ _ _ _ _ _ _ _ some below place stepped (λ u e. c.moved.ensures _ _ _ u (c.fork_text.ensures _ refl) e))
+pub thread_step-returns-then-runs_below : goal.thread_step-returns-then-runs_below
+thread_step-returns-then-runs_below t c =
+    let k = plain_kernel c.args.kernel.now in
+    let old = c.args.t.now in
+    forked_step k c.args.path.now _ _ (plain_thread old) _ old.frames.items (focused old.focus) (focused c.fork_step.new.focus) _ refl refl
+    (c.fork_step.ensures (uses_of k old.number) old.words.items old.copies.items)
+
+pub thread_step-returns : goal.thread_step-returns
+thread_step-returns t c =
+    let k = plain_kernel c.args.kernel.now in
+    let old = c.args.t.now in
+    let uses : c.thread_uses-uses.result.now ≡ uses_of k old.number = c.thread_uses-uses.ensures in
+    quiet_step k c.args.path.now _ _ (plain_thread old) _ old.frames.items (focused old.focus) _ refl
+    (rw uses at (c.after_step.ensures _ _ _ (rw (c.deref.ensures.value, c.deref-2.ensures.value) at (c.focus_step-step.ensures c.args.path.now))))

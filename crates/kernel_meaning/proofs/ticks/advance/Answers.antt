@@ -1,4 +1,8 @@
+use Rattle.std.proofs.Common.{[]}
 use Rattle.kernel_meaning.proofs.ticks.advance.Goals as goal
 
-pub returns : goal.returns
-returns c = record { path = c.next_step-step.ensures.path; is = c.after_step.ensures _ _ _ c.next_step-step.ensures.is }
+pub returns-in-Ok : goal.returns-in-Ok
+returns-in-Ok c = record { path = c.deref.result.now; is = c.thread_step.ensures }
+
+pub returns-in-Err : goal.returns-in-Err
+returns-in-Err c = record { path = []; is = record { by = tt } }

@@ -3,7 +3,7 @@ use Rattle.forec_kernel.specs.Shapes.{plain_kernel}
 use Rattle.forec_kernel.specs.declared.shape.KernelParts.{KernelParts}
 use Rattle.forec_kernel.specs.Texts.{uses_of}
 use Rattle.forec_kernel.specs.Ticks.{tick, outcome_of, values_of}
-use Rattle.running_texts.specs.Views.{standing}
+use Rattle.running_threads.specs.Views.{standing}
 use Rattle.kernel_meaning.specs.States.{plain_state, told, is_told}
 use Rattle.kernel_meaning.proofs.ticks.rewrite_tick.Goals as goal
 

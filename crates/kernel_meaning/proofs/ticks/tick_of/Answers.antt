@@ -8,7 +8,7 @@ pub returns-in-Ok-run_tick : goal.returns-in-Ok-run_tick
 returns-in-Ok-run_tick c =
     let k = plain_kernel c.args.kernel.now in
     let old = plain_state c.args.state.now in
-    tick_told k c.args.budget _ old c.args.row.now c.in-Ok-run_tick.main
+    tick_told k c.args.budget _ old c.args.row.now c.run_tick.new.main
     (c.in-Ok-run_tick.ensures.on.on c.args.budget (begin k old c.args.row.now) (begun k c.args.budget _ (begin k old c.args.row.now) c.in-Ok.main c.in-Ok.ensures))
     c.in-Ok-run_tick.ensures.stopped
 

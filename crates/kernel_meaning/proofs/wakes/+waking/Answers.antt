@@ -1,37 +1,51 @@
-use Rattle.std.proofs.Common.{◌≡◌, SFits, w32, rules}
-use Rattle.forec_kernel.specs.Plain.{expr}
+use Rattle.std.proofs.Common.{◌≡◌, refl}
 use Rattle.forec_kernel.specs.Shapes.{plain_kernel}
-use Rattle.forec_kernel.specs.Steps.{woken, evaluated}
-use Rattle.running_texts.specs.Views.{text}
-use Rattle.running_texts.proofs.Tests.{zero_of, nonzero_of}
-use Rattle.kernel_meaning.proofs.Awaking.{watches_on, lasts_on, stops_there, wake_fails, done_now}
+use Rattle.running_texts.specs.declared.meter.Halt.TheVariants.{Over}
+use Rattle.running_threads.specs.Views.{focused, plain_thread}
+use Rattle.kernel_meaning.proofs.Fates.{wakes_focus, wakes_focus_err, wakes_last, wakes_out, wakes_not, wakes_err}
 use Rattle.kernel_meaning.proofs.wakes.+waking.Goals as goal
 
-pub wake-returns-then-n-eq0 : goal.wake-returns-then-n-eq0
-wake-returns-then-n-eq0 t c =
-    let fits : SFits w32 c.in-Ok.n = search rules in
-    let inner : c.deref-then-n-eq0.result.now ≡ c.in-Watch.inner.value = c.deref-then-n-eq0.ensures in
-    rw c.in-Watch.is
-    (watches_on c.in-Watch.weak (expr c.in-Watch.test) (woken (plain_kernel c.args.kernel.now) c.args.uses.now c.args.words.now c.args.copies.now (text c.in-Watch.inner.value)) (evaluated (record { kernel = plain_kernel c.args.kernel.now; uses = c.args.uses.now }) c.args.words.now c.args.copies.now (expr c.in-Watch.test)) _ _ _
-    _ _ (c.in-Ok.ensures _ _ c.number_of-part.ensures) (zero_of _ fits c.if-n-eq0.true)
-    (c.woken_watch.ensures _ _ _ (rw inner at c.wake-part-then-n-eq0.ensures)))
+pub wake_thread-returns-in-Ok : goal.wake_thread-returns-in-Ok
+wake_thread-returns-in-Ok t c =
+    let th = c.args.t.now in
+    wakes_focus (plain_kernel c.args.kernel.now) c.args.uses.now (plain_thread c.args.t.now) c.args.copies.items _ _ _ th.frames.items
+    c.wake_frames.new.after.items (focused th.focus) c.in-Ok.focus _ refl
+    (rw (c.deref.ensures.value, c.deref-2.ensures.value, c.deref-3.ensures.value, c.new-frames.ensures.items, c.in-Ok-Focus.field-0-is) at c.in-Ok-Focus.ensures)
+    (rw c.deref-in-Ok-Focus.ensures.value at (c.in-Ok.ensures th.words.items)) c.in_ok-with_text-in-Ok.ensures
 
-pub wake-returns-then-weak : goal.wake-returns-then-weak
-wake-returns-then-weak t c =
-    let inner : c.deref-then-weak.result.now ≡ c.in-Watch.inner.value = c.deref-then-weak.ensures in
-    rw c.in-Watch.is
-    (lasts_on c.in-Watch.weak (expr c.in-Watch.test) (woken (plain_kernel c.args.kernel.now) c.args.uses.now c.args.words.now c.args.copies.now (text c.in-Watch.inner.value)) (evaluated (record { kernel = plain_kernel c.args.kernel.now; uses = c.args.uses.now }) c.args.words.now c.args.copies.now (expr c.in-Watch.test)) _ _ _
-    _ _ (c.in-Ok.ensures _ _ c.number_of-part.ensures) (nonzero_of _ c.if-n-eq0.false) c.if-weak.true
-    (c.woken_last.ensures _ _ _ (rw inner at c.wake-part-then-weak.ensures)))
+pub wake_thread-returns-in-Ok-Focus : goal.wake_thread-returns-in-Ok-Focus
+wake_thread-returns-in-Ok-Focus t c =
+    let th = c.args.t.now in
+    wakes_focus_err (plain_kernel c.args.kernel.now) c.args.uses.now (plain_thread c.args.t.now) c.args.copies.items _ _ _ th.frames.items
+    c.wake_frames.new.after.items th.focus c.in-Err.halt refl
+    (rw (c.deref.ensures.value, c.deref-2.ensures.value, c.deref-3.ensures.value, c.new-frames.ensures.items, c.in-Ok-Focus.field-0-is) at c.in-Ok-Focus.ensures)
+    (rw c.deref-in-Ok-Focus.ensures.value at (c.in-Err.ensures th.words.items))
 
-pub wake-returns-else-weak : goal.wake-returns-else-weak
-wake-returns-else-weak t c =
-    rw c.in-Watch.is
-    (stops_there c.in-Watch.weak (expr c.in-Watch.test) (woken (plain_kernel c.args.kernel.now) c.args.uses.now c.args.words.now c.args.copies.now (text c.in-Watch.inner.value)) (evaluated (record { kernel = plain_kernel c.args.kernel.now; uses = c.args.uses.now }) c.args.words.now c.args.copies.now (expr c.in-Watch.test)) _ _ _
-    _ _ (c.in-Ok.ensures _ _ c.number_of-part.ensures) (nonzero_of _ c.if-n-eq0.false) c.if-weak.false (done_now _))
+pub wake_thread-returns-in-Ok-Last : goal.wake_thread-returns-in-Ok-Last
+wake_thread-returns-in-Ok-Last t c =
+    let th = c.args.t.now in
+    wakes_last (plain_kernel c.args.kernel.now) c.args.uses.now (plain_thread c.args.t.now) c.args.copies.items _ _ th.frames.items
+    c.wake_frames.new.after.items (focused th.focus) _ refl
+    (rw (c.deref.ensures.value, c.deref-2.ensures.value, c.deref-3.ensures.value, c.new-frames.ensures.items, c.in-Ok-Last.field-0-is) at c.in-Ok-Last.ensures)
+    (rw c.in_ok-focus-in-Ok-Last.ensures at c.in_ok-with_text-in-Ok-Last.ensures)
 
-pub wake-returns-in-Err : goal.wake-returns-in-Err
-wake-returns-in-Err t c =
-    rw c.in-Watch.is
-    (wake_fails c.in-Watch.weak (expr c.in-Watch.test) (woken (plain_kernel c.args.kernel.now) c.args.uses.now c.args.words.now c.args.copies.now (text c.in-Watch.inner.value)) (evaluated (record { kernel = plain_kernel c.args.kernel.now; uses = c.args.uses.now }) c.args.words.now c.args.copies.now (expr c.in-Watch.test)) _ 0 _
-    _ (c.in-Err.ensures _ _ c.number_of-part.ensures))
+pub wake_thread-returns-in-Ok-Out : goal.wake_thread-returns-in-Ok-Out
+wake_thread-returns-in-Ok-Out t c =
+    let th = c.args.t.now in
+    wakes_out (plain_kernel c.args.kernel.now) c.args.uses.now (plain_thread c.args.t.now) c.args.copies.items _ _ th.frames.items
+    c.wake_frames.new.after.items (focused th.focus) _ refl
+    (rw (c.deref.ensures.value, c.deref-2.ensures.value, c.deref-3.ensures.value, c.new-frames.ensures.items, c.in-Ok-Out.field-0-is) at c.in-Ok-Out.ensures) c.in_ok-with_text-in-Ok-Out.ensures
+
+pub wake_thread-returns-in-Err-Trapped : goal.wake_thread-returns-in-Err-Trapped
+wake_thread-returns-in-Err-Trapped t c =
+    let th = c.args.t.now in
+    wakes_not (plain_kernel c.args.kernel.now) c.args.uses.now (plain_thread c.args.t.now) c.args.copies.items _ _ th.frames.items
+    c.wake_frames.new.after.items (focused th.focus) c.in-Err-Trapped.place c.in-Err-Trapped.trap _ refl
+    (rw (c.deref.ensures.value, c.deref-2.ensures.value, c.deref-3.ensures.value, c.new-frames.ensures.items, c.in-Err-Trapped.field-0-is) at c.in-Err-Trapped.ensures) c.in_ok-trapped_at-in-Err-Trapped.ensures
+
+pub wake_thread-returns-in-Err-Over : goal.wake_thread-returns-in-Err-Over
+wake_thread-returns-in-Err-Over t c =
+    let th = c.args.t.now in
+    wakes_err (plain_kernel c.args.kernel.now) c.args.uses.now (plain_thread c.args.t.now) c.args.copies.items _ _ th.frames.items
+    c.wake_frames.new.after.items (focused th.focus) Over refl (λ place trap e. absurd (cc))
+    (rw (c.deref.ensures.value, c.deref-2.ensures.value, c.deref-3.ensures.value, c.new-frames.ensures.items, c.in-Err-Over.field-0-is) at c.in-Err-Over.ensures)

@@ -1,8 +1,0 @@
-use Rattle.std.proofs.Common.{[]}
-use Rattle.kernel_meaning.proofs.ticks.next_step.Goals as goal
-
-pub returns-in-Ok : goal.returns-in-Ok
-returns-in-Ok c = record { path = c.deref.result.now; is = c.step_along.ensures }
-
-pub returns-in-Err : goal.returns-in-Err
-returns-in-Err c = record { path = []; is = record { by = tt } }
