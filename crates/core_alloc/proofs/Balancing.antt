@@ -8,7 +8,7 @@ use Rattle.std.proofs.lemmas.List.Elements.{All-set, All-cons, All-tail}
 use Rattle.std.proofs.lemmas.List.Sums.{sum_by-set, sum_by-cons}
 use Rattle.std.proofs.lemmas.List.Sorted.{sum_by-IsPermutation, All-permutation, length_permutation}
 use Rattle.core_alloc.specs.declared.ranked.Ranked.{Ranked}
-use Rattle.core_alloc.specs.Balance.{ranked_from, total, heaviest, lightest_in, lightest, Balance, placed, placed_all, nothing_placed, balance_of, IsHeaviestFirst, IsEven}
+use Rattle.core_alloc.specs.Balance.{ranked_from, total, heaviest, lightest_in, lightest, Balance, placed, placed_all, nothing_placed, balance_of, IsHeaviestFirst}
 
 -- ---- the threads by number
 
@@ -88,7 +88,7 @@ spreads n a b = omega arith
 -- ---- one thread more
 
 module _ (n most : ℕ) where
-  abbrev evenly : ℕ → ℕ → Type 0
+  abbrev pub evenly : ℕ → ℕ → Type 0
   evenly all load = n * load ≤ all + n * most
 
   -- the lightest core takes a thread
@@ -125,7 +125,7 @@ none n most all k d h = rw (get_or-replicate n k 0 d (omega (arith, h, length-re
 all_zero : (n most all : ℕ) → All (evenly n most all) (replicate n 0)
 all_zero n most all = λ k d h. none n most all k d h
 
-pub stays_even : (weights : List ℕ) (order : List Ranked) (cores : ℕ) → 0 < cores → IsHeaviestFirst weights order → IsEven weights cores (balance_of order cores).loads
-stays_even weights order cores some h = λ k d low.
+pub loads_stay_even : (weights : List ℕ) (order : List Ranked) (cores : ℕ) → 0 < cores → IsHeaviestFirst weights order → All (evenly cores (heaviest weights) (sum weights)) (balance_of order cores).loads
+loads_stay_even weights order cores some h = λ k d low.
     let all = after_all cores (heaviest weights) order (nothing_placed cores (length order)) some (length-replicate cores 0) (order_light weights order h) (all_zero cores (heaviest weights) _) in
     omega (arith, all k d low, none_loaded cores, order_total weights order h)

@@ -1,5 +1,5 @@
 -- Threads are placed heaviest first, each on the core with the least load so far.
-use Rattle.std.specs.Prelude.{ℕ, zero, suc, ◌+◌, ◌*◌, ◌≡◌, ◌≤◌, ◌==◌, Bool, false, nat_lt, ◌&&◌, ◌||◌, cond, List, [], ◌∷◌, length, replicate, max, sum, sum_by, All, slice_index_or, slice_set}
+use Rattle.std.specs.Prelude.{ℕ, zero, suc, ◌+◌, ◌*◌, ◌≡◌, ◌<◌, ◌≤◌, ◌==◌, Bool, false, nat_lt, ◌&&◌, ◌||◌, cond, List, [], ◌∷◌, length, replicate, max, sum, sum_by, slice_index_or, slice_set}
 use Rattle.std.specs.List.Sorted.{IsPermutation, IsSortedBy}
 use Rattle.core_alloc.specs.declared.ranked.Ranked.{Ranked}
 
@@ -60,6 +60,10 @@ pub record IsBalanced (weights : List ℕ) (cores : ℕ) (places : List ℕ) : T
   pub heaviest_first : IsHeaviestFirst weights order
   pub is : places ≡ (balance_of order cores).places
 
+-- the load of a core: the weights of the threads that are placed on it
+abbrev pub load_of : List ℕ → List ℕ → ℕ → ℕ
+load_of weights places core = sum_by (λ r. cond (slice_index_or places r.thread 0 == core) r.weight.0 0) (ranked_from 0 weights)
+
 -- no core has more than its share of all weights and the heaviest one together
 abbrev pub IsEven : List ℕ → ℕ → List ℕ → Type 0
-IsEven weights cores loads = All (λ load. cores * load ≤ sum weights + cores * heaviest weights) loads
+IsEven weights cores places = (core : ℕ) → core < cores → cores * load_of weights places core ≤ sum weights + cores * heaviest weights

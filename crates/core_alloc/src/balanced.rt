@@ -1,6 +1,6 @@
 //! Placements that balance the cores.
 
-ghost use Rattle.std.specs.Prelude.{◌≡◌, ◌≤◌, ◌<◌, ◌+◌, ◌^◌, List, All, length, sum, IfOk};
+ghost use Rattle.std.specs.Prelude.{◌≡◌, ◌≤◌, ◌<◌, ◌+◌, ◌^◌, All, length, sum, IfOk};
 ghost use Rattle.core_alloc.specs.Balance.{ranked_from, total, IsHeaviestFirst, lightest, balance_of, IsBalanced, IsEven};
 
 use crate::placement::Placement;
@@ -88,7 +88,7 @@ pub fn balance(alloc: Global, weights: &[u64], cores: u32) -> Result<Placement, 
     ensures cores { IfOk result (λ p. p.cores ≡ cores) }
     ensures threads { IfOk result (λ p. length p.places ≡ length weights.now) }
     ensures places { IfOk result (λ p. IsBalanced weights.now cores p.places) }
-    ensures even { (order : List Ranked) → IsHeaviestFirst weights.now order → IsEven weights.now cores (balance_of order cores).loads }
+    ensures even { IfOk result (λ p. IsEven weights.now cores p.places) }
 {
     let order = heaviest_first(alloc, weights)?;
     let places = places_of(alloc, &order, cores)?;

@@ -1,9 +1,10 @@
 -- Bytes that come by reads.
-use Rattle.std.proofs.Common.{◌≡◌, ◌≤◌, ℕ, Bool, true, false, List, [], ◌++◌, Option, Result, Ok, Err, refl, sym, ap, subst, ◌∙◌, append_assoc, append-nil}
+use Rattle.std.proofs.Common.{◌≡◌, ◌≤◌, ℕ, Bool, true, false, List, [], ◌++◌, length, Option, Result, Ok, Err, refl, sym, ap, subst, ◌∙◌, append_assoc, append-nil}
 use Rattle.std.specs.Io.KnownBytes.{Consumes, Keeps}
 use Rattle.forec_base.specs.Outside.{HasCause}
 use Rattle.trace_rows.specs.Reader.{HasLine, Came}
 use Rattle.trace_rows.specs.Reads.{IsRead, Reads, none, more, Lacks, Gathers}
+use Rattle.trace_rows.specs.Trace.{most_bytes}
 use Rattle.trace_rows.proofs.Refilling.{consumes_nothing}
 
 module _ {S : Type 0} (left : S → Option (List ℕ)) (faults : S → ℕ) (down : S → Bool) where
@@ -12,13 +13,13 @@ module _ {S : Type 0} (left : S → Option (List ℕ)) (faults : S → ℕ) (dow
   gathers_none held ended s = record { given = []; behind = sym (append-nil held); reads = none }
 
   -- one read more
-  pub gathers_more : (held w w' : List ℕ) (ended : Bool) (s t u : S) → Gathers left faults down held ended w s t → (HasLine w → ⊥) → ended ≡ false →
+  pub gathers_more : (held w w' : List ℕ) (ended : Bool) (s t u : S) → Gathers left faults down held ended w s t → (HasLine w → ⊥) → ended ≡ false → length w ≤ most_bytes →
       (piece : List ℕ) × (w' ≡ w ++ piece) × IsRead left faults down t u piece → Gathers left faults down held ended w' s u
-  gathers_more held w w' ended s t u g lacks on p =
+  gathers_more held w w' ended s t u g lacks on short p =
       record {
         given = g.given ++ p.0;
         behind = p.1 ∙ ap (λ x. x ++ p.0) g.behind ∙ append_assoc held g.given p.0;
-        reads = more g.reads (subst (λ (x : List ℕ). HasLine x → ⊥) g.behind lacks, on) p.2;
+        reads = more g.reads (subst (λ (x : List ℕ). HasLine x → ⊥) g.behind lacks, on, subst (λ (x : List ℕ). length x ≤ most_bytes) g.behind short) p.2;
       }
 
   -- the source failed

@@ -1,5 +1,5 @@
 -- The reads of a source that calls make.
-use Rattle.std.specs.Prelude.{◌≡◌, ◌≤◌, ◌+◌, ℕ, Bool, true, false, List, [], ◌++◌, Option, Result, Ok, Err}
+use Rattle.std.specs.Prelude.{◌≡◌, ◌≤◌, ◌+◌, ℕ, Bool, true, false, List, [], ◌++◌, length, Option, Result, Ok, Err}
 use Rattle.std.specs.List.{after_first}
 use Rattle.std.specs.Io.KnownBytes.{Consumes}
 use Rattle.forec_base.specs.Outside.{Rose}
@@ -8,7 +8,7 @@ use Rattle.trace_rows.specs.declared.fault.Next.TheVariants as next
 use Rattle.trace_rows.specs.declared.fault.RowFault.{RowFault}
 use Rattle.trace_rows.specs.Lines.{is_newline}
 use Rattle.trace_rows.specs.Reader.{Reader, HasLine, first_line}
-use Rattle.trace_rows.specs.Trace.{Row, header_at, row_at}
+use Rattle.trace_rows.specs.Trace.{Row, header_at, most_bytes, row_at}
 
 -- ---- reads, by what a source shows: what is left, how often it has failed, and whether its last call failed
 
@@ -23,9 +23,9 @@ pub data Reads {S : Type 0} (left : S → Option (List ℕ)) (faults : S → ℕ
   none : Reads left faults down May old [] old
   more : {given piece : List ℕ} {s new : S} → Reads left faults down May old given s → May given → IsRead left faults down s new piece → Reads left faults down May old (given ++ piece) new
 
--- no whole line is held, and the source has not told its end
+-- no whole line is held, nor one that is too long already, and the source has not told its end
 abbrev pub Lacks : List ℕ → Bool → Type 0
-Lacks held ended = (HasLine held → ⊥) × (ended ≡ false)
+Lacks held ended = (HasLine held → ⊥) × (ended ≡ false) × (length held ≤ most_bytes)
 
 -- bytes came behind those that were held, by reads that were each asked for where a line was lacking
 pub record Gathers {S : Type 0} (left : S → Option (List ℕ)) (faults : S → ℕ) (down : S → Bool) (held : List ℕ) (ended : Bool) (bytes : List ℕ) (old new : S) : Type 0 where

@@ -1,17 +1,16 @@
 use Rattle.std.proofs.Common.{◌≡◌, ◌∙◌, ap, length, rules, arith}
 use Rattle.core_alloc.specs.Places.{Places}
-use Rattle.core_alloc.specs.Balance.{IsHeaviestFirst}
-use Rattle.core_alloc.proofs.Balancing.{order_length, order_total, order_low, stays_even}
+use Rattle.core_alloc.specs.Balance.{balance_of}
+use Rattle.core_alloc.proofs.Balancing.{order_length, order_total, order_low}
+use Rattle.core_alloc.proofs.Loads.{stays_even}
 use Rattle.core_alloc.proofs.balanced.balance.Goals as goal
 
-pub returns-in_err-order-clause-even : goal.returns-in_err-order-clause-even
-returns-in_err-order-clause-even c = λ order h. stays_even c.args.weights.now order c.args.cores (omega (arith, c.requires.some)) h
-
-pub returns-in_err-places-clause-even : goal.returns-in_err-places-clause-even
-returns-in_err-places-clause-even c = λ order h. stays_even c.args.weights.now order c.args.cores (omega (arith, c.requires.some)) h
-
 pub returns-clause-even : goal.returns-clause-even
-returns-clause-even c = λ order h. stays_even c.args.weights.now order c.args.cores (omega (arith, c.requires.some)) h
+returns-clause-even c =
+    let order = c.in_ok-order.order.items in
+    let made : c.of.result.places ≡ c.in_ok-places.places.items = ap (λ (p : Places). p.places) c.of.ensures in
+    let is = made ∙ c.in_ok-places.ensures.places ∙ ap (λ o. (balance_of o c.args.cores).places) c.deref.ensures.value in
+    rw is (stays_even c.args.weights.now order c.args.cores (omega (arith, c.requires.some)) c.in_ok-order.ensures)
 
 pub places_of-requires-clause-threads : goal.places_of-requires-clause-threads
 places_of-requires-clause-threads c =

@@ -29,7 +29,7 @@ pieces-preserved g c =
     let r = c.refill.ensures.read in
     let left = g.S.Source.left in
     record {
-      reads = gathers_more left g.S.Source.faults g.S.Source.down (held c.args.self.now) (held l) (held c.refill.new.self) c.args.self.now.ended c.args.source.now c.pieces.source c.refill.new.source i.reads seen.0 (i.stays seen.1) r;
+      reads = gathers_more left g.S.Source.faults g.S.Source.down (held c.args.self.now) (held l) (held c.refill.new.self) c.args.self.now.ended c.args.source.now c.pieces.source c.refill.new.source i.reads seen.0 (i.stays seen.1) seen.2 r;
       came = came_both (held c.args.self.now) (held l) (held c.refill.new.self) (left c.args.source.now) (left c.pieces.source) (left c.refill.new.source) i.came
           (came_by (held l) (held c.refill.new.self) (left c.pieces.source) (left c.refill.new.source) r.0 r.1 r.2.came);
       ended = λ e. (c.refill.ensures.ended e).0;
@@ -44,5 +44,5 @@ returns-in-Err-clause-reads g c =
     let l = c.pieces.self in
     let i = c.pieces.invariant in
     let seen = c.in_default.ensures.none in
-    gathers_more g.S.Source.left g.S.Source.faults g.S.Source.down (held c.args.self.now) (held l) (held c.refill.new.self) c.args.self.now.ended c.args.source.now c.pieces.source c.refill.new.source i.reads seen.0 (i.stays seen.1)
+    gathers_more g.S.Source.left g.S.Source.faults g.S.Source.down (held c.args.self.now) (held l) (held c.refill.new.self) c.args.self.now.ended c.args.source.now c.pieces.source c.refill.new.source i.reads seen.0 (i.stays seen.1) seen.2
     c.refill.ensures.read
