@@ -26,7 +26,7 @@ use Rattle.core_host.specs.Changes.{Extends, HasWorked, replied, forked}
 use Rattle.core_host.specs.Writing.{Log, heard, told}
 use Rattle.core_host.specs.Done.{InJob}
 use Rattle.core_host.specs.Keeping.{State, code_in, IsSeated, LastReply, last, AtFork}
-use Rattle.core_host.specs.Waiting.{jobs_out, HasTold, IsForked, IsWorking, IsWaiting, IsAtRest, IsBetween, rests, waits}
+use Rattle.core_host.specs.Waiting.{jobs_out, HasTold, IsForked, IsGathering, IsWorking, IsWaiting, IsAtRest, IsBetween, rests, waits}
 use Rattle.core_host.specs.Serving.{MovesBranches, Touches}
 use Rattle.core_host.proofs.Mails.{by_equal, get_set, get_set_else, children_count, child_here, child_else, parent_on_child, is_child, extends_same, extends_one}
 use Rattle.core_host.proofs.Keep.{done_keeps}
@@ -37,6 +37,28 @@ use Rattle.core_host.proofs.Logs.{Ends, job_ends}
 use Rattle.core_host.proofs.Forked.{fork_at, is_forked}
 use Rattle.core_host.proofs.Telling.{changed, changed_is, told_posts}
 use Rattle.core_host.proofs.Waits.{told_keeps, work_keeps, has_keeps}
+
+-- ---- the jobs of a fork were sent
+
+-- and none was replied to
+pub forked_gathering : (s : State) (h : Thread) (pairs : List Answered) → IsForked (code_in s) h → HasTold s h.number pairs (jobs_at (code_in s) h) → IsGathering s h pairs
+forked_gathering s h pairs at_fork all = record {
+  forked = at_fork;
+  replies = [];
+  gathered = record {
+    within = omega arith;
+    heard = λ i n r at there. none_there i r there;
+    told = let ws = jobs_at (code_in s) h in subst (HasTold s h.number (pairs ++ pair_up ws [])) (sym (drop_none ws)) (subst (λ l. HasTold s h.number l ws) (sym (append-nil pairs) ∙ ap (λ l. pairs ++ l) (sym (no_pairs ws))) all);
+  };
+}
+  where
+    drop_none : (l : List Written) → drop 0 l ≡ l
+    drop_none [] = refl
+    drop_none (x ∷ l) = refl
+
+    none_there : {A : Type 0} (i : ℕ) (r : Reply) → slice_get [] i ≡ Some r → A
+    none_there zero r e = cc
+    none_there (suc i) r e = cc
 
 -- another thread with the same number, which stands for the same
 pub work_by : (s : State) (h : Thread) (m t : ℕ) → h.number ≡ t → t ≡ suc m → Loaded (code_in s) h → ChildIs s.mail m true → (jobs : List Job) (job : Job) → AreJobs (taken s.mail m) (jobs ++ job ∷ []) → length (answered s.mail m) + 1 ≡ length (taken s.mail m) →
@@ -121,26 +143,11 @@ module _ (s0 : State) (m : ℕ) (inside : m < length s0.mail.ends) (seated : IsS
       told_now : HasTold s1' h.number pairs ws
       told_now = subst (λ x. HasTold x h.number pairs ws) (sym path1) (told1 pairs w.told)
 
-      told_then : HasTold s2' h.number (pairs ++ pair_up ws []) (drop 0 ws)
-      told_then =
-          let t = told_keeps s1' s1.mail (slice_set s1.seats (suc m) seat) s1.hands refl refl h.number (λ j is. refl) (λ j is. refl) pairs ws told_now in
-          subst (HasTold s2' h.number (pairs ++ pair_up ws [])) (sym (drop_none ws)) (subst (λ l. HasTold s2' h.number l ws) (sym (append-nil pairs) ∙ ap (λ l. pairs ++ l) (sym (no_pairs ws))) t)
-        where
-          drop_none : (l : List Written) → drop 0 l ≡ l
-          drop_none [] = refl
-          drop_none (x ∷ l) = refl
-
       it_waits : IsWaiting s2' h
       it_waits = record {
         work = work_keeps s0 s1.mail (slice_set s1.seats (suc m) seat) s1.hands moves.alike.blanks moves.alike.count h w.work (moves.children w.work.mailbox);
-        forked = it_forks;
-        replies = [];
-        gathered = record { within = omega arith; heard = λ i n r at there. none_there i r there; told = told_then };
+        gathering = forked_gathering s2' h pairs it_forks (told_keeps s1' s1.mail (slice_set s1.seats (suc m) seat) s1.hands refl refl h.number (λ j is. refl) (λ j is. refl) pairs ws told_now);
       }
-        where
-          none_there : {A : Type 0} (i : ℕ) (r : Reply) → slice_get [] i ≡ Some r → A
-          none_there zero r e = cc
-          none_there (suc i) r e = cc
 
       pub fork_between : IsBetween s2 m
       fork_between =
@@ -276,7 +283,7 @@ module _ (s0 : State) (m : ℕ) (inside : m < length s0.mail.ends) (seated : IsS
     end_touches = record {
       code = refl;
       places = refl;
-      alike = record { work = refl; blanks = refl; tells = refl; root = refl; count = children_count s0.mail.ends m (taker_answered q) };
+      alike = record { work = refl; blanks = refl; tells = refl; root = refl; count = children_count s0.mail.ends m (taker_answered q); stops = extends_same _ _ refl };
       grown = record {
         sent = λ k. extends_same _ _ (ap sent_by (parent_on_child s0.mail.ends m k (taker_answered q)));
         got = λ k. extends_same _ _ (ap got_by (parent_on_child s0.mail.ends m k (taker_answered q)));
@@ -284,6 +291,7 @@ module _ (s0 : State) (m : ℕ) (inside : m < length s0.mail.ends) (seated : IsS
         answered = λ k. by_equal k m (λ n. extends_same _ _ (ap answered_by (child_else s0.mail.ends m k (taker_answered q) n))) (λ e. subst (λ i. Extends (answered s0.mail i) (answered at_end.mail i)) (sym e) (extends_one _ _ q answered_now));
         looked_by_parent = λ k. extends_same _ _ (ap words_of_parent (parent_on_child s0.mail.ends m k (taker_answered q)));
         looked_by_child = λ k. by_equal k m (λ n. extends_same _ _ (ap words_of_child (child_else s0.mail.ends m k (taker_answered q) n))) (λ e. subst (λ i. Extends (looked_by_child s0.mail i) (looked_by_child at_end.mail i)) (sym e) (extends_same _ _ looked_now));
+        stops = extends_same _ _ refl;
       };
       seats = λ j n. get_set_else s0.seats (suc m) j seat0 n;
       seat_count = length-set s0.seats (suc m) seat0;

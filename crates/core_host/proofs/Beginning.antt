@@ -87,7 +87,7 @@ module _ (s0 : State) (m : ℕ) (inside : m < length s0.mail.ends) (seated : IsS
   rests_missed = subst (λ (o : Option (Taker PlainPacket)). IsChild o false) (sym child_missed) taker.2
 
   missed_alike : Alike s0.mail missed.mail
-  missed_alike = record { work = refl; blanks = refl; tells = refl; root = refl; count = children_count s0.mail.ends m taker_looked }
+  missed_alike = record { work = refl; blanks = refl; tells = refl; root = refl; count = children_count s0.mail.ends m taker_looked; stops = extends_same _ _ refl }
 
   pub only_looks : OnlyLooks m s0 missed
   only_looks = record {
@@ -114,6 +114,7 @@ module _ (s0 : State) (m : ℕ) (inside : m < length s0.mail.ends) (seated : IsS
       answered = λ k. by_equal k m (λ n. extends_same _ _ (ap answered_by (child_else s0.mail.ends m k taker_looked n))) (λ e. subst (λ i. Extends (answered s0.mail i) (answered missed.mail i)) (sym e) (extends_same _ _ answered_missed));
       looked_by_parent = λ k. extends_same _ _ (ap words_of_parent (parent_on_child s0.mail.ends m k taker_looked));
       looked_by_child = λ k. by_equal k m (λ n. extends_same _ _ (ap words_of_child (child_else s0.mail.ends m k taker_looked n))) (λ e. subst (λ i. Extends (looked_by_child s0.mail i) (looked_by_child missed.mail i)) (sym e) (extends_one _ _ 0 looked_missed));
+      stops = missed_alike.stops;
     };
     seats = λ j n. refl;
     seat_count = refl;

@@ -53,7 +53,7 @@ works_child s m f seats else count = record {
   code = refl;
   places = refl;
   hands = refl;
-  alike = record { work = refl; blanks = refl; tells = refl; root = refl; count = children_count s.mail.ends m f };
+  alike = record { work = refl; blanks = refl; tells = refl; root = refl; count = children_count s.mail.ends m f; stops = extends_same _ _ refl };
   parents = λ j. parent_on_child s.mail.ends m j f;
   children = λ j n. child_else s.mail.ends m j f n;
   seats = else;
@@ -80,6 +80,7 @@ works_leaves m a b w t d l = record {
     answered = λ k. by_equal k m (λ n. extends_same _ _ (ap answered_by (w.children k n))) (λ e. subst (λ i. Extends (answered a.mail i) (answered b.mail i)) (sym e) d);
     looked_by_parent = λ k. extends_same _ _ (ap words_of_parent (w.parents k));
     looked_by_child = λ k. by_equal k m (λ n. extends_same _ _ (ap words_of_child (w.children k n))) (λ e. subst (λ i. Extends (looked_by_child a.mail i) (looked_by_child b.mail i)) (sym e) l);
+    stops = w.alike.stops;
   };
   seats = λ j lt. w.seats j (λ e. omega (arith, e, lt));
   seat_count = w.seat_count;

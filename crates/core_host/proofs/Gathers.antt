@@ -14,10 +14,9 @@ use Rattle.copy_slots.specs.Ports.{sent_by, got_by, sent, got}
 use Rattle.core_host.specs.declared.seat.Seat.{Seat}
 use Rattle.core_host.specs.Posts.{Mail, IsBranchOf, AreReplies, replies_to}
 use Rattle.core_host.specs.Changes.{Extends, Awaits}
-use Rattle.core_host.specs.Writing.{told}
 use Rattle.core_host.specs.Keeping.{State, code_in, IsSeated, LacksPacket, HasHeard, HaveHeard}
 use Rattle.core_host.specs.Moving.{Moves, HasGot, HasLooked}
-use Rattle.core_host.specs.Waiting.{jobs_out, IsOut, HasTold, IsFor, IsAtWork, IsWaiting, HasReplies}
+use Rattle.core_host.specs.Waiting.{jobs_out, IsOut, HasTold, IsFor, IsGathering, HasReplies}
 use Rattle.core_host.specs.Serving.{MovesBranches}
 use Rattle.core_host.proofs.Mails.{by_equal, extends_one, extends_same, some_once}
 use Rattle.core_host.proofs.Keep.{packet_keeps}
@@ -25,7 +24,6 @@ use Rattle.core_host.proofs.Loading.{get_then, length_then}
 use Rattle.core_host.proofs.Send.{at_map}
 use Rattle.core_host.proofs.Consulting.{pairs_more}
 use Rattle.core_host.proofs.Telling.{changed, changed_is, lacks_keeps, told_back, answers}
-use Rattle.core_host.proofs.Waits.{work_keeps}
 use Rattle.core_host.proofs.Tells.{Place, branches_same, branches_then, branches_seated, branch_moves}
 
 -- ---- places in the list of jobs
@@ -59,13 +57,7 @@ module _ (s : State) (mail : Mail) (seats : List Seat) (hands : List (Option Pac
   abbrev ws : List Written
   ws = jobs_at (code_in s) h
 
-  abbrev work_moves : IsAtWork s h → IsAtWork s' h
-  work_moves w = work_keeps s mail seats hands moves.alike.blanks moves.alike.count h w (moves.children w.mailbox)
-
-  module _ (w : IsWaiting s h) (n : ℕ) (number : slice_get h.branches.numbers n ≡ Some (suc m)) (next : n ≡ length w.replies) where
-    abbrev pairs : List Answered
-    pairs = told (code_in s) h.number w.work.jobs w.work.job w.work.log
-
+  module _ (pairs : List Answered) (w : IsGathering s h pairs) (n : ℕ) (number : slice_get h.branches.numbers n ≡ Some (suc m)) (next : n ≡ length w.replies) where
     abbrev rs : List Reply
     rs = w.replies
 
@@ -128,10 +120,9 @@ module _ (s : State) (mail : Mail) (seats : List Seat) (hands : List (Option Pac
           (λ old. kept i b q at old)
           (get_then rs r i q there)
 
-      pub waits_got : (w' : IsWaiting s' h) × (length w'.replies ≡ n + 1)
+      pub waits_got : (w' : IsGathering s' h pairs) × (length w'.replies ≡ n + 1)
       waits_got = (
         record {
-          work = work_moves w.work;
           forked = w.forked;
           replies = rs ++ r ∷ [];
           gathered = record {
@@ -166,15 +157,15 @@ module _ (s : State) (mail : Mail) (seats : List Seat) (hands : List (Option Pac
           same_got : (k : ℕ) → got mail k ≡ got s.mail k
           same_got k = by_equal k m (λ n. ap got_by (moves.parents k n)) (λ e. subst (λ i. got mail i ≡ got s.mail i) (sym e) missed.got)
 
-      pub waits_on : IsWaiting s' h
-      waits_on = record { work = work_moves w.work; forked = w.forked; replies = rs; gathered = record { within = w.gathered.within; heard = kept; told = told_same } }
+      pub waits_on : IsGathering s' h pairs
+      waits_on = record { forked = w.forked; replies = rs; gathered = record { within = w.gathered.within; heard = kept; told = told_same } }
 
 same_moves : (s : State) (m : ℕ) → Moves m s s
 same_moves s m = record {
   code = refl;
   places = refl;
   seats = refl;
-  alike = record { work = refl; blanks = refl; tells = refl; root = refl; count = refl };
+  alike = record { work = refl; blanks = refl; tells = refl; root = refl; count = refl; stops = extends_same _ _ refl };
   parents = λ j n. refl;
   looked = extends_same _ _ refl;
   children = λ j. refl;
@@ -185,18 +176,21 @@ same_moves s m = record {
 -- ---- one branch after the other
 
 -- the replies of the first k branches are in hand
+pub record HasSome (s : State) (h : Thread) (pairs : List Answered) (k : ℕ) : Type 0 where
+  pub gathering : IsGathering s h pairs
+  pub reached : k ≤ length gathering.replies
+
 pub record HasGotFirst (a b : State) (h : Thread) (k : ℕ) : Type 0 where
   pub within : k ≤ length h.branches.numbers
   pub moves : MovesBranches h.number a b
-  pub waiting : IsWaiting b h
-  pub reached : k ≤ length waiting.replies
+  pub some : (pairs : List Answered) → IsGathering a h pairs → HasSome b h pairs k
 
-pub got_none : (a : State) (h : Thread) → IsWaiting a h → HasGotFirst a a h 0
-got_none a h w = record { within = omega arith; moves = branches_same h.number a; waiting = w; reached = omega arith }
+pub got_none : (a : State) (h : Thread) → HasGotFirst a a h 0
+got_none a h = record { within = omega arith; moves = branches_same h.number a; some = λ pairs w. record { gathering = w; reached = omega arith } }
 
-module _ (a b : State) (h : Thread) (k number : ℕ) (seated : IsSeated a) (done : HasGotFirst a b h k) (at : slice_get h.branches.numbers k ≡ Some number) where
-  abbrev w : IsWaiting b h
-  w = done.waiting
+module _ (a b : State) (h : Thread) (k number : ℕ) (seated : IsSeated a) (moves_b : MovesBranches h.number a b) (at : slice_get h.branches.numbers k ≡ Some number) (pairs : List Answered) (have : HasSome b h pairs k) where
+  abbrev w : IsGathering b h pairs
+  w = have.gathering
 
   abbrev pub m : ℕ
   m = number - 1
@@ -223,7 +217,7 @@ module _ (a b : State) (h : Thread) (k number : ℕ) (seated : IsSeated a) (done
   above_m = let e = m_is in let f = for_it.above in omega (arith, e, f)
 
   pub seated_b : IsSeated b
-  seated_b = branches_seated h.number a b done.moves seated
+  seated_b = branches_seated h.number a b moves_b seated
 
   pub inside_m : m < length b.mail.ends
   inside_m = let e = m_is in let f = for_it.inside in let n = seated_b.mailboxes in omega (arith, e, f, n)
@@ -239,7 +233,7 @@ module _ (a b : State) (h : Thread) (k number : ℕ) (seated : IsSeated a) (done
       let heard = w.gathered.heard k number r.0 at r.1 in
       let same : heard.mailbox ≡ m = let e = heard.is in omega (arith, e) in
       inl (heard.packet, subst (λ i. slice_get b.hands i ≡ Some (Some heard.packet)) same heard.at, lt))
-      (λ ge. inr (omega (arith, ge, done.reached)))
+      (λ ge. inr (omega (arith, ge, have.reached)))
       (cases_lt k (length w.replies))
     where
       reply_at : (l : List Reply) → k < length l → (r : Reply) × (slice_get l k ≡ Some r)
@@ -252,7 +246,7 @@ module _ (a b : State) (h : Thread) (k number : ℕ) (seated : IsSeated a) (done
 
   pub lacks_m : slice_get b.hands m ≡ Some None → LacksPacket b m
   lacks_m empty =
-      ⊎_elim (λ p. absurd (full p.0 (sym p.1 ∙ empty))) (λ next. it_lacks b b.mail b.seats b.hands h m mine_b (same_moves b m) w k at_m next) here_or_next
+      ⊎_elim (λ p. absurd (full p.0 (sym p.1 ∙ empty))) (λ next. it_lacks b b.mail b.seats b.hands h m mine_b (same_moves b m) pairs w k at_m next) here_or_next
     where
       full : (p : Packet) → Some (Some p) ≡ Some None → ⊥
       full p e = cc
@@ -265,28 +259,23 @@ module _ (a b : State) (h : Thread) (k number : ℕ) (seated : IsSeated a) (done
     moves' = subst (Moves m b) (sym path) moves
 
     moved : (Extends (sent b.mail m) (sent s1.mail m)) × (Extends (got b.mail m) (got s1.mail m)) → MovesBranches h.number a s1
-    moved grown = branches_then h.number a b s1 done.moves (branch_moves h.number m b s1 mine_b moves grown)
+    moved grown = branches_then h.number a b s1 moves_b (branch_moves h.number m b s1 mine_b moves grown)
 
-    pub got_more : ((p : Packet) → slice_get b.hands m ≡ Some (Some p) → s1 ≡ b) → (slice_get b.hands m ≡ Some None → HasGot b s1 m) → HasGotFirst a s1 h (k + 1)
-    got_more before there =
-        ⊎_elim
-        (λ p. subst (λ s. HasGotFirst a s h (k + 1)) (sym (before p.0 p.1)) (record { within = lt; moves = done.moves; waiting = w; reached = let x = p.2 in omega (arith, x) }))
-        (λ next. got_next next (there (it_lacks b b.mail b.seats b.hands h m mine_b (same_moves b m) w k at_m next).empty)) here_or_next
-      where
-        lt : k + 1 ≤ length h.branches.numbers
-        lt = let x = slice_get_within h.branches.numbers k number at in omega (arith, x)
+    module _ (before : (p : Packet) → slice_get b.hands m ≡ Some (Some p) → s1 ≡ b) (there : slice_get b.hands m ≡ Some None → HasGot b s1 m) where
+      got_next : k ≡ length w.replies → HasGot b s1 m
+      got_next next = there (it_lacks b b.mail b.seats b.hands h m mine_b (same_moves b m) pairs w k at_m next).empty
 
-        got_next : k ≡ length w.replies → HasGot b s1 m → HasGotFirst a s1 h (k + 1)
-        got_next next now_got =
-            let now = subst (λ x. (v : IsWaiting x h) × (length v.replies ≡ k + 1)) path
-            (waits_got b s1.mail s1.seats s1.hands h m mine_b moves' w k at_m next (subst (λ x. HasGot b x m) (sym path) now_got) above_m) in
-            let more = now.1 in
-            record {
-              within = lt;
-              moves = moved (extends_same (sent b.mail m) (sent s1.mail m) now_got.sent, extends_one (got b.mail m) (got s1.mail m) (plain_packet now_got.packet) now_got.got);
-              waiting = now.0;
-              reached = omega (arith, more);
-            }
+      pub more_moves : MovesBranches h.number a s1
+      more_moves =
+          ⊎_elim (λ p. subst (MovesBranches h.number a) (sym (before p.0 p.1)) moves_b)
+          (λ next. let g = got_next next in moved (extends_same (sent b.mail m) (sent s1.mail m) g.sent, extends_one (got b.mail m) (got s1.mail m) (plain_packet g.packet) g.got)) here_or_next
+
+      pub more_some : HasSome s1 h pairs (k + 1)
+      more_some =
+          ⊎_elim (λ p. subst (λ s. HasSome s h pairs (k + 1)) (sym (before p.0 p.1)) (record { gathering = w; reached = let x = p.2 in omega (arith, x) }))
+          (λ next. let now = subst (λ x. (v : IsGathering x h pairs) × (length v.replies ≡ k + 1)) path
+          (waits_got b s1.mail s1.seats s1.hands h m mine_b moves' pairs w k at_m next (subst (λ x. HasGot b x m) (sym path) (got_next next)) above_m) in
+          let more = now.1 in record { gathering = now.0; reached = omega (arith, more) }) here_or_next
 
     module _ (empty : (p : Packet) → slice_get b.hands m ≡ Some (Some p) → ⊥) (missed : HasLooked b s1 m) where
       is_next : k ≡ length w.replies
@@ -295,22 +284,34 @@ module _ (a b : State) (h : Thread) (k number : ℕ) (seated : IsSeated a) (done
       pub missed_moves : MovesBranches h.number a s1
       missed_moves = moved (extends_same (sent b.mail m) (sent s1.mail m) missed.sent, extends_same (got b.mail m) (got s1.mail m) missed.got)
 
-      pub missed_waits : IsWaiting s1 h
-      missed_waits = subst (λ x. IsWaiting x h) path (waits_on b s1.mail s1.seats s1.hands h m mine_b moves' w k at_m is_next (subst (λ x. HasLooked b x m) (sym path) missed))
+      pub missed_waits : IsGathering s1 h pairs
+      missed_waits = subst (λ x. IsGathering x h pairs) path (waits_on b s1.mail s1.seats s1.hands h m mine_b moves' pairs w k at_m is_next (subst (λ x. HasLooked b x m) (sym path) missed))
 
       pub missed_awaits : (j : ℕ) → h.number ≡ suc j → Awaits (code_in a).shape a.mail s1.mail j
       missed_awaits j number_is =
-          let old = done.moves.grown.looked_by_parent m in
+          let old = moves_b.grown.looked_by_parent m in
           record {
             branch = m;
-            is = subst (λ n. IsBranchOf (code_in a).shape n m) number_is (subst (λ x. IsBranchOf (plain_code x).shape h.number m) done.moves.code mine_b);
+            is = subst (λ n. IsBranchOf (code_in a).shape n m) number_is (subst (λ x. IsBranchOf (plain_code x).shape h.number m) moves_b.code mine_b);
             looked = record { words = old.more; is = missed.looked ∙ ap (λ l. l ++ 1 ∷ []) old.is };
           }
 
+-- ---- one branch more
+
+-- beside some pairs it was at the fork to begin with
+pub got_more : (a b s1 : State) (h : Thread) (k number : ℕ) → IsSeated a → HasGotFirst a b h k → slice_get h.branches.numbers k ≡ Some number → (pairs : List Answered) × IsGathering a h pairs → Moves (number - 1) b s1 →
+    ((p : Packet) → slice_get b.hands (number - 1) ≡ Some (Some p) → s1 ≡ b) → (slice_get b.hands (number - 1) ≡ Some None → HasGot b s1 (number - 1)) → HasGotFirst a s1 h (k + 1)
+got_more a b s1 h k number seated done at it moves before there = record {
+  within = let lt = slice_get_within h.branches.numbers k number at in omega (arith, lt);
+  moves = more_moves a b h k number seated done.moves at it.0 (done.some it.0 it.1) s1 moves before there;
+  some = λ pairs w. more_some a b h k number seated done.moves at pairs (done.some pairs w) s1 moves before there;
+}
+
 -- ---- all replies are in hand
 
-pub has_all : (a b : State) (h : Thread) (k : ℕ) → HasGotFirst a b h k → length h.branches.numbers ≤ k → HasReplies b h
-has_all a b h k done past = record { waiting = done.waiting; all = let w = done.waiting.gathered.within in let r = done.reached in omega (arith, w, r, past) }
+pub has_all : (a b : State) (h : Thread) (k : ℕ) → HasGotFirst a b h k → length h.branches.numbers ≤ k → (pairs : List Answered) → IsGathering a h pairs → HasReplies b h pairs
+has_all a b h k done past pairs w =
+    let s = done.some pairs w in record { gathering = s.gathering; all = let x = s.gathering.gathered.within in let r = s.reached in omega (arith, x, r, past) }
 
-pub all_heard : (s : State) (h : Thread) (r : HasReplies s h) → HaveHeard s h.branches.numbers r.waiting.replies
-all_heard s h r = record { count = r.all; each = r.waiting.gathered.heard }
+pub all_heard : (s : State) (h : Thread) (pairs : List Answered) (r : HasReplies s h pairs) → HaveHeard s h.branches.numbers r.gathering.replies
+all_heard s h pairs r = record { count = r.all; each = r.gathering.gathered.heard }

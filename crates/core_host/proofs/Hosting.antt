@@ -18,13 +18,13 @@ use Rattle.copy_slots.specs.Ports.{child_at, ChildIs}
 use Rattle.core_host.specs.Posts.{IsBranchOf}
 use Rattle.core_host.specs.Loads.{is_on, AreOwn}
 use Rattle.core_host.specs.Done.{HasDone}
-use Rattle.core_host.specs.Keeping.{State, code_in, IsSeated, Sits, Idle}
+use Rattle.core_host.specs.Keeping.{State, code_in, IsSeated, Sits, Idle, HasPacket}
 use Rattle.core_host.specs.Waiting.{IsBetween, rests, waits}
 use Rattle.core_host.specs.Serving.{KeepsServing}
 use Rattle.core_host.specs.Hosted.{Hosted, hosted, is_here, IsWhole}
 use Rattle.core_host.specs.Rests.{RootRests, IsHosted}
 use Rattle.core_host.specs.Runs.{HasJobs, HasRun}
-use Rattle.core_host.proofs.Keep.{done_keeps}
+use Rattle.core_host.proofs.Keep.{done_keeps, packet_keeps}
 use Rattle.core_host.proofs.Serves.{keeps_seated, both_held}
 
 -- ---- lists
@@ -55,16 +55,14 @@ module _ (s0 s1 : State) (cores : List ℕ) (root : Packet) (live : Bool) (keeps
   back : (t : ℕ) → is_here h1 t ≡ true → is_here h0 t ≡ true
   back t on = ap (λ l. is_on l cores t) (sym keeps.places) ∙ on
 
-  whole_back : IsWhole h1 → IsWhole h0
-  whole_back w = record {
-    tells = sym keeps.alike.tells ∙ w.tells;
-    all = λ t lt. back t (w.all t (subst (λ x. t < length (plain_code x).threads) (sym keeps.code) lt));
-  }
+  within : (k : ℕ) → k < length s1.mail.ends → k < length s0.mail.ends
+  within k lt = let count = keeps.alike.count in omega (arith, lt, count)
 
   pub whole_keeps : IsWhole h0 → IsWhole h1
   whole_keeps w = record {
     tells = keeps.alike.tells ∙ w.tells;
     all = λ t lt. ap (λ l. is_on l cores t) keeps.places ∙ w.all t (subst (λ x. t < length (plain_code x).threads) keeps.code lt);
+    quiet = λ k lt. keeps.quiet w.tells w.quiet k (within k lt);
   }
 
   sits_back : (t : Thread) → Sits s1 0 t → Sits s0 0 t
@@ -104,8 +102,10 @@ module _ (s0 s1 : State) (cores : List ℕ) (root : Packet) (live : Bool) (keeps
       let t = run k fine (subst (λ x. Stands (plain_code x) k) keeps.code stands) in record { jobs = jobs_keep _ t.jobs; keeps = t.keeps }
 
   module _ (inv : IsHosted h0) where
-    within : (k : ℕ) → k < length s1.mail.ends → k < length s0.mail.ends
-    within k lt = let count = keeps.alike.count in omega (arith, lt, count)
+    packet_still : (k : ℕ) → IsBranchOf (code_in s1).shape 0 k → HasPacket s0 k → HasPacket s1 k
+    packet_still k mine p =
+        let own = subst (λ x. IsBranchOf (plain_code x).shape 0 k) keeps.code mine in
+        packet_keeps k s0 s1 keeps.code (record { parent = keeps.root k own; hand = keeps.hands k own; blanks = keeps.alike.blanks }) p
 
     root_still : RootRests s0 → RootRests s1
     root_still r = record { thread = r.thread; sits = sits_still r.thread r.sits; resting = r.resting; jobs = r.jobs; done = done_still r.thread r.jobs r.sits.number r.done }
@@ -125,7 +125,8 @@ module _ (s0 s1 : State) (cores : List ℕ) (root : Packet) (live : Bool) (keeps
           ready = λ e t sits. inv.ready e t (sits_back t sits);
           here = λ k lt on. keeps.here k (inv.here k (within k lt) (back (suc k) on));
           between = λ k lt there. keeps.between k (inv.between k (within k lt) (keeps.was_here k there));
-          whole = λ w k lt. keeps.quiet (whole_back w).tells (λ j less. inv.whole (whole_back w) j less) k (within k lt);
+          keeper = λ on. keeps.alike.root ∙ inv.keeper (back 0 on);
+          packets = λ on k lt mine. packet_still k mine (inv.packets (back 0 on) k (within k lt) (subst (λ x. IsBranchOf (plain_code x).shape 0 k) keeps.code mine));
         }
 
 -- ---- its mailboxes

@@ -157,6 +157,7 @@ module _ (a b : State) (k : ℕ) (moves : Moves k a b) where
         by_test j (λ n. extends_same (looked_by_parent a.mail j) (looked_by_parent b.mail j) (ap words_of_parent (moves.parents j n)))
         (λ e. subst (λ n. Extends (looked_by_parent a.mail n) (looked_by_parent b.mail n)) (sym e) moves.looked);
     looked_by_child = λ j. extends_same (looked_by_child a.mail j) (looked_by_child b.mail j) (ap words_of_child (moves.children j));
+    stops = moves.alike.stops;
   }
     where
       by_test : (j : ℕ) {A : Type 0} → (j ≢ k → A) → (j ≡ k → A) → A
@@ -190,6 +191,7 @@ grown_then a b c h g = record {
   answered = λ k. extends_then _ _ _ (h.answered k) (g.answered k);
   looked_by_parent = λ k. extends_then _ _ _ (h.looked_by_parent k) (g.looked_by_parent k);
   looked_by_child = λ k. extends_then _ _ _ (h.looked_by_child k) (g.looked_by_child k);
+  stops = extends_then _ _ _ h.stops g.stops;
 }
 
 pub grown_same : (a : Mail) → Grown a a
@@ -200,13 +202,14 @@ grown_same a = record {
   answered = λ k. extends_same _ _ refl;
   looked_by_parent = λ k. extends_same _ _ refl;
   looked_by_child = λ k. extends_same _ _ refl;
+  stops = extends_same _ _ refl;
 }
 
 pub leaves_same : (t u : ℕ) (a : State) → Leaves t u a a
 leaves_same t u a = record {
   code = refl;
   places = refl;
-  alike = record { work = refl; blanks = refl; tells = refl; root = refl; count = refl };
+  alike = record { work = refl; blanks = refl; tells = refl; root = refl; count = refl; stops = extends_same _ _ refl };
   grown = grown_same a.mail;
   seats = λ j lt. refl;
   seat_count = refl;

@@ -132,7 +132,7 @@ module _ (s : State) (k : ℕ) (f : Sender PlainPacket → Sender PlainPacket) (
     code = refl;
     places = refl;
     seats = refl;
-    alike = record { work = refl; blanks = refl; tells = refl; root = refl; count = parents_count s.mail.ends k f };
+    alike = record { work = refl; blanks = refl; tells = refl; root = refl; count = parents_count s.mail.ends k f; stops = extends_same _ _ refl };
     parents = λ j n. parent_else s.mail.ends k j f n;
     looked = subst (λ o. Extends (looked_by_parent s.mail k) (words_of_parent o)) (sym (parent_here s.mail.ends k f)) (looks_on look (parent_at s.mail.ends k));
     children = λ j. child_on_parent s.mail.ends k j f;
@@ -160,7 +160,7 @@ module _ (s : State) (k : ℕ) (f : Sender PlainPacket → Sender PlainPacket) (
     got_before = ap got_by is
 
 pub alike_then : (a b c : Mail) → Alike a b → Alike b c → Alike a c
-alike_then a b c h g = record { work = g.work ∙ h.work; blanks = g.blanks ∙ h.blanks; tells = g.tells ∙ h.tells; root = g.root ∙ h.root; count = g.count ∙ h.count }
+alike_then a b c h g = record { work = g.work ∙ h.work; blanks = g.blanks ∙ h.blanks; tells = g.tells ∙ h.tells; root = g.root ∙ h.root; count = g.count ∙ h.count; stops = extends_then _ _ _ h.stops g.stops }
 
 pub moves_then : (k : ℕ) (a b c : State) → Moves k a b → Moves k b c → Moves k a c
 moves_then k a b c h g = record {
@@ -186,7 +186,7 @@ handed_moves s k = record {
   code = refl;
   places = refl;
   seats = refl;
-  alike = record { work = refl; blanks = refl; tells = refl; root = refl; count = refl };
+  alike = record { work = refl; blanks = refl; tells = refl; root = refl; count = refl; stops = extends_same _ _ refl };
   parents = λ j n. refl;
   looked = extends_same _ _ refl;
   children = λ j. refl;

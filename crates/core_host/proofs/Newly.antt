@@ -149,14 +149,14 @@ module _ (code : CodeParts) (valid : IsValidCode (plain_code code)) (placement :
       let nothing : h ≡ None = empty k h at in
       record { hand = None; at = at ∙ ap Some nothing; ready = blank p.0 b.blank b.is b.room }
 
-  new_quiet : IsWhole new_host → (k : ℕ) → k < length mail.ends → Quiet st k
-  new_quiet whole k lt =
-      let here = whole.all (suc k) (in_threads k lt) in
+  new_quiet : ((t : ℕ) → t < length (plain_code code).threads → on t ≡ true) → (k : ℕ) → k < length mail.ends → Quiet st k
+  new_quiet all k lt =
+      let here = all (suc k) (in_threads k lt) in
       let up = has_parent (plain_code code) valid k (in_threads k lt) in
       let c = child_new (on (suc k)) (child_at mail.ends k) (can.children placed k lt) here in
       let up_lt : up.0 < length (plain_code code).threads = let less = branch_above (plain_code code) valid up.0 k (in_threads k lt) up.1 in let n = in_threads k lt in omega (arith, less, n) in
-      let p = parent_new (on up.0) (parent_at mail.ends k) (can.parents placed k up.0 lt up.1) (whole.all up.0 up_lt) in
-      record { idle = new_idle k lt here; all = c.1 ∙ sym p.1; packet = new_packet up.0 k lt up.1 (whole.all up.0 up_lt) }
+      let p = parent_new (on up.0) (parent_at mail.ends k) (can.parents placed k up.0 lt up.1) (all up.0 up_lt) in
+      record { idle = new_idle k lt here; all = c.1 ∙ sym p.1; packet = new_packet up.0 k lt up.1 (all up.0 up_lt) }
 
   new_between : (k : ℕ) → k < length mail.ends → HasChild mail k → IsBetween st k
   new_between k lt there =
@@ -176,14 +176,16 @@ module _ (code : CodeParts) (valid : IsValidCode (plain_code code)) (placement :
     ready = λ e t sits. subst (IsReady t) (sym is_blank) tt;
     here = λ k lt here. (false, (child_new (on (suc k)) (child_at mail.ends k) (can.children placed k lt) here).0);
     between = new_between;
-    whole = new_quiet;
+    keeper = can.root;
+    packets = λ here k lt mine. new_packet 0 k lt mine here;
   }
 
   pub new_jobs : is_here new_host 0 ≡ true → HasJobs new_host []
   new_jobs here = let n = thread_at 0 some_threads here in record { thread = n.thread; sits = n.sits; fit = tt; done = new_done 0 n }
 
   pub new_whole : mail.tells ≡ true → AreAll placement.cores cores → IsWhole new_host
-  new_whole tells all = record { tells = tells; all = λ t lt. all (get_or placement.places t 0) (placed t 0 (omega (arith, lt, can.placed))) }
+  new_whole tells all =
+      let each = λ (t : ℕ) (lt : t < length (plain_code code).threads). all (get_or placement.places t 0) (placed t 0 (omega (arith, lt, can.placed))) in record { tells = tells; all = each; quiet = new_quiet each }
 
   pub whole_here : IsWhole new_host → is_here new_host 0 ≡ true
   whole_here whole = whole.all 0 some_threads

@@ -4,7 +4,7 @@ use Rattle.std.specs.Prelude.{slice_get, slice_set, drop}
 use Rattle.std.proofs.lemmas.List.{length-set, length-map}
 use Rattle.forec_kernel.specs.Packets.{PlainPacket}
 use Rattle.forec_kernel.specs.Packed.{HasRoom}
-use Rattle.forec_kernel.specs.Engine.{Reply, Written, Exchange, Answered, pair_up}
+use Rattle.forec_kernel.specs.Engine.{Job, Reply, Written, Exchange, Answered, pair_up}
 use Rattle.thread_code.specs.Plain.{plain_code}
 use Rattle.thread_code.specs.Valid.{of_shape}
 use Rattle.combine_tree.specs.declared.packet.Packet.{Packet}
@@ -17,15 +17,39 @@ use Rattle.copy_slots.specs.Ports.{parent_at, child_at, answered_by, IsChild, Ch
 use Rattle.core_host.specs.declared.seat.Seat.{Seat}
 use Rattle.core_host.specs.Posts.{Mail, IsBranchOf}
 use Rattle.core_host.specs.Changes.{Grown, Awaits}
-use Rattle.core_host.specs.Writing.{heard, told}
+use Rattle.core_host.specs.Writing.{Log, heard, told}
 use Rattle.core_host.specs.Keeping.{State, code_in, Alike, IsSeated, HaveHeard}
-use Rattle.core_host.specs.Waiting.{HasTold, IsAtWork, IsWorking, IsWaiting, HasReplies, WaitsAt, IsBetween, waits}
+use Rattle.core_host.specs.Waiting.{HasTold, IsGathering, HasReplies, IsAtWork, IsWorking, IsWaiting, WaitsAt, IsBetween, waits}
+use Rattle.core_host.specs.OnJob.{IsOnJob}
 use Rattle.core_host.specs.Serving.{MovesBranches, Touches, HasMissed}
 use Rattle.core_host.proofs.Mails.{get_set, get_set_else, some_once}
 use Rattle.core_host.proofs.Forked.{with_none, in_job_now}
-use Rattle.core_host.proofs.Telling.{told_posts, posts_told}
-use Rattle.core_host.proofs.Waits.{waiting_keeps}
+use Rattle.core_host.proofs.Telling.{changed, changed_is, told_posts, posts_told}
+use Rattle.core_host.proofs.Waits.{work_keeps, waiting_keeps}
 use Rattle.core_host.proofs.Gathers.{all_heard}
+
+-- ---- its work stays while its branches are looked at
+
+-- it waits at a fork, and all replies are in hand
+pub record HasAll (s : State) (h : Thread) : Type 0 where
+  pub waiting : IsWaiting s h
+  pub all : length waiting.gathering.replies ≡ length h.branches.numbers
+
+module _ (a b : State) (h : Thread) (moves : MovesBranches h.number a b) (w : IsWaiting a h) where
+  abbrev pub its_pairs : List Answered
+  its_pairs = told (code_in a) h.number w.work.jobs w.work.job w.work.log
+
+  path : changed a b.mail b.seats b.hands ≡ b
+  path = changed_is a b moves.code moves.places
+
+  abbrev its_work : IsAtWork (changed a b.mail b.seats b.hands) h
+  its_work = work_keeps a b.mail b.seats b.hands moves.alike.blanks moves.alike.count h w.work (moves.children w.work.mailbox)
+
+  pub waits_on : IsGathering b h its_pairs → IsWaiting b h
+  waits_on = subst (λ x. IsGathering x h its_pairs → IsWaiting x h) path (λ g. record { work = its_work; gathering = g })
+
+  pub waits_all : HasReplies b h its_pairs → HasAll b h
+  waits_all = subst (λ x. HasReplies x h its_pairs → HasAll x h) path (λ r. record { waiting = record { work = its_work; gathering = r.gathering }; all = r.all })
 
 -- ---- out of its seat
 
@@ -161,23 +185,21 @@ module _ (s0 : State) (m : ℕ) (inside : m < length s0.mail.ends) (seated : IsS
 
 -- ---- on with the replies
 
-module _ (s : State) (seated : IsSeated s) (h : Thread) (r : HasReplies s h) (h2 h3 : Thread) (loaded3 : Loaded (code_in s) h3) (number2 : h2.number ≡ h.number) (number3 : h3.number ≡ h2.number) (branches2 : h2.branches.numbers ≡ h.branches.numbers)
+module _ (s : State) (seated : IsSeated s) (h : Thread) (loaded : Loaded (code_in s) h) (jobs : List Job) (job : Job) (log : Log (code_in s) h.number jobs job) (stands : StandsFor (code_in s) h (heard (code_in s) h.number jobs job log)) (r : HasReplies s h (told (code_in s) h.number jobs job log))
+    (h2 h3 : Thread) (number2 : h2.number ≡ h.number) (number3 : h3.number ≡ h2.number) (branches2 : h2.branches.numbers ≡ h.branches.numbers)
     (settles : (rs : List Reply) (xs : List Exchange) → HaveHeard s h.branches.numbers rs → StandsFor (code_in s) h (with_replies xs []) → StandsFor (code_in s) h2 (with_replies xs rs))
     (joins : (rs : List Reply) (xs : List Exchange) → HaveHeard s h2.branches.numbers rs → StandsFor (code_in s) h2 (with_replies xs rs) → StandsFor (code_in s) h3 (with_replies xs rs)) where
-  abbrev w : IsWaiting s h
-  w = r.waiting
-
-  abbrev k : IsAtWork s h
-  k = r.waiting.work
+  abbrev w : IsGathering s h (told (code_in s) h.number jobs job log)
+  w = r.gathering
 
   abbrev rs : List Reply
-  rs = r.waiting.replies
+  rs = r.gathering.replies
 
   abbrev ws : List Written
   ws = jobs_at (code_in s) h
 
   abbrev pairs : List Answered
-  pairs = told (code_in s) h.number k.jobs k.job k.log
+  pairs = told (code_in s) h.number jobs job log
 
   nothing_left : (l : List Written) (n : ℕ) → length l ≤ n → drop n l ≡ []
   nothing_left [] zero le = refl
@@ -190,18 +212,33 @@ module _ (s : State) (seated : IsSeated s) (h : Thread) (r : HasReplies s h) (h2
       let count = ap length w.forked.numbers ∙ length-map ws (λ v. v.branch) in
       subst (HasTold s h.number (pairs ++ pair_up ws rs)) (nothing_left ws (length rs) (let a = r.all in omega (arith, a, count))) w.gathered.told
 
-  stands3 : StandsFor (code_in s) h3 (with_replies (heard (code_in s) h.number k.jobs k.job k.log) rs)
+  stands3 : StandsFor (code_in s) h3 (with_replies (heard (code_in s) h.number jobs job log) rs)
   stands3 =
-      let xs = heard (code_in s) h.number k.jobs k.job k.log in
-      let heard_all = all_heard s h r in
+      let xs = heard (code_in s) h.number jobs job log in
+      let heard_all = all_heard s h pairs r in
       joins rs xs (subst (λ l. HaveHeard s l rs) (sym branches2) heard_all)
-      (settles rs xs heard_all (subst (StandsFor (code_in s) h) (sym (with_none k.log.exchanges (record { job = k.job; replies = k.log.before }))) k.stands))
+      (settles rs xs heard_all (subst (StandsFor (code_in s) h) (sym (with_none log.exchanges (record { job = job; replies = log.before }))) stands))
+
+  pub job_goes_on : IsOnJob s h3 jobs job
+  job_goes_on =
+      let number = number3 ∙ number2 in
+      let j = in_job_now (code_in s) seated.valid h loaded w.forked.settled w.forked.numbers jobs job log stands h3 number s.mail rs r.all (told_posts s h.number (pairs ++ pair_up ws rs) all_told) stands3 in
+      record {
+        log = j.0.log;
+        stands = j.0.stands;
+        told = posts_told s h3.number (told (code_in s) h3.number jobs job j.0.log) j.0.posts (λ i lt is. all_told.has i lt (subst (λ t. IsBranchOf (code_in s).shape t i) number is) (λ o. o));
+      }
+
+module _ (s : State) (seated : IsSeated s) (h : Thread) (r : HasAll s h) (h2 h3 : Thread) (loaded3 : Loaded (code_in s) h3) (number2 : h2.number ≡ h.number) (number3 : h3.number ≡ h2.number) (branches2 : h2.branches.numbers ≡ h.branches.numbers)
+    (settles : (rs : List Reply) (xs : List Exchange) → HaveHeard s h.branches.numbers rs → StandsFor (code_in s) h (with_replies xs []) → StandsFor (code_in s) h2 (with_replies xs rs))
+    (joins : (rs : List Reply) (xs : List Exchange) → HaveHeard s h2.branches.numbers rs → StandsFor (code_in s) h2 (with_replies xs rs) → StandsFor (code_in s) h3 (with_replies xs rs)) where
+  abbrev k : IsAtWork s h
+  k = r.waiting.work
 
   pub goes_on : IsWorking s h3
   goes_on =
-      let number = number3 ∙ number2 in
-      let j = in_job_now (code_in s) seated.valid h k.loaded w.forked.settled w.forked.numbers k.jobs k.job k.log k.stands h3 number s.mail rs r.all (told_posts s h.number (pairs ++ pair_up ws rs) all_told) stands3 in
+      let j = job_goes_on s seated h k.loaded k.jobs k.job k.log k.stands (record { gathering = r.waiting.gathering; all = r.all }) h2 h3 number2 number3 branches2 settles joins in
       record {
-        work = record { mailbox = k.mailbox; number = number ∙ k.number; loaded = loaded3; child = k.child; jobs = k.jobs; job = k.job; are = k.are; even = k.even; log = j.0.log; stands = j.0.stands };
-        told = posts_told s h3.number (told (code_in s) h3.number k.jobs k.job j.0.log) j.0.posts (λ i lt is. all_told.has i lt (subst (λ t. IsBranchOf (code_in s).shape t i) number is) (λ o. o));
+        work = record { mailbox = k.mailbox; number = number3 ∙ number2 ∙ k.number; loaded = loaded3; child = k.child; jobs = k.jobs; job = k.job; are = k.are; even = k.even; log = j.log; stands = j.stands };
+        told = j.told;
       }

@@ -17,7 +17,7 @@ use Rattle.core_machine.specs.Held.{Loaded, CanBegin, StandsFor, HasReply, Gives
 use Rattle.core_host.specs.declared.seat.Seat.{Seat}
 use Rattle.core_host.specs.Posts.{Mail}
 use Rattle.core_host.specs.Done.{HasDone, InJob}
-use Rattle.core_host.specs.Keeping.{State, code_in, Leaves, IsFitted, Sits, QuietAbove}
+use Rattle.core_host.specs.Keeping.{State, code_in, Sits, QuietAbove}
 use Rattle.core_host.specs.Following.{HasFollowed}
 use Rattle.core_host.specs.Ending.{HasReplied}
 use Rattle.core_host.specs.Rests.{RootRests}
@@ -36,7 +36,7 @@ seat_quiet s y quiet j from lt =
 pub sits_once : (s : State) (t u : Thread) → Sits s 0 t → Sits s 0 u → t ≡ u
 sits_once s t u a b = some_once t u (sym a.is ∙ ap (λ (z : Seat). z.thread) (some_once a.seat b.seat (sym a.at ∙ b.at)) ∙ b.is)
 
-module _ (s0 : State) (fitted : IsFitted s0) (quiet : QuietAbove s0 0) (root : RootRests s0) (code : CodeParts) (places : List ℕ) (mail : Mail) (seats : List Seat) (hands : List (Option Packet))
+module _ (s0 : State) (valid0 : IsValidCode (code_in s0)) (root : RootRests s0) (code : CodeParts) (places : List ℕ) (mail : Mail) (seats : List Seat) (hands : List (Option Packet))
     (view : state code places mail seats hands ≡ s0) (x : Seat) (read : x ≡ slice_index_or seats 0 x) (found : Option Thread) (value : found ≡ x.thread) (h : Thread) (is : found ≡ Some h) where
   same_thread : (t : Thread) → Sits s0 0 t → t ≡ h
   same_thread t sits =
@@ -47,7 +47,7 @@ module _ (s0 : State) (fitted : IsFitted s0) (quiet : QuietAbove s0 0) (root : R
   number_h = ap (λ (z : Thread). z.number) (sym (same_thread root.thread root.sits)) ∙ root.sits.number
 
   valid : IsValidCode (plain_code code)
-  valid = subst (λ (z : CodeParts). IsValidCode (plain_code z)) (sym (ap (λ (s : State). s.code) view)) fitted.seated.valid
+  valid = subst (λ (z : CodeParts). IsValidCode (plain_code z)) (sym (ap (λ (s : State). s.code) view)) valid0
 
   pub root_loaded : Loaded (plain_code code) h
   root_loaded = subst (Loaded (plain_code code)) (same_thread root.thread root.sits) (subst (λ s. Loaded (code_in s) root.thread) (sym view) root.sits.loaded)
@@ -59,15 +59,15 @@ module _ (s0 : State) (fitted : IsFitted s0) (quiet : QuietAbove s0 0) (root : R
     abbrev pub raw1 : State
     raw1 = state code places mail (slice_set seats 0 y) hands
 
-    raw1_is : raw1 ≡ record s0 { seats = slice_set s0.seats 0 y }
+    pub raw1_is : raw1 ≡ record s0 { seats = slice_set s0.seats 0 y }
     raw1_is = ap (λ (s : State). record s { seats = slice_set s.seats 0 y }) view
 
     module _ (p : Packet) (h1 : Thread) (number : h1.number ≡ h.number)
         (stands : (xs : List Exchange) (job : Job) → IsJob (plain_packet p) job → StandsFor (plain_code code) h xs → StandsFor (plain_code code) h1 (xs ++ record { job = job; replies = [] } ∷ [])) where
-      number_1 : h1.number ≡ 0
+      pub number_1 : h1.number ≡ 0
       number_1 = number ∙ number_h
 
-      in_job1 : (t : Thread) → Sits s0 0 t → (jobs : List Job) (job : Job) → HasDone (code_in s0) t s0.mail jobs → IsJob (plain_packet p) job → (i : InJob (plain_code code) h1 mail jobs job) × (i.log.before ≡ [])
+      pub in_job1 : (t : Thread) → Sits s0 0 t → (jobs : List Job) (job : Job) → HasDone (code_in s0) t s0.mail jobs → IsJob (plain_packet p) job → (i : InJob (plain_code code) h1 mail jobs job) × (i.log.before ≡ [])
       in_job1 t sits jobs job done isjob =
           let here = subst (λ z. HasDone (plain_code code) z mail jobs) (same_thread t sits) (subst (λ s. HasDone (code_in s) t s.mail jobs) (sym view) done) in
           let some = valid.shape.some in
@@ -78,33 +78,33 @@ module _ (s0 : State) (fitted : IsFitted s0) (quiet : QuietAbove s0 0) (root : R
       pub root_followed : (job : Job) → IsJob (plain_packet p) job → HasFollowed raw1 h1
       root_followed job isjob = let i = in_job1 root.thread root.sits root.jobs job root.done isjob in record { jobs = root.jobs; job = job; in_job = i.0; first = i.1 }
 
-      pub root_above : QuietAbove raw1 h1.number
-      root_above = subst (QuietAbove raw1) (sym number_1) (subst (λ s. QuietAbove s 0) (sym raw1_is) (seat_quiet s0 y quiet))
+      pub root_above : QuietAbove s0 0 → QuietAbove raw1 h1.number
+      root_above quiet = subst (QuietAbove raw1) (sym number_1) (subst (λ s. QuietAbove s 0) (sym raw1_is) (seat_quiet s0 y quiet))
 
-      module _ (s3 : State) (h2 : Thread) (number2 : h2.number ≡ h1.number) (loaded2 : Loaded (code_in raw1) h2) (replied : HasReply h2) (above3 : QuietAbove s3 h1.number) (leaves3 : Leaves h1.number h1.number raw1 s3)
+      module _ (s3 : State) (h2 : Thread) (number2 : h2.number ≡ h1.number) (loaded2 : Loaded (code_in raw1) h2) (replied : HasReply h2) (code3 : s3.code ≡ raw1.code) (count3 : length s3.seats ≡ length raw1.seats)
           (done3 : (jobs : List Job) (job : Job) → InJob (code_in raw1) h1 raw1.mail jobs job → InJob (code_in raw1) h2 s3.mail jobs job)
           (code2 : CodeParts) (places2 : List ℕ) (mail2 : Mail) (seats2 : List Seat) (hands2 : List (Option Packet)) (view2 : state code2 places2 mail2 seats2 hands2 ≡ s3)
           (p' : Packet) (gives : (xs : List Exchange) → StandsFor (plain_code code2) h2 xs → Gives (plain_code code2) h2.number xs (plain_packet p')) (z : Seat) (sits : z.thread ≡ Some h2) where
         abbrev pub raw2 : State
         raw2 = state code2 places2 mail2 (slice_set seats2 0 z) hands2
 
-        raw2_is : raw2 ≡ record s3 { seats = slice_set s3.seats 0 z }
+        pub raw2_is : raw2 ≡ record s3 { seats = slice_set s3.seats 0 z }
         raw2_is = ap (λ (s : State). record s { seats = slice_set s.seats 0 z }) view2
 
         code2_is : code2 ≡ code
-        code2_is = ap (λ (s : State). s.code) view2 ∙ leaves3.code
+        code2_is = ap (λ (s : State). s.code) view2 ∙ code3
 
         number_2 : h2.number ≡ 0
         number_2 = number2 ∙ number_1
 
-        pub root_quiet : QuietAbove raw2 0
-        root_quiet = subst (λ s. QuietAbove s 0) (sym raw2_is) (seat_quiet s3 z (subst (QuietAbove s3) number_1 above3))
+        pub root_quiet : QuietAbove s3 h1.number → QuietAbove raw2 0
+        root_quiet above = subst (λ s. QuietAbove s 0) (sym raw2_is) (seat_quiet s3 z (subst (QuietAbove s3) number_1 above))
 
         some_seat : 0 < length seats2
         some_seat =
             let within = slice_get_within s0.seats 0 root.sits.seat root.sits.at in
             let a = ap (λ (s : State). length s.seats) view2 in
-            let b = leaves3.seat_count in
+            let b = count3 in
             let c = length-set seats 0 y in
             let d = ap (λ (s : State). length s.seats) view in omega (arith, within, a, b, c, d)
 

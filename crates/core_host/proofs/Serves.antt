@@ -14,12 +14,12 @@ use Rattle.copy_slots.specs.Ports.{parent_at, child_at, sent_by, answered_by, wo
 use Rattle.core_host.specs.declared.seat.Seat.{Seat}
 use Rattle.core_host.specs.Posts.{Mail, IsBranchOf}
 use Rattle.core_host.specs.Changes.{Extends, Looked, Grown, IsIdle}
-use Rattle.core_host.specs.Keeping.{State, code_in, IsSeated, Ready, blank, reply, Quiet}
+use Rattle.core_host.specs.Keeping.{State, code_in, Alike, IsSeated, Ready, blank, reply, Quiet}
 use Rattle.core_host.specs.Waiting.{HasChild, IsAtRest, WaitsAt, IsBetween, rests, waits}
 use Rattle.core_host.specs.Serving.{Touches, OnlyLooks, HasMissed, AllMissed, KeepsServing}
-use Rattle.core_host.proofs.Mails.{by_equal, some_once, alike_then, is_parent, is_child}
+use Rattle.core_host.proofs.Mails.{by_equal, some_once, alike_then, is_parent, is_child, extends_same}
 use Rattle.core_host.proofs.Keep.{grown_same, grown_then, seated_by, same_child, quiet_keeps}
-use Rattle.core_host.proofs.Waits.{between_still}
+use Rattle.core_host.proofs.Waits.{between_keeps, between_still}
 
 -- ---- a thread at rest has no job in its hand, and one that waits has
 
@@ -112,28 +112,66 @@ keeps_one k a b seated inside before t after looks = record {
   seat = t.seats 0 (λ e. omega (arith, e));
   seat_count = t.seat_count;
   hand_count = t.hand_count;
-  root = λ j mine. t.parents j (λ is. let e = some_once 0 (suc k) (sym mine ∙ is) in absurd (omega (arith, e)));
+  root = λ j mine. t.parents j (not_root j mine);
+  hands = λ j mine. t.hands j (not_root j mine);
   here = λ j h. by_equal j k (λ n. child_keeps a.mail b.mail j (t.children j n) h) (λ e. subst (HasChild b.mail) (sym e) (between_child b k after));
   was_here = λ j h. by_equal j k (λ n. child_keeps b.mail a.mail j (sym (t.children j n)) h) (λ e. subst (HasChild a.mail) (sym e) (between_child a k before));
   between = λ j h. by_equal j k (λ n. between_still a b k t j n h) (λ e. subst (IsBetween b) (sym e) after);
   quiet = λ tells quiet j lt. quiet_looks k a b (looks tells (quiet k inside)) j (quiet j lt);
 }
+  where
+    not_root : (j : ℕ) → IsBranchOf (code_in a).shape 0 j → IsBranchOf (code_in a).shape (suc k) j → ⊥
+    not_root j mine is = let e = some_once 0 (suc k) (sym mine ∙ is) in absurd (omega (arith, e))
 
 pub keeps_same : (a : State) → KeepsServing a a
 keeps_same a = record {
   code = refl;
   places = refl;
-  alike = record { work = refl; blanks = refl; tells = refl; root = refl; count = refl };
+  alike = record { work = refl; blanks = refl; tells = refl; root = refl; count = refl; stops = extends_same _ _ refl };
   grown = grown_same a.mail;
   seat = refl;
   seat_count = refl;
   hand_count = refl;
   root = λ j mine. refl;
+  hands = λ j mine. refl;
   here = λ j h. h;
   was_here = λ j h. h;
   between = λ j h. h;
   quiet = λ tells quiet. quiet;
 }
+
+-- a port that stores, or has loaded, a stop word
+module _ (s : State) (stored : Bool) (stops : List ℕ) (more : Extends s.mail.stops stops) where
+  abbrev watched : State
+  watched = record s { mail = record s.mail { stored = stored; stops = stops } }
+
+  watched_alike : Alike s.mail watched.mail
+  watched_alike = record { work = refl; blanks = refl; tells = refl; root = refl; count = refl; stops = more }
+
+  pub keeps_watch : KeepsServing s watched
+  keeps_watch = record {
+    code = refl;
+    places = refl;
+    alike = watched_alike;
+    grown = record {
+      sent = λ k. extends_same _ _ refl;
+      got = λ k. extends_same _ _ refl;
+      taken = λ k. extends_same _ _ refl;
+      answered = λ k. extends_same _ _ refl;
+      looked_by_parent = λ k. extends_same _ _ refl;
+      looked_by_child = λ k. extends_same _ _ refl;
+      stops = more;
+    };
+    seat = refl;
+    seat_count = refl;
+    hand_count = refl;
+    root = λ j mine. refl;
+    hands = λ j mine. refl;
+    here = λ j h. h;
+    was_here = λ j h. h;
+    between = λ j h. between_keeps s watched refl refl watched_alike j refl refl (λ i mine. refl) (λ i mine. refl) h;
+    quiet = λ tells q j lt. quiet_keeps j s watched (record { code = refl; seat = refl; child = same_child j s.mail watched.mail refl; branches = λ i mine. refl }) (record { parent = refl; hand = refl; blanks = refl }) (q j lt);
+  }
 
 pub keeps_then : (a b c : State) → KeepsServing a b → KeepsServing b c → KeepsServing a c
 keeps_then a b c h g = record {
@@ -145,6 +183,7 @@ keeps_then a b c h g = record {
   seat_count = g.seat_count ∙ h.seat_count;
   hand_count = g.hand_count ∙ h.hand_count;
   root = λ j mine. g.root j (subst (λ x. IsBranchOf (plain_code x).shape 0 j) (sym h.code) mine) ∙ h.root j mine;
+  hands = λ j mine. g.hands j (subst (λ x. IsBranchOf (plain_code x).shape 0 j) (sym h.code) mine) ∙ h.hands j mine;
   here = λ j x. g.here j (h.here j x);
   was_here = λ j x. h.was_here j (g.was_here j x);
   between = λ j x. g.between j (h.between j x);

@@ -29,7 +29,7 @@ pub branches_same : (t : ℕ) (a : State) → MovesBranches t a a
 branches_same t a = record {
   code = refl;
   places = refl;
-  alike = record { work = refl; blanks = refl; tells = refl; root = refl; count = refl };
+  alike = record { work = refl; blanks = refl; tells = refl; root = refl; count = refl; stops = extends_same _ _ refl };
   grown = grown_same a.mail;
   seats = refl;
   children = λ j. refl;

@@ -1,5 +1,5 @@
 -- A host runs a tick.
-use Rattle.std.proofs.Common.{◌≡◌, ℕ, ◌<◌, ℤ, Bool, true, false, List, [], ◌∷◌, ◌++◌, length, sym, ap, ◌∙◌, subst, arith}
+use Rattle.std.proofs.Common.{◌≡◌, ℕ, suc, ◌<◌, ℤ, Bool, true, false, List, [], ◌∷◌, ◌++◌, length, sym, ap, ◌∙◌, subst, arith}
 use Rattle.forec_kernel.specs.declared.shape.Outcome.{Outcome}
 use Rattle.forec_kernel.specs.Shapes.{PlainKernel}
 use Rattle.forec_kernel.specs.WellFormed.{WellFormed}
@@ -19,14 +19,15 @@ use Rattle.combine_tree.specs.Plain.{plain_packet}
 use Rattle.core_machine.specs.declared.thread.Thread.{Thread}
 use Rattle.core_machine.specs.Held.{CanBegin}
 use Rattle.core_machine.specs.Replies.{Replies_by}
-use Rattle.core_host.specs.Posts.{HasPosted, HasPostedTaken}
+use Rattle.core_host.specs.Posts.{IsBranchOf, HasPosted, HasPostedTaken}
 use Rattle.core_host.specs.Done.{HasDone}
 use Rattle.core_host.specs.Jobs.{IsBetween, kind_of, job_of}
 use Rattle.core_host.specs.Outcomes.{IsReplied, outcome_in, HasOutputs, HasOutcome}
-use Rattle.core_host.specs.Keeping.{State, code_in, IsFitted, Sits, Idle, QuietAbove}
-use Rattle.core_host.specs.Waiting.{rests}
+use Rattle.core_host.specs.Loads.{is_on}
+use Rattle.core_host.specs.Keeping.{State, code_in, IsSeated, Sits, Idle, HasPacket, QuietAbove}
+use Rattle.core_host.specs.Waiting.{HasChild, IsBetween as IsServed, rests}
 use Rattle.core_host.specs.Ending.{HasReplied}
-use Rattle.core_host.specs.Hosted.{Hosted, hosted, state_in, code_of, IsWhole}
+use Rattle.core_host.specs.Hosted.{Hosted, hosted, state_in, code_of, is_here, IsWhole}
 use Rattle.core_host.specs.Rests.{IsReady, RootRests, IsHosted}
 use Rattle.core_host.specs.Runs.{HasJobs, HasTicked}
 use Rattle.core_host.proofs.Ticked.{Told, told, keeps_now, jobs_are, goes_on_paused, comes_to, job_fits, fits_then}
@@ -60,12 +61,12 @@ replied_of t kind.Blank h = absurd h
 replied_of t kind.Start h = absurd h
 replied_of t kind.Wake h = absurd h
 
-module _ (h : Hosted) (inv : IsHosted h) (whole : IsWhole h) (live : h.live ≡ true) where
-  some_thread : 0 < length (code_of h).threads
-  some_thread = omega (arith, inv.valid.shape.some, inv.valid.threads)
+pub whole_here : (h : Hosted) → IsHosted h → IsWhole h → is_here h 0 ≡ true
+whole_here h inv whole = whole.all 0 (omega (arith, inv.valid.shape.some, inv.valid.threads))
 
-  pub the_root : RootRests (state_in h)
-  the_root = inv.root (whole.all 0 some_thread)
+module _ (h : Hosted) (inv : IsHosted h) (here : is_here h 0 ≡ true) (live : h.live ≡ true) where
+  the_root : RootRests (state_in h)
+  the_root = inv.root here
 
   pub is_between : IsBetween h.root.kind
   is_between = let r = the_root in between_of r.thread h.root.kind (inv.ready live r.thread r.sits)
@@ -75,8 +76,38 @@ module _ (h : Hosted) (inv : IsHosted h) (whole : IsWhole h) (live : h.live ≡ 
 
 -- ---- after
 
+-- what is kept of the other threads, and of the packets of thread 0's branches
+pub record HasRested (s : State) (cores : List ℕ) : Type 0 where
+  pub here : (k : ℕ) → k < length s.mail.ends → is_on s.places cores (suc k) ≡ true → HasChild s.mail k
+  pub between : (k : ℕ) → k < length s.mail.ends → HasChild s.mail k → IsServed s k
+  pub keeper : is_on s.places cores 0 ≡ true → s.mail.root ≡ true
+  pub packets : (k : ℕ) → k < length s.mail.ends → IsBranchOf (code_in s).shape 0 k → HasPacket s k
+
+pub quiet_rested : (s0 s1 : State) (cores : List ℕ) (p : Packet) (live : Bool) → IsHosted (hosted s0 cores p live) → s1.places ≡ s0.places → s1.mail.root ≡ s0.mail.root → QuietAbove s1 0 → HasRested s1 cores
+quiet_rested s0 s1 cores p live inv places root quiet = record {
+  here = λ k lt on. (false, (quiet k (omega arith) lt).idle.child);
+  between = λ k lt there. rests (record { idle = (quiet k (omega arith) lt).idle; has = λ j less mine. (quiet j (omega arith) less).packet });
+  keeper = λ on. root ∙ inv.keeper (ap (λ l. is_on l cores 0) (sym places) ∙ on);
+  packets = λ k lt mine. (quiet k (omega arith) lt).packet;
+}
+
+pub beside_rested : (s0 s1 : State) (cores : List ℕ) (p : Packet) (live : Bool) → IsHosted (hosted s0 cores p live) → IsSeated s1 → s1.code ≡ s0.code → s1.places ≡ s0.places → s1.mail.root ≡ s0.mail.root → ((k : ℕ) → HasChild s0.mail k → HasChild s1.mail k) →
+    ((k : ℕ) → HasChild s1.mail k → HasChild s0.mail k) → ((k : ℕ) → IsServed s0 k → IsServed s1 k) → ((k : ℕ) → k < length s1.mail.ends → IsBranchOf (code_in s0).shape 0 k → HasPacket s1 k) → HasRested s1 cores
+beside_rested s0 s1 cores p live inv seated code places root here was_here between packets = record {
+  here = λ k lt on. here k (inv.here k (within k lt) (ap (λ l. is_on l cores (suc k)) (sym places) ∙ on));
+  between = λ k lt there. between k (inv.between k (within k lt) (was_here k there));
+  keeper = λ on. root ∙ inv.keeper (ap (λ l. is_on l cores 0) (sym places) ∙ on);
+  packets = λ k lt mine. packets k lt (subst (λ x. IsBranchOf (plain_code x).shape 0 k) code mine);
+}
+  where
+    within : (k : ℕ) → k < length s1.mail.ends → k < length s0.mail.ends
+    within k lt =
+        let one = seated.mailboxes in
+        let zero = inv.mailboxes in
+        let same = ap (λ x. length (plain_code x).threads) code in omega (arith, lt, one, zero, same)
+
 module _ (s0 s1 : State) (cores : List ℕ) (p0 p1 pj : Packet) (live0 live1 : Bool) (inv : IsHosted (hosted s0 cores p0 live0)) (live : live0 ≡ true) (row : List ℤ) (budget : ℕ)
-    (isjob : IsJob (plain_packet pj) (job_of (code_in s0).shape p0 row budget)) (fitted1 : IsFitted s1) (code1 : s1.code ≡ s0.code) (quiet1 : QuietAbove s1 0) (root1 : RootRests s1)
+    (isjob : IsJob (plain_packet pj) (job_of (code_in s0).shape p0 row budget)) (seated1 : IsSeated s1) (code1 : s1.code ≡ s0.code) (rested1 : HasRested s1 cores) (root1 : RootRests s1)
     (room1 : HasRoom (of_shape (code_in s0).shape) 0 (plain_packet p1)) (kind1 : (t : Thread) → Sits s1 0 t → Replies_by t p1.kind)
     (replied1 : (t u : Thread) (jobs : List Job) (job : Job) → Sits s0 0 t → Sits s1 0 u → HasDone (code_in s0) t s0.mail jobs → IsJob (plain_packet pj) job → HasReplied s1 u (jobs ++ job ∷ []) (plain_packet p1))
     (outcome : Outcome) (outcome_is : outcome ≡ outcome_in p1.kind) (live_is : live1 ≡ goes_on outcome) where
@@ -100,18 +131,19 @@ module _ (s0 s1 : State) (cores : List ℕ) (p0 p1 pj : Packet) (live0 live1 : B
 
   pub now_hosted : IsHosted h1
   now_hosted = record {
-    valid = fitted1.seated.valid;
-    work = fitted1.seated.work;
-    mailboxes = fitted1.seated.mailboxes;
-    seats = fitted1.seated.seats;
-    hands = fitted1.seated.hands;
-    places = fitted1.seated.places;
+    valid = seated1.valid;
+    work = seated1.work;
+    mailboxes = seated1.mailboxes;
+    seats = seated1.seats;
+    hands = seated1.hands;
+    places = seated1.places;
     room = subst (λ x. HasRoom (of_shape (plain_code x).shape) 0 (plain_packet p1)) (sym code1) room1;
     root = λ here. root1;
     ready = λ e t sits. subst (IsReady t) (sym (paused_of e)) (subst (Replies_by t) (paused_of e) (kind1 t sits));
-    here = λ k lt on. (false, (quiet1 k (omega arith) lt).idle.child);
-    between = λ k lt there. rests (record { idle = (quiet1 k (omega arith) lt).idle; has = λ j less mine. (quiet1 j (omega arith) less).packet });
-    whole = λ w k lt. quiet1 k (omega arith) lt;
+    here = rested1.here;
+    between = rested1.between;
+    keeper = rested1.keeper;
+    packets = λ on. rested1.packets;
   }
 
   replies_for : (jobs : List Job) (old : HasJobs h0 jobs) → HasReplied s1 root1.thread (jobs ++ job ∷ []) (plain_packet p1)

@@ -11,9 +11,9 @@ use Rattle.copy_slots.specs.declared.view.Taker.{Taker}
 use Rattle.copy_slots.specs.Ports.{parent_at, child_at, sent_by, got_by, taken_by, answered_by, IsChild}
 use Rattle.core_host.specs.declared.seat.Seat.{Seat}
 use Rattle.core_host.specs.Posts.{Mail, IsBranchOf, AreReplies, replies_to}
-use Rattle.core_host.specs.Keeping.{State, code_in, HasPacket, HasHeard}
-use Rattle.core_host.specs.Waiting.{jobs_out, HasTold, IsForked, IsAtWork, IsWaiting, IsAtRest, WaitsAt, IsBetween, rests, waits}
-use Rattle.core_host.specs.Serving.{Touches}
+use Rattle.core_host.specs.Keeping.{State, code_in, Alike, HasPacket, HasHeard}
+use Rattle.core_host.specs.Waiting.{jobs_out, HasTold, IsForked, IsGathering, IsAtWork, IsWaiting, IsAtRest, WaitsAt, IsBetween, rests, waits}
+use Rattle.core_host.specs.Serving.{MovesBranches, Touches}
 use Rattle.core_host.proofs.Keep.{same_child, idle_keeps, packet_keeps, parent_once}
 use Rattle.core_host.proofs.Send.{at_map}
 use Rattle.core_host.proofs.Telling.{changed, changed_is, lacks_keeps}
@@ -73,9 +73,8 @@ module _ (a : State) (mail : Mail) (seats : List Seat) (hands : List (Option Pac
           reply = old.reply;
         }
 
-    pub waiting_keeps : (w : IsWaiting a h) → child_at mail.ends w.work.mailbox ≡ child_at a.mail.ends w.work.mailbox → IsWaiting b h
-    waiting_keeps w child = record {
-      work = work_keeps h w.work child;
+    pub gathering_keeps : (pairs : List Answered) → IsGathering a h pairs → IsGathering b h pairs
+    gathering_keeps pairs w = record {
       forked = w.forked;
       replies = w.replies;
       gathered = record {
@@ -85,22 +84,18 @@ module _ (a : State) (mail : Mail) (seats : List Seat) (hands : List (Option Pac
       };
     }
 
--- ---- another mailbox was served
+    pub waiting_keeps : (w : IsWaiting a h) → child_at mail.ends w.work.mailbox ≡ child_at a.mail.ends w.work.mailbox → IsWaiting b h
+    waiting_keeps w child = record { work = work_keeps h w.work child; gathering = gathering_keeps _ w.gathering }
 
-module _ (a b : State) (k : ℕ) (touches : Touches k a b) (j : ℕ) (other : j ≢ k) where
+-- ---- the seat, the mailbox and the branches of thread j + 1 stay
+
+module _ (a b : State) (code : b.code ≡ a.code) (places : b.places ≡ a.places) (alike : Alike a.mail b.mail) (j : ℕ) (seat : slice_get b.seats (suc j) ≡ slice_get a.seats (suc j)) (child : child_at b.mail.ends j ≡ child_at a.mail.ends j)
+    (parents : (i : ℕ) → IsBranchOf (code_in a).shape (suc j) i → parent_at b.mail.ends i ≡ parent_at a.mail.ends i) (hands : (i : ℕ) → IsBranchOf (code_in a).shape (suc j) i → slice_get b.hands i ≡ slice_get a.hands i) where
   path : changed a b.mail b.seats b.hands ≡ b
-  path = changed_is a b touches.code touches.places
-
-  apart : (i : ℕ) → IsBranchOf (code_in a).shape (suc j) i → IsBranchOf (code_in a).shape (suc k) i → ⊥
-  apart i mine is = let same = parent_once (code_in a) (suc j) (suc k) i mine is in other (omega (arith, same))
-
-  seat : slice_get b.seats (suc j) ≡ slice_get a.seats (suc j)
-  seat = touches.seats (suc j) (λ e. other (omega (arith, e)))
+  path = changed_is a b code places
 
   rests_still : IsAtRest a j → IsAtRest b j
-  rests_still r =
-      subst (λ s. IsAtRest s j) path
-      (rest_keeps a b.mail b.seats b.hands touches.alike.blanks touches.alike.count (suc j) (λ i mine. touches.parents i (apart i mine)) (λ i mine. touches.hands i (apart i mine)) j refl seat (touches.children j other) r)
+  rests_still r = subst (λ s. IsAtRest s j) path (rest_keeps a b.mail b.seats b.hands alike.blanks alike.count (suc j) parents hands j refl seat child r)
 
   waits_still : WaitsAt a j → WaitsAt b j
   waits_still w =
@@ -113,10 +108,26 @@ module _ (a b : State) (k : ℕ) (touches : Touches k a b) (j : ℕ) (other : j 
         packet = w.packet;
         holds = w.holds;
         room = w.room;
-        waiting = waiting_keeps a b.mail b.seats b.hands touches.alike.blanks touches.alike.count w.thread (λ i mine. touches.parents i (apart i (own i mine))) (λ i mine. touches.hands i (apart i (own i mine))) w.waiting
-            (subst (λ i. child_at b.mail.ends i ≡ child_at a.mail.ends i) (sym at) (touches.children j other));
+        waiting = waiting_keeps a b.mail b.seats b.hands alike.blanks alike.count w.thread (λ i mine. parents i (own i mine)) (λ i mine. hands i (own i mine)) w.waiting
+            (subst (λ i. child_at b.mail.ends i ≡ child_at a.mail.ends i) (sym at) child);
       })
 
-  pub between_still : IsBetween a j → IsBetween b j
-  between_still (rests r) = rests (rests_still r)
-  between_still (waits w) = waits (waits_still w)
+  pub between_keeps : IsBetween a j → IsBetween b j
+  between_keeps (rests r) = rests (rests_still r)
+  between_keeps (waits w) = waits (waits_still w)
+
+-- another mailbox was served
+pub between_still : (a b : State) (k : ℕ) → Touches k a b → (j : ℕ) → j ≢ k → IsBetween a j → IsBetween b j
+between_still a b k touches j other =
+    between_keeps a b touches.code touches.places touches.alike j (touches.seats (suc j) (λ e. other (omega (arith, e)))) (touches.children j other) (λ i mine. touches.parents i (apart i mine)) (λ i mine. touches.hands i (apart i mine))
+  where
+    apart : (i : ℕ) → IsBranchOf (code_in a).shape (suc j) i → IsBranchOf (code_in a).shape (suc k) i → ⊥
+    apart i mine is = let same = parent_once (code_in a) (suc j) (suc k) i mine is in other (omega (arith, same))
+
+-- the branches of thread t were looked at, or told jobs
+pub between_moves : (a b : State) (t : ℕ) → MovesBranches t a b → (j : ℕ) → suc j ≢ t → IsBetween a j → IsBetween b j
+between_moves a b t moves j other =
+    between_keeps a b moves.code moves.places moves.alike j (ap (λ l. slice_get l (suc j)) moves.seats) (moves.children j) (λ i mine. moves.parents i (apart i mine)) (λ i mine. moves.hands i (apart i mine))
+  where
+    apart : (i : ℕ) → IsBranchOf (code_in a).shape (suc j) i → IsBranchOf (code_in a).shape t i → ⊥
+    apart i mine is = other (parent_once (code_in a) (suc j) t i mine is)

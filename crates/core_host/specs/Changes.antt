@@ -27,6 +27,7 @@ pub record Grown (before after : Mail) : Type 0 where
   pub answered : (k : ℕ) → Extends (answered before k) (answered after k)
   pub looked_by_parent : (k : ℕ) → Extends (looked_by_parent before k) (looked_by_parent after k)
   pub looked_by_child : (k : ℕ) → Extends (looked_by_child before k) (looked_by_child after k)
+  pub stops : Extends before.stops after.stops
 
 -- thread k + 1 has answered a job, or a job was sent to a branch of it
 pub data HasWorked (s : PlainShape) (before after : Mail) (k : ℕ) : Type 0 where

@@ -5,7 +5,7 @@ use Rattle.thread_code.specs.declared.instruction.CodeParts.{CodeParts}
 use Rattle.thread_code.specs.Plain.{PlainCode, plain_code}
 use Rattle.core_host.specs.declared.seat.Seat.{Seat}
 use Rattle.core_host.specs.Posts.{Mail}
-use Rattle.core_host.specs.Keeping.{State}
+use Rattle.core_host.specs.Keeping.{State, Quiet}
 use Rattle.core_host.specs.Loads.{is_on}
 
 -- `places`: the core of each thread. `cores`: those of this host. `mail`: what went through its mailboxes. `seats`: each thread, with the job in its hand.
@@ -39,7 +39,8 @@ is_live h = h.live
 abbrev pub is_here : Hosted → ℕ → Bool
 is_here h t = is_on h.places h.cores t
 
--- the host has all threads, and its port tells whose turn it is
+-- the host has all threads, its port tells whose turn it is, and nothing is under way
 pub record IsWhole (h : Hosted) : Type 0 where
   pub tells : h.mail.tells ≡ true
   pub all : (t : ℕ) → t < length (code_of h).threads → is_here h t ≡ true
+  pub quiet : (k : ℕ) → k < length h.mail.ends → Quiet (state_in h) k

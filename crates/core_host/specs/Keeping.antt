@@ -18,7 +18,7 @@ use Rattle.copy_slots.specs.Ports.{sent, taken, answered, parent_at, child_at, P
 use Rattle.core_host.specs.declared.seat.Seat.{Seat}
 use Rattle.core_host.specs.Asking.{ArePaused}
 use Rattle.core_host.specs.Posts.{Mail, IsBranchOf}
-use Rattle.core_host.specs.Changes.{Grown}
+use Rattle.core_host.specs.Changes.{Extends, Grown}
 use Rattle.core_host.specs.Done.{HasDone}
 
 -- `hands`: at k, the packet of mailbox k in its parent's hand
@@ -119,6 +119,7 @@ pub record Alike (a b : Mail) : Type 0 where
   pub tells : b.tells ≡ a.tells
   pub root : b.root ≡ a.root
   pub count : length b.ends ≡ length a.ends
+  pub stops : Extends a.stops b.stops
 
 -- the threads below t, with their branches' packets and mailboxes, and the children's ends of the mailboxes below u
 pub record Leaves (t u : ℕ) (a b : State) : Type 0 where

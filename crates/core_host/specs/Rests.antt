@@ -9,9 +9,10 @@ use Rattle.thread_code.specs.Valid.{of_shape, IsValidCode}
 use Rattle.core_machine.specs.declared.thread.Thread.{Thread}
 use Rattle.core_machine.specs.Held.{IsResting, HasPaused}
 use Rattle.core_host.specs.Done.{HasDone}
-use Rattle.core_host.specs.Keeping.{State, code_in, Sits, Quiet}
+use Rattle.core_host.specs.Posts.{IsBranchOf}
+use Rattle.core_host.specs.Keeping.{State, code_in, Sits, HasPacket}
 use Rattle.core_host.specs.Waiting.{HasChild, IsBetween}
-use Rattle.core_host.specs.Hosted.{Hosted, state_in, code_of, is_here, IsWhole}
+use Rattle.core_host.specs.Hosted.{Hosted, state_in, code_of, is_here}
 
 -- the next tick can begin: no tick was run, or the last one paused
 abbrev pub IsReady : Thread → PacketKind → Type 0
@@ -40,5 +41,6 @@ pub record IsHosted (h : Hosted) : Type 0 where
   -- the child's end of the mailbox of each other thread of its cores is there, and the thread rests, or waits at a fork
   pub here : (k : ℕ) → k < length h.mail.ends → is_here h (suc k) ≡ true → HasChild h.mail k
   pub between : (k : ℕ) → k < length h.mail.ends → HasChild h.mail k → IsBetween (state_in h) k
-  -- where it has all threads, nothing is under way
-  pub whole : IsWhole h → (k : ℕ) → k < length h.mail.ends → Quiet (state_in h) k
+  -- thread 0's port is the root's, and each packet of its branches is its own
+  pub keeper : is_here h 0 ≡ true → h.mail.root ≡ true
+  pub packets : is_here h 0 ≡ true → (k : ℕ) → k < length h.mail.ends → IsBranchOf (code_of h).shape 0 k → HasPacket (state_in h) k

@@ -53,8 +53,8 @@ pub record AllMissed (a b : State) : Type 0 where
   pub answered : (k : ℕ) → answered b.mail k ≡ answered a.mail k
   pub still : (before : Mail) (k : ℕ) → Grown before a.mail → IsIdle (code_in a).shape before a.mail k → IsIdle (code_in a).shape before b.mail k
 
--- What serving some mailboxes keeps: thread 0 and its branches' ends; that each thread rests, or waits at a fork; and where both ends of
--- each mailbox are there, that nothing is under way.
+-- What serving some mailboxes keeps: thread 0, with its branches' ends and their packets in its hand; that each thread rests, or waits at a
+-- fork; and where both ends of each mailbox are there, that nothing is under way.
 pub record KeepsServing (a b : State) : Type 0 where
   pub code : b.code ≡ a.code
   pub places : b.places ≡ a.places
@@ -64,6 +64,7 @@ pub record KeepsServing (a b : State) : Type 0 where
   pub seat_count : length b.seats ≡ length a.seats
   pub hand_count : length b.hands ≡ length a.hands
   pub root : (j : ℕ) → IsBranchOf (code_in a).shape 0 j → parent_at b.mail.ends j ≡ parent_at a.mail.ends j
+  pub hands : (j : ℕ) → IsBranchOf (code_in a).shape 0 j → slice_get b.hands j ≡ slice_get a.hands j
   pub here : (j : ℕ) → HasChild a.mail j → HasChild b.mail j
   pub was_here : (j : ℕ) → HasChild b.mail j → HasChild a.mail j
   pub between : (j : ℕ) → IsBetween a j → IsBetween b j

@@ -64,6 +64,17 @@ pub record HasGathered (s : State) (h : Thread) (pairs : List Answered) (replies
   pub heard : (i number : ℕ) (r : Reply) → slice_get h.branches.numbers i ≡ Some number → slice_get replies i ≡ Some r → HasHeard s number r
   pub told : HasTold s h.number (pairs ++ pair_up (jobs_at (code_in s) h) replies) (drop (length replies) (jobs_at (code_in s) h))
 
+-- the thread is at a fork: beside these pairs, its branches were told their jobs there, and some have replied
+pub record IsGathering (s : State) (h : Thread) (pairs : List Answered) : Type 0 where
+  pub forked : IsForked (code_in s) h
+  pub replies : List Reply
+  pub gathered : HasGathered s h pairs replies
+
+-- all of them have
+pub record HasReplies (s : State) (h : Thread) (pairs : List Answered) : Type 0 where
+  pub gathering : IsGathering s h pairs
+  pub all : length gathering.replies ≡ length h.branches.numbers
+
 -- ---- a job in progress
 
 -- the thread has answered all jobs that it took but the last, which it is at
@@ -87,14 +98,7 @@ pub record IsWorking (s : State) (h : Thread) : Type 0 where
 -- it waits at a fork
 pub record IsWaiting (s : State) (h : Thread) : Type 0 where
   pub work : IsAtWork s h
-  pub forked : IsForked (code_in s) h
-  pub replies : List Reply
-  pub gathered : HasGathered s h (told (code_in s) h.number work.jobs work.job work.log) replies
-
--- all replies are in hand
-pub record HasReplies (s : State) (h : Thread) : Type 0 where
-  pub waiting : IsWaiting s h
-  pub all : length waiting.replies ≡ length h.branches.numbers
+  pub gathering : IsGathering s h (told (code_in s) h.number work.jobs work.job work.log)
 
 -- ---- between calls
 

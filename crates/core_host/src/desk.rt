@@ -238,6 +238,7 @@ impl<'c, P: Port<ForecWork> + Drop> Desk<'c, P> {
         ensures fitted { IsFitted self.new }
         ensures code { self.new.code ≡ self.old.code }
         ensures places { self.new.places ≡ self.old.places }
+        ensures keeper { self.new.mail.root ≡ self.old.mail.root }
         ensures quiet { QuietAbove self.new 0 }
         ensures root { RootRests self.new }
         ensures grown { Grown self.old.mail self.new.mail }

@@ -44,14 +44,14 @@ pub enum Served {
 /// its branches are the jobs that it writes by itself, and the replies to them.
 #[derive(Drop)]
 pub struct Host<'c, P: Port<ForecWork> + Drop> {
-    desk: Desk<'c, P>,
-    cores: Vec<u32>,
+    pub(crate) desk: Desk<'c, P>,
+    pub(crate) cores: Vec<u32>,
     /// The mailboxes of its threads.
-    own: Vec<u32>,
+    pub(crate) own: Vec<u32>,
     /// Where in `own` the next serving starts: behind the mailbox that was served last.
-    next: usize,
-    root: Packet,
-    live: bool,
+    pub(crate) next: usize,
+    pub(crate) root: Packet,
+    pub(crate) live: bool,
     ghost own_are: { AreOwn desk.places cores.items own.items },
     ghost next_within: { next ≤ length own.items },
 }

@@ -10,9 +10,12 @@ mod local;
 mod outcome;
 mod seat;
 mod serve;
+mod tick;
 mod work;
+mod worker;
 
 pub use boxed::Boxed;
 pub use host::{Host, Served};
 pub use local::{blanks, local_port};
 pub use work::{ForecWork, Told};
+pub use worker::{Crew, Serve, Worker};

@@ -29,7 +29,7 @@ pub fn places_of(alloc: Global, placement: &Placement) -> Result<Vec<u32>, OutOf
     Ok(places)
 }
 
-fn is_among(core: u32, cores: &[u32]) -> bool
+pub(crate) fn is_among(core: u32, cores: &[u32]) -> bool
     ensures { result ≡ contains_core core cores.now }
 {
     for other in cores {

@@ -6,14 +6,14 @@ ghost use Rattle.thread_code.specs.Plain.{plain_code};
 ghost use Rattle.thread_code.specs.Valid.{of_shape};
 ghost use Rattle.combine_tree.specs.declared.packet.Packet.{Packet as PlainPacketState};
 ghost use Rattle.combine_tree.specs.Plain.{plain_packet};
-ghost use Rattle.copy_slots.specs.Ports.{taken, turn, after_take, after_answer, in_plain, ChildIs};
+ghost use Rattle.copy_slots.specs.Ports.{taken, turn, after_take, after_answer, after_stop, after_check, in_plain, ChildIs};
 ghost use Rattle.core_machine.specs.Held.{Loaded, CanRun};
 ghost use Rattle.core_machine.specs.Forks.{jobs_at};
 ghost use Rattle.core_host.specs.Asking.{Asks, Replies};
 ghost use Rattle.core_host.specs.Changes.{HasWorked, Awaits, IsIdle};
 ghost use Rattle.core_host.specs.Keeping.{code_in, IsSeated, HasPacket, LacksPacket, AtFork, Quiet};
 ghost use Rattle.core_host.specs.Moving.{Moves, HasGot, HasLooked};
-ghost use Rattle.core_host.specs.Waiting.{HasTold, IsWorking, IsWaiting, HasReplies, IsAtRest, WaitsAt, IsBetween};
+ghost use Rattle.core_host.specs.Waiting.{HasTold, IsGathering, HasReplies, IsWorking, IsAtRest, WaitsAt, IsBetween};
 ghost use Rattle.core_host.specs.Serving.{MovesBranches, Touches, OnlyLooks, HasMissed, AllMissed, KeepsServing};
 
 use crate::boxed::Boxed;
@@ -65,8 +65,23 @@ impl<'c, P: Port<ForecWork> + Drop> Desk<'c, P> {
         self.port.answer(mailbox, packet);
     }
 
+    /// Stores the stop word.
+    pub(crate) fn stop(&mut self)
+        requires { self.old.mail.root ≡ true }
+        ensures { self.new ≡ record self.old { mail = after_stop self.old.mail } }
+    {
+        self.port.stop();
+    }
+
+    /// Loads the stop word: whether it was stored.
+    pub(crate) fn stopped(&mut self) -> bool
+        ensures { self.new ≡ record self.old { mail = after_check result self.old.mail } }
+    {
+        self.port.stopped()
+    }
+
     /// Tells the branches of the thread's fork their jobs.
-    fn tell(&mut self, thread: &Thread)
+    pub(crate) fn tell(&mut self, thread: &Thread)
         requires seated { IsSeated self.old }
         requires fork { AtFork self.old thread.now }
         requires told { (pairs : List Answered) × HasTold self.old thread.now.number pairs [] }
@@ -97,12 +112,12 @@ impl<'c, P: Port<ForecWork> + Drop> Desk<'c, P> {
     }
 
     /// Looks for the replies of the branches of the thread's fork, in their order. Whether all are in hand.
-    fn gather(&mut self, thread: &Thread) -> bool
+    pub(crate) fn gather(&mut self, thread: &Thread) -> bool
         requires seated { IsSeated self.old }
-        requires waiting { IsWaiting self.old thread.now }
+        requires gathering { (pairs : List Answered) × IsGathering self.old thread.now pairs }
         ensures moves { MovesBranches thread.now.number self.old self.new }
-        ensures waiting { result ≡ false → IsWaiting self.new thread.now }
-        ensures all { result ≡ true → HasReplies self.new thread.now }
+        ensures gathering { result ≡ false → (pairs : List Answered) → IsGathering self.old thread.now pairs → IsGathering self.new thread.now pairs }
+        ensures all { result ≡ true → (pairs : List Answered) → IsGathering self.old thread.now pairs → HasReplies self.new thread.now pairs }
         ensures missing { result ≡ false → (k : ℕ) → thread.now.number ≡ suc k → Awaits (code_in self.old).shape self.old.mail self.new.mail k }
     {
         let mut k = 0;

@@ -11,7 +11,7 @@ use Rattle.combine_tree.specs.declared.packet.Packet.{Packet}
 use Rattle.combine_tree.specs.Plain.{plain_packet}
 use Rattle.core_machine.specs.Forks.{jobs_at}
 use Rattle.core_host.specs.Keeping.{State, code_in, QuietAbove, Leaves, HaveHeard}
-use Rattle.core_host.proofs.Keep.{leaves_same, leaves_then}
+use Rattle.core_host.proofs.Keep.{leaves_same, leaves_then, fitted_keeps}
 use Rattle.core_host.proofs.Hearing.{past_end}
 use Rattle.core_host.proofs.Consults.{consulted_none, some_number, fitted_b, above_m, inside_m, can_send, some_packet, is_called, sent_above, consulted_more, have_heard}
 use Rattle.core_host.proofs.Finishing.{fits_forks, replied_by, job_runs, allowance_is, at_fork, some_at, bound, next}
@@ -166,16 +166,17 @@ finish-loop-self-init g t c =
       done = λ jobs job i. i;
     }
 
-pub finish-consult-requires-clause-fork : goal.finish-consult-requires-clause-fork
-finish-consult-requires-clause-fork g t c κs within =
+pub finish-consult-requires : goal.finish-consult-requires
+finish-consult-requires g t c κs within =
     let code : c.self.inside.code.now ≡ c.loop-self.self.code = ap (λ (s : State). s.code) c.self.view_is in
-    at_fork c.args.self.now c.loop-self.self c.requires.fitted c.args.thread.now c.loop-self.thread c.run.new.self c.loop-self.invariant.number c.loop-self.invariant.leaves (subst (λ (x : CodeParts). Loaded (plain_code x) c.run.new.self) code c.run.ensures.loaded) c.run.ensures.number
+    let fork = at_fork c.args.self.now c.loop-self.self c.requires.fitted c.args.thread.now c.loop-self.thread c.run.new.self c.loop-self.invariant.number c.loop-self.invariant.leaves (subst (λ (x : CodeParts). Loaded (plain_code x) c.run.new.self) code c.run.ensures.loaded) c.run.ensures.number
     (λ xs st. subst (λ (x : CodeParts). StandsFor (plain_code x) c.run.new.self xs) code (c.run.ensures.stands xs (subst (λ (x : CodeParts). StandsFor (plain_code x) c.loop-self.thread xs) (sym code) st)))
-    (subst (λ e. Left_by c.run.new.self e) c.in-Fork.is c.run.ensures.left) (subst (λ (x : CodeParts). c.run.new.self.branches.numbers ≡ map (λ w. w.branch) (jobs_at (plain_code x) c.run.new.self)) code (c.run.ensures.branches c.in-Fork.is)) c.loop-self.invariant.jobs c.loop-self.invariant.job c.loop-self.forks (c.loop-self.invariant.in_job, c.loop-self.invariant.count)
-
-pub finish-consult-requires-clause-above : goal.finish-consult-requires-clause-above
-finish-consult-requires-clause-above g t c κs within =
-    subst (QuietAbove c.loop-self.self) (sym (c.run.ensures.number ∙ c.loop-self.invariant.number)) c.loop-self.invariant.above
+    (subst (λ e. Left_by c.run.new.self e) c.in-Fork.is c.run.ensures.left) (subst (λ (x : CodeParts). c.run.new.self.branches.numbers ≡ map (λ w. w.branch) (jobs_at (plain_code x) c.run.new.self)) code (c.run.ensures.branches c.in-Fork.is)) c.loop-self.invariant.jobs c.loop-self.invariant.job c.loop-self.forks (c.loop-self.invariant.in_job, c.loop-self.invariant.count) in
+    let above = subst (QuietAbove c.loop-self.self) (sym (c.run.ensures.number ∙ c.loop-self.invariant.number)) c.loop-self.invariant.above in
+    let fitted = fitted_keeps c.args.thread.now.number c.args.thread.now.number c.args.self.now c.loop-self.self c.loop-self.invariant.leaves c.requires.fitted in
+    let number = c.run.ensures.number ∙ c.loop-self.invariant.number in
+    let smaller : 3 * (257 - c.run.new.self.number) + 1 < 3 * (257 - c.args.thread.now.number) + 2 = omega (arith, number) in
+    (search rules, (within.0, (within.1, (fitted, (fork, above)))))
 
 pub finish-settle-requires-clause-few : goal.finish-settle-requires-clause-few
 finish-settle-requires-clause-few g t c =
@@ -280,7 +281,7 @@ consult-employ-requires g t c κs within =
     let count = c.send.ensures.moves.alike.count in
     let inside : c.in-Some.branch - 1 < length c.send.new.self.mail.ends = omega (arith, lt, count) in
     let called = is_called c.args.self.now c.loop-branch.self c.args.thread.now c.loop-branch.k c.in-Some.branch c.requires.fitted c.requires.fork c.loop-branch.invariant (sym c.active.ensures ∙ c.in-Some.is) c.send.new.self c.send.ensures.moves c.send.ensures.lacks c.send.ensures.sent in
-    (search rules, (within.0, (within.1, (search rules, (inside, (search rules, (called, above)))))))
+    (search rules, (within.0, (within.1, (inside, (search rules, (called, above))))))
 
 pub employ-finish-requires : goal.employ-finish-requires
 employ-finish-requires g t c κs within =
@@ -301,4 +302,4 @@ employ-finish-requires g t c κs within =
     c.self.inside.seats.items c.self.inside.hands.items c.self.view_is c.in-Some.packet c.in-Some.ensures.state c.in-Some.ensures.job c.index_mut.result.now c.index_mut.ensures.value c.take-2.result c.take-2.ensures.value
     c.deref_mut-thread.result.now (c.in-Some-take.is ∙ ap Some (sym c.deref_mut-thread.ensures.value))
     (record { thread = c.take-2.new.self; job = c.index_mut.result.now.job }) c.begin.new.self c.begin.ensures.number (λ xs job is. c.begin.ensures.stands xs job (subst (λ (p : Packet). IsJob (plain_packet p) job) (sym c.deref.ensures) is)) c.requires.above in
-    (search rules, (within.0, (within.1, (search rules, (fitted, (c.begin.ensures.loaded, (c.begin.ensures.running, (begun, above))))))))
+    (search rules, (within.0, (within.1, (fitted, (c.begin.ensures.loaded, (c.begin.ensures.running, (begun, above)))))))

@@ -59,15 +59,15 @@ pub begin-requires-clause-small : goal.begin-requires-clause-small
 begin-requires-clause-small g c = subst (λ (p : Packet). p.allowance ≤ 2 ^ 62) (sym c.deref.ensures) (its_allowance c.args.self.now c.args.mailbox c.requires.inside c.requires.seated c.requires.rests c.in-Some.packet (its_asks c.args.self.now c.args.mailbox c.requires.inside c.requires.seated c.requires.rests c.in-Some.packet c.take.new.self c.in-Some.ensures.state c.in-Some.ensures.job))
 
 pub advance-requires-clause-inside : goal.advance-requires-clause-inside
-advance-requires-clause-inside g c κs within =
+advance-requires-clause-inside g c =
     let count = (begun_touches c.args.self.now c.args.mailbox c.requires.inside c.requires.seated c.requires.rests c.in-Some.packet (its_asks c.args.self.now c.args.mailbox c.requires.inside c.requires.seated c.requires.rests c.in-Some.packet c.take.new.self c.in-Some.ensures.state c.in-Some.ensures.job)).alike.count in
     subst (λ (s : State). c.args.mailbox < length s.mail.ends) (sym (begun_is c.args.self.now c.args.mailbox c.requires.inside c.requires.seated c.requires.rests c.in-Some.packet c.take.new.self c.in-Some.ensures.state c.in-Some.ensures.job c.rise-thread.result c.rise-thread.ensures.seat c.rise-thread.new.self c.rise-thread.ensures.rest)) (subst (λ n. c.args.mailbox < n) (sym count) c.requires.inside)
 
 pub advance-requires-clause-seated : goal.advance-requires-clause-seated
-advance-requires-clause-seated g c κs within = subst IsSeated (sym (begun_is c.args.self.now c.args.mailbox c.requires.inside c.requires.seated c.requires.rests c.in-Some.packet c.take.new.self c.in-Some.ensures.state c.in-Some.ensures.job c.rise-thread.result c.rise-thread.ensures.seat c.rise-thread.new.self c.rise-thread.ensures.rest)) (begun_seated c.args.self.now c.args.mailbox c.requires.inside c.requires.seated c.requires.rests c.in-Some.packet (its_asks c.args.self.now c.args.mailbox c.requires.inside c.requires.seated c.requires.rests c.in-Some.packet c.take.new.self c.in-Some.ensures.state c.in-Some.ensures.job))
+advance-requires-clause-seated g c = subst IsSeated (sym (begun_is c.args.self.now c.args.mailbox c.requires.inside c.requires.seated c.requires.rests c.in-Some.packet c.take.new.self c.in-Some.ensures.state c.in-Some.ensures.job c.rise-thread.result c.rise-thread.ensures.seat c.rise-thread.new.self c.rise-thread.ensures.rest)) (begun_seated c.args.self.now c.args.mailbox c.requires.inside c.requires.seated c.requires.rests c.in-Some.packet (its_asks c.args.self.now c.args.mailbox c.requires.inside c.requires.seated c.requires.rests c.in-Some.packet c.take.new.self c.in-Some.ensures.state c.in-Some.ensures.job))
 
 pub advance-requires-clause-working : goal.advance-requires-clause-working
-advance-requires-clause-working g c κs within =
+advance-requires-clause-working g c =
     let same = same_thread c.args.self.now c.args.mailbox c.requires.inside c.requires.seated c.requires.rests c.in-Some.packet c.take.new.self c.in-Some.ensures.state c.in-Some.ensures.job c.rise-thread.result c.rise-thread.ensures.seat c.rise-thread.new.self c.rise-thread.ensures.rest c.deref_mut-thread.result.now (c.in-Some-thread.is ∙ ap Some (sym c.deref_mut-thread.ensures.value)) in
     let rise : c.rise-thread.new.self.code ≡ c.args.self.now.code = same_code c.args.self.now c.args.mailbox c.requires.inside c.requires.seated c.requires.rests c.in-Some.packet c.take.new.self c.in-Some.ensures.state c.in-Some.ensures.job c.rise-thread.result c.rise-thread.ensures.seat c.rise-thread.new.self c.rise-thread.ensures.rest in
     let code : c.self-2.inside.code.now ≡ c.args.self.now.code = ap (λ (s : State). s.code) c.self-2.view_is ∙ rise in
@@ -79,7 +79,7 @@ advance-requires-clause-working g c κs within =
     subst (λ (s : State). IsWorking s c.begin.new.self) (sym now) working
 
 pub advance-requires-clause-room : goal.advance-requires-clause-room
-advance-requires-clause-room g c κs within =
+advance-requires-clause-room g c =
     let rise = same_code c.args.self.now c.args.mailbox c.requires.inside c.requires.seated c.requires.rests c.in-Some.packet c.take.new.self c.in-Some.ensures.state c.in-Some.ensures.job c.rise-thread.result c.rise-thread.ensures.seat c.rise-thread.new.self c.rise-thread.ensures.rest in
     subst (λ (x : CodeParts). HasRoom (of_shape (plain_code x).shape) (suc c.args.mailbox) (plain_packet c.in-Some.packet)) (sym rise) (its_room c.args.self.now c.args.mailbox c.requires.inside c.requires.seated c.requires.rests c.in-Some.packet (its_asks c.args.self.now c.args.mailbox c.requires.inside c.requires.seated c.requires.rests c.in-Some.packet c.take.new.self c.in-Some.ensures.state c.in-Some.ensures.job))
 

@@ -5,23 +5,27 @@ use Rattle.core_host.proofs.Gathers.{got_none, some_number, seated_b, inside_m, 
 use Rattle.core_host.proofs.desk.Desk.gather.Goals as goal
 
 pub loop-branch-init : goal.loop-branch-init
-loop-branch-init g c = got_none c.args.self.now c.args.thread.now c.requires.waiting
+loop-branch-init g c = got_none c.args.self.now c.args.thread.now
 
 pub overflow_sub-branch : goal.overflow_sub-branch
 overflow_sub-branch g c =
-    some_number c.args.self.now c.loop-branch.self c.args.thread.now c.loop-branch.k c.in-Some.branch c.requires.seated c.loop-branch.invariant (sym c.active.ensures ∙ c.in-Some.is)
+    let it = c.requires.gathering in
+    some_number c.args.self.now c.loop-branch.self c.args.thread.now c.loop-branch.k c.in-Some.branch c.requires.seated c.loop-branch.invariant.moves (sym c.active.ensures ∙ c.in-Some.is) it.0 (c.loop-branch.invariant.some it.0 it.1)
 
 pub hears-requires-clause-inside : goal.hears-requires-clause-inside
 hears-requires-clause-inside g c =
-    inside_m c.args.self.now c.loop-branch.self c.args.thread.now c.loop-branch.k c.in-Some.branch c.requires.seated c.loop-branch.invariant (sym c.active.ensures ∙ c.in-Some.is)
+    let it = c.requires.gathering in
+    inside_m c.args.self.now c.loop-branch.self c.args.thread.now c.loop-branch.k c.in-Some.branch c.requires.seated c.loop-branch.invariant.moves (sym c.active.ensures ∙ c.in-Some.is) it.0 (c.loop-branch.invariant.some it.0 it.1)
 
 pub hears-requires-clause-seated : goal.hears-requires-clause-seated
 hears-requires-clause-seated g c =
-    seated_b c.args.self.now c.loop-branch.self c.args.thread.now c.loop-branch.k c.in-Some.branch c.requires.seated c.loop-branch.invariant (sym c.active.ensures ∙ c.in-Some.is)
+    let it = c.requires.gathering in
+    seated_b c.args.self.now c.loop-branch.self c.args.thread.now c.loop-branch.k c.in-Some.branch c.requires.seated c.loop-branch.invariant.moves (sym c.active.ensures ∙ c.in-Some.is) it.0 (c.loop-branch.invariant.some it.0 it.1)
 
 pub hears-requires-clause-lacks : goal.hears-requires-clause-lacks
 hears-requires-clause-lacks g c =
-    lacks_m c.args.self.now c.loop-branch.self c.args.thread.now c.loop-branch.k c.in-Some.branch c.requires.seated c.loop-branch.invariant (sym c.active.ensures ∙ c.in-Some.is)
+    let it = c.requires.gathering in
+    lacks_m c.args.self.now c.loop-branch.self c.args.thread.now c.loop-branch.k c.in-Some.branch c.requires.seated c.loop-branch.invariant.moves (sym c.active.ensures ∙ c.in-Some.is) it.0 (c.loop-branch.invariant.some it.0 it.1)
 
 pub loop-branch-smaller : goal.loop-branch-smaller
 loop-branch-smaller g c =
@@ -29,25 +33,27 @@ loop-branch-smaller g c =
 
 pub loop-branch-preserved : goal.loop-branch-preserved
 loop-branch-preserved g c =
-    got_more c.args.self.now c.loop-branch.self c.args.thread.now c.loop-branch.k c.in-Some.branch c.requires.seated c.loop-branch.invariant (sym c.active.ensures ∙ c.in-Some.is)
-    c.hears.new.self c.hears.ensures.moves (λ p at. (c.hears.ensures.before p at).1) (c.hears.ensures.there c.if-not-hears.false)
+    got_more c.args.self.now c.loop-branch.self c.hears.new.self c.args.thread.now c.loop-branch.k c.in-Some.branch c.requires.seated c.loop-branch.invariant (sym c.active.ensures ∙ c.in-Some.is) c.requires.gathering
+    c.hears.ensures.moves (λ p at. (c.hears.ensures.before p at).1) (c.hears.ensures.there c.if-not-hears.false)
 
 not_both : (b : Bool) → b ≡ true → b ≡ false → ⊥
 not_both b e f = let h = sym e ∙ f in cc
 
 pub returns-then-not-hears-clause-moves : goal.returns-then-not-hears-clause-moves
 returns-then-not-hears-clause-moves g c =
-    missed_moves c.args.self.now c.loop-branch.self c.args.thread.now c.loop-branch.k c.in-Some.branch c.requires.seated c.loop-branch.invariant (sym c.active.ensures ∙ c.in-Some.is)
+    let it = c.requires.gathering in
+    missed_moves c.args.self.now c.loop-branch.self c.args.thread.now c.loop-branch.k c.in-Some.branch c.requires.seated c.loop-branch.invariant.moves (sym c.active.ensures ∙ c.in-Some.is) it.0 (c.loop-branch.invariant.some it.0 it.1)
     c.hears.new.self c.hears.ensures.moves (λ p at. not_both c.hears.result (c.hears.ensures.before p at).0 c.if-not-hears.true) (c.hears.ensures.awaited c.if-not-hears.true)
 
-pub returns-then-not-hears-clause-waiting : goal.returns-then-not-hears-clause-waiting
-returns-then-not-hears-clause-waiting g c _ =
-    missed_waits c.args.self.now c.loop-branch.self c.args.thread.now c.loop-branch.k c.in-Some.branch c.requires.seated c.loop-branch.invariant (sym c.active.ensures ∙ c.in-Some.is)
+pub returns-then-not-hears-clause-gathering : goal.returns-then-not-hears-clause-gathering
+returns-then-not-hears-clause-gathering g c _ pairs w =
+    missed_waits c.args.self.now c.loop-branch.self c.args.thread.now c.loop-branch.k c.in-Some.branch c.requires.seated c.loop-branch.invariant.moves (sym c.active.ensures ∙ c.in-Some.is) pairs (c.loop-branch.invariant.some pairs w)
     c.hears.new.self c.hears.ensures.moves (λ p at. not_both c.hears.result (c.hears.ensures.before p at).0 c.if-not-hears.true) (c.hears.ensures.awaited c.if-not-hears.true)
 
 pub returns-then-not-hears-clause-missing : goal.returns-then-not-hears-clause-missing
 returns-then-not-hears-clause-missing g c _ =
-    missed_awaits c.args.self.now c.loop-branch.self c.args.thread.now c.loop-branch.k c.in-Some.branch c.requires.seated c.loop-branch.invariant (sym c.active.ensures ∙ c.in-Some.is)
+    let it = c.requires.gathering in
+    missed_awaits c.args.self.now c.loop-branch.self c.args.thread.now c.loop-branch.k c.in-Some.branch c.requires.seated c.loop-branch.invariant.moves (sym c.active.ensures ∙ c.in-Some.is) it.0 (c.loop-branch.invariant.some it.0 it.1)
     c.hears.new.self c.hears.ensures.moves (λ p at. not_both c.hears.result (c.hears.ensures.before p at).0 c.if-not-hears.true) (c.hears.ensures.awaited c.if-not-hears.true)
 
 pub returns-clause-all : goal.returns-clause-all

@@ -2,37 +2,64 @@ use Rattle.std.proofs.Common.{Some, ap, sym, subst, ◌∙◌}
 use Rattle.thread_code.specs.declared.instruction.CodeParts.{CodeParts}
 use Rattle.thread_code.specs.Plain.{plain_code}
 use Rattle.core_host.specs.Changes.{HasWorked}
+use Rattle.core_host.specs.Writing.{told}
 use Rattle.core_host.specs.Keeping.{code_in, HaveHeard}
 use Rattle.core_host.proofs.Beginning.{touches_then, touches_seated, worked_from}
 use Rattle.core_host.proofs.Gathers.{all_heard}
-use Rattle.core_host.proofs.Resuming.{up_waits, same_answered, up_touches, up_room, down_between, down_touches, down_missed, goes_on}
+use Rattle.core_host.proofs.Resuming.{waits_on, waits_all, up_waits, same_answered, up_touches, up_room, down_between, down_touches, down_missed, goes_on}
 use Rattle.core_host.proofs.desk.Desk.resume.Goals as goal
 
-pub gather-requires-clause-waiting : goal.gather-requires-clause-waiting
-gather-requires-clause-waiting g c = up_waits c.args.self.now c.args.mailbox c.requires.inside c.requires.seated c.requires.waits c.rise-thread.result c.rise-thread.ensures.seat c.rise-thread.new.self c.rise-thread.ensures.rest c.deref_mut-thread.result.now (c.in-Some.is ∙ ap Some (sym c.deref_mut-thread.ensures.value)) c.in-Some-job.packet c.in-Some-job.is
+pub gather-requires-clause-gathering : goal.gather-requires-clause-gathering
+gather-requires-clause-gathering g c =
+    let w = up_waits c.args.self.now c.args.mailbox c.requires.inside c.requires.seated c.requires.waits c.rise-thread.result c.rise-thread.ensures.seat c.rise-thread.new.self c.rise-thread.ensures.rest c.deref_mut-thread.result.now (c.in-Some.is ∙ ap Some (sym c.deref_mut-thread.ensures.value)) c.in-Some-job.packet c.in-Some-job.is in
+    (told (code_in c.rise-thread.new.self) c.deref_mut-thread.result.now.number w.work.jobs w.work.job w.work.log, w.gathering)
 
 pub returns-then-not-gather-clause-touches : goal.returns-then-not-gather-clause-touches
-returns-then-not-gather-clause-touches g c = down_touches c.args.self.now c.args.mailbox c.requires.inside c.requires.seated c.requires.waits c.rise-thread.result c.rise-thread.ensures.seat c.rise-thread.new.self c.rise-thread.ensures.rest c.deref_mut-thread.result.now (c.in-Some.is ∙ ap Some (sym c.deref_mut-thread.ensures.value)) c.in-Some-job.packet c.in-Some-job.is c.gather.new.self c.gather.ensures.moves (c.gather.ensures.waiting c.if-not-gather.true) c.sit.new.self c.sit.ensures
+returns-then-not-gather-clause-touches g c =
+    let w = up_waits c.args.self.now c.args.mailbox c.requires.inside c.requires.seated c.requires.waits c.rise-thread.result c.rise-thread.ensures.seat c.rise-thread.new.self c.rise-thread.ensures.rest c.deref_mut-thread.result.now (c.in-Some.is ∙ ap Some (sym c.deref_mut-thread.ensures.value)) c.in-Some-job.packet c.in-Some-job.is in
+    let waiting = waits_on c.rise-thread.new.self c.gather.new.self c.deref_mut-thread.result.now c.gather.ensures.moves w
+    (c.gather.ensures.gathering c.if-not-gather.true (told (code_in c.rise-thread.new.self) c.deref_mut-thread.result.now.number w.work.jobs w.work.job w.work.log) w.gathering) in
+    down_touches c.args.self.now c.args.mailbox c.requires.inside c.requires.seated c.requires.waits c.rise-thread.result c.rise-thread.ensures.seat c.rise-thread.new.self c.rise-thread.ensures.rest c.deref_mut-thread.result.now (c.in-Some.is ∙ ap Some (sym c.deref_mut-thread.ensures.value)) c.in-Some-job.packet c.in-Some-job.is c.gather.new.self c.gather.ensures.moves waiting c.sit.new.self c.sit.ensures
 
 pub returns-then-not-gather-clause-between : goal.returns-then-not-gather-clause-between
-returns-then-not-gather-clause-between g c = down_between c.args.self.now c.args.mailbox c.requires.inside c.requires.seated c.requires.waits c.rise-thread.result c.rise-thread.ensures.seat c.rise-thread.new.self c.rise-thread.ensures.rest c.deref_mut-thread.result.now (c.in-Some.is ∙ ap Some (sym c.deref_mut-thread.ensures.value)) c.in-Some-job.packet c.in-Some-job.is c.gather.new.self c.gather.ensures.moves (c.gather.ensures.waiting c.if-not-gather.true) c.sit.new.self c.sit.ensures
+returns-then-not-gather-clause-between g c =
+    let w = up_waits c.args.self.now c.args.mailbox c.requires.inside c.requires.seated c.requires.waits c.rise-thread.result c.rise-thread.ensures.seat c.rise-thread.new.self c.rise-thread.ensures.rest c.deref_mut-thread.result.now (c.in-Some.is ∙ ap Some (sym c.deref_mut-thread.ensures.value)) c.in-Some-job.packet c.in-Some-job.is in
+    let waiting = waits_on c.rise-thread.new.self c.gather.new.self c.deref_mut-thread.result.now c.gather.ensures.moves w
+    (c.gather.ensures.gathering c.if-not-gather.true (told (code_in c.rise-thread.new.self) c.deref_mut-thread.result.now.number w.work.jobs w.work.job w.work.log) w.gathering) in
+    down_between c.args.self.now c.args.mailbox c.requires.inside c.requires.seated c.requires.waits c.rise-thread.result c.rise-thread.ensures.seat c.rise-thread.new.self c.rise-thread.ensures.rest c.deref_mut-thread.result.now (c.in-Some.is ∙ ap Some (sym c.deref_mut-thread.ensures.value)) c.in-Some-job.packet c.in-Some-job.is c.gather.new.self c.gather.ensures.moves waiting c.sit.new.self c.sit.ensures
 
 pub returns-then-not-gather-clause-nothing : goal.returns-then-not-gather-clause-nothing
-returns-then-not-gather-clause-nothing g c _ = down_missed c.args.self.now c.args.mailbox c.requires.inside c.requires.seated c.requires.waits c.rise-thread.result c.rise-thread.ensures.seat c.rise-thread.new.self c.rise-thread.ensures.rest c.deref_mut-thread.result.now (c.in-Some.is ∙ ap Some (sym c.deref_mut-thread.ensures.value)) c.in-Some-job.packet c.in-Some-job.is c.gather.new.self c.gather.ensures.moves (c.gather.ensures.waiting c.if-not-gather.true) c.sit.new.self c.sit.ensures (c.gather.ensures.missing c.if-not-gather.true)
+returns-then-not-gather-clause-nothing g c _ =
+    let w = up_waits c.args.self.now c.args.mailbox c.requires.inside c.requires.seated c.requires.waits c.rise-thread.result c.rise-thread.ensures.seat c.rise-thread.new.self c.rise-thread.ensures.rest c.deref_mut-thread.result.now (c.in-Some.is ∙ ap Some (sym c.deref_mut-thread.ensures.value)) c.in-Some-job.packet c.in-Some-job.is in
+    let waiting = waits_on c.rise-thread.new.self c.gather.new.self c.deref_mut-thread.result.now c.gather.ensures.moves w
+    (c.gather.ensures.gathering c.if-not-gather.true (told (code_in c.rise-thread.new.self) c.deref_mut-thread.result.now.number w.work.jobs w.work.job w.work.log) w.gathering) in
+    down_missed c.args.self.now c.args.mailbox c.requires.inside c.requires.seated c.requires.waits c.rise-thread.result c.rise-thread.ensures.seat c.rise-thread.new.self c.rise-thread.ensures.rest c.deref_mut-thread.result.now (c.in-Some.is ∙ ap Some (sym c.deref_mut-thread.ensures.value)) c.in-Some-job.packet c.in-Some-job.is c.gather.new.self c.gather.ensures.moves waiting c.sit.new.self c.sit.ensures (c.gather.ensures.missing c.if-not-gather.true)
+
+pub settle-requires-clause-heard : goal.settle-requires-clause-heard
+settle-requires-clause-heard g c =
+    let w = up_waits c.args.self.now c.args.mailbox c.requires.inside c.requires.seated c.requires.waits c.rise-thread.result c.rise-thread.ensures.seat c.rise-thread.new.self c.rise-thread.ensures.rest c.deref_mut-thread.result.now (c.in-Some.is ∙ ap Some (sym c.deref_mut-thread.ensures.value)) c.in-Some-job.packet c.in-Some-job.is in
+    let pairs = told (code_in c.rise-thread.new.self) c.deref_mut-thread.result.now.number w.work.jobs w.work.job w.work.log in
+    let replies = c.gather.ensures.all c.if-not-gather.false pairs w.gathering in
+    (replies.gathering.replies, all_heard c.gather.new.self c.deref_mut-thread.result.now pairs replies)
 
 pub join-requires-clause-heard : goal.join-requires-clause-heard
 join-requires-clause-heard g c =
-    let replies = c.gather.ensures.all c.if-not-gather.false in
-    (replies.waiting.replies, subst (λ l. HaveHeard c.gather.new.self l replies.waiting.replies) (sym c.settle.ensures.branches) (all_heard c.gather.new.self c.deref_mut-thread.result.now replies))
+    let w = up_waits c.args.self.now c.args.mailbox c.requires.inside c.requires.seated c.requires.waits c.rise-thread.result c.rise-thread.ensures.seat c.rise-thread.new.self c.rise-thread.ensures.rest c.deref_mut-thread.result.now (c.in-Some.is ∙ ap Some (sym c.deref_mut-thread.ensures.value)) c.in-Some-job.packet c.in-Some-job.is in
+    let pairs = told (code_in c.rise-thread.new.self) c.deref_mut-thread.result.now.number w.work.jobs w.work.job w.work.log in
+    let replies = c.gather.ensures.all c.if-not-gather.false pairs w.gathering in
+    (replies.gathering.replies, subst (λ l. HaveHeard c.gather.new.self l replies.gathering.replies) (sym c.settle.ensures.branches) (all_heard c.gather.new.self c.deref_mut-thread.result.now pairs replies))
 
 pub advance-requires-clause-working : goal.advance-requires-clause-working
-advance-requires-clause-working g c κs within =
+advance-requires-clause-working g c =
+    let w = up_waits c.args.self.now c.args.mailbox c.requires.inside c.requires.seated c.requires.waits c.rise-thread.result c.rise-thread.ensures.seat c.rise-thread.new.self c.rise-thread.ensures.rest c.deref_mut-thread.result.now (c.in-Some.is ∙ ap Some (sym c.deref_mut-thread.ensures.value)) c.in-Some-job.packet c.in-Some-job.is in
+    let pairs = told (code_in c.rise-thread.new.self) c.deref_mut-thread.result.now.number w.work.jobs w.work.job w.work.log in
+    let replies = c.gather.ensures.all c.if-not-gather.false pairs w.gathering in
     let first = up_touches c.args.self.now c.args.mailbox c.requires.inside c.requires.seated c.requires.waits c.rise-thread.result c.rise-thread.ensures.seat c.rise-thread.new.self c.rise-thread.ensures.rest c.deref_mut-thread.result.now (c.in-Some.is ∙ ap Some (sym c.deref_mut-thread.ensures.value)) c.in-Some-job.packet c.in-Some-job.is c.gather.new.self c.gather.ensures.moves in
-    goes_on c.gather.new.self (touches_seated c.args.mailbox c.args.self.now c.gather.new.self first c.requires.seated) c.deref_mut-thread.result.now (c.gather.ensures.all c.if-not-gather.false) c.settle.new.thread c.join.new.thread c.join.ensures.loaded c.settle.ensures.number c.join.ensures.number c.settle.ensures.branches
+    goes_on c.gather.new.self (touches_seated c.args.mailbox c.args.self.now c.gather.new.self first c.requires.seated) c.deref_mut-thread.result.now (waits_all c.rise-thread.new.self c.gather.new.self c.deref_mut-thread.result.now c.gather.ensures.moves w replies) c.settle.new.thread c.join.new.thread c.join.ensures.loaded c.settle.ensures.number c.join.ensures.number c.settle.ensures.branches
     c.settle.ensures.stands c.join.ensures.stands
 
 pub advance-requires-clause-room : goal.advance-requires-clause-room
-advance-requires-clause-room g c κs within = up_room c.args.self.now c.args.mailbox c.requires.inside c.requires.seated c.requires.waits c.rise-thread.result c.rise-thread.ensures.seat c.rise-thread.new.self c.rise-thread.ensures.rest c.deref_mut-thread.result.now (c.in-Some.is ∙ ap Some (sym c.deref_mut-thread.ensures.value)) c.in-Some-job.packet c.in-Some-job.is c.gather.new.self c.gather.ensures.moves
+advance-requires-clause-room g c = up_room c.args.self.now c.args.mailbox c.requires.inside c.requires.seated c.requires.waits c.rise-thread.result c.rise-thread.ensures.seat c.rise-thread.new.self c.rise-thread.ensures.rest c.deref_mut-thread.result.now (c.in-Some.is ∙ ap Some (sym c.deref_mut-thread.ensures.value)) c.in-Some-job.packet c.in-Some-job.is c.gather.new.self c.gather.ensures.moves
 
 pub returns-clause-touches : goal.returns-clause-touches
 returns-clause-touches g c = touches_then c.args.mailbox c.args.self.now c.gather.new.self c.advance.new.self (up_touches c.args.self.now c.args.mailbox c.requires.inside c.requires.seated c.requires.waits c.rise-thread.result c.rise-thread.ensures.seat c.rise-thread.new.self c.rise-thread.ensures.rest c.deref_mut-thread.result.now (c.in-Some.is ∙ ap Some (sym c.deref_mut-thread.ensures.value)) c.in-Some-job.packet c.in-Some-job.is c.gather.new.self c.gather.ensures.moves) c.advance.ensures.touches

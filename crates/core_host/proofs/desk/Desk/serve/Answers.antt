@@ -5,11 +5,11 @@ use Rattle.core_host.proofs.Serves.{it_waits, it_rests, quiet_turn, quiet_waits,
 use Rattle.core_host.proofs.desk.Desk.serve.Goals as goal
 
 pub resume-requires-clause-waits : goal.resume-requires-clause-waits
-resume-requires-clause-waits g c κs within =
+resume-requires-clause-waits g c =
     it_waits c.args.self.now c.args.mailbox c.index.result.now (c.index.ensures ∙ ap (λ (s : State). slice_index_or s.seats (c.args.mailbox + 1) c.index.result.now) c.self.view_is) c.requires.between (sym c.is_some.ensures ∙ c.if-is_some.true)
 
 pub begin-requires-clause-rests : goal.begin-requires-clause-rests
-begin-requires-clause-rests g c κs within =
+begin-requires-clause-rests g c =
     it_rests c.args.self.now c.args.mailbox c.index.result.now (c.index.ensures ∙ ap (λ (s : State). slice_index_or s.seats (c.args.mailbox + 1) c.index.result.now) c.self.view_is) c.requires.between (sym c.is_some.ensures ∙ c.if-is_some.false)
 
 pub returns-then-is_some-clause-quiet : goal.returns-then-is_some-clause-quiet

@@ -20,7 +20,7 @@ serve-requires-clause-inside g c =
     let count = c.loop-i.invariant.keeps.alike.count in omega (arith, inside, count)
 
 pub serve-requires-clause-between : goal.serve-requires-clause-between
-serve-requires-clause-between g c κs within =
+serve-requires-clause-between g c =
     let lt : c.loop-i.i < length c.args.mailboxes.now = search rules in
     let k = slice_index_or c.args.mailboxes.now c.loop-i.i 0 in
     c.loop-i.invariant.keeps.between k (c.requires.each c.loop-i.i k (slice_get-get_or c.args.mailboxes.now c.loop-i.i 0 lt)).1

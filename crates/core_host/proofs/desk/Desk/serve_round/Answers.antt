@@ -10,14 +10,14 @@ use Rattle.core_host.proofs.Serves.{keeps_then, keeps_seated, idle_from, got_beh
 use Rattle.core_host.proofs.desk.Desk.serve_round.Goals as goal
 
 pub serve_first-requires-clause-each : goal.serve_first-requires-clause-each
-serve_first-requires-clause-each g c κs within i k at =
+serve_first-requires-clause-each g c i k at =
     c.requires.each (c.args.first + i) k (got_behind c.args.mailboxes.now c.args.first i k (ap (λ l. slice_get l i) (sym c.split_at.ensures.back) ∙ at))
 
 pub serve_first-requires-2-clause-seated : goal.serve_first-requires-2-clause-seated
-serve_first-requires-2-clause-seated g c κs within = keeps_seated c.args.self.now c.serve_first.new.self c.serve_first.ensures.keeps c.requires.seated
+serve_first-requires-2-clause-seated g c = keeps_seated c.args.self.now c.serve_first.new.self c.serve_first.ensures.keeps c.requires.seated
 
 pub serve_first-requires-2-clause-each : goal.serve_first-requires-2-clause-each
-serve_first-requires-2-clause-each g c κs within i k at =
+serve_first-requires-2-clause-each g c i k at =
     let old = c.requires.each i k (got_front c.args.mailboxes.now c.args.first i k (ap (λ l. slice_get l i) (sym c.split_at.ensures.front) ∙ at)) in
     let keeps = c.serve_first.ensures.keeps in
     let count = keeps.alike.count in

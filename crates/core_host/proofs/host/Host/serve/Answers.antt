@@ -3,13 +3,13 @@ use Rattle.std.specs.Prelude.{slice_get}
 use Rattle.std.proofs.lemmas.Option.{slice_get-get_or}
 use Rattle.core_host.specs.declared.host.Served.TheVariants.{Worked}
 use Rattle.core_host.specs.Changes.{HasWorked, IsIdle}
-use Rattle.core_host.specs.Hosted.{Hosted, code_of, is_here}
+use Rattle.core_host.specs.Hosted.{Hosted, code_of, is_here, IsWhole}
 use Rattle.core_host.specs.Runs.{HasJobs, HasRun}
-use Rattle.core_host.proofs.Hosting.{jobs_keep, run_keeps, served_hosted, its_own, each_between, where_own}
+use Rattle.core_host.proofs.Hosting.{whole_keeps, jobs_keep, run_keeps, served_hosted, its_own, each_between, where_own}
 use Rattle.core_host.proofs.host.Host.serve.Goals as goal
 
 pub serve_round-requires-clause-each : goal.serve_round-requires-clause-each
-serve_round-requires-clause-each g c κs within i k at = each_between c.self.inside.desk c.self.inside.cores.items c.self.inside.root c.self.inside.live c.self.invariant c.self.inside.own.items c.self.inside.own_are i k (ap (λ l. slice_get l i) (sym c.deref.ensures.value) ∙ at)
+serve_round-requires-clause-each g c i k at = each_between c.self.inside.desk c.self.inside.cores.items c.self.inside.root c.self.inside.live c.self.invariant c.self.inside.own.items c.self.inside.own_are i k (ap (λ l. slice_get l i) (sym c.deref.ensures.value) ∙ at)
 
 pub invariant_of-self : goal.invariant_of-self
 invariant_of-self g c = served_hosted c.self.inside.desk c.serve_round.new.self c.self.inside.cores.items c.self.inside.root c.self.inside.live c.serve_round.ensures.keeps c.self.invariant
@@ -55,3 +55,9 @@ returns-clause-turns g c turns run = run_keeps c.self.inside.desk c.serve_round.
 
 pub returns-clause-jobs : goal.returns-clause-jobs
 returns-clause-jobs g c jobs old = jobs_keep c.self.inside.desk c.serve_round.new.self c.self.inside.cores.items c.self.inside.root c.self.inside.live c.serve_round.ensures.keeps jobs (subst (λ (h : Hosted). HasJobs h jobs) (sym c.self.view_is) old)
+
+pub returns-in_default-clause-whole : goal.returns-in_default-clause-whole
+returns-in_default-clause-whole g c whole = whole_keeps c.self.inside.desk c.serve_round.new.self c.self.inside.cores.items c.self.inside.root c.self.inside.live c.serve_round.ensures.keeps (subst IsWhole (sym c.self.view_is) whole)
+
+pub returns-clause-whole : goal.returns-clause-whole
+returns-clause-whole g c whole = whole_keeps c.self.inside.desk c.serve_round.new.self c.self.inside.cores.items c.self.inside.root c.self.inside.live c.serve_round.ensures.keeps (subst IsWhole (sym c.self.view_is) whole)

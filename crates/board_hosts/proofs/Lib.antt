@@ -1,0 +1,4 @@
+mod Branches
+mod Made
+mod Placed
+mod Ports

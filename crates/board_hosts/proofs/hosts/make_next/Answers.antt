@@ -1,0 +1,21 @@
+use Rattle.std.proofs.Common.{rules, ◌≡◌, ◌+◌, true, sym, ◌∙◌, subst}
+use Rattle.std.proofs.lemmas.Option.{get_or_from_slice_get}
+use Rattle.forec_kernel.specs.Combining.{contains}
+use Rattle.board_hosts.specs.CoreHosts.{AreMade, IsLoaded, root_core}
+use Rattle.board_hosts.proofs.Made.{made_root, made_other}
+use Rattle.board_hosts.proofs.hosts.make_next.Goals as goal
+
+pub returns-then-core-root_core : goal.returns-then-core-root_core
+returns-then-core-root_core c had =
+    let places = c.args.placement.now.places in
+    let here : c.args.core ≡ root_core places = c.if-core-root_core.true ∙ sym (get_or_from_slice_get places 0 c.args.root_core 0 c.requires.root) in
+    made_root c.args.code.now places c.args.core c.args.made.now.root c.args.made.now.others.items had c.in_ok-host.host here c.in_ok-host.ensures
+
+pub returns : goal.returns
+returns c had =
+    let places = c.args.placement.now.places in
+    let has : contains c.args.core places ≡ true = search rules in
+    subst (λ l. AreMade c.args.code.now places (c.args.core + 1) c.args.made.now.root l) (sym c.in_ok-push.ensures.items)
+    (made_other c.args.code.now places c.args.core c.args.made.now.root c.args.made.now.others.items had c.in-Ok.worker
+    (λ here. c.if-core-root_core.false (here ∙ get_or_from_slice_get places 0 c.args.root_core 0 c.requires.root)) has
+    (subst (λ h. IsLoaded c.args.code.now places c.args.core h) (sym c.in-Ok.ensures.ok) c.in_ok-host.ensures))

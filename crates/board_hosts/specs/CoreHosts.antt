@@ -1,0 +1,47 @@
+-- One host for each core that has threads.
+use Rattle.std.specs.Prelude.{ℕ, zero, suc, ◌≡◌, ◌≤◌, ◌==◌, Bool, true, false, not, ◌&&◌, cond, Option, Some, MatchOption, List, [], ◌∷◌, ◌++◌, map, get_or, slice_get}
+use Rattle.forec_kernel.specs.Combining.{contains}
+use Rattle.thread_code.specs.declared.instruction.CodeParts.{CodeParts}
+use Rattle.core_host.specs.Hosted.{Hosted, is_here, is_live}
+use Rattle.core_host.specs.Runs.{HasJobs, HasRun}
+
+-- the core of thread 0
+abbrev pub root_core : List ℕ → ℕ
+root_core places = get_or places 0 0
+
+-- the core has threads, and thread 0 isn't one of them
+abbrev pub is_other : List ℕ → ℕ → Bool
+is_other places core = not (core == root_core places) && contains core places
+
+-- of the first so many cores those with threads but not with thread 0, in order
+abbrev pub other_cores : List ℕ → ℕ → List ℕ
+other_cores places zero = []
+other_cores places (suc n) = other_cores places n ++ cond (is_other places n) (n ∷ []) []
+
+-- the host of a core's threads, before the first tick. `on`: the core of each thread
+pub record IsLoaded (c : CodeParts) (on : List ℕ) (core : ℕ) (h : Hosted) : Type 0 where
+  pub code : h.code ≡ c
+  pub places : h.places ≡ on
+  pub cores : h.cores ≡ core ∷ []
+  pub live : is_live h ≡ true
+  pub none : is_here h 0 ≡ true → HasRun h []
+  pub jobs : is_here h 0 ≡ true → HasJobs h []
+
+-- the host of the core of thread 0
+pub record IsRoot (c : CodeParts) (on : List ℕ) (h : Hosted) : Type 0 where
+  pub code : h.code ≡ c
+  pub places : h.places ≡ on
+  pub cores : h.cores ≡ root_core on ∷ []
+  pub live : is_live h ≡ true
+
+-- the host of a core without thread 0
+pub record IsOther (c : CodeParts) (on : List ℕ) (h : Hosted) : Type 0 where
+  pub code : h.code ≡ c
+  pub places : h.places ≡ on
+  pub lacks : is_here h 0 ≡ false
+
+-- Of the first n cores each that has threads has a host. That of thread 0's core stands apart from the others.
+pub record AreMade (c : CodeParts) (on : List ℕ) (n : ℕ) (first : Option Hosted) (made : List Hosted) : Type 0 where
+  pub root : MatchOption first (n ≤ root_core on) (λ h. IsLoaded c on (root_core on) h)
+  pub others : (i : ℕ) (h : Hosted) → slice_get made i ≡ Some h → IsOther c on h
+  pub cores : map (λ h. h.cores) made ≡ map (λ core. core ∷ []) (other_cores on n)

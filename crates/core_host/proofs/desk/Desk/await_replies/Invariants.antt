@@ -1,0 +1,12 @@
+use Rattle.std.proofs.Common.{◌≤◌, List, length}
+use Rattle.forec_kernel.specs.Engine.{Answered}
+use Rattle.core_host.specs.Waiting.{IsGathering}
+use Rattle.core_host.specs.OnJob.{KeepsOthers}
+use Rattle.core_host.proofs.desk.Desk.await_replies.Given as goal
+
+abbrev pub invariant-loop : goal.invariant-loop
+invariant-loop g l = record {
+  keeps : KeepsOthers l.fn.self l.self;
+  next : l.next ≤ length l.own;
+  gathering : (pairs : List Answered) → IsGathering l.fn.self l.thread pairs → IsGathering l.self l.thread pairs;
+}

@@ -1,0 +1,173 @@
+//! What works beside a tick: hosts without thread 0.
+ghost use Rattle.std.specs.Prelude.{◌≡◌, ◌<◌, ℕ, suc, List, IfOk, IfErr, length, true, false};
+ghost use Rattle.forec_kernel.specs.Composed.{Turn};
+ghost use Rattle.forec_kernel.specs.Engine.{Job};
+ghost use Rattle.copy_slots.specs.Ports.{after_stop, after_check};
+ghost use Rattle.core_host.specs.Changes.{Grown, Looked, HasWorked, IsIdle};
+ghost use Rattle.core_host.specs.Hosted.{code_of, is_live, is_here};
+ghost use Rattle.core_host.specs.Runs.{HasJobs, HasRun};
+
+use crate::host::{Host, Served};
+use crate::load::is_among;
+use crate::work::ForecWork;
+use copy_slots::Port;
+use forec_base::Gate;
+use std::marker::Model;
+use std::sync::Wait;
+use std::thread::yield_now;
+
+/// What is served where nobody else runs it.
+pub trait Serve {
+    /// Does something, if there is anything to do. Whether there was.
+    fn serve(&mut self) -> bool;
+}
+
+/// Hosts that nobody runs.
+#[derive(Drop)]
+pub struct Crew<'h, 'g, 'c, P: Port<ForecWork> + Drop, G: Gate> {
+    hosts: &'h mut [Host<'c, P>],
+    gate: &'g G,
+}
+
+impl<'h, 'g, 'c, P: Port<ForecWork> + Drop, G: Gate> Crew<'h, 'g, 'c, P, G> {
+    /// These hosts, which pass this gate.
+    pub fn new(hosts: &'h mut [Host<'c, P>], gate: &'g G) -> Crew<'h, 'g, 'c, P, G> {
+        Crew { hosts, gate }
+    }
+}
+
+impl<'h, 'g, 'c, P: Port<ForecWork> + Drop, G: Gate> Serve for Crew<'h, 'g, 'c, P, G> {
+    /// Serves each of the hosts once.
+    fn serve(&mut self) -> bool {
+        let gate = self.gate;
+        serve_each(self.hosts, gate)
+    }
+}
+
+/// Serves each of these hosts once. Whether there was something to do.
+fn serve_each<P: Port<ForecWork> + Drop, G: Gate>(hosts: &mut [Host<'_, P>], gate: &G) -> bool {
+    let mut worked = false;
+    for host in hosts.iter_mut() {
+        if let Served::Worked { .. } = host.serve(gate) {
+            worked = true;
+        }
+    }
+    worked
+}
+
+impl<'c, P: Port<ForecWork> + Drop> Host<'c, P> {
+    /// Whether thread 0 is one of its threads.
+    pub fn has_root(&self) -> bool
+        ensures { result ≡ is_here self.now 0 }
+    {
+        is_among(self.desk.places[0], &self.cores)
+    }
+
+    /// Stores the stop word, at which each worker ends.
+    pub fn stop(&mut self)
+        requires { is_here self.old 0 ≡ true }
+        ensures stored { self.new ≡ record self.old { mail = after_stop self.old.mail } }
+        ensures grown { Grown self.old.mail self.new.mail }
+        ensures turns { (turns : List Turn) → HasRun self.old turns → HasRun self.new turns }
+        ensures jobs { (jobs : List Job) → HasJobs self.old jobs → HasJobs self.new jobs }
+    {
+        self.desk.stop();
+    }
+
+    /// Loads the stop word: whether it was stored.
+    fn stopped(&mut self) -> bool
+        ensures loaded { self.new ≡ record self.old { mail = after_check result self.old.mail } }
+        ensures grown { Grown self.old.mail self.new.mail }
+    {
+        self.desk.stopped()
+    }
+
+    /// Serves, for as long as the workers are not stopped. It ends only after it loaded a stop word 1.
+    pub fn run<R: Wait, G: Gate>(self, rt: &R, gate: &G) -> Host<'c, P>
+        requires lacks { is_here self 0 ≡ false }
+        ensures stopped { Looked 1 self.entry.mail.stops result.mail.stops }
+        ensures code { result.code ≡ self.entry.code }
+        ensures places { result.places ≡ self.entry.places }
+        ensures cores { result.cores ≡ self.entry.cores }
+        ensures grown { Grown self.entry.mail result.mail }
+    {
+        let mut host = self;
+        for _ in rt.forever() {
+            if let Served::Worked { .. } = host.serve(gate) {
+                continue;
+            }
+            if host.stopped() {
+                return host;
+            }
+            yield_now();
+        }
+        unreachable!()
+    }
+}
+
+/// A host without thread 0, which a thread of its own can run.
+#[derive(Drop)]
+pub struct Worker<'c, P: Port<ForecWork> + Drop> {
+    host: Host<'c, P>,
+}
+
+impl<'c, P: Port<ForecWork> + Drop> Model for Worker<'c, P> {
+    ghost use Rattle.std.specs.Prelude.{◌≡◌, false};
+    ghost use Rattle.core_host.specs.Hosted.{Hosted, is_here};
+
+    ghost Value = { Hosted };
+
+    ghost view = { λ w. w.host };
+
+    ghost invariant = { λ w. is_here w.host 0 ≡ false };
+}
+
+impl<'c, P: Port<ForecWork> + Drop> Worker<'c, P> {
+    /// The worker of a host.
+    ///
+    /// # Errors
+    ///
+    /// The host, where it has thread 0.
+    pub fn new(host: Host<'c, P>) -> Result<Worker<'c, P>, Host<'c, P>>
+        ensures ok { IfOk result (λ w. w ≡ host.entry) }
+        ensures err { IfErr result (λ h. (h ≡ host.entry) × (is_here h 0 ≡ true)) }
+    {
+        if host.has_root() {
+            return Err(host);
+        }
+        Ok(Worker { host })
+    }
+
+    /// [`Host::serve`].
+    pub fn serve<G: Gate>(&mut self, gate: &G) -> Served
+        ensures worked { (k : ℕ) → result ≡ Served.Worked k → HasWorked (code_of self.old).shape self.old.mail self.new.mail k }
+        ensures nothing { result ≡ Served.Nothing → (k : ℕ) → k < length self.old.mail.ends → is_here self.old (suc k) ≡ true → IsIdle (code_of self.old).shape self.old.mail self.new.mail k }
+        ensures code { self.new.code ≡ self.old.code }
+        ensures places { self.new.places ≡ self.old.places }
+        ensures cores { self.new.cores ≡ self.old.cores }
+        ensures grown { Grown self.old.mail self.new.mail }
+    {
+        self.host.serve(gate)
+    }
+
+    /// [`Host::run`].
+    pub fn run<R: Wait, G: Gate>(self, rt: &R, gate: &G) -> Worker<'c, P>
+        ensures stopped { Looked 1 self.entry.mail.stops result.mail.stops }
+        ensures code { result.code ≡ self.entry.code }
+        ensures places { result.places ≡ self.entry.places }
+        ensures cores { result.cores ≡ self.entry.cores }
+        ensures grown { Grown self.entry.mail result.mail }
+    {
+        Worker {
+            host: self.host.run(rt, gate),
+        }
+    }
+
+    /// Its host, which lacks thread 0.
+    pub fn into_host(self) -> Host<'c, P>
+        ensures same { result ≡ self.entry }
+        ensures lacks { is_here result 0 ≡ false }
+    {
+        self.host
+    }
+}
