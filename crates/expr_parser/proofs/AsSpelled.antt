@@ -8,7 +8,7 @@ use Rattle.expr_parser.specs.Input.{Input, input, kind_ahead, max_level}
 use Rattle.expr_parser.specs.Meaning.{ends}
 use Rattle.expr_parser.specs.Reading.{expr}
 use Rattle.expr_parser.specs.Spelled.{reads, IsBetween}
-use Rattle.expr_parser.proofs.Exact.{Part, part, Any, read_at}
+use Rattle.expr_parser.proofs.Exact.{Part, part, Any, comes_within, read_at}
 use Rattle.expr_parser.proofs.ExpressionSound.{sound, value_by}
 use Rattle.expr_parser.proofs.ExpressionComplete.{complete_whole}
 
@@ -23,4 +23,4 @@ read_is_spelled x i j small h =
 
 pub spelled_is_read : (x : Term) (v : ℕ) (ls : List Spelt) (rest : List Token) → v ≤ max_level → IsWithin max_level ls → Whole x v ls → ends (kind_ahead rest) ≡ true
     → reads (input (tokens ls ++ rest) v) ≡ Ok (x, input rest v)
-spelled_is_read x v ls rest small within s e = read_at (complete_whole max_level s (suc max_level) (kind_ahead rest) small (omega arith) e) rest refl within
+spelled_is_read x v ls rest small within s e = comes_within (read_at (complete_whole max_level s (suc max_level) (kind_ahead rest) small (omega arith) e) rest refl) within

@@ -1,14 +1,15 @@
 -- A parser and what it reads, both ways; and the same of each way to put parsers together.
 use mathlib.Core.Path.{subst}
-use Rattle.std.proofs.Common.{◌≡◌, ℕ, ◌≤◌, Bool, true, false, cond, List, [], ◌++◌, Option, Ok, refl, sym, ◌∙◌, ap}
+use Rattle.std.proofs.Common.{◌≡◌, ℕ, suc, ◌≤◌, ◌<◌, Bool, true, false, cond, List, [], ◌∷◌, ◌++◌, length, Option, Ok, Err, refl, sym, ◌∙◌, ap, arith}
 use Rattle.forec_tree.specs.declared.token.Token.{Token}
 use Rattle.forec_tree.specs.declared.token.TokenKind.{TokenKind}
 use Rattle.forec_tree.specs.Spelling.{Spelt, tokens, IsWithin}
 use Rattle.expr_parser.specs.declared.fixed.Fixed.{Fixed}
-use Rattle.expr_parser.specs.Input.{Input, input, Parser, and_then, ◌>>=◌, pure, scoped, kind_ahead}
+use Rattle.expr_parser.specs.declared.fault.Fault.TheVariants.{Deep}
+use Rattle.expr_parser.specs.Input.{Input, input, Parser, Outcome, and_then, ◌>>=◌, pure, scoped, kind_ahead}
 use Rattle.expr_parser.specs.Meaning.{is_fixed}
 use Rattle.expr_parser.specs.Reading.{next_is}
-use Rattle.expr_parser.proofs.Spans.{tokens_append, within_front, within_back, within_join, first, first-is, step, ok_of, ok_pair}
+use Rattle.expr_parser.proofs.Spans.{tokens_append, within_join, first, first-is, step, ok_of, ok_pair}
 
 -- what a parser reads: the level before, the value, the level behind, the tokens, and the kind of the token behind them
 abbrev pub Lang : Type 0 → Type 1
@@ -21,10 +22,20 @@ pub record Read {A : Type 0} (limit : ℕ) (P : Lang A) (x : A) (i j : Input) : 
   pub within : IsWithin limit spelt
   pub small : j.level ≤ limit
 
--- What the parser finds is in P, and it finds what is in Q.
+-- one of the tokens opens a level above the limit; l tokens are left from it on
+pub data Above (limit l : ℕ) (rest : List Token) : List Spelt → Type 0 where
+  above_here : {s : Spelt} {ls : List Spelt} → limit < s.level → l ≡ suc (length (tokens ls ++ rest)) → Above limit l rest (s ∷ ls)
+  above_later : {s : Spelt} {ls : List Spelt} → Above limit l rest ls → Above limit l rest (s ∷ ls)
+
+-- what comes of tokens that spell x: it is read, or a token is refused that opens a level above the limit
+pub data Follows {A : Type 0} (limit : ℕ) (x : A) (w : ℕ) (ls : List Spelt) (rest : List Token) : Outcome A → Type 0 where
+  comes : Follows limit x w ls rest (Ok (x, input rest w))
+  too_high : {l : ℕ} → Above limit l rest ls → Follows limit x w ls rest (Err (Deep l))
+
+-- What the parser finds is in P, and of what is in Q it finds what the limit allows.
 pub record Exact {A : Type 0} (limit : ℕ) (p : Parser A) (P Q : Lang A) : Type 0 where
   pub sound : (i j : Input) (x : A) → i.level ≤ limit → p i ≡ Ok (x, j) → Read limit P x i j
-  pub complete : (v w : ℕ) (x : A) (ls : List Spelt) (rest : List Token) → Q v x w ls (kind_ahead rest) → IsWithin limit ls → p (input (tokens ls ++ rest) v) ≡ Ok (x, input rest w)
+  pub complete : (v w : ℕ) (x : A) (ls : List Spelt) (rest : List Token) → Q v x w ls (kind_ahead rest) → Follows limit x w ls rest (p (input (tokens ls ++ rest) v))
 
 -- ---- languages
 
@@ -56,10 +67,45 @@ pub data Part {A : Type 0} (C : Option TokenKind → Type 0) (R : A → ℕ → 
 -- what the parser finds, by itself
 pub data Reading {A : Type 0} (limit : ℕ) (p : Parser A) : ℕ → A → ℕ → List Spelt → Option TokenKind → Type 0 where
   reading : {v w : ℕ} {x : A} {ls : List Spelt} {k : Option TokenKind}
-      → ((rest : List Token) → kind_ahead rest ≡ k → IsWithin limit ls → p (input (tokens ls ++ rest) v) ≡ Ok (x, input rest w)) → Reading limit p v x w ls k
+      → ((rest : List Token) → kind_ahead rest ≡ k → Follows limit x w ls rest (p (input (tokens ls ++ rest) v))) → Reading limit p v x w ls k
 
 abbrev pub Any : Option TokenKind → Type 0
 Any k = Unit {0}
+
+-- ---- what comes of a spelling
+
+pub above_front : {limit l : ℕ} {rest : List Token} (rs : List Spelt) {ls : List Spelt} → Above limit l (tokens rs ++ rest) ls → Above limit l rest (ls ++ rs)
+above_front {rest = rest} rs (above_here {s} {ls} lt e) = above_here lt (e ∙ ap (λ z. suc (length z)) (sym (tokens_append ls rs rest)))
+above_front rs (above_later a) = above_later (above_front rs a)
+
+pub above_back : {limit l : ℕ} {rest : List Token} (ls : List Spelt) {rs : List Spelt} → Above limit l rest rs → Above limit l rest (ls ++ rs)
+above_back [] a = a
+above_back (s ∷ ls) a = above_later (above_back ls a)
+
+pub not_above : {limit l : ℕ} {rest : List Token} {ls : List Spelt} → Above limit l rest ls → IsWithin limit ls → ⊥
+not_above (above_here lt e) w = omega (arith, lt, w.0)
+not_above (above_later a) w = not_above a w.1
+
+-- within the limit all is read
+pub comes_within : {A : Type 0} {limit w : ℕ} {x : A} {ls : List Spelt} {rest : List Token} {o : Outcome A} → Follows limit x w ls rest o → IsWithin limit ls → o ≡ Ok (x, input rest w)
+comes_within comes h = refl
+comes_within (too_high a) h = absurd (not_above a h)
+
+pub follow_behind : {A : Type 0} {limit w : ℕ} {x : A} (ls : List Spelt) {rs : List Spelt} {rest : List Token} {o : Outcome A} → Follows limit x w rs rest o → Follows limit x w (ls ++ rs) rest o
+follow_behind ls comes = comes
+follow_behind ls (too_high a) = too_high (above_back ls a)
+
+-- what stands behind a part
+pub follow_then : {A B : Type 0} {limit u w : ℕ} {x : A} {y : B} {ls : List Spelt} (rs : List Spelt) {rest : List Token} {o : Outcome A} (f : A → Parser B) → Follows limit x u ls (tokens rs ++ rest) o
+    → Follows limit y w rs rest (f x (input (tokens rs ++ rest) u)) → Follows limit y w (ls ++ rs) rest (and_then o f)
+follow_then {ls = ls} rs f comes h = follow_behind ls h
+follow_then rs f (too_high a) h = too_high (above_front rs a)
+
+-- the same tokens, of which something else is made
+pub follow_as : {A B : Type 0} {limit u w : ℕ} {x : A} {y : B} {ls : List Spelt} {rest : List Token} {o : Outcome A} (f : A → Parser B) → Follows limit x u ls rest o → f x (input rest u) ≡ Ok (y, input rest w)
+    → Follows limit y w ls rest (and_then o f)
+follow_as f comes h = rw h comes
+follow_as f (too_high a) h = too_high a
 
 -- ---- putting together
 
@@ -85,11 +131,11 @@ read_as {limit} {A} {B} {P} {Q} {x} {y} {i} {j} m to =
 -- what a rule finds, by what it is made of
 pub reads_by : {limit : ℕ} {A : Type 0} {p : Parser A} {P Q : Lang A} {v w : ℕ} {x : A} {ls : List Spelt} {k : Option TokenKind} → Exact limit p P Q → Q v x w ls k → Reading limit p v x w ls k
 reads_by {limit} {A} {p} {P} {Q} {v} {w} {x} {ls} {k} a q =
-    reading (λ rest e within. let R : Option TokenKind → Type 0 = λ z. Q v x w ls z in a.complete v w x ls rest (subst R (sym e) q) within)
+    reading (λ rest e. let R : Option TokenKind → Type 0 = λ z. Q v x w ls z in a.complete v w x ls rest (subst R (sym e) q))
 
 module _ {limit : ℕ} {A B : Type 0} {p : Parser A} {f : A → Parser B} {P P' : Lang A} {Q Q' : A → Lang B} where
   pub bind : Exact limit p P P' → ((x : A) → Exact limit (f x) (Q x) (Q' x)) → Exact limit (p >>= f) (Bind P Q) (Bind P' Q')
-  bind a b = record { sound = so; complete = co }
+  bind a b = record { sound = so; complete = λ v w y ls rest q. co q rest refl }
     where
       so : (i j : Input) (y : B) → i.level ≤ limit → and_then (p i) f ≡ Ok (y, j) → Read limit (Bind P Q) y i j
       so i j y small h =
@@ -97,23 +143,18 @@ module _ {limit : ℕ} {A B : Type 0} {p : Parser A} {f : A → Parser B} {P P' 
           let m = a.sound i s.state s.value small s.was in
           then_read m ((b s.value).sound s.state j y m.small s.goes)
 
-      co : (v w : ℕ) (y : B) (ls : List Spelt) (rest : List Token) → Bind P' Q' v y w ls (kind_ahead rest) → IsWithin limit ls → and_then (p (input (tokens ls ++ rest) v)) f ≡ Ok (y, input rest w)
-      co v w y ls rest q within = of q rest refl within
-        where
-          of : {v w : ℕ} {y : B} {ls : List Spelt} {k : Option TokenKind} → Bind P' Q' v y w ls k → (rest : List Token) → k ≡ kind_ahead rest → IsWithin limit ls
-              → and_then (p (input (tokens ls ++ rest) v)) f ≡ Ok (y, input rest w)
-          of (both {v} {u} {w} {x} {y} {ls} {rs} {k} l r) rest e within =
-              let R : Option TokenKind → Type 0 = λ z. P' v x u ls z in
-              let S : Option TokenKind → Type 0 = λ z. Q' x u y w rs z in
-              let front : first rs k ≡ kind_ahead (tokens rs ++ rest) = ap (first rs) e ∙ sym (first-is rs rest) in
-              let one : p (input (tokens ls ++ (tokens rs ++ rest)) v) ≡ Ok (x, input (tokens rs ++ rest) u) =
-              a.complete v u x ls (tokens rs ++ rest) (subst R front l) (within_front limit ls rs within) in
-              let two : f x (input (tokens rs ++ rest) u) ≡ Ok (y, input rest w) = (b x).complete u w y rs rest (subst S e r) (within_back limit ls rs within) in
-              rw (tokens_append, one) two
+      co : {v w : ℕ} {y : B} {ls : List Spelt} {k : Option TokenKind} → Bind P' Q' v y w ls k → (rest : List Token) → k ≡ kind_ahead rest → Follows limit y w ls rest (and_then (p (input (tokens ls ++ rest) v)) f)
+      co (both {v} {u} {w} {x} {y} {ls} {rs} {k} l r) rest e =
+          let R : Option TokenKind → Type 0 = λ z. P' v x u ls z in
+          let S : Option TokenKind → Type 0 = λ z. Q' x u y w rs z in
+          let front : first rs k ≡ kind_ahead (tokens rs ++ rest) = ap (first rs) e ∙ sym (first-is rs rest) in
+          let one : Follows limit x u ls (tokens rs ++ rest) (p (input (tokens ls ++ (tokens rs ++ rest)) v)) = a.complete v u x ls (tokens rs ++ rest) (subst R front l) in
+          let two : Follows limit y w rs rest (f x (input (tokens rs ++ rest) u)) = (b x).complete u w y rs rest (subst S e r) in
+          rw (tokens_append ls rs rest) (follow_then rs f one two)
 
 module _ {limit : ℕ} {A B : Type 0} {p : Parser A} {P P' : Lang A} where
   pub map_to : (f : A → B) → Exact limit p P P' → Exact limit (p >>= (λ x. pure (f x))) (Map f P) (Map f P')
-  map_to f a = record { sound = so; complete = λ v w y ls rest q within. of q rest refl within }
+  map_to f a = record { sound = so; complete = λ v w y ls rest q. of q rest refl }
     where
       so : (i j : Input) (y : B) → i.level ≤ limit → and_then (p i) (λ x. pure (f x)) ≡ Ok (y, j) → Read limit (Map f P) y i j
       so i j y small h =
@@ -125,16 +166,14 @@ module _ {limit : ℕ} {A B : Type 0} {p : Parser A} {P P' : Lang A} where
           let S : B → Type 0 = λ z. Read limit (Map f P) z i j in
           subst S e.0 (subst R e.1 made)
 
-      of : {v w : ℕ} {y : B} {ls : List Spelt} {k : Option TokenKind} → Map f P' v y w ls k → (rest : List Token) → k ≡ kind_ahead rest → IsWithin limit ls
-          → and_then (p (input (tokens ls ++ rest) v)) (λ x. pure (f x)) ≡ Ok (y, input rest w)
-      of (mapped {v} {w} {x} {ls} {k} q) rest e within =
+      of : {v w : ℕ} {y : B} {ls : List Spelt} {k : Option TokenKind} → Map f P' v y w ls k → (rest : List Token) → k ≡ kind_ahead rest → Follows limit y w ls rest (and_then (p (input (tokens ls ++ rest) v)) (λ x. pure (f x)))
+      of (mapped {v} {w} {x} {ls} {k} q) rest e =
           let R : Option TokenKind → Type 0 = λ z. P' v x w ls z in
-          let one : p (input (tokens ls ++ rest) v) ≡ Ok (x, input rest w) = a.complete v w x ls rest (subst R e q) within in
-          rw one
+          follow_as (λ x. pure (f x)) (a.complete v w x ls rest (subst R e q)) refl
 
 module _ {limit : ℕ} {A : Type 0} {p : Parser A} {P P' : Lang A} where
   pub scope : Exact limit p P P' → Exact limit (scoped p) (Scoped P) (Scoped P')
-  scope a = record { sound = so; complete = λ v w y ls rest q within. of q rest refl within }
+  scope a = record { sound = so; complete = λ v w y ls rest q. of q rest refl }
     where
       so : (i j : Input) (y : A) → i.level ≤ limit → and_then (p i) (λ x j. Ok (x, input j.rest i.level)) ≡ Ok (y, j) → Read limit (Scoped P) y i j
       so i j y small h =
@@ -146,12 +185,10 @@ module _ {limit : ℕ} {A : Type 0} {p : Parser A} {P P' : Lang A} where
           let S : A → Type 0 = λ z. Read limit (Scoped P) z i j in
           subst S e.0 (subst R e.1 made)
 
-      of : {v w : ℕ} {y : A} {ls : List Spelt} {k : Option TokenKind} → Scoped P' v y w ls k → (rest : List Token) → k ≡ kind_ahead rest → IsWithin limit ls
-          → scoped p (input (tokens ls ++ rest) v) ≡ Ok (y, input rest w)
-      of (inside {v} {w} {x} {ls} {k} q) rest e within =
+      of : {v w : ℕ} {y : A} {ls : List Spelt} {k : Option TokenKind} → Scoped P' v y w ls k → (rest : List Token) → k ≡ kind_ahead rest → Follows limit y w ls rest (scoped p (input (tokens ls ++ rest) v))
+      of (inside {v} {w} {x} {ls} {k} q) rest e =
           let R : Option TokenKind → Type 0 = λ z. P' v x w ls z in
-          let one : p (input (tokens ls ++ rest) v) ≡ Ok (x, input rest w) = a.complete v w x ls rest (subst R e q) within in
-          rw one
+          follow_as (λ x j. Ok (x, input j.rest v)) (a.complete v w x ls rest (subst R e q)) refl
 
   -- the same parser, by what else its language is
   pub convert : {R R' : Lang A} → ((v w : ℕ) (x : A) (ls : List Spelt) (k : Option TokenKind) → P v x w ls k → R v x w ls k)
@@ -159,11 +196,11 @@ module _ {limit : ℕ} {A : Type 0} {p : Parser A} {P P' : Lang A} where
   convert to from a = record {
     sound = λ i j x small h. let m = a.sound i j x small h in
         record { spelt = m.spelt; front = m.front; spells = to i.level j.level x m.spelt (kind_ahead j.rest) m.spells; within = m.within; small = m.small };
-    complete = λ v w x ls rest q within. a.complete v w x ls rest (from v w x ls (kind_ahead rest) q) within;
+    complete = λ v w x ls rest q. a.complete v w x ls rest (from v w x ls (kind_ahead rest) q);
   }
 
   pub either : {q : Parser A} {Q Q' : Lang A} (f : Fixed) → Exact limit p P P' → Exact limit q Q Q' → Exact limit (λ i. cond (next_is f i) (p i) (q i)) (If f P Q) (If f P' Q')
-  either {q} {Q} {Q'} f a b = record { sound = λ i j x small h. so i j x small (next_is f i) refl h; complete = λ v w y ls rest q within. of q rest refl within }
+  either {q} {Q} {Q'} f a b = record { sound = λ i j x small h. so i j x small (next_is f i) refl h; complete = λ v w y ls rest q. of q rest refl }
     where
       so : (i j : Input) (y : A) → i.level ≤ limit → (t : Bool) → next_is f i ≡ t → cond t (p i) (q i) ≡ Ok (y, j) → Read limit (If f P Q) y i j
       so i j y small true e h =
@@ -175,19 +212,19 @@ module _ {limit : ℕ} {A : Type 0} {p : Parser A} {P P' : Lang A} where
           let s : is_fixed f (first m.spelt (kind_ahead j.rest)) ≡ false = ap (is_fixed f) (sym (ap kind_ahead m.front ∙ first-is m.spelt j.rest)) ∙ e in
           record { spelt = m.spelt; front = m.front; spells = off s m.spells; within = m.within; small = m.small }
 
-      of : {v w : ℕ} {y : A} {ls : List Spelt} {k : Option TokenKind} → If f P' Q' v y w ls k → (rest : List Token) → k ≡ kind_ahead rest → IsWithin limit ls
-          → cond (is_fixed f (kind_ahead (tokens ls ++ rest))) (p (input (tokens ls ++ rest) v)) (q (input (tokens ls ++ rest) v)) ≡ Ok (y, input rest w)
-      of (on {v} {w} {x} {ls} {k} t l) rest e within =
+      of : {v w : ℕ} {y : A} {ls : List Spelt} {k : Option TokenKind} → If f P' Q' v y w ls k → (rest : List Token) → k ≡ kind_ahead rest
+          → Follows limit y w ls rest (cond (is_fixed f (kind_ahead (tokens ls ++ rest))) (p (input (tokens ls ++ rest) v)) (q (input (tokens ls ++ rest) v)))
+      of (on {v} {w} {x} {ls} {k} t l) rest e =
           let R : Option TokenKind → Type 0 = λ z. P' v x w ls z in
           let s : is_fixed f (kind_ahead (tokens ls ++ rest)) ≡ true = ap (is_fixed f) (first-is ls rest ∙ ap (first ls) (sym e)) ∙ t in
-          rw s (a.complete v w x ls rest (subst R e l) within)
-      of (off {v} {w} {x} {ls} {k} t l) rest e within =
+          rw s (a.complete v w x ls rest (subst R e l))
+      of (off {v} {w} {x} {ls} {k} t l) rest e =
           let R : Option TokenKind → Type 0 = λ z. Q' v x w ls z in
           let s : is_fixed f (kind_ahead (tokens ls ++ rest)) ≡ false = ap (is_fixed f) (first-is ls rest ∙ ap (first ls) (sym e)) ∙ t in
-          rw s (b.complete v w x ls rest (subst R e l) within)
+          rw s (b.complete v w x ls rest (subst R e l))
 
 pub done_at : {limit : ℕ} {A : Type 0} (x : A) → Exact limit (pure x) (Done x) (Done x)
-done_at {limit} {A} x = record { sound = so; complete = λ v w y ls rest q within. of q rest }
+done_at {limit} {A} x = record { sound = so; complete = λ v w y ls rest q. of q rest }
   where
     so : (i j : Input) (y : A) → i.level ≤ limit → ok_of x i ≡ Ok (y, j) → Read limit (Done x) y i j
     so i j y small h =
@@ -197,18 +234,17 @@ done_at {limit} {A} x = record { sound = so; complete = λ v w y ls rest q withi
         let S : A → Type 0 = λ z. Read limit (Done x) z i j in
         subst S e.0 (subst R e.1 made)
 
-    of : {v w : ℕ} {y : A} {ls : List Spelt} {k : Option TokenKind} → Done x v y w ls k → (rest : List Token) → ok_of x (input (tokens ls ++ rest) v) ≡ Ok (y, input rest w)
-    of (done {v} {k}) rest = refl
+    of : {v w : ℕ} {y : A} {ls : List Spelt} {k : Option TokenKind} → Done x v y w ls k → (rest : List Token) → Follows limit y w ls rest (ok_of x (input (tokens ls ++ rest) v))
+    of (done {v} {k}) rest = comes
 
 pub by_reading : {limit : ℕ} {A : Type 0} {p : Parser A} {P : Lang A} → ((i j : Input) (x : A) → i.level ≤ limit → p i ≡ Ok (x, j) → Read limit P x i j) → Exact limit p P (Reading limit p)
-by_reading {limit} {A} {p} {P} s = record { sound = s; complete = λ v w x ls rest q within. of q rest refl within }
+by_reading {limit} {A} {p} {P} s = record { sound = s; complete = λ v w x ls rest q. of q rest refl }
   where
-    of : {v w : ℕ} {x : A} {ls : List Spelt} {k : Option TokenKind} → Reading limit p v x w ls k → (rest : List Token) → k ≡ kind_ahead rest → IsWithin limit ls
-        → p (input (tokens ls ++ rest) v) ≡ Ok (x, input rest w)
-    of (reading r) rest e within = r rest (sym e) within
+    of : {v w : ℕ} {x : A} {ls : List Spelt} {k : Option TokenKind} → Reading limit p v x w ls k → (rest : List Token) → k ≡ kind_ahead rest → Follows limit x w ls rest (p (input (tokens ls ++ rest) v))
+    of (reading r) rest e = r rest (sym e)
 
-pub read_at : {limit : ℕ} {A : Type 0} {p : Parser A} {v w : ℕ} {x : A} {ls : List Spelt} {k : Option TokenKind} → Reading limit p v x w ls k → (rest : List Token) → kind_ahead rest ≡ k → IsWithin limit ls
-    → p (input (tokens ls ++ rest) v) ≡ Ok (x, input rest w)
+pub read_at : {limit : ℕ} {A : Type 0} {p : Parser A} {v w : ℕ} {x : A} {ls : List Spelt} {k : Option TokenKind} → Reading limit p v x w ls k → (rest : List Token) → kind_ahead rest ≡ k
+    → Follows limit x w ls rest (p (input (tokens ls ++ rest) v))
 read_at (reading r) = r
 
 module _ {limit : ℕ} {A B : Type 0} {p : Parser A} {g h : A → Parser B} {P1 P0 P' : Lang A} {Q1 Q0 R1 R0 : A → Lang B} (f : Fixed) where

@@ -1,5 +1,5 @@
 -- What is spelled as an expression is read.
-use Rattle.std.proofs.Common.{◌≡◌, ℕ, ℤ, zero, suc, ◌+◌, ◌≤◌, ◌<◌, Bool, true, false, nat_lt, List, [], ◌∷◌, ◌++◌, length, Option, Some, Ok, refl, ◌∙◌, ap, arith}
+use Rattle.std.proofs.Common.{◌≡◌, ℕ, ℤ, zero, suc, ◌+◌, ◌≤◌, ◌<◌, Bool, true, false, nat_lt, List, [], ◌∷◌, ◌++◌, length, Option, Some, Ok, Err, refl, ◌∙◌, ap, arith}
 use Rattle.forec_base.specs.declared.operators.Unary.{Unary}
 use Rattle.forec_base.specs.declared.operators.Unary.TheVariants as un
 use Rattle.forec_tree.specs.declared.operators.Operator.{Operator}
@@ -10,18 +10,20 @@ use Rattle.forec_tree.specs.declared.token.Mark.TheVariants as mark
 use Rattle.forec_tree.specs.Terms as plain
 use Rattle.forec_tree.specs.Terms.{Term}
 use Rattle.forec_tree.specs.Spelling as sp
-use Rattle.forec_tree.specs.Spelling.{Spelt, at, IsMark, IsName, IsNumber, name_at, mark_of, sign_of, level_of, joined, listed, tokens, IsWithin, Spells, Whole, Brackets, Indexes, Passes, Arguments, whole, brackets, indexes, passes_none, passes, one, more}
+use Rattle.forec_tree.specs.Spelling.{Spelt, at, IsMark, IsName, IsNumber, name_at, mark_of, sign_of, level_of, joined, listed, tokens, Spells, Whole, Brackets, Indexes, Passes, Arguments, whole, brackets, indexes, passes_none, passes, one, more}
 use Rattle.expr_parser.specs.declared.fixed.Fixed.TheVariants as fixed
 use Rattle.expr_parser.specs.declared.meaning.Start.TheVariants as beg
 use Rattle.expr_parser.specs.declared.meaning.Infix.TheVariants as inf
 use Rattle.expr_parser.specs.declared.meaning.Behind.TheVariants as follow
-use Rattle.expr_parser.specs.Input.{Input, input, Parser, kind_ahead, raise}
+use Rattle.expr_parser.specs.declared.fault.Fault.{Fault}
+use Rattle.expr_parser.specs.declared.fault.Fault.TheVariants.{Deep}
+use Rattle.expr_parser.specs.Input.{Input, input, Parser, Outcome, and_then, ◌>>=◌, pure, kind_ahead}
 use Rattle.expr_parser.specs.Meaning.{start_of, infix_of, behind_of, binds, is_fixed}
 use Rattle.expr_parser.specs.Reading as reading
 use Rattle.expr_parser.specs.Reading.{ahead, expr, climb, prefix, operation, close}
-use Rattle.expr_parser.proofs.Spans.{tokens_append, longer, within_front, within_back, first, first-is, raise_ok}
-use Rattle.expr_parser.proofs.Exact.{part, Reading, reading, both, mapped, inside, done, on, off, map_to, reads_by, read_at}
-use Rattle.expr_parser.proofs.Leaves.{name_is, number_is, a_number, between, Listed, end_of_list, next_of_list, full_commas, Full, full, Filled, is_so, close_ok}
+use Rattle.expr_parser.proofs.Spans.{tokens_append, longer, first, first-is}
+use Rattle.expr_parser.proofs.Exact.{part, Reading, reading, both, mapped, inside, done, on, off, Above, Follows, comes, too_high, above_front, above_back, follow_behind, follow_as, map_to, reads_by, read_at}
+use Rattle.expr_parser.proofs.Leaves.{name_is, number_is, a_number, raises, opens_then, encloses, Listed, end_of_list, next_of_list, full_commas, Full, full, Filled, is_so, close_ok}
 use Rattle.expr_parser.proofs.Operators.{sign_start, mark_infix, mark_behind, level_bounds, binds_small, ends, ends_ahead, ends_behind}
 use Rattle.expr_parser.proofs.ExpressionSound.{sound, a_value, a_bracketed, an_indexed, a_passed, a_named, indexed_by, passed_by, value_by}
 
@@ -150,31 +152,53 @@ module _ (limit : ℕ) where
     unfolding reading.climbing reading.operations
     climbing_ok least x i j h = rw h
 
-    sign_ok : (t : Token) (ts rest : List Token) (v w : ℕ) (op : Unary) (x : Term) → IsMark (sign_of op) t → v + 1 ≤ limit
-        → ex 12 (input ts (v + 1)) ≡ Ok (x, input rest w) → prefix limit ex (input (t ∷ ts) v) ≡ Ok (plain.Un t.place op x, input rest w)
+    climb_deep : (least n : ℕ) (left : Term) (i : Input) (e : Fault) → least ≤ ahead i → operation limit ex left i ≡ Err e → climb limit ex least (suc n) left i ≡ Err e
+    unfolding climb
+    climb_deep least n left i e h s = let f : nat_lt (ahead i) least ≡ false = lt_false _ _ h in rw (f, s)
+
+    climbing_deep : (least : ℕ) (i : Input) (e : Fault) → prefix limit ex i ≡ Err e → reading.climbing limit ex least i ≡ Err e
+    unfolding reading.climbing
+    climbing_deep least i e h = rw h
+
+    sign_follows : (t : Token) (v w : ℕ) (op : Unary) (x : Term) (ls : List Spelt) (rest : List Token) → IsMark (sign_of op) t
+        → (v + 1 ≤ limit → Follows limit x w ls rest (ex 12 (input (tokens ls ++ rest) (v + 1))))
+        → Follows limit (plain.Un t.place op x) w (at t (v + 1) ∷ ls) rest (prefix limit ex (input (t ∷ (tokens ls ++ rest)) v))
     unfolding prefix
-    sign_ok t ts rest v w op x h r s =
-        let o : raise limit (input (t ∷ ts) v) ≡ Ok (t, input ts (v + 1)) = raise_ok limit t ts v r in
+    sign_follows t v w op x ls rest h s =
         let k : start_of (Some t.kind) ≡ beg.Sign op = rw h (sign_start op) in
-        rw (k, o, s)
+        rw k (opens_then (λ t. ex 12 >>= (λ x. pure (plain.Un t.place op x))) (raises limit t (tokens ls ++ rest) v) (λ small. follow_as (λ x. pure (plain.Un t.place op x)) (s small) refl))
 
-    join_ok : (t : Token) (ts rest : List Token) (v w : ℕ) (op : Operator) (a b : Term) → IsMark (mark_of op) t → v + 1 ≤ limit
-        → ex (level_of op + 1) (input ts (v + 1)) ≡ Ok (b, input rest w) → operation limit ex a (input (t ∷ ts) v) ≡ Ok (joined op t.place a b, input rest w)
+    join_follows : (t : Token) (v w : ℕ) (op : Operator) (a b : Term) (rs : List Spelt) (rest : List Token) → IsMark (mark_of op) t
+        → (v + 1 ≤ limit → Follows limit b w rs rest (ex (level_of op + 1) (input (tokens rs ++ rest) (v + 1))))
+        → Follows limit (joined op t.place a b) w (at t (v + 1) ∷ rs) rest (operation limit ex a (input (t ∷ (tokens rs ++ rest)) v))
     unfolding operation
-    join_ok t ts rest v w op a b h r s =
-        let o : raise limit (input (t ∷ ts) v) ≡ Ok (t, input ts (v + 1)) = raise_ok limit t ts v r in
+    join_follows t v w op a b rs rest h s =
         let k : infix_of (Some t.kind) ≡ inf.Joins op = rw h (mark_infix op) in
-        rw (k, o, s)
+        rw k (opens_then (λ t. ex (level_of op + 1) >>= (λ b. pure (joined op t.place a b))) (raises limit t (tokens rs ++ rest) v)
+        (λ small. follow_as (λ b. pure (joined op t.place a b)) (s small) refl))
 
-    choose_ok : (t colon : Token) (ts ms rest : List Token) (v w x : ℕ) (test a b : Term) → IsMark mark.Question t → IsMark mark.Colon colon → v + 1 ≤ limit
-        → ex 1 (input ts (v + 1)) ≡ Ok (a, input (colon ∷ ms) w) → ex 1 (input ms w) ≡ Ok (b, input rest x)
-        → operation limit ex test (input (t ∷ ts) v) ≡ Ok (plain.Choose t.place test a b, input rest x)
+    choose_follows : (t colon : Token) (v w x : ℕ) (test a b : Term) (ms rs : List Spelt) (rest : List Token) → IsMark mark.Question t → IsMark mark.Colon colon
+        → (v + 1 ≤ limit → Follows limit a w ms (colon ∷ (tokens rs ++ rest)) (ex 1 (input (tokens ms ++ (colon ∷ (tokens rs ++ rest))) (v + 1))))
+        → (v + 1 ≤ limit → ex 1 (input (tokens ms ++ (colon ∷ (tokens rs ++ rest))) (v + 1)) ≡ Ok (a, input (colon ∷ (tokens rs ++ rest)) w) → Follows limit b x rs rest (ex 1 (input (tokens rs ++ rest) w)))
+        → Follows limit (plain.Choose t.place test a b) x (at t (v + 1) ∷ (ms ++ (at colon w ∷ rs))) rest (operation limit ex test (input (t ∷ (tokens (ms ++ (at colon w ∷ rs)) ++ rest)) v))
     unfolding operation reading.chosen
-    choose_ok t colon ts ms rest v w x test a b h k r s u =
-        let o : raise limit (input (t ∷ ts) v) ≡ Ok (t, input ts (v + 1)) = raise_ok limit t ts v r in
-        let c : close fixed.Colon (input (colon ∷ ms) w) ≡ Ok (colon, input ms w) = close_ok fixed.Colon colon ms w k in
+    choose_follows t colon v w x test a b ms rs rest h k former latter =
         let q : infix_of (Some t.kind) ≡ inf.Question = rw h in
-        rw (q, o, s, c, u)
+        rw q (opens_then choose (raises limit t (tokens (ms ++ (at colon w ∷ rs)) ++ rest) v)
+        (λ small. rw (tokens_append ms (at colon w ∷ rs) rest) (by small (ex 1 (input (tokens ms ++ (colon ∷ (tokens rs ++ rest))) (v + 1))) refl (former small))))
+      where
+        second : Token → Term → Parser Term
+        second t a = close fixed.Colon >>= (λ _. ex 1 >>= (λ b. pure (plain.Choose t.place test a b)))
+
+        choose : Token → Parser Term
+        choose t = ex 1 >>= second t
+
+        by : v + 1 ≤ limit → (o : Outcome Term) → ex 1 (input (tokens ms ++ (colon ∷ (tokens rs ++ rest))) (v + 1)) ≡ o → Follows limit a w ms (colon ∷ (tokens rs ++ rest)) o
+            → Follows limit (plain.Choose t.place test a b) x (ms ++ (at colon w ∷ rs)) rest (and_then o (second t))
+        by small o e comes =
+            let c : close fixed.Colon (input (colon ∷ (tokens rs ++ rest)) w) ≡ Ok (colon, input (tokens rs ++ rest) w) = close_ok fixed.Colon colon (tokens rs ++ rest) w k in
+            follow_behind ms (rw c (follow_behind (at colon w ∷ []) (follow_as (λ b. pure (plain.Choose t.place test a b)) (latter small e) refl)))
+        by small o e (too_high u) = too_high (above_front (at colon w ∷ rs) u)
 
   -- The parser comes to where x is read and operators of level n and above may follow.
   pub record Goes (d n : ℕ) (x : Term) (i j : Input) : Type 0 where
@@ -182,20 +206,32 @@ module _ (limit : ℕ) where
     pub enough : length j.rest ≤ turns
     pub reads : expr limit (suc d) n i ≡ climb limit (expr limit d) n turns x j
 
+  -- the same, unless a token before opens a level above the limit
+  pub data Arrives (d n : ℕ) (x : Term) (ls : List Spelt) (i : Input) (rest : List Token) (w : ℕ) : Type 0 where
+    arrives : Goes d n x i (input rest w) → Arrives d n x ls i rest w
+    too_deep : {l : ℕ} → Above limit l rest ls → expr limit (suc d) n i ≡ Err (Deep l) → Arrives d n x ls i rest w
+
   abbrev pub Completes : ℕ → Term → ℕ → List Spelt → ℕ → Type 0
-  Completes m x v ls w = (d n : ℕ) (rest : List Token) → limit ≤ d + v → 1 ≤ n → n ≤ m → Stops m (kind_ahead rest) → IsWithin limit ls → Goes d n x (input (tokens ls ++ rest) v) (input rest w)
+  Completes m x v ls w = (d n : ℕ) (rest : List Token) → limit ≤ d + v → 1 ≤ n → n ≤ m → Stops m (kind_ahead rest) → Arrives d n x ls (input (tokens ls ++ rest) v) rest w
 
   pub finish : (m : ℕ) (x : Term) (v : ℕ) (ls : List Spelt) (w : ℕ) → Completes m x v ls w → (d n : ℕ) (rest : List Token)
-      → v ≤ limit → limit < d + v → 1 ≤ n → n ≤ m → Stops m (kind_ahead rest) → binds (infix_of (kind_ahead rest)) < n → IsWithin limit ls
-      → expr limit d n (input (tokens ls ++ rest) v) ≡ Ok (x, input rest w)
-  finish m x v ls w c zero n rest small deep pos le stops low within = absurd (omega arith)
-  finish m x v ls w c (suc d) n rest small deep pos le stops low within =
-      let g = c d n rest (omega arith) pos le stops within in
-      g.reads ∙ climb_stop (expr limit d) n g.turns x (input rest w) low
+      → v ≤ limit → limit < d + v → 1 ≤ n → n ≤ m → Stops m (kind_ahead rest) → binds (infix_of (kind_ahead rest)) < n
+      → Follows limit x w ls rest (expr limit d n (input (tokens ls ++ rest) v))
+  finish m x v ls w c zero n rest small deep pos le stops low = absurd (omega arith)
+  finish m x v ls w c (suc d) n rest small deep pos le stops low = of (c d n rest (omega arith) pos le stops)
+    where
+      of : Arrives d n x ls (input (tokens ls ++ rest) v) rest w → Follows limit x w ls rest (expr limit (suc d) n (input (tokens ls ++ rest) v))
+      of (arrives g) = rw (g.reads ∙ climb_stop (expr limit d) n g.turns x (input rest w) low) comes
+      of (too_deep a e) = rw e (too_high a)
 
   goes_prefix : (d n : ℕ) (x : Term) (i j : Input) → prefix limit (expr limit d) i ≡ Ok (x, j) → Goes d n x i j
   unfolding expr
   goes_prefix d n x i j h = record { turns = length j.rest; enough = omega arith; reads = climbing_ok (expr limit d) n x i j h }
+
+  prefix_arrives : (d n : ℕ) {x : Term} {w : ℕ} {ls : List Spelt} {i : Input} {rest : List Token} (o : Outcome Term) → prefix limit (expr limit d) i ≡ o → Follows limit x w ls rest o → Arrives d n x ls i rest w
+  unfolding expr
+  prefix_arrives d n {x} {w} {ls} {i} {rest} o e comes = arrives (goes_prefix d n x i (input rest w) e)
+  prefix_arrives d n {x} {w} {ls} {i} {rest} o e (too_high {l} a) = too_deep a (climbing_deep (expr limit d) n i (Deep l) e)
 
   -- one turn of the loop
   goes_on : (d n : ℕ) (left longer : Term) (i j k : Input) → Goes d n left i j → n ≤ ahead j → suc (length k.rest) ≤ length j.rest → operation limit (expr limit d) left j ≡ Ok (longer, k) → Goes d n longer i k
@@ -205,35 +241,48 @@ module _ (limit : ℕ) where
       turn zero h e = absurd (omega arith)
       turn (suc f) h e = record { turns = f; enough = omega arith; reads = e ∙ climb_on (expr limit d) n f left longer j k le o }
 
+  goes_deep : (d n l : ℕ) (left : Term) (i j : Input) → Goes d n left i j → n ≤ ahead j → 1 ≤ length j.rest → operation limit (expr limit d) left j ≡ Err (Deep l) → expr limit (suc d) n i ≡ Err (Deep l)
+  goes_deep d n l left i j g le some o = turn g.turns g.enough g.reads
+    where
+      turn : (f : ℕ) → length j.rest ≤ f → expr limit (suc d) n i ≡ climb limit (expr limit d) n f left j → expr limit (suc d) n i ≡ Err (Deep l)
+      turn zero h e = absurd (omega arith)
+      turn (suc f) h e = e ∙ climb_deep (expr limit d) n f left j (Deep l) le o
+
+  arrives_on : (d n : ℕ) {left longer : Term} {w x : ℕ} {ls : List Spelt} (rs : List Spelt) {i : Input} {rest : List Token} → Arrives d n left ls i (tokens rs ++ rest) w → n ≤ binds (infix_of (kind_ahead (tokens rs ++ rest)))
+      → suc (length rest) ≤ length (tokens rs ++ rest) → (o : Outcome Term) → operation limit (expr limit d) left (input (tokens rs ++ rest) w) ≡ o → Follows limit longer x rs rest o → Arrives d n longer (ls ++ rs) i rest x
+  arrives_on d n {left} {longer} {w} {x} {ls} rs {i} {rest} (arrives g) le less o e comes = arrives (goes_on d n left longer i (input (tokens rs ++ rest) w) (input rest x) g le less e)
+  arrives_on d n {left} {longer} {w} {x} {ls} rs {i} {rest} (arrives g) le less o e (too_high {l} a) = too_deep (above_back ls a) (goes_deep d n l left i (input (tokens rs ++ rest) w) g le (omega (arith, less)) e)
+  arrives_on d n rs (too_deep a f) le less o e h = too_deep (above_front rs a) f
+
   -- an expression of its own, before what ends one
   own_reads : (x : Term) (v w : ℕ) (ls : List Spelt) (k : Option TokenKind) (d : ℕ) → Completes 1 x v ls w → v ≤ limit → limit < d + v → ends k ≡ true → Reading limit (expr limit d 1) v x w ls k
-  own_reads x v w ls k d c small deep h = reading (λ rest e within.
+  own_reads x v w ls k d c small deep h = reading (λ rest e.
       let halt : Stops 1 (kind_ahead rest) = halts 1 (kind_ahead rest) (ap ends e ∙ h) in
-      finish 1 x v ls w c d 1 rest small deep (omega arith) (omega arith) halt (omega (arith, halt.right (omega arith))) within)
+      finish 1 x v ls w c d 1 rest small deep (omega arith) (omega arith) halt (omega (arith, halt.right (omega arith))))
 
   -- ---- operands
 
   c_number : (n v : ℕ) (t : Token) (value : ℤ) → IsNumber value t → Completes n (plain.Num t.place value) v (at t v ∷ []) v
   unfolding prefix
-  c_number n v t value h d n' rest deep pos le stops within =
+  c_number n v t value h d n' rest deep pos le stops =
       let k : start_of (Some t.kind) ≡ beg.Literal = rw h in
-      let r = (map_to (λ n. plain.Num n.place n.value) (a_number limit)).complete v v (plain.Num t.place value) (at t v ∷ []) rest (mapped (part (number_is value h) tt)) within in
-      let p : prefix limit (expr limit d) (input (t ∷ rest) v) ≡ Ok (plain.Num t.place value, input rest v) = rw k r in
-      goes_prefix d n' (plain.Num t.place value) (input (t ∷ rest) v) (input rest v) p
+      let r = (map_to (λ n. plain.Num n.place n.value) (a_number limit)).complete v v (plain.Num t.place value) (at t v ∷ []) rest (mapped (part (number_is value h) tt)) in
+      let p : Follows limit (plain.Num t.place value) v (at t v ∷ []) rest (prefix limit (expr limit d) (input (t ∷ rest) v)) = rw k r in
+      prefix_arrives d n' _ refl p
 
-  named_ok : (d v id : ℕ) (t : Token) (x : Term) (ls : List Spelt) (rest : List Token) → IsName id t → IsWithin limit (at t v ∷ ls)
+  named_ok : (d v id : ℕ) (t : Token) (x : Term) (ls : List Spelt) (rest : List Token) → IsName id t
       → Reading limit (λ i. reading.named_by limit (expr limit d) (behind_of (kind_ahead i.rest)) (sp.name_at id t.place) i) v x v ls (kind_ahead rest)
-      → prefix limit (expr limit d) (input (t ∷ (tokens ls ++ rest)) v) ≡ Ok (x, input rest v)
+      → Follows limit x v (at t v ∷ ls) rest (prefix limit (expr limit d) (input (t ∷ (tokens ls ++ rest)) v))
   unfolding prefix
-  named_ok d v id t x ls rest h within r =
+  named_ok d v id t x ls rest h r =
       let k : start_of (Some t.kind) ≡ beg.Named = rw h in
-      let q = (a_named limit (expr limit d) (sound limit d)).complete v v x (at t v ∷ ls) rest (both (part (name_is id h) tt) r) within in
+      let q = (a_named limit (expr limit d) (sound limit d)).complete v v x (at t v ∷ ls) rest (both (part (name_is id h) tt) r) in
       rw k q
 
   c_read : (n v id : ℕ) (t : Token) → IsName id t → Completes n (plain.Read t.place (name_at id t.place)) v (at t v ∷ []) v
-  c_read n v id t h d n' rest deep pos le stops within =
-      goes_prefix d n' (plain.Read t.place (name_at id t.place)) (input (t ∷ rest) v) (input rest v)
-      (named_ok d v id t (plain.Read t.place (name_at id t.place)) [] rest h within (reading (λ after e u. let k : behind_of (kind_ahead after) ≡ follow.Nothing = ap behind_of e ∙ stops.alone in rw k)))
+  c_read n v id t h d n' rest deep pos le stops =
+      prefix_arrives d n' _ refl (named_ok d v id t (plain.Read t.place (name_at id t.place)) [] rest h (reading (λ after e.
+      let k : behind_of (kind_ahead after) ≡ follow.Nothing = ap behind_of e ∙ stops.alone in rw k comes)))
 
   abbrev IndexReads : Term → ℕ → List Spelt → Type 0
   IndexReads x v ls = (d : ℕ) (k : Option TokenKind) → limit ≤ d + v → Reading limit (reading.indexed limit (expr limit d)) v x v ls k
@@ -253,126 +302,111 @@ module _ (limit : ℕ) where
 
   c_indexes : (x : Term) (v w : ℕ) (left right : Token) (ls : List Spelt) → IsMark mark.LeftSquare left → Completes 1 x (v + 1) ls w → IsMark mark.RightSquare right
       → IndexReads x v (at left (v + 1) ∷ (ls ++ (at right v ∷ [])))
-  c_indexes x v w left right ls hl c hr d k deep = reading (λ rest e within.
+  c_indexes x v w left right ls hl c hr d k deep = reading (λ rest e.
       let e1 : ends (Some right.kind) ≡ true = rw hr in
       (an_indexed limit (expr limit d) (sound limit d)).complete v v x (at left (v + 1) ∷ (ls ++ (at right v ∷ []))) rest
-      (between right hl (own_reads x (v + 1) w ls (Some right.kind) d c within.0 (omega arith) e1) hr) within)
+      (encloses right hl (λ small. own_reads x (v + 1) w ls (Some right.kind) d c small (omega arith) e1) hr))
 
   c_brackets : (x : Term) (v w : ℕ) (left right : Token) (ls : List Spelt) → IsMark mark.LeftRound left → Completes 1 x (v + 1) ls w → IsMark mark.RightRound right
       → BracketReads x v (at left (v + 1) ∷ (ls ++ (at right v ∷ [])))
-  c_brackets x v w left right ls hl c hr d k deep = reading (λ rest e within.
+  c_brackets x v w left right ls hl c hr d k deep = reading (λ rest e.
       let e1 : ends (Some right.kind) ≡ true = rw hr in
       (a_bracketed limit (expr limit d) (sound limit d)).complete v v x (at left (v + 1) ∷ (ls ++ (at right v ∷ []))) rest
-      (between right hl (own_reads x (v + 1) w ls (Some right.kind) d c within.0 (omega arith) e1) hr) within)
+      (encloses right hl (λ small. own_reads x (v + 1) w ls (Some right.kind) d c small (omega arith) e1) hr))
 
   c_none : (v : ℕ) (left right : Token) → IsMark mark.LeftRound left → IsMark mark.RightRound right → PassReads [] v (at left (v + 1) ∷ at right v ∷ [])
-  c_none v left right hl hr d k deep = reading (λ rest e within.
+  c_none v left right hl hr d k deep = reading (λ rest e.
       let e1 : is_fixed fixed.RightRound (Some right.kind) ≡ true = is_so fixed.RightRound right hr in
-      (a_passed limit (expr limit d) (sound limit d)).complete v v [] (at left (v + 1) ∷ at right v ∷ []) rest (between right hl (on e1 done) hr) within)
+      (a_passed limit (expr limit d) (sound limit d)).complete v v [] (at left (v + 1) ∷ at right v ∷ []) rest (encloses right hl (λ small. on e1 done) hr))
 
   c_passes : (xs : List Term) (v : ℕ) (left right : Token) (ls : List Spelt) → IsMark mark.LeftRound left → ArgumentsRead xs (v + 1) ls → Begun ls → IsMark mark.RightRound right
       → PassReads xs v (at left (v + 1) ∷ (ls ++ (at right v ∷ [])))
-  c_passes xs v left right ls hl c b hr d k deep = reading (λ rest e within.
+  c_passes xs v left right ls hl c b hr d k deep = reading (λ rest e.
       let e1 : ends (Some right.kind) ≡ true = rw hr in
       let e2 : is_fixed fixed.Comma (Some right.kind) ≡ false = rw hr in
-      let many = reads_by (full_commas (value_by limit (expr limit d) (sound limit d))) (c d (Some right.kind) within.0 (omega arith) e1 e2) in
       (a_passed limit (expr limit d) (sound limit d)).complete v v xs (at left (v + 1) ∷ (ls ++ (at right v ∷ []))) rest
-      (between right hl (off (begun_round ls (Some right.kind) b) many) hr) within)
+      (encloses right hl (λ small. off (begun_round ls (Some right.kind) b) (reads_by (full_commas (value_by limit (expr limit d) (sound limit d))) (c d (Some right.kind) small (omega arith) e1 e2))) hr))
 
   c_value : (x : Term) (v w : ℕ) (ls : List Spelt) → Completes 1 x v ls w → ValueReads x v ls
   c_value x v w ls c d k small deep h = reads_by (a_value limit (expr limit d) (sound limit d)) (inside (own_reads x v w ls k d c small deep h))
 
   c_element : (n v id : ℕ) (t : Token) (index : Term) (ls : List Spelt) → IsName id t → IndexReads index v ls → ((k : Option TokenKind) → first ls k ≡ Some (kind.Mark mark.LeftSquare))
       → Completes n (plain.Element t.place (name_at id t.place) index) v (at t v ∷ ls) v
-  c_element n v id t index ls h c f d n' rest deep pos le stops within =
+  c_element n v id t index ls h c f d n' rest deep pos le stops =
       let whole = plain.Element t.place (name_at id t.place) index in
-      goes_prefix d n' whole (input (t ∷ (tokens ls ++ rest)) v) (input rest v)
-      (named_ok d v id t whole ls rest h within (reading (λ after e u.
+      prefix_arrives d n' _ refl (named_ok d v id t whole ls rest h (reading (λ after e.
       let k : behind_of (kind_ahead (tokens ls ++ after)) ≡ follow.Index = ap behind_of (first-is ls after ∙ f (kind_ahead after)) in
-      let r = (map_to (λ x. plain.Element t.place (name_at id t.place) x) (indexed_by limit (expr limit d) (sound limit d))).complete v v whole ls after (mapped (c d (kind_ahead after) deep)) u in
+      let r = (map_to (λ x. plain.Element t.place (name_at id t.place) x) (indexed_by limit (expr limit d) (sound limit d))).complete v v whole ls after (mapped (c d (kind_ahead after) deep)) in
       rw k r)))
 
   c_call : (n v id : ℕ) (t : Token) (args : List Term) (ls : List Spelt) → IsName id t → PassReads args v ls → ((k : Option TokenKind) → first ls k ≡ Some (kind.Mark mark.LeftRound))
       → Completes n (plain.Call t.place (name_at id t.place) (listed args)) v (at t v ∷ ls) v
-  c_call n v id t args ls h c f d n' rest deep pos le stops within =
+  c_call n v id t args ls h c f d n' rest deep pos le stops =
       let whole = plain.Call t.place (name_at id t.place) (listed args) in
-      goes_prefix d n' whole (input (t ∷ (tokens ls ++ rest)) v) (input rest v)
-      (named_ok d v id t whole ls rest h within (reading (λ after e u.
+      prefix_arrives d n' _ refl (named_ok d v id t whole ls rest h (reading (λ after e.
       let k : behind_of (kind_ahead (tokens ls ++ after)) ≡ follow.Arguments = ap behind_of (first-is ls after ∙ f (kind_ahead after)) in
-      let r = (map_to (λ xs. plain.Call t.place (name_at id t.place) (listed xs)) (passed_by limit (expr limit d) (sound limit d))).complete v v whole ls after (mapped (c d (kind_ahead after) deep)) u in
+      let r = (map_to (λ xs. plain.Call t.place (name_at id t.place) (listed xs)) (passed_by limit (expr limit d) (sound limit d))).complete v v whole ls after (mapped (c d (kind_ahead after) deep)) in
       rw k r)))
 
   c_bracketed : (n v : ℕ) (x : Term) (ls : List Spelt) → BracketReads x v ls → ((k : Option TokenKind) → first ls k ≡ Some (kind.Mark mark.LeftRound)) → Completes n x v ls v
   unfolding prefix
-  c_bracketed n v x ls c f d n' rest deep pos le stops within =
+  c_bracketed n v x ls c f d n' rest deep pos le stops =
       let k : start_of (kind_ahead (tokens ls ++ rest)) ≡ beg.Round = ap start_of (first-is ls rest ∙ f (kind_ahead rest)) in
-      let r : reading.bracketed limit (expr limit d) (input (tokens ls ++ rest) v) ≡ Ok (x, input rest v) = read_at (c d (kind_ahead rest) deep) rest refl within in
-      let p : prefix limit (expr limit d) (input (tokens ls ++ rest) v) ≡ Ok (x, input rest v) = rw k r in
-      goes_prefix d n' x (input (tokens ls ++ rest) v) (input rest v) p
+      let r : Follows limit x v ls rest (reading.bracketed limit (expr limit d) (input (tokens ls ++ rest) v)) = read_at (c d (kind_ahead rest) deep) rest refl in
+      let p : Follows limit x v ls rest (prefix limit (expr limit d) (input (tokens ls ++ rest) v)) = rw k r in
+      prefix_arrives d n' _ refl p
 
   c_unary : (n v w : ℕ) (t : Token) (x : Term) (ls : List Spelt) (op : Unary) → n ≤ 12 → IsMark (sign_of op) t → Completes 12 x (v + 1) ls w → Completes n (plain.Un t.place op x) v (at t (v + 1) ∷ ls) w
-  c_unary n v w t x ls op top ht c d n' rest deep pos le stops within =
+  c_unary n v w t x ls op top ht c d n' rest deep pos le stops =
       let low = binds_small (infix_of (kind_ahead rest)) in
       let halt : Stops 12 (kind_ahead rest) = record { tight = omega arith; right = λ h. absurd (omega arith); alone = stops.alone } in
-      let s : expr limit d 12 (input (tokens ls ++ rest) (v + 1)) ≡ Ok (x, input rest w) =
-      finish 12 x (v + 1) ls w c d 12 rest within.0 (omega arith) (omega arith) (omega arith) halt low within.1 in
-      goes_prefix d n' (plain.Un t.place op x) (input (t ∷ (tokens ls ++ rest)) v) (input rest w) (sign_ok (expr limit d) t (tokens ls ++ rest) rest v w op x ht within.0 s)
+      prefix_arrives d n' _ refl (sign_follows (expr limit d) t v w op x ls rest ht (λ small.
+      finish 12 x (v + 1) ls w c d 12 rest small (omega arith) (omega arith) (omega arith) halt low))
 
   -- ---- operators
 
   shorter : (ls : List Spelt) (rest : List Token) → suc (length rest) ≤ suc (length (tokens ls ++ rest))
   shorter ls rest = omega (arith, longer ls rest)
 
-  two_shorter : (ms rs : List Spelt) (colon : Token) (rest : List Token) → suc (length rest) ≤ suc (length (tokens ms ++ (colon ∷ (tokens rs ++ rest))))
-  two_shorter ms rs colon rest = omega (arith, longer ms (colon ∷ (tokens rs ++ rest)), longer rs rest)
-
   c_binary : (n v w x : ℕ) (t : Token) (a b : Term) (ls rs : List Spelt) (op : Operator) → n ≤ level_of op → Completes (level_of op) a v ls w → IsMark (mark_of op) t → Completes (level_of op + 1) b (w + 1) rs x → v ≤ w
       → Completes n (joined op t.place a b) v (ls ++ (at t (w + 1) ∷ rs)) x
-  c_binary n v w x t a b ls rs op top ca ht cb grows d n' rest deep pos le stops within =
+  c_binary n v w x t a b ls rs op top ca ht cb grows d n' rest deep pos le stops =
       let tail = tokens rs ++ rest in
       let k : infix_of (Some t.kind) ≡ inf.Joins op = rw ht (mark_infix op) in
       let q : behind_of (Some t.kind) ≡ follow.Nothing = rw ht (mark_behind op) in
       let same : binds (infix_of (Some t.kind)) ≡ level_of op = ap binds k in
       let two = level_bounds op in
       let halt : Stops (level_of op) (Some t.kind) = record { tight = omega arith; right = λ h. absurd (omega (arith, two.0)); alone = q } in
-      let g : Goes d n' a (input (tokens ls ++ (t ∷ tail)) v) (input (t ∷ tail) w) =
-      ca d n' (t ∷ tail) deep pos (omega arith) halt (within_front limit ls (at t (w + 1) ∷ rs) within) in
-      let after : IsWithin limit (at t (w + 1) ∷ rs) = within_back limit ls (at t (w + 1) ∷ rs) within in
       let behind : Stops (level_of op + 1) (kind_ahead rest) = record { tight = omega (arith, stops.tight); right = λ h. absurd (omega (arith, two.0)); alone = stops.alone } in
-      let r : expr limit d (level_of op + 1) (input tail (w + 1)) ≡ Ok (b, input rest x) =
-      finish (level_of op + 1) b (w + 1) rs x cb d (level_of op + 1) rest after.0 (omega arith) (omega arith) (omega arith) behind (omega (arith, stops.tight)) after.1 in
-      let o : operation limit (expr limit d) a (input (t ∷ tail) w) ≡ Ok (joined op t.place a b, input rest x) = join_ok (expr limit d) t tail rest w x op a b ht after.0 r in
-      let l : Goes d n' (joined op t.place a b) (input (tokens ls ++ (t ∷ tail)) v) (input rest x) =
-      goes_on d n' a (joined op t.place a b) (input (tokens ls ++ (t ∷ tail)) v) (input (t ∷ tail) w) (input rest x) g (omega arith) (shorter rs rest) o in
-      rw tokens_append l
+      let g : Arrives d n' a ls (input (tokens ls ++ (t ∷ tail)) v) (t ∷ tail) w = ca d n' (t ∷ tail) deep pos (omega arith) halt in
+      let o : Follows limit (joined op t.place a b) x (at t (w + 1) ∷ rs) rest (operation limit (expr limit d) a (input (t ∷ tail) w)) =
+      join_follows (expr limit d) t w x op a b rs rest ht (λ small.
+      finish (level_of op + 1) b (w + 1) rs x cb d (level_of op + 1) rest small (omega arith) (omega arith) (omega arith) behind (omega (arith, stops.tight))) in
+      let l : Arrives d n' (joined op t.place a b) (ls ++ (at t (w + 1) ∷ rs)) (input (tokens ls ++ (t ∷ tail)) v) rest x =
+      arrives_on d n' (at t (w + 1) ∷ rs) g (omega arith) (shorter rs rest) _ refl o in
+      rw (tokens_append ls (at t (w + 1) ∷ rs) rest) l
 
   c_choose : (n v w x y : ℕ) (t colon : Token) (test a b : Term) (ls ms rs : List Spelt) → n ≤ 1 → Completes 2 test v ls w → IsMark mark.Question t
       → Completes 1 a (w + 1) ms x → IsMark mark.Colon colon → Completes 1 b x rs y → v ≤ w → w + 1 ≤ x
       → Completes n (plain.Choose t.place test a b) v (ls ++ (at t (w + 1) ∷ (ms ++ (at colon x ∷ rs)))) y
-  c_choose n v w x y t colon test a b ls ms rs top ct ht ca hc cb vw wx d n' rest deep pos le stops within =
+  c_choose n v w x y t colon test a b ls ms rs top ct ht ca hc cb vw wx d n' rest deep pos le stops =
       let last = tokens rs ++ rest in
-      let tail = tokens ms ++ (colon ∷ last) in
-      let after : IsWithin limit (at t (w + 1) ∷ (ms ++ (at colon x ∷ rs))) = within_back limit ls (at t (w + 1) ∷ (ms ++ (at colon x ∷ rs))) within in
-      let back : IsWithin limit (at colon x ∷ rs) = within_back limit ms (at colon x ∷ rs) after.1 in
+      let tail = tokens (ms ++ (at colon x ∷ rs)) ++ rest in
       let k : binds (infix_of (Some t.kind)) ≡ 1 = rw ht in
       let q : behind_of (Some t.kind) ≡ follow.Nothing = rw ht in
       let e1 : ends (Some colon.kind) ≡ true = rw hc in
       let halt : Stops 2 (Some t.kind) = record { tight = omega arith; right = λ h. absurd (omega arith); alone = q } in
-      let g : Goes d n' test (input (tokens ls ++ (t ∷ tail)) v) (input (t ∷ tail) w) =
-      ct d n' (t ∷ tail) deep pos (omega arith) halt (within_front limit ls (at t (w + 1) ∷ (ms ++ (at colon x ∷ rs))) within) in
-      let r : expr limit d 1 (input tail (w + 1)) ≡ Ok (a, input (colon ∷ last) x) =
-      read_at (own_reads a (w + 1) x ms (Some colon.kind) d ca after.0 (omega arith) e1) (colon ∷ last) refl (within_front limit ms (at colon x ∷ rs) after.1) in
       let none : binds (infix_of (kind_ahead rest)) ≡ 0 = stops.right (omega arith) in
       let behind : Stops 1 (kind_ahead rest) = record { tight = omega arith; right = λ _. none; alone = stops.alone } in
-      let s : expr limit d 1 (input last x) ≡ Ok (b, input rest y) =
-      finish 1 b x rs y cb d 1 rest back.0 (omega arith) (omega arith) (omega arith) behind (omega arith) back.1 in
-      let o : operation limit (expr limit d) test (input (t ∷ tail) w) ≡ Ok (plain.Choose t.place test a b, input rest y) =
-      choose_ok (expr limit d) t colon tail last rest w x y test a b ht hc after.0 r s in
-      let l : Goes d n' (plain.Choose t.place test a b) (input (tokens ls ++ (t ∷ tail)) v) (input rest y) =
-      goes_on d n' test (plain.Choose t.place test a b) (input (tokens ls ++ (t ∷ tail)) v) (input (t ∷ tail) w) (input rest y) g (omega arith) (two_shorter ms rs colon rest) o in
-      let same : tokens (ls ++ (at t (w + 1) ∷ (ms ++ (at colon x ∷ rs)))) ++ rest ≡ tokens ls ++ (t ∷ tail) =
-      tokens_append ls (at t (w + 1) ∷ (ms ++ (at colon x ∷ rs))) rest ∙ ap (λ z. tokens ls ++ (t ∷ z)) (tokens_append ms (at colon x ∷ rs) rest) in
-      rw same l
+      let g : Arrives d n' test ls (input (tokens ls ++ (t ∷ tail)) v) (t ∷ tail) w = ct d n' (t ∷ tail) deep pos (omega arith) halt in
+      let o : Follows limit (plain.Choose t.place test a b) y (at t (w + 1) ∷ (ms ++ (at colon x ∷ rs))) rest (operation limit (expr limit d) test (input (t ∷ tail) w)) =
+      choose_follows (expr limit d) t colon w x y test a b ms rs rest ht hc
+      (λ small. read_at (own_reads a (w + 1) x ms (Some colon.kind) d ca small (omega arith) e1) (colon ∷ last) refl)
+      (λ small e. let m = sound limit d 1 (omega arith) (omega arith) (input (tokens ms ++ (colon ∷ last)) (w + 1)) (input (colon ∷ last) x) a small e in
+      finish 1 b x rs y cb d 1 rest m.small (omega arith) (omega arith) (omega arith) behind (omega arith)) in
+      let l : Arrives d n' (plain.Choose t.place test a b) (ls ++ (at t (w + 1) ∷ (ms ++ (at colon x ∷ rs)))) (input (tokens ls ++ (t ∷ tail)) v) rest y =
+      arrives_on d n' (at t (w + 1) ∷ (ms ++ (at colon x ∷ rs))) g (omega arith) (shorter (ms ++ (at colon x ∷ rs)) rest) _ refl o in
+      rw (tokens_append ls (at t (w + 1) ∷ (ms ++ (at colon x ∷ rs))) rest) l
 
   c_one : (x : Term) (v : ℕ) (ls : List Spelt) → ValueReads x v ls → Begun ls → ArgumentsRead (x ∷ []) v ls
   c_one x v ls c b d k small deep e n = end_of_list (full (c d k small deep e) (begun_filled ls b)) n

@@ -5,11 +5,12 @@ use Rattle.forec_tree.specs.declared.token.Token.{Token}
 use Rattle.forec_tree.specs.declared.token.TokenKind.{TokenKind}
 use Rattle.forec_tree.specs.declared.token.TokenKind.TheVariants as kind
 use Rattle.forec_tree.specs.declared.token.Mark.TheVariants as mark
+use Rattle.forec_base.specs.declared.operators.Unary.{Unary}
 use Rattle.forec_tree.specs.declared.operators.Operator.{Operator}
 use Rattle.forec_tree.specs.declared.tree.Name.{Name}
 use Rattle.forec_tree.specs.Terms as plain
 use Rattle.forec_tree.specs.Terms.{Term}
-use Rattle.forec_tree.specs.Spelling.{Spelt, at, IsMark, mark_of, sign_of, level_of, joined, listed, tokens, IsWithin, Spells, Whole, Brackets, Indexes, Passes, Arguments, whole, brackets, indexes, passes_none, passes, one}
+use Rattle.forec_tree.specs.Spelling.{Spelt, at, IsMark, mark_of, sign_of, level_of, joined, listed, Spells, Whole, Brackets, Indexes, Passes, Arguments, whole, brackets, indexes, passes_none, passes, one}
 use Rattle.forec_tree.specs.Spelling.{more as more'}
 use Rattle.forec_tree.specs.Spelling as sp
 use Rattle.expr_parser.specs.declared.fault.Fault.TheVariants.{Syntax}
@@ -23,10 +24,10 @@ use Rattle.expr_parser.specs.declared.meaning.Behind.TheVariants as follow
 use Rattle.expr_parser.specs.Input.{Input, Parser, and_then, kind_ahead, raise}
 use Rattle.expr_parser.specs.Meaning.{start_of, infix_of, behind_of, binds}
 use Rattle.expr_parser.specs.Reading as reading
-use Rattle.expr_parser.specs.Reading.{infix_at, ahead, name, number, expr, climb, prefix, prefix_by, named_by, operation, operation_by, close}
+use Rattle.expr_parser.specs.Reading.{infix_at, ahead, number, expr, climb, prefix, prefix_by, named_by, operation, operation_by}
 use Rattle.expr_parser.proofs.Spans.{first, step, ok_of, ok_pair, Raised, raised}
 use Rattle.expr_parser.proofs.Exact.{Lang, Read, Exact, Bind, both, Map, mapped, Scoped, inside, Done, done, If, on, off, Part, part, Reading, Any, bind, map_to, scope, convert, either, done_at, by_reading, then_read, read_as}
-use Rattle.expr_parser.proofs.Leaves.{Tok, tok, NameIs, name_is, NumberIs, number_is, token, a_name, a_number, Enclosed, between, enclosing, l_sound, Listed, end_of_list, next_of_list}
+use Rattle.expr_parser.proofs.Leaves.{Tok, tok, NameIs, name_is, NumberIs, number_is, token, a_name, a_number, Enclosed, EnclosedBy, between, enclosing, l_sound, Listed, end_of_list, next_of_list}
 use Rattle.expr_parser.proofs.Operators.{Begins, begins, Joins, joins, mark_infix, level_bounds, binds_small}
 
 -- an expression at a level of the operators
@@ -88,14 +89,51 @@ join_with {n} (goes_on (chooses {t = t} colon is a hc (found r low)) high) (so_f
     let same : binds (infix_of (Some t.kind)) ≡ 1 = rw is in
     so_far 1 (omega arith) (sp.choose t colon (omega arith) (lower s 2 (two_at m _ same right)) is a hc r) (omega arith) (λ z. omega arith)
 
-join : {n v w : ℕ} {y : Term} {ls : List Spelt} {k : Option TokenKind} → Bind (SoFar n) (GoesOn n) v y w ls k → SoFar n v y w ls k
+pub join : {n v w : ℕ} {y : Term} {ls : List Spelt} {k : Option TokenKind} → Bind (SoFar n) (GoesOn n) v y w ls k → SoFar n v y w ls k
 join (both a b) = join_with b a
+
+-- ---- what each rule finds, as an expression
+
+pub element_of : {n : Name} {v w : ℕ} {y : Term} {ls : List Spelt} {k : Option TokenKind} → Map (λ index. plain.Element n.place n index) (Part Any Indexes) v y w ls k → Behind_name n v y w ls k
+element_of (mapped (part s c)) = by_index s
+
+pub call_of : {n : Name} {v w : ℕ} {y : Term} {ls : List Spelt} {k : Option TokenKind} → Map (λ args. plain.Call n.place n (listed args)) (Part Any Passes) v y w ls k → Behind_name n v y w ls k
+call_of (mapped (part s c)) = by_args s
+
+pub named_of : {v w : ℕ} {x : Term} {ls : List Spelt} {k : Option TokenKind} → Bind (Part Any NameIs) Behind_name v x w ls k → At 12 v x w ls k
+named_of (both (part (name_is id h) c) (by_index s)) = at_level (sp.element id h s)
+named_of (both (part (name_is id h) c) (by_args s)) = at_level (sp.call id h s)
+named_of (both (part (name_is id h) c) by_nothing) = at_level (sp.read id h)
+
+pub literal_of : {v w : ℕ} {y : Term} {ls : List Spelt} {k : Option TokenKind} → Map (λ n. plain.Num n.place n.value) (Part Any NumberIs) v y w ls k → At 12 v y w ls k
+literal_of (mapped (part (number_is value h) c)) = at_level (sp.number value h)
+
+pub signed_of : {v w : ℕ} {y : Term} {ls : List Spelt} {k : Option TokenKind} (op : Unary) → Bind Opens (λ t. Map (λ z. plain.Un t.place op z) (Found 12)) v y w ls k → first ls k ≡ Some (kind.Mark (sign_of op)) → At 12 v y w ls k
+signed_of op (both (opens {t = t}) (mapped (found s low))) e = let is : IsMark (sign_of op) t = cc in at_level (sp.unary op (omega arith) is s)
+
+pub round_of : {v w : ℕ} {y : Term} {ls : List Spelt} {k : Option TokenKind} → Part Any Brackets v y w ls k → At 12 v y w ls k
+round_of (part s c) = at_level (sp.bracketed s)
+
+join_map : {v w : ℕ} {t : Token} {left y : Term} {ls : List Spelt} {k : Option TokenKind} (op : Operator) → Map (λ z. joined op t.place left z) (Found (level_of op + 1)) (v + 1) y w ls k
+    → Some t.kind ≡ Some (kind.Mark (mark_of op)) → Operates left v y w (at t (v + 1) ∷ ls) k
+join_map {v} {t = t} op (mapped s) e = let is : IsMark (mark_of op) t = cc in joins_to op is s
+
+pub joins_of : {v w : ℕ} {left y : Term} {ls : List Spelt} {k : Option TokenKind} (op : Operator) → Bind Opens (λ t. Map (λ z. joined op t.place left z) (Found (level_of op + 1))) v y w ls k
+    → first ls k ≡ Some (kind.Mark (mark_of op)) → Operates left v y w ls k
+joins_of op (both (opens {t = t}) m) e = join_map {t = t} op m e
+
+pub chooses_of : {v w : ℕ} {left y : Term} {ls : List Spelt} {k : Option TokenKind} → Bind Opens (λ t. Bind (Found 1) (λ a. Bind (Tok fixed.Colon) (λ _. Map (λ c. plain.Choose t.place left a c) (Found 1)))) v y w ls k
+    → first ls k ≡ Some (kind.Mark mark.Question) → Operates left v y w ls k
+chooses_of (both (opens {t = t}) (both (found s low) (both (tok {t = colon} hc) (mapped r)))) e = let is : IsMark mark.Question t = cc in chooses colon is s hc r
+
+pub so_far_of : {v w : ℕ} {y : Term} {ls : List Spelt} {k : Option TokenKind} (n : ℕ) → n ≤ 12 → At 12 v y w ls k → SoFar n v y w ls k
+so_far_of {k = k} n top (at_level q) = let low = binds_small (infix_of k) in so_far 12 top q (omega arith) (λ z. absurd (omega arith))
 
 module _ (limit : ℕ) where
   abbrev pub Sounds : (ℕ → Parser Term) → Type 0
   Sounds ex = (n : ℕ) → 1 ≤ n → n ≤ 12 → (i j : Input) (x : Term) → i.level ≤ limit → ex n i ≡ Ok (x, j) → Read limit (Found n) x i j
 
-  a_raise : Exact limit (raise limit) Opens (Reading limit (raise limit))
+  pub a_raise : Exact limit (raise limit) Opens (Reading limit (raise limit))
   a_raise = by_reading (λ i j t small h. so i j t (raised limit i.rest i.level t j h))
     where
       so : (i j : Input) (t : Token) → Raised limit t i j → Read limit Opens t i j
@@ -107,12 +145,12 @@ module _ (limit : ℕ) where
     an_expr : (n : ℕ) → 1 ≤ n → n ≤ 12 → Exact limit (ex n) (Found n) (Reading limit (ex n))
     an_expr n low high = by_reading (sound n low high)
 
-    own : Exact limit (ex 1) (Found 1) (Reading limit (ex 1))
+    pub own : Exact limit (ex 1) (Found 1) (Reading limit (ex 1))
     own = an_expr 1 (omega arith) (omega arith)
 
     -- ---- an expression of its own
 
-    whole_of : (v w : ℕ) (x : Term) (ls : List Spelt) (k : Option TokenKind) → Scoped (Found 1) v x w ls k → Part Any Whole v x w ls k
+    pub whole_of : (v w : ℕ) (x : Term) (ls : List Spelt) (k : Option TokenKind) → Scoped (Found 1) v x w ls k → Part Any Whole v x w ls k
     whole_of v w x ls k (inside (found s low)) = part (whole s) tt
 
     pub a_value : Exact limit (reading.value limit ex) (Part Any Whole) (Scoped (Reading limit (ex 1)))
@@ -121,17 +159,17 @@ module _ (limit : ℕ) where
 
     -- ---- brackets
 
-    brackets_of : (v w : ℕ) (x : Term) (ls : List Spelt) (k : Option TokenKind) → Enclosed fixed.LeftRound fixed.RightRound (λ _ y. y) (Found 1) v x w ls k → Part Any Brackets v x w ls k
+    pub brackets_of : (v w : ℕ) (x : Term) (ls : List Spelt) (k : Option TokenKind) → Enclosed fixed.LeftRound fixed.RightRound (λ _ y. y) (Found 1) v x w ls k → Part Any Brackets v x w ls k
     brackets_of v w x ls k (between right hl (found s low) hr) = part (brackets right hl (whole s) hr) tt
 
-    pub a_bracketed : Exact limit (reading.bracketed limit ex) (Part Any Brackets) (Enclosed fixed.LeftRound fixed.RightRound (λ _ y. y) (Reading limit (ex 1)))
+    pub a_bracketed : Exact limit (reading.bracketed limit ex) (Part Any Brackets) (EnclosedBy limit fixed.LeftRound fixed.RightRound (λ _ y. y) (Reading limit (ex 1)))
     unfolding reading.bracketed
     a_bracketed = convert brackets_of (λ v w x ls k q. q) (enclosing fixed.LeftRound fixed.RightRound (λ _ y. y) own)
 
-    indexes_of : (v w : ℕ) (x : Term) (ls : List Spelt) (k : Option TokenKind) → Enclosed fixed.LeftSquare fixed.RightSquare (λ _ y. y) (Found 1) v x w ls k → Part Any Indexes v x w ls k
+    pub indexes_of : (v w : ℕ) (x : Term) (ls : List Spelt) (k : Option TokenKind) → Enclosed fixed.LeftSquare fixed.RightSquare (λ _ y. y) (Found 1) v x w ls k → Part Any Indexes v x w ls k
     indexes_of v w x ls k (between right hl (found s low) hr) = part (indexes right hl (whole s) hr) tt
 
-    pub an_indexed : Exact limit (reading.indexed limit ex) (Part Any Indexes) (Enclosed fixed.LeftSquare fixed.RightSquare (λ _ y. y) (Reading limit (ex 1)))
+    pub an_indexed : Exact limit (reading.indexed limit ex) (Part Any Indexes) (EnclosedBy limit fixed.LeftSquare fixed.RightSquare (λ _ y. y) (Reading limit (ex 1)))
     unfolding reading.indexed
     an_indexed = convert indexes_of (λ v w x ls k q. q) (enclosing fixed.LeftSquare fixed.RightSquare (λ _ y. y) own)
 
@@ -142,7 +180,7 @@ module _ (limit : ℕ) where
     arguments_in (next_of_list comma (part s c) h more) = more' comma s h (arguments_in more)
 
     -- one expression or more
-    some_values : Exact limit (reading.separated (reading.value limit ex)) (Listed (Part Any Whole)) (Reading limit (reading.separated (reading.value limit ex)))
+    pub some_values : Exact limit (reading.separated (reading.value limit ex)) (Listed (Part Any Whole)) (Reading limit (reading.separated (reading.value limit ex)))
     some_values = by_reading (l_sound a_value)
 
     abbrev pub Given : Lang (List Term) → Lang (List Term)
@@ -153,7 +191,7 @@ module _ (limit : ℕ) where
     passes_of v w xs ls k (between right hl (off e s) hr) = part (passes right hl (arguments_in s) hr) tt
 
     pub a_passed : Exact limit (reading.passed limit ex) (Part Any Passes)
-        (Enclosed fixed.LeftRound fixed.RightRound (λ _ y. y) (Given (Reading limit (reading.separated (reading.value limit ex)))))
+        (EnclosedBy limit fixed.LeftRound fixed.RightRound (λ _ y. y) (Given (Reading limit (reading.separated (reading.value limit ex)))))
     unfolding reading.passed reading.arguments
     a_passed = convert passes_of (λ v w x ls k q. q) (enclosing fixed.LeftRound fixed.RightRound (λ _ y. y) (either fixed.RightRound (done_at []) some_values))
 
@@ -161,15 +199,9 @@ module _ (limit : ℕ) where
 
     behind_by : (n : Name) (f : Behind) (i j : Input) (x : Term) → i.level ≤ limit → named_by limit ex f n i ≡ Ok (x, j) → Read limit (Behind_name n) x i j
     behind_by n follow.Index i j x small h =
-        read_as ((map_to (λ index. plain.Element n.place n index) an_indexed).sound i j x small h) (λ ls e q. of q)
-      where
-        of : {v w : ℕ} {y : Term} {ls : List Spelt} {k : Option TokenKind} → Map (λ index. plain.Element n.place n index) (Part Any Indexes) v y w ls k → Behind_name n v y w ls k
-        of (mapped (part s c)) = by_index s
+        read_as ((map_to (λ index. plain.Element n.place n index) an_indexed).sound i j x small h) (λ ls e q. element_of q)
     behind_by n follow.Arguments i j x small h =
-        read_as ((map_to (λ args. plain.Call n.place n (listed args)) a_passed).sound i j x small h) (λ ls e q. of q)
-      where
-        of : {v w : ℕ} {y : Term} {ls : List Spelt} {k : Option TokenKind} → Map (λ args. plain.Call n.place n (listed args)) (Part Any Passes) v y w ls k → Behind_name n v y w ls k
-        of (mapped (part s c)) = by_args s
+        read_as ((map_to (λ args. plain.Call n.place n (listed args)) a_passed).sound i j x small h) (λ ls e q. call_of q)
     behind_by n follow.Nothing i j x small h = read_as ((done_at (plain.Read n.place n)).sound i j x small h) (λ ls e q. of q)
       where
         of : {v w : ℕ} {y : Term} {ls : List Spelt} {k : Option TokenKind} → Done (plain.Read n.place n) v y w ls k → Behind_name n v y w ls k
@@ -190,31 +222,17 @@ module _ (limit : ℕ) where
 
     pub a_named : Exact limit (reading.named limit ex) (At 12) (Bind (Part Any NameIs) (λ n. Reading limit (λ i. named_by limit ex (behind_of (kind_ahead i.rest)) n i)))
     unfolding reading.named
-    a_named = convert of (λ v w x ls k q. q) (bind (a_name limit) (λ n. by_reading (λ i j x small h. behind_by n (behind_of (kind_ahead i.rest)) i j x small h)))
-      where
-        of : (v w : ℕ) (x : Term) (ls : List Spelt) (k : Option TokenKind) → Bind (Part Any NameIs) Behind_name v x w ls k → At 12 v x w ls k
-        of v w x ls k (both (part (name_is id h) c) (by_index s)) = at_level (sp.element id h s)
-        of v w x ls k (both (part (name_is id h) c) (by_args s)) = at_level (sp.call id h s)
-        of v w x ls k (both (part (name_is id h) c) by_nothing) = at_level (sp.read id h)
+    a_named = convert (λ v w x ls k q. named_of q) (λ v w x ls k q. q) (bind (a_name limit) (λ n. by_reading (λ i j x small h. behind_by n (behind_of (kind_ahead i.rest)) i j x small h)))
 
     prefix_of : (s : Start) (i j : Input) (x : Term) → Begins (kind_ahead i.rest) s → i.level ≤ limit → prefix_by limit ex s i ≡ Ok (x, j) → Read limit (At 12) x i j
-    prefix_of beg.Literal i j x b small h = read_as ((map_to (λ n. plain.Num n.place n.value) (a_number limit)).sound i j x small h) (λ ls e q. of q)
-      where
-        of : {v w : ℕ} {y : Term} {ls : List Spelt} {k : Option TokenKind} → Map (λ n. plain.Num n.place n.value) (Part Any NumberIs) v y w ls k → At 12 v y w ls k
-        of (mapped (part (number_is value h) c)) = at_level (sp.number value h)
+    prefix_of beg.Literal i j x b small h = read_as ((map_to (λ n. plain.Num n.place n.value) (a_number limit)).sound i j x small h) (λ ls e q. literal_of q)
     prefix_of beg.Named i j x b small h = a_named.sound i j x small h
     prefix_of (beg.Sign op) i j x b small h =
-        read_as ((bind a_raise (λ t. map_to (λ y. plain.Un t.place op y) (an_expr 12 (omega arith) (omega arith)))).sound i j x small h) (λ ls e q. of q (e ∙ b))
-      where
-        of : {v w : ℕ} {y : Term} {ls : List Spelt} {k : Option TokenKind} → Bind Opens (λ t. Map (λ z. plain.Un t.place op z) (Found 12)) v y w ls k → first ls k ≡ Some (kind.Mark (sign_of op)) → At 12 v y w ls k
-        of (both (opens {t = t}) (mapped (found s low))) e = let is : IsMark (sign_of op) t = cc in at_level (sp.unary op (omega arith) is s)
-    prefix_of beg.Round i j x b small h = read_as (a_bracketed.sound i j x small h) (λ ls e q. of q)
-      where
-        of : {v w : ℕ} {y : Term} {ls : List Spelt} {k : Option TokenKind} → Part Any Brackets v y w ls k → At 12 v y w ls k
-        of (part s c) = at_level (sp.bracketed s)
+        read_as ((bind a_raise (λ t. map_to (λ y. plain.Un t.place op y) (an_expr 12 (omega arith) (omega arith)))).sound i j x small h) (λ ls e q. signed_of op q (e ∙ b))
+    prefix_of beg.Round i j x b small h = read_as (a_bracketed.sound i j x small h) (λ ls e q. round_of q)
     prefix_of beg.Nothing i j x b small h = absurd (cc)
 
-    s_prefix : (i j : Input) (x : Term) → i.level ≤ limit → prefix limit ex i ≡ Ok (x, j) → Read limit (At 12) x i j
+    pub s_prefix : (i j : Input) (x : Term) → i.level ≤ limit → prefix limit ex i ≡ Ok (x, j) → Read limit (At 12) x i j
     unfolding prefix
     s_prefix i j x small h = prefix_of (start_of (kind_ahead i.rest)) i j x (begins (kind_ahead i.rest)) small h
 
@@ -224,21 +242,9 @@ module _ (limit : ℕ) where
     unfolding reading.chosen
     operates_of (inf.Joins op) left i j x b small h =
         let bounds = level_bounds op in
-        read_as ((bind a_raise (λ t. map_to (λ y. joined op t.place left y) (an_expr (level_of op + 1) (omega arith) (omega (arith, bounds.1))))).sound i j x small h) (λ ls e q. of q (e ∙ b))
-      where
-        map_of : {v w : ℕ} {t : Token} {y : Term} {ls : List Spelt} {k : Option TokenKind} → Map (λ z. joined op t.place left z) (Found (level_of op + 1)) (v + 1) y w ls k
-            → Some t.kind ≡ Some (kind.Mark (mark_of op)) → Operates left v y w (at t (v + 1) ∷ ls) k
-        map_of {v} {t = t} (mapped s) e = let is : IsMark (mark_of op) t = cc in joins_to op is s
-
-        of : {v w : ℕ} {y : Term} {ls : List Spelt} {k : Option TokenKind} → Bind Opens (λ t. Map (λ z. joined op t.place left z) (Found (level_of op + 1))) v y w ls k
-            → first ls k ≡ Some (kind.Mark (mark_of op)) → Operates left v y w ls k
-        of (both (opens {t = t}) m) e = map_of {t = t} m e
+        read_as ((bind a_raise (λ t. map_to (λ y. joined op t.place left y) (an_expr (level_of op + 1) (omega arith) (omega (arith, bounds.1))))).sound i j x small h) (λ ls e q. joins_of op q (e ∙ b))
     operates_of inf.Question left i j x b small h =
-        read_as ((bind a_raise (λ t. bind own (λ a. bind (token limit fixed.Colon) (λ _. map_to (λ c. plain.Choose t.place left a c) own)))).sound i j x small h) (λ ls e q. of q (e ∙ b))
-      where
-        of : {v w : ℕ} {y : Term} {ls : List Spelt} {k : Option TokenKind} → Bind Opens (λ t. Bind (Found 1) (λ a. Bind (Tok fixed.Colon) (λ _. Map (λ c. plain.Choose t.place left a c) (Found 1)))) v y w ls k
-            → first ls k ≡ Some (kind.Mark mark.Question) → Operates left v y w ls k
-        of (both (opens {t = t}) (both (found s low) (both (tok {t = colon} hc) (mapped r)))) e = let is : IsMark mark.Question t = cc in chooses colon is s hc r
+        read_as ((bind a_raise (λ t. bind own (λ a. bind (token limit fixed.Colon) (λ _. map_to (λ c. plain.Choose t.place left a c) own)))).sound i j x small h) (λ ls e q. chooses_of q (e ∙ b))
     operates_of inf.Nothing left i j x b small h = absurd (cc)
 
     s_operation : (left : Term) (i j : Input) (x : Term) → i.level ≤ limit → operation limit ex left i ≡ Ok (x, j) → Read limit (Operates left) x i j
@@ -247,7 +253,7 @@ module _ (limit : ℕ) where
 
     -- ---- the loop
 
-    goes_of : (n : ℕ) (left : Term) (i j : Input) (x : Term) → i.level ≤ limit → n ≤ ahead i → operation limit ex left i ≡ Ok (x, j) → Read limit (GoesOn n left) x i j
+    pub goes_of : (n : ℕ) (left : Term) (i j : Input) (x : Term) → i.level ≤ limit → n ≤ ahead i → operation limit ex left i ≡ Ok (x, j) → Read limit (GoesOn n left) x i j
     goes_of n left i j x small high h = read_as (s_operation left i j x small h) (λ ls e q. goes_on q (let f : binds (infix_of (first ls (kind_ahead j.rest))) ≡ ahead i = ap (λ k. binds (infix_of k)) e in omega arith))
 
     ClimbsTo : ℕ → Type 0
@@ -294,10 +300,7 @@ module _ (limit : ℕ) where
     unfolding reading.climbing reading.operations ClimbsTo
     s_climbing n pos top i j x small h =
         let s = step (prefix limit ex i) (λ y k. climb limit ex n (length k.rest) y k) (x, j) h in
-        s_climb (length s.state.rest) n s.value x i s.state j pos (read_as (s_prefix i s.state s.value small s.was) (λ ls e q. of s.state q)) s.goes
-      where
-        of : {v w : ℕ} {y : Term} {ls : List Spelt} (k : Input) → At 12 v y w ls (kind_ahead k.rest) → SoFar n v y w ls (kind_ahead k.rest)
-        of k (at_level s) = let low = binds_small (infix_at k) in so_far 12 top s (omega arith) (λ z. absurd (omega arith))
+        s_climb (length s.state.rest) n s.value x i s.state j pos (read_as (s_prefix i s.state s.value small s.was) (λ ls e q. so_far_of n top q)) s.goes
 
   -- What is read is spelled so, and what stands behind it does not go on with it.
   pub sound : (d : ℕ) → Sounds (expr limit d)

@@ -1,23 +1,23 @@
 -- The parsers of single tokens, and of lists with commas.
 use mathlib.Core.Path.{subst}
-use Rattle.std.proofs.Common.{◌≡◌, ℕ, ℤ, zero, suc, ◌+◌, ◌≤◌, Bool, true, false, cond, List, [], ◌∷◌, ◌++◌, length, Option, Some, None, Ok, Err, refl, sym, ◌∙◌, ap, append_assoc, arith}
+use Rattle.std.proofs.Common.{◌≡◌, ℕ, ℤ, zero, suc, ◌+◌, ◌≤◌, ◌<◌, Bool, true, false, nat_lt, cond, List, [], ◌∷◌, ◌++◌, length, Option, Some, None, Ok, Err, refl, sym, ◌∙◌, ap, append_assoc, arith}
 use Rattle.forec_tree.specs.declared.token.Token.{Token}
 use Rattle.forec_tree.specs.declared.token.TokenKind.{TokenKind}
 use Rattle.forec_tree.specs.declared.token.TokenKind.TheVariants as kind
 use Rattle.forec_tree.specs.declared.tree.Name.{Name}
 use Rattle.forec_tree.specs.declared.tree.Number.{Number}
-use Rattle.forec_tree.specs.Spelling.{Spelt, at, tokens, IsWithin, IsName, IsNumber, name_at}
+use Rattle.forec_tree.specs.Spelling.{Spelt, at, tokens, IsName, IsNumber, name_at}
 use Rattle.forec_tree.specs.Parts.{number_at}
-use Rattle.expr_parser.specs.declared.fault.Fault.TheVariants.{Syntax}
+use Rattle.expr_parser.specs.declared.fault.Fault.TheVariants.{Syntax, Deep}
 use Rattle.expr_parser.specs.declared.fixed.Fixed.{Fixed}
 use Rattle.expr_parser.specs.declared.fixed.Fixed.TheVariants as fixed
-use Rattle.expr_parser.specs.Input.{Input, input, Parser, and_then, kind_ahead, take, raise}
+use Rattle.expr_parser.specs.Input.{Input, input, Parser, Outcome, and_then, ◌>>=◌, kind_ahead, take, raise}
 use Rattle.expr_parser.specs.Meaning.{is_fixed, name_of, number_of}
 use Rattle.expr_parser.specs.Reading as reading
-use Rattle.expr_parser.specs.Reading.{close, enter, name, number, name_by, number_by, separated, separated_from}
-use Rattle.expr_parser.proofs.Spans.{tokens_append, longer, within_front, within_back, within_join, Step, step, ok_of, ok_pair, Took, Raised, took, raised, head_kind, raise_ok, take_ok}
+use Rattle.expr_parser.specs.Reading.{next_is, close, enter, name, number, name_by, number_by, separated, separated_from}
+use Rattle.expr_parser.proofs.Spans.{tokens_append, longer, within_join, Step, step, ok_of, ok_pair, Took, Raised, took, raised, head_kind, take_ok}
 use Rattle.expr_parser.proofs.Closers.{kind_of, fixed-kind, kind-fixed}
-use Rattle.expr_parser.proofs.Exact.{Lang, Read, Exact, Part, part, Any, convert}
+use Rattle.expr_parser.proofs.Exact.{Lang, Read, Exact, Bind, Part, part, Any, Follows, comes, too_high, above_here, above_later, above_front, follow_behind, follow_then, follow_as, bind, convert}
 
 abbrev pub Is : Fixed → Token → Type 0
 Is f t = t.kind ≡ kind_of f
@@ -73,12 +73,35 @@ pub close_ok : (f : Fixed) (t : Token) (ts : List Token) (v : ℕ) → Is f t �
 unfolding close
 close_ok f t ts v h = let e : is_fixed f (Some t.kind) ≡ true = is_so f t h in rw (e, take_ok)
 
-pub enter_ok : (limit : ℕ) (f : Fixed) (t : Token) (ts : List Token) (v : ℕ) → v + 1 ≤ limit → Is f t → enter limit f (input (t ∷ ts) v) ≡ Ok (t, input ts (v + 1))
+-- what comes of a token that opens a level
+pub data Raising (limit : ℕ) (t : Token) (ts : List Token) (v : ℕ) : Outcome Token → Type 0 where
+  fits : v + 1 ≤ limit → Raising limit t ts v (Ok (t, input ts (v + 1)))
+  exceeds : limit < v + 1 → Raising limit t ts v (Err (Deep (suc (length ts))))
+
+pub raises : (limit : ℕ) (t : Token) (ts : List Token) (v : ℕ) → Raising limit t ts v (raise limit (input (t ∷ ts) v))
+unfolding raise
+raises limit t ts v = by_test (nat_lt v limit) refl
+  where
+    by_test : (b : Bool) → nat_lt v limit ≡ b → Raising limit t ts v (cond b (Ok (t, input ts (v + 1))) (Err (Deep (suc (length ts)))))
+    by_test true e = fits (let lower : v < limit = grind arith in omega arith)
+    by_test false e = exceeds (let higher : limit ≤ v = grind arith in omega arith)
+
+pub enters : (limit : ℕ) (f : Fixed) (t : Token) (ts : List Token) (v : ℕ) → Is f t → Raising limit t ts v (enter limit f (input (t ∷ ts) v))
 unfolding enter
-enter_ok limit f t ts v r h = let e : is_fixed f (Some t.kind) ≡ true = is_so f t h in rw (e, raise_ok limit t ts v r)
+enters limit f t ts v h = let e : is_fixed f (Some t.kind) ≡ true = is_so f t h in rw e (raises limit t ts v)
+
+follow_opens : {limit v : ℕ} {t : Token} {ts : List Token} {o : Outcome Token} → Raising limit t ts v o → Follows limit t (v + 1) (at t (v + 1) ∷ []) ts o
+follow_opens (fits le) = comes
+follow_opens (exceeds lt) = too_high (above_here lt refl)
+
+-- what stands behind such a token is looked at only where the limit allows it
+pub opens_then : {B : Type 0} {limit v w : ℕ} {t : Token} {y : B} {ls : List Spelt} {rest : List Token} {o : Outcome Token} (g : Token → Parser B) → Raising limit t (tokens ls ++ rest) v o
+    → (v + 1 ≤ limit → Follows limit y w ls rest (g t (input (tokens ls ++ rest) (v + 1)))) → Follows limit y w (at t (v + 1) ∷ ls) rest (and_then o g)
+opens_then {v = v} {t = t} g (fits le) h = follow_behind (at t (v + 1) ∷ []) (h le)
+opens_then g (exceeds lt) h = too_high (above_here lt refl)
 
 pub token : (limit : ℕ) (f : Fixed) → Exact limit (close f) (Tok f) (Tok f)
-token limit f = record { sound = so; complete = λ v w t ls rest q within. of q rest }
+token limit f = record { sound = so; complete = λ v w t ls rest q. of q rest }
   where
     so : (i j : Input) (t : Token) → i.level ≤ limit → close f i ≡ Ok (t, j) → Read limit (Tok f) t i j
     so i j t small h =
@@ -86,11 +109,11 @@ token limit f = record { sound = so; complete = λ v w t ls rest q within. of q 
         let R : ℕ → Type 0 = λ z. Tok f i.level t z (at t i.level ∷ []) (kind_ahead j.rest) in
         record { spelt = at t i.level ∷ []; front = c.took.front; spells = subst R (sym c.took.level) (tok c.is); within = (small, tt); small = omega (arith, c.took.level) }
 
-    of : {v w : ℕ} {t : Token} {ls : List Spelt} {k : Option TokenKind} → Tok f v t w ls k → (rest : List Token) → close f (input (tokens ls ++ rest) v) ≡ Ok (t, input rest w)
-    of (tok {v} {t} {k} h) rest = close_ok f t rest v h
+    of : {v w : ℕ} {t : Token} {ls : List Spelt} {k : Option TokenKind} → Tok f v t w ls k → (rest : List Token) → Follows limit t w ls rest (close f (input (tokens ls ++ rest) v))
+    of (tok {v} {t} {k} h) rest = rw (close_ok f t rest v h) comes
 
 pub last_token : (limit u : ℕ) → u ≤ limit → (f : Fixed) → Exact limit (close f) (Last f u) (Last f u)
-last_token limit u low f = record { sound = so; complete = λ v w t ls rest q within. of q rest }
+last_token limit u low f = record { sound = so; complete = λ v w t ls rest q. of q rest }
   where
     so : (i j : Input) (t : Token) → i.level ≤ limit → close f i ≡ Ok (t, j) → Read limit (Last f u) t i j
     so i j t small h =
@@ -98,11 +121,11 @@ last_token limit u low f = record { sound = so; complete = λ v w t ls rest q wi
         let R : ℕ → Type 0 = λ z. Last f u i.level t z (at t u ∷ []) (kind_ahead j.rest) in
         record { spelt = at t u ∷ []; front = c.took.front; spells = subst R (sym c.took.level) (last c.is); within = (low, tt); small = omega (arith, c.took.level) }
 
-    of : {v w : ℕ} {t : Token} {ls : List Spelt} {k : Option TokenKind} → Last f u v t w ls k → (rest : List Token) → close f (input (tokens ls ++ rest) v) ≡ Ok (t, input rest w)
-    of (last {v} {t} {k} h) rest = close_ok f t rest v h
+    of : {v w : ℕ} {t : Token} {ls : List Spelt} {k : Option TokenKind} → Last f u v t w ls k → (rest : List Token) → Follows limit t w ls rest (close f (input (tokens ls ++ rest) v))
+    of (last {v} {t} {k} h) rest = rw (close_ok f t rest v h) comes
 
 pub opening : (limit : ℕ) (f : Fixed) → Exact limit (enter limit f) (Up f) (Up f)
-opening limit f = record { sound = so; complete = λ v w t ls rest q within. of q rest within }
+opening limit f = record { sound = so; complete = λ v w t ls rest q. of q rest }
   where
     so : (i j : Input) (t : Token) → i.level ≤ limit → enter limit f i ≡ Ok (t, j) → Read limit (Up f) t i j
     so i j t small h =
@@ -110,8 +133,21 @@ opening limit f = record { sound = so; complete = λ v w t ls rest q within. of 
         let R : ℕ → Type 0 = λ z. Up f i.level t z (at t (i.level + 1) ∷ []) (kind_ahead j.rest) in
         record { spelt = at t (i.level + 1) ∷ []; front = c.raised.front; spells = subst R (sym c.raised.level) (up c.is); within = (c.raised.small, tt); small = omega (arith, c.raised.level, c.raised.small) }
 
-    of : {v w : ℕ} {t : Token} {ls : List Spelt} {k : Option TokenKind} → Up f v t w ls k → (rest : List Token) → IsWithin limit ls → enter limit f (input (tokens ls ++ rest) v) ≡ Ok (t, input rest w)
-    of (up {v} {t} {k} h) rest within = enter_ok limit f t rest v within.0 h
+    of : {v w : ℕ} {t : Token} {ls : List Spelt} {k : Option TokenKind} → Up f v t w ls k → (rest : List Token) → Follows limit t w ls rest (enter limit f (input (tokens ls ++ rest) v))
+    of (up {v} {t} {k} h) rest = follow_opens (enters limit f t rest v h)
+
+-- a token that opens a level, and what stands behind it where the limit allows this
+pub data Over {B : Type 0} (limit : ℕ) (f : Fixed) (Q : Token → Lang B) : ℕ → B → ℕ → List Spelt → Option TokenKind → Type 0 where
+  over : {v w : ℕ} {t : Token} {y : B} {ls : List Spelt} {k : Option TokenKind} → Is f t → (v + 1 ≤ limit → Q t (v + 1) y w ls k) → Over limit f Q v y w (at t (v + 1) ∷ ls) k
+
+module _ {limit : ℕ} {B : Type 0} {g : Token → Parser B} {P Q : Token → Lang B} (f : Fixed) where
+  pub bind_up : ((t : Token) → Exact limit (g t) (P t) (Q t)) → Exact limit (enter limit f >>= g) (Bind (Up f) P) (Over limit f Q)
+  bind_up b = record { sound = (bind (opening limit f) b).sound; complete = λ v w y ls rest q. of q rest refl }
+    where
+      of : {v w : ℕ} {y : B} {ls : List Spelt} {k : Option TokenKind} → Over limit f Q v y w ls k → (rest : List Token) → k ≡ kind_ahead rest → Follows limit y w ls rest (and_then (enter limit f (input (tokens ls ++ rest) v)) g)
+      of (over {v} {w} {t} {y} {ls} {k} h q) rest e =
+          let S : Option TokenKind → Type 0 = λ z. Q t (v + 1) y w ls z in
+          opens_then g (enters limit f t (tokens ls ++ rest) v h) (λ small. (b t).complete (v + 1) w y ls rest (subst S e (q small)))
 
 -- ---- brackets
 
@@ -120,12 +156,17 @@ pub data EnclosedTo {A B : Type 0} (g : ℕ → ℕ) (l r : Fixed) (f : Token �
   between : {v w : ℕ} {left : Token} (right : Token) {x : A} {ls : List Spelt} {k : Option TokenKind} → Is l left → P (v + 1) x w ls (Some right.kind) → Is r right
       → EnclosedTo g l r f P v (f left x) v (at left (v + 1) ∷ (ls ++ (at right (g v) ∷ []))) k
 
+-- the same, where what stands between is looked at only where the limit allows it
+pub data Enclosing {A B : Type 0} (limit : ℕ) (g : ℕ → ℕ) (l r : Fixed) (f : Token → A → B) (P : Lang A) : ℕ → B → ℕ → List Spelt → Option TokenKind → Type 0 where
+  encloses : {v w : ℕ} {left : Token} (right : Token) {x : A} {ls : List Spelt} {k : Option TokenKind} → Is l left → (v + 1 ≤ limit → P (v + 1) x w ls (Some right.kind)) → Is r right
+      → Enclosing limit g l r f P v (f left x) v (at left (v + 1) ∷ (ls ++ (at right (g v) ∷ []))) k
+
 abbrev pub Enclosed : {A B : Type 0} → Fixed → Fixed → (Token → A → B) → Lang A → Lang B
 Enclosed l r f P = EnclosedTo (λ v. v) l r f P
 
 module _ {limit : ℕ} {A B : Type 0} {p : Parser A} {P P' : Lang A} (g : ℕ → ℕ) (low : (v : ℕ) → v ≤ limit → g v ≤ limit) (l r : Fixed) (f : Token → A → B) where
-  pub enclosing_to : Exact limit p P P' → Exact limit (reading.enclosed limit l r f p) (EnclosedTo g l r f P) (EnclosedTo g l r f P')
-  enclosing_to a = record { sound = so; complete = λ v w y ls rest q within. of q rest within }
+  pub enclosing_to : Exact limit p P P' → Exact limit (reading.enclosed limit l r f p) (EnclosedTo g l r f P) (Enclosing limit g l r f P')
+  enclosing_to a = record { sound = so; complete = λ v w y ls rest q. of q rest }
     where
       finish : Token → A → Parser B
       finish t x = λ k. and_then (close r k) (λ _ m. ok_of (f t x) m)
@@ -157,18 +198,27 @@ module _ {limit : ℕ} {A B : Type 0} {p : Parser A} {P P' : Lang A} (g : ℕ �
             small = omega (arith, level);
           }
 
-      of : {v w : ℕ} {y : B} {ls : List Spelt} {k : Option TokenKind} → EnclosedTo g l r f P' v y w ls k → (rest : List Token) → IsWithin limit ls
-          → reading.enclosed limit l r f p (input (tokens ls ++ rest) v) ≡ Ok (y, input rest w)
-      of (between {v} {w} {left} right {x} {ls} {k} hl q hr) rest within =
-          let tail = tokens ls ++ (right ∷ rest) in
-          let same : tokens (ls ++ (at right (g v) ∷ [])) ++ rest ≡ tail = tokens_append ls (at right (g v) ∷ []) rest in
-          let one : enter limit l (input (left ∷ tail) v) ≡ Ok (left, input tail (v + 1)) = enter_ok limit l left tail v within.0 hl in
-          let two : p (input tail (v + 1)) ≡ Ok (x, input (right ∷ rest) w) = a.complete (v + 1) w x ls (right ∷ rest) q (within_front limit ls (at right (g v) ∷ []) within.1) in
-          let three : close r (input (right ∷ rest) w) ≡ Ok (right, input rest w) = close_ok r right rest w hr in
-          rw (same, one, two, three)
+      closes_by : {v w : ℕ} (left right : Token) {x : A} {ls : List Spelt} {rest : List Token} {o : Outcome A} → Is r right → Follows limit x w ls (right ∷ rest) o
+          → Follows limit (f left x) v (at left (v + 1) ∷ (ls ++ (at right (g v) ∷ []))) rest (and_then (and_then o (finish left)) (λ x k. Ok (x, input k.rest v)))
+      closes_by {v} {w} left right {rest = rest} hr comes = rw (close_ok r right rest w hr) comes
+      closes_by {v} left right hr (too_high a) = too_high (above_later (above_front (at right (g v) ∷ []) a))
+
+      of : {v w : ℕ} {y : B} {ls : List Spelt} {k : Option TokenKind} → Enclosing limit g l r f P' v y w ls k → (rest : List Token)
+          → Follows limit y w ls rest (reading.enclosed limit l r f p (input (tokens ls ++ rest) v))
+      of (encloses {v} {w} {left} right {x} {ls} {k} hl q hr) rest =
+          let same : tokens (ls ++ (at right (g v) ∷ [])) ++ rest ≡ tokens ls ++ (right ∷ rest) = tokens_append ls (at right (g v) ∷ []) rest in
+          rw same (by same (enters limit l left (tokens ls ++ (right ∷ rest)) v hl))
+        where
+          by : tokens (ls ++ (at right (g v) ∷ [])) ++ rest ≡ tokens ls ++ (right ∷ rest) → {o : Outcome Token} → Raising limit left (tokens ls ++ (right ∷ rest)) v o
+              → Follows limit (f left x) v (at left (v + 1) ∷ (ls ++ (at right (g v) ∷ []))) rest (and_then (and_then o (λ t k. and_then (p k) (finish t))) (λ x k. Ok (x, input k.rest v)))
+          by same (fits small) = closes_by left right hr (a.complete (v + 1) w x ls (right ∷ rest) (q small))
+          by same (exceeds lt) = too_high (above_here lt (ap (λ z. suc (length z)) (sym same)))
+
+abbrev pub EnclosedBy : {A B : Type 0} → ℕ → Fixed → Fixed → (Token → A → B) → Lang A → Lang B
+EnclosedBy limit l r f P = Enclosing limit (λ v. v) l r f P
 
 module _ {limit : ℕ} {A B : Type 0} {p : Parser A} {P P' : Lang A} (l r : Fixed) (f : Token → A → B) where
-  pub enclosing : Exact limit p P P' → Exact limit (reading.enclosed limit l r f p) (Enclosed l r f P) (Enclosed l r f P')
+  pub enclosing : Exact limit p P P' → Exact limit (reading.enclosed limit l r f p) (Enclosed l r f P) (EnclosedBy limit l r f P')
   enclosing a = enclosing_to (λ v. v) (λ v h. h) l r f a
 
 -- ---- names and numbers
@@ -191,7 +241,7 @@ has_number _ = tt
 
 pub a_name : (limit : ℕ) → Exact limit name (Part Any NameIs) (Part Any NameIs)
 unfolding name
-a_name limit = record { sound = so; complete = λ v w n ls rest q within. of q rest }
+a_name limit = record { sound = so; complete = λ v w n ls rest q. of q rest }
   where
     by : (i j : Input) (n : Name) → i.level ≤ limit → (o : Option ℕ) → HasName (kind_ahead i.rest) o → name_by o i ≡ Ok (n, j) → Read limit (Part Any NameIs) n i j
     by i j n small None s h = absurd (cc)
@@ -210,12 +260,12 @@ a_name limit = record { sound = so; complete = λ v w n ls rest q within. of q r
     so : (i j : Input) (n : Name) → i.level ≤ limit → name i ≡ Ok (n, j) → Read limit (Part Any NameIs) n i j
     so i j n small h = by i j n small (name_of (kind_ahead i.rest)) (has_name (kind_ahead i.rest)) h
 
-    of : {v w : ℕ} {n : Name} {ls : List Spelt} {k : Option TokenKind} → Part Any NameIs v n w ls k → (rest : List Token) → name (input (tokens ls ++ rest) v) ≡ Ok (n, input rest w)
-    of (part (name_is {v} {t} id h) c) rest = let e : name_of (Some t.kind) ≡ Some id = rw h in rw (e, take_ok)
+    of : {v w : ℕ} {n : Name} {ls : List Spelt} {k : Option TokenKind} → Part Any NameIs v n w ls k → (rest : List Token) → Follows limit n w ls rest (name (input (tokens ls ++ rest) v))
+    of (part (name_is {v} {t} id h) c) rest = let e : name_of (Some t.kind) ≡ Some id = rw h in rw (e, take_ok) comes
 
 pub a_number : (limit : ℕ) → Exact limit number (Part Any NumberIs) (Part Any NumberIs)
 unfolding number
-a_number limit = record { sound = so; complete = λ v w n ls rest q within. of q rest }
+a_number limit = record { sound = so; complete = λ v w n ls rest q. of q rest }
   where
     by : (i j : Input) (n : Number) → i.level ≤ limit → (o : Option ℤ) → HasNumber (kind_ahead i.rest) o → number_by o i ≡ Ok (n, j) → Read limit (Part Any NumberIs) n i j
     by i j n small None s h = absurd (cc)
@@ -234,8 +284,8 @@ a_number limit = record { sound = so; complete = λ v w n ls rest q within. of q
     so : (i j : Input) (n : Number) → i.level ≤ limit → number i ≡ Ok (n, j) → Read limit (Part Any NumberIs) n i j
     so i j n small h = by i j n small (number_of (kind_ahead i.rest)) (has_number (kind_ahead i.rest)) h
 
-    of : {v w : ℕ} {n : Number} {ls : List Spelt} {k : Option TokenKind} → Part Any NumberIs v n w ls k → (rest : List Token) → number (input (tokens ls ++ rest) v) ≡ Ok (n, input rest w)
-    of (part (number_is {v} {t} value h) c) rest = let e : number_of (Some t.kind) ≡ Some value = rw h in rw (e, take_ok)
+    of : {v w : ℕ} {n : Number} {ls : List Spelt} {k : Option TokenKind} → Part Any NumberIs v n w ls k → (rest : List Token) → Follows limit n w ls rest (number (input (tokens ls ++ rest) v))
+    of (part (number_is {v} {t} value h) c) rest = let e : number_of (Some t.kind) ≡ Some value = rw h in rw (e, take_ok) comes
 
 -- ---- lists with commas
 
@@ -311,35 +361,39 @@ module _ {limit : ℕ} {A : Type 0} {p : Parser A} {P P' : Lang A} (a : Exact li
       let S : List A → Type 0 = λ z. Read limit (Listed P) z i j in
       subst S (sym m.all_is) m.read
 
+  abbrev next_part : ℕ → List A → A → Parser (List A)
+  next_part n found x i = cond (next_is fixed.Comma i) (and_then (take i) (λ _. separated_from p n (found ++ x ∷ []))) (Ok (found ++ x ∷ [], i))
+
   l_complete : (some : (v w : ℕ) (x : A) (ls : List Spelt) (k : Option TokenKind) → P' v x w ls k → Filled ls) → {v w : ℕ} {xs : List A} {ls : List Spelt} {k : Option TokenKind}
-      → Listed P' v xs w ls k → (n : ℕ) (found : List A) (rest : List Token) → k ≡ kind_ahead rest → IsWithin limit ls
-      → length (tokens ls ++ rest) ≤ n → separated_from p n found (input (tokens ls ++ rest) v) ≡ Ok (found ++ xs, input rest w)
+      → Listed P' v xs w ls k → (n : ℕ) (found : List A) (rest : List Token) → k ≡ kind_ahead rest
+      → length (tokens ls ++ rest) ≤ n → Follows limit (found ++ xs) w ls rest (separated_from p n found (input (tokens ls ++ rest) v))
   unfolding separated_from
-  l_complete some (end_of_list {v} {w} {x} {ls} {k} q c) zero found rest e within enough = absurd (omega (arith, filled-long ls rest (some v w x ls k q)))
-  l_complete some (end_of_list {v} {w} {x} {ls} {k} q c) (suc n) found rest e within enough =
+  l_complete some (end_of_list {v} {w} {x} {ls} {k} q c) zero found rest e enough = absurd (omega (arith, filled-long ls rest (some v w x ls k q)))
+  l_complete some (end_of_list {v} {w} {x} {ls} {k} q c) (suc n) found rest e enough =
       let R : Option TokenKind → Type 0 = λ z. P' v x w ls z in
-      let one : p (input (tokens ls ++ rest) v) ≡ Ok (x, input rest w) = a.complete v w x ls rest (subst R e q) within in
       let no : is_fixed fixed.Comma (kind_ahead rest) ≡ false = ap (is_fixed fixed.Comma) (sym e) ∙ c in
-      rw (one, no)
-  l_complete some (next_of_list {v} {u} {w} {x} {xs} comma {ls} {rs} {k} q c more) zero found rest e within enough =
+      follow_as (next_part n found) (a.complete v w x ls rest (subst R e q)) (rw no)
+  l_complete some (next_of_list {v} {u} {w} {x} {xs} comma {ls} {rs} {k} q c more) zero found rest e enough =
       let tail = tokens rs ++ rest in
       let same : tokens (ls ++ (at comma u ∷ rs)) ++ rest ≡ tokens ls ++ (comma ∷ tail) = tokens_append ls (at comma u ∷ rs) rest in
       let room : length (tokens ls ++ (comma ∷ tail)) ≤ 0 = rw same at enough in
       absurd (omega (arith, longer ls (comma ∷ tail)))
-  l_complete some (next_of_list {v} {u} {w} {x} {xs} comma {ls} {rs} {k} q c more) (suc n) found rest e within enough =
+  l_complete some (next_of_list {v} {u} {w} {x} {xs} comma {ls} {rs} {k} q c more) (suc n) found rest e enough =
       let tail = tokens rs ++ rest in
-      let one : p (input (tokens ls ++ (comma ∷ tail)) v) ≡ Ok (x, input (comma ∷ tail) u) = a.complete v u x ls (comma ∷ tail) q (within_front limit ls (at comma u ∷ rs) within) in
       let yes' : is_fixed fixed.Comma (Some comma.kind) ≡ true = is_so fixed.Comma comma c in
       let same : tokens (ls ++ (at comma u ∷ rs)) ++ rest ≡ tokens ls ++ (comma ∷ tail) = tokens_append ls (at comma u ∷ rs) rest in
       let room : length (tokens ls ++ (comma ∷ tail)) ≤ suc n = rw same at enough in
-      let many = l_complete some more n (found ++ x ∷ []) rest e (within_back limit ls (at comma u ∷ rs) within).1 (omega (arith, longer ls (comma ∷ tail))) in
-      rw (same, one, yes', take_ok) (many ∙ ap (λ z. Ok (z, input rest w)) (append_assoc found (x ∷ []) xs))
+      let many = l_complete some more n (found ++ x ∷ []) rest e (omega (arith, longer ls (comma ∷ tail))) in
+      let S : List A → Type 0 = λ z. Follows limit z w rs rest (separated_from p n (found ++ x ∷ []) (input tail u)) in
+      let two : Follows limit (found ++ (x ∷ xs)) w rs rest (separated_from p n (found ++ x ∷ []) (input tail u)) = subst S (append_assoc found (x ∷ []) xs) many in
+      let three : Follows limit (found ++ (x ∷ xs)) w (at comma u ∷ rs) rest (next_part n found x (input (comma ∷ tail) u)) = rw (yes', take_ok) (follow_behind (at comma u ∷ []) two) in
+      rw same (follow_then (at comma u ∷ rs) (next_part n found) (a.complete v u x ls (comma ∷ tail) q) three)
 
   pub commas : ((v w : ℕ) (x : A) (ls : List Spelt) (k : Option TokenKind) → P' v x w ls k → Filled ls) → Exact limit (separated p) (Listed P) (Listed P')
   unfolding separated
   commas some = record {
     sound = l_sound;
-    complete = λ v w xs ls rest q within. l_complete some q (length (tokens ls ++ rest)) [] rest refl within (omega arith);
+    complete = λ v w xs ls rest q. l_complete some q (length (tokens ls ++ rest)) [] rest refl (omega arith);
   }
 
 -- a part that has a token

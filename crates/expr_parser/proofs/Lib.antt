@@ -8,3 +8,8 @@ pub mod Operators
 pub mod ExpressionSound
 pub mod ExpressionComplete
 pub mod AsSpelled
+pub mod Steady
+pub mod ExpressionSteady
+pub mod Viable
+pub mod ViableLeaves
+pub mod ViableExpressions

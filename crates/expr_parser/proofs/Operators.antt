@@ -1,5 +1,5 @@
 -- The tables of expressions, read backwards, and what ends an expression.
-use Rattle.std.proofs.Common.{◌≡◌, ◌≤◌, ◌<◌, Bool, true, false, Option, Some, refl, arith}
+use Rattle.std.proofs.Common.{◌≡◌, ◌≤◌, ◌<◌, true, false, Option, Some, refl, arith}
 use Rattle.forec_base.specs.declared.operators.Unary.{Unary}
 use Rattle.forec_base.specs.declared.operators.Unary.TheVariants as un
 use Rattle.forec_base.specs.declared.operators.Binary.{Binary}

@@ -39,6 +39,10 @@ pub first-is : (ls : List Spelt) (rest : List Token) → kind_ahead (tokens ls +
 first-is [] rest = refl
 first-is (s ∷ ls) rest = refl
 
+pub first-append : (a b : List Spelt) (k : Option TokenKind) → first (a ++ b) k ≡ first a (first b k)
+first-append [] b k = refl
+first-append (s ∷ a) b k = refl
+
 -- ---- steps, read backwards
 
 pub record Step {A B : Type 0} (r : Outcome A) (f : A → Parser B) (y : B × Input) : Type 0 where
@@ -93,7 +97,7 @@ head_kind ts rest t k e h = let a : Some t.kind ≡ Some k = ap kind_ahead (sym 
 
 -- ---- steps, forwards
 
-lt_true : (a b : ℕ) → a < b → nat_lt a b ≡ true
+pub lt_true : (a b : ℕ) → a < b → nat_lt a b ≡ true
 lt_true a b h = grind arith
 
 pub raise_ok : (limit : ℕ) (t : Token) (ts : List Token) (v : ℕ) → v + 1 ≤ limit → raise limit (input (t ∷ ts) v) ≡ Ok (t, input ts (v + 1))

@@ -14,4 +14,4 @@ mod words;
 
 pub use fault::LexFault;
 pub use law::one_lexing;
-pub use text::{Lexed, lex};
+pub use text::{Lexed, end_place, lex};

@@ -3,7 +3,7 @@ ghost use Rattle.std.specs.Prelude.{◌≡◌, ◌≢◌, ◌≤◌, ◌<◌, �
 ghost use Rattle.forec_base.specs.declared.Place.{Place};
 ghost use Rattle.forec_tree.specs.declared.token.Token.{Token};
 ghost use Rattle.forec_tree.specs.LexedText as lexed;
-ghost use Rattle.forec_tree.specs.LexedText.{place_after, IsLexed, IsBad, IsMany, AreDistinct, IsSpelt, IsNumbered, NumbersSpellings, AreInOrder};
+ghost use Rattle.forec_tree.specs.LexedText.{place_after, first_place, IsLexed, IsBad, IsMany, AreDistinct, IsSpelt, IsNumbered, NumbersSpellings, AreInOrder};
 ghost use Rattle.forec_lexer.specs.Reading.{shown, IsText};
 ghost use Rattle.forec_lexer.specs.Answers.{kept, IsFull, HasCause};
 ghost use Rattle.forec_lexer.specs.Shown.{IsSame};
@@ -41,6 +41,14 @@ fn place_behind(place: Place, bytes: &[u8]) -> Place
         }
     }
     Place { line, column }
+}
+
+/// The place behind the last byte of a text of at most 1,048,576 bytes, in time linear in it.
+pub fn end_place(text: &[u8]) -> Place
+    requires { length text.now ≤ 1048576 }
+    ensures { result ≡ fold place_after first_place text.now }
+{
+    place_behind(Place { line: 1, column: 1 }, text)
 }
 
 // The kind of token that a piece gives, if it gives one. A new name is added to the names.

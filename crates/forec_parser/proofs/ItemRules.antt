@@ -32,8 +32,8 @@ use Rattle.forec_parser.specs.Items as it
 use Rattle.forec_parser.specs.Items.{combine_of}
 use Rattle.expr_parser.proofs.Spans.{first, step, ok_pair, took, head_kind, take_ok}
 use Rattle.expr_parser.proofs.Closers.{fixed-kind}
-use Rattle.expr_parser.proofs.Exact.{Lang, Read, Exact, Bind, both, Map, mapped, Done, done, If, on, off, Part, part, Reading, reading, Any, bind, map_to, convert, either, done_at, by_reading, read_as, reads_by}
-use Rattle.expr_parser.proofs.Leaves.{Tok, tok, NameIs, name_is, NumberIs, number_is, token, a_name, a_number, Enclosed, between, enclosing, Listed, end_of_list, next_of_list, full_commas, Full, full, Filled, is_so}
+use Rattle.expr_parser.proofs.Exact.{Lang, Read, Exact, Bind, both, Map, mapped, Done, done, If, on, off, Part, part, Reading, reading, Any, comes, bind, map_to, convert, either, done_at, by_reading, read_as, reads_by}
+use Rattle.expr_parser.proofs.Leaves.{Tok, tok, NameIs, name_is, NumberIs, number_is, token, a_name, a_number, Enclosed, EnclosedBy, between, encloses, enclosing, Listed, end_of_list, next_of_list, full_commas, Full, full, Filled, is_so}
 use Rattle.expr_parser.proofs.Operators.{ends, ends_assign}
 use Rattle.forec_parser.proofs.SimpleRules.{a_list, list_reads}
 use Rattle.forec_parser.proofs.PartRules.{MaybeLength, some_length, no_length, maybe_length_by, maybe_length_reads}
@@ -67,7 +67,7 @@ policy_is_so policy.All = refl
 policy_is_so policy.New = refl
 policy_is_so policy.Mod = refl
 
-data PolicyIs : Policy → ℕ → List Spelt → Type 0 where
+pub data PolicyIs : Policy → ℕ → List Spelt → Type 0 where
   policy_is : {v : ℕ} {t : Token} (p : Policy) → IsWord (policy_word p) t → PolicyIs p v (at t v ∷ [])
 
 -- ---- what is behind a name
@@ -109,21 +109,21 @@ items_read f g (next_part {x = x} comma {ls = ls} s h r) e n = next_of_list comm
 module _ (limit : ℕ) where
   -- ---- values
 
-  abbrev negated : Token → Number → Number
+  abbrev pub negated : Token → Number → Number
   negated t n = number_at (unary_of un.Minus n.value) t.place
 
   abbrev SignedBy : Lang Number
   SignedBy = If fixed.Minus (Bind (Tok fixed.Minus) (λ t. Map (negated t) (Part Any NumberIs))) (Part Any NumberIs)
 
+  pub signed_number_of : (v w : ℕ) (x : Number) (ls : List Spelt) (k : Option TokenKind) → SignedBy v x w ls k → Part Any Signed v x w ls k
+  signed_number_of v w x ls k (on e (both (tok h) (mapped (part (number_is value m) c)))) = part (negative value h m) tt
+  signed_number_of v w x ls k (off e (part (number_is value m) c)) = part (positive value m) tt
+
   a_signed : Exact limit it.signed (Part Any Signed) SignedBy
   unfolding it.signed it.negative
-  a_signed = convert of (λ v w x ls k q. q) (either fixed.Minus (bind (token limit fixed.Minus) (λ t. map_to (negated t) (a_number limit))) (a_number limit))
-    where
-      of : (v w : ℕ) (x : Number) (ls : List Spelt) (k : Option TokenKind) → SignedBy v x w ls k → Part Any Signed v x w ls k
-      of v w x ls k (on e (both (tok h) (mapped (part (number_is value m) c)))) = part (negative value h m) tt
-      of v w x ls k (off e (part (number_is value m) c)) = part (positive value m) tt
+  a_signed = convert signed_number_of (λ v w x ls k q. q) (either fixed.Minus (bind (token limit fixed.Minus) (λ t. map_to (negated t) (a_number limit))) (a_number limit))
 
-  signed_by : Exact limit it.signed (Part Any Signed) (Reading limit it.signed)
+  pub signed_by : Exact limit it.signed (Part Any Signed) (Reading limit it.signed)
   signed_by = by_reading a_signed.sound
 
   pub signed_reads : {v : ℕ} {x : Number} {ls : List Spelt} {k : Option TokenKind} → Signed x v ls → Reading limit it.signed v x v ls k
@@ -134,29 +134,29 @@ module _ (limit : ℕ) where
   signed_filled n ls (positive value m) = tt
   signed_filled n ls (negative value h m) = tt
 
-  data OneValue : List Number → ℕ → List Spelt → Type 0 where
+  pub data OneValue : List Number → ℕ → List Spelt → Type 0 where
     one_is : {v : ℕ} {t : Token} {n : Number} {ls : List Spelt} → IsMark mark.Assign t → Signed n v ls → OneValue (n ∷ []) v (at t v ∷ ls)
+
+  pub one_value_of : (v w : ℕ) (x : List Number) (ls : List Spelt) (k : Option TokenKind) → Bind (Tok fixed.Assign) (λ _. Map (λ n. n ∷ []) (Part Any Signed)) v x w ls k → Part Any OneValue v x w ls k
+  one_value_of v w x ls k (both (tok h) (mapped (part s c))) = part (one_is h s) tt
 
   a_one_value : Exact limit it.one_value (Part Any OneValue) (Bind (Tok fixed.Assign) (λ _. Map (λ n. n ∷ []) (Reading limit it.signed)))
   unfolding it.one_value
-  a_one_value = convert of (λ v w x ls k q. q) (bind (token limit fixed.Assign) (λ _. map_to (λ n. n ∷ []) signed_by))
-    where
-      of : (v w : ℕ) (x : List Number) (ls : List Spelt) (k : Option TokenKind) → Bind (Tok fixed.Assign) (λ _. Map (λ n. n ∷ []) (Part Any Signed)) v x w ls k → Part Any OneValue v x w ls k
-      of v w x ls k (both (tok h) (mapped (part s c))) = part (one_is h s) tt
+  a_one_value = convert one_value_of (λ v w x ls k q. q) (bind (token limit fixed.Assign) (λ _. map_to (λ n. n ∷ []) signed_by))
 
-  one_value_by : Exact limit it.one_value (Part Any OneValue) (Reading limit it.one_value)
+  pub one_value_by : Exact limit it.one_value (Part Any OneValue) (Reading limit it.one_value)
   one_value_by = by_reading a_one_value.sound
 
   one_value_reads : {v : ℕ} {xs : List Number} {ls : List Spelt} {k : Option TokenKind} → OneValue xs v ls → Reading limit it.one_value v xs v ls k
   one_value_reads (one_is h s) = reads_by a_one_value (both (tok h) (mapped (signed_reads s)))
 
+  pub maybe_value_of : (v w : ℕ) (x : List Number) (ls : List Spelt) (k : Option TokenKind) → If fixed.Assign (Part Any OneValue) (Done []) v x w ls k → Part Any MaybeValue v x w ls k
+  maybe_value_of v w x ls k (on e (part (one_is h s) c)) = part (some_value h s) tt
+  maybe_value_of v w x ls k (off e done) = part no_value tt
+
   a_maybe_value : Exact limit it.maybe_value (Part Any MaybeValue) (If fixed.Assign (Reading limit it.one_value) (Done []))
   unfolding it.maybe_value
-  a_maybe_value = convert of (λ v w x ls k q. q) (either fixed.Assign one_value_by (done_at []))
-    where
-      of : (v w : ℕ) (x : List Number) (ls : List Spelt) (k : Option TokenKind) → If fixed.Assign (Part Any OneValue) (Done []) v x w ls k → Part Any MaybeValue v x w ls k
-      of v w x ls k (on e (part (one_is h s) c)) = part (some_value h s) tt
-      of v w x ls k (off e done) = part no_value tt
+  a_maybe_value = convert maybe_value_of (λ v w x ls k q. q) (either fixed.Assign one_value_by (done_at []))
 
   pub maybe_value_by : Exact limit it.maybe_value (Part Any MaybeValue) (Reading limit it.maybe_value)
   maybe_value_by = by_reading a_maybe_value.sound
@@ -181,23 +181,23 @@ module _ (limit : ℕ) where
       let T : Policy → Type 0 = λ z. Read limit (Part Any PolicyIs) z i j in
       subst T e.0 (subst S e.1 made)
 
-  a_policy : Exact limit it.policy (Part Any PolicyIs) (Reading limit it.policy)
+  pub a_policy : Exact limit it.policy (Part Any PolicyIs) (Reading limit it.policy)
   unfolding it.policy
   a_policy = by_reading (λ i j p small h. policy_read i j p small (policy_of (kind_ahead i.rest)) (has_policy (kind_ahead i.rest)) h)
 
   policy_reads : {v : ℕ} {p : Policy} {ls : List Spelt} {k : Option TokenKind} → PolicyIs p v ls → Reading limit it.policy v p v ls k
   unfolding it.policy
-  policy_reads (policy_is {v} {t} p h) = reading (λ rest e within. let f : policy_of (Some t.kind) ≡ Some p = rw h (policy_is_so p) in rw (f, take_ok))
+  policy_reads (policy_is {v} {t} p h) = reading (λ rest e. let f : policy_of (Some t.kind) ≡ Some p = rw h (policy_is_so p) in rw (f, take_ok) comes)
 
   abbrev CombinesBy : Lang Policy → Lang Combine
   CombinesBy P = Bind (Tok fixed.Combine) (λ _. Bind P (λ p. Bind (Tok fixed.With) (λ _. Map (combine_of p) (Part Any NameIs))))
 
+  pub combines_of : (v w : ℕ) (x : Combine) (ls : List Spelt) (k : Option TokenKind) → CombinesBy (Part Any PolicyIs) v x w ls k → Part Any Combines v x w ls k
+  combines_of v w x ls k (both (tok h) (both (part (policy_is p m) c) (both (tok n) (mapped (part (name_is id o) d))))) = part (combines p id h m n o) tt
+
   a_combines : Exact limit it.combines (Part Any Combines) (CombinesBy (Reading limit it.policy))
   unfolding it.combines
-  a_combines = convert of (λ v w x ls k q. q) (bind (token limit fixed.Combine) (λ _. bind a_policy (λ p. bind (token limit fixed.With) (λ _. map_to (combine_of p) (a_name limit)))))
-    where
-      of : (v w : ℕ) (x : Combine) (ls : List Spelt) (k : Option TokenKind) → CombinesBy (Part Any PolicyIs) v x w ls k → Part Any Combines v x w ls k
-      of v w x ls k (both (tok h) (both (part (policy_is p m) c) (both (tok n) (mapped (part (name_is id o) d))))) = part (combines p id h m n o) tt
+  a_combines = convert combines_of (λ v w x ls k q. q) (bind (token limit fixed.Combine) (λ _. bind a_policy (λ p. bind (token limit fixed.With) (λ _. map_to (combine_of p) (a_name limit)))))
 
   pub combines_by : Exact limit it.combines (Part Any Combines) (Reading limit it.combines)
   combines_by = by_reading a_combines.sound
@@ -207,14 +207,14 @@ module _ (limit : ℕ) where
 
   -- ---- parameters
 
+  pub param_of : (v w : ℕ) (x : Name) (ls : List Spelt) (k : Option TokenKind) → Bind (Tok fixed.Int) (λ _. Part Any NameIs) v x w ls k → Part Any Param v x w ls k
+  param_of v w x ls k (both (tok h) (part (name_is id m) c)) = part (param id h m) tt
+
   a_param : Exact limit it.param (Part Any Param) (Bind (Tok fixed.Int) (λ _. Part Any NameIs))
   unfolding it.param
-  a_param = convert of (λ v w x ls k q. q) (bind (token limit fixed.Int) (λ _. a_name limit))
-    where
-      of : (v w : ℕ) (x : Name) (ls : List Spelt) (k : Option TokenKind) → Bind (Tok fixed.Int) (λ _. Part Any NameIs) v x w ls k → Part Any Param v x w ls k
-      of v w x ls k (both (tok h) (part (name_is id m) c)) = part (param id h m) tt
+  a_param = convert param_of (λ v w x ls k q. q) (bind (token limit fixed.Int) (λ _. a_name limit))
 
-  param_by : Exact limit it.param (Part Any Param) (Reading limit it.param)
+  pub param_by : Exact limit it.param (Part Any Param) (Reading limit it.param)
   param_by = by_reading a_param.sound
 
   param_reads : {v : ℕ} {x : Name} {ls : List Spelt} {k : Option TokenKind} → Param x v ls → Reading limit it.param v x v ls k
@@ -236,16 +236,16 @@ module _ (limit : ℕ) where
   abbrev ParamsBy : Lang (List Name) → Lang (List Name)
   ParamsBy P = If fixed.RightRound (Done []) (If fixed.Void (Map (λ _. []) (Tok fixed.Void)) P)
 
+  pub params_of : (v w : ℕ) (x : List Name) (ls : List Spelt) (k : Option TokenKind) → ParamsBy (Part Any (Separated Param)) v x w ls k → Part Any Params v x w ls k
+  params_of v w x ls k (on e done) = part no_params tt
+  params_of v w x ls k (off e (on f (mapped (tok h)))) = part (void_params h) tt
+  params_of v w x ls k (off e (off f (part s c))) = part (params s) tt
+
   a_params : Exact limit it.params (Part Any Params) (ParamsBy (Listed (Full (Reading limit it.param))))
   unfolding it.params it.some_params
-  a_params = convert of (λ v w x ls k q. q) (either fixed.RightRound (done_at []) (either fixed.Void (map_to (λ _. []) (token limit fixed.Void)) (a_list param_by)))
-    where
-      of : (v w : ℕ) (x : List Name) (ls : List Spelt) (k : Option TokenKind) → ParamsBy (Part Any (Separated Param)) v x w ls k → Part Any Params v x w ls k
-      of v w x ls k (on e done) = part no_params tt
-      of v w x ls k (off e (on f (mapped (tok h)))) = part (void_params h) tt
-      of v w x ls k (off e (off f (part s c))) = part (params s) tt
+  a_params = convert params_of (λ v w x ls k q. q) (either fixed.RightRound (done_at []) (either fixed.Void (map_to (λ _. []) (token limit fixed.Void)) (a_list param_by)))
 
-  params_by : Exact limit it.params (Part Any Params) (Reading limit it.params)
+  pub params_by : Exact limit it.params (Part Any Params) (Reading limit it.params)
   params_by = by_reading a_params.sound
 
   params_read : {v : ℕ} {xs : List Name} {ls : List Spelt} {k : Option TokenKind} → Params xs v ls → is_fixed fixed.RightRound k ≡ true → Reading limit it.params v xs v ls k
@@ -255,70 +255,70 @@ module _ (limit : ℕ) where
       reads_by a_params (off (ap (is_fixed fixed.RightRound) (params_first s k)) (off (ap (is_fixed fixed.Void) (params_first s k))
       (list_reads (λ x ls k q z. param_reads q) (λ x ls q. param_filled x ls q) s (round_ends k e) (round_comma k e))))
 
-  a_parameters : Exact limit (it.parameters limit) (Part Any Parameters) (Enclosed fixed.LeftRound fixed.RightRound (λ _ ps. ps) (Reading limit it.params))
+  pub parameters_of : (v w : ℕ) (x : List Name) (ls : List Spelt) (k : Option TokenKind) → Enclosed fixed.LeftRound fixed.RightRound (λ _ ps. ps) (Part Any Params) v x w ls k → Part Any Parameters v x w ls k
+  parameters_of v w x ls k (between right hl (part s c) hr) = part (parameters right hl s hr) tt
+
+  a_parameters : Exact limit (it.parameters limit) (Part Any Parameters) (EnclosedBy limit fixed.LeftRound fixed.RightRound (λ _ ps. ps) (Reading limit it.params))
   unfolding it.parameters
-  a_parameters = convert of (λ v w x ls k q. q) (enclosing fixed.LeftRound fixed.RightRound (λ _ ps. ps) params_by)
-    where
-      of : (v w : ℕ) (x : List Name) (ls : List Spelt) (k : Option TokenKind) → Enclosed fixed.LeftRound fixed.RightRound (λ _ ps. ps) (Part Any Params) v x w ls k → Part Any Parameters v x w ls k
-      of v w x ls k (between right hl (part s c) hr) = part (parameters right hl s hr) tt
+  a_parameters = convert parameters_of (λ v w x ls k q. q) (enclosing fixed.LeftRound fixed.RightRound (λ _ ps. ps) params_by)
 
   pub parameters_by : Exact limit (it.parameters limit) (Part Any Parameters) (Reading limit (it.parameters limit))
   parameters_by = by_reading a_parameters.sound
 
   pub parameters_read : {v : ℕ} {xs : List Name} {ls : List Spelt} {k : Option TokenKind} → Parameters xs v ls → Reading limit (it.parameters limit) v xs v ls k
-  parameters_read (parameters right hl s hr) = reads_by a_parameters (between right hl (params_read s (is_so fixed.RightRound right hr)) hr)
+  parameters_read (parameters right hl s hr) = reads_by a_parameters (encloses right hl (λ small. params_read s (is_so fixed.RightRound right hr)) hr)
 
   -- ---- tables
 
-  data Tabled : List Number → ℕ → List Spelt → Type 0 where
+  pub data Tabled : List Number → ℕ → List Spelt → Type 0 where
     tabled : {v : ℕ} (equal left right : Token) {xs : List Number} {ls : List Spelt} → IsMark mark.Assign equal → IsMark mark.LeftCurly left → Separated Signed xs (v + 1) ls → IsMark mark.RightCurly right
         → Tabled xs v (at equal v ∷ at left (v + 1) ∷ (ls ++ (at right v ∷ [])))
 
   abbrev ManyBy : Lang (List Number) → Lang (List Number)
   ManyBy L = Bind (Tok fixed.Assign) (λ _. Enclosed fixed.LeftCurly fixed.RightCurly (λ _ xs. xs) L)
 
-  a_many : Exact limit (it.many_values limit) (Part Any Tabled) (ManyBy (Listed (Full (Reading limit it.signed))))
+  pub many_of : (v w : ℕ) (x : List Number) (ls : List Spelt) (k : Option TokenKind) → ManyBy (Part Any (Separated Signed)) v x w ls k → Part Any Tabled v x w ls k
+  many_of v w x ls k (both (tok h) (between right hl (part s c) hr)) = part (tabled _ _ right h hl s hr) tt
+
+  a_many : Exact limit (it.many_values limit) (Part Any Tabled) (Bind (Tok fixed.Assign) (λ _. EnclosedBy limit fixed.LeftCurly fixed.RightCurly (λ _ xs. xs) (Listed (Full (Reading limit it.signed)))))
   unfolding it.many_values it.table_values
-  a_many = convert of (λ v w x ls k q. q) (bind (token limit fixed.Assign) (λ _. enclosing fixed.LeftCurly fixed.RightCurly (λ _ xs. xs) (a_list signed_by)))
-    where
-      of : (v w : ℕ) (x : List Number) (ls : List Spelt) (k : Option TokenKind) → ManyBy (Part Any (Separated Signed)) v x w ls k → Part Any Tabled v x w ls k
-      of v w x ls k (both (tok h) (between right hl (part s c) hr)) = part (tabled _ _ right h hl s hr) tt
+  a_many = convert many_of (λ v w x ls k q. q) (bind (token limit fixed.Assign) (λ _. enclosing fixed.LeftCurly fixed.RightCurly (λ _ xs. xs) (a_list signed_by)))
 
   many_reads : {v : ℕ} {xs : List Number} {ls : List Spelt} {k : Option TokenKind} → Tabled xs v ls → Reading limit (it.many_values limit) v xs v ls k
   many_reads (tabled equal left right h hl s hr) =
-      reads_by a_many (both (tok h) (between right hl (list_reads (λ x ls k q z. signed_reads q) (λ x ls q. signed_filled x ls q) s (curly_ends right hr) (curly_comma right hr)) hr))
+      reads_by a_many (both (tok h) (encloses right hl (λ small. list_reads (λ x ls k q z. signed_reads q) (λ x ls q. signed_filled x ls q) s (curly_ends right hr) (curly_comma right hr)) hr))
 
-  data TableValues : Option Number → List Number → ℕ → List Spelt → Type 0 where
+  pub data TableValues : Option Number → List Number → ℕ → List Spelt → Type 0 where
     one_number : {v : ℕ} {xs : List Number} {ls : List Spelt} → OneValue xs v ls → TableValues None xs v ls
     more_numbers : {v : ℕ} {n : Number} {xs : List Number} {ls : List Spelt} → Tabled xs v ls → TableValues (Some n) xs v ls
 
-  values_by : (length : Option Number) → Exact limit (it.values_by limit length) (Part Any (TableValues length)) (Reading limit (it.values_by limit length))
-  values_by None = by_reading (λ i j x small h. read_as (one_value_by.sound i j x small h) (λ ls e q. of q))
-    where
-      of : {v w : ℕ} {y : List Number} {ls : List Spelt} {k : Option TokenKind} → Part Any OneValue v y w ls k → Part Any (TableValues None) v y w ls k
-      of (part s c) = part (one_number s) tt
-  values_by (Some n) = by_reading (λ i j x small h. read_as (a_many.sound i j x small h) (λ ls e q. of q))
-    where
-      of : {v w : ℕ} {y : List Number} {ls : List Spelt} {k : Option TokenKind} → Part Any Tabled v y w ls k → Part Any (TableValues (Some n)) v y w ls k
-      of (part s c) = part (more_numbers s) tt
+  pub values_one : {v w : ℕ} {y : List Number} {ls : List Spelt} {k : Option TokenKind} → Part Any OneValue v y w ls k → Part Any (TableValues None) v y w ls k
+  values_one (part s c) = part (one_number s) tt
+
+  pub values_many : {n : Number} {v w : ℕ} {y : List Number} {ls : List Spelt} {k : Option TokenKind} → Part Any Tabled v y w ls k → Part Any (TableValues (Some n)) v y w ls k
+  values_many (part s c) = part (more_numbers s) tt
+
+  pub values_by : (length : Option Number) → Exact limit (it.values_by limit length) (Part Any (TableValues length)) (Reading limit (it.values_by limit length))
+  values_by None = by_reading (λ i j x small h. read_as (one_value_by.sound i j x small h) (λ ls e q. values_one q))
+  values_by (Some n) = by_reading (λ i j x small h. read_as (a_many.sound i j x small h) (λ ls e q. values_many q))
 
   values_read : {length : Option Number} {v : ℕ} {xs : List Number} {ls : List Spelt} {k : Option TokenKind} → TableValues length xs v ls → Reading limit (it.values_by limit length) v xs v ls k
   values_read (one_number s) = one_value_reads s
   values_read (more_numbers s) = many_reads s
 
-  abbrev constant_of : Name → Option Number → List Number → PlainItem
+  abbrev pub constant_of : Name → Option Number → List Number → PlainItem
   constant_of n length found = IsGlobal (global_of glob.Const None n length found)
 
   abbrev TableBy : Lang (Option Number) → (Option Number → Lang (List Number)) → Lang PlainItem
   TableBy L V = Bind (Part Any NameIs) (λ n. Bind L (λ length. Map (constant_of n length) (V length)))
 
+  pub table_of : (v w : ℕ) (x : PlainItem) (ls : List Spelt) (k : Option TokenKind) → TableBy (Part Any (MaybeLength limit)) (λ length. Part Any (TableValues length)) v x w ls k → Part Any (IsItem Table) v x w ls k
+  table_of v w x ls k (both (part (name_is id h) c) (both (part no_length d) (mapped (part (one_number (one_is m s)) e)))) = part (is_item (constant id h m s)) tt
+  table_of v w x ls k (both (part (name_is id h) c) (both (part (some_length l) d) (mapped (part (more_numbers (tabled equal left right m hl s hr)) e)))) = part (is_item (table equal left right id h l m hl s hr)) tt
+
   a_table : Exact limit (it.table limit) (Part Any (IsItem Table)) (TableBy (Reading limit (st.maybe_length limit)) (λ length. Reading limit (it.values_by limit length)))
   unfolding it.table
-  a_table = convert of (λ v w x ls k q. q) (bind (a_name limit) (λ n. bind (maybe_length_by limit) (λ length. map_to (constant_of n length) (values_by length))))
-    where
-      of : (v w : ℕ) (x : PlainItem) (ls : List Spelt) (k : Option TokenKind) → TableBy (Part Any (MaybeLength limit)) (λ length. Part Any (TableValues length)) v x w ls k → Part Any (IsItem Table) v x w ls k
-      of v w x ls k (both (part (name_is id h) c) (both (part no_length d) (mapped (part (one_number (one_is m s)) e)))) = part (is_item (constant id h m s)) tt
-      of v w x ls k (both (part (name_is id h) c) (both (part (some_length l) d) (mapped (part (more_numbers (tabled equal left right m hl s hr)) e)))) = part (is_item (table equal left right id h l m hl s hr)) tt
+  a_table = convert table_of (λ v w x ls k q. q) (bind (a_name limit) (λ n. bind (maybe_length_by limit) (λ length. map_to (constant_of n length) (values_by length))))
 
   table_reads : {v : ℕ} {g : PlainGlobal} {ls : List Spelt} {k : Option TokenKind} → Table g v ls → Reading limit (it.table limit) v (IsGlobal g) v ls k
   table_reads (constant id h m s) = reads_by a_table (both (part (name_is id h) tt) (both (maybe_length_reads limit no_length (rw m)) (mapped (values_read (one_number (one_is m s))))))
@@ -327,27 +327,27 @@ module _ (limit : ℕ) where
 
   -- ---- declarators
 
-  abbrev input_of : Name → PlainItem
+  abbrev pub input_of : Name → PlainItem
   input_of n = IsGlobal (global_of glob.Input None n None [])
 
-  abbrev valued_of : GlobalKind → Name → List Number → PlainItem
+  abbrev pub valued_of : GlobalKind → Name → List Number → PlainItem
   valued_of k n found = IsGlobal (global_of k None n None found)
 
   abbrev ValuedBy : GlobalKind → Lang (List Number) → Lang PlainItem
   ValuedBy k V = Bind (Part Any NameIs) (λ n. Map (valued_of k n) V)
 
+  pub valued_item_of : (k : GlobalKind) → (v w : ℕ) (x : PlainItem) (ls : List Spelt) (o : Option TokenKind) → ValuedBy k (Part Any MaybeValue) v x w ls o → Part Any (IsItem (Scalar k None)) v x w ls o
+  valued_item_of k v w x ls o (both (part (name_is id h) c) (mapped (part no_value d))) = part (is_item (unset id h)) tt
+  valued_item_of k v w x ls o (both (part (name_is id h) c) (mapped (part (some_value m s) d))) = part (is_item (set id h m s)) tt
+
   a_valued : (k : GlobalKind) → Exact limit (it.declared_by limit (decl.Valued k)) (Part Any (IsItem (Scalar k None))) (ValuedBy k (Reading limit it.maybe_value))
-  a_valued k = convert of (λ v w x ls k q. q) (bind (a_name limit) (λ n. map_to (valued_of k n) maybe_value_by))
-    where
-      of : (v w : ℕ) (x : PlainItem) (ls : List Spelt) (o : Option TokenKind) → ValuedBy k (Part Any MaybeValue) v x w ls o → Part Any (IsItem (Scalar k None)) v x w ls o
-      of v w x ls o (both (part (name_is id h) c) (mapped (part no_value d))) = part (is_item (unset id h)) tt
-      of v w x ls o (both (part (name_is id h) c) (mapped (part (some_value m s) d))) = part (is_item (set id h m s)) tt
+  a_valued k = convert (valued_item_of k) (λ v w x ls k q. q) (bind (a_name limit) (λ n. map_to (valued_of k n) maybe_value_by))
+
+  pub bare_of : (v w : ℕ) (x : PlainItem) (ls : List Spelt) (o : Option TokenKind) → Map input_of (Part Any NameIs) v x w ls o → Part Any (IsItem (Named glob.Input)) v x w ls o
+  bare_of v w x ls o (mapped (part (name_is id h) c)) = part (is_item (named id h)) tt
 
   a_bare : Exact limit (it.declared_by limit decl.Bare) (Part Any (IsItem (Named glob.Input))) (Map input_of (Part Any NameIs))
-  a_bare = convert of (λ v w x ls k q. q) (map_to input_of (a_name limit))
-    where
-      of : (v w : ℕ) (x : PlainItem) (ls : List Spelt) (o : Option TokenKind) → Map input_of (Part Any NameIs) v x w ls o → Part Any (IsItem (Named glob.Input)) v x w ls o
-      of v w x ls o (mapped (part (name_is id h) c)) = part (is_item (named id h)) tt
+  a_bare = convert bare_of (λ v w x ls k q. q) (map_to input_of (a_name limit))
 
   pub declared_by : (d : Declarator) → Exact limit (it.declared limit d) (Part Any (IsItem (DeclaredAs d))) (Reading limit (it.declared limit d))
   unfolding it.declared

@@ -15,7 +15,7 @@ use Rattle.forec_tree.specs.Terms.{Statement, PlainGlobal, PlainItem, IsGlobal, 
 use Rattle.forec_tree.specs.Parts.{in_order, global_of}
 use Rattle.forec_tree.specs.Spelling.{Spelt, at, tokens, IsMark, IsWord, IsName, name_at}
 use Rattle.forec_tree.specs.SpelledStatements.{Separated, last_part, next_part, Block, block}
-use Rattle.forec_tree.specs.SpelledPrograms.{Signed, positive, negative, Named, Scalar, unset, set, Table, Sharing, Combines, combines, Parameters, parameters, gives_word, Introduces, constants, inputs, outputs, globals, shares, function, Programs, no_items, more_items}
+use Rattle.forec_tree.specs.SpelledPrograms.{positive, negative, Scalar, unset, set, Table, Combines, combines, Parameters, parameters, gives_word, Introduces, constants, inputs, outputs, globals, shares, function}
 use Rattle.forec_tree.specs.SpelledPrograms as sp
 use Rattle.expr_parser.specs.declared.fixed.Fixed.{Fixed}
 use Rattle.expr_parser.specs.declared.fixed.Fixed.TheVariants as fixed
@@ -44,31 +44,31 @@ semicolon_comma : (t : Token) → IsMark mark.Semicolon t → is_fixed fixed.Com
 semicolon_comma t h = rw h
 
 -- globals from `int` on
-data Ints (d : Declarator) : List PlainItem → ℕ → List Spelt → Type 0 where
+pub data Ints (d : Declarator) : List PlainItem → ℕ → List Spelt → Type 0 where
   ints : {v : ℕ} {int : Token} (semicolon : Token) {gs : List PlainGlobal} {ls : List Spelt} → IsWord word.Int int → Separated (DeclaredAs d) gs v ls → IsMark mark.Semicolon semicolon
       → Ints d (map IsGlobal gs) v (at int v ∷ (ls ++ (at semicolon v ∷ [])))
 
 -- a shared variable from `int` on
-data SharedRest (kind : GlobalKind) : List PlainItem → ℕ → List Spelt → Type 0 where
+pub data SharedRest (kind : GlobalKind) : List PlainItem → ℕ → List Spelt → Type 0 where
   shared_rest : {v : ℕ} {int : Token} (semicolon : Token) {g : PlainGlobal} {combine : Combine} {ms rs : List Spelt} → IsWord word.Int int → Scalar kind (Some combine) g v ms → Combines combine v rs
       → IsMark mark.Semicolon semicolon → SharedRest kind (IsGlobal g ∷ []) v (at int v ∷ (ms ++ (rs ++ (at semicolon v ∷ []))))
 
-abbrev function_of : Bool → Name → List Name → List Statement → PlainItem
+abbrev pub function_of : Bool → Name → List Name → List Statement → PlainItem
 function_of gives n ps body = IsFunction (record { name = n; gives = gives; params = ps; body = in_order body })
 
 -- a function from its parameters on
-data FunctionRest (gives : Bool) (n : Name) : List PlainItem → ℕ → List Spelt → Type 0 where
+pub data FunctionRest (gives : Bool) (n : Name) : List PlainItem → ℕ → List Spelt → Type 0 where
   function_rest : {v : ℕ} {place : Place} {names : List Name} {body : List Statement} {ls ms : List Spelt} → Parameters names v ls → Block place body v v ms
       → FunctionRest gives n (function_of gives n names body ∷ []) v (ls ++ ms)
 
-data MoreGlobals : List PlainItem → ℕ → List Spelt → Type 0 where
+pub data MoreGlobals : List PlainItem → ℕ → List Spelt → Type 0 where
   no_globals : {v : ℕ} → MoreGlobals [] v []
   some_globals : {v : ℕ} {comma : Token} {gs : List PlainGlobal} {ls : List Spelt} → IsMark mark.Comma comma → Separated (Scalar glob.Plain None) gs v ls → MoreGlobals (map IsGlobal gs) v (at comma v ∷ ls)
 
-abbrev plain_of : Name → List Number → PlainItem
+abbrev pub plain_of : Name → List Number → PlainItem
 plain_of n found = IsGlobal (global_of glob.Plain None n None found)
 
-data PlainRest (n : Name) : List PlainItem → ℕ → List Spelt → Type 0 where
+pub data PlainRest (n : Name) : List PlainItem → ℕ → List Spelt → Type 0 where
   plain_rest : {v : ℕ} (semicolon : Token) {found : List Number} {xs : List PlainItem} {ls ms : List Spelt} → MaybeValue found v ls → MoreGlobals xs v ms → IsMark mark.Semicolon semicolon
       → PlainRest n (plain_of n found ∷ xs) v (ls ++ (ms ++ (at semicolon v ∷ [])))
 
@@ -76,18 +76,18 @@ module _ (limit : ℕ) where
   abbrev IntsBy : Lang (List PlainItem) → Lang (List PlainItem)
   IntsBy L = Bind (Tok fixed.Int) (λ _. Bind L (λ found. Map (λ (_ : Token). found) (Tok fixed.Semicolon)))
 
+  with_ints : {d : Declarator} {v n : ℕ} {int : Token} (semicolon : Token) {xs : List PlainItem} {ls : List Spelt} (k : Option TokenKind) → IsWord word.Int int → Wrapped (DeclaredAs d) v xs n ls → IsMark mark.Semicolon semicolon
+      → Part Any (Ints d) v xs n (at int v ∷ (ls ++ (at semicolon n ∷ []))) k
+  with_ints semicolon k h (wrapped s) m = part (ints semicolon h s m) tt
+
+  pub ints_of : (d : Declarator) (v w : ℕ) (x : List PlainItem) (ls : List Spelt) (k : Option TokenKind) → IntsBy (Listed (Part Any (IsItem (DeclaredAs d)))) v x w ls k → Part Any (Ints d) v x w ls k
+  ints_of d v w x ls k (both (tok h) (both q (mapped (tok m)))) = with_ints _ k h (wrap_in q) m
+
   an_ints : (d : Declarator) → Exact limit (it.ints limit d) (Part Any (Ints d)) (IntsBy (Listed (Full (Reading limit (it.declared limit d)))))
   unfolding it.ints it.globals
-  an_ints d = convert of (λ v w x ls k q. q) (bind (token limit fixed.Int) (λ _. bind (declared_list limit d) (λ found. map_to (λ (_ : Token). found) (token limit fixed.Semicolon))))
-    where
-      with_ints : {v n : ℕ} {int : Token} (semicolon : Token) {xs : List PlainItem} {ls : List Spelt} (k : Option TokenKind) → IsWord word.Int int → Wrapped (DeclaredAs d) v xs n ls → IsMark mark.Semicolon semicolon
-          → Part Any (Ints d) v xs n (at int v ∷ (ls ++ (at semicolon n ∷ []))) k
-      with_ints semicolon k h (wrapped s) m = part (ints semicolon h s m) tt
+  an_ints d = convert (ints_of d) (λ v w x ls k q. q) (bind (token limit fixed.Int) (λ _. bind (declared_list limit d) (λ found. map_to (λ (_ : Token). found) (token limit fixed.Semicolon))))
 
-      of : (v w : ℕ) (x : List PlainItem) (ls : List Spelt) (k : Option TokenKind) → IntsBy (Listed (Part Any (IsItem (DeclaredAs d)))) v x w ls k → Part Any (Ints d) v x w ls k
-      of v w x ls k (both (tok h) (both q (mapped (tok m)))) = with_ints _ k h (wrap_in q) m
-
-  ints_by : (d : Declarator) → Exact limit (it.ints limit d) (Part Any (Ints d)) (Reading limit (it.ints limit d))
+  pub ints_by : (d : Declarator) → Exact limit (it.ints limit d) (Part Any (Ints d)) (Reading limit (it.ints limit d))
   ints_by d = by_reading (an_ints d).sound
 
   ints_read : {d : Declarator} {v : ℕ} {xs : List PlainItem} {ls : List Spelt} {k : Option TokenKind} → Ints d xs v ls → Reading limit (it.ints limit d) v xs v ls k
@@ -96,22 +96,22 @@ module _ (limit : ℕ) where
 
   -- ---- shared variables
 
-  abbrev shared_of : GlobalKind → Name → List Number → Combine → List PlainItem
+  abbrev pub shared_of : GlobalKind → Name → List Number → Combine → List PlainItem
   shared_of kind n found c = IsGlobal (global_of kind (Some c) n None found) ∷ []
 
   abbrev SharedBy : GlobalKind → Lang (List Number) → Lang Combine → Lang (List PlainItem)
   SharedBy kind V C = Bind (Tok fixed.Int) (λ _. Bind (Part Any NameIs) (λ n. Bind V (λ found. Bind C (λ c. Map (λ (_ : Token). shared_of kind n found c) (Tok fixed.Semicolon)))))
 
+  pub shared_rest_of : (q : GlobalKind) → (v w : ℕ) (x : List PlainItem) (ls : List Spelt) (k : Option TokenKind) → SharedBy q (Part Any MaybeValue) (Part Any Combines) v x w ls k → Part Any (SharedRest q) v x w ls k
+  shared_rest_of q v w x ls k (both (tok h) (both (part (name_is id m) c) (both (part no_value d) (both (part s e) (mapped (tok n)))))) = part (shared_rest _ h (unset id m) s n) tt
+  shared_rest_of q v w x ls k (both (tok h) (both (part (name_is id m) c) (both (part (some_value o r) d) (both (part s e) (mapped (tok n)))))) = part (shared_rest _ h (set id m o r) s n) tt
+
   a_shared : (q : GlobalKind) → Exact limit (it.shared limit q) (Part Any (SharedRest q)) (SharedBy q (Reading limit it.maybe_value) (Reading limit it.combines))
   unfolding it.shared
-  a_shared q = convert of (λ v w x ls k z. z)
+  a_shared q = convert (shared_rest_of q) (λ v w x ls k z. z)
       (bind (token limit fixed.Int) (λ _. bind (a_name limit) (λ n. bind (maybe_value_by limit) (λ found. bind (combines_by limit) (λ c. map_to (λ (_ : Token). shared_of q n found c) (token limit fixed.Semicolon))))))
-    where
-      of : (v w : ℕ) (x : List PlainItem) (ls : List Spelt) (k : Option TokenKind) → SharedBy q (Part Any MaybeValue) (Part Any Combines) v x w ls k → Part Any (SharedRest q) v x w ls k
-      of v w x ls k (both (tok h) (both (part (name_is id m) c) (both (part no_value d) (both (part s e) (mapped (tok n)))))) = part (shared_rest _ h (unset id m) s n) tt
-      of v w x ls k (both (tok h) (both (part (name_is id m) c) (both (part (some_value o r) d) (both (part s e) (mapped (tok n)))))) = part (shared_rest _ h (set id m o r) s n) tt
 
-  shared_by : (q : GlobalKind) → Exact limit (it.shared limit q) (Part Any (SharedRest q)) (Reading limit (it.shared limit q))
+  pub shared_by : (q : GlobalKind) → Exact limit (it.shared limit q) (Part Any (SharedRest q)) (Reading limit (it.shared limit q))
   shared_by q = by_reading (a_shared q).sound
 
   combine_first : {c : Combine} {v : ℕ} {ls : List Spelt} → Combines c v ls → (rs : List Spelt) (k : Option TokenKind) → first (ls ++ rs) k ≡ Some (kind.Word word.Combine)
@@ -128,16 +128,16 @@ module _ (limit : ℕ) where
   abbrev FunctionBy : Bool → Name → Lang (List Name) → Lang (Place × List Statement) → Lang (List PlainItem)
   FunctionBy gives n P B = Bind P (λ ps. Map (λ b. function_of gives n ps b.1 ∷ []) B)
 
+  pub function_rest_of : (gives : Bool) (n : Name) → (v w : ℕ) (x : List PlainItem) (ls : List Spelt) (k : Option TokenKind)
+      → FunctionBy gives n (Part Any Parameters) (Braces limit (stmt limit (suc limit)) (sound_stmt limit (suc limit)) (λ v. v) Bodied) v x w ls k → Part Any (FunctionRest gives n) v x w ls k
+  function_rest_of gives n v w x ls k (both (part s c) (mapped (between right hl (bodied b) hr))) = part (function_rest s (block right hl b hr)) tt
+
   a_function : (gives : Bool) (n : Name) → Exact limit (it.function limit gives n) (Part Any (FunctionRest gives n)) (FunctionBy gives n (Reading limit (it.parameters limit)) (Reading limit (st.block limit (stmt limit (suc limit)))))
   unfolding it.function
-  a_function gives n = convert of (λ v w x ls k q. q)
+  a_function gives n = convert (function_rest_of gives n) (λ v w x ls k q. q)
       (bind (parameters_by limit) (λ ps. map_to (λ b. function_of gives n ps b.1 ∷ []) (block_here limit (stmt limit (suc limit)) (sound_stmt limit (suc limit)))))
-    where
-      of : (v w : ℕ) (x : List PlainItem) (ls : List Spelt) (k : Option TokenKind)
-          → FunctionBy gives n (Part Any Parameters) (Braces limit (stmt limit (suc limit)) (sound_stmt limit (suc limit)) (λ v. v) Bodied) v x w ls k → Part Any (FunctionRest gives n) v x w ls k
-      of v w x ls k (both (part s c) (mapped (between right hl (bodied b) hr))) = part (function_rest s (block right hl b hr)) tt
 
-  function_by : (gives : Bool) (n : Name) → Exact limit (it.function limit gives n) (Part Any (FunctionRest gives n)) (Reading limit (it.function limit gives n))
+  pub function_by : (gives : Bool) (n : Name) → Exact limit (it.function limit gives n) (Part Any (FunctionRest gives n)) (Reading limit (it.function limit gives n))
   function_by gives n = by_reading (a_function gives n).sound
 
   function_reads : {gives : Bool} {n : Name} {v : ℕ} {xs : List PlainItem} {ls : List Spelt} {k : Option TokenKind} → FunctionRest gives n xs v ls → Reading limit (it.function limit gives n) v xs v ls k
@@ -146,19 +146,19 @@ module _ (limit : ℕ) where
 
   -- ---- plain globals
 
+  with_some : {v w : ℕ} {comma : Token} {xs : List PlainItem} {ls : List Spelt} (k : Option TokenKind) → IsMark mark.Comma comma → Wrapped (Scalar glob.Plain None) v xs w ls → Part Any MoreGlobals v xs w (at comma v ∷ ls) k
+  with_some k h (wrapped s) = part (some_globals h s) tt
+
+  pub more_of : (v w : ℕ) (x : List PlainItem) (ls : List Spelt) (k : Option TokenKind)
+      → If fixed.Comma (Bind (Tok fixed.Comma) (λ _. Listed (Part Any (IsItem (Scalar glob.Plain None))))) (Done []) v x w ls k → Part Any MoreGlobals v x w ls k
+  more_of v w x ls k (on e (both (tok h) q)) = with_some k h (wrap_in q)
+  more_of v w x ls k (off e done) = part no_globals tt
+
   a_more : Exact limit (it.more_globals limit) (Part Any MoreGlobals) (If fixed.Comma (Bind (Tok fixed.Comma) (λ _. Listed (Full (Reading limit (it.declared limit (decl.Valued glob.Plain)))))) (Done []))
   unfolding it.more_globals
-  a_more = convert of (λ v w x ls k q. q) (either fixed.Comma (bind (token limit fixed.Comma) (λ _. declared_list limit (decl.Valued glob.Plain))) (done_at []))
-    where
-      with_some : {v w : ℕ} {comma : Token} {xs : List PlainItem} {ls : List Spelt} (k : Option TokenKind) → IsMark mark.Comma comma → Wrapped (Scalar glob.Plain None) v xs w ls → Part Any MoreGlobals v xs w (at comma v ∷ ls) k
-      with_some k h (wrapped s) = part (some_globals h s) tt
+  a_more = convert more_of (λ v w x ls k q. q) (either fixed.Comma (bind (token limit fixed.Comma) (λ _. declared_list limit (decl.Valued glob.Plain))) (done_at []))
 
-      of : (v w : ℕ) (x : List PlainItem) (ls : List Spelt) (k : Option TokenKind)
-          → If fixed.Comma (Bind (Tok fixed.Comma) (λ _. Listed (Part Any (IsItem (Scalar glob.Plain None))))) (Done []) v x w ls k → Part Any MoreGlobals v x w ls k
-      of v w x ls k (on e (both (tok h) q)) = with_some k h (wrap_in q)
-      of v w x ls k (off e done) = part no_globals tt
-
-  more_by : Exact limit (it.more_globals limit) (Part Any MoreGlobals) (Reading limit (it.more_globals limit))
+  pub more_by : Exact limit (it.more_globals limit) (Part Any MoreGlobals) (Reading limit (it.more_globals limit))
   more_by = by_reading a_more.sound
 
   more_reads : {v : ℕ} {xs : List PlainItem} {ls : List Spelt} {k : Option TokenKind} → MoreGlobals xs v ls → ends k ≡ true → is_fixed fixed.Comma k ≡ false → Reading limit (it.more_globals limit) v xs v ls k
@@ -170,14 +170,14 @@ module _ (limit : ℕ) where
   abbrev PlainBy : Name → Lang (List Number) → Lang (List PlainItem) → Lang (List PlainItem)
   PlainBy n V M = Bind V (λ found. Bind M (λ more. Map (λ (_ : Token). plain_of n found ∷ more) (Tok fixed.Semicolon)))
 
+  pub plain_rest_of : (n : Name) → (v w : ℕ) (x : List PlainItem) (ls : List Spelt) (k : Option TokenKind) → PlainBy n (Part Any MaybeValue) (Part Any MoreGlobals) v x w ls k → Part Any (PlainRest n) v x w ls k
+  plain_rest_of n v w x ls k (both (part s c) (both (part r d) (mapped (tok m)))) = part (plain_rest _ s r m) tt
+
   a_plain : (n : Name) → Exact limit (it.plain_globals limit n) (Part Any (PlainRest n)) (PlainBy n (Reading limit it.maybe_value) (Reading limit (it.more_globals limit)))
   unfolding it.plain_globals
-  a_plain n = convert of (λ v w x ls k q. q) (bind (maybe_value_by limit) (λ found. bind more_by (λ more. map_to (λ (_ : Token). plain_of n found ∷ more) (token limit fixed.Semicolon))))
-    where
-      of : (v w : ℕ) (x : List PlainItem) (ls : List Spelt) (k : Option TokenKind) → PlainBy n (Part Any MaybeValue) (Part Any MoreGlobals) v x w ls k → Part Any (PlainRest n) v x w ls k
-      of v w x ls k (both (part s c) (both (part r d) (mapped (tok m)))) = part (plain_rest _ s r m) tt
+  a_plain n = convert (plain_rest_of n) (λ v w x ls k q. q) (bind (maybe_value_by limit) (λ found. bind more_by (λ more. map_to (λ (_ : Token). plain_of n found ∷ more) (token limit fixed.Semicolon))))
 
-  plain_by : (n : Name) → Exact limit (it.plain_globals limit n) (Part Any (PlainRest n)) (Reading limit (it.plain_globals limit n))
+  pub plain_by : (n : Name) → Exact limit (it.plain_globals limit n) (Part Any (PlainRest n)) (Reading limit (it.plain_globals limit n))
   plain_by n = by_reading (a_plain n).sound
 
   more_assign : {xs : List PlainItem} {v : ℕ} {ls : List Spelt} → MoreGlobals xs v ls → (t : Token) → IsMark mark.Semicolon t → (k : Option TokenKind) → is_fixed fixed.Assign (first (ls ++ (at t v ∷ [])) k) ≡ false
@@ -194,7 +194,7 @@ module _ (limit : ℕ) where
     output_ints : {v : ℕ} {xs : List PlainItem} {ls : List Spelt} → Ints (decl.Valued glob.Output) xs v ls → OutputRest xs v ls
     output_shares : {v : ℕ} {t : Token} {xs : List PlainItem} {ls : List Spelt} → IsWord word.Shared t → SharedRest glob.SharedOutput xs v ls → OutputRest xs v (at t v ∷ ls)
 
-  abbrev OutputBy : Lang (List PlainItem) → Lang (List PlainItem) → Lang (List PlainItem)
+  abbrev pub OutputBy : Lang (List PlainItem) → Lang (List PlainItem) → Lang (List PlainItem)
   OutputBy S I = Bind (Tok fixed.Output) (λ _. If fixed.Shared (Bind (Tok fixed.Shared) (λ _. S)) I)
 
   an_output : Exact limit (it.outputs limit) (OutputBy (Part Any (SharedRest glob.SharedOutput)) (Part Any (Ints (decl.Valued glob.Output))))
@@ -202,7 +202,7 @@ module _ (limit : ℕ) where
   unfolding it.outputs it.output_shared
   an_output = bind (token limit fixed.Output) (λ _. either fixed.Shared (bind (token limit fixed.Shared) (λ _. shared_by glob.SharedOutput)) (ints_by (decl.Valued glob.Output)))
 
-  abbrev ShareBy : Lang (List PlainItem) → Lang (List PlainItem) → Lang (List PlainItem)
+  abbrev pub ShareBy : Lang (List PlainItem) → Lang (List PlainItem) → Lang (List PlainItem)
   ShareBy O S = Bind (Tok fixed.Shared) (λ _. If fixed.Output (Bind (Tok fixed.Output) (λ _. O)) S)
 
   a_share : Exact limit (it.shares limit) (ShareBy (Part Any (SharedRest glob.SharedOutput)) (Part Any (SharedRest glob.Shared)))
@@ -210,7 +210,7 @@ module _ (limit : ℕ) where
   unfolding it.shares it.shared_output
   a_share = bind (token limit fixed.Shared) (λ _. either fixed.Output (bind (token limit fixed.Output) (λ _. shared_by glob.SharedOutput)) (shared_by glob.Shared))
 
-  abbrev NumberBy : (Bool → Name → Lang (List PlainItem)) → (Name → Lang (List PlainItem)) → Lang (List PlainItem)
+  abbrev pub NumberBy : (Bool → Name → Lang (List PlainItem)) → (Name → Lang (List PlainItem)) → Lang (List PlainItem)
   NumberBy F P = Bind (Tok fixed.Int) (λ _. Bind (Part Any NameIs) (λ n. If fixed.LeftRound (F true n) (P n)))
 
   a_number : Exact limit (it.numbers limit) (NumberBy (λ gives n. Part Any (FunctionRest gives n)) (λ n. Part Any (PlainRest n)))
@@ -221,30 +221,30 @@ module _ (limit : ℕ) where
   abbrev IntsBehind : Fixed → Lang (List PlainItem) → Lang (List PlainItem)
   IntsBehind f I = Bind (Tok f) (λ _. I)
 
-  abbrev VoidBy : (Name → Lang (List PlainItem)) → Lang (List PlainItem)
+  abbrev pub VoidBy : (Name → Lang (List PlainItem)) → Lang (List PlainItem)
   VoidBy F = Bind (Tok fixed.Void) (λ _. Bind (Part Any NameIs) F)
 
   a_void : Exact limit (it.item_by limit opening.Void) (VoidBy (λ n. Part Any (FunctionRest false n))) (VoidBy (λ n. Reading limit (it.function limit false n)))
   a_void = bind (token limit fixed.Void) (λ _. bind (a_name limit) (λ n. function_by false n))
 
-  constants_of : {v w : ℕ} {xs : List PlainItem} {ls : List Spelt} {k : Option TokenKind} → Bind (Tok fixed.Const) (λ _. Part Any (Ints decl.Table)) v xs w ls k → Part Any Introduces v xs w ls k
+  pub constants_of : {v w : ℕ} {xs : List PlainItem} {ls : List Spelt} {k : Option TokenKind} → Bind (Tok fixed.Const) (λ _. Part Any (Ints decl.Table)) v xs w ls k → Part Any Introduces v xs w ls k
   constants_of (both (tok h) (part (ints semicolon m s n) c)) = part (constants semicolon h m s n) tt
 
-  inputs_of : {v w : ℕ} {xs : List PlainItem} {ls : List Spelt} {k : Option TokenKind} → Bind (Tok fixed.Input) (λ _. Part Any (Ints decl.Bare)) v xs w ls k → Part Any Introduces v xs w ls k
+  pub inputs_of : {v w : ℕ} {xs : List PlainItem} {ls : List Spelt} {k : Option TokenKind} → Bind (Tok fixed.Input) (λ _. Part Any (Ints decl.Bare)) v xs w ls k → Part Any Introduces v xs w ls k
   inputs_of (both (tok h) (part (ints semicolon m s n) c)) = part (inputs semicolon h m s n) tt
 
-  outputs_of : {v w : ℕ} {xs : List PlainItem} {ls : List Spelt} {k : Option TokenKind} → OutputBy (Part Any (SharedRest glob.SharedOutput)) (Part Any (Ints (decl.Valued glob.Output))) v xs w ls k → Part Any Introduces v xs w ls k
+  pub outputs_of : {v w : ℕ} {xs : List PlainItem} {ls : List Spelt} {k : Option TokenKind} → OutputBy (Part Any (SharedRest glob.SharedOutput)) (Part Any (Ints (decl.Valued glob.Output))) v xs w ls k → Part Any Introduces v xs w ls k
   outputs_of (both (tok h) (on e (both (tok o) (part (shared_rest semicolon m s c n) d)))) = part (shares _ semicolon (sp.output_shared h o) m s c n) tt
   outputs_of (both (tok h) (off e (part (ints semicolon m s n) c))) = part (outputs semicolon h m s n) tt
 
-  shares_of : {v w : ℕ} {xs : List PlainItem} {ls : List Spelt} {k : Option TokenKind} → ShareBy (Part Any (SharedRest glob.SharedOutput)) (Part Any (SharedRest glob.Shared)) v xs w ls k → Part Any Introduces v xs w ls k
+  pub shares_of : {v w : ℕ} {xs : List PlainItem} {ls : List Spelt} {k : Option TokenKind} → ShareBy (Part Any (SharedRest glob.SharedOutput)) (Part Any (SharedRest glob.Shared)) v xs w ls k → Part Any Introduces v xs w ls k
   shares_of (both (tok h) (on e (both (tok o) (part (shared_rest semicolon m s c n) d)))) = part (shares _ semicolon (sp.shared_output h o) m s c n) tt
   shares_of (both (tok h) (off e (part (shared_rest semicolon m s c n) d))) = part (shares _ semicolon (sp.shared h) m s c n) tt
 
-  void_of : {v w : ℕ} {xs : List PlainItem} {ls : List Spelt} {k : Option TokenKind} → VoidBy (λ n. Part Any (FunctionRest false n)) v xs w ls k → Part Any Introduces v xs w ls k
+  pub void_of : {v w : ℕ} {xs : List PlainItem} {ls : List Spelt} {k : Option TokenKind} → VoidBy (λ n. Part Any (FunctionRest false n)) v xs w ls k → Part Any Introduces v xs w ls k
   void_of (both (tok h) (both (part (name_is id m) c) (part (function_rest s b) d))) = part (function false id h m s b) tt
 
-  numbers_of : {v w : ℕ} {xs : List PlainItem} {ls : List Spelt} {k : Option TokenKind} → NumberBy (λ gives n. Part Any (FunctionRest gives n)) (λ n. Part Any (PlainRest n)) v xs w ls k → Part Any Introduces v xs w ls k
+  pub numbers_of : {v w : ℕ} {xs : List PlainItem} {ls : List Spelt} {k : Option TokenKind} → NumberBy (λ gives n. Part Any (FunctionRest gives n)) (λ n. Part Any (PlainRest n)) v xs w ls k → Part Any Introduces v xs w ls k
   numbers_of (both (tok h) (both (part (name_is id m) c) (on e (part (function_rest s b) d)))) = part (function true id h m s b) tt
   numbers_of (both (tok h) (both (part (name_is id m) c) (off e (part (plain_rest semicolon no_value no_globals n) d)))) = part (globals semicolon h (last_part (unset id m)) n) tt
   numbers_of (both (tok h) (both (part (name_is id m) c) (off e (part (plain_rest semicolon no_value (some_globals o r) n) d)))) = part (globals semicolon h (next_part _ (unset id m) o r) n) tt
@@ -272,9 +272,9 @@ module _ (limit : ℕ) where
 
   begins_so : {xs : List PlainItem} {v : ℕ} {ls : List Spelt} {k : Option TokenKind} (o : Opening) → opening_of (first ls k) ≡ o → Reading limit (it.item_by limit o) v xs v ls k → Reading limit (it.item limit) v xs v ls k
   unfolding it.item
-  begins_so {xs} {v} {ls} {k} o h r = reading (λ rest e within.
+  begins_so {xs} {v} {ls} {k} o h r = reading (λ rest e.
       let c : opening_of (kind_ahead (tokens ls ++ rest)) ≡ o = ap opening_of (first-is ls rest ∙ ap (first ls) e) ∙ h in
-      rw c (read_at r rest e within))
+      rw c (read_at r rest e))
 
   by_plain : {v id : ℕ} {int t : Token} {xs : List PlainItem} {ls : List Spelt} {k : Option TokenKind} → IsWord word.Int int → IsName id t → is_fixed fixed.LeftRound (first ls k) ≡ false
       → PlainRest (name_at id t.place) xs v ls → Reading limit (it.item limit) v xs v (at int v ∷ at t v ∷ ls) k

@@ -6,4 +6,12 @@ pub mod StatementSound
 pub mod StatementComplete
 pub mod ItemRules
 pub mod ItemSound
+pub mod StatementSteady
+pub mod ItemSteady
 pub mod Programs
+pub mod Refusals
+pub mod ViableParts
+pub mod ViableStatements
+pub mod ViableItems
+pub mod ViablePrograms
+pub mod Stops

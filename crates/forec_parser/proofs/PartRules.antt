@@ -16,8 +16,8 @@ use Rattle.expr_parser.specs.declared.fixed.Fixed.TheVariants as fixed
 use Rattle.expr_parser.specs.Meaning.{is_fixed}
 use Rattle.forec_parser.specs.Statements as st
 use Rattle.expr_parser.proofs.Spans.{first}
-use Rattle.expr_parser.proofs.Exact.{Lang, Exact, Bind, both, Map, mapped, Done, done, If, on, off, Part, part, Reading, reading, Any, bind, map_to, convert, either, done_at, by_reading, read_as, reads_by, read_at}
-use Rattle.expr_parser.proofs.Leaves.{Tok, tok, NameIs, name_is, NumberIs, number_is, token, a_name, a_number, Enclosed, between, enclosing, is_so}
+use Rattle.expr_parser.proofs.Exact.{Lang, Exact, Bind, both, Map, mapped, Done, done, If, on, off, Part, part, Reading, Any, bind, map_to, convert, either, done_at, by_reading, read_as, reads_by}
+use Rattle.expr_parser.proofs.Leaves.{Tok, tok, NameIs, name_is, NumberIs, number_is, token, a_name, a_number, Enclosed, EnclosedBy, between, encloses, enclosing, is_so}
 use Rattle.expr_parser.proofs.Operators.{ends, ends_square, ends_assign}
 use Rattle.expr_parser.proofs.ExpressionComplete.{begun_whole, begun_semicolon}
 use Rattle.forec_parser.proofs.Marks.{acts_first, acts_semicolon, acts_round, acts_int}
@@ -26,18 +26,18 @@ use Rattle.forec_parser.proofs.SimpleRules.{a_value, value_reads, values_by, val
 module _ (limit : ℕ) where
   -- ---- lengths and initial values
 
-  pub a_length : Exact limit (st.array_length limit) (Part Any Lengths) (Enclosed fixed.LeftSquare fixed.RightSquare (λ _ n. n) (Part Any NumberIs))
-  unfolding st.array_length
-  a_length = convert of (λ v w x ls k q. q) (enclosing fixed.LeftSquare fixed.RightSquare (λ _ n. n) (a_number limit))
-    where
-      of : (v w : ℕ) (x : Number) (ls : List Spelt) (k : Option TokenKind) → Enclosed fixed.LeftSquare fixed.RightSquare (λ _ n. n) (Part Any NumberIs) v x w ls k → Part Any Lengths v x w ls k
-      of v w x ls k (between right hl (part (number_is value h) c) hr) = part (lengths value hl h hr) tt
+  pub length_of : (v w : ℕ) (x : Number) (ls : List Spelt) (k : Option TokenKind) → Enclosed fixed.LeftSquare fixed.RightSquare (λ _ n. n) (Part Any NumberIs) v x w ls k → Part Any Lengths v x w ls k
+  length_of v w x ls k (between right hl (part (number_is value h) c) hr) = part (lengths value hl h hr) tt
 
-  length_by : Exact limit (st.array_length limit) (Part Any Lengths) (Reading limit (st.array_length limit))
+  pub a_length : Exact limit (st.array_length limit) (Part Any Lengths) (EnclosedBy limit fixed.LeftSquare fixed.RightSquare (λ _ n. n) (Part Any NumberIs))
+  unfolding st.array_length
+  a_length = convert length_of (λ v w x ls k q. q) (enclosing fixed.LeftSquare fixed.RightSquare (λ _ n. n) (a_number limit))
+
+  pub length_by : Exact limit (st.array_length limit) (Part Any Lengths) (Reading limit (st.array_length limit))
   length_by = by_reading a_length.sound
 
   pub length_reads : {v : ℕ} {n : Number} {ls : List Spelt} {k : Option TokenKind} → Lengths n v ls → Reading limit (st.array_length limit) v n v ls k
-  length_reads (lengths value hl h hr) = reads_by a_length (between _ hl (part (number_is value h) tt) hr)
+  length_reads (lengths value hl h hr) = reads_by a_length (encloses _ hl (λ small. part (number_is value h) tt) hr)
 
   pub length_first : {v : ℕ} {n : Number} {ls : List Spelt} → Lengths n v ls → (k : Option TokenKind) → first ls k ≡ Some (kind.Mark mark.LeftSquare)
   length_first (lengths value hl h hr) k = rw hl
@@ -46,13 +46,13 @@ module _ (limit : ℕ) where
     some_length : {v : ℕ} {n : Number} {ls : List Spelt} → Lengths n v ls → MaybeLength (Some n) v ls
     no_length : {v : ℕ} → MaybeLength None v []
 
+  pub maybe_length_of : (v w : ℕ) (x : Option Number) (ls : List Spelt) (k : Option TokenKind) → If fixed.LeftSquare (Map (λ x. Some x) (Part Any Lengths)) (Done None) v x w ls k → Part Any MaybeLength v x w ls k
+  maybe_length_of v w x ls k (on e (mapped (part s c))) = part (some_length s) tt
+  maybe_length_of v w x ls k (off e done) = part no_length tt
+
   a_maybe_length : Exact limit (st.maybe_length limit) (Part Any MaybeLength) (If fixed.LeftSquare (Map (λ x. Some x) (Reading limit (st.array_length limit))) (Done None))
   unfolding st.maybe_length
-  a_maybe_length = convert of (λ v w x ls k q. q) (either fixed.LeftSquare (map_to (λ x. Some x) length_by) (done_at None))
-    where
-      of : (v w : ℕ) (x : Option Number) (ls : List Spelt) (k : Option TokenKind) → If fixed.LeftSquare (Map (λ x. Some x) (Part Any Lengths)) (Done None) v x w ls k → Part Any MaybeLength v x w ls k
-      of v w x ls k (on e (mapped (part s c))) = part (some_length s) tt
-      of v w x ls k (off e done) = part no_length tt
+  a_maybe_length = convert maybe_length_of (λ v w x ls k q. q) (either fixed.LeftSquare (map_to (λ x. Some x) length_by) (done_at None))
 
   pub maybe_length_by : Exact limit (st.maybe_length limit) (Part Any MaybeLength) (Reading limit (st.maybe_length limit))
   maybe_length_by = by_reading a_maybe_length.sound
@@ -61,18 +61,18 @@ module _ (limit : ℕ) where
   maybe_length_reads {k = k} (some_length s) n = reads_by a_maybe_length (on (ap (is_fixed fixed.LeftSquare) (length_first s k)) (mapped (length_reads s)))
   maybe_length_reads no_length n = reads_by a_maybe_length (off n done)
 
-  data Braced : List Term → ℕ → List Spelt → Type 0 where
+  pub data Braced : List Term → ℕ → List Spelt → Type 0 where
     braced : {v : ℕ} {left : Token} (right : Token) {xs : List Term} {ls : List Spelt} → IsMark mark.LeftCurly left → Arguments xs (v + 1) ls → IsMark mark.RightCurly right
         → Braced xs v (at left (v + 1) ∷ (ls ++ (at right v ∷ [])))
 
-  a_braced : Exact limit (st.listed_values limit) (Part Any Braced) (Enclosed fixed.LeftCurly fixed.RightCurly (λ _ xs. xs) (Reading limit (st.values limit)))
-  unfolding st.listed_values
-  a_braced = convert of (λ v w x ls k q. q) (enclosing fixed.LeftCurly fixed.RightCurly (λ _ xs. xs) (values_by limit))
-    where
-      of : (v w : ℕ) (x : List Term) (ls : List Spelt) (k : Option TokenKind) → Enclosed fixed.LeftCurly fixed.RightCurly (λ _ xs. xs) (Part Any Arguments) v x w ls k → Part Any Braced v x w ls k
-      of v w x ls k (between right hl (part s c) hr) = part (braced right hl s hr) tt
+  pub braced_of : (v w : ℕ) (x : List Term) (ls : List Spelt) (k : Option TokenKind) → Enclosed fixed.LeftCurly fixed.RightCurly (λ _ xs. xs) (Part Any Arguments) v x w ls k → Part Any Braced v x w ls k
+  braced_of v w x ls k (between right hl (part s c) hr) = part (braced right hl s hr) tt
 
-  braced_by : Exact limit (st.listed_values limit) (Part Any Braced) (Reading limit (st.listed_values limit))
+  a_braced : Exact limit (st.listed_values limit) (Part Any Braced) (EnclosedBy limit fixed.LeftCurly fixed.RightCurly (λ _ xs. xs) (Reading limit (st.values limit)))
+  unfolding st.listed_values
+  a_braced = convert braced_of (λ v w x ls k q. q) (enclosing fixed.LeftCurly fixed.RightCurly (λ _ xs. xs) (values_by limit))
+
+  pub braced_by : Exact limit (st.listed_values limit) (Part Any Braced) (Reading limit (st.listed_values limit))
   braced_by = by_reading a_braced.sound
 
   curly_ends : (t : Token) → IsMark mark.RightCurly t → ends (Some t.kind) ≡ true
@@ -82,40 +82,39 @@ module _ (limit : ℕ) where
   curly_comma t h = rw h
 
   braced_reads : {v : ℕ} {xs : List Term} {ls : List Spelt} {k : Option TokenKind} → Braced xs v ls → Reading limit (st.listed_values limit) v xs v ls k
-  braced_reads (braced right hl s hr) = reading (λ rest e within.
-      read_at (reads_by a_braced (between right hl (values_read limit s within.0 (curly_ends right hr) (curly_comma right hr)) hr)) rest e within)
+  braced_reads (braced right hl s hr) = reads_by a_braced (encloses right hl (λ small. values_read limit s small (curly_ends right hr) (curly_comma right hr)) hr)
 
-  data InitialsBy : Option Number → List Term → ℕ → List Spelt → Type 0 where
+  pub data InitialsBy : Option Number → List Term → ℕ → List Spelt → Type 0 where
     by_one : {v : ℕ} {x : Term} {ls : List Spelt} → Whole x v ls → InitialsBy None (x ∷ []) v ls
     by_list : {v : ℕ} {n : Number} {xs : List Term} {ls : List Spelt} → Braced xs v ls → InitialsBy (Some n) xs v ls
 
-  data Initials (length : Option Number) : List Term → ℕ → List Spelt → Type 0 where
+  pub data Initials (length : Option Number) : List Term → ℕ → List Spelt → Type 0 where
     no_values : {v : ℕ} → Initials length [] v []
     some_values : {v : ℕ} {t : Token} {xs : List Term} {ls : List Spelt} → IsMark mark.Assign t → InitialsBy length xs v ls → Initials length xs v (at t v ∷ ls)
 
-  initials_of : (length : Option Number) → Exact limit (st.initial_by limit length) (Part Any (InitialsBy length)) (Reading limit (st.initial_by limit length))
-  initials_of None = by_reading (λ i j x small h. read_as ((map_to (λ y. y ∷ []) (a_value limit)).sound i j x small h) (λ ls e q. of q))
-    where
-      of : {v w : ℕ} {y : List Term} {ls : List Spelt} {k : Option TokenKind} → Map (λ z. z ∷ []) (Part Any Whole) v y w ls k → Part Any (InitialsBy None) v y w ls k
-      of (mapped (part s c)) = part (by_one s) tt
-  initials_of (Some n) = by_reading (λ i j x small h. read_as (a_braced.sound i j x small h) (λ ls e q. of q))
-    where
-      of : {v w : ℕ} {y : List Term} {ls : List Spelt} {k : Option TokenKind} → Part Any Braced v y w ls k → Part Any (InitialsBy (Some n)) v y w ls k
-      of (part s c) = part (by_list s) tt
+  pub initial_one : {v w : ℕ} {y : List Term} {ls : List Spelt} {k : Option TokenKind} → Map (λ z. z ∷ []) (Part Any Whole) v y w ls k → Part Any (InitialsBy None) v y w ls k
+  initial_one (mapped (part s c)) = part (by_one s) tt
+
+  pub initial_list : {n : Number} {v w : ℕ} {y : List Term} {ls : List Spelt} {k : Option TokenKind} → Part Any Braced v y w ls k → Part Any (InitialsBy (Some n)) v y w ls k
+  initial_list (part s c) = part (by_list s) tt
+
+  pub initials_of : (length : Option Number) → Exact limit (st.initial_by limit length) (Part Any (InitialsBy length)) (Reading limit (st.initial_by limit length))
+  initials_of None = by_reading (λ i j x small h. read_as ((map_to (λ y. y ∷ []) (a_value limit)).sound i j x small h) (λ ls e q. initial_one q))
+  initials_of (Some n) = by_reading (λ i j x small h. read_as (a_braced.sound i j x small h) (λ ls e q. initial_list q))
 
   initials_read : {length : Option Number} {v : ℕ} {xs : List Term} {ls : List Spelt} {k : Option TokenKind} → InitialsBy length xs v ls → v ≤ limit → ends k ≡ true → Reading limit (st.initial_by limit length) v xs v ls k
   initials_read (by_one s) small e = reads_by (map_to (λ y. y ∷ []) (a_value limit)) (mapped (value_reads limit s small e))
   initials_read (by_list s) small e = braced_reads s
 
+  pub initial_of : (length : Option Number) → (v w : ℕ) (x : List Term) (ls : List Spelt) (k : Option TokenKind) → If fixed.Assign (Bind (Tok fixed.Assign) (λ _. Part Any (InitialsBy length))) (Done []) v x w ls k → Part Any (Initials length) v x w ls k
+  initial_of length v w x ls k (on e (both (tok h) (part s c))) = part (some_values h s) tt
+  initial_of length v w x ls k (off e done) = part no_values tt
+
   an_initial : (length : Option Number) → Exact limit (st.initial limit length) (Part Any (Initials length)) (If fixed.Assign (Bind (Tok fixed.Assign) (λ _. Reading limit (st.initial_by limit length))) (Done []))
   unfolding st.initial
-  an_initial length = convert of (λ v w x ls k q. q) (either fixed.Assign (bind (token limit fixed.Assign) (λ _. initials_of length)) (done_at []))
-    where
-      of : (v w : ℕ) (x : List Term) (ls : List Spelt) (k : Option TokenKind) → If fixed.Assign (Bind (Tok fixed.Assign) (λ _. Part Any (InitialsBy length))) (Done []) v x w ls k → Part Any (Initials length) v x w ls k
-      of v w x ls k (on e (both (tok h) (part s c))) = part (some_values h s) tt
-      of v w x ls k (off e done) = part no_values tt
+  an_initial length = convert (initial_of length) (λ v w x ls k q. q) (either fixed.Assign (bind (token limit fixed.Assign) (λ _. initials_of length)) (done_at []))
 
-  initial_by : (length : Option Number) → Exact limit (st.initial limit length) (Part Any (Initials length)) (Reading limit (st.initial limit length))
+  pub initial_by : (length : Option Number) → Exact limit (st.initial limit length) (Part Any (Initials length)) (Reading limit (st.initial limit length))
   initial_by length = by_reading (an_initial length).sound
 
   initial_reads : {length : Option Number} {v : ℕ} {xs : List Term} {ls : List Spelt} {k : Option TokenKind} → Initials length xs v ls → v ≤ limit → ends k ≡ true → Reading limit (st.initial limit length) v xs v ls k
@@ -127,15 +126,15 @@ module _ (limit : ℕ) where
   abbrev Local : Lang (Option Number) → (Option Number → Lang (List Term)) → Lang Declared
   Local L I = Bind (Part Any NameIs) (λ n. Bind L (λ length. Map (λ found. declared_as n length found) (I length)))
 
+  pub local_of : (v w : ℕ) (x : Declared) (ls : List Spelt) (k : Option TokenKind) → Local (Part Any MaybeLength) (λ length. Part Any (Initials length)) v x w ls k → Part Any Declares v x w ls k
+  local_of v w x ls k (both (part (name_is id h) c) (both (part no_length d) (mapped (part no_values e)))) = part (bare id h) tt
+  local_of v w x ls k (both (part (name_is id h) c) (both (part no_length d) (mapped (part (some_values m (by_one s)) e)))) = part (valued id h m s) tt
+  local_of v w x ls k (both (part (name_is id h) c) (both (part (some_length (lengths value hl hn hr)) d) (mapped (part no_values e)))) = part (array id h (lengths value hl hn hr)) tt
+  local_of v w x ls k (both (part (name_is id h) c) (both (part (some_length l) d) (mapped (part (some_values m (by_list (braced right hl s hr))) e)))) = part (valued_array _ _ right id h l m hl s hr) tt
+
   pub a_local : Exact limit (st.local limit) (Part Any Declares) (Local (Reading limit (st.maybe_length limit)) (λ length. Reading limit (st.initial limit length)))
   unfolding st.local
-  a_local = convert of (λ v w x ls k q. q) (bind (a_name limit) (λ n. bind maybe_length_by (λ length. map_to (λ found. declared_as n length found) (initial_by length))))
-    where
-      of : (v w : ℕ) (x : Declared) (ls : List Spelt) (k : Option TokenKind) → Local (Part Any MaybeLength) (λ length. Part Any (Initials length)) v x w ls k → Part Any Declares v x w ls k
-      of v w x ls k (both (part (name_is id h) c) (both (part no_length d) (mapped (part no_values e)))) = part (bare id h) tt
-      of v w x ls k (both (part (name_is id h) c) (both (part no_length d) (mapped (part (some_values m (by_one s)) e)))) = part (valued id h m s) tt
-      of v w x ls k (both (part (name_is id h) c) (both (part (some_length (lengths value hl hn hr)) d) (mapped (part no_values e)))) = part (array id h (lengths value hl hn hr)) tt
-      of v w x ls k (both (part (name_is id h) c) (both (part (some_length l) d) (mapped (part (some_values m (by_list (braced right hl s hr))) e)))) = part (valued_array _ _ right id h l m hl s hr) tt
+  a_local = convert local_of (λ v w x ls k q. q) (bind (a_name limit) (λ n. bind maybe_length_by (λ length. map_to (λ found. declared_as n length found) (initial_by length))))
 
   pub local_by : Exact limit (st.local limit) (Part Any Declares) (Reading limit (st.local limit))
   local_by = by_reading a_local.sound
@@ -152,13 +151,13 @@ module _ (limit : ℕ) where
 
   -- ---- loops
 
+  pub bound_of : (v w : ℕ) (x : Option Number) (ls : List Spelt) (k : Option TokenKind) → If fixed.Hash (Map (λ n. Some n) (Bind (Tok fixed.Hash) (λ _. Part Any NumberIs))) (Done None) v x w ls k → Part Any Bounds v x w ls k
+  bound_of v w x ls k (on e (mapped (both (tok h) (part (number_is value m) c)))) = part (bounded value h m) tt
+  bound_of v w x ls k (off e done) = part unbounded tt
+
   a_bound : Exact limit (st.bound limit) (Part Any Bounds) (If fixed.Hash (Map (λ n. Some n) (Bind (Tok fixed.Hash) (λ _. Part Any NumberIs))) (Done None))
   unfolding st.bound
-  a_bound = convert of (λ v w x ls k q. q) (either fixed.Hash (map_to (λ n. Some n) (bind (token limit fixed.Hash) (λ _. a_number limit))) (done_at None))
-    where
-      of : (v w : ℕ) (x : Option Number) (ls : List Spelt) (k : Option TokenKind) → If fixed.Hash (Map (λ n. Some n) (Bind (Tok fixed.Hash) (λ _. Part Any NumberIs))) (Done None) v x w ls k → Part Any Bounds v x w ls k
-      of v w x ls k (on e (mapped (both (tok h) (part (number_is value m) c)))) = part (bounded value h m) tt
-      of v w x ls k (off e done) = part unbounded tt
+  a_bound = convert bound_of (λ v w x ls k q. q) (either fixed.Hash (map_to (λ n. Some n) (bind (token limit fixed.Hash) (λ _. a_number limit))) (done_at None))
 
   pub bound_by : Exact limit (st.bound limit) (Part Any Bounds) (Reading limit (st.bound limit))
   bound_by = by_reading a_bound.sound
@@ -167,28 +166,28 @@ module _ (limit : ℕ) where
   bound_reads unbounded n = reads_by a_bound (off n done)
   bound_reads (bounded {hash = t} value h m) n = reads_by a_bound (on (is_so fixed.Hash t h) (mapped (both (tok h) (part (number_is value m) tt))))
 
-  abbrev first_declared : Token → Name → Term → Perhaps
+  abbrev pub first_declared : Token → Name → Term → Perhaps
   first_declared int n x = present (plain.Declare int.place (declared_as n None (x ∷ []) ∷ []))
 
-  abbrev FirstLocal : Lang Term → Lang Perhaps
+  abbrev pub FirstLocal : Lang Term → Lang Perhaps
   FirstLocal V = Bind (Tok fixed.Int) (λ int. Bind (Part Any NameIs) (λ n. Bind (Tok fixed.Assign) (λ _. Map (first_declared int n) V)))
 
-  abbrev Start : Lang Term → Lang Statement → Lang Perhaps
+  abbrev pub Start : Lang Term → Lang Statement → Lang Perhaps
   Start V S = If fixed.Semicolon (Done absent) (If fixed.Int (FirstLocal V) (Map (λ x. present x) S))
+
+  pub starts_of : (v w : ℕ) (x : Perhaps) (ls : List Spelt) (k : Option TokenKind) → Start (Part Any Whole) (Part Any Simple) v x w ls k → Part Any Starts v x w ls k
+  starts_of v w x ls k (on e done) = part no_start tt
+  starts_of v w x ls k (off e (on f (both (tok hi) (both (part (name_is id h) c) (both (tok m) (mapped (part s d))))))) = part (declared_start id hi h m s) tt
+  starts_of v w x ls k (off e (off f (mapped (part s c)))) = part (simple_start s) tt
 
   a_start : Exact limit (st.start limit) (Part Any Starts) (Start (Reading limit (st.value limit)) (Reading limit (st.simple limit)))
   unfolding st.start st.some_start st.first_local
-  a_start = convert of (λ v w x ls k q. q)
+  a_start = convert starts_of (λ v w x ls k q. q)
       (either fixed.Semicolon (done_at absent)
       (either fixed.Int (bind (token limit fixed.Int) (λ int. bind (a_name limit) (λ n. bind (token limit fixed.Assign) (λ _. map_to (first_declared int n) (a_value limit)))))
       (map_to (λ x. present x) (a_simple limit))))
-    where
-      of : (v w : ℕ) (x : Perhaps) (ls : List Spelt) (k : Option TokenKind) → Start (Part Any Whole) (Part Any Simple) v x w ls k → Part Any Starts v x w ls k
-      of v w x ls k (on e done) = part no_start tt
-      of v w x ls k (off e (on f (both (tok hi) (both (part (name_is id h) c) (both (tok m) (mapped (part s d))))))) = part (declared_start id hi h m s) tt
-      of v w x ls k (off e (off f (mapped (part s c)))) = part (simple_start s) tt
 
-  start_by : Exact limit (st.start limit) (Part Any Starts) (Reading limit (st.start limit))
+  pub start_by : Exact limit (st.start limit) (Part Any Starts) (Reading limit (st.start limit))
   start_by = by_reading a_start.sound
 
   acts_then : (f : Fixed) → ((k : Option TokenKind) → acts_first k ≡ true → is_fixed f k ≡ false) → (ls : List Spelt) (k : Option TokenKind) → ActsFirst limit ls → is_fixed f (first ls k) ≡ false
@@ -202,49 +201,53 @@ module _ (limit : ℕ) where
   start_reads (declared_start {int = t} id hi h m s) small n e =
       reads_by a_start (off (rw hi) (on (is_so fixed.Int t hi) (both (tok hi) (both (part (name_is id h) tt) (both (tok m) (mapped (value_reads limit s small e)))))))
 
+  pub tests_of : (v w : ℕ) (x : Option Term) (ls : List Spelt) (k : Option TokenKind) → If fixed.Semicolon (Done None) (Map (λ x. Some x) (Part Any Whole)) v x w ls k → Part Any Tests v x w ls k
+  tests_of v w x ls k (on e done) = part no_test tt
+  tests_of v w x ls k (off e (mapped (part s c))) = part (some_test s) tt
+
   a_test : Exact limit (st.loop_test limit) (Part Any Tests) (If fixed.Semicolon (Done None) (Map (λ x. Some x) (Reading limit (st.value limit))))
   unfolding st.loop_test
-  a_test = convert of (λ v w x ls k q. q) (either fixed.Semicolon (done_at None) (map_to (λ x. Some x) (a_value limit)))
-    where
-      of : (v w : ℕ) (x : Option Term) (ls : List Spelt) (k : Option TokenKind) → If fixed.Semicolon (Done None) (Map (λ x. Some x) (Part Any Whole)) v x w ls k → Part Any Tests v x w ls k
-      of v w x ls k (on e done) = part no_test tt
-      of v w x ls k (off e (mapped (part s c))) = part (some_test s) tt
+  a_test = convert tests_of (λ v w x ls k q. q) (either fixed.Semicolon (done_at None) (map_to (λ x. Some x) (a_value limit)))
 
-  test_by : Exact limit (st.loop_test limit) (Part Any Tests) (Reading limit (st.loop_test limit))
+  pub test_by : Exact limit (st.loop_test limit) (Part Any Tests) (Reading limit (st.loop_test limit))
   test_by = by_reading a_test.sound
 
   test_reads : {v : ℕ} {x : Option Term} {ls : List Spelt} {k : Option TokenKind} → Tests x v ls → v ≤ limit → is_fixed fixed.Semicolon k ≡ true → ends k ≡ true → Reading limit (st.loop_test limit) v x v ls k
   test_reads no_test small n e = reads_by a_test (on n done)
   test_reads {ls = ls} {k = k} (some_test s) small n e = reads_by a_test (off (begun_semicolon ls k (begun_whole s)) (mapped (value_reads limit s small e)))
 
+  pub steps_of : (v w : ℕ) (x : Perhaps) (ls : List Spelt) (k : Option TokenKind) → If fixed.RightRound (Done absent) (Map (λ x. present x) (Part Any Simple)) v x w ls k → Part Any Steps v x w ls k
+  steps_of v w x ls k (on e done) = part no_step tt
+  steps_of v w x ls k (off e (mapped (part s c))) = part (some_step s) tt
+
   a_step : Exact limit (st.step limit) (Part Any Steps) (If fixed.RightRound (Done absent) (Map (λ x. present x) (Reading limit (st.simple limit))))
   unfolding st.step
-  a_step = convert of (λ v w x ls k q. q) (either fixed.RightRound (done_at absent) (map_to (λ x. present x) (a_simple limit)))
-    where
-      of : (v w : ℕ) (x : Perhaps) (ls : List Spelt) (k : Option TokenKind) → If fixed.RightRound (Done absent) (Map (λ x. present x) (Part Any Simple)) v x w ls k → Part Any Steps v x w ls k
-      of v w x ls k (on e done) = part no_step tt
-      of v w x ls k (off e (mapped (part s c))) = part (some_step s) tt
+  a_step = convert steps_of (λ v w x ls k q. q) (either fixed.RightRound (done_at absent) (map_to (λ x. present x) (a_simple limit)))
 
-  step_by : Exact limit (st.step limit) (Part Any Steps) (Reading limit (st.step limit))
+  pub step_by : Exact limit (st.step limit) (Part Any Steps) (Reading limit (st.step limit))
   step_by = by_reading a_step.sound
 
   step_reads : {v : ℕ} {x : Perhaps} {ls : List Spelt} {k : Option TokenKind} → Steps x v ls → v ≤ limit → is_fixed fixed.RightRound k ≡ true → ends k ≡ true → Reading limit (st.step limit) v x v ls k
   step_reads no_step small n e = reads_by a_step (on n done)
   step_reads {ls = ls} {k = k} (some_step s) small n e = reads_by a_step (off (acts_then fixed.RightRound acts_round ls k (simple_first limit s)) (mapped (simple_reads limit s small e)))
 
-  abbrev Triple : Lang Perhaps → Lang (Option Term) → Lang Perhaps → Lang Head
+  abbrev pub Triple : Lang Perhaps → Lang (Option Term) → Lang Perhaps → Lang Head
   Triple A T S = Bind A (λ first. Bind (Tok fixed.Semicolon) (λ _. Bind T (λ second. Bind (Tok fixed.Semicolon) (λ _. Map (λ third. head_of first second third) S))))
 
-  head_parts_by : Exact limit (st.head_parts limit) (Triple (Part Any Starts) (Part Any Tests) (Part Any Steps)) (Triple (Reading limit (st.start limit)) (Reading limit (st.loop_test limit)) (Reading limit (st.step limit)))
-  unfolding st.head_parts
-  head_parts_by = bind start_by (λ first. bind (token limit fixed.Semicolon) (λ _. bind test_by (λ second. bind (token limit fixed.Semicolon) (λ _. map_to (λ third. head_of first second third) step_by))))
+  pub head_parts_of : (v w : ℕ) (x : Head) (ls : List Spelt) (k : Option TokenKind) → Triple (Part Any Starts) (Part Any Tests) (Part Any Steps) v x w ls k → Part Any HeadParts v x w ls k
+  head_parts_of v w x ls k (both (part a c) (both (tok m) (both (part b d) (both (tok n) (mapped (part s e)))))) = part (head_parts _ _ a m b n s) tt
 
-  a_head : Exact limit (st.head limit) (Part Any Heads) (Enclosed fixed.LeftRound fixed.RightRound (λ _ h. h) (Triple (Reading limit (st.start limit)) (Reading limit (st.loop_test limit)) (Reading limit (st.step limit))))
+  pub head_parts_by : Exact limit (st.head_parts limit) (Part Any HeadParts) (Triple (Reading limit (st.start limit)) (Reading limit (st.loop_test limit)) (Reading limit (st.step limit)))
+  unfolding st.head_parts
+  head_parts_by = convert head_parts_of (λ v w x ls k q. q)
+      (bind start_by (λ first. bind (token limit fixed.Semicolon) (λ _. bind test_by (λ second. bind (token limit fixed.Semicolon) (λ _. map_to (λ third. head_of first second third) step_by)))))
+
+  pub heads_of : (v w : ℕ) (x : Head) (ls : List Spelt) (k : Option TokenKind) → Enclosed fixed.LeftRound fixed.RightRound (λ _ h. h) (Part Any HeadParts) v x w ls k → Part Any Heads v x w ls k
+  heads_of v w x ls k (between right hl (part q c) hr) = part (heads right hl q hr) tt
+
+  a_head : Exact limit (st.head limit) (Part Any Heads) (EnclosedBy limit fixed.LeftRound fixed.RightRound (λ _ h. h) (Triple (Reading limit (st.start limit)) (Reading limit (st.loop_test limit)) (Reading limit (st.step limit))))
   unfolding st.head
-  a_head = convert of (λ v w x ls k q. q) (enclosing fixed.LeftRound fixed.RightRound (λ _ h. h) head_parts_by)
-    where
-      of : (v w : ℕ) (x : Head) (ls : List Spelt) (k : Option TokenKind) → Enclosed fixed.LeftRound fixed.RightRound (λ _ h. h) (Triple (Part Any Starts) (Part Any Tests) (Part Any Steps)) v x w ls k → Part Any Heads v x w ls k
-      of v w x ls k (between right hl (both (part a c) (both (tok m) (both (part b d) (both (tok n) (mapped (part s e)))))) hr) = part (heads right hl (head_parts _ _ a m b n s) hr) tt
+  a_head = convert heads_of (λ v w x ls k q. q) (enclosing fixed.LeftRound fixed.RightRound (λ _ h. h) head_parts_by)
 
   pub head_by : Exact limit (st.head limit) (Part Any Heads) (Reading limit (st.head limit))
   head_by = by_reading a_head.sound
@@ -262,5 +265,4 @@ module _ (limit : ℕ) where
       (both (test_reads b small (is_so fixed.Semicolon second n) (semicolon_ends second n)) (both (tok n) (mapped (step_reads s small r e)))))
 
   pub head_reads : {v : ℕ} {x : Head} {ls : List Spelt} {k : Option TokenKind} → Heads x v ls → Reading limit (st.head limit) v x v ls k
-  head_reads (heads right hl q hr) = reading (λ rest e within.
-      read_at (reads_by a_head (between right hl (parts_read q within.0 (is_so fixed.RightRound right hr) (round_ends right hr)) hr)) rest e within)
+  head_reads (heads right hl q hr) = reads_by a_head (encloses right hl (λ small. parts_read q small (is_so fixed.RightRound right hr) (round_ends right hr)) hr)

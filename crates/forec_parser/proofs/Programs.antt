@@ -1,21 +1,19 @@
 -- Reading a program is the converse of spelling it, and no tokens spell two programs.
 use mathlib.Core.Path.{subst}
-use Rattle.std.proofs.Common.{◌≡◌, ◌≢◌, ℕ, zero, suc, ◌+◌, ◌≤◌, Bool, true, false, cond, List, [], ◌∷◌, ◌++◌, length, Option, Ok, Err, refl, sym, ◌∙◌, ap, append_assoc, append-nil, arith}
+use Rattle.std.proofs.Common.{◌≡◌, ℕ, zero, suc, ◌+◌, ◌≤◌, Bool, true, false, cond, List, [], ◌∷◌, ◌++◌, length, Option, Ok, Err, refl, sym, ◌∙◌, ap, append_assoc, append-nil, arith}
 use Rattle.forec_tree.specs.declared.token.Token.{Token}
 use Rattle.forec_tree.specs.declared.token.TokenKind.{TokenKind}
 use Rattle.forec_tree.specs.declared.tree.Program.{Program}
 use Rattle.forec_tree.specs.Terms.{PlainItem, Text}
 use Rattle.forec_tree.specs.Plain.{program}
-use Rattle.forec_tree.specs.Spelling.{Spelt, tokens, IsWithin}
+use Rattle.forec_tree.specs.Spelling.{Spelt, tokens}
 use Rattle.forec_tree.specs.SpelledPrograms.{Introduces, Programs, no_items, more_items, IsSpelled}
-use Rattle.expr_parser.specs.declared.fault.Fault.{Fault}
-use Rattle.expr_parser.specs.declared.fault.Fault.TheVariants.{Syntax, Deep, OutOfMemory}
-use Rattle.forec_parser.specs.declared.fault.ParseFault.TheVariants as public
+use Rattle.expr_parser.specs.declared.fault.Fault.TheVariants.{Syntax}
 use Rattle.expr_parser.specs.Input.{Input, input, and_then, kind_ahead, at_end, max_level}
 use Rattle.forec_parser.specs.Items.{item, items, items_from}
-use Rattle.forec_parser.specs.Program.{Ends, told_of}
-use Rattle.expr_parser.proofs.Spans.{tokens_append, within_front, within_back, within_more, step, ok_of, ok_pair}
-use Rattle.expr_parser.proofs.Exact.{Read, Bind, both, Map, mapped, Part, part, Any, then_read, read_as, read_at}
+use Rattle.forec_parser.specs.Program.{Ends}
+use Rattle.expr_parser.proofs.Spans.{tokens_append, within_more, step, ok_of, ok_pair}
+use Rattle.expr_parser.proofs.Exact.{Read, Bind, both, Map, mapped, Part, part, Any, Follows, comes, comes_within, follow_then, then_read, read_as, read_at}
 use Rattle.expr_parser.proofs.Leaves.{Filled, filled-long}
 use Rattle.forec_parser.proofs.ItemSound.{sound_item, item_reads, item_filled}
 
@@ -25,7 +23,7 @@ pub data Programmed : ℕ → Text → ℕ → List Spelt → Option TokenKind �
 add_with : {v w : ℕ} (xs : List PlainItem) {zs : Text} {ls rs : List Spelt} {k : Option TokenKind} → Introduces xs v ls → Map (λ ys. xs ++ ys) Programmed v zs w rs k → Programmed v zs w (ls ++ rs) k
 add_with xs s (mapped (programmed b)) = programmed (more_items s b)
 
-add_on : {v w : ℕ} {zs : Text} {ls : List Spelt} {k : Option TokenKind} → Bind (Part Any Introduces) (λ xs. Map (λ ys. xs ++ ys) Programmed) v zs w ls k → Programmed v zs w ls k
+pub add_on : {v w : ℕ} {zs : Text} {ls : List Spelt} {k : Option TokenKind} → Bind (Part Any Introduces) (λ xs. Map (λ ys. xs ++ ys) Programmed) v zs w ls k → Programmed v zs w ls k
 add_on (both {x = xs} (part s c) q) = add_with xs s q
 
 module _ (limit : ℕ) where
@@ -69,37 +67,43 @@ module _ (limit : ℕ) where
   a_none zero found i h = rw h (ap (λ z. Ok (z, i)) (sym (append-nil found)))
   a_none (suc n) found i h = rw h (ap (λ z. Ok (z, i)) (sym (append-nil found)))
 
-  a_step : (ls : List Spelt) (n v : ℕ) (found : Text) (xs : List PlainItem) (rest : List Token) → Filled ls → item limit (input (tokens ls ++ rest) v) ≡ Ok (xs, input rest v)
-      → items_from limit (suc n) found (input (tokens ls ++ rest) v) ≡ items_from limit n (found ++ xs) (input rest v)
+  a_step : {v : ℕ} {xs : List PlainItem} (ys : Text) (ls rs : List Spelt) (n : ℕ) (found : Text) (rest : List Token) → Filled ls → Follows limit xs v ls (tokens rs ++ rest) (item limit (input (tokens ls ++ (tokens rs ++ rest)) v))
+      → Follows limit ((found ++ xs) ++ ys) v rs rest (items_from limit n (found ++ xs) (input (tokens rs ++ rest) v))
+      → Follows limit (found ++ (xs ++ ys)) v (ls ++ rs) rest (items_from limit (suc n) found (input (tokens ls ++ (tokens rs ++ rest)) v))
   unfolding items_from
-  a_step [] n v found xs rest f r = absurd f
-  a_step (s ∷ ls) n v found xs rest f r = rw r
+  a_step ys [] rs n found rest f r more = absurd f
+  a_step {v} {xs} ys (s ∷ ls) rs n found rest f r more =
+      let R : Text → Type 0 = λ z. Follows limit z v rs rest (items_from limit n (found ++ xs) (input (tokens rs ++ rest) v)) in
+      follow_then rs (λ xs. items_from limit n (found ++ xs)) r (subst R (append_assoc found xs ys) more)
 
-  reads_all : {v : ℕ} {xs : Text} {ls : List Spelt} → Programs xs v ls → (n : ℕ) (found : Text) (rest : List Token) → at_end (kind_ahead rest) ≡ true → IsWithin limit ls → length (tokens ls ++ rest) ≤ n
-      → items_from limit n found (input (tokens ls ++ rest) v) ≡ Ok (found ++ xs, input rest v)
-  reads_all {v} no_items n found rest h within le = a_none n found (input rest v) h
-  reads_all {v} (more_items {xs = xs} {rest = ys} {ls = ls} {rs = rs} s b) zero found rest h within le =
+  -- What is spelled is read, unless a token opens a level above the limit.
+  follows_all : {v : ℕ} {xs : Text} {ls : List Spelt} → Programs xs v ls → (n : ℕ) (found : Text) (rest : List Token) → at_end (kind_ahead rest) ≡ true → length (tokens ls ++ rest) ≤ n
+      → Follows limit (found ++ xs) v ls rest (items_from limit n found (input (tokens ls ++ rest) v))
+  follows_all {v} no_items n found rest h le = rw (a_none n found (input rest v) h) comes
+  follows_all {v} (more_items {xs = xs} {rest = ys} {ls = ls} {rs = rs} s b) zero found rest h le =
       let same : tokens (ls ++ rs) ++ rest ≡ tokens ls ++ (tokens rs ++ rest) = tokens_append ls rs rest in
       let none : length (tokens ls ++ (tokens rs ++ rest)) ≤ 0 = rw same at le in
       absurd (omega (arith, filled-long ls (tokens rs ++ rest) (item_filled limit s)))
-  reads_all {v} (more_items {xs = xs} {rest = ys} {ls = ls} {rs = rs} s b) (suc n) found rest h within le =
+  follows_all {v} (more_items {xs = xs} {rest = ys} {ls = ls} {rs = rs} s b) (suc n) found rest h le =
       let tail = tokens rs ++ rest in
       let same : tokens (ls ++ rs) ++ rest ≡ tokens ls ++ tail = tokens_append ls rs rest in
       let room : length (tokens ls ++ tail) ≤ suc n = rw same at le in
-      let a : item limit (input (tokens ls ++ tail) v) ≡ Ok (xs, input tail v) = read_at (item_reads limit s) tail refl (within_front limit ls rs within) in
-      let c : items_from limit n (found ++ xs) (input tail v) ≡ Ok ((found ++ xs) ++ ys, input rest v) =
-      reads_all b n (found ++ xs) rest h (within_back limit ls rs within) (omega (arith, filled-long ls tail (item_filled limit s))) in
-      rw same (a_step ls n v found xs tail (item_filled limit s) a ∙ c ∙ ap (λ z. Ok (z, input rest v)) (append_assoc found xs ys))
+      let a : Follows limit xs v ls tail (item limit (input (tokens ls ++ tail) v)) = read_at (item_reads limit s) tail refl in
+      let c = follows_all b n (found ++ xs) rest h (omega (arith, filled-long ls tail (item_filled limit s))) in
+      rw same (a_step ys ls rs n found rest (item_filled limit s) a c)
+
+  pub follows : (text : Text) (ls : List Spelt) → Programs text 0 ls → Follows limit text 0 ls [] (items limit (input (tokens ls) 0))
+  unfolding items
+  follows text ls s =
+      let r : Follows limit text 0 ls [] (items_from limit (length (tokens ls ++ [])) [] (input (tokens ls ++ []) 0)) = follows_all s (length (tokens ls ++ [])) [] [] refl (omega arith) in
+      let P : List Token → Type 0 = λ z. Follows limit text 0 ls [] (items_from limit (length z) [] (input z 0)) in
+      subst P (append-nil (tokens ls)) r
 
   -- What is spelled is read to its end.
   pub read_back : (text : Text) (ts : List Token) → IsSpelled limit text ts → items limit (input ts 0) ≡ Ok (text, input [] 0)
-  unfolding items
   read_back text ts s =
-      let r : items_from limit (length (tokens s.spelt ++ [])) [] (input (tokens s.spelt ++ []) 0) ≡ Ok (text, input [] 0) =
-      reads_all s.spells (length (tokens s.spelt ++ [])) [] [] refl s.within (omega arith) in
-      let same : tokens s.spelt ++ [] ≡ ts = append-nil (tokens s.spelt) ∙ s.are in
-      let P : List Token → Type 0 = λ z. items_from limit (length z) [] (input z 0) ≡ Ok (text, input [] 0) in
-      subst P same r
+      let P : List Token → Type 0 = λ z. items limit (input z 0) ≡ Ok (text, input [] 0) in
+      subst P s.are (comes_within (follows text s.spelt s.spells) s.within)
 
   no_rest : (ts : List Token) → at_end (kind_ahead ts) ≡ true → ts ≡ []
   no_rest [] h = refl
@@ -139,8 +143,3 @@ found_so ts p e = spelled_so max_level (program p) ts e.state e.reads
 
 pub only_so : (ts : List Token) (p : Program) (text : Text) → Ends (items max_level (input ts 0)) p → IsSpelled max_level text ts → program p ≡ text
 only_so ts p text e s = (ok_pair (program p) text e.state (input [] 0) (sym e.reads ∙ read_back max_level text ts s)).0
-
-pub only_memory : (ts : List Token) (f : Fault) (text : Text) → (f ≢ OutOfMemory → items max_level (input ts 0) ≡ Err f) → IsSpelled max_level text ts → told_of f ≡ public.OutOfMemory
-only_memory ts (Syntax n) text h s = absurd (let e = h (λ z. cc) in let r = read_back max_level text ts s in cc)
-only_memory ts (Deep n) text h s = absurd (let e = h (λ z. cc) in let r = read_back max_level text ts s in cc)
-only_memory ts OutOfMemory text h s = refl

@@ -8,8 +8,8 @@ use Rattle.forec_tree.specs.declared.token.TokenKind.TheVariants as kind
 use Rattle.forec_tree.specs.declared.token.Mark.TheVariants as mark
 use Rattle.forec_tree.specs.declared.tree.OpAt.{OpAt}
 use Rattle.forec_tree.specs.Terms as plain
-use Rattle.forec_tree.specs.Terms.{Term, Declared, Written, Statement, Perhaps, absent, present}
-use Rattle.forec_tree.specs.Spelling.{Spelt, at, IsMark, IsName, name_at, listed, Whole, Brackets, Indexes, Passes, Arguments, one, more}
+use Rattle.forec_tree.specs.Terms.{Term, Written, Statement}
+use Rattle.forec_tree.specs.Spelling.{Spelt, at, IsMark, IsName, name_at, listed, Whole, Brackets, Indexes, Passes, Arguments}
 use Rattle.forec_tree.specs.Parts.{op_at, updates_by, steps_by, written_at}
 use Rattle.forec_tree.specs.SpelledStatements.{IsUpdate, IsStep, Separated, last_part, next_part, Targets, scalar, indexed, Simple, sets, updates, steps_behind, steps_ahead, invokes}
 use Rattle.expr_parser.specs.declared.fixed.Fixed.TheVariants as fixed
@@ -24,23 +24,16 @@ use Rattle.expr_parser.specs.Reading as reading
 use Rattle.expr_parser.specs.Reading.{expr, separated}
 use Rattle.forec_parser.specs.Statements as st
 use Rattle.forec_parser.specs.Statements.{op_by}
-use Rattle.expr_parser.proofs.Spans.{first, step, ok_pair, took, take_ok}
-use Rattle.expr_parser.proofs.Exact.{Lang, Read, Exact, Bind, both, Map, mapped, Done, done, If, on, off, Part, part, Reading, reading, Any, bind, map_to, convert, either, done_at, by_reading, read_as, reads_by, read_at}
+use Rattle.expr_parser.proofs.Spans.{first, first-append, step, ok_pair, took, take_ok}
+use Rattle.expr_parser.proofs.Exact.{Lang, Read, Exact, Bind, both, Map, mapped, Done, done, If, on, off, Part, part, Reading, reading, Any, comes, bind, map_to, convert, either, done_at, by_reading, read_as, reads_by, read_at}
 use Rattle.expr_parser.proofs.Leaves.{Tok, tok, NameIs, name_is, token, a_name, Listed, end_of_list, next_of_list, full_commas, Full, full, Filled}
 use Rattle.expr_parser.proofs.Operators.{ends, ends_square}
 use Rattle.expr_parser.proofs.ExpressionSound.{sound, value_by, bracketed_by, indexed_by, passed_by}
+use Rattle.expr_parser.proofs.ViableExpressions.{arguments_part}
 use Rattle.expr_parser.proofs.ExpressionComplete.{complete_whole, complete_brackets, complete_indexes, complete_passes, complete_arguments, indexes_first, passes_first}
 use Rattle.forec_parser.proofs.Marks.{update_changes, step_changes, step_acts, update_square, update_round, step_square, step_round, acts_first, step_first}
 
 -- ---- lists with commas
-
-more_in : {v w : ℕ} {x : Term} {xs : List Term} {ls rs : List Spelt} {k : Option TokenKind} (comma : Token) → Whole x v ls → IsMark mark.Comma comma → Part Any Arguments v xs w rs k
-    → Part Any Arguments v (x ∷ xs) w (ls ++ (at comma v ∷ rs)) k
-more_in comma s h (part r c) = part (more comma s h r) tt
-
-arguments_in : {v w : ℕ} {xs : List Term} {ls : List Spelt} {k : Option TokenKind} → Listed (Part Any Whole) v xs w ls k → Part Any Arguments v xs w ls k
-arguments_in (end_of_list (part s c) e) = part (one s) tt
-arguments_in (next_of_list comma (part s c) h rest) = more_in comma s h (arguments_in rest)
 
 next_in : {A : Type 0} {R : A → ℕ → List Spelt → Type 0} {v w : ℕ} {x : A} {xs : List A} {rs : List Spelt} {k : Option TokenKind} (ls : List Spelt) (comma : Token) → R x v ls → IsMark mark.Comma comma
     → Part Any (Separated R) v xs w rs k → Part Any (Separated R) v (x ∷ xs) w (ls ++ (at comma v ∷ rs)) k
@@ -94,21 +87,21 @@ module _ (limit : ℕ) where
   step_by i j n small None e h = absurd (cc)
   step_by i j n small (Some op) e h = op_read steps_by op i j n small (λ t ts f. sym (ap (λ z. step_of (kind_ahead z)) f) ∙ e) h
 
-  an_update : Exact limit st.update (Part Any (OpIs updates_by)) (Reading limit st.update)
+  pub an_update : Exact limit st.update (Part Any (OpIs updates_by)) (Reading limit st.update)
   unfolding st.update
   an_update = by_reading (λ i j n small h. update_by i j n small (update_of (kind_ahead i.rest)) refl h)
 
-  a_step : Exact limit st.step_mark (Part Any (OpIs steps_by)) (Reading limit st.step_mark)
+  pub a_step : Exact limit st.step_mark (Part Any (OpIs steps_by)) (Reading limit st.step_mark)
   unfolding st.step_mark
   a_step = by_reading (λ i j n small h. step_by i j n small (step_of (kind_ahead i.rest)) refl h)
 
   update_reads : {v : ℕ} {n : OpAt} {ls : List Spelt} {k : Option TokenKind} → OpIs updates_by n v ls → Reading limit st.update v n v ls k
   unfolding st.update
-  update_reads (op_is {v} {t} op h) = reading (λ rest e within. let f : update_of (Some t.kind) ≡ Some op = h in rw (f, take_ok))
+  update_reads (op_is {v} {t} op h) = reading (λ rest e. let f : update_of (Some t.kind) ≡ Some op = h in rw (f, take_ok) comes)
 
   step_reads : {v : ℕ} {n : OpAt} {ls : List Spelt} {k : Option TokenKind} → OpIs steps_by n v ls → Reading limit st.step_mark v n v ls k
   unfolding st.step_mark
-  step_reads (op_is {v} {t} op h) = reading (λ rest e within. let f : step_of (Some t.kind) ≡ Some op = h in rw (f, take_ok))
+  step_reads (op_is {v} {t} op h) = reading (λ rest e. let f : step_of (Some t.kind) ≡ Some op = h in rw (f, take_ok) comes)
 
   -- ---- expressions in statements
 
@@ -122,7 +115,7 @@ module _ (limit : ℕ) where
 
   some_values : Exact limit (st.values limit) (Part Any Arguments) (Listed (Full (Reading limit (reading.value limit (expr limit (suc limit))))))
   unfolding st.values
-  some_values = convert (λ v w x ls k q. arguments_in q) (λ v w x ls k q. q) (full_commas (value_by limit (expr limit (suc limit)) (sound limit (suc limit))))
+  some_values = convert (λ v w x ls k q. arguments_part q) (λ v w x ls k q. q) (full_commas (value_by limit (expr limit (suc limit)) (sound limit (suc limit))))
 
   pub values_by : Exact limit (st.values limit) (Part Any Arguments) (Reading limit (st.values limit))
   values_by = by_reading some_values.sound
@@ -138,7 +131,7 @@ module _ (limit : ℕ) where
   unfolding st.bracketed
   bracketed_reads {k = k} s = complete_brackets limit s (suc limit) k (omega arith)
 
-  an_indexed : Exact limit (st.indexed limit) (Part Any Indexes) (Reading limit (st.indexed limit))
+  pub an_indexed : Exact limit (st.indexed limit) (Part Any Indexes) (Reading limit (st.indexed limit))
   unfolding st.indexed
   an_indexed = indexed_by limit (expr limit (suc limit)) (sound limit (suc limit))
 
@@ -160,30 +153,30 @@ module _ (limit : ℕ) where
     some_index : {v : ℕ} {x : Term} {ls : List Spelt} → Indexes x v ls → MaybeIndex (Some x) v ls
     no_index : {v : ℕ} → MaybeIndex None v []
 
+  pub maybe_index_of : (v w : ℕ) (x : Option Term) (ls : List Spelt) (k : Option TokenKind) → If fixed.LeftSquare (Map (λ x. Some x) (Part Any Indexes)) (Done None) v x w ls k → Part Any MaybeIndex v x w ls k
+  maybe_index_of v w x ls k (on e (mapped (part s c))) = part (some_index s) tt
+  maybe_index_of v w x ls k (off e done) = part no_index tt
+
   a_maybe_index : Exact limit (st.maybe_index limit) (Part Any MaybeIndex) (If fixed.LeftSquare (Map (λ x. Some x) (Reading limit (st.indexed limit))) (Done None))
   unfolding st.maybe_index
-  a_maybe_index = convert of (λ v w x ls k q. q) (either fixed.LeftSquare (map_to (λ x. Some x) an_indexed) (done_at None))
-    where
-      of : (v w : ℕ) (x : Option Term) (ls : List Spelt) (k : Option TokenKind) → If fixed.LeftSquare (Map (λ x. Some x) (Part Any Indexes)) (Done None) v x w ls k → Part Any MaybeIndex v x w ls k
-      of v w x ls k (on e (mapped (part s c))) = part (some_index s) tt
-      of v w x ls k (off e done) = part no_index tt
+  a_maybe_index = convert maybe_index_of (λ v w x ls k q. q) (either fixed.LeftSquare (map_to (λ x. Some x) an_indexed) (done_at None))
 
-  maybe_index_by : Exact limit (st.maybe_index limit) (Part Any MaybeIndex) (Reading limit (st.maybe_index limit))
+  pub maybe_index_by : Exact limit (st.maybe_index limit) (Part Any MaybeIndex) (Reading limit (st.maybe_index limit))
   maybe_index_by = by_reading a_maybe_index.sound
 
   maybe_index_reads : {v : ℕ} {x : Option Term} {ls : List Spelt} {k : Option TokenKind} → MaybeIndex x v ls → is_fixed fixed.LeftSquare k ≡ false → Reading limit (st.maybe_index limit) v x v ls k
   maybe_index_reads {k = k} (some_index s) n = reads_by a_maybe_index (on (ap (is_fixed fixed.LeftSquare) (indexes_first s k)) (mapped (indexed_reads s)))
   maybe_index_reads no_index n = reads_by a_maybe_index (off n done)
 
+  pub target_of : (v w : ℕ) (x : Written) (ls : List Spelt) (k : Option TokenKind) → Bind (Part Any NameIs) (λ n. Map (λ x. written_at n x) (Part Any MaybeIndex)) v x w ls k → Part Any Targets v x w ls k
+  target_of v w x ls k (both (part (name_is id h) c) (mapped (part (some_index s) d))) = part (indexed id h s) tt
+  target_of v w x ls k (both (part (name_is id h) c) (mapped (part no_index d))) = part (scalar id h) tt
+
   a_target : Exact limit (st.target limit) (Part Any Targets) (Bind (Part Any NameIs) (λ n. Map (λ x. written_at n x) (Reading limit (st.maybe_index limit))))
   unfolding st.target
-  a_target = convert of (λ v w x ls k q. q) (bind (a_name limit) (λ n. map_to (λ x. written_at n x) maybe_index_by))
-    where
-      of : (v w : ℕ) (x : Written) (ls : List Spelt) (k : Option TokenKind) → Bind (Part Any NameIs) (λ n. Map (λ x. written_at n x) (Part Any MaybeIndex)) v x w ls k → Part Any Targets v x w ls k
-      of v w x ls k (both (part (name_is id h) c) (mapped (part (some_index s) d))) = part (indexed id h s) tt
-      of v w x ls k (both (part (name_is id h) c) (mapped (part no_index d))) = part (scalar id h) tt
+  a_target = convert target_of (λ v w x ls k q. q) (bind (a_name limit) (λ n. map_to (λ x. written_at n x) maybe_index_by))
 
-  target_by : Exact limit (st.target limit) (Part Any Targets) (Reading limit (st.target limit))
+  pub target_by : Exact limit (st.target limit) (Part Any Targets) (Reading limit (st.target limit))
   target_by = by_reading a_target.sound
 
   target_reads : {v : ℕ} {x : Written} {ls : List Spelt} {k : Option TokenKind} → Targets x v ls → is_fixed fixed.LeftSquare k ≡ false → Reading limit (st.target limit) v x v ls k
@@ -192,7 +185,7 @@ module _ (limit : ℕ) where
 
   -- ---- changes
 
-  data Changes (target : Written) : Statement → ℕ → List Spelt → Type 0 where
+  pub data Changes (target : Written) : Statement → ℕ → List Spelt → Type 0 where
     by_set : {v : ℕ} {t : Token} {x : Term} {ls : List Spelt} → IsMark mark.Assign t → Whole x v ls → Changes target (plain.Assign target.name.place target None x) v (at t v ∷ ls)
     by_update : {v : ℕ} {t : Token} {x : Term} {ls : List Spelt} (op : Binary) → IsUpdate op t → Whole x v ls → Changes target (plain.Assign target.name.place target (Some (op_at op t.place)) x) v (at t v ∷ ls)
     by_step : {v : ℕ} {t : Token} (op : Binary) → IsStep op t → Changes target (plain.Assign target.name.place target (Some (op_at op t.place)) (plain.Num t.place (pos 1))) v (at t v ∷ [])
@@ -205,55 +198,55 @@ module _ (limit : ℕ) where
       (Bind (Reading limit st.update) (λ op. Map (λ x. plain.Assign target.name.place target (Some op) x) (Reading limit (st.value limit))))
   updating target = bind an_update (λ op. map_to (λ x. plain.Assign target.name.place target (Some op) x) a_value)
 
-  abbrev stepping_to : Written → OpAt → Statement
+  abbrev pub stepping_to : Written → OpAt → Statement
   stepping_to target op = plain.Assign target.name.place target (Some op) (plain.Num op.place (pos 1))
 
   stepping : (target : Written) → Exact limit (st.changed_by limit change.Steps target) (Map (stepping_to target) (Part Any (OpIs steps_by))) (Map (stepping_to target) (Reading limit st.step_mark))
   stepping target = map_to (stepping_to target) a_step
 
+  pub set_of : {target : Written} {v w : ℕ} {y : Statement} {ls : List Spelt} {k : Option TokenKind} → Bind (Tok fixed.Assign) (λ _. Map (λ x. plain.Assign target.name.place target None x) (Part Any Whole)) v y w ls k → Part Any (Changes target) v y w ls k
+  set_of (both (tok h) (mapped (part s c))) = part (by_set h s) tt
+
+  pub updated_of : {target : Written} {v w : ℕ} {y : Statement} {ls : List Spelt} {k : Option TokenKind} → Bind (Part Any (OpIs updates_by)) (λ op. Map (λ x. plain.Assign target.name.place target (Some op) x) (Part Any Whole)) v y w ls k → Part Any (Changes target) v y w ls k
+  updated_of (both (part (op_is op h) c) (mapped (part s d))) = part (by_update op h s) tt
+
+  pub moved_of : {target : Written} {v w : ℕ} {y : Statement} {ls : List Spelt} {k : Option TokenKind} → Map (stepping_to target) (Part Any (OpIs steps_by)) v y w ls k → Part Any (Changes target) v y w ls k
+  moved_of (mapped (part (op_is op h) c)) = part (by_step op h) tt
+
   changes_of : (target : Written) (c : Change) (i j : Input) (x : Statement) → i.level ≤ limit → st.changed_by limit c target i ≡ Ok (x, j) → Read limit (Part Any (Changes target)) x i j
-  changes_of target change.Sets i j x small h = read_as ((setting target).sound i j x small h) (λ ls e q. of q)
-    where
-      of : {v w : ℕ} {y : Statement} {ls : List Spelt} {k : Option TokenKind} → Bind (Tok fixed.Assign) (λ _. Map (λ x. plain.Assign target.name.place target None x) (Part Any Whole)) v y w ls k → Part Any (Changes target) v y w ls k
-      of (both (tok h) (mapped (part s c))) = part (by_set h s) tt
-  changes_of target change.Updates i j x small h = read_as ((updating target).sound i j x small h) (λ ls e q. of q)
-    where
-      of : {v w : ℕ} {y : Statement} {ls : List Spelt} {k : Option TokenKind} → Bind (Part Any (OpIs updates_by)) (λ op. Map (λ x. plain.Assign target.name.place target (Some op) x) (Part Any Whole)) v y w ls k → Part Any (Changes target) v y w ls k
-      of (both (part (op_is op h) c) (mapped (part s d))) = part (by_update op h s) tt
-  changes_of target change.Steps i j x small h = read_as ((stepping target).sound i j x small h) (λ ls e q. of q)
-    where
-      of : {v w : ℕ} {y : Statement} {ls : List Spelt} {k : Option TokenKind} → Map (stepping_to target) (Part Any (OpIs steps_by)) v y w ls k → Part Any (Changes target) v y w ls k
-      of (mapped (part (op_is op h) c)) = part (by_step op h) tt
+  changes_of target change.Sets i j x small h = read_as ((setting target).sound i j x small h) (λ ls e q. set_of q)
+  changes_of target change.Updates i j x small h = read_as ((updating target).sound i j x small h) (λ ls e q. updated_of q)
+  changes_of target change.Steps i j x small h = read_as ((stepping target).sound i j x small h) (λ ls e q. moved_of q)
   changes_of target change.Nothing i j x small h = absurd (cc)
 
-  changed_by : (target : Written) → Exact limit (st.changed limit target) (Part Any (Changes target)) (Reading limit (st.changed limit target))
+  pub changed_by : (target : Written) → Exact limit (st.changed limit target) (Part Any (Changes target)) (Reading limit (st.changed limit target))
   unfolding st.changed
   changed_by target = by_reading (λ i j x small h. changes_of target (change_of (kind_ahead i.rest)) i j x small h)
 
   set_reads : {target : Written} {v : ℕ} {t : Token} {x : Term} {ls : List Spelt} {k : Option TokenKind} → IsMark mark.Assign t → Whole x v ls → v ≤ limit → ends k ≡ true
       → Reading limit (st.changed limit target) v (plain.Assign target.name.place target None x) v (at t v ∷ ls) k
   unfolding st.changed
-  set_reads {target} {v} {t} {x} {ls} {k} h s small n = reading (λ rest e within.
+  set_reads {target} {v} {t} {x} {ls} {k} h s small n = reading (λ rest e.
       let c : change_of (Some t.kind) ≡ change.Sets = rw h in
-      rw c (read_at (reads_by (setting target) (both (tok h) (mapped (value_reads s small n)))) rest e within))
+      rw c (read_at (reads_by (setting target) (both (tok h) (mapped (value_reads s small n)))) rest e))
 
   update_changed : {target : Written} {v : ℕ} {t : Token} {x : Term} {ls : List Spelt} {k : Option TokenKind} (op : Binary) → IsUpdate op t → Whole x v ls → v ≤ limit → ends k ≡ true
       → Reading limit (st.changed limit target) v (plain.Assign target.name.place target (Some (op_at op t.place)) x) v (at t v ∷ ls) k
   unfolding st.changed
-  update_changed {target} {v} {t} {x} {ls} {k} op h s small n = reading (λ rest e within.
+  update_changed {target} {v} {t} {x} {ls} {k} op h s small n = reading (λ rest e.
       let c : change_of (Some t.kind) ≡ change.Updates = update_changes t.kind op h in
-      rw c (read_at (reads_by (updating target) (both (update_reads (op_is op h)) (mapped (value_reads s small n)))) rest e within))
+      rw c (read_at (reads_by (updating target) (both (update_reads (op_is op h)) (mapped (value_reads s small n)))) rest e))
 
   step_changed : {target : Written} {v : ℕ} {t : Token} {k : Option TokenKind} (op : Binary) → IsStep op t
       → Reading limit (st.changed limit target) v (plain.Assign target.name.place target (Some (op_at op t.place)) (plain.Num t.place (pos 1))) v (at t v ∷ []) k
   unfolding st.changed
-  step_changed {target} {v} {t} {k} op h = reading (λ rest e within.
+  step_changed {target} {v} {t} {k} op h = reading (λ rest e.
       let c : change_of (Some t.kind) ≡ change.Steps = step_changes t.kind op h in
-      rw c (read_at (reads_by (stepping target) (mapped (step_reads (op_is op h)))) rest e within))
+      rw c (read_at (reads_by (stepping target) (mapped (step_reads (op_is op h)))) rest e))
 
   -- ---- simple statements
 
-  abbrev Named : Lang (List Term) → Lang (Option Term) → (Written → Lang Statement) → Lang Statement
+  abbrev pub Named : Lang (List Term) → Lang (Option Term) → (Written → Lang Statement) → Lang Statement
   Named P I C = Bind (Part Any NameIs) (λ n. If fixed.LeftRound (Map (λ args. plain.Invoke n.place n (listed args)) P) (Bind I (λ index. C (written_at n index))))
 
   a_named : Exact limit (st.named limit) (Named (Part Any Passes) (Part Any MaybeIndex) (λ w. Part Any (Changes w)))
@@ -261,7 +254,7 @@ module _ (limit : ℕ) where
   unfolding st.named st.invoked st.assigned
   a_named = bind (a_name limit) (λ n. either fixed.LeftRound (map_to (λ args. plain.Invoke n.place n (listed args)) a_passed) (bind maybe_index_by (λ index. changed_by (written_at n index))))
 
-  named_of : {v w : ℕ} {x : Statement} {ls : List Spelt} {k : Option TokenKind} → Named (Part Any Passes) (Part Any MaybeIndex) (λ w. Part Any (Changes w)) v x w ls k → Part Any Simple v x w ls k
+  pub named_of : {v w : ℕ} {x : Statement} {ls : List Spelt} {k : Option TokenKind} → Named (Part Any Passes) (Part Any MaybeIndex) (λ w. Part Any (Changes w)) v x w ls k → Part Any Simple v x w ls k
   named_of (both (part (name_is id h) c) (on e (mapped (part s d)))) = part (invokes id h s) tt
   named_of (both (part (name_is id h) c) (off e (both (part no_index d) (part (by_set m s) f)))) = part (sets _ (scalar id h) m s) tt
   named_of (both (part (name_is id h) c) (off e (both (part no_index d) (part (by_update op m s) f)))) = part (updates _ op (scalar id h) m s) tt
@@ -270,14 +263,14 @@ module _ (limit : ℕ) where
   named_of (both (part (name_is id h) c) (off e (both (part (some_index r) d) (part (by_update op m s) f)))) = part (updates _ op (indexed id h r) m s) tt
   named_of (both (part (name_is id h) c) (off e (both (part (some_index r) d) (part (by_step op m) f)))) = part (steps_behind _ op (indexed id h r) m) tt
 
-  abbrev stepped_to : OpAt → Written → Statement
+  abbrev pub stepped_to : OpAt → Written → Statement
   stepped_to op target = plain.Assign op.place target (Some op) (plain.Num op.place (pos 1))
 
   a_stepped : Exact limit (st.stepped limit) (Bind (Part Any (OpIs steps_by)) (λ op. Map (stepped_to op) (Part Any Targets))) (Bind (Reading limit st.step_mark) (λ op. Map (stepped_to op) (Reading limit (st.target limit))))
   unfolding st.stepped
   a_stepped = bind a_step (λ op. map_to (stepped_to op) target_by)
 
-  stepped_of : {v w : ℕ} {x : Statement} {ls : List Spelt} {k : Option TokenKind} → Bind (Part Any (OpIs steps_by)) (λ op. Map (stepped_to op) (Part Any Targets)) v x w ls k → Part Any Simple v x w ls k
+  pub stepped_of : {v w : ℕ} {x : Statement} {ls : List Spelt} {k : Option TokenKind} → Bind (Part Any (OpIs steps_by)) (λ op. Map (stepped_to op) (Part Any Targets)) v x w ls k → Part Any Simple v x w ls k
   stepped_of (both (part (op_is op h) c) (mapped (part s d))) = part (steps_ahead op h s) tt
 
   simple_of : (a : Act) (i j : Input) (x : Statement) → i.level ≤ limit → st.simple_by limit a i ≡ Ok (x, j) → Read limit (Part Any Simple) x i j
@@ -294,9 +287,9 @@ module _ (limit : ℕ) where
       (Bind (Reading limit (st.maybe_index limit)) (λ index. Reading limit (st.changed limit (written_at (name_at id t.place) index)))) v x v ls k
       → Reading limit (st.simple limit) v x v (at t v ∷ ls) k
   unfolding st.simple
-  by_name {v} {x} {ls} {k} {t} id h q = reading (λ rest e within.
+  by_name {v} {x} {ls} {k} {t} id h q = reading (λ rest e.
       let c : act_of (Some t.kind) ≡ act.Named = rw h in
-      rw c (read_at (reads_by a_named (both (part (name_is id h) tt) q)) rest e within))
+      rw c (read_at (reads_by a_named (both (part (name_is id h) tt) q)) rest e))
 
   scalar_changed : {v : ℕ} {x : Statement} {ls : List Spelt} {k : Option TokenKind} {t : Token} (id : ℕ) → IsName id t
       → is_fixed fixed.LeftRound (first ls k) ≡ false → is_fixed fixed.LeftSquare (first ls k) ≡ false → Reading limit (st.changed limit (written_at (name_at id t.place) None)) v x v ls k
@@ -306,15 +299,11 @@ module _ (limit : ℕ) where
   square_round : (o : Option TokenKind) → o ≡ Some (kind.Mark mark.LeftSquare) → is_fixed fixed.LeftRound o ≡ false
   square_round o e = ap (is_fixed fixed.LeftRound) e
 
-  pub first_append : (a b : List Spelt) (k : Option TokenKind) → first (a ++ b) k ≡ first a (first b k)
-  first_append [] b k = refl
-  first_append (s ∷ a) b k = refl
-
   index_changed : {v : ℕ} {x : Statement} {index : Term} {ls rs : List Spelt} {k : Option TokenKind} {t : Token} (id : ℕ) → IsName id t → Indexes index v ls
       → is_fixed fixed.LeftSquare (first rs k) ≡ false → Reading limit (st.changed limit (written_at (name_at id t.place) (Some index))) v x v rs k
       → Reading limit (st.simple limit) v x v (at t v ∷ (ls ++ rs)) k
   index_changed {v} {x} {index} {ls} {rs} {k} id h s b r =
-      by_name id h (off (square_round _ (first_append ls rs k ∙ indexes_first s (first rs k))) (both (maybe_index_reads (some_index s) b) r))
+      by_name id h (off (square_round _ (first-append ls rs k ∙ indexes_first s (first rs k))) (both (maybe_index_reads (some_index s) b) r))
 
   pub simple_reads : {v : ℕ} {x : Statement} {ls : List Spelt} {k : Option TokenKind} → Simple x v ls → v ≤ limit → ends k ≡ true → Reading limit (st.simple limit) v x v ls k
   unfolding st.simple
@@ -324,9 +313,9 @@ module _ (limit : ℕ) where
   simple_reads (updates t op (indexed id h r) m s) small e = index_changed id h r (update_square t.kind op m) (update_changed op m s small e)
   simple_reads (steps_behind t op (scalar id h) m) small e = scalar_changed id h (step_round t.kind op m) (step_square t.kind op m) (step_changed op m)
   simple_reads (steps_behind t op (indexed id h r) m) small e = index_changed id h r (step_square t.kind op m) (step_changed op m)
-  simple_reads {k = k} (steps_ahead {t = t} op h s) small n = reading (λ rest e within.
+  simple_reads {k = k} (steps_ahead {t = t} op h s) small n = reading (λ rest e.
       let c : act_of (Some t.kind) ≡ act.Steps = step_acts t.kind op h in
-      rw c (read_at (reads_by a_stepped (both (step_reads (op_is op h)) (mapped (target_reads s (ends_square k n))))) rest e within))
+      rw c (read_at (reads_by a_stepped (both (step_reads (op_is op h)) (mapped (target_reads s (ends_square k n))))) rest e))
   simple_reads {k = k} (invokes id h s) small e = by_name id h (on (ap (is_fixed fixed.LeftRound) (passes_first s k)) (mapped (passed_reads s)))
 
   abbrev pub ActsFirst : List Spelt → Type 0

@@ -10,7 +10,7 @@ use Rattle.forec_tree.specs.declared.token.Word.TheVariants as word
 use Rattle.forec_tree.specs.declared.tree.Number.{Number}
 use Rattle.forec_tree.specs.Terms as plain
 use Rattle.forec_tree.specs.Terms.{Term, Declared, Statement, absent, present}
-use Rattle.forec_tree.specs.Spelling.{Spelt, at, tokens, IsMark, IsWord, IsName, IsWithin, Brackets, Passes, Whole, name_at, listed}
+use Rattle.forec_tree.specs.Spelling.{Spelt, at, tokens, IsMark, IsWord, IsName, Brackets, Passes, Whole, name_at, listed}
 use Rattle.forec_tree.specs.Parts.{in_order, Launch, Calls, Blocks, launched, Head}
 use Rattle.forec_tree.specs.SpelledStatements.{Separated, Declares, bare, valued, array, valued_array, Simple, Bounds, Heads, Optional, there, missing, Says, nothing, acts, group, declares, if_alone, if_else, loops, counts, pauses, forks, aborts, gives_back, Block, block, Lists, no_more, and_more, forked, Starting, bare_call, call, blocked, Launches, last_branch, next_branch}
 use Rattle.expr_parser.specs.declared.fixed.Fixed.{Fixed}
@@ -22,16 +22,16 @@ use Rattle.expr_parser.specs.Meaning.{is_fixed}
 use Rattle.forec_parser.specs.Meaning.{sort_of, ends_body}
 use Rattle.forec_parser.specs.Statements as st
 use Rattle.forec_parser.specs.Statements.{stmt}
-use Rattle.expr_parser.proofs.Spans.{tokens_append, within_front, within_back, first, first-is}
+use Rattle.expr_parser.proofs.Spans.{tokens_append, first, first-is}
 use Rattle.expr_parser.proofs.Closers.{fixed-kind}
-use Rattle.expr_parser.proofs.Exact.{Exact, Any, by_reading, Part, part, both, mapped, inside, done, on, off, Reading, reading, bind, reads_by, read_at}
-use Rattle.expr_parser.proofs.Leaves.{tok, last, up, name_is, token, between, Listed, end_of_list, next_of_list, Full, full, Filled, filled-long, is_so}
+use Rattle.expr_parser.proofs.Exact.{Exact, Any, by_reading, Part, part, both, mapped, inside, done, on, off, Reading, reading, Follows, comes, follow_then, bind, reads_by, read_at}
+use Rattle.expr_parser.proofs.Leaves.{tok, last, over, name_is, token, encloses, Listed, end_of_list, next_of_list, Full, full, Filled, filled-long, is_so}
 use Rattle.expr_parser.proofs.Operators.{ends, ends_round}
 use Rattle.expr_parser.proofs.ExpressionComplete.{brackets_first, passes_first}
 use Rattle.forec_parser.proofs.Marks.{acts_simple, acts_says, says_first, says_else, says_hash, says_ends}
 use Rattle.forec_parser.proofs.SimpleRules.{list_reads, value_reads, bracketed_reads, passed_reads, simple_reads, ActsFirst, simple_first}
 use Rattle.forec_parser.proofs.PartRules.{local_reads, bound_reads, head_reads}
-use Rattle.forec_parser.proofs.StatementSound.{Calm, flag_reads, a_called, sound_stmt, Braces, a_block, a_launch, a_launches, AbortRest, x_empty, x_group, x_declaring, x_acting, x_branching, x_looping, x_counting, x_pausing, x_forking, x_aborting, x_giving}
+use Rattle.forec_parser.proofs.StatementSound.{Calm, flag_reads, a_called, sound_stmt, BracesBy, a_block, a_launch, a_launches, AbortRest, x_empty, x_group, x_declaring, x_acting, x_branching, x_looping, x_counting, x_pausing, x_forking, x_aborting, x_giving}
 
 abbrev pub SaysFirst : List Spelt → Type 0
 SaysFirst [] = ⊥
@@ -46,9 +46,6 @@ block_first (block right hl b hr) = rw hl
 
 block_curly : {place : Place} {xs : List Statement} {v u : ℕ} {ls : List Spelt} → Block place xs v u ls → (k : Option TokenKind) → first ls k ≡ Some (kind.Mark mark.LeftCurly)
 block_curly (block right hl b hr) k = rw hl
-
-block_small : {place : Place} {xs : List Statement} {v u limit : ℕ} {ls : List Spelt} → Block place xs v u ls → IsWithin limit ls → v + 1 ≤ limit
-block_small (block right hl b hr) w = w.0
 
 acts_append : (limit : ℕ) (ls rs : List Spelt) → ActsFirst limit ls → SaysFirst (ls ++ rs)
 acts_append limit [] rs h = absurd h
@@ -134,9 +131,9 @@ module _ (limit : ℕ) where
   -- by what it begins with
   one_is : (p : Parser Statement) {x : Statement} {v : ℕ} {ls : List Spelt} {k : Option TokenKind} (s : Sort) → sort_of (first ls k) ≡ s → Reading limit (st.one_by limit p s) v x v ls k → Reading limit (st.one limit p) v x v ls k
   unfolding st.one
-  one_is p {x} {v} {ls} {k} s h r = reading (λ rest e within.
+  one_is p {x} {v} {ls} {k} s h r = reading (λ rest e.
       let c : sort_of (kind_ahead (tokens ls ++ rest)) ≡ s = ap sort_of (first-is ls rest ∙ ap (first ls) e) ∙ h in
-      rw c (read_at r rest e within))
+      rw c (read_at r rest e))
 
   -- ---- lists
 
@@ -145,20 +142,23 @@ module _ (limit : ℕ) where
   a_none {v} d zero found rest h = rw h (ap (λ z. Ok (z, input rest v)) (sym (append-nil found)))
   a_none {v} d (suc n) found rest h = rw h (ap (λ z. Ok (z, input rest v)) (sym (append-nil found)))
 
-  a_step : {v : ℕ} {x : Statement} (ls : List Spelt) (d n : ℕ) (found : List Statement) (rest : List Token) → SaysFirst ls → stmt limit d (input (tokens ls ++ rest) v) ≡ Ok (x, input rest v)
-      → st.body_from limit (stmt limit d) (suc n) found (input (tokens ls ++ rest) v) ≡ st.body_from limit (stmt limit d) n (found ++ x ∷ []) (input rest v)
+  a_step : {v : ℕ} {x : Statement} (xs : List Statement) (ls rs : List Spelt) (d n : ℕ) (found : List Statement) (rest : List Token) → SaysFirst ls
+      → Follows limit x v ls (tokens rs ++ rest) (stmt limit d (input (tokens ls ++ (tokens rs ++ rest)) v))
+      → Follows limit ((found ++ x ∷ []) ++ xs) v rs rest (st.body_from limit (stmt limit d) n (found ++ x ∷ []) (input (tokens rs ++ rest) v))
+      → Follows limit (found ++ (x ∷ xs)) v (ls ++ rs) rest (st.body_from limit (stmt limit d) (suc n) found (input (tokens ls ++ (tokens rs ++ rest)) v))
   unfolding st.body_from
-  a_step {v} {x} ls d n found rest h r =
-      let c : ends_body (kind_ahead (tokens ls ++ rest)) ≡ false = begins ls h in
-      rw (c, r)
+  a_step {v} {x} xs ls rs d n found rest h r more =
+      let c : ends_body (kind_ahead (tokens ls ++ (tokens rs ++ rest))) ≡ false = begins ls h in
+      let R : List Statement → Type 0 = λ z. Follows limit z v rs rest (st.body_from limit (stmt limit d) n (found ++ x ∷ []) (input (tokens rs ++ rest) v)) in
+      rw c (follow_then rs (λ x. st.body_from limit (stmt limit d) n (found ++ x ∷ [])) r (subst R (append_assoc found (x ∷ []) xs) more))
     where
-      begins : (ls : List Spelt) → SaysFirst ls → ends_body (kind_ahead (tokens ls ++ rest)) ≡ false
+      begins : (ls : List Spelt) → SaysFirst ls → ends_body (kind_ahead (tokens ls ++ (tokens rs ++ rest))) ≡ false
       begins [] h = absurd h
       begins (s ∷ ls) h = says_ends (Some s.token.kind) h
 
   abbrev Listing : List Statement → ℕ → List Spelt → Type 0
-  Listing xs v ls = (d n : ℕ) (found : List Statement) (rest : List Token) → v ≤ limit → limit < d + v → ends_body (kind_ahead rest) ≡ true → IsWithin limit ls → length (tokens ls ++ rest) ≤ n
-      → st.body_from limit (stmt limit d) n found (input (tokens ls ++ rest) v) ≡ Ok (found ++ xs, input rest v)
+  Listing xs v ls = (d n : ℕ) (found : List Statement) (rest : List Token) → v ≤ limit → limit < d + v → ends_body (kind_ahead rest) ≡ true → length (tokens ls ++ rest) ≤ n
+      → Follows limit (found ++ xs) v ls rest (st.body_from limit (stmt limit d) n found (input (tokens ls ++ rest) v))
 
   next_calm : (xs : List Statement) {v : ℕ} (rs : List Spelt) (k : Option TokenKind) → Lists xs v rs → ends_body k ≡ true → is_fixed fixed.Else (first rs k) ≡ false
   next_calm [] rs k no_more h = ends_else k h
@@ -170,39 +170,36 @@ module _ (limit : ℕ) where
 
   l_more : {v : ℕ} {o : Bool} {x : Statement} {xs : List Statement} (ls rs : List Spelt) → SaysFirst ls → IsRead x o v v ls → Listing xs v rs
       → ((k : Option TokenKind) → ends_body k ≡ true → is_fixed fixed.Else (first rs k) ≡ false) → Listing (x ∷ xs) v (ls ++ rs)
-  l_more {v} {o} {x} {xs} ls rs begin rx rxs calm d zero found rest small far hr within le =
+  l_more {v} {o} {x} {xs} ls rs begin rx rxs calm d zero found rest small far hr le =
       let same : tokens (ls ++ rs) ++ rest ≡ tokens ls ++ (tokens rs ++ rest) = tokens_append ls rs rest in
       let none : length (tokens ls ++ (tokens rs ++ rest)) ≤ 0 = rw same at le in
       absurd (omega (arith, filled-long ls (tokens rs ++ rest) (says_filled ls begin)))
-  l_more {v} {o} {x} {xs} ls rs begin rx rxs calm d (suc n) found rest small far hr within le =
+  l_more {v} {o} {x} {xs} ls rs begin rx rxs calm d (suc n) found rest small far hr le =
       let tail = tokens rs ++ rest in
       let same : tokens (ls ++ rs) ++ rest ≡ tokens ls ++ tail = tokens_append ls rs rest in
       let room : length (tokens ls ++ tail) ≤ suc n = rw same at le in
-      let a : stmt limit d (input (tokens ls ++ tail) v) ≡ Ok (x, input tail v) =
-      read_at (rx d (first rs (kind_ahead rest)) small small far (λ _. calm (kind_ahead rest) hr)) tail (first-is rs rest) (within_front limit ls rs within) in
-      let b : st.body_from limit (stmt limit d) n (found ++ x ∷ []) (input tail v) ≡ Ok ((found ++ x ∷ []) ++ xs, input rest v) =
-      rxs d n (found ++ x ∷ []) rest small far hr (within_back limit ls rs within) (omega (arith, filled-long ls tail (says_filled ls begin))) in
-      rw same (a_step ls d n found tail begin a ∙ b ∙ ap (λ z. Ok (z, input rest v)) (append_assoc found (x ∷ []) xs))
+      let a : Follows limit x v ls tail (stmt limit d (input (tokens ls ++ tail) v)) = read_at (rx d (first rs (kind_ahead rest)) small small far (λ _. calm (kind_ahead rest) hr)) tail (first-is rs rest) in
+      let b = rxs d n (found ++ x ∷ []) rest small far hr (omega (arith, filled-long ls tail (says_filled ls begin))) in
+      rw same (a_step xs ls rs d n found rest begin a b)
 
   l_body : {v : ℕ} {xs : List Statement} {ls : List Spelt} → Listing xs v ls → AreRead xs v ls
   unfolding st.body
-  l_body {ls = ls} f d k small far h = reading (λ rest e within. f d (length (tokens ls ++ rest)) [] rest small far (ap ends_body e ∙ h) within (omega arith))
+  l_body {ls = ls} f d k small far h = reading (λ rest e. f d (length (tokens ls ++ rest)) [] rest small far (ap ends_body e ∙ h) (omega arith))
 
   -- ---- blocks and branches
 
   abbrev BlockReads : Place → List Statement → ℕ → ℕ → List Spelt → Type 0
-  BlockReads place xs v u ls = (d : ℕ) (k : Option TokenKind) (g : ℕ → ℕ) → g v ≡ u → v + 1 ≤ limit → limit ≤ d + v
-      → Braces limit (stmt limit d) (sound_stmt limit d) g (Reading limit (st.body limit (stmt limit d))) v (place, xs) v ls k
+  BlockReads place xs v u ls = (d : ℕ) (k : Option TokenKind) (g : ℕ → ℕ) → g v ≡ u → limit ≤ d + v
+      → BracesBy limit (stmt limit d) (sound_stmt limit d) g (Reading limit (st.body limit (stmt limit d))) v (place, xs) v ls k
 
   b_block : {v u : ℕ} {left : Token} (right : Token) {xs : List Statement} {ls : List Spelt} → IsMark mark.LeftCurly left → AreRead xs (v + 1) ls → IsMark mark.RightCurly right
       → BlockReads left.place xs v u (at left (v + 1) ∷ (ls ++ (at right u ∷ [])))
-  b_block {v} {u} {left} right {xs} {ls} hl b hr d k g e small far =
-      let R : ℕ → Type 0 = λ z. Braces limit (stmt limit d) (sound_stmt limit d) g (Reading limit (st.body limit (stmt limit d))) v (left.place, xs) v (at left (v + 1) ∷ (ls ++ (at right z ∷ []))) k in
-      subst R e (between right hl (b d (Some right.kind) small (omega arith) (curly_body right hr)) hr)
+  b_block {v} {u} {left} right {xs} {ls} hl b hr d k g e far =
+      let R : ℕ → Type 0 = λ z. BracesBy limit (stmt limit d) (sound_stmt limit d) g (Reading limit (st.body limit (stmt limit d))) v (left.place, xs) v (at left (v + 1) ∷ (ls ++ (at right z ∷ []))) k in
+      subst R e (encloses right hl (λ small. b d (Some right.kind) small (omega arith) (curly_body right hr)) hr)
 
   pub here_reads : {v : ℕ} {place : Place} {xs : List Statement} {ls : List Spelt} {k : Option TokenKind} (d : ℕ) → Block place xs v v ls → BlockReads place xs v v ls → limit ≤ d + v → Reading limit (st.block limit (stmt limit d)) v (place, xs) v ls k
-  here_reads {k = k} d b r far = reading (λ rest e within.
-      read_at (reads_by (a_block limit (stmt limit d) (sound_stmt limit d) (λ v. v) (λ v h. h)) (r d k (λ v. v) refl (block_small b within) far)) rest e within)
+  here_reads {k = k} d b r far = reads_by (a_block limit (stmt limit d) (sound_stmt limit d) (λ v. v) (λ v h. h)) (r d k (λ v. v) refl far)
 
   abbrev LaunchReads : Launch → ℕ → List Spelt → Type 0
   LaunchReads x v ls = (d : ℕ) (k : Option TokenKind) → limit ≤ d + v → ends k ≡ true → Reading limit (st.launch limit (stmt limit d)) v x v ls k
@@ -244,8 +241,7 @@ module _ (limit : ℕ) where
 
   r_group : {v u : ℕ} {place : Place} {xs : List Statement} {ls : List Spelt} → Block place xs v u ls → BlockReads place xs v u ls → IsRead (plain.Group place (in_order xs)) false v u ls
   r_group {u = u} b r d k small low far calm = deep d small far (λ e m.
-      one_is (stmt limit e) sort.Curly (ap sort_of (block_curly b k)) (reading (λ rest q within.
-      read_at (reads_by (x_group limit (stmt limit e) (sound_stmt limit e) u low) (mapped (r e k (λ _. u) refl (block_small b within) m))) rest q within)))
+      one_is (stmt limit e) sort.Curly (ap sort_of (block_curly b k)) (reads_by (x_group limit (stmt limit e) (sound_stmt limit e) u low) (mapped (r e k (λ _. u) refl m))))
 
   r_declares : {v u : ℕ} {t : Token} (semicolon : Token) {locals : List Declared} {ls : List Spelt} → IsWord word.Int t → Separated Declares locals v ls → IsMark mark.Semicolon semicolon
       → IsRead (plain.Declare t.place locals) false v u (at t v ∷ (ls ++ (at semicolon u ∷ [])))
@@ -257,34 +253,29 @@ module _ (limit : ℕ) where
       → IsRead (plain.If t.place test x absent) true v u (at t (v + 1) ∷ (ls ++ ms))
   r_alone {v} {u} {o} {t} {test} {x} {ls} {ms} h b r d k small low far calm = deep d small far (λ e m.
       let R : List Spelt → Type 0 = λ z. Reading limit (st.branching limit (stmt limit e)) v (plain.If t.place test x absent) v (at t (v + 1) ∷ (ls ++ z)) k in
-      let done_so : R (ms ++ []) = reading (λ rest q within.
-      read_at (reads_by (x_branching limit (stmt limit e) (sound_stmt limit e) u low)
-      (inside (both (up h) (both (bracketed_reads limit b) (both (r e k within.0 low (omega arith) (λ _. calm refl)) (off (calm refl) done)))))) rest q within) in
+      let done_so : R (ms ++ []) = reads_by (x_branching limit (stmt limit e) (sound_stmt limit e) u low)
+      (inside (over h (λ small. both (bracketed_reads limit b) (both (r e k small low (omega arith) (λ _. calm refl)) (off (calm refl) done))))) in
       one_is (stmt limit e) sort.If (rw h) (subst R (append-nil ms) done_so))
 
   r_else : {v u : ℕ} {o : Bool} {t : Token} (other : Token) {test : Term} {x y : Statement} {ls ms rs : List Spelt} → IsWord word.If t → Brackets test (v + 1) ls → IsRead x false (v + 1) (v + 1) ms
       → IsWord word.Else other → IsRead y o (v + 1 + 1) u rs
       → IsRead (plain.If t.place test x (present y)) o v u (at t (v + 1) ∷ (ls ++ (ms ++ (at other (v + 1 + 1) ∷ rs))))
   r_else {v} {u} {o} {t} other {test} {x} {y} {ls} {ms} {rs} h b r n s d k small low far calm = deep d small far (λ e m.
-      one_is (stmt limit e) sort.If (rw h) (reading (λ rest q within.
-      let after : IsWithin limit (at other (v + 1 + 1) ∷ rs) = within_back limit ms (at other (v + 1 + 1) ∷ rs) (within_back limit ls (ms ++ (at other (v + 1 + 1) ∷ rs)) within.1) in
-      read_at (reads_by (x_branching limit (stmt limit e) (sound_stmt limit e) u low)
-      (inside (both (up h) (both (bracketed_reads limit b) (both (r e (Some other.kind) within.0 within.0 (omega arith) (λ z. absurd (cc)))
-      (on (is_so fixed.Else other n) (both (up n) (mapped (s e k after.0 low (omega arith) calm))))))))) rest q within)))
+      one_is (stmt limit e) sort.If (rw h) (reads_by (x_branching limit (stmt limit e) (sound_stmt limit e) u low)
+      (inside (over h (λ small. both (bracketed_reads limit b) (both (r e (Some other.kind) small small (omega arith) (λ z. absurd (cc)))
+      (on (is_so fixed.Else other n) (over n (λ smaller. mapped (s e k smaller low (omega arith) calm))))))))))
 
   r_loops : {v u : ℕ} {o : Bool} {t : Token} {test : Term} {bound : Option Number} {x : Statement} {ls ms rs : List Spelt} → IsWord word.While t → Brackets test (v + 1) ls → Bounds bound (v + 1) ms
       → SaysFirst rs → IsRead x o (v + 1) u rs → IsRead (plain.While t.place test bound x) o v u (at t (v + 1) ∷ (ls ++ (ms ++ rs)))
   r_loops {rs = rs} h b n f r d k small low far calm = deep d small far (λ e m.
-      one_is (stmt limit e) sort.While (rw h) (reading (λ rest q within.
-      read_at (reads_by (x_looping limit (stmt limit e) (sound_stmt limit e) _ low)
-      (inside (both (up h) (both (bracketed_reads limit b) (both (bound_reads limit n (says_then fixed.Hash says_hash rs k f)) (mapped (r e k within.0 low (omega arith) calm))))))) rest q within)))
+      one_is (stmt limit e) sort.While (rw h) (reads_by (x_looping limit (stmt limit e) (sound_stmt limit e) _ low)
+      (inside (over h (λ small. both (bracketed_reads limit b) (both (bound_reads limit n (says_then fixed.Hash says_hash rs k f)) (mapped (r e k small low (omega arith) calm))))))))
 
   r_counts : {v u : ℕ} {o : Bool} {t : Token} {head : Head} {bound : Option Number} {x : Statement} {ls ms rs : List Spelt} → IsWord word.For t → Heads head (v + 1) ls → Bounds bound (v + 1) ms
       → SaysFirst rs → IsRead x o (v + 1) u rs → IsRead (plain.For t.place head.start head.test head.step bound x) o v u (at t (v + 1) ∷ (ls ++ (ms ++ rs)))
   r_counts {rs = rs} h b n f r d k small low far calm = deep d small far (λ e m.
-      one_is (stmt limit e) sort.For (rw h) (reading (λ rest q within.
-      read_at (reads_by (x_counting limit (stmt limit e) (sound_stmt limit e) _ low)
-      (inside (both (up h) (both (head_reads limit b) (both (bound_reads limit n (says_then fixed.Hash says_hash rs k f)) (mapped (r e k within.0 low (omega arith) calm))))))) rest q within)))
+      one_is (stmt limit e) sort.For (rw h) (reads_by (x_counting limit (stmt limit e) (sound_stmt limit e) _ low)
+      (inside (over h (λ small. both (head_reads limit b) (both (bound_reads limit n (says_then fixed.Hash says_hash rs k f)) (mapped (r e k small low (omega arith) calm))))))))
 
   r_pauses : {v u : ℕ} {t semicolon : Token} → IsWord word.Pause t → IsMark mark.Semicolon semicolon → IsRead (plain.Pause t.place) false v u (at t v ∷ at semicolon u ∷ [])
   r_pauses h n d k small low far calm = deep d small far (λ e m.
@@ -295,7 +286,7 @@ module _ (limit : ℕ) where
       → IsRead (plain.Par t.place (launched branches)) false v u (at t v ∷ (at left (v + 1) ∷ (ls ++ (at right v ∷ [])) ++ (at semicolon u ∷ [])))
   r_forks right semicolon h hl r hr n d k small low far calm = deep d small far (λ e m.
       one_is (stmt limit e) sort.Par (rw h) (reads_by (x_forking limit (stmt limit e) (sound_stmt limit e) _ low)
-      (both (tok h) (both (between right hl (reads_by (a_launches limit (stmt limit e) (sound_stmt limit e)) (r e (Some right.kind) (omega arith) (round_ends right hr) (round_comma right hr))) hr) (mapped (last n))))))
+      (both (tok h) (both (encloses right hl (λ small. reads_by (a_launches limit (stmt limit e) (sound_stmt limit e)) (r e (Some right.kind) (omega arith) (round_ends right hr) (round_comma right hr))) hr) (mapped (last n))))))
 
   aborting_reads : {v u : ℕ} {weak immediate : Bool} {place : Place} (t when semicolon : Token) {test : Term} {body : List Statement} {ls is ms : List Spelt} (e : ℕ) (k : Option TokenKind) → u ≤ limit → limit ≤ e + v
       → IsWord word.Abort t → Block place body (v + 1) (v + 1) ls → BlockReads place body (v + 1) (v + 1) ls → IsWord word.When when → Optional word.Immediate immediate (v + 1) is
@@ -303,7 +294,7 @@ module _ (limit : ℕ) where
       → Reading limit (st.aborting limit (stmt limit e) weak) v (plain.Abort t.place weak immediate test (in_order body)) v (at t (v + 1) ∷ (ls ++ (at when (v + 1) ∷ (is ++ (ms ++ (at semicolon u ∷ [])))))) k
   aborting_reads {weak = weak} t when semicolon {ms = ms} e k low m h b r n f c q =
       reads_by (x_aborting limit (stmt limit e) (sound_stmt limit e) _ low weak)
-      (inside (both (up h) (both (here_reads e b r (omega arith)) (both (tok n)
+      (inside (over h (λ small. both (here_reads e b r (omega arith)) (both (tok n)
       (both (flag_reads limit f (ap (is_fixed fixed.Immediate) (first_then ms _ k ∙ brackets_first c _))) (both (bracketed_reads limit c) (mapped (last q))))))))
 
   r_weak : {v u : ℕ} {immediate : Bool} {place : Place} (t when semicolon : Token) {w : Token} {test : Term} {body : List Statement} {ls is ms : List Spelt}
@@ -344,7 +335,7 @@ module _ (limit : ℕ) where
     reads (gives_back semicolon h s n) = r_gives semicolon h s n
 
     pub listing : {xs : List Statement} {v : ℕ} {ls : List Spelt} → Lists xs v ls → Listing xs v ls
-    listing no_more = λ d n found rest small far h within le. a_none d n found rest h
+    listing no_more = λ d n found rest small far h le. rw (a_none d n found rest h) comes
     listing (and_more {xs = xs} {ls = ls} {rs = rs} a b) = l_more ls rs (says_begin a) (reads a) (listing b) (λ k h. next_calm xs rs k b h)
 
     pub block_reads : {place : Place} {xs : List Statement} {v u : ℕ} {ls : List Spelt} → Block place xs v u ls → BlockReads place xs v u ls

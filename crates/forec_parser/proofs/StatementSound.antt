@@ -23,7 +23,7 @@ use Rattle.forec_parser.specs.Statements as st
 use Rattle.forec_parser.specs.Statements.{stmt}
 use Rattle.expr_parser.proofs.Spans.{step, ok_of, ok_pair}
 use Rattle.expr_parser.proofs.Exact.{Lang, Read, Exact, Bind, both, Map, mapped, Scoped, inside, Done, done, If, on, off, Choice, taken, left_out, Part, part, Reading, Any, bind, map_to, scope, convert, either, done_at, by_reading, then_read, read_as, reads_by, choose_by}
-use Rattle.expr_parser.proofs.Leaves.{Tok, tok, Last, last, Up, up, NameIs, name_is, token, last_token, opening, a_name, EnclosedTo, Enclosed, between, enclosing, enclosing_to, Listed, end_of_list, next_of_list, full_commas, Full, is_so}
+use Rattle.expr_parser.proofs.Leaves.{Tok, tok, Last, last, Up, up, NameIs, name_is, token, last_token, a_name, EnclosedTo, Enclosed, Enclosing, EnclosedBy, Over, bind_up, between, enclosing, enclosing_to, Listed, end_of_list, next_of_list, full_commas, Full, is_so}
 use Rattle.forec_parser.proofs.SimpleRules.{a_list, a_value, a_bracketed, a_passed, a_simple}
 use Rattle.forec_parser.proofs.PartRules.{local_by, bound_by, head_by}
 
@@ -46,7 +46,7 @@ shut : (o : Bool) (k : Option TokenKind) → Calm o k → is_fixed fixed.Else k 
 shut true k f h = absurd (let e = f refl in cc)
 shut false k f h = refl
 
-open_never : (k : Option TokenKind) → Calm false k
+pub open_never : (k : Option TokenKind) → Calm false k
 open_never k h = absurd (cc)
 
 shut_says : {x : Statement} {v u : ℕ} {ls : List Spelt} (o : Bool) → o ≡ false → Says x o v u ls → Says x false v u ls
@@ -63,25 +63,25 @@ branch_shut : {u v n w : ℕ} {t : Token} {test : Term} {x y : Statement} {ls ms
     → Bind (Up fixed.Else) (λ _. Map (λ b. plain.If t.place test x (present b)) (Said u)) n y w rs k → Said u v y v (at t (v + 1) ∷ (ls ++ (ms ++ rs))) k
 branch_shut h b (shut_here s) (both (up m) (mapped (said z d))) = said (if_else _ h b s m z) d
 
-abbrev pair_of : Token → List Statement → Place × List Statement
+abbrev pub pair_of : Token → List Statement → Place × List Statement
 pair_of t xs = (t.place, xs)
 
 more_of : {v w : ℕ} {x : Launch} {xs : List Launch} {ls rs : List Spelt} {k : Option TokenKind} (comma : Token) → Starting x v ls → IsMark mark.Comma comma → Part Any Launches v xs w rs k
     → Part Any Launches v (x ∷ xs) w (ls ++ (at comma v ∷ rs)) k
 more_of comma s h (part r c) = part (next_branch comma s h r) tt
 
-launches_in : {v w : ℕ} {xs : List Launch} {ls : List Spelt} {k : Option TokenKind} → Listed (Part Any Starting) v xs w ls k → Part Any Launches v xs w ls k
+pub launches_in : {v w : ℕ} {xs : List Launch} {ls : List Spelt} {k : Option TokenKind} → Listed (Part Any Starting) v xs w ls k → Part Any Launches v xs w ls k
 launches_in (end_of_list (part s c) e) = part (last_branch s) tt
 launches_in (next_of_list comma (part s c) h rest) = more_of comma s h (launches_in rest)
+
+pub flag_of : (v w : ℕ) (x : Bool) (ls : List Spelt) (k : Option TokenKind) → If fixed.Immediate (Map (λ _. true) (Tok fixed.Immediate)) (Done false) v x w ls k → Part Any (Optional word.Immediate) v x w ls k
+flag_of v w x ls k (on e (mapped (tok h))) = part (there h) tt
+flag_of v w x ls k (off e done) = part missing tt
 
 module _ (limit : ℕ) where
   a_flag : Exact limit (st.flag fixed.Immediate) (Part Any (Optional word.Immediate)) (If fixed.Immediate (Map (λ _. true) (Tok fixed.Immediate)) (Done false))
   unfolding st.flag
-  a_flag = convert of (λ v w x ls k q. q) (either fixed.Immediate (map_to (λ _. true) (token limit fixed.Immediate)) (done_at false))
-    where
-      of : (v w : ℕ) (x : Bool) (ls : List Spelt) (k : Option TokenKind) → If fixed.Immediate (Map (λ _. true) (Tok fixed.Immediate)) (Done false) v x w ls k → Part Any (Optional word.Immediate) v x w ls k
-      of v w x ls k (on e (mapped (tok h))) = part (there h) tt
-      of v w x ls k (off e done) = part missing tt
+  a_flag = convert flag_of (λ v w x ls k q. q) (either fixed.Immediate (map_to (λ _. true) (token limit fixed.Immediate)) (done_at false))
 
   pub flag_by : Exact limit (st.flag fixed.Immediate) (Part Any (Optional word.Immediate)) (Reading limit (st.flag fixed.Immediate))
   flag_by = by_reading a_flag.sound
@@ -90,22 +90,22 @@ module _ (limit : ℕ) where
   flag_reads (there {t = t} h) n = reads_by a_flag (on (is_so fixed.Immediate t h) (mapped (tok h)))
   flag_reads missing n = reads_by a_flag (off n done)
 
-  a_maybe_passed : Exact limit (st.maybe_passed limit) (If fixed.LeftRound (Part Any Passes) (Done [])) (If fixed.LeftRound (Reading limit (st.passed limit)) (Done []))
+  pub a_maybe_passed : Exact limit (st.maybe_passed limit) (If fixed.LeftRound (Part Any Passes) (Done [])) (If fixed.LeftRound (Reading limit (st.passed limit)) (Done []))
   unfolding st.maybe_passed
   a_maybe_passed = either fixed.LeftRound (a_passed limit) (done_at [])
 
   abbrev Called : Lang (List Term) → Lang Launch
   Called P = Bind (Part Any NameIs) (λ n. Map (λ args. Calls n (listed args)) (If fixed.LeftRound P (Done [])))
 
+  pub called_of : (v w : ℕ) (x : Launch) (ls : List Spelt) (k : Option TokenKind) → Called (Part Any Passes) v x w ls k → Part Any Starting v x w ls k
+  called_of v w x ls k (both (part (name_is id h) c) (mapped (on e (part s d)))) = part (call id h s) tt
+  called_of v w x ls k (both (part (name_is id h) c) (mapped (off e done))) = part (bare_call id h) tt
+
   pub a_called : Exact limit (st.called limit) (Part Any Starting) (Called (Reading limit (st.passed limit)))
   unfolding st.called
-  a_called = convert of (λ v w x ls k q. q) (bind (a_name limit) (λ n. map_to (λ args. Calls n (listed args)) a_maybe_passed))
-    where
-      of : (v w : ℕ) (x : Launch) (ls : List Spelt) (k : Option TokenKind) → Called (Part Any Passes) v x w ls k → Part Any Starting v x w ls k
-      of v w x ls k (both (part (name_is id h) c) (mapped (on e (part s d)))) = part (call id h s) tt
-      of v w x ls k (both (part (name_is id h) c) (mapped (off e done))) = part (bare_call id h) tt
+  a_called = convert called_of (λ v w x ls k q. q) (bind (a_name limit) (λ n. map_to (λ args. Calls n (listed args)) a_maybe_passed))
 
-  called_by : Exact limit (st.called limit) (Part Any Starting) (Reading limit (st.called limit))
+  pub called_by : Exact limit (st.called limit) (Part Any Starting) (Reading limit (st.called limit))
   called_by = by_reading a_called.sound
 
   abbrev pub SoundStmt : Parser Statement → Type 0
@@ -115,7 +115,7 @@ module _ (limit : ℕ) where
     pub inner : (u : ℕ) → u ≤ limit → Exact limit p (Said u) (Reading limit p)
     inner u low = by_reading (sound_p u low)
 
-    inner_here : Exact limit p SaidHere (Reading limit p)
+    pub inner_here : Exact limit p SaidHere (Reading limit p)
     inner_here = by_reading (λ i j x small h. read_as (sound_p i.level small i j x small h) (λ ls e q. of q))
       where
         of : {v w : ℕ} {x : Statement} {ls : List Spelt} {k : Option TokenKind} → Said v v x w ls k → SaidHere v x w ls k
@@ -128,7 +128,7 @@ module _ (limit : ℕ) where
       pub all_is : all ≡ found ++ xs
       pub read : Read limit Bodied xs i j
 
-    add_on : {v w : ℕ} {xs : List Statement} {ls : List Spelt} {k : Option TokenKind} → Bind (Said v) (λ x. Map (λ ys. x ∷ ys) Bodied) v xs w ls k → Bodied v xs w ls k
+    pub add_on : {v w : ℕ} {xs : List Statement} {ls : List Spelt} {k : Option TokenKind} → Bind (Said v) (λ x. Map (λ ys. x ∷ ys) Bodied) v xs w ls k → Bodied v xs w ls k
     add_on (both (said s c) (mapped (bodied b))) = bodied (and_more s b)
 
     none_more : (found all : List Statement) (i j : Input) → i.level ≤ limit → ok_of found i ≡ Ok (all, j) → More found all i j
@@ -169,7 +169,11 @@ module _ (limit : ℕ) where
     abbrev pub Braces : (ℕ → ℕ) → Lang (List Statement) → Lang (Place × List Statement)
     Braces g B = EnclosedTo g fixed.LeftCurly fixed.RightCurly pair_of B
 
-    pub a_block : (g : ℕ → ℕ) → ((v : ℕ) → v ≤ limit → g v ≤ limit) → Exact limit (st.block limit p) (Braces g Bodied) (Braces g (Reading limit (st.body limit p)))
+    -- the same, where what stands between is looked at only where the limit allows it
+    abbrev pub BracesBy : (ℕ → ℕ) → Lang (List Statement) → Lang (Place × List Statement)
+    BracesBy g B = Enclosing limit g fixed.LeftCurly fixed.RightCurly pair_of B
+
+    pub a_block : (g : ℕ → ℕ) → ((v : ℕ) → v ≤ limit → g v ≤ limit) → Exact limit (st.block limit p) (Braces g Bodied) (BracesBy g (Reading limit (st.body limit p)))
     unfolding st.block
     a_block g low = enclosing_to g low fixed.LeftCurly fixed.RightCurly pair_of body_by
 
@@ -181,13 +185,13 @@ module _ (limit : ℕ) where
     abbrev LaunchBy : Lang (Place × List Statement) → Lang Launch → Lang Launch
     LaunchBy B C = If fixed.LeftCurly (Map (λ b. Blocks b.0 (in_order b.1)) B) C
 
+    pub launching_of : (v w : ℕ) (x : Launch) (ls : List Spelt) (k : Option TokenKind) → LaunchBy (Braces (λ v. v) Bodied) (Part Any Starting) v x w ls k → Part Any Starting v x w ls k
+    launching_of v w x ls k (on e (mapped (between right hl (bodied b) hr))) = part (blocked (block right hl b hr)) tt
+    launching_of v w x ls k (off e q) = q
+
     pub a_launch : Exact limit (st.launch limit p) (Part Any Starting) (LaunchBy (Reading limit (st.block limit p)) (Reading limit (st.called limit)))
     unfolding st.launch
-    a_launch = convert of (λ v w x ls k q. q) (either fixed.LeftCurly (map_to (λ b. Blocks b.0 (in_order b.1)) block_here) called_by)
-      where
-        of : (v w : ℕ) (x : Launch) (ls : List Spelt) (k : Option TokenKind) → LaunchBy (Braces (λ v. v) Bodied) (Part Any Starting) v x w ls k → Part Any Starting v x w ls k
-        of v w x ls k (on e (mapped (between right hl (bodied b) hr))) = part (blocked (block right hl b hr)) tt
-        of v w x ls k (off e q) = q
+    a_launch = convert launching_of (λ v w x ls k q. q) (either fixed.LeftCurly (map_to (λ b. Blocks b.0 (in_order b.1)) block_here) called_by)
 
     pub launch_by : Exact limit (st.launch limit p) (Part Any Starting) (Reading limit (st.launch limit p))
     launch_by = by_reading a_launch.sound
@@ -196,7 +200,7 @@ module _ (limit : ℕ) where
     unfolding st.launches
     a_launches = convert (λ v w x ls k q. launches_in q) (λ v w x ls k q. q) (full_commas launch_by)
 
-    launches_by : Exact limit (st.launches limit p) (Part Any Launches) (Reading limit (st.launches limit p))
+    pub launches_by : Exact limit (st.launches limit p) (Part Any Launches) (Reading limit (st.launches limit p))
     launches_by = by_reading a_launches.sound
 
     -- ---- statements
@@ -205,59 +209,62 @@ module _ (limit : ℕ) where
       abbrev Empty : Lang Statement
       Empty = Map (λ (t : Token). plain.Nothing t.place) (Last fixed.Semicolon u)
 
+      pub empty_of : (v w : ℕ) (x : Statement) (ls : List Spelt) (k : Option TokenKind) → Empty v x w ls k → Said u v x w ls k
+      empty_of v w x ls k (mapped (last h)) = said (nothing h) (open_never k)
+
       pub x_empty : Exact limit (st.one_by limit p sort.Empty) (Said u) Empty
-      x_empty = convert of (λ v w x ls k q. q) (map_to (λ (t : Token). plain.Nothing t.place) (last_token limit u low fixed.Semicolon))
-        where
-          of : (v w : ℕ) (x : Statement) (ls : List Spelt) (k : Option TokenKind) → Empty v x w ls k → Said u v x w ls k
-          of v w x ls k (mapped (last h)) = said (nothing h) (open_never k)
+      x_empty = convert empty_of (λ v w x ls k q. q) (map_to (λ (t : Token). plain.Nothing t.place) (last_token limit u low fixed.Semicolon))
 
       abbrev Grouped : Lang (List Statement) → Lang Statement
       Grouped B = Map (λ b. plain.Group b.0 (in_order b.1)) (Braces (λ _. u) B)
 
-      pub x_group : Exact limit (st.group limit p) (Said u) (Grouped (Reading limit (st.body limit p)))
+      pub group_of : (v w : ℕ) (x : Statement) (ls : List Spelt) (k : Option TokenKind) → Grouped Bodied v x w ls k → Said u v x w ls k
+      group_of v w x ls k (mapped (between right hl (bodied b) hr)) = said (group (block right hl b hr)) (open_never k)
+
+      pub x_group : Exact limit (st.group limit p) (Said u) (Map (λ b. plain.Group b.0 (in_order b.1)) (BracesBy (λ _. u) (Reading limit (st.body limit p))))
       unfolding st.group
-      x_group = convert of (λ v w x ls k q. q) (map_to (λ b. plain.Group b.0 (in_order b.1)) (a_block (λ _. u) (λ v h. low)))
-        where
-          of : (v w : ℕ) (x : Statement) (ls : List Spelt) (k : Option TokenKind) → Grouped Bodied v x w ls k → Said u v x w ls k
-          of v w x ls k (mapped (between right hl (bodied b) hr)) = said (group (block right hl b hr)) (open_never k)
+      x_group = convert group_of (λ v w x ls k q. q) (map_to (λ b. plain.Group b.0 (in_order b.1)) (a_block (λ _. u) (λ v h. low)))
 
       abbrev Declaring : Lang (List Declared) → Lang Statement
       Declaring L = Bind (Tok fixed.Int) (λ t. Bind L (λ locals. Map (λ (_ : Token). plain.Declare t.place locals) (Last fixed.Semicolon u)))
 
+      pub declaring_of : (v w : ℕ) (x : Statement) (ls : List Spelt) (k : Option TokenKind) → Declaring (Part Any (Separated Declares)) v x w ls k → Said u v x w ls k
+      declaring_of v w x ls k (both (tok h) (both (part s c) (mapped (last m)))) = said (declares _ h s m) (open_never k)
+
       pub x_declaring : Exact limit (st.declaring limit) (Said u) (Declaring (Listed (Full (Reading limit (st.local limit)))))
       unfolding st.declaring
-      x_declaring = convert of (λ v w x ls k q. q)
+      x_declaring = convert declaring_of (λ v w x ls k q. q)
           (bind (token limit fixed.Int) (λ t. bind (a_list (local_by limit)) (λ locals. map_to (λ (_ : Token). plain.Declare t.place locals) (last_token limit u low fixed.Semicolon))))
-        where
-          of : (v w : ℕ) (x : Statement) (ls : List Spelt) (k : Option TokenKind) → Declaring (Part Any (Separated Declares)) v x w ls k → Said u v x w ls k
-          of v w x ls k (both (tok h) (both (part s c) (mapped (last m)))) = said (declares _ h s m) (open_never k)
 
       abbrev Acting : Lang Statement → Lang Statement
       Acting S = Bind S (λ x. Map (λ (_ : Token). x) (Last fixed.Semicolon u))
 
+      pub acting_of : (v w : ℕ) (x : Statement) (ls : List Spelt) (k : Option TokenKind) → Acting (Part Any Simple) v x w ls k → Said u v x w ls k
+      acting_of v w x ls k (both (part s c) (mapped (last m))) = said (acts _ s m) (open_never k)
+
       pub x_acting : Exact limit (st.acting limit) (Said u) (Acting (Reading limit (st.simple limit)))
       unfolding st.acting
-      x_acting = convert of (λ v w x ls k q. q) (bind (a_simple limit) (λ x. map_to (λ (_ : Token). x) (last_token limit u low fixed.Semicolon)))
-        where
-          of : (v w : ℕ) (x : Statement) (ls : List Spelt) (k : Option TokenKind) → Acting (Part Any Simple) v x w ls k → Said u v x w ls k
-          of v w x ls k (both (part s c) (mapped (last m))) = said (acts _ s m) (open_never k)
+      x_acting = convert acting_of (λ v w x ls k q. q) (bind (a_simple limit) (λ x. map_to (λ (_ : Token). x) (last_token limit u low fixed.Semicolon)))
 
-      abbrev Otherwise : Token → Term → Statement → Lang Statement → Lang Statement
+      abbrev pub Otherwise : Token → Term → Statement → Lang Statement → Lang Statement
       Otherwise t test a S = Bind (Up fixed.Else) (λ _. Map (λ b. plain.If t.place test a (present b)) S)
 
-      x_otherwise : (t : Token) (test : Term) (a : Statement) → Exact limit (st.otherwise limit p t test a) (Otherwise t test a (Said u)) (Otherwise t test a (Reading limit p))
+      abbrev OtherwiseBy : Token → Term → Statement → Lang Statement
+      OtherwiseBy t test a = Over limit fixed.Else (λ _. Map (λ b. plain.If t.place test a (present b)) (Reading limit p))
+
+      pub x_otherwise : (t : Token) (test : Term) (a : Statement) → Exact limit (st.otherwise limit p t test a) (Otherwise t test a (Said u)) (OtherwiseBy t test a)
       unfolding st.otherwise
-      x_otherwise t test a = bind (opening limit fixed.Else) (λ _. map_to (λ b. plain.If t.place test a (present b)) (inner u low))
+      x_otherwise t test a = bind_up fixed.Else (λ _. map_to (λ b. plain.If t.place test a (present b)) (inner u low))
 
       abbrev Branched : Lang Statement
       Branched = Scoped (Bind (Up fixed.If) (λ t. Bind (Part Any Brackets) (λ test.
           Choice fixed.Else SaidHere (Said u) (λ a. Otherwise t test a (Said u)) (λ a. Done (plain.If t.place test a absent)))))
 
       abbrev pub Branching : Lang Statement
-      Branching = Scoped (Bind (Up fixed.If) (λ t. Bind (Reading limit (st.bracketed limit)) (λ test.
-          Bind (Reading limit p) (λ a. If fixed.Else (Otherwise t test a (Reading limit p)) (Done (plain.If t.place test a absent))))))
+      Branching = Scoped (Over limit fixed.If (λ t. Bind (Reading limit (st.bracketed limit)) (λ test.
+          Bind (Reading limit p) (λ a. If fixed.Else (OtherwiseBy t test a) (Done (plain.If t.place test a absent))))))
 
-      branched_of : {v w : ℕ} {x : Statement} {ls : List Spelt} {k : Option TokenKind} → Branched v x w ls k → Said u v x w ls k
+      pub branched_of : {v w : ℕ} {x : Statement} {ls : List Spelt} {k : Option TokenKind} → Branched v x w ls k → Said u v x w ls k
       branched_of (inside (both (up h) (both (part b c) (taken e a q)))) = branch_shut h b (closed_here _ a e) q
       branched_of {v} {k = k} (inside (both (up {t = t} h) (both {x = test} {ls = ls} (part b c) (left_out {x = a} {ls = ms} e (said s calm) done)))) =
           let R : List Spelt → Type 0 = λ z. Said u v (plain.If t.place test a absent) v (at t (v + 1) ∷ (ls ++ z)) k in
@@ -266,51 +273,61 @@ module _ (limit : ℕ) where
       pub x_branching : Exact limit (st.branching limit p) (Said u) Branching
       unfolding st.branching
       x_branching = convert (λ v w x ls k q. branched_of q) (λ v w x ls k q. q)
-          (scope (bind (opening limit fixed.If) (λ t. bind (a_bracketed limit) (λ test.
+          (scope (bind_up fixed.If (λ t. bind (a_bracketed limit) (λ test.
           choose_by fixed.Else inner_here (inner u low) (λ a. x_otherwise t test a) (λ a. done_at (plain.If t.place test a absent))))))
 
       abbrev Looping : Lang Term → Lang (Option Number) → Lang Statement → Lang Statement
       Looping B N S = Scoped (Bind (Up fixed.While) (λ t. Bind B (λ test. Bind N (λ turns. Map (λ x. plain.While t.place test turns x) S))))
 
-      pub x_looping : Exact limit (st.looping limit p) (Said u) (Looping (Reading limit (st.bracketed limit)) (Reading limit (st.bound limit)) (Reading limit p))
+      pub looping_of : (v w : ℕ) (x : Statement) (ls : List Spelt) (k : Option TokenKind) → Looping (Part Any Brackets) (Part Any Bounds) (Said u) v x w ls k → Said u v x w ls k
+      looping_of v w x ls k (inside (both (up h) (both (part b c) (both (part n d) (mapped (said s calm)))))) = said (loops h b n s) calm
+
+      abbrev LoopingBy : Lang Statement
+      LoopingBy = Scoped (Over limit fixed.While (λ t. Bind (Reading limit (st.bracketed limit)) (λ test. Bind (Reading limit (st.bound limit)) (λ turns. Map (λ x. plain.While t.place test turns x) (Reading limit p)))))
+
+      pub x_looping : Exact limit (st.looping limit p) (Said u) LoopingBy
       unfolding st.looping
-      x_looping = convert of (λ v w x ls k q. q)
-          (scope (bind (opening limit fixed.While) (λ t. bind (a_bracketed limit) (λ test. bind (bound_by limit) (λ turns. map_to (λ x. plain.While t.place test turns x) (inner u low))))))
-        where
-          of : (v w : ℕ) (x : Statement) (ls : List Spelt) (k : Option TokenKind) → Looping (Part Any Brackets) (Part Any Bounds) (Said u) v x w ls k → Said u v x w ls k
-          of v w x ls k (inside (both (up h) (both (part b c) (both (part n d) (mapped (said s calm)))))) = said (loops h b n s) calm
+      x_looping = convert looping_of (λ v w x ls k q. q)
+          (scope (bind_up fixed.While (λ t. bind (a_bracketed limit) (λ test. bind (bound_by limit) (λ turns. map_to (λ x. plain.While t.place test turns x) (inner u low))))))
 
       abbrev Counting : Lang Head → Lang (Option Number) → Lang Statement → Lang Statement
       Counting B N S = Scoped (Bind (Up fixed.For) (λ t. Bind B (λ h. Bind N (λ turns. Map (λ x. plain.For t.place h.start h.test h.step turns x) S))))
 
-      pub x_counting : Exact limit (st.counting limit p) (Said u) (Counting (Reading limit (st.head limit)) (Reading limit (st.bound limit)) (Reading limit p))
+      pub counting_of : (v w : ℕ) (x : Statement) (ls : List Spelt) (k : Option TokenKind) → Counting (Part Any Heads) (Part Any Bounds) (Said u) v x w ls k → Said u v x w ls k
+      counting_of v w x ls k (inside (both (up h) (both (part b c) (both (part n d) (mapped (said s calm)))))) = said (counts h b n s) calm
+
+      abbrev CountingBy : Lang Statement
+      CountingBy = Scoped (Over limit fixed.For (λ t. Bind (Reading limit (st.head limit)) (λ h. Bind (Reading limit (st.bound limit)) (λ turns. Map (λ x. plain.For t.place h.start h.test h.step turns x) (Reading limit p)))))
+
+      pub x_counting : Exact limit (st.counting limit p) (Said u) CountingBy
       unfolding st.counting
-      x_counting = convert of (λ v w x ls k q. q)
-          (scope (bind (opening limit fixed.For) (λ t. bind (head_by limit) (λ h. bind (bound_by limit) (λ turns. map_to (λ x. plain.For t.place h.start h.test h.step turns x) (inner u low))))))
-        where
-          of : (v w : ℕ) (x : Statement) (ls : List Spelt) (k : Option TokenKind) → Counting (Part Any Heads) (Part Any Bounds) (Said u) v x w ls k → Said u v x w ls k
-          of v w x ls k (inside (both (up h) (both (part b c) (both (part n d) (mapped (said s calm)))))) = said (counts h b n s) calm
+      x_counting = convert counting_of (λ v w x ls k q. q)
+          (scope (bind_up fixed.For (λ t. bind (head_by limit) (λ h. bind (bound_by limit) (λ turns. map_to (λ x. plain.For t.place h.start h.test h.step turns x) (inner u low))))))
 
       abbrev Pausing : Lang Statement
       Pausing = Bind (Tok fixed.Pause) (λ t. Map (λ (_ : Token). plain.Pause t.place) (Last fixed.Semicolon u))
 
+      pub pausing_of : (v w : ℕ) (x : Statement) (ls : List Spelt) (k : Option TokenKind) → Pausing v x w ls k → Said u v x w ls k
+      pausing_of v w x ls k (both (tok h) (mapped (last m))) = said (pauses h m) (open_never k)
+
       pub x_pausing : Exact limit (st.pausing limit) (Said u) Pausing
       unfolding st.pausing
-      x_pausing = convert of (λ v w x ls k q. q) (bind (token limit fixed.Pause) (λ t. map_to (λ (_ : Token). plain.Pause t.place) (last_token limit u low fixed.Semicolon)))
-        where
-          of : (v w : ℕ) (x : Statement) (ls : List Spelt) (k : Option TokenKind) → Pausing v x w ls k → Said u v x w ls k
-          of v w x ls k (both (tok h) (mapped (last m))) = said (pauses h m) (open_never k)
+      x_pausing = convert pausing_of (λ v w x ls k q. q) (bind (token limit fixed.Pause) (λ t. map_to (λ (_ : Token). plain.Pause t.place) (last_token limit u low fixed.Semicolon)))
 
       abbrev Forking : Lang (List Launch) → Lang Statement
       Forking L = Bind (Tok fixed.Par) (λ t. Bind (Enclosed fixed.LeftRound fixed.RightRound (λ _ xs. xs) L) (λ bs. Map (λ (_ : Token). plain.Par t.place (launched bs)) (Last fixed.Semicolon u)))
 
-      pub x_forking : Exact limit (st.forking limit p) (Said u) (Forking (Reading limit (st.launches limit p)))
+      pub forking_of : (v w : ℕ) (x : Statement) (ls : List Spelt) (k : Option TokenKind) → Forking (Part Any Launches) v x w ls k → Said u v x w ls k
+      forking_of v w x ls k (both (tok h) (both (between right hl (part s c) hr) (mapped (last m)))) = said (forks _ h (forked right hl s hr) m) (open_never k)
+
+      abbrev ForkingBy : Lang Statement
+      ForkingBy = Bind (Tok fixed.Par) (λ t. Bind (EnclosedBy limit fixed.LeftRound fixed.RightRound (λ _ xs. xs) (Reading limit (st.launches limit p))) (λ bs.
+          Map (λ (_ : Token). plain.Par t.place (launched bs)) (Last fixed.Semicolon u)))
+
+      pub x_forking : Exact limit (st.forking limit p) (Said u) ForkingBy
       unfolding st.forking
-      x_forking = convert of (λ v w x ls k q. q)
+      x_forking = convert forking_of (λ v w x ls k q. q)
           (bind (token limit fixed.Par) (λ t. bind (enclosing fixed.LeftRound fixed.RightRound (λ _ xs. xs) launches_by) (λ bs. map_to (λ (_ : Token). plain.Par t.place (launched bs)) (last_token limit u low fixed.Semicolon))))
-        where
-          of : (v w : ℕ) (x : Statement) (ls : List Spelt) (k : Option TokenKind) → Forking (Part Any Launches) v x w ls k → Said u v x w ls k
-          of v w x ls k (both (tok h) (both (between right hl (part s c) hr) (mapped (last m)))) = said (forks _ h (forked right hl s hr) m) (open_never k)
 
       -- an abort from the word `abort` on
       pub data AbortRest (weak : Bool) : Statement → ℕ → List Spelt → Type 0 where
@@ -322,30 +339,34 @@ module _ (limit : ℕ) where
       Aborting weak B F T = Scoped (Bind (Up fixed.Abort) (λ t. Bind B (λ b. Bind (Tok fixed.When) (λ _. Bind F (λ immediate. Bind T (λ test.
           Map (λ (_ : Token). plain.Abort t.place weak immediate test (in_order b.1)) (Last fixed.Semicolon u)))))))
 
-      pub x_aborting : (weak : Bool) → Exact limit (st.aborting limit p weak) (Part Any (AbortRest weak)) (Aborting weak (Reading limit (st.block limit p)) (Reading limit (st.flag fixed.Immediate)) (Reading limit (st.bracketed limit)))
+      pub aborting_of : (weak : Bool) → (v w : ℕ) (x : Statement) (ls : List Spelt) (k : Option TokenKind) → Aborting weak (Braces (λ v. v) Bodied) (Part Any (Optional word.Immediate)) (Part Any Brackets) v x w ls k → Part Any (AbortRest weak) v x w ls k
+      aborting_of weak v w x ls k (inside (both (up h) (both (between right hl (bodied b) hr) (both (tok m) (both (part f c) (both (part t d) (mapped (last n)))))))) =
+          part (abort_rest _ _ _ h (block right hl b hr) m f t n) tt
+
+      abbrev AbortingBy : Bool → Lang Statement
+      AbortingBy weak = Scoped (Over limit fixed.Abort (λ t. Bind (Reading limit (st.block limit p)) (λ b. Bind (Tok fixed.When) (λ _. Bind (Reading limit (st.flag fixed.Immediate)) (λ immediate.
+          Bind (Reading limit (st.bracketed limit)) (λ test. Map (λ (_ : Token). plain.Abort t.place weak immediate test (in_order b.1)) (Last fixed.Semicolon u)))))))
+
+      pub x_aborting : (weak : Bool) → Exact limit (st.aborting limit p weak) (Part Any (AbortRest weak)) (AbortingBy weak)
       unfolding st.aborting
-      x_aborting weak = convert of (λ v w x ls k q. q)
-          (scope (bind (opening limit fixed.Abort) (λ t. bind block_here (λ b. bind (token limit fixed.When) (λ _. bind (flag_by) (λ immediate. bind (a_bracketed limit) (λ test.
+      x_aborting weak = convert (aborting_of weak) (λ v w x ls k q. q)
+          (scope (bind_up fixed.Abort (λ t. bind block_here (λ b. bind (token limit fixed.When) (λ _. bind (flag_by) (λ immediate. bind (a_bracketed limit) (λ test.
           map_to (λ (_ : Token). plain.Abort t.place weak immediate test (in_order b.1)) (last_token limit u low fixed.Semicolon))))))))
-        where
-          of : (v w : ℕ) (x : Statement) (ls : List Spelt) (k : Option TokenKind) → Aborting weak (Braces (λ v. v) Bodied) (Part Any (Optional word.Immediate)) (Part Any Brackets) v x w ls k → Part Any (AbortRest weak) v x w ls k
-          of v w x ls k (inside (both (up h) (both (between right hl (bodied b) hr) (both (tok m) (both (part f c) (both (part t d) (mapped (last n)))))))) =
-              part (abort_rest _ _ _ h (block right hl b hr) m f t n) tt
 
       abbrev Giving : Lang Term → Lang Statement
       Giving V = Bind (Tok fixed.Return) (λ t. Bind V (λ x. Map (λ (_ : Token). plain.Return t.place x) (Last fixed.Semicolon u)))
 
+      pub giving_of : (v w : ℕ) (x : Statement) (ls : List Spelt) (k : Option TokenKind) → Giving (Part Any Whole) v x w ls k → Said u v x w ls k
+      giving_of v w x ls k (both (tok h) (both (part s c) (mapped (last m)))) = said (gives_back _ h s m) (open_never k)
+
       pub x_giving : Exact limit (st.giving limit) (Said u) (Giving (Reading limit (st.value limit)))
       unfolding st.giving
-      x_giving = convert of (λ v w x ls k q. q) (bind (token limit fixed.Return) (λ t. bind (a_value limit) (λ x. map_to (λ (_ : Token). plain.Return t.place x) (last_token limit u low fixed.Semicolon))))
-        where
-          of : (v w : ℕ) (x : Statement) (ls : List Spelt) (k : Option TokenKind) → Giving (Part Any Whole) v x w ls k → Said u v x w ls k
-          of v w x ls k (both (tok h) (both (part s c) (mapped (last m)))) = said (gives_back _ h s m) (open_never k)
+      x_giving = convert giving_of (λ v w x ls k q. q) (bind (token limit fixed.Return) (λ t. bind (a_value limit) (λ x. map_to (λ (_ : Token). plain.Return t.place x) (last_token limit u low fixed.Semicolon))))
 
-      weak_of : {v w : ℕ} {x : Statement} {ls : List Spelt} {k : Option TokenKind} → Bind (Tok fixed.Weak) (λ _. Part Any (AbortRest true)) v x w ls k → Said u v x w ls k
+      pub weak_of : {v w : ℕ} {x : Statement} {ls : List Spelt} {k : Option TokenKind} → Bind (Tok fixed.Weak) (λ _. Part Any (AbortRest true)) v x w ls k → Said u v x w ls k
       weak_of {k = k} (both (tok h) (part (abort_rest t when semicolon a b c d e f) g)) = said (aborts t when semicolon (there h) a b c d e f) (open_never k)
 
-      strong_of : {v w : ℕ} {x : Statement} {ls : List Spelt} {k : Option TokenKind} → Part Any (AbortRest false) v x w ls k → Said u v x w ls k
+      pub strong_of : {v w : ℕ} {x : Statement} {ls : List Spelt} {k : Option TokenKind} → Part Any (AbortRest false) v x w ls k → Said u v x w ls k
       strong_of {k = k} (part (abort_rest t when semicolon a b c d e f) g) = said (aborts t when semicolon missing a b c d e f) (open_never k)
 
       one_of : (s : Sort) (i j : Input) (x : Statement) → i.level ≤ limit → st.one_by limit p s i ≡ Ok (x, j) → Read limit (Said u) x i j

@@ -4,3 +4,4 @@ pub mod Views
 pub mod Statements
 pub mod Items
 pub mod Program
+pub mod Places

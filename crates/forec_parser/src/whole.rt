@@ -1,13 +1,14 @@
 //! A program, all of the tokens.
 
-ghost use Rattle.std.specs.Prelude.{◌≡◌, ◌≤◌, ℕ, IfOk, List, length};
+ghost use Rattle.std.specs.Prelude.{◌≡◌, ◌≢◌, ◌≤◌, ℕ, IfOk, IfErr, Err, List, length};
 ghost use Rattle.forec_tree.specs.declared.token.Token.{Token};
 ghost use Rattle.forec_tree.specs.Plain.{program};
 ghost use Rattle.forec_tree.specs.Terms.{Text};
 ghost use Rattle.forec_tree.specs.SpelledPrograms.{IsSpelled};
 ghost use Rattle.expr_parser.specs.Input.{input, max_level};
 ghost use Rattle.forec_parser.specs.Items as spec;
-ghost use Rattle.forec_parser.specs.Program.{Answers, Gives, told_of};
+ghost use Rattle.forec_parser.specs.Places.{StopsAt, OpensAt};
+ghost use Rattle.forec_parser.specs.Program.{Answers, Gives, HasCause, IsAmong, told_of};
 
 use crate::fault::ParseFault;
 use crate::item;
@@ -24,13 +25,19 @@ fn read(alloc: Global, tokens: &[Token]) -> Result<Program, Fault>
     Ok(Program { items })
 }
 
-/// What the caller is told.
-fn told(fault: Fault) -> ParseFault
-    ensures { result ≡ told_of fault }
+/// What the caller is told of a fault that is met in so many tokens.
+fn told(fault: Fault, count: usize) -> ParseFault
+    requires few { count ≤ 200000 }
+    requires among { IsAmong count fault }
+    ensures { result ≡ told_of count fault }
 {
     match fault {
-        Fault::Syntax { left: _ } => ParseFault::Unfit,
-        Fault::Deep { left: _ } => ParseFault::Unfit,
+        Fault::Syntax { left } => ParseFault::Syntax {
+            token: (count - left) as u32,
+        },
+        Fault::Deep { left } => ParseFault::Deep {
+            token: (count - left) as u32,
+        },
         Fault::OutOfMemory => ParseFault::OutOfMemory,
     }
 }
@@ -39,17 +46,23 @@ fn told(fault: Fault) -> ParseFault
 ///
 /// The level of a program is how deep its brackets, statements and operators nest; 128 is the
 /// greatest that is read, so a stack of one megabyte does. The time is linear in the tokens.
-/// `ParseFault::Unfit` comes exactly where no such program has these tokens, and
-/// `ParseFault::OutOfMemory` where memory ran out.
+/// A refusal other than want of memory tells at which token the text stops to be a program within
+/// this level, and comes wherever its cause is.
 pub fn parse(alloc: Global, tokens: &[Token]) -> Result<Program, ParseFault>
     requires { length tokens.now ≤ 200000 }
     ensures found { IfOk result (λ p. IsSpelled max_level (program p) tokens.now) }
     ensures only { (text : Text) → IsSpelled max_level text tokens.now → Answers text result }
-    ensures unfit { result ≡ Err ParseFault.Unfit → (text : Text) → IsSpelled max_level text tokens.now → ⊥ }
+    ensures refused { IfErr result (HasCause tokens.now) }
+    ensures stops { (token : ℕ) → StopsAt max_level tokens.now token
+        → result ≢ Err ParseFault.OutOfMemory
+        → result ≡ Err (ParseFault.Syntax token) }
+    ensures opens { (token : ℕ) → OpensAt max_level tokens.now token
+        → result ≢ Err ParseFault.OutOfMemory
+        → result ≡ Err (ParseFault.Deep token) }
 {
     match read(alloc, tokens) {
         Ok(program) => Ok(program),
-        Err(fault) => Err(told(fault)),
+        Err(fault) => Err(told(fault, tokens.len())),
     }
 }
 

@@ -17,13 +17,15 @@ use Rattle.forec_lexer.specs.declared.fault.LexFault.TheVariants as lexer
 use Rattle.forec_lexer.proofs.OneWay.{one_lexed, lexed_not_bad, lexed_not_many, bad_not_many, one_bad, one_many}
 use Rattle.forec_parser.specs.declared.fault.ParseFault.{ParseFault}
 use Rattle.forec_parser.specs.declared.fault.ParseFault.TheVariants as parser
+use Rattle.forec_parser.specs.Program as parser_spec
+use Rattle.forec_parser.proofs.Stops.{spelled_never_stops, spelled_never_opens, one_stop, one_opening, stops_or_opens, some_answer}
 use Rattle.text_kernel.specs.Kernels.{kernel_of}
 use Rattle.text_kernel.specs.Limits.{limit_of, WithinLimits, IsLimit}
 use Rattle.text_kernel.specs.declared.limits.Quantity.{Quantity}
 use Rattle.kernel_lower.specs.Refusals as refusals
 use Rattle.kernel_lower.specs.declared.lower_fault.LowerFault.{LowerFault}
 use Rattle.kernel_lower.specs.declared.lower_fault.LowerFault.TheVariants as lower
-use Rattle.text_verdict.specs.Judging.{most_bytes, most_levels, Verdict, Accepts, Refuses, OnUnbroken, accepted, beyond, OnProgram, broken, unbroken, OnTokens, spelled, unspelled, Judged, too_long, stops, too_many, lexed, Says, lexer_fault, parser_fault, check_fault, lower_fault}
+use Rattle.text_verdict.specs.Judging.{most_bytes, most_levels, Verdict, Accepts, Refuses, OnUnbroken, accepted, beyond, OnProgram, broken, unbroken, OnTokens, spelled, stuck, too_deep, place_of, Tells, Judged, too_long, stops, too_many, lexed, Says, lexer_fault, parser_fault, check_fault, lower_fault}
 use Rattle.text_verdict.specs.Counting.{counts_of}
 use Rattle.text_verdict.specs.Laws.{OneVerdict}
 use Rattle.text_verdict.specs.declared.counts.Counts.{Counts}
@@ -59,18 +61,23 @@ module _ (one_program : OneProgram) where
   one_on_program program names v w (unbroken none x) (broken q s y) = absurd (none (fault_at q s) y.among)
   one_on_program program names v w (unbroken none x) (unbroken also y) = one_on_unbroken program names v w x y
 
-  one_on_tokens : (tokens : List Token) (names : List (List ℕ)) (v w : Verdict) → OnTokens tokens names v → OnTokens tokens names w → v ≡ w
-  one_on_tokens tokens names v w (spelled p s x) (spelled q t y) =
+  one_on_tokens : (text : List ℕ) (tokens : List Token) (names : List (List ℕ)) (v w : Verdict) → OnTokens text tokens names v → OnTokens text tokens names w → v ≡ w
+  one_on_tokens text tokens names v w (spelled p s x) (spelled q t y) =
       one_on_program q names v w (subst (λ z. OnProgram z names v) (one_program most_levels most_levels p q tokens s t) x) y
-  one_on_tokens tokens names v w (spelled p s x) (unspelled h) = absurd (h p s)
-  one_on_tokens tokens names v w (unspelled h) (spelled q t y) = absurd (h q t)
-  one_on_tokens tokens names v w (unspelled h) (unspelled i) = refl
+  one_on_tokens text tokens names v w (spelled p s x) (stuck n y) = absurd (spelled_never_stops most_levels tokens p n s y)
+  one_on_tokens text tokens names v w (spelled p s x) (too_deep n y) = absurd (spelled_never_opens most_levels tokens p n s y)
+  one_on_tokens text tokens names v w (stuck n x) (spelled q t y) = absurd (spelled_never_stops most_levels tokens q n t x)
+  one_on_tokens text tokens names v w (stuck n x) (stuck m y) = ap (λ z. Refuses (why.Syntax (place_of text tokens z))) (one_stop most_levels tokens n m x y)
+  one_on_tokens text tokens names v w (stuck n x) (too_deep m y) = absurd (stops_or_opens most_levels tokens n m x y)
+  one_on_tokens text tokens names v w (too_deep n x) (spelled q t y) = absurd (spelled_never_opens most_levels tokens q n t x)
+  one_on_tokens text tokens names v w (too_deep n x) (stuck m y) = absurd (stops_or_opens most_levels tokens m n y x)
+  one_on_tokens text tokens names v w (too_deep n x) (too_deep m y) = ap (λ z. Refuses (why.Deep (place_of text tokens z))) (one_opening most_levels tokens n m x y)
 
   one_of_lexed : (text : List ℕ) (ts us : List Token) (ns ms : List (List ℕ)) (v w : Verdict) → IsLexed text ts ns → IsLexed text us ms
-      → OnTokens ts ns v → OnTokens us ms w → v ≡ w
+      → OnTokens text ts ns v → OnTokens text us ms w → v ≡ w
   one_of_lexed text ts us ns ms v w x y s t =
       let e = one_lexed text ts us ns ms x y in
-      one_on_tokens us ms v w (subst (λ z. OnTokens us z v) e.1 (subst (λ z. OnTokens z ns v) e.0 s)) t
+      one_on_tokens text us ms v w (subst (λ z. OnTokens text us z v) e.1 (subst (λ z. OnTokens text z ns v) e.0 s)) t
 
   pub one_verdict : OneVerdict
   one_verdict text v w (too_long h) (too_long i) = refl
@@ -112,9 +119,10 @@ some_on_program program names never = some_on_unbroken program names (λ v x. ne
     none : (f : Fault) → IsFault program names f → ⊥
     none = no_fault (IsFault program names) (λ f x. never (Refuses (why.Rule f.place f.rule)) (broken f.place f.rule x))
 
-some_on_tokens : (tokens : List Token) (names : List (List ℕ)) → ((v : Verdict) → OnTokens tokens names v → ⊥) → ⊥
-some_on_tokens tokens names never =
-    never (Refuses why.Syntax) (unspelled (λ program s. some_on_program program names (λ v x. never v (spelled program s x))))
+some_on_tokens : (text : List ℕ) (tokens : List Token) (names : List (List ℕ)) → ((v : Verdict) → OnTokens text tokens names v → ⊥) → ⊥
+some_on_tokens text tokens names never =
+    some_answer most_levels tokens (λ program s. some_on_program program names (λ v x. never v (spelled program s x)))
+    (λ n x. never (Refuses (why.Syntax (place_of text tokens n))) (stuck n x)) (λ n x. never (Refuses (why.Deep (place_of text tokens n))) (too_deep n x))
 
 pub some_verdict : (text : List ℕ) → ((v : Verdict) → Judged text v → ⊥) → ⊥
 some_verdict text never = by (nat_lt most_bytes (length text)) refl
@@ -123,7 +131,7 @@ some_verdict text never = by (nat_lt most_bytes (length text)) refl
     by true e = never (Refuses why.Long) (too_long (ltb-true most_bytes (length text) e))
     by false e =
         let short = ltb-false most_bytes (length text) e in
-        some_lexing text (λ ts ns x. some_on_tokens ts ns (λ v t. never v (lexed ts ns short x t)))
+        some_lexing text (λ ts ns x. some_on_tokens text ts ns (λ v t. never v (lexed ts ns short x t)))
         (λ p x. never (Refuses (why.Lex p)) (stops p short x)) (λ p x. never (Refuses (why.Many p)) (too_many p short x))
 
 -- ---- what code says
@@ -134,12 +142,12 @@ says_too P Q f (Err (fault.Refused why)) h = f (Refuses why) h
 says_too P Q f (Err fault.OutOfMemory) h = tt
 
 pub said_of_text : (text : List ℕ) (tokens : List Token) (names : List (List ℕ)) → length text ≤ most_bytes → IsLexed text tokens names →
-    (r : Result Accepted JudgeFault) → Says (OnTokens tokens names) r → Says (Judged text) r
-said_of_text text tokens names short is r h = says_too (OnTokens tokens names) (Judged text) (λ v x. lexed tokens names short is x) r h
+    (r : Result Accepted JudgeFault) → Says (OnTokens text tokens names) r → Says (Judged text) r
+said_of_text text tokens names short is r h = says_too (OnTokens text tokens names) (Judged text) (λ v x. lexed tokens names short is x) r h
 
-pub said_of_tokens : (tokens : List Token) (names : List (List ℕ)) (program : Text) → IsSpelled most_levels program tokens →
-    (r : Result Accepted JudgeFault) → Says (OnProgram program names) r → Says (OnTokens tokens names) r
-said_of_tokens tokens names program spells r h = says_too (OnProgram program names) (OnTokens tokens names) (λ v x. spelled program spells x) r h
+pub said_of_tokens : (text : List ℕ) (tokens : List Token) (names : List (List ℕ)) (program : Text) → IsSpelled most_levels program tokens →
+    (r : Result Accepted JudgeFault) → Says (OnProgram program names) r → Says (OnTokens text tokens names) r
+said_of_tokens text tokens names program spells r h = says_too (OnProgram program names) (OnTokens text tokens names) (λ v x. spelled program spells x) r h
 
 abbrev given : JudgeFault → Result Accepted JudgeFault
 given e = Err e
@@ -152,14 +160,22 @@ told_exactly text lexer.OutOfMemory le h = tt
 pub told : (text : List ℕ) (f : LexFault) (e : JudgeFault) → length text ≤ most_bytes → HasCause text f → e ≡ lexer_fault f → Says (Judged text) (given e)
 told text f e le h is = subst (λ x. Says (Judged text) (given x)) (sym is) (told_exactly text f le h)
 
-parsed_exactly : (tokens : List Token) (names : List (List ℕ)) (f : ParseFault) → (f ≡ parser.Unfit → (program : Text) → IsSpelled most_levels program tokens → ⊥) →
-    Says (OnTokens tokens names) (given (parser_fault f))
-parsed_exactly tokens names parser.Unfit none = unspelled (none refl)
-parsed_exactly tokens names parser.OutOfMemory none = tt
+parsed_exactly : (text : List ℕ) (tokens : List Token) (f : ParseFault) → parser_spec.HasCause tokens f → Tells text tokens (parser_fault text tokens f)
+parsed_exactly text tokens (parser.Syntax n) h = λ names. stuck n h
+parsed_exactly text tokens (parser.Deep n) h = λ names. too_deep n h
+parsed_exactly text tokens parser.OutOfMemory h = tt
 
-pub told_by_parser : (tokens : List Token) (names : List (List ℕ)) (f : ParseFault) (e : JudgeFault) →
-    (f ≡ parser.Unfit → (program : Text) → IsSpelled most_levels program tokens → ⊥) → e ≡ parser_fault f → Says (OnTokens tokens names) (given e)
-told_by_parser tokens names f e none is = subst (λ x. Says (OnTokens tokens names) (given x)) (sym is) (parsed_exactly tokens names f none)
+pub told_by_parser : (text : List ℕ) (tokens : List Token) (f : ParseFault) (e : JudgeFault) → parser_spec.HasCause tokens f → e ≡ parser_fault text tokens f → Tells text tokens e
+told_by_parser text tokens f e h is = subst (λ x. Tells text tokens x) (sym is) (parsed_exactly text tokens f h)
+
+told_names : (text : List ℕ) (tokens : List Token) (names : List (List ℕ)) (f : JudgeFault) → Tells text tokens f → Says (OnTokens text tokens names) (given f)
+told_names text tokens names (fault.Refused why) h = h names
+told_names text tokens names fault.OutOfMemory h = tt
+
+pub told_of_tokens : (text : List ℕ) (ts tokens : List Token) (names : List (List ℕ)) (f e : JudgeFault) → ts ≡ tokens → Tells text ts f → e ≡ f → Says (OnTokens text tokens names) (given e)
+told_of_tokens text ts tokens names f e same h is =
+    let P : List Token → Type 0 = λ z. Tells text z f in
+    subst (λ x. Says (OnTokens text tokens names) (given x)) (sym is) (told_names text tokens names f (subst P same h))
 
 checked_exactly : (program : Text) (names : List (List ℕ)) (f : CheckFault) → Causes f program names → Says (OnProgram program names) (given (check_fault f))
 checked_exactly program names (check.Broken place rule) h = broken place rule h

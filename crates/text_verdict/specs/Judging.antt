@@ -1,11 +1,11 @@
 -- What becomes of a text.
-use Rattle.std.specs.Prelude.{◌≤◌, ◌<◌, ℕ, List, ◌++◌, length, codes, decimal, Result, Ok, Err}
+use Rattle.std.specs.Prelude.{◌≤◌, ◌<◌, ℕ, List, ◌++◌, length, fold, slice_get, codes, decimal, Option, Some, None, Result, Ok, Err}
 use Rattle.forec_base.specs.declared.Place.{Place}
 use Rattle.forec_base.specs.declared.limits.TheConstants.{MAX_TEXT_BYTES, MAX_LEVEL}
 use Rattle.forec_kernel.specs.Shapes.{PlainKernel, plain_kernel}
 use Rattle.forec_tree.specs.declared.fault.Fault.{Fault}
 use Rattle.forec_tree.specs.declared.token.Token.{Token}
-use Rattle.forec_tree.specs.LexedText.{IsLexed, IsBad, IsMany}
+use Rattle.forec_tree.specs.LexedText.{first_place, place_after, IsLexed, IsBad, IsMany}
 use Rattle.forec_tree.specs.SpelledPrograms.{IsSpelled}
 use Rattle.forec_tree.specs.Terms.{Text}
 use Rattle.forec_tree.specs.Faults.{IsFault, IsLeast}
@@ -15,6 +15,7 @@ use Rattle.forec_lexer.specs.declared.fault.LexFault.{LexFault}
 use Rattle.forec_lexer.specs.declared.fault.LexFault.TheVariants as lexer
 use Rattle.forec_parser.specs.declared.fault.ParseFault.{ParseFault}
 use Rattle.forec_parser.specs.declared.fault.ParseFault.TheVariants as parser
+use Rattle.forec_parser.specs.Places.{StopsAt, OpensAt}
 use Rattle.text_kernel.specs.Kernels.{kernel_of}
 use Rattle.text_kernel.specs.Limits.{WithinLimits, IsLimit}
 use Rattle.kernel_lower.specs.declared.lower_fault.LowerFault.{LowerFault}
@@ -54,7 +55,8 @@ abbrev pub refusal_line : Refusal → List ℕ
 refusal_line why.Long = codes "refused long\n"
 refusal_line (why.Lex place) = refused_at place (codes " lex\n")
 refusal_line (why.Many place) = refused_at place (codes " many\n")
-refusal_line why.Syntax = codes "refused syntax\n"
+refusal_line (why.Syntax place) = refused_at place (codes " syntax\n")
+refusal_line (why.Deep place) = refused_at place (codes " deep\n")
 refusal_line (why.Rule place rule) = refused_at place (codes " rule " ++ decimal rule ++ codes "\n")
 refusal_line (why.Limit what count) = limit_words what ++ decimal count ++ codes "\n"
 
@@ -75,17 +77,27 @@ pub data OnProgram (program : Text) (names : List (List ℕ)) : Verdict → Type
   broken : (place : Place) (rule : ℕ) → IsLeast (record { place = place; rule = rule }) (IsFault program names) → OnProgram program names (Refuses (why.Rule place rule))
   unbroken : {v : Verdict} → ((f : Fault) → IsFault program names f → ⊥) → OnUnbroken program names v → OnProgram program names v
 
--- the verdict on tokens
-pub data OnTokens (tokens : List Token) (names : List (List ℕ)) : Verdict → Type 0 where
-  spelled : {v : Verdict} (program : Text) → IsSpelled most_levels program tokens → OnProgram program names v → OnTokens tokens names v
-  unspelled : ((program : Text) → IsSpelled most_levels program tokens → ⊥) → OnTokens tokens names (Refuses why.Syntax)
+-- the place of a token, or that behind the text where there is none
+abbrev pub place_by : List ℕ → Option Token → Place
+place_by text (Some t) = t.place
+place_by text None = fold place_after first_place text
+
+-- the place of the token with this number, counted from 0
+abbrev pub place_of : List ℕ → List Token → ℕ → Place
+place_of text tokens n = place_by text (slice_get tokens n)
+
+-- the verdict on the tokens of a text
+pub data OnTokens (text : List ℕ) (tokens : List Token) (names : List (List ℕ)) : Verdict → Type 0 where
+  spelled : {v : Verdict} (program : Text) → IsSpelled most_levels program tokens → OnProgram program names v → OnTokens text tokens names v
+  stuck : (n : ℕ) → StopsAt most_levels tokens n → OnTokens text tokens names (Refuses (why.Syntax (place_of text tokens n)))
+  too_deep : (n : ℕ) → OpensAt most_levels tokens n → OnTokens text tokens names (Refuses (why.Deep (place_of text tokens n)))
 
 -- the verdict on a text
 pub data Judged (text : List ℕ) : Verdict → Type 0 where
   too_long : most_bytes < length text → Judged text (Refuses why.Long)
   stops : (place : Place) → length text ≤ most_bytes → IsBad text place → Judged text (Refuses (why.Lex place))
   too_many : (place : Place) → length text ≤ most_bytes → IsMany text place → Judged text (Refuses (why.Many place))
-  lexed : {v : Verdict} (tokens : List Token) (names : List (List ℕ)) → length text ≤ most_bytes → IsLexed text tokens names → OnTokens tokens names v
+  lexed : {v : Verdict} (tokens : List Token) (names : List (List ℕ)) → length text ≤ most_bytes → IsLexed text tokens names → OnTokens text tokens names v
       → Judged text v
 
 -- what code that judges ensures: its verdict is one that holds, unless memory fails
@@ -101,9 +113,15 @@ lexer_fault (lexer.Many place) = fault.Refused (why.Many place)
 lexer_fault lexer.OutOfMemory = fault.OutOfMemory
 
 -- what a fault of the parser is for the text
-abbrev pub parser_fault : ParseFault → JudgeFault
-parser_fault parser.Unfit = fault.Refused why.Syntax
-parser_fault parser.OutOfMemory = fault.OutOfMemory
+abbrev pub parser_fault : List ℕ → List Token → ParseFault → JudgeFault
+parser_fault text tokens (parser.Syntax n) = fault.Refused (why.Syntax (place_of text tokens n))
+parser_fault text tokens (parser.Deep n) = fault.Refused (why.Deep (place_of text tokens n))
+parser_fault text tokens parser.OutOfMemory = fault.OutOfMemory
+
+-- what is told of tokens that are refused, whatever their names
+abbrev pub Tells : List ℕ → List Token → JudgeFault → Type 0
+Tells text tokens (fault.Refused why) = (names : List (List ℕ)) → OnTokens text tokens names (Refuses why)
+Tells text tokens fault.OutOfMemory = Unit {0}
 
 -- what a fault of the check is for the text
 abbrev pub check_fault : CheckFault → JudgeFault

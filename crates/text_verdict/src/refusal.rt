@@ -3,7 +3,6 @@
 use forec_base::{OutOfMemory, Place};
 use forec_check::CheckFault;
 use forec_lexer::LexFault;
-use forec_parser::ParseFault;
 use kernel_lower::LowerFault;
 use text_kernel::Quantity;
 
@@ -16,8 +15,12 @@ pub enum Refusal {
     Lex { place: Place },
     /// It has more than 200,000 tokens. This is the place of the next one.
     Many { place: Place },
-    /// No program within the greatest level has its tokens.
-    Syntax,
+    /// The tokens before this place begin a program, and with the one at it they begin none. At the
+    /// end of the text: they begin a program, and none has all of them.
+    Syntax { place: Place },
+    /// The tokens up to the one at this place begin a program, in which it is the first to open a
+    /// level above 128.
+    Deep { place: Place },
     /// Its program breaks this rule, from 1 to 24, at this place, and none before it.
     Rule { place: Place, rule: u8 },
     /// Its program passes this limit, `count`, and none before it.
@@ -47,22 +50,6 @@ impl From<LexFault> for JudgeFault {
                 why: Refusal::Many { place },
             },
             LexFault::OutOfMemory => JudgeFault::OutOfMemory,
-        }
-    }
-}
-
-impl From<ParseFault> for JudgeFault {
-    ghost use Rattle.std.specs.Prelude.{◌≡◌};
-    ghost use Rattle.text_verdict.specs.Judging.{parser_fault};
-
-    ghost from_gives = { λ fault e. e ≡ parser_fault fault };
-
-    fn from(fault: ParseFault) -> Self {
-        match fault {
-            ParseFault::Unfit => JudgeFault::Refused {
-                why: Refusal::Syntax,
-            },
-            ParseFault::OutOfMemory => JudgeFault::OutOfMemory,
         }
     }
 }

@@ -1,4 +1,4 @@
-use Rattle.std.proofs.Common.{List, ℕ, Err, refl, sym, subst}
+use Rattle.std.proofs.Common.{List, ℕ, Err, subst}
 use Rattle.std.proofs.lemmas.Result.{err_from_is_err_and}
 use Rattle.forec_tree.specs.Plain as tree
 use Rattle.forec_tree.specs.SpelledPrograms.{IsSpelled}
@@ -7,7 +7,7 @@ use Rattle.forec_tree.specs.declared.token.Token.{Token}
 use Rattle.forec_check.specs.Checked.{text_of, names_of}
 use Rattle.forec_check.proofs.NamesBelow.{distinct_names, names_below}
 use Rattle.text_verdict.specs.Judging.{most_levels, OnUnbroken, OnProgram, Says, unbroken}
-use Rattle.text_verdict.proofs.Verdicts.{says_too, said_of_text, said_of_tokens, told, told_by_parser, told_by_check}
+use Rattle.text_verdict.proofs.Verdicts.{says_too, said_of_text, said_of_tokens, told, told_of_tokens, told_by_check}
 use Rattle.text_verdict.proofs.judging.judge.Goals as goal
 
 pub returns-in_err-lexed : goal.returns-in_err-lexed
@@ -20,10 +20,8 @@ returns-in_err-program c =
     let p = err_from_is_err_and c.from_residual-in_err-program.result c.from_residual-in_err-program.ensures.1 in
     let tokens = c.in_ok-lexed.lexed.tokens.items in
     let names = c.in_ok-lexed.lexed.names in
-    let same = c.deref.ensures.value in
     rw p.1 (said_of_text c.args.text.now tokens names c.requires c.in_ok-lexed.ensures.ok (Err p.0)
-    (told_by_parser tokens names _ p.0
-    (λ is program s. c.in_err-program.ensures.unfit (rw is refl) program (subst (λ (ts : List Token). IsSpelled most_levels program ts) (sym same) s)) p.2))
+    (told_of_tokens c.args.text.now _ tokens names _ p.0 c.deref.ensures.value c.in_err-program.ensures.refused p.2))
 
 pub check-requires-clause-distinct : goal.check-requires-clause-distinct
 check-requires-clause-distinct c = distinct_names c.in_ok-lexed.lexed.names c.in_ok-lexed.ensures.distinct
@@ -42,7 +40,7 @@ returns-in_err-checked c =
     let program = tree.program c.in_ok-program.program in
     let spells = subst (λ (ts : List Token). IsSpelled most_levels program ts) c.deref.ensures.value c.in_ok-program.ensures.found in
     rw p.1 (said_of_text c.args.text.now tokens names c.requires c.in_ok-lexed.ensures.ok (Err p.0)
-    (said_of_tokens tokens names program spells (Err p.0) (told_by_check program names _ p.0 c.in_err-checked.ensures.fault p.2)))
+    (said_of_tokens c.args.text.now tokens names program spells (Err p.0) (told_by_check program names _ p.0 c.in_err-checked.ensures.fault p.2)))
 
 pub returns : goal.returns
 returns c =
@@ -57,4 +55,4 @@ returns c =
     let named = subst (λ (ns : List (List ℕ)). Says (OnProgram (text_of checked) ns) c.accept.result) c.in_ok-checked.ensures.names said in
     let whole = subst (λ (t : Text). Says (OnProgram t names) c.accept.result) c.in_ok-checked.ensures.program named in
     said_of_text c.args.text.now tokens names c.requires c.in_ok-lexed.ensures.ok c.accept.result
-    (said_of_tokens tokens names program spells c.accept.result whole)
+    (said_of_tokens c.args.text.now tokens names program spells c.accept.result whole)
