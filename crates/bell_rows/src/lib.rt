@@ -1,0 +1,7 @@
+//! Tests of the ropes of two cores.
+#![tactic(auto)]
+
+#[cfg(test)]
+mod compiled;
+#[cfg(test)]
+mod hinted;

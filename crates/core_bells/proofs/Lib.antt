@@ -1,0 +1,5 @@
+pub mod Counting
+pub mod Dealing
+pub mod Hanging
+pub mod Lists
+pub mod Loosening

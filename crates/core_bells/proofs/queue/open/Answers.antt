@@ -1,0 +1,5 @@
+use Rattle.core_bells.proofs.Counting.{starts}
+use Rattle.core_bells.proofs.queue.open.Goals as goal
+
+pub ruled-requires-clause-rule : goal.ruled-requires-clause-rule
+ruled-requires-clause-rule c = starts

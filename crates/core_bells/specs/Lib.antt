@@ -1,0 +1,4 @@
+pub mod Hints
+pub mod Laws
+pub mod Rooms
+pub mod Ropes

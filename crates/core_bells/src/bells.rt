@@ -1,0 +1,124 @@
+//! The bells of all cores.
+ghost use Rattle.std.specs.Prelude.{◌≡◌, ◌<◌, ◌≤◌, All, IfOk, List, length, map};
+ghost use Rattle.thread_code.specs.declared.instruction.CodeParts.{CodeParts};
+ghost use Rattle.thread_code.specs.Plain.{plain_code};
+ghost use Rattle.core_alloc.specs.Places.{Places};
+ghost use Rattle.core_bells.specs.Ropes.{AllFit, AreFirsts, AreQueues, RopeState, new_ropes, states_of};
+
+use crate::belfry::{Belfry, LooseRope};
+use crate::hints::{HintPass, HintQueue};
+use crate::passes::{open_all, passes_of};
+use crate::rooms::{all_ends, places_of};
+use crate::rope::Rope;
+use core_alloc::Placement;
+use crossbeam_utils::sync::{Parker, Unparker};
+use forec_base::OutOfMemory;
+use std::alloc::Global;
+use std::collections::VecDeque;
+use thread_code::Code;
+
+/// The ropes that bells have to give out.
+pub trait GivesRopes {
+    /// It gave out none yet.
+    ghost is_whole: { Self → Type 0 };
+
+    /// The ropes, in the order of the cores.
+    ghost ropes: { Self → List RopeState };
+}
+
+/// For each core, a queue of hints and what wakes the core; and the ropes to them.
+#[derive(Drop)]
+pub struct Bells {
+    belfry: Belfry,
+    loose: VecDeque<LooseRope>,
+}
+
+impl GivesRopes for Bells {
+    ghost use Rattle.core_bells.specs.Ropes.{AllFit, placed_on, states_of};
+
+    ghost is_whole = { λ b. AllFit (placed_on b.belfry.cores b.belfry.places.items) b.belfry.queues.items b.loose.items };
+
+    ghost ropes = { λ b. states_of (placed_on b.belfry.cores b.belfry.places.items) b.belfry.queues.items b.loose.items };
+}
+
+/// What the ropes of all cores are made of, in order, and what wakes each core.
+fn loosen(
+    alloc: Global,
+    queues: &[HintQueue],
+    firsts: &mut Vec<HintPass>,
+    cores: u32,
+) -> Result<(VecDeque<LooseRope>, Vec<Unparker>), OutOfMemory>
+    requires { AreFirsts 0 queues.now firsts.old.items }
+    ensures fit { IfOk result (λ r. (code : CodeParts) (placement : Places) → AreQueues code placement queues.now → cores ≤ placement.cores → AllFit placement queues.now r.0.items) }
+    ensures states { IfOk result (λ r. (code : CodeParts) (placement : Places) → AreQueues code placement queues.now → states_of placement queues.now r.0.items ≡ new_ropes code placement cores) }
+{
+    let mut loose = VecDeque::new(alloc);
+    let mut unparkers = Vec::new(alloc);
+    for core in 0..cores {
+        let parker = Parker::new(alloc)?;
+        unparkers.push(parker.unparker().clone()?)?;
+        let passes = passes_of(alloc, queues, firsts, core)?;
+        loose.push_back(LooseRope {
+            core,
+            passes,
+            parker,
+        })?;
+    }
+    Ok((loose, unparkers))
+}
+
+impl Bells {
+    /// Bells for the cores of a placement of the code's threads. The queue of each core has room for two hints for each end of a
+    /// mailbox on that core, and for at least one.
+    ///
+    /// # Errors
+    ///
+    /// Want of memory.
+    pub fn new(alloc: Global, code: &Code, placement: &Placement) -> Result<Bells, OutOfMemory>
+        requires { length placement.now.places ≡ length (plain_code code.now).threads }
+        ensures whole { IfOk result (λ b. ⟦<Bells as GivesRopes>⟧.is_whole b) }
+        ensures ropes { IfOk result (λ b. ⟦<Bells as GivesRopes>⟧.ropes b ≡ new_ropes code.now placement.now placement.now.cores) }
+    {
+        let places = places_of(alloc, placement)?;
+        let ends = all_ends(alloc, code.shape(), &places)?;
+        let cores = placement.cores();
+        let (queues, mut firsts) = open_all(alloc, &ends, cores)?;
+        let (loose, unparkers) = loosen(alloc, &queues, &mut firsts, cores)?;
+        let belfry = Belfry {
+            cores,
+            places,
+            queues,
+            unparkers,
+        };
+        Ok(Bells { belfry, loose })
+    }
+
+    /// A rope for each core, in order. The bells must not have given them out before.
+    ///
+    /// # Errors
+    ///
+    /// Want of memory. Then none was given out.
+    pub fn ropes<'b>(&'b mut self, alloc: Global) -> Result<Vec<Rope<'b>>, OutOfMemory>
+        requires { ⟦<Bells as GivesRopes>⟧.is_whole self.old }
+        ensures { IfOk result (λ ropes. ropes.items ≡ ⟦<Bells as GivesRopes>⟧.ropes self.old) }
+    {
+        let Bells { belfry, loose } = self;
+        let mut ropes = Vec::with_capacity(alloc, loose.len())?;
+        let belfry: &'b Belfry = belfry;
+        'cores: while let Some(rope) = loose.pop_front() {
+            let LooseRope {
+                core,
+                passes,
+                parker,
+            } = rope;
+            ropes.push_reserved(Rope {
+                belfry,
+                core,
+                passes,
+                parker,
+                pushed: 0,
+            });
+        }
+        Ok(ropes)
+    }
+}
