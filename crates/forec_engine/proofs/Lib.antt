@@ -2,7 +2,6 @@ mod Advancing
 mod Answered
 mod Asking
 mod Bounds
-mod Cores
 mod Endings
 mod Fine
 mod Following
@@ -18,4 +17,5 @@ mod Splitting
 mod TickLines
 mod Ticking
 mod Told
+mod Unrun
 mod WorkedLines

@@ -1,37 +1,45 @@
 // What is done with a text that was judged.
-ghost use Rattle.std.specs.Prelude.{◌≡◌, ◌≤◌, ◌≢◌, ◌^◌, ◌⊎◌, length, IfSome, Some, None};
+ghost use Rattle.std.specs.Prelude.{◌≡◌, ◌≤◌, ◌≢◌, ◌^◌, ◌⊎◌, length, IfOk, IfSome, Some, None};
 ghost use Rattle.forec_base.specs.Outside.{Fell};
 ghost use Rattle.forec_base.specs.declared.limits.TheConstants.{MAX_BUDGET};
 ghost use Rattle.forec_kernel.specs.Shapes.{plain_kernel};
 ghost use Rattle.thread_code.specs.Alone.{Stands};
-ghost use Rattle.thread_code.specs.Plain.{PlainCode};
+ghost use Rattle.thread_code.specs.Plain.{PlainCode, plain_code};
+ghost use Rattle.board_hosts.specs.Boards.{ArePorts};
 ghost use Rattle.command_words.specs.Requests.{PlainRunning, plain_placing, plain_running, plain_command};
 ghost use Rattle.core_alloc.specs.declared.fault.PlaceFault.TheVariants as fault;
 ghost use Rattle.forec_engine.specs.Calls.{AppendsFront};
 ghost use Rattle.forec_engine.specs.Commands.{refused, counted, threads_listed, listed, run_report, ThreadsReport, AcceptedReport, TellsTrace, IsPlaceable, IsRunnable, IsInRange};
 ghost use Rattle.forec_engine.specs.Ends.{IsOwn, Given, Wanted, ReadFor, CommandIsMisplaced, Rewrites, running_in};
+ghost use Rattle.forec_engine.specs.Led.{HasRunRows, HasRunWorkload};
 ghost use Rattle.forec_engine.specs.Placing.{misplaced, misplacing, IsMisplaced};
 ghost use Rattle.forec_engine.specs.Report.{Report, trace_report};
-ghost use Rattle.forec_engine.specs.Workload.{ticked_report, workload_report};
+ghost use Rattle.forec_engine.specs.Sessions.{IsSessionOf};
+ghost use Rattle.forec_engine.specs.WaitingRoom.{HasRoom};
+ghost use Rattle.forec_engine.specs.Workload.{ticked_report, workload_report, zero_row};
 
-use crate::generated::run_workload;
+use crate::beside::{Nobody, run_hosts, tick_hosts};
 use crate::image::Image;
-use crate::names::pick_names;
+use crate::loading::make_board;
 use crate::rewriter::Rewriter;
-use crate::runner::Runner;
+use crate::session::Session;
 use crate::sink::say;
 use crate::status::Status;
-use crate::ticker::Ticker;
 use crate::ticks::run;
 use crate::waiting::Waiting;
+use board_hosts::{Hosts, hosts_of};
 use code_gen::generate;
 use command_words::{Command, Placing, Running};
 use core_alloc::{PlaceFault, Placement};
-use forec_base::{Gate, Sink, Source};
+use core_host::ForecWork;
+use forec_base::{Gate, OutOfMemory, Sink, Source};
 use forec_kernel::Kernel;
+use slot_board::{GivesPorts, SlotBoard};
 use std::alloc::Global;
+use std::sync::Wait;
+use std::thread::Threads;
 use text_verdict::{Accepted, Counts, Refusal};
-use thread_code::listing;
+use thread_code::{Code, listing};
 use thread_places::{place, thread_list};
 
 /// Says why a text is refused.
@@ -80,8 +88,34 @@ fn misplace<K: Sink>(alloc: Global, why: PlaceFault, out: &mut K) -> Status
     }
 }
 
+// Runs hosts of a code that stands for a kernel over the trace, with the threads placed so.
+fn host_rows<'b, 'c, S: Source, K: Sink, G: Gate + Sync, R: Threads + Wait + Sync>(
+    rt: &R,
+    alloc: Global,
+    kernel: &'c Kernel,
+    code: &'c Code,
+    placement: &Placement,
+    board: &'b mut SlotBoard<ForecWork>,
+    session: &mut Session,
+    trace: &mut S,
+    out: &mut K,
+    gate: &G,
+) -> Status
+    requires stands { Stands (plain_code code.now) (plain_kernel kernel.now) }
+    requires whole { ⟦<SlotBoard<ForecWork> as GivesPorts<ForecWork>>⟧.is_whole board.old }
+    requires ports { ArePorts code.now placement.now (⟦<SlotBoard<ForecWork> as GivesPorts<ForecWork>>⟧.ports board.old) }
+    requires session { IsSessionOf (plain_kernel kernel.now) session.old }
+    ensures { HasRunRows S.left S.faults S.down (plain_kernel kernel.now) session.old.budget trace.old trace.new (K.held out.old) (K.held out.new) (K.faults out.old) (K.faults out.new) (K.down out.new) result }
+{
+    let Ok(Hosts { root, others }) = hosts_of(alloc, code, placement, board) else {
+        return Status::NoMemory;
+    };
+    run_hosts(rt, alloc, session, kernel, root, others, gate, trace, out)
+}
+
 // Makes all that a run needs, with the threads placed so, and runs. A tick may have so many units.
-fn start<S: Source, K: Sink, G: Gate>(
+fn start<S: Source, K: Sink, G: Gate + Sync, R: Threads + Wait + Sync>(
+    rt: &R,
     alloc: Global,
     kernel: &Kernel,
     placement: &Placement,
@@ -102,41 +136,33 @@ fn start<S: Source, K: Sink, G: Gate>(
     ensures memory { result ≡ Status.NoMemory → K.held out.new ≡ K.held out.old }
     ensures usage { result ≢ Status.Usage }
 {
-    let shape = kernel.shape();
-    let Ok(inputs) = pick_names(alloc, &shape.names, &shape.inputs) else {
-        return Status::NoMemory;
-    };
-    let Ok(outputs) = pick_names(alloc, &shape.names, &shape.outputs) else {
-        return Status::NoMemory;
-    };
-    let Ok(mut waiting) = Waiting::new(alloc, outputs) else {
+    let Ok(mut session) = Session::new(alloc, kernel, budget) else {
         return Status::NoMemory;
     };
     let Ok(code) = generate(alloc, kernel) else {
         return Status::NoMemory;
     };
-    let Ok(mut image) = Image::new(alloc, shape.inputs.len(), shape.outputs.len()) else {
+    let Ok(mut board) = make_board(alloc, kernel, &code, placement) else {
         return Status::NoMemory;
     };
-    let Ok(runner) = Runner::load(alloc, kernel, &code, placement) else {
-        return Status::NoMemory;
-    };
-    run(
+    host_rows(
+        rt,
         alloc,
-        &inputs,
-        &mut Ticker::Hosted(runner),
-        &mut image,
-        budget,
-        gate,
-        &mut waiting,
+        kernel,
+        &code,
+        placement,
+        &mut board,
+        &mut session,
         trace,
         out,
+        gate,
     )
 }
 
 // Rewrites a kernel's texts over the trace, each tick in the order of steps with this number. A tick may have so many
 // units.
-fn explain<S: Source, K: Sink, G: Gate>(
+fn explain<S: Source, K: Sink, G: Gate, R: Wait>(
+    rt: &R,
     alloc: Global,
     kernel: &Kernel,
     order: u32,
@@ -157,37 +183,27 @@ fn explain<S: Source, K: Sink, G: Gate>(
         → IfSome (S.left trace.old) (λ x. AppendsFront (K.held out.old) (K.held out.new) (trace_report (plain_kernel kernel.now) budget x).bytes) }
     ensures usage { result ≢ Status.Usage }
 {
-    let shape = kernel.shape();
-    let Ok(inputs) = pick_names(alloc, &shape.names, &shape.inputs) else {
+    let Ok(mut session) = Session::new(alloc, kernel, budget) else {
         return Status::NoMemory;
     };
-    let Ok(outputs) = pick_names(alloc, &shape.names, &shape.outputs) else {
-        return Status::NoMemory;
-    };
-    let Ok(mut waiting) = Waiting::new(alloc, outputs) else {
-        return Status::NoMemory;
-    };
-    let Ok(mut image) = Image::new(alloc, shape.inputs.len(), shape.outputs.len()) else {
-        return Status::NoMemory;
-    };
-    let Ok(rewriter) = Rewriter::new(alloc, kernel, order) else {
+    let Ok(mut rewriter) = Rewriter::new(alloc, kernel, order) else {
         return Status::NoMemory;
     };
     run(
+        rt,
         alloc,
-        &inputs,
-        &mut Ticker::Rewritten(rewriter),
-        &mut image,
-        budget,
+        &mut session,
+        &mut rewriter,
+        &mut Nobody,
         gate,
-        &mut waiting,
         trace,
         out,
     )
 }
 
 // Places the threads, and runs.
-fn place_and_start<S: Source, K: Sink, G: Gate>(
+fn place_and_start<S: Source, K: Sink, G: Gate + Sync, R: Threads + Wait + Sync>(
+    rt: &R,
     alloc: Global,
     kernel: &Kernel,
     running: Running<'_>,
@@ -210,7 +226,16 @@ fn place_and_start<S: Source, K: Sink, G: Gate>(
     ensures usage { result ≡ Status.Usage → IsMisplaced (plain_kernel kernel.now) (plain_running running.entry).placing }
 {
     match place(alloc, kernel, running.placing) {
-        Ok(placement) => start(alloc, kernel, &placement, running.budget, trace, out, gate),
+        Ok(placement) => start(
+            rt,
+            alloc,
+            kernel,
+            &placement,
+            running.budget,
+            trace,
+            out,
+            gate,
+        ),
         Err(why) => misplace(alloc, why, out),
     }
 }
@@ -294,7 +319,8 @@ fn list<K: Sink>(alloc: Global, kernel: &Kernel, out: &mut K) -> Status
 }
 
 /// Does what a command asks of a text that is accepted.
-pub fn answer<S: Source, K: Sink, G: Gate>(
+pub fn answer<S: Source, K: Sink, G: Gate + Sync, R: Threads + Wait + Sync>(
+    rt: &R,
     alloc: Global,
     command: Command<'_>,
     accepted: &Accepted,
@@ -325,19 +351,50 @@ pub fn answer<S: Source, K: Sink, G: Gate>(
 {
     match command {
         Command::Run { running } => {
-            place_and_start(alloc, &accepted.kernel, running, trace, out, gate)
+            place_and_start(rt, alloc, &accepted.kernel, running, trace, out, gate)
         }
         Command::Check => tell(alloc, accepted.counts, out),
         Command::Threads { placing } => list_threads(alloc, &accepted.kernel, placing, out),
         Command::Explain { budget, order } => {
-            explain(alloc, &accepted.kernel, order, budget, trace, out, gate)
+            explain(rt, alloc, &accepted.kernel, order, budget, trace, out, gate)
         }
         Command::Code => list(alloc, &accepted.kernel, out),
     }
 }
 
+// Runs hosts of a code that stands for the kernel of a workload, with the threads placed so. The line that tells of it
+// waits.
+fn host_workload<'b, 'c, G: Gate + Sync, R: Threads + Wait + Sync>(
+    rt: &R,
+    alloc: Global,
+    kernel: &'c Kernel,
+    code: &'c Code,
+    placement: &Placement,
+    board: &'b mut SlotBoard<ForecWork>,
+    image: &mut Image,
+    threads: u32,
+    budget: u64,
+    waiting: &mut Waiting,
+    gate: &G,
+) -> Result<Status, OutOfMemory>
+    requires stands { Stands (plain_code code.now) (plain_kernel kernel.now) }
+    requires whole { ⟦<SlotBoard<ForecWork> as GivesPorts<ForecWork>>⟧.is_whole board.old }
+    requires ports { ArePorts code.now placement.now (⟦<SlotBoard<ForecWork> as GivesPorts<ForecWork>>⟧.ports board.old) }
+    requires zeros { image.old.inputs.items ≡ zero_row (plain_kernel kernel.now) }
+    requires outputs { length image.old.outputs.items ≡ length (plain_kernel kernel.now).shape.outputs }
+    requires small { budget ≤ 2 ^ 62 }
+    requires ample { HasRoom waiting.old 128 }
+    ensures { IfOk result (HasRunWorkload threads (plain_kernel kernel.now) budget waiting.old waiting.new) }
+{
+    let Hosts { root, others } = hosts_of(alloc, code, placement, board)?;
+    tick_hosts(
+        rt, alloc, kernel, root, others, gate, image, threads, budget, waiting,
+    )
+}
+
 // Runs a workload of so many threads, which are placed so.
-fn tick_workload<K: Sink, G: Gate>(
+fn tick_workload<K: Sink, G: Gate + Sync, R: Threads + Wait + Sync>(
+    rt: &R,
     alloc: Global,
     kernel: &Kernel,
     placement: &Placement,
@@ -365,16 +422,30 @@ fn tick_workload<K: Sink, G: Gate>(
     let Ok(mut image) = Image::new(alloc, shape.inputs.len(), shape.outputs.len()) else {
         return Status::NoMemory;
     };
-    let Ok(runner) = Runner::load(alloc, kernel, &code, placement) else {
+    let Ok(mut board) = make_board(alloc, kernel, &code, placement) else {
         return Status::NoMemory;
     };
-    let mut ticker = Ticker::Hosted(runner);
-    let status = run_workload(&mut ticker, &mut image, threads, budget, gate, &mut waiting);
+    let Ok(status) = host_workload(
+        rt,
+        alloc,
+        kernel,
+        &code,
+        placement,
+        &mut board,
+        &mut image,
+        threads,
+        budget,
+        &mut waiting,
+        gate,
+    ) else {
+        return Status::NoMemory;
+    };
     waiting.finish(out, status)
 }
 
 /// Places the threads of a workload of so many, whose kernel this is, and runs it.
-pub fn answer_workload<K: Sink, G: Gate>(
+pub fn answer_workload<K: Sink, G: Gate + Sync, R: Threads + Wait + Sync>(
+    rt: &R,
     alloc: Global,
     threads: u32,
     running: Running<'_>,
@@ -393,6 +464,7 @@ pub fn answer_workload<K: Sink, G: Gate>(
     match place(alloc, kernel, running.placing) {
         Ok(placement) => {
             tick_workload(
+                rt,
                 alloc,
                 kernel,
                 &placement,

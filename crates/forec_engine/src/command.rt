@@ -17,6 +17,8 @@ use crate::status::Status;
 use command_words::{Command, Request, Running, WordsFault, read_words};
 use forec_base::{Gate, MAX_TEXT_BYTES, Sink, Source, TextFault, Texts};
 use std::alloc::Global;
+use std::sync::Wait;
+use std::thread::Threads;
 use text_verdict::{Accepted, JudgeFault, Refusal, judge};
 use workload::workload_text;
 
@@ -33,7 +35,8 @@ fn read_request<'a>(alloc: Global, words: &'a [String]) -> Result<Request<'a>, W
 }
 
 // Does what a command asks of a text.
-fn run_text<S: Source, K: Sink, G: Gate>(
+fn run_text<S: Source, K: Sink, G: Gate + Sync, R: Threads + Wait + Sync>(
+    rt: &R,
     alloc: Global,
     command: Command<'_>,
     text: &[u8],
@@ -62,14 +65,15 @@ fn run_text<S: Source, K: Sink, G: Gate>(
     ensures usage { result ≡ Status.Usage → AcceptedSo (CommandIsMisplaced (plain_command command.entry)) text.now }
 {
     match judge(alloc, text) {
-        Ok(accepted) => answer(alloc, command, &accepted, trace, out, gate),
+        Ok(accepted) => answer(rt, alloc, command, &accepted, trace, out, gate),
         Err(JudgeFault::Refused { why }) => refuse(alloc, why, out),
         Err(JudgeFault::OutOfMemory) => Status::NoMemory,
     }
 }
 
 // Does what a command asks of the text of a name.
-fn run_named<T: Texts, S: Source, K: Sink, G: Gate>(
+fn run_named<T: Texts, S: Source, K: Sink, G: Gate + Sync, R: Threads + Wait + Sync>(
+    rt: &R,
     alloc: Global,
     name: &str,
     command: Command<'_>,
@@ -100,7 +104,7 @@ fn run_named<T: Texts, S: Source, K: Sink, G: Gate>(
     ensures usage { result ≡ Status.Usage → IfSome (T.content texts.old name.now) (AcceptedSo (CommandIsMisplaced (plain_command command.entry))) }
 {
     match texts.read(alloc, name, MAX_TEXT_BYTES) {
-        Ok(text) => run_text(alloc, command, &text, trace, out, gate),
+        Ok(text) => run_text(rt, alloc, command, &text, trace, out, gate),
         Err(TextFault::Failed) => Status::ReadFault,
         Err(TextFault::OutOfMemory) => Status::NoMemory,
         Err(TextFault::Long) => refuse(alloc, Refusal::Long, out),
@@ -118,7 +122,8 @@ fn judge_any(alloc: Global, text: &[u8]) -> Result<Accepted, JudgeFault>
 }
 
 // Runs the workload of so many threads.
-fn run_workload_text<K: Sink, G: Gate>(
+fn run_workload_text<K: Sink, G: Gate + Sync, R: Threads + Wait + Sync>(
+    rt: &R,
     alloc: Global,
     threads: u32,
     running: Running<'_>,
@@ -139,14 +144,15 @@ fn run_workload_text<K: Sink, G: Gate>(
         return Status::NoMemory;
     };
     match judge_any(alloc, &text) {
-        Ok(accepted) => answer_workload(alloc, threads, running, &accepted.kernel, out, gate),
+        Ok(accepted) => answer_workload(rt, alloc, threads, running, &accepted.kernel, out, gate),
         Err(JudgeFault::Refused { why }) => refuse(alloc, why, out),
         Err(JudgeFault::OutOfMemory) => Status::NoMemory,
     }
 }
 
 // Runs a command.
-fn run_command<T: Texts, S: Source, K: Sink, G: Gate>(
+fn run_command<T: Texts, S: Source, K: Sink, G: Gate + Sync, R: Threads + Wait + Sync>(
+    rt: &R,
     alloc: Global,
     words: &[String],
     texts: &mut T,
@@ -189,10 +195,10 @@ fn run_command<T: Texts, S: Source, K: Sink, G: Gate>(
 {
     match read_request(alloc, words) {
         Ok(Request::Text { program, command }) => {
-            run_named(alloc, program, command, texts, trace, out, gate)
+            run_named(rt, alloc, program, command, texts, trace, out, gate)
         }
         Ok(Request::Workload { threads, running }) => {
-            run_workload_text(alloc, threads, running, out, gate)
+            run_workload_text(rt, alloc, threads, running, out, gate)
         }
         Err(WordsFault::Usage) => say(out, USAGE, Status::Usage),
         Err(WordsFault::OutOfMemory) => Status::NoMemory,
@@ -210,7 +216,8 @@ fn run_command<T: Texts, S: Source, K: Sink, G: Gate>(
 ///
 /// `run`, `threads` and `gen` place the threads on `--cores N` cores, or on one: by the list `--place L`, or balanced.
 /// What `run` and `gen` print doesn't depend on it. All other words give the usage line.
-pub fn forec<T: Texts, S: Source, K: Sink, G: Gate>(
+pub fn forec<T: Texts, S: Source, K: Sink, G: Gate + Sync, R: Threads + Wait + Sync>(
+    rt: &R,
     alloc: Global,
     words: &[String],
     texts: &mut T,
@@ -255,5 +262,5 @@ pub fn forec<T: Texts, S: Source, K: Sink, G: Gate>(
     ensures complete { (Rose (T.faults texts.old) (T.faults texts.new) → ⊥) → (Rose (S.faults trace.old) (S.faults trace.new) → ⊥)
         → (Rose (K.faults out.old) (K.faults out.new) → ⊥) → IsOwn result ⊎ (result ≡ Status.NoMemory) }
 {
-    run_command(alloc, words, texts, trace, out, gate)
+    run_command(rt, alloc, words, texts, trace, out, gate)
 }

@@ -4,14 +4,15 @@ ghost use Rattle.forec_kernel.specs.Ticks.{Fresh};
 ghost use Rattle.forec_engine.specs.Ends.{IsOwn};
 ghost use Rattle.forec_engine.specs.WaitingRoom.{HasRoom, Gains};
 ghost use Rattle.forec_engine.specs.Workload.{values_sum, zero_row, ticked_report};
-ghost use Rattle.forec_engine.specs.Following.{kernel_in, Follows, is_live, is_ready};
 
 use crate::image::Image;
 use crate::status::Status;
 use crate::ticker::Ticker;
 use crate::waiting::Waiting;
+use core_host::Serve;
 use forec_base::Gate;
 use forec_kernel::Outcome;
+use std::sync::Wait;
 
 /// How many ticks a workload runs.
 pub const WORKLOAD_TICKS: u64 = 1_000;
@@ -29,29 +30,31 @@ fn with_values(sum: u32, values: &[i32]) -> u32
 
 /// Runs the ticks of a workload of so many threads, each over a row that is 0 for each input, by a ticker that
 /// is ready. The line that tells of them waits, and the status is its.
-pub fn run_workload<G: Gate>(
-    ticker: &mut Ticker<'_>,
+pub fn run_workload<T: Ticker, O: Serve, G: Gate, R: Wait>(
+    rt: &R,
+    ticker: &mut T,
     image: &mut Image,
     threads: u32,
     budget: u64,
+    others: &mut O,
     gate: &G,
     waiting: &mut Waiting,
 ) -> Status
-    requires follows { Follows ticker.old Fresh }
-    requires live { is_live ticker.old ≡ true }
-    requires ready { is_ready ticker.old ≡ true }
-    requires zeros { image.old.inputs.items ≡ zero_row (kernel_in ticker.old) }
-    requires outputs { length image.old.outputs.items ≡ length (kernel_in ticker.old).shape.outputs }
+    requires follows { T.follows ticker.old Fresh }
+    requires live { T.live ticker.old ≡ true }
+    requires ready { T.ready ticker.old ≡ true }
+    requires zeros { image.old.inputs.items ≡ zero_row (T.kernel ticker.old) }
+    requires outputs { length image.old.outputs.items ≡ length (T.kernel ticker.old).shape.outputs }
     requires small { budget ≤ 2 ^ 62 }
     requires room { HasRoom waiting.old 128 }
     ensures own { IsOwn result }
     ensures usage { result ≢ Status.Usage }
-    ensures status { result ≡ (ticked_report threads (kernel_in ticker.old) budget).status }
-    ensures bytes { Gains waiting.old waiting.new (ticked_report threads (kernel_in ticker.old) budget).bytes }
+    ensures status { result ≡ (ticked_report threads (T.kernel ticker.old) budget).status }
+    ensures bytes { Gains waiting.old waiting.new (ticked_report threads (T.kernel ticker.old) budget).bytes }
 {
     let mut sum = 0;
     for tick in 0..WORKLOAD_TICKS {
-        let Ok(outcome) = image.tick(ticker, budget, gate) else {
+        let Ok(outcome) = image.tick(rt, ticker, budget, others, gate) else {
             unreachable!()
         };
         match outcome {

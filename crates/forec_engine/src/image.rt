@@ -6,13 +6,14 @@ ghost use Rattle.forec_base.specs.Outside.{Fell};
 ghost use Rattle.forec_base.specs.declared.limits.TheConstants.{MAX_BUDGET};
 ghost use Rattle.forec_kernel.specs.Ticks.{State, tick, goes_on};
 ghost use Rattle.core_host.specs.Outcomes.{HasOutputs};
-ghost use Rattle.forec_engine.specs.Following.{kernel_in, Follows, is_live, is_ready};
 
 use crate::found::Found;
 use crate::ticker::Ticker;
+use core_host::Serve;
 use forec_base::{Gate, OutOfMemory, Source};
 use forec_kernel::Outcome;
 use std::alloc::Global;
+use std::sync::Wait;
 use trace_rows::{Next, RowFault, Rows};
 
 /// The process image: the values of the inputs in the next tick, and those of the outputs after the last one, each in
@@ -67,26 +68,28 @@ impl Image {
     /// # Errors
     ///
     /// Want of memory, but not where the ticker is ready.
-    pub fn tick<G: Gate>(
+    pub fn tick<T: Ticker, O: Serve, G: Gate, R: Wait>(
         &mut self,
-        ticker: &mut Ticker<'_>,
+        rt: &R,
+        ticker: &mut T,
         budget: u64,
+        others: &mut O,
         gate: &G,
     ) -> Result<Outcome, OutOfMemory>
-        requires live { is_live ticker.old ≡ true }
+        requires live { T.live ticker.old ≡ true }
         requires small { budget ≤ MAX_BUDGET }
-        requires inputs { length self.old.inputs.items ≡ length (kernel_in ticker.old).shape.inputs }
-        requires outputs { length self.old.outputs.items ≡ length (kernel_in ticker.old).shape.outputs }
-        ensures kernel { kernel_in ticker.new ≡ kernel_in ticker.old }
-        ensures ready { is_ready ticker.new ≡ is_ready ticker.old }
+        requires inputs { length self.old.inputs.items ≡ length (T.kernel ticker.old).shape.inputs }
+        requires outputs { length self.old.outputs.items ≡ length (T.kernel ticker.old).shape.outputs }
+        ensures kernel { T.kernel ticker.new ≡ T.kernel ticker.old }
+        ensures ready { T.ready ticker.new ≡ T.ready ticker.old }
         ensures inputs { self.new.inputs ≡ self.old.inputs }
         ensures room { length self.new.outputs.items ≡ length self.old.outputs.items }
-        ensures outcome { IfOk result (λ o. (s : State) → Follows ticker.old s → o ≡ (tick (kernel_in ticker.old) budget s self.old.inputs.items).outcome) }
-        ensures outputs { IfOk result (λ o. (s : State) → Follows ticker.old s → HasOutputs o → self.new.outputs.items ≡ (tick (kernel_in ticker.old) budget s self.old.inputs.items).outputs) }
-        ensures follows { IfOk result (λ o. (s : State) → Follows ticker.old s → goes_on o ≡ true → Follows ticker.new (tick (kernel_in ticker.old) budget s self.old.inputs.items).state) }
-        ensures live { IfOk result (λ o. is_live ticker.new ≡ goes_on o) }
-        ensures memory { OnErr result (is_ready ticker.old ≡ false) }
+        ensures outcome { IfOk result (λ o. (s : State) → T.follows ticker.old s → o ≡ (tick (T.kernel ticker.old) budget s self.old.inputs.items).outcome) }
+        ensures outputs { IfOk result (λ o. (s : State) → T.follows ticker.old s → HasOutputs o → self.new.outputs.items ≡ (tick (T.kernel ticker.old) budget s self.old.inputs.items).outputs) }
+        ensures follows { IfOk result (λ o. (s : State) → T.follows ticker.old s → goes_on o ≡ true → T.follows ticker.new (tick (T.kernel ticker.old) budget s self.old.inputs.items).state) }
+        ensures live { IfOk result (λ o. T.live ticker.new ≡ goes_on o) }
+        ensures memory { OnErr result (T.ready ticker.old ≡ false) }
     {
-        ticker.tick(&self.inputs, budget, gate, &mut self.outputs)
+        ticker.tick(rt, &self.inputs, budget, others, gate, &mut self.outputs)
     }
 }

@@ -2,15 +2,18 @@
 #![tactic(auto)]
 
 mod answering;
+mod beside;
 mod command;
 mod found;
 mod generated;
 mod image;
 mod laws;
+mod loading;
 mod names;
 mod orders;
 mod rewriter;
 mod runner;
+mod session;
 mod sink;
 mod status;
 mod ticker;

@@ -7,10 +7,13 @@ ghost use Rattle.core_host.specs.Outcomes.{HasOutputs};
 ghost use Rattle.kernel_meaning.specs.States.{plain_state};
 
 use crate::orders::order;
-use forec_base::OutOfMemory;
+use crate::ticker::Ticker;
+use core_host::Serve;
+use forec_base::{Gate, OutOfMemory};
 use forec_kernel::{Kernel, Outcome};
 use kernel_meaning::{State, rewrite_tick};
 use std::alloc::Global;
+use std::sync::Wait;
 
 /// A program that runs by rewriting: its kernel, where it stands, the order of the steps of each tick, and whether each
 /// tick so far has paused.
@@ -47,7 +50,7 @@ impl<'k> Rewriter<'k> {
     /// # Errors
     ///
     /// Want of memory.
-    pub fn tick(
+    fn rewrite(
         &mut self,
         row: &[i32],
         budget: u64,
@@ -72,5 +75,32 @@ impl<'k> Rewriter<'k> {
         self.state = Box::new(self.alloc, state)?;
         self.live = matches!(outcome, Outcome::Paused);
         Ok(outcome)
+    }
+}
+
+impl<'k> Ticker for Rewriter<'k> {
+    ghost use Rattle.std.specs.Prelude.{◌≡◌, false};
+    ghost use Rattle.forec_kernel.specs.Shapes.{plain_kernel};
+    ghost use Rattle.kernel_meaning.specs.States.{plain_state};
+
+    ghost kernel = { λ r. plain_kernel r.kernel.now };
+
+    ghost follows = { λ r s. s ≡ plain_state r.state.value };
+
+    ghost live = { λ r. r.live };
+
+    ghost ready = { λ r. false };
+
+    fn tick<O: Serve, G: Gate, R: Wait>(
+        &mut self,
+        rt: &R,
+        row: &[i32],
+        budget: u64,
+        others: &mut O,
+        gate: &G,
+        outputs: &mut [i32],
+    ) -> Result<Outcome, OutOfMemory> {
+        let _ = rt;
+        self.rewrite(row, budget, outputs)
     }
 }

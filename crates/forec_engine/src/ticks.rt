@@ -9,19 +9,22 @@ ghost use Rattle.trace_rows.specs.Reads.{Reads, Reading};
 ghost use Rattle.forec_engine.specs.Calls.{AppendsFront};
 ghost use Rattle.forec_engine.specs.Ends.{IsOwn, Given, Wanted, ReadFor};
 ghost use Rattle.forec_engine.specs.Report.{trace_report};
-ghost use Rattle.forec_engine.specs.KernelNames.{input_names, output_names};
+ghost use Rattle.forec_engine.specs.KernelNames.{output_names};
 ghost use Rattle.forec_engine.specs.Progress.{Led, Started, UnreadSays, StartedTook, GoesOnFrom, report_rest};
-ghost use Rattle.forec_engine.specs.WaitingRoom.{HasRoom, HasTickRoom};
-ghost use Rattle.forec_engine.specs.Following.{kernel_in, Follows, is_live, is_ready};
+ghost use Rattle.forec_engine.specs.Sessions.{IsSessionOf};
+ghost use Rattle.forec_engine.specs.WaitingRoom.{HasTickRoom};
 
 use crate::found::{Found, Unread};
 use crate::image::Image;
+use crate::session::Session;
 use crate::status::Status;
 use crate::ticker::Ticker;
 use crate::waiting::Waiting;
+use core_host::Serve;
 use forec_base::{Failed, Gate, Labels, MAX_INPUTS, MAX_ROWS, OutOfMemory, Sink, Source};
 use forec_kernel::Outcome;
 use std::alloc::Global;
+use std::sync::Wait;
 use trace_rows::{RowFault, Rows};
 
 // Writes the lines that wait, where a read of the trace comes next, or the lines of a further tick don't fit.
@@ -42,39 +45,41 @@ fn send_due<K: Sink>(rows: &Rows, waiting: &mut Waiting, out: &mut K) -> Result<
 
 /// Runs a program over the rows that are left. A tick may have so many units. No read of the trace is made while the
 /// line of a tick waits.
-pub fn run_rows<S: Source, K: Sink, G: Gate>(
-    ticker: &mut Ticker<'_>,
+pub fn run_rows<S: Source, K: Sink, T: Ticker, O: Serve, G: Gate, R: Wait>(
+    rt: &R,
+    ticker: &mut T,
     image: &mut Image,
     budget: u64,
+    others: &mut O,
     gate: &G,
     rows: &mut Rows,
     waiting: &mut Waiting,
     trace: &mut S,
     out: &mut K,
 ) -> Status
-    requires follows { Follows ticker.old Fresh }
-    requires going { is_live ticker.old ≡ true }
-    requires image { length image.old.inputs.items ≡ length (kernel_in ticker.old).shape.inputs }
-    requires outputs { length image.old.outputs.items ≡ length (kernel_in ticker.old).shape.outputs }
+    requires follows { T.follows ticker.old Fresh }
+    requires going { T.live ticker.old ≡ true }
+    requires image { length image.old.inputs.items ≡ length (T.kernel ticker.old).shape.inputs }
+    requires outputs { length image.old.outputs.items ≡ length (T.kernel ticker.old).shape.outputs }
     requires small { budget ≤ 2 ^ 62 }
     requires none { waiting.old.bytes.items ≡ [] }
-    requires names { waiting.old.names ≡ output_names (kernel_in ticker.old) }
+    requires names { waiting.old.names ≡ output_names (T.kernel ticker.old) }
     requires limit { rows.old.limit ≡ MAX_ROWS }
     requires number { rows.old.given ≡ 0 }
-    requires inputs { length (rows.old.places) ≡ length (kernel_in ticker.old).shape.inputs }
+    requires inputs { length (rows.old.places) ≡ length (T.kernel ticker.old).shape.inputs }
     requires live { rows.old.live ≡ true }
     requires ended { rows.old.ended ≡ true → IsAtEnd (S.left trace.old) }
     ensures own { IsOwn result → IfSome (S.left trace.old)
-        (λ x. Given (report_rest (kernel_in ticker.old) budget rows.old x) result (K.held out.old) (K.held out.new)) }
+        (λ x. Given (report_rest (T.kernel ticker.old) budget rows.old x) result (K.held out.old) (K.held out.new)) }
     ensures read { result ≡ Status.ReadFault → Fell (S.faults trace.old) (S.faults trace.new) (S.down trace.new)
         × ((bytes : List ℕ) × Appends (K.held out.old) (K.held out.new) bytes
-        × IfTold (S.left trace.old) (S.left trace.new) (Led (kernel_in ticker.old) budget rows.old bytes)) }
+        × IfTold (S.left trace.old) (S.left trace.new) (Led (T.kernel ticker.old) budget rows.old bytes)) }
     ensures write { result ≡ Status.WriteFault → Fell (K.faults out.old) (K.faults out.new) (K.down out.new)
         × IfSome (S.left trace.old) (λ x. AppendsFront (K.held out.old) (K.held out.new)
-        (report_rest (kernel_in ticker.old) budget rows.old x).bytes) }
-    ensures trace { (given : List ℕ) × Reads S.left S.faults S.down (GoesOnFrom (kernel_in ticker.old) budget rows.old) trace.old given trace.new }
-    ensures memory { result ≡ Status.NoMemory → (is_ready ticker.old ≡ false)
-        × IfSome (S.left trace.old) (λ x. AppendsFront (K.held out.old) (K.held out.new) (report_rest (kernel_in ticker.old) budget rows.old x).bytes) }
+        (report_rest (T.kernel ticker.old) budget rows.old x).bytes) }
+    ensures trace { (given : List ℕ) × Reads S.left S.faults S.down (GoesOnFrom (T.kernel ticker.old) budget rows.old) trace.old given trace.new }
+    ensures memory { result ≡ Status.NoMemory → (T.ready ticker.old ≡ false)
+        × IfSome (S.left trace.old) (λ x. AppendsFront (K.held out.old) (K.held out.new) (report_rest (T.kernel ticker.old) budget rows.old x).bytes) }
     ensures usage { result ≢ Status.Usage }
 {
     let mut row = 1;
@@ -94,7 +99,7 @@ pub fn run_rows<S: Source, K: Sink, G: Gate>(
             }
             Found::Row => {}
         }
-        let Ok(outcome) = image.tick(ticker, budget, gate) else {
+        let Ok(outcome) = image.tick(rt, ticker, budget, others, gate) else {
             return waiting.finish(out, Status::NoMemory);
         };
         waiting.put_outcome(row, outcome, &image.outputs, budget);
@@ -127,46 +132,51 @@ fn start_rows<S: Source>(alloc: Global, trace: &mut S, inputs: &Labels) -> Resul
     }
 }
 
-/// Reads the header, and runs over the rows.
-pub fn run<S: Source, K: Sink, G: Gate>(
+/// Reads the header, and runs over the rows. Nothing was run before.
+pub fn run<S: Source, K: Sink, T: Ticker, O: Serve, G: Gate, R: Wait>(
+    rt: &R,
     alloc: Global,
-    inputs: &Labels,
-    ticker: &mut Ticker<'_>,
-    image: &mut Image,
-    budget: u64,
+    session: &mut Session,
+    ticker: &mut T,
+    others: &mut O,
     gate: &G,
-    waiting: &mut Waiting,
     trace: &mut S,
     out: &mut K,
 ) -> Status
-    requires inputs { inputs.now ≡ input_names (kernel_in ticker.old) }
-    requires few { length inputs.now ≤ MAX_INPUTS }
-    requires follows { Follows ticker.old Fresh }
-    requires going { is_live ticker.old ≡ true }
-    requires image { length image.old.inputs.items ≡ length (kernel_in ticker.old).shape.inputs }
-    requires outputs { length image.old.outputs.items ≡ length (kernel_in ticker.old).shape.outputs }
-    requires small { budget ≤ 2 ^ 62 }
-    requires none { waiting.old.bytes.items ≡ [] }
-    requires ample { HasRoom waiting.old 128 }
-    requires names { waiting.old.names ≡ output_names (kernel_in ticker.old) }
+    requires session { IsSessionOf (T.kernel ticker.old) session.old }
+    requires follows { T.follows ticker.old Fresh }
+    requires going { T.live ticker.old ≡ true }
     ensures own { IsOwn result → IfSome (S.left trace.old)
-        (λ x. Given (trace_report (kernel_in ticker.old) budget x) result (K.held out.old) (K.held out.new)) }
+        (λ x. Given (trace_report (T.kernel ticker.old) session.old.budget x) result (K.held out.old) (K.held out.new)) }
     ensures read { result ≡ Status.ReadFault → Fell (S.faults trace.old) (S.faults trace.new) (S.down trace.new)
-        × Wanted (kernel_in ticker.old) budget (S.left trace.old) (S.left trace.new) (K.held out.old) (K.held out.new) }
+        × Wanted (T.kernel ticker.old) session.old.budget (S.left trace.old) (S.left trace.new) (K.held out.old) (K.held out.new) }
     ensures write { result ≡ Status.WriteFault → Fell (K.faults out.old) (K.faults out.new) (K.down out.new)
-        × IfSome (S.left trace.old) (λ x. AppendsFront (K.held out.old) (K.held out.new) (trace_report (kernel_in ticker.old) budget x).bytes) }
-    ensures trace { ReadFor S.left S.faults S.down (kernel_in ticker.old) budget trace.old trace.new }
-    ensures memory { result ≡ Status.NoMemory → IfSome (S.left trace.old) (λ x. AppendsFront (K.held out.old) (K.held out.new) (trace_report (kernel_in ticker.old) budget x).bytes) }
-    ensures ready { is_ready ticker.old ≡ true → result ≡ Status.NoMemory → K.held out.new ≡ K.held out.old }
+        × IfSome (S.left trace.old) (λ x. AppendsFront (K.held out.old) (K.held out.new) (trace_report (T.kernel ticker.old) session.old.budget x).bytes) }
+    ensures trace { ReadFor S.left S.faults S.down (T.kernel ticker.old) session.old.budget trace.old trace.new }
+    ensures memory { result ≡ Status.NoMemory → IfSome (S.left trace.old) (λ x. AppendsFront (K.held out.old) (K.held out.new) (trace_report (T.kernel ticker.old) session.old.budget x).bytes) }
+    ensures ready { T.ready ticker.old ≡ true → result ≡ Status.NoMemory → K.held out.new ≡ K.held out.old }
     ensures usage { result ≢ Status.Usage }
 {
-    match start_rows(alloc, trace, inputs) {
-        Ok(mut rows) => run_rows(ticker, image, budget, gate, &mut rows, waiting, trace, out),
+    match start_rows(alloc, trace, &session.inputs) {
+        Ok(mut rows) => {
+            run_rows(
+                rt,
+                ticker,
+                &mut session.image,
+                session.budget,
+                others,
+                gate,
+                &mut rows,
+                &mut session.waiting,
+                trace,
+                out,
+            )
+        }
         Err(Unread::OutOfMemory) => Status::NoMemory,
         Err(Unread::Failed) => Status::ReadFault,
         Err(Unread::Stops(fault)) => {
-            waiting.put_row(0, fault);
-            waiting.finish(out, Status::Trace)
+            session.waiting.put_row(0, fault);
+            session.waiting.finish(out, Status::Trace)
         }
     }
 }

@@ -205,7 +205,8 @@ impl Waiting {
             Refusal::Long => self.put(b"refused long\n"),
             Refusal::Lex { place } => self.put_refused_at(place, b" lex\n"),
             Refusal::Many { place } => self.put_refused_at(place, b" many\n"),
-            Refusal::Syntax => self.put(b"refused syntax\n"),
+            Refusal::Syntax { place } => self.put_refused_at(place, b" syntax\n"),
+            Refusal::Deep { place } => self.put_refused_at(place, b" deep\n"),
             Refusal::Rule { place, rule } => self.put_broken(place, rule),
             Refusal::Limit { what, count } => self.put_limit(what, count),
         }

@@ -10,10 +10,11 @@ use crate::input::Input;
 use crate::output::Output;
 use forec_base::{OpenGate, OutOfMemory};
 use forec_engine::{Status, forec};
-use std::io::ErrorKind;
+use std::io::{ErrorKind, Read};
 use std::process::ExitCode;
-use std::rt::Env;
-use std::thread::{self, Builder};
+use std::rt::{Env, Files as FilesOf};
+use std::sync::Wait;
+use std::thread::{self, Builder, Threads};
 use std::{env, io};
 
 // The command runs in a thread with so many bytes of stack: the statements of a program stand in one another up to
@@ -31,11 +32,16 @@ fn words(rt: &(impl Env + AllocGlobal)) -> Result<Vec<String>, OutOfMemory> {
 }
 
 // Runs the command that the words are, over standard input, standard output and files.
-fn run(rt: &HostRuntime, words: &[String]) -> Status {
+fn run(
+    rt: &(impl AllocGlobal + FilesOf + Print + Threads + Wait + Sync),
+    words: &[String],
+    reader: impl Read + Drop,
+) -> Status {
     let mut texts = Files::new(rt);
-    let mut trace = Input::new(rt.stdin());
+    let mut trace = Input::new(reader);
     let mut out = Output::new(io::writer(rt));
     forec(
+        rt,
         rt.alloc(),
         words,
         &mut texts,
@@ -52,10 +58,10 @@ fn main(rt: HostRuntime) -> ExitCode {
     let status = thread::scope(thread::scope_env(), &rt, |scope| {
         match Builder::new()
             .stack_size(STACK)
-            .spawn_scoped(scope, || run(&rt, &words))
+            .spawn_scoped(scope, || run(&rt, &words, rt.stdin()))
         {
             Ok(handle) => handle.join(&rt),
-            Err(_) => run(&rt, &words),
+            Err(_) => run(&rt, &words, rt.stdin()),
         }
     });
     ExitCode::from(status.number())

@@ -37,7 +37,7 @@ void main(void) { while (1) { weak abort { par(a, b); } when (r); pause; } }
 ";
 
 // Two sensors and two motors, each a thread, and an emergency stop.
-const ROBOT: &[u8] = b"/* Two distance sensors, two motors, an emergency stop. */
+pub const ROBOT: &[u8] = b"/* Two distance sensors, two motors, an emergency stop. */
 input int left, right, stop;
 shared output int motor_l = 0 combine mod with lower;
 shared output int motor_r = 0 combine mod with lower;
@@ -97,7 +97,7 @@ void main(void) {
 }
 ";
 
-const DRIVE: &[u8] = b"left right stop
+pub const DRIVE: &[u8] = b"left right stop
 100 100 0
 30 100 0
 30 20 0
@@ -106,7 +106,7 @@ const DRIVE: &[u8] = b"left right stop
 8 45 0
 ";
 
-const DRIVEN: &[u8] = b"tick 1 motor_l=40 motor_r=40 alarm=0
+pub const DRIVEN: &[u8] = b"tick 1 motor_l=40 motor_r=40 alarm=0
 tick 2 motor_l=50 motor_r=50 alarm=0
 tick 3 motor_l=30 motor_r=15 alarm=0
 tick 4 motor_l=0 motor_r=0 alarm=1

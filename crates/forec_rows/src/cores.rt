@@ -6,14 +6,14 @@ use std::test::Fail;
 
 const COUNTER: &[u8] = b"output int o = 0; void main(void) { while (1) { o = o + 1; pause; } }";
 
-const ADDS: &[u8] = b"shared output int s = 1 combine all with plus;
+pub const ADDS: &[u8] = b"shared output int s = 1 combine all with plus;
 int plus(int x, int y) { return x + y; }
 void a(void) { s = s + 1; pause; }
 void b(void) { s = s + 2; pause; }
 void main(void) { par(a, b); }
 ";
 
-const ADDED: &[u8] = b"tick 1 s=5\ntick 2 s=10\nend 2\n";
+pub const ADDED: &[u8] = b"tick 1 s=5\ntick 2 s=10\nend 2\n";
 
 const LISTED: &[u8] = b"thread 0 parent - name main core 0 weight 1
 thread 1 parent 0 name a core 0 weight 5

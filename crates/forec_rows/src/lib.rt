@@ -4,6 +4,8 @@
 #[cfg(test)]
 mod aborts;
 #[cfg(test)]
+mod beside;
+#[cfg(test)]
 mod branches;
 #[cfg(test)]
 mod cores;
@@ -15,3 +17,7 @@ mod memory;
 mod one_thread;
 #[cfg(test)]
 mod rows;
+#[cfg(test)]
+mod streams;
+#[cfg(test)]
+mod waits;

@@ -1,10 +1,13 @@
 // The top call over stores in memory.
+ghost use Rattle.std.specs.Prelude.{ℕ, List};
 
-use forec_base::{Gate, MemSink, MemSource, MemTexts, NamedText, OpenGate};
+use forec_base::{Gate, MemSink, MemSource, MemTexts, NamedText, OpenGate, Sink, Source, Texts};
 use forec_engine::{Status, forec};
 use std::alloc::Global;
 use std::process::Abort;
+use std::sync::Wait;
 use std::test::Fail;
+use std::thread::Threads;
 
 /// How streams behave: the most bytes of a read and of a write, and the numbers of the calls that fail.
 #[derive(Drop)]
@@ -42,9 +45,38 @@ pub fn single(alloc: Global, read: u64, write: u64) -> Result<Streams, Fail> {
     })
 }
 
+/// Does what words ask: the one place that makes the top call.
+pub fn ask<R: Threads + Wait + Sync, T: Texts, S: Source, K: Sink, G: Gate + Sync>(
+    rt: &R,
+    alloc: Global,
+    words: &[&str],
+    texts: &mut T,
+    trace: &mut S,
+    out: &mut K,
+    gate: &G,
+) -> Result<Status, Fail>
+    requires { (name : List ℕ) → T.may texts.old name }
+{
+    let mut owned = Vec::new(alloc);
+    for word in words {
+        owned.push(String::from_str(alloc, word)?)?;
+    }
+    Ok(forec(rt, alloc, &owned, texts, trace, out, gate))
+}
+
+/// A store with one text, named `P`.
+pub fn store(alloc: Global, text: &[u8]) -> Result<MemTexts, Fail> {
+    let mut files = Vec::new(alloc);
+    files.push(NamedText {
+        name: String::from_str(alloc, "P")?,
+        bytes: text.to_vec(alloc)?,
+    })?;
+    Ok(MemTexts::new(files, Vec::new(alloc)))
+}
+
 /// Runs words over a store with one text, named `P`.
 pub fn run(
-    rt: &impl Abort,
+    rt: &(impl Abort + Threads + Wait + Sync),
     alloc: Global,
     words: &[&str],
     text: &[u8],
@@ -55,8 +87,8 @@ pub fn run(
 }
 
 /// The same, where each job passes a gate.
-pub fn run_past<G: Gate>(
-    rt: &impl Abort,
+pub fn run_past<G: Gate + Sync>(
+    rt: &(impl Abort + Threads + Wait + Sync),
     alloc: Global,
     words: &[&str],
     text: &[u8],
@@ -65,19 +97,10 @@ pub fn run_past<G: Gate>(
     gate: &G,
 ) -> Result<Ended, Fail> {
     assert!(rt; streams.read > 0 && streams.write > 0);
-    let mut owned = Vec::new(alloc);
-    for word in words {
-        owned.push(String::from_str(alloc, word)?)?;
-    }
-    let mut files = Vec::new(alloc);
-    files.push(NamedText {
-        name: String::from_str(alloc, "P")?,
-        bytes: text.to_vec(alloc)?,
-    })?;
-    let mut texts = MemTexts::new(files, Vec::new(alloc));
+    let mut texts = store(alloc, text)?;
     let mut source = MemSource::pieces(trace.to_vec(alloc)?, streams.read_fails, streams.read);
     let mut sink = MemSink::pieces(alloc, 200_000, streams.write_fails, streams.write)?;
-    let status = forec(alloc, &owned, &mut texts, &mut source, &mut sink, gate);
+    let status = ask(rt, alloc, words, &mut texts, &mut source, &mut sink, gate)?;
     Ok(Ended {
         held: sink.bytes().to_vec(alloc)?,
         status,
@@ -86,7 +109,7 @@ pub fn run_past<G: Gate>(
 
 /// Runs words over a store with one text, named `P`: this is held in the end, and this is the status.
 pub fn shows(
-    rt: &impl Abort,
+    rt: &(impl Abort + Threads + Wait + Sync),
     alloc: Global,
     words: &[&str],
     text: &[u8],
@@ -103,7 +126,11 @@ pub fn shows(
 pub type Row = (&'static [u8], &'static [u8], &'static [u8], Status);
 
 /// Runs the text of each row over its trace, once by large pieces and once by single bytes.
-pub fn prints_each(rt: &impl Abort, alloc: Global, rows: &[Row]) -> Result<(), Fail> {
+pub fn prints_each(
+    rt: &(impl Abort + Threads + Wait + Sync),
+    alloc: Global,
+    rows: &[Row],
+) -> Result<(), Fail> {
     for (text, trace, want, status) in rows {
         for streams in [whole(alloc), single(alloc, 0, 0)?] {
             shows(
@@ -122,7 +149,7 @@ pub fn prints_each(rt: &impl Abort, alloc: Global, rows: &[Row]) -> Result<(), F
 
 /// Judges a text: this is held in the end. The trace would fail at its first read.
 pub fn counts(
-    rt: &impl Abort,
+    rt: &(impl Abort + Threads + Wait + Sync),
     alloc: Global,
     text: &[u8],
     want: (&[u8], Status),

@@ -1,8 +1,8 @@
-// Programs of one thread, the words, the sizes, and how it ends where streams fail.
+// Programs of one thread, the words, and the sizes.
 
-use crate::memory::{Row, counts, prints_each, run, shows, single, whole};
+use crate::memory::{Row, ask, counts, prints_each, run, shows, single, whole};
 use forec_base::{MemSink, OpenGate, SureSource, SureTexts};
-use forec_engine::{Status, forec};
+use forec_engine::Status;
 use std::test::Fail;
 
 // One output, which a loop raises in each tick.
@@ -32,7 +32,7 @@ const NUMBERS: &[u8] =
 const FACTORIAL: &[u8] =
     b"int f(int n) { int r = 1; for (int i = 2; i <= n; i++) #20 { r *= i; } return r; } output int o = 0; void main(void) { o = f(13); }";
 
-const ROWS: [Row; 23] = [
+const ROWS: [Row; 25] = [
     (
         COUNTER,
         b"\n\n\n",
@@ -56,6 +56,18 @@ const ROWS: [Row; 23] = [
         b"b a\n3 5\n3\n",
         b"tick 1 o=2\nrow 2 bad\n",
         Status::Trace,
+    ),
+    (
+        DIFFERENCE,
+        b"b a\n3 5\n3 ",
+        b"tick 1 o=2\nrow 2 bad\n",
+        Status::Trace,
+    ),
+    (
+        DIFFERENCE,
+        b"b a\n3 5\n1 2",
+        b"tick 1 o=2\ntick 2 o=1\nrows 2\n",
+        Status::Done,
     ),
     (
         DIFFERENCE,
@@ -111,7 +123,7 @@ const ROWS: [Row; 23] = [
     (
         b"output int o = 0; void main(void) { o = ; }",
         b"",
-        b"refused syntax\n",
+        b"refused 1:41 syntax\n",
         Status::Refused,
     ),
     (b"int @", b"", b"refused 1:5 lex\n", Status::Refused),
@@ -227,7 +239,7 @@ fn words(rt: HostRuntime) -> Result<(), Fail> {
 const TEXTS: [(u8, usize, &[u8]); 4] = [
     (b' ', 1_048_576, b"refused 1:1 rule 3\n"),
     (b' ', 1_048_577, b"refused long\n"),
-    (b';', 200_000, b"refused syntax\n"),
+    (b';', 200_000, b"refused 1:1 syntax\n"),
     (b';', 200_001, b"refused 1:200001 many\n"),
 ];
 
@@ -263,45 +275,6 @@ fn sizes(rt: HostRuntime) -> Result<(), Fail> {
     Ok(())
 }
 
-/// The numbers of the read and of the write that fails, or 0; what is held in the end, and the status.
-const FAILS: [(u64, u64, &[u8], Status); 9] = [
-    (1, 0, b"", Status::ReadFault),
-    (2, 0, b"", Status::ReadFault),
-    (3, 0, b"tick 1 o=1\n", Status::ReadFault),
-    (4, 0, b"tick 1 o=1\ntick 2 o=2\n", Status::ReadFault),
-    (5, 0, b"tick 1 o=1\ntick 2 o=2\nrows 2\n", Status::Done),
-    (0, 1, b"", Status::WriteFault),
-    (0, 12, b"tick 1 o=1\n", Status::WriteFault),
-    (3, 11, b"tick 1 o=1", Status::WriteFault),
-    (3, 12, b"tick 1 o=1\n", Status::ReadFault),
-];
-
-const REPORT: &[u8] = b"tick 1 o=1\ntick 2 o=2\nrows 2\n";
-
-#[test]
-fn failing_streams(rt: HostRuntime) -> Result<(), Fail> {
-    let alloc = rt.alloc();
-    let words = ["run", "P"];
-    for (read, write, want, status) in &FAILS {
-        let streams = single(alloc, *read, *write)?;
-        shows(
-            &rt,
-            alloc,
-            &words,
-            COUNTER,
-            b"\n\n\n",
-            streams,
-            (want, *status),
-        )?;
-    }
-    for written in 0..REPORT.len() {
-        let streams = single(alloc, 0, written as u64 + 1)?;
-        let front = (&REPORT[..written], Status::WriteFault);
-        shows(&rt, alloc, &words, COUNTER, b"\n\n\n", streams, front)?;
-    }
-    Ok(())
-}
-
 /// A text, the word of its budget, what is held in the end, and the status: the first row is the last.
 const LAST: [(&[u8], &str, &[u8], Status); 3] = [
     (WRAPS, "100", b"tick 1 o=-2147483648\nend 1\n", Status::Done),
@@ -333,13 +306,13 @@ fn reads_no_further(rt: HostRuntime) -> Result<(), Fail> {
 #[test]
 fn sure_stores(rt: HostRuntime) -> Result<(), Fail> {
     let alloc = rt.alloc();
-    let mut words = Vec::new(alloc);
-    words.push(String::from_str(alloc, "run")?)?;
-    words.push(String::from_str(alloc, "any name")?)?;
     let mut texts = SureTexts::new(WRAPS.to_vec(alloc)?);
     let mut trace = SureSource::new(b"\n\n".to_vec(alloc)?);
     let mut out = MemSink::new(alloc, 100, Vec::new(alloc))?;
-    let status = forec(alloc, &words, &mut texts, &mut trace, &mut out, &OpenGate);
+    let words = ["run", "any name"];
+    let status = ask(
+        &rt, alloc, &words, &mut texts, &mut trace, &mut out, &OpenGate,
+    )?;
     let report = b"tick 1 o=-2147483648\nend 1\n".as_slice();
     assert_eq!(rt; (out.bytes(), status), (report, Status::Done));
     Ok(())

@@ -5,14 +5,5 @@ use Rattle.forec_engine.proofs.answering.explain.Goals as goal
 pub returns-in_default-clause-trace : goal.returns-in_default-clause-trace
 returns-in_default-clause-trace g c = ([], none)
 
-pub returns-in_default-pick_names-clause-trace : goal.returns-in_default-pick_names-clause-trace
-returns-in_default-pick_names-clause-trace g c = ([], none)
-
 pub returns-in_default-new-clause-trace : goal.returns-in_default-new-clause-trace
 returns-in_default-new-clause-trace g c = ([], none)
-
-pub returns-in_default-new-2-clause-trace : goal.returns-in_default-new-2-clause-trace
-returns-in_default-new-2-clause-trace g c = ([], none)
-
-pub returns-in_default-new-3-clause-trace : goal.returns-in_default-new-3-clause-trace
-returns-in_default-new-3-clause-trace g c = ([], none)

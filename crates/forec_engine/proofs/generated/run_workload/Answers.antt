@@ -8,13 +8,12 @@ use Rattle.forec_engine.specs.WaitingRoom.{HasRoom}
 use Rattle.forec_engine.specs.Workload.{workload_line}
 use Rattle.forec_engine.specs.declared.waiting.Waiting.{Waiting}
 use Rattle.forec_engine.proofs.Ticking.{gone_none, gone_more, stopped, number, total_is, ended, same_outcome, same_outputs, same_state, gains_report}
-use Rattle.forec_engine.specs.Following.{kernel_in, Follows}
 use Rattle.forec_engine.proofs.generated.run_workload.Goals as goal
 
 pub loop-tick-init : goal.loop-tick-init
 loop-tick-init g c =
     record {
-      gone = gone_none (kernel_in c.args.ticker.now) c.args.budget (Follows c.args.ticker.now) c.requires.follows;
+      gone = gone_none (g.T.Ticker.kernel c.args.ticker.now) c.args.budget (g.T.Ticker.follows c.args.ticker.now) c.requires.follows;
       kernel = refl;
       live = c.requires.live;
       ready = c.requires.ready;
@@ -32,17 +31,17 @@ put_workload-requires-2 g c = subst (λ (w : Waiting). HasRoom w 128) (sym c.loo
 pub loop-tick-preserved : goal.loop-tick-preserved
 loop-tick-preserved g c =
     let i = c.loop-tick.invariant in
-    let k = kernel_in c.args.ticker.now in
-    let now = kernel_in c.loop-tick.ticker in
+    let k = g.T.Ticker.kernel c.args.ticker.now in
+    let now = g.T.Ticker.kernel c.loop-tick.ticker in
     let count = c.loop-tick.tick in
-    let F : State → Type 0 = Follows c.loop-tick.ticker in
+    let F : State → Type 0 = g.T.Ticker.follows c.loop-tick.ticker in
     let s = i.gone.state in
     let row = c.loop-tick.image.inputs.items in
     let how = same_outcome k now c.args.budget s row i.kernel i.row c.in-Ok.outcome outcome.Paused (c.in-Ok.ensures.outcome s i.gone.follows) c.in-Paused.is in
     let has = subst HasOutputs (sym c.in-Paused.is) tt in
     let values = same_outputs k now c.args.budget s row i.kernel i.row c.deref.result.now (c.deref.ensures.value ∙ c.in-Ok.ensures.outputs s i.gone.follows has) in
     let on = ap goes_on c.in-Paused.is in
-    let F' : State → Type 0 = Follows c.tick.new.ticker in
+    let F' : State → Type 0 = g.T.Ticker.follows c.tick.new.ticker in
     let state = same_state k now c.args.budget s row i.kernel i.row F' (c.in-Ok.ensures.follows s i.gone.follows on) in
     record {
       gone = gone_more k c.args.budget F count c.loop-tick.sum i.gone F' c.deref.result.now c.with_values-sum.result c.loop-tick-test.true (sym how) values c.with_values-sum.ensures state;
@@ -57,10 +56,10 @@ loop-tick-preserved g c =
 pub returns-in-Ended-clause-status : goal.returns-in-Ended-clause-status
 returns-in-Ended-clause-status g c =
     let i = c.loop-tick.invariant in
-    let k = kernel_in c.args.ticker.now in
-    let now = kernel_in c.loop-tick.ticker in
+    let k = g.T.Ticker.kernel c.args.ticker.now in
+    let now = g.T.Ticker.kernel c.loop-tick.ticker in
     let count = c.loop-tick.tick in
-    let F : State → Type 0 = Follows c.loop-tick.ticker in
+    let F : State → Type 0 = g.T.Ticker.follows c.loop-tick.ticker in
     let s = i.gone.state in
     let row = c.loop-tick.image.inputs.items in
     let how = same_outcome k now c.args.budget s row i.kernel i.row c.in-Ok.outcome outcome.Ended (c.in-Ok.ensures.outcome s i.gone.follows) c.in-Ended.is in
@@ -69,10 +68,10 @@ returns-in-Ended-clause-status g c =
 pub returns-in-Ended-clause-bytes : goal.returns-in-Ended-clause-bytes
 returns-in-Ended-clause-bytes g c =
     let i = c.loop-tick.invariant in
-    let k = kernel_in c.args.ticker.now in
-    let now = kernel_in c.loop-tick.ticker in
+    let k = g.T.Ticker.kernel c.args.ticker.now in
+    let now = g.T.Ticker.kernel c.loop-tick.ticker in
     let count = c.loop-tick.tick in
-    let F : State → Type 0 = Follows c.loop-tick.ticker in
+    let F : State → Type 0 = g.T.Ticker.follows c.loop-tick.ticker in
     let s = i.gone.state in
     let row = c.loop-tick.image.inputs.items in
     let how = same_outcome k now c.args.budget s row i.kernel i.row c.in-Ok.outcome outcome.Ended (c.in-Ok.ensures.outcome s i.gone.follows) c.in-Ended.is in
@@ -85,10 +84,10 @@ returns-in-Ended-clause-bytes g c =
 pub returns-in-Trapped-clause-status : goal.returns-in-Trapped-clause-status
 returns-in-Trapped-clause-status g c =
     let i = c.loop-tick.invariant in
-    let k = kernel_in c.args.ticker.now in
-    let now = kernel_in c.loop-tick.ticker in
+    let k = g.T.Ticker.kernel c.args.ticker.now in
+    let now = g.T.Ticker.kernel c.loop-tick.ticker in
     let count = c.loop-tick.tick in
-    let F : State → Type 0 = Follows c.loop-tick.ticker in
+    let F : State → Type 0 = g.T.Ticker.follows c.loop-tick.ticker in
     let s = i.gone.state in
     let row = c.loop-tick.image.inputs.items in
     let how = same_outcome k now c.args.budget s row i.kernel i.row c.in-Ok.outcome (outcome.Trapped c.in-Trapped.place c.in-Trapped.trap) (c.in-Ok.ensures.outcome s i.gone.follows) c.in-Trapped.is in
@@ -97,10 +96,10 @@ returns-in-Trapped-clause-status g c =
 pub returns-in-Trapped-clause-bytes : goal.returns-in-Trapped-clause-bytes
 returns-in-Trapped-clause-bytes g c =
     let i = c.loop-tick.invariant in
-    let k = kernel_in c.args.ticker.now in
-    let now = kernel_in c.loop-tick.ticker in
+    let k = g.T.Ticker.kernel c.args.ticker.now in
+    let now = g.T.Ticker.kernel c.loop-tick.ticker in
     let count = c.loop-tick.tick in
-    let F : State → Type 0 = Follows c.loop-tick.ticker in
+    let F : State → Type 0 = g.T.Ticker.follows c.loop-tick.ticker in
     let s = i.gone.state in
     let row = c.loop-tick.image.inputs.items in
     let how = same_outcome k now c.args.budget s row i.kernel i.row c.in-Ok.outcome (outcome.Trapped c.in-Trapped.place c.in-Trapped.trap) (c.in-Ok.ensures.outcome s i.gone.follows) c.in-Trapped.is in
@@ -111,10 +110,10 @@ returns-in-Trapped-clause-bytes g c =
 pub returns-in-Over-clause-status : goal.returns-in-Over-clause-status
 returns-in-Over-clause-status g c =
     let i = c.loop-tick.invariant in
-    let k = kernel_in c.args.ticker.now in
-    let now = kernel_in c.loop-tick.ticker in
+    let k = g.T.Ticker.kernel c.args.ticker.now in
+    let now = g.T.Ticker.kernel c.loop-tick.ticker in
     let count = c.loop-tick.tick in
-    let F : State → Type 0 = Follows c.loop-tick.ticker in
+    let F : State → Type 0 = g.T.Ticker.follows c.loop-tick.ticker in
     let s = i.gone.state in
     let row = c.loop-tick.image.inputs.items in
     let how = same_outcome k now c.args.budget s row i.kernel i.row c.in-Ok.outcome outcome.Over (c.in-Ok.ensures.outcome s i.gone.follows) c.in-Over.is in
@@ -123,10 +122,10 @@ returns-in-Over-clause-status g c =
 pub returns-in-Over-clause-bytes : goal.returns-in-Over-clause-bytes
 returns-in-Over-clause-bytes g c =
     let i = c.loop-tick.invariant in
-    let k = kernel_in c.args.ticker.now in
-    let now = kernel_in c.loop-tick.ticker in
+    let k = g.T.Ticker.kernel c.args.ticker.now in
+    let now = g.T.Ticker.kernel c.loop-tick.ticker in
     let count = c.loop-tick.tick in
-    let F : State → Type 0 = Follows c.loop-tick.ticker in
+    let F : State → Type 0 = g.T.Ticker.follows c.loop-tick.ticker in
     let s = i.gone.state in
     let row = c.loop-tick.image.inputs.items in
     let how = same_outcome k now c.args.budget s row i.kernel i.row c.in-Ok.outcome outcome.Over (c.in-Ok.ensures.outcome s i.gone.follows) c.in-Over.is in
@@ -137,15 +136,15 @@ returns-in-Over-clause-bytes g c =
 pub returns-clause-status : goal.returns-clause-status
 returns-clause-status g c =
     let i = c.loop-tick.invariant in
-    let F : State → Type 0 = Follows c.loop-tick.ticker in
-    sym (ap (λ (r : Report). r.status) (ended (kernel_in c.args.ticker.now) c.args.budget F c.loop-tick.tick c.loop-tick.sum i.gone c.args.threads c.loop-tick-test.false))
+    let F : State → Type 0 = g.T.Ticker.follows c.loop-tick.ticker in
+    sym (ap (λ (r : Report). r.status) (ended (g.T.Ticker.kernel c.args.ticker.now) c.args.budget F c.loop-tick.tick c.loop-tick.sum i.gone c.args.threads c.loop-tick-test.false))
 
 pub returns-clause-bytes : goal.returns-clause-bytes
 returns-clause-bytes g c =
     let i = c.loop-tick.invariant in
-    let F : State → Type 0 = Follows c.loop-tick.ticker in
+    let F : State → Type 0 = g.T.Ticker.follows c.loop-tick.ticker in
     gains_report c.loop-tick.waiting c.args.waiting.now c.put_workload-2.new.self (workload_line c.args.threads c.loop-tick.sum) _ _ i.waits
-    (ended (kernel_in c.args.ticker.now) c.args.budget F c.loop-tick.tick c.loop-tick.sum i.gone c.args.threads c.loop-tick-test.false) (ap (workload_line c.args.threads) i.gone.summed) c.put_workload-2.ensures
+    (ended (g.T.Ticker.kernel c.args.ticker.now) c.args.budget F c.loop-tick.tick c.loop-tick.sum i.gone c.args.threads c.loop-tick-test.false) (ap (workload_line c.args.threads) i.gone.summed) c.put_workload-2.ensures
 
 pub put_trap-requires : goal.put_trap-requires
 put_trap-requires g c = let room = subst (λ (w : Waiting). HasRoom w 128) (sym c.loop-tick.invariant.waits) c.requires.room in omega (arith, room)

@@ -7,16 +7,15 @@ use Rattle.forec_engine.specs.declared.status.Status.TheVariants as status
 use Rattle.forec_engine.proofs.Asking.{asked_start, asked_last, asked_more}
 use Rattle.forec_engine.proofs.Running.{Run, Reached, reached_start, reached_sent, reached_more, row_within, waited, at_end, at_fault, own_all, front_all, front_now, front_whole, not_read, not_write, stop_own, stop_front, failed, fell_since, stop_status}
 use Rattle.forec_engine.proofs.TickLines.{put_tick_lines}
-use Rattle.forec_engine.specs.Following.{kernel_in, Follows}
 use Rattle.forec_engine.proofs.ticks.run_rows.Goals as goal
 
 pub ticks-init : goal.ticks-init
 ticks-init g c =
-    let run : Run = record { kernel = kernel_in c.args.ticker.now; budget = c.args.budget; first = c.args.rows.now } in
+    let run : Run = record { kernel = g.T.Ticker.kernel c.args.ticker.now; budget = c.args.budget; first = c.args.rows.now } in
     record {
-      reached = reached_start run (Follows c.args.ticker.now) (g.S.Source.left c.args.trace.now) (g.K.Sink.held c.args.out.now) c.args.waiting.now.bytes.items c.requires.follows
+      reached = reached_start run (g.T.Ticker.follows c.args.ticker.now) (g.S.Source.left c.args.trace.now) (g.K.Sink.held c.args.out.now) c.args.waiting.now.bytes.items c.requires.follows
           (record { limit = c.requires.limit; places = refl; number = ap (λ n. n + 1) c.requires.number }) c.requires.none;
-      asked = asked_start g.S.Source.left g.S.Source.faults g.S.Source.down run (Follows c.args.ticker.now) c.args.trace.now c.requires.follows;
+      asked = asked_start g.S.Source.left g.S.Source.faults g.S.Source.down run (g.T.Ticker.follows c.args.ticker.now) c.args.trace.now c.requires.follows;
       kernel = refl;
       ready = refl;
       inputs = refl;
@@ -33,17 +32,17 @@ ticks-init g c =
 
 pub returns-in-Err-clause-write : goal.returns-in-Err-clause-write
 returns-in-Err-clause-write g c = λ _.
-    let run : Run = record { kernel = kernel_in c.args.ticker.now; budget = c.args.budget; first = c.args.rows.now } in
+    let run : Run = record { kernel = g.T.Ticker.kernel c.args.ticker.now; budget = c.args.budget; first = c.args.rows.now } in
     let i = c.ticks.invariant in (
       fell_since _ (g.K.Sink.faults c.ticks.out) _ _ i.written c.in-Err.ensures.cause.failed,
-      front_now run (Follows c.ticks.ticker) c.ticks.rows (g.S.Source.left c.args.trace.now) (g.S.Source.left c.ticks.trace) (g.K.Sink.held c.args.out.now) (g.K.Sink.held c.ticks.out) (g.K.Sink.held c.send_due.new.out)
+      front_now run (g.T.Ticker.follows c.ticks.ticker) c.ticks.rows (g.S.Source.left c.args.trace.now) (g.S.Source.left c.ticks.trace) (g.K.Sink.held c.args.out.now) (g.K.Sink.held c.ticks.out) (g.K.Sink.held c.send_due.new.out)
           c.ticks.waiting.bytes.items c.ticks.row i.reached c.in-Err.ensures.err,
     )
 
 pub returns-in-Failed-clause-read : goal.returns-in-Failed-clause-read
 returns-in-Failed-clause-read g c = λ _.
-    let run : Run = record { kernel = kernel_in c.args.ticker.now; budget = c.args.budget; first = c.args.rows.now } in
-    let F : State → Type 0 = Follows c.ticks.ticker in
+    let run : Run = record { kernel = g.T.Ticker.kernel c.args.ticker.now; budget = c.args.budget; first = c.args.rows.now } in
+    let F : State → Type 0 = g.T.Ticker.follows c.ticks.ticker in
     let now = c.ticks.rows in
     let l0 = g.S.Source.left c.args.trace.now in
     let l = g.S.Source.left c.ticks.trace in
@@ -62,8 +61,8 @@ returns-in-Failed-clause-read g c = λ _.
 
 pub returns-in-End-clause-own : goal.returns-in-End-clause-own
 returns-in-End-clause-own g c = λ own.
-    let run : Run = record { kernel = kernel_in c.args.ticker.now; budget = c.args.budget; first = c.args.rows.now } in
-    let F : State → Type 0 = Follows c.ticks.ticker in
+    let run : Run = record { kernel = g.T.Ticker.kernel c.args.ticker.now; budget = c.args.budget; first = c.args.rows.now } in
+    let F : State → Type 0 = g.T.Ticker.follows c.ticks.ticker in
     let now = c.ticks.rows in
     let l0 = g.S.Source.left c.args.trace.now in
     let l = g.S.Source.left c.ticks.trace in
@@ -82,8 +81,8 @@ returns-in-End-clause-own g c = λ own.
 
 pub returns-in-End-clause-write : goal.returns-in-End-clause-write
 returns-in-End-clause-write g c = λ is.
-    let run : Run = record { kernel = kernel_in c.args.ticker.now; budget = c.args.budget; first = c.args.rows.now } in
-    let F : State → Type 0 = Follows c.ticks.ticker in
+    let run : Run = record { kernel = g.T.Ticker.kernel c.args.ticker.now; budget = c.args.budget; first = c.args.rows.now } in
+    let F : State → Type 0 = g.T.Ticker.follows c.ticks.ticker in
     let now = c.ticks.rows in
     let l0 = g.S.Source.left c.args.trace.now in
     let l = g.S.Source.left c.ticks.trace in
@@ -104,8 +103,8 @@ returns-in-End-clause-write g c = λ is.
 
 pub returns-in-Stops-clause-own : goal.returns-in-Stops-clause-own
 returns-in-Stops-clause-own g c = λ own.
-    let run : Run = record { kernel = kernel_in c.args.ticker.now; budget = c.args.budget; first = c.args.rows.now } in
-    let F : State → Type 0 = Follows c.ticks.ticker in
+    let run : Run = record { kernel = g.T.Ticker.kernel c.args.ticker.now; budget = c.args.budget; first = c.args.rows.now } in
+    let F : State → Type 0 = g.T.Ticker.follows c.ticks.ticker in
     let now = c.ticks.rows in
     let l0 = g.S.Source.left c.args.trace.now in
     let l = g.S.Source.left c.ticks.trace in
@@ -124,8 +123,8 @@ returns-in-Stops-clause-own g c = λ own.
 
 pub returns-in-Stops-clause-write : goal.returns-in-Stops-clause-write
 returns-in-Stops-clause-write g c = λ is.
-    let run : Run = record { kernel = kernel_in c.args.ticker.now; budget = c.args.budget; first = c.args.rows.now } in
-    let F : State → Type 0 = Follows c.ticks.ticker in
+    let run : Run = record { kernel = g.T.Ticker.kernel c.args.ticker.now; budget = c.args.budget; first = c.args.rows.now } in
+    let F : State → Type 0 = g.T.Ticker.follows c.ticks.ticker in
     let now = c.ticks.rows in
     let l0 = g.S.Source.left c.args.trace.now in
     let l = g.S.Source.left c.ticks.trace in
@@ -146,8 +145,8 @@ returns-in-Stops-clause-write g c = λ is.
 
 pub ticks-preserved : goal.ticks-preserved
 ticks-preserved g c =
-    let run : Run = record { kernel = kernel_in c.args.ticker.now; budget = c.args.budget; first = c.args.rows.now } in
-    let F : State → Type 0 = Follows c.ticks.ticker in
+    let run : Run = record { kernel = g.T.Ticker.kernel c.args.ticker.now; budget = c.args.budget; first = c.args.rows.now } in
+    let F : State → Type 0 = g.T.Ticker.follows c.ticks.ticker in
     let now = c.ticks.rows in
     let l0 = g.S.Source.left c.args.trace.now in
     let l = g.S.Source.left c.ticks.trace in
@@ -162,8 +161,8 @@ ticks-preserved g c =
     let values = c.next_row.new.self.inputs.items in
     let t = tick run.kernel run.budget r.state values in
     let o = c.in-Ok.outcome in
-    let k : kernel_in c.ticks.ticker ≡ run.kernel = i.kernel in
-    let follows : Follows c.ticks.ticker r.state = r.follows in
+    let k : g.T.Ticker.kernel c.ticks.ticker ≡ run.kernel = i.kernel in
+    let follows : g.T.Ticker.follows c.ticks.ticker r.state = r.follows in
     let how : o ≡ t.outcome = c.in-Ok.ensures.outcome r.state follows ∙ ap (λ x. (tick x run.budget r.state values).outcome) k in
     let put : Gains c.send_due.new.waiting c.put_outcome.new.self (tick_lines run.kernel run.budget row t) =
     put_tick_lines run.kernel run.budget row t o c.send_due.new.waiting.names c.deref.result.now c.send_due.new.waiting c.put_outcome.new.self
@@ -171,15 +170,15 @@ ticks-preserved g c =
     (λ has. c.deref.ensures.value ∙ c.in-Ok.ensures.outputs r.state follows has ∙ ap (λ x. (tick x run.budget r.state values).outputs) k) c.put_outcome.ensures in
     let gave = c.in-Row.ensures.next in
     let a = i.asked in
-    let after : Follows c.ticks.ticker a.pace.state = a.follows in
+    let after : g.T.Ticker.follows c.ticks.ticker a.pace.state = a.follows in
     let went : o ≡ (tick run.kernel run.budget a.pace.state values).outcome = c.in-Ok.ensures.outcome a.pace.state after ∙ ap (λ x. (tick x run.budget a.pace.state values).outcome) k in
     record {
-      asked = asked_more g.S.Source.left g.S.Source.faults g.S.Source.down run F (Follows c.tick.new.ticker) now new row c.args.trace.now c.ticks.trace c.next_row.new.trace values a r.stands c.in-Row.ensures.trace
+      asked = asked_more g.S.Source.left g.S.Source.faults g.S.Source.down run F (g.T.Ticker.follows c.tick.new.ticker) now new row c.args.trace.now c.ticks.trace c.next_row.new.trace values a r.stands c.in-Row.ensures.trace
           gave.stays (ap goes_on (sym went ∙ c.in-Paused.is))
-          (subst (λ x. Follows c.tick.new.ticker (tick x run.budget a.pace.state values).state) k (c.in-Ok.ensures.follows a.pace.state after (ap goes_on c.in-Paused.is)));
-      reached = reached_more run F (Follows c.tick.new.ticker) now new l0 l l' h0 h unsent c.put_outcome.new.self.bytes.items row values r gave
+          (subst (λ x. g.T.Ticker.follows c.tick.new.ticker (tick x run.budget a.pace.state values).state) k (c.in-Ok.ensures.follows a.pace.state after (ap goes_on c.in-Paused.is)));
+      reached = reached_more run F (g.T.Ticker.follows c.tick.new.ticker) now new l0 l l' h0 h unsent c.put_outcome.new.self.bytes.items row values r gave
           (ap goes_on (sym how ∙ c.in-Paused.is))
-          (subst (λ x. Follows c.tick.new.ticker (tick x run.budget r.state values).state) k (c.in-Ok.ensures.follows r.state follows (ap goes_on c.in-Paused.is))) put.bytes_are;
+          (subst (λ x. g.T.Ticker.follows c.tick.new.ticker (tick x run.budget r.state values).state) k (c.in-Ok.ensures.follows r.state follows (ap goes_on c.in-Paused.is))) put.bytes_are;
       kernel = c.tick.ensures.kernel ∙ k;
       ready = c.tick.ensures.ready ∙ i.ready;
       inputs = ap (λ v. length v.items) c.tick.ensures.inputs ∙ c.next_row.ensures.inputs ∙ i.inputs;
@@ -196,8 +195,8 @@ ticks-preserved g c =
 
 pub returns-in-Ended-clause-own : goal.returns-in-Ended-clause-own
 returns-in-Ended-clause-own g c = λ own.
-    let run : Run = record { kernel = kernel_in c.args.ticker.now; budget = c.args.budget; first = c.args.rows.now } in
-    let F : State → Type 0 = Follows c.ticks.ticker in
+    let run : Run = record { kernel = g.T.Ticker.kernel c.args.ticker.now; budget = c.args.budget; first = c.args.rows.now } in
+    let F : State → Type 0 = g.T.Ticker.follows c.ticks.ticker in
     let now = c.ticks.rows in
     let l0 = g.S.Source.left c.args.trace.now in
     let l = g.S.Source.left c.ticks.trace in
@@ -212,8 +211,8 @@ returns-in-Ended-clause-own g c = λ own.
     let values = c.next_row.new.self.inputs.items in
     let t = tick run.kernel run.budget r.state values in
     let o = c.in-Ok.outcome in
-    let k : kernel_in c.ticks.ticker ≡ run.kernel = i.kernel in
-    let follows : Follows c.ticks.ticker r.state = r.follows in
+    let k : g.T.Ticker.kernel c.ticks.ticker ≡ run.kernel = i.kernel in
+    let follows : g.T.Ticker.follows c.ticks.ticker r.state = r.follows in
     let how : o ≡ t.outcome = c.in-Ok.ensures.outcome r.state follows ∙ ap (λ x. (tick x run.budget r.state values).outcome) k in
     let put : Gains c.send_due.new.waiting c.put_outcome.new.self (tick_lines run.kernel run.budget row t) =
     put_tick_lines run.kernel run.budget row t o c.send_due.new.waiting.names c.deref.result.now c.send_due.new.waiting c.put_outcome.new.self
@@ -224,8 +223,8 @@ returns-in-Ended-clause-own g c = λ own.
 
 pub returns-in-Ended-clause-write : goal.returns-in-Ended-clause-write
 returns-in-Ended-clause-write g c = λ is.
-    let run : Run = record { kernel = kernel_in c.args.ticker.now; budget = c.args.budget; first = c.args.rows.now } in
-    let F : State → Type 0 = Follows c.ticks.ticker in
+    let run : Run = record { kernel = g.T.Ticker.kernel c.args.ticker.now; budget = c.args.budget; first = c.args.rows.now } in
+    let F : State → Type 0 = g.T.Ticker.follows c.ticks.ticker in
     let now = c.ticks.rows in
     let l0 = g.S.Source.left c.args.trace.now in
     let l = g.S.Source.left c.ticks.trace in
@@ -240,8 +239,8 @@ returns-in-Ended-clause-write g c = λ is.
     let values = c.next_row.new.self.inputs.items in
     let t = tick run.kernel run.budget r.state values in
     let o = c.in-Ok.outcome in
-    let k : kernel_in c.ticks.ticker ≡ run.kernel = i.kernel in
-    let follows : Follows c.ticks.ticker r.state = r.follows in
+    let k : g.T.Ticker.kernel c.ticks.ticker ≡ run.kernel = i.kernel in
+    let follows : g.T.Ticker.follows c.ticks.ticker r.state = r.follows in
     let how : o ≡ t.outcome = c.in-Ok.ensures.outcome r.state follows ∙ ap (λ x. (tick x run.budget r.state values).outcome) k in
     let put : Gains c.send_due.new.waiting c.put_outcome.new.self (tick_lines run.kernel run.budget row t) =
     put_tick_lines run.kernel run.budget row t o c.send_due.new.waiting.names c.deref.result.now c.send_due.new.waiting c.put_outcome.new.self
@@ -254,8 +253,8 @@ returns-in-Ended-clause-write g c = λ is.
 
 pub returns-in-Trapped-clause-own : goal.returns-in-Trapped-clause-own
 returns-in-Trapped-clause-own g c = λ own.
-    let run : Run = record { kernel = kernel_in c.args.ticker.now; budget = c.args.budget; first = c.args.rows.now } in
-    let F : State → Type 0 = Follows c.ticks.ticker in
+    let run : Run = record { kernel = g.T.Ticker.kernel c.args.ticker.now; budget = c.args.budget; first = c.args.rows.now } in
+    let F : State → Type 0 = g.T.Ticker.follows c.ticks.ticker in
     let now = c.ticks.rows in
     let l0 = g.S.Source.left c.args.trace.now in
     let l = g.S.Source.left c.ticks.trace in
@@ -270,8 +269,8 @@ returns-in-Trapped-clause-own g c = λ own.
     let values = c.next_row.new.self.inputs.items in
     let t = tick run.kernel run.budget r.state values in
     let o = c.in-Ok.outcome in
-    let k : kernel_in c.ticks.ticker ≡ run.kernel = i.kernel in
-    let follows : Follows c.ticks.ticker r.state = r.follows in
+    let k : g.T.Ticker.kernel c.ticks.ticker ≡ run.kernel = i.kernel in
+    let follows : g.T.Ticker.follows c.ticks.ticker r.state = r.follows in
     let how : o ≡ t.outcome = c.in-Ok.ensures.outcome r.state follows ∙ ap (λ x. (tick x run.budget r.state values).outcome) k in
     let put : Gains c.send_due.new.waiting c.put_outcome.new.self (tick_lines run.kernel run.budget row t) =
     put_tick_lines run.kernel run.budget row t o c.send_due.new.waiting.names c.deref.result.now c.send_due.new.waiting c.put_outcome.new.self
@@ -282,8 +281,8 @@ returns-in-Trapped-clause-own g c = λ own.
 
 pub returns-in-Trapped-clause-write : goal.returns-in-Trapped-clause-write
 returns-in-Trapped-clause-write g c = λ is.
-    let run : Run = record { kernel = kernel_in c.args.ticker.now; budget = c.args.budget; first = c.args.rows.now } in
-    let F : State → Type 0 = Follows c.ticks.ticker in
+    let run : Run = record { kernel = g.T.Ticker.kernel c.args.ticker.now; budget = c.args.budget; first = c.args.rows.now } in
+    let F : State → Type 0 = g.T.Ticker.follows c.ticks.ticker in
     let now = c.ticks.rows in
     let l0 = g.S.Source.left c.args.trace.now in
     let l = g.S.Source.left c.ticks.trace in
@@ -298,8 +297,8 @@ returns-in-Trapped-clause-write g c = λ is.
     let values = c.next_row.new.self.inputs.items in
     let t = tick run.kernel run.budget r.state values in
     let o = c.in-Ok.outcome in
-    let k : kernel_in c.ticks.ticker ≡ run.kernel = i.kernel in
-    let follows : Follows c.ticks.ticker r.state = r.follows in
+    let k : g.T.Ticker.kernel c.ticks.ticker ≡ run.kernel = i.kernel in
+    let follows : g.T.Ticker.follows c.ticks.ticker r.state = r.follows in
     let how : o ≡ t.outcome = c.in-Ok.ensures.outcome r.state follows ∙ ap (λ x. (tick x run.budget r.state values).outcome) k in
     let put : Gains c.send_due.new.waiting c.put_outcome.new.self (tick_lines run.kernel run.budget row t) =
     put_tick_lines run.kernel run.budget row t o c.send_due.new.waiting.names c.deref.result.now c.send_due.new.waiting c.put_outcome.new.self
@@ -312,8 +311,8 @@ returns-in-Trapped-clause-write g c = λ is.
 
 pub returns-in-Over-clause-own : goal.returns-in-Over-clause-own
 returns-in-Over-clause-own g c = λ own.
-    let run : Run = record { kernel = kernel_in c.args.ticker.now; budget = c.args.budget; first = c.args.rows.now } in
-    let F : State → Type 0 = Follows c.ticks.ticker in
+    let run : Run = record { kernel = g.T.Ticker.kernel c.args.ticker.now; budget = c.args.budget; first = c.args.rows.now } in
+    let F : State → Type 0 = g.T.Ticker.follows c.ticks.ticker in
     let now = c.ticks.rows in
     let l0 = g.S.Source.left c.args.trace.now in
     let l = g.S.Source.left c.ticks.trace in
@@ -328,8 +327,8 @@ returns-in-Over-clause-own g c = λ own.
     let values = c.next_row.new.self.inputs.items in
     let t = tick run.kernel run.budget r.state values in
     let o = c.in-Ok.outcome in
-    let k : kernel_in c.ticks.ticker ≡ run.kernel = i.kernel in
-    let follows : Follows c.ticks.ticker r.state = r.follows in
+    let k : g.T.Ticker.kernel c.ticks.ticker ≡ run.kernel = i.kernel in
+    let follows : g.T.Ticker.follows c.ticks.ticker r.state = r.follows in
     let how : o ≡ t.outcome = c.in-Ok.ensures.outcome r.state follows ∙ ap (λ x. (tick x run.budget r.state values).outcome) k in
     let put : Gains c.send_due.new.waiting c.put_outcome.new.self (tick_lines run.kernel run.budget row t) =
     put_tick_lines run.kernel run.budget row t o c.send_due.new.waiting.names c.deref.result.now c.send_due.new.waiting c.put_outcome.new.self
@@ -340,8 +339,8 @@ returns-in-Over-clause-own g c = λ own.
 
 pub returns-in-Over-clause-write : goal.returns-in-Over-clause-write
 returns-in-Over-clause-write g c = λ is.
-    let run : Run = record { kernel = kernel_in c.args.ticker.now; budget = c.args.budget; first = c.args.rows.now } in
-    let F : State → Type 0 = Follows c.ticks.ticker in
+    let run : Run = record { kernel = g.T.Ticker.kernel c.args.ticker.now; budget = c.args.budget; first = c.args.rows.now } in
+    let F : State → Type 0 = g.T.Ticker.follows c.ticks.ticker in
     let now = c.ticks.rows in
     let l0 = g.S.Source.left c.args.trace.now in
     let l = g.S.Source.left c.ticks.trace in
@@ -356,8 +355,8 @@ returns-in-Over-clause-write g c = λ is.
     let values = c.next_row.new.self.inputs.items in
     let t = tick run.kernel run.budget r.state values in
     let o = c.in-Ok.outcome in
-    let k : kernel_in c.ticks.ticker ≡ run.kernel = i.kernel in
-    let follows : Follows c.ticks.ticker r.state = r.follows in
+    let k : g.T.Ticker.kernel c.ticks.ticker ≡ run.kernel = i.kernel in
+    let follows : g.T.Ticker.follows c.ticks.ticker r.state = r.follows in
     let how : o ≡ t.outcome = c.in-Ok.ensures.outcome r.state follows ∙ ap (λ x. (tick x run.budget r.state values).outcome) k in
     let put : Gains c.send_due.new.waiting c.put_outcome.new.self (tick_lines run.kernel run.budget row t) =
     put_tick_lines run.kernel run.budget row t o c.send_due.new.waiting.names c.deref.result.now c.send_due.new.waiting c.put_outcome.new.self
@@ -372,8 +371,8 @@ returns-in-Over-clause-write g c = λ is.
 
 pub returns-in_default-tick-clause-write : goal.returns-in_default-tick-clause-write
 returns-in_default-tick-clause-write g c = λ is.
-    let run : Run = record { kernel = kernel_in c.args.ticker.now; budget = c.args.budget; first = c.args.rows.now } in
-    let F : State → Type 0 = Follows c.ticks.ticker in
+    let run : Run = record { kernel = g.T.Ticker.kernel c.args.ticker.now; budget = c.args.budget; first = c.args.rows.now } in
+    let F : State → Type 0 = g.T.Ticker.follows c.ticks.ticker in
     let now = c.ticks.rows in
     let l0 = g.S.Source.left c.args.trace.now in
     let l = g.S.Source.left c.ticks.trace in
@@ -390,8 +389,8 @@ returns-in_default-tick-clause-write g c = λ is.
 
 pub returns-in_default-tick-clause-memory : goal.returns-in_default-tick-clause-memory
 returns-in_default-tick-clause-memory g c = λ is.
-    let run : Run = record { kernel = kernel_in c.args.ticker.now; budget = c.args.budget; first = c.args.rows.now } in
-    let F : State → Type 0 = Follows c.ticks.ticker in
+    let run : Run = record { kernel = g.T.Ticker.kernel c.args.ticker.now; budget = c.args.budget; first = c.args.rows.now } in
+    let F : State → Type 0 = g.T.Ticker.follows c.ticks.ticker in
     let now = c.ticks.rows in
     let l0 = g.S.Source.left c.args.trace.now in
     let l = g.S.Source.left c.ticks.trace in
@@ -416,38 +415,38 @@ returns-in-Trapped-clause-read g c = λ is. absurd (not_read c.finish-in-Trapped
 
 pub returns-in_default-tick-clause-trace : goal.returns-in_default-tick-clause-trace
 returns-in_default-tick-clause-trace g c =
-    let run : Run = record { kernel = kernel_in c.args.ticker.now; budget = c.args.budget; first = c.args.rows.now } in
-    asked_last g.S.Source.left g.S.Source.faults g.S.Source.down run (Follows c.ticks.ticker) c.ticks.rows c.ticks.row c.args.trace.now c.ticks.trace c.next_row.new.trace _ c.ticks.invariant.asked c.next_row.ensures.trace
+    let run : Run = record { kernel = g.T.Ticker.kernel c.args.ticker.now; budget = c.args.budget; first = c.args.rows.now } in
+    asked_last g.S.Source.left g.S.Source.faults g.S.Source.down run (g.T.Ticker.follows c.ticks.ticker) c.ticks.rows c.ticks.row c.args.trace.now c.ticks.trace c.next_row.new.trace _ c.ticks.invariant.asked c.next_row.ensures.trace
 
 pub returns-in-Err-clause-trace : goal.returns-in-Err-clause-trace
 returns-in-Err-clause-trace g c = (c.ticks.invariant.asked.given, c.ticks.invariant.asked.reads)
 
 pub returns-in-Failed-clause-trace : goal.returns-in-Failed-clause-trace
 returns-in-Failed-clause-trace g c =
-    let run : Run = record { kernel = kernel_in c.args.ticker.now; budget = c.args.budget; first = c.args.rows.now } in
-    asked_last g.S.Source.left g.S.Source.faults g.S.Source.down run (Follows c.ticks.ticker) c.ticks.rows c.ticks.row c.args.trace.now c.ticks.trace c.next_row.new.trace _ c.ticks.invariant.asked c.next_row.ensures.trace
+    let run : Run = record { kernel = g.T.Ticker.kernel c.args.ticker.now; budget = c.args.budget; first = c.args.rows.now } in
+    asked_last g.S.Source.left g.S.Source.faults g.S.Source.down run (g.T.Ticker.follows c.ticks.ticker) c.ticks.rows c.ticks.row c.args.trace.now c.ticks.trace c.next_row.new.trace _ c.ticks.invariant.asked c.next_row.ensures.trace
 
 pub returns-in-End-clause-trace : goal.returns-in-End-clause-trace
 returns-in-End-clause-trace g c =
-    let run : Run = record { kernel = kernel_in c.args.ticker.now; budget = c.args.budget; first = c.args.rows.now } in
-    asked_last g.S.Source.left g.S.Source.faults g.S.Source.down run (Follows c.ticks.ticker) c.ticks.rows c.ticks.row c.args.trace.now c.ticks.trace c.next_row.new.trace _ c.ticks.invariant.asked c.next_row.ensures.trace
+    let run : Run = record { kernel = g.T.Ticker.kernel c.args.ticker.now; budget = c.args.budget; first = c.args.rows.now } in
+    asked_last g.S.Source.left g.S.Source.faults g.S.Source.down run (g.T.Ticker.follows c.ticks.ticker) c.ticks.rows c.ticks.row c.args.trace.now c.ticks.trace c.next_row.new.trace _ c.ticks.invariant.asked c.next_row.ensures.trace
 
 pub returns-in-Stops-clause-trace : goal.returns-in-Stops-clause-trace
 returns-in-Stops-clause-trace g c =
-    let run : Run = record { kernel = kernel_in c.args.ticker.now; budget = c.args.budget; first = c.args.rows.now } in
-    asked_last g.S.Source.left g.S.Source.faults g.S.Source.down run (Follows c.ticks.ticker) c.ticks.rows c.ticks.row c.args.trace.now c.ticks.trace c.next_row.new.trace _ c.ticks.invariant.asked c.next_row.ensures.trace
+    let run : Run = record { kernel = g.T.Ticker.kernel c.args.ticker.now; budget = c.args.budget; first = c.args.rows.now } in
+    asked_last g.S.Source.left g.S.Source.faults g.S.Source.down run (g.T.Ticker.follows c.ticks.ticker) c.ticks.rows c.ticks.row c.args.trace.now c.ticks.trace c.next_row.new.trace _ c.ticks.invariant.asked c.next_row.ensures.trace
 
 pub returns-in-Ended-clause-trace : goal.returns-in-Ended-clause-trace
 returns-in-Ended-clause-trace g c =
-    let run : Run = record { kernel = kernel_in c.args.ticker.now; budget = c.args.budget; first = c.args.rows.now } in
-    asked_last g.S.Source.left g.S.Source.faults g.S.Source.down run (Follows c.ticks.ticker) c.ticks.rows c.ticks.row c.args.trace.now c.ticks.trace c.next_row.new.trace _ c.ticks.invariant.asked c.next_row.ensures.trace
+    let run : Run = record { kernel = g.T.Ticker.kernel c.args.ticker.now; budget = c.args.budget; first = c.args.rows.now } in
+    asked_last g.S.Source.left g.S.Source.faults g.S.Source.down run (g.T.Ticker.follows c.ticks.ticker) c.ticks.rows c.ticks.row c.args.trace.now c.ticks.trace c.next_row.new.trace _ c.ticks.invariant.asked c.next_row.ensures.trace
 
 pub returns-in-Trapped-clause-trace : goal.returns-in-Trapped-clause-trace
 returns-in-Trapped-clause-trace g c =
-    let run : Run = record { kernel = kernel_in c.args.ticker.now; budget = c.args.budget; first = c.args.rows.now } in
-    asked_last g.S.Source.left g.S.Source.faults g.S.Source.down run (Follows c.ticks.ticker) c.ticks.rows c.ticks.row c.args.trace.now c.ticks.trace c.next_row.new.trace _ c.ticks.invariant.asked c.next_row.ensures.trace
+    let run : Run = record { kernel = g.T.Ticker.kernel c.args.ticker.now; budget = c.args.budget; first = c.args.rows.now } in
+    asked_last g.S.Source.left g.S.Source.faults g.S.Source.down run (g.T.Ticker.follows c.ticks.ticker) c.ticks.rows c.ticks.row c.args.trace.now c.ticks.trace c.next_row.new.trace _ c.ticks.invariant.asked c.next_row.ensures.trace
 
 pub returns-in-Over-clause-trace : goal.returns-in-Over-clause-trace
 returns-in-Over-clause-trace g c =
-    let run : Run = record { kernel = kernel_in c.args.ticker.now; budget = c.args.budget; first = c.args.rows.now } in
-    asked_last g.S.Source.left g.S.Source.faults g.S.Source.down run (Follows c.ticks.ticker) c.ticks.rows c.ticks.row c.args.trace.now c.ticks.trace c.next_row.new.trace _ c.ticks.invariant.asked c.next_row.ensures.trace
+    let run : Run = record { kernel = g.T.Ticker.kernel c.args.ticker.now; budget = c.args.budget; first = c.args.rows.now } in
+    asked_last g.S.Source.left g.S.Source.faults g.S.Source.down run (g.T.Ticker.follows c.ticks.ticker) c.ticks.rows c.ticks.row c.args.trace.now c.ticks.trace c.next_row.new.trace _ c.ticks.invariant.asked c.next_row.ensures.trace

@@ -3,23 +3,22 @@ use Rattle.std.specs.Io.KnownBytes.{IsAtEnd}
 use Rattle.forec_base.specs.declared.limits.TheConstants.{MAX_ROWS}
 use Rattle.forec_engine.proofs.Asking.{Asked}
 use Rattle.forec_engine.proofs.Running.{Reached}
-use Rattle.forec_engine.specs.Following.{kernel_in, Follows, is_live, is_ready}
 use Rattle.forec_engine.proofs.ticks.run_rows.Given as goal
 
 abbrev pub invariant-ticks : goal.invariant-ticks
 invariant-ticks g l =
     let left = g.S.Source.left in
     let held = g.K.Sink.held in
-    let kernel = kernel_in l.fn.ticker in
+    let kernel = g.T.Ticker.kernel l.fn.ticker in
     record {
       reached : Reached (record { kernel = kernel; budget = l.budget; first = l.fn.rows })
-          (Follows l.ticker) l.rows (left l.fn.trace) (left l.trace) (held l.fn.out) (held l.out) l.waiting.bytes.items l.row;
-      asked : Asked left g.S.Source.faults g.S.Source.down (record { kernel = kernel; budget = l.budget; first = l.fn.rows }) (Follows l.ticker) l.rows l.row l.fn.trace l.trace;
-      kernel : kernel_in l.ticker ≡ kernel;
-      ready : is_ready l.ticker ≡ is_ready l.fn.ticker;
+          (g.T.Ticker.follows l.ticker) l.rows (left l.fn.trace) (left l.trace) (held l.fn.out) (held l.out) l.waiting.bytes.items l.row;
+      asked : Asked left g.S.Source.faults g.S.Source.down (record { kernel = kernel; budget = l.budget; first = l.fn.rows }) (g.T.Ticker.follows l.ticker) l.rows l.row l.fn.trace l.trace;
+      kernel : g.T.Ticker.kernel l.ticker ≡ kernel;
+      ready : g.T.Ticker.ready l.ticker ≡ g.T.Ticker.ready l.fn.ticker;
       inputs : length l.image.inputs.items ≡ length l.fn.image.inputs.items;
       outputs : length l.image.outputs.items ≡ length l.fn.image.outputs.items;
-      live : is_live l.ticker ≡ true;
+      live : g.T.Ticker.live l.ticker ≡ true;
       reads : l.rows.live ≡ true;
       low : 1 ≤ l.row;
       high : l.row ≤ MAX_ROWS + 1;

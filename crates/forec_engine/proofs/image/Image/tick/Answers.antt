@@ -1,7 +1,6 @@
 use Rattle.std.proofs.Common.{rules, ap, ◌∙◌}
 use Rattle.std.proofs.lemmas.List.{with_items_is, places}
 use Rattle.forec_kernel.specs.Ticks.{tick}
-use Rattle.forec_engine.specs.Following.{kernel_in}
 use Rattle.forec_engine.proofs.Fine.{ok_map}
 use Rattle.forec_engine.proofs.image.Image.tick.Goals as goal
 
@@ -9,4 +8,4 @@ pub returns-clause-outputs : goal.returns-clause-outputs
 returns-clause-outputs g c =
     ok_map c.tick.result _ _ (λ o p s f has.
     with_items_is c.args.self.now.outputs c.tick.new.outputs (search (rules, places)) ∙ p s f has
-    ∙ ap (λ row. (tick (kernel_in c.args.ticker.now) c.args.budget s row).outputs) c.deref.ensures.value) c.tick.ensures.outputs
+    ∙ ap (λ row. (tick (g.T.Ticker.kernel c.args.ticker.now) c.args.budget s row).outputs) c.deref.ensures.value) c.tick.ensures.outputs

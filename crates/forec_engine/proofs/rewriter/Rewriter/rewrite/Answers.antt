@@ -3,7 +3,7 @@ use Rattle.forec_kernel.specs.Shapes.{plain_kernel}
 use Rattle.forec_kernel.specs.Ticks.{tick}
 use Rattle.kernel_meaning.specs.States.{plain_state}
 use Rattle.kernel_meaning.specs.declared.ticks.State.{State}
-use Rattle.forec_engine.proofs.rewriter.Rewriter.tick.Goals as goal
+use Rattle.forec_engine.proofs.rewriter.Rewriter.rewrite.Goals as goal
 
 pub returns-clause-outcome : goal.returns-clause-outcome
 returns-clause-outcome c =

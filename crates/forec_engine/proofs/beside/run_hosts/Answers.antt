@@ -1,0 +1,13 @@
+use Rattle.std.proofs.Common.{sym, subst}
+use Rattle.forec_kernel.specs.Shapes.{plain_kernel}
+use Rattle.forec_engine.specs.Sessions.{IsSessionOf}
+use Rattle.forec_engine.proofs.Unrun.{not_run}
+use Rattle.forec_engine.proofs.beside.run_hosts.Goals as goal
+
+pub returns-in_default : goal.returns-in_default
+returns-in_default g c =
+    not_run g.S.Source.left g.S.Source.faults g.S.Source.down (plain_kernel c.args.kernel.now) c.args.session.now.budget c.args.trace.now (g.K.Sink.held c.args.out.now) (g.K.Sink.faults c.args.out.now) (g.K.Sink.down c.args.out.now)
+
+pub run_with_room-requires-clause-session : goal.run_with_room-requires-clause-session
+run_with_room-requires-clause-session g c = λ κs within.
+    subst (λ k. IsSessionOf (plain_kernel k) c.args.session.now) (sym c.new-runner.ensures.kernel) c.requires.session
