@@ -74,6 +74,10 @@ fn placed<R: Wait>(
     }
     let mut board = board_of(alloc, code, &placement)?;
     let Hosts { root, others } = hosts_of(alloc, code, &placement, &mut board)?;
+    let others = others
+        .into_iter()
+        .map(|worker| worker.into_host())
+        .collect(alloc)?;
     Ok(two_ticks(rt, root, others, code))
 }
 
