@@ -8,6 +8,8 @@
 #include <stdatomic.h>
 #include <stdio.h>
 #include <stdlib.h>
+#include <sys/syscall.h>
+#include <unistd.h>
 
 void *__libc_malloc(size_t size);
 void *__libc_calloc(size_t count, size_t size);
@@ -53,7 +55,7 @@ __attribute__((constructor)) static void begin(void) {
   counts = 1;
 }
 
-__attribute__((destructor)) static void end(void) {
+static void tell(void) {
   const char *path = getenv("REFUSE_COUNT");
   unsigned long count = atomic_load(&requests);
   FILE *file;
@@ -62,4 +64,13 @@ __attribute__((destructor)) static void end(void) {
   if (!file) return;
   fprintf(file, "%lu\n", count);
   fclose(file);
+}
+
+__attribute__((destructor)) static void end(void) { tell(); }
+
+/* A program with threads ends without destructors. */
+void _exit(int status) {
+  tell();
+  syscall(SYS_exit_group, status);
+  __builtin_unreachable();
 }
