@@ -2,7 +2,6 @@
 #![tactic(auto)]
 
 mod beyond;
-mod calls;
 mod depths;
 mod draft;
 mod expand;
@@ -12,6 +11,7 @@ mod judge;
 mod lower_fault;
 mod marks;
 mod measure;
+mod pars;
 mod reach;
 mod shapes;
 mod tables;

@@ -8,9 +8,10 @@ ghost use Rattle.loop_check.specs.Graph.{callees, FunctionsCall};
 ghost use Rattle.forec_check.specs.Table.{put_at, Settles};
 ghost use Rattle.kernel_lower.specs.Reach.{has, users_by, combine_by, pars_by, combine_at, value_at, chain_step, chain_value, list_items};
 
-use crate::calls::{pars, statement_calls};
+use crate::pars::pars;
 use forec_base::OutOfMemory;
 use forec_kernel::{Statement, Variable};
+use kernel_calls::statement_calls;
 use loop_check::order;
 use std::alloc::Global;
 use text_sizes::add;
