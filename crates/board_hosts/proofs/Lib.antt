@@ -2,3 +2,4 @@ mod Branches
 mod Made
 mod Placed
 mod Ports
+pub mod Roped

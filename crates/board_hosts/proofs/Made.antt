@@ -66,6 +66,15 @@ next_without places n is = ap (λ b. other_cores places n ++ cond b (n ∷ []) [
 next_with : (places : List ℕ) (n : ℕ) → is_other places n ≡ true → other_cores places (suc n) ≡ other_cores places n ++ n ∷ []
 next_with places n is = ap (λ b. other_cores places n ++ cond b (n ∷ []) []) is
 
+-- the host of another core than thread 0's
+pub lacks : (code : CodeParts) (places : List ℕ) (n : ℕ) (h : Hosted) → (n ≡ root_core places → ⊥) → IsLoaded code places n h → is_here h 0 ≡ false
+lacks code places n h other loaded =
+    ap (λ p. is_on p h.cores 0) loaded.places ∙ ap (λ cores. is_on places cores 0) loaded.cores ∙ either (n == root_core places) (grind (arith, nat_tests))
+  where
+    either : (is : Bool) → is ≡ false → cond is true false ≡ false
+    either true e = e
+    either false e = refl
+
 module _ (code : CodeParts) (places : List ℕ) (n : ℕ) (root : Option Hosted) (others : List Hosted) (made : AreMade code places n root others) where
   same_others : is_other places n ≡ false → map (λ h. h.cores) others ≡ map (λ core. core ∷ []) (other_cores places (n + 1))
   same_others is = let one : suc n ≡ n + 1 = omega arith in
@@ -90,19 +99,11 @@ module _ (code : CodeParts) (places : List ℕ) (n : ℕ) (root : Option Hosted)
     cores = same_others (empty_core places n empty);
   }
 
-  lacks : (h : Hosted) → (n ≡ root_core places → ⊥) → IsLoaded code places n h → is_here h 0 ≡ false
-  lacks h other loaded =
-      ap (λ p. is_on p h.cores 0) loaded.places ∙ ap (λ cores. is_on places cores 0) loaded.cores ∙ either (n == root_core places) (grind (arith, nat_tests))
-    where
-      either : (is : Bool) → is ≡ false → cond is true false ≡ false
-      either true e = e
-      either false e = refl
-
   pub made_other : (h : Hosted) → (n ≡ root_core places → ⊥) → contains n places ≡ true → IsLoaded code places n h → AreMade code places (n + 1) root (others ++ h ∷ [])
   made_other h other has loaded = let one : suc n ≡ n + 1 = omega arith in record {
     root = later root other made.root;
     others = λ i x at. ⊎_elim
-        (λ new. subst (λ y. IsOther code places y) new.1 (record { code = loaded.code; places = loaded.places; lacks = lacks h other loaded }))
+        (λ new. subst (λ y. IsOther code places y) new.1 (record { code = loaded.code; places = loaded.places; lacks = lacks code places n h other loaded }))
         (λ old. made.others i x old) (snoc_cases others h x i at);
     cores = map_snoc (λ (x : Hosted). x.cores) others h
         ∙ ap (λ l. l ++ h.cores ∷ []) made.cores ∙ ap (λ c. map (λ core. core ∷ []) (other_cores places n) ++ c ∷ []) loaded.cores

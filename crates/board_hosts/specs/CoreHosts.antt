@@ -1,7 +1,9 @@
 -- One host for each core that has threads.
-use Rattle.std.specs.Prelude.{ℕ, zero, suc, ◌≡◌, ◌≤◌, ◌==◌, Bool, true, false, not, ◌&&◌, cond, Option, Some, MatchOption, List, [], ◌∷◌, ◌++◌, map, get_or, slice_get}
+use Rattle.std.specs.Prelude.{ℕ, zero, suc, ◌≡◌, ◌+◌, ◌≤◌, ◌==◌, Bool, true, false, not, ◌&&◌, cond, Option, Some, IfSome, MatchOption, List, [], ◌∷◌, ◌++◌, map, get_or, slice_get}
 use Rattle.forec_kernel.specs.Combining.{contains}
 use Rattle.thread_code.specs.declared.instruction.CodeParts.{CodeParts}
+use Rattle.core_alloc.specs.Places.{Places}
+use Rattle.core_bells.specs.Ropes.{RopeState, new_rope}
 use Rattle.core_host.specs.Hosted.{Hosted, is_here, is_live}
 use Rattle.core_host.specs.Runs.{HasJobs, HasRun}
 
@@ -26,6 +28,14 @@ pub record IsLoaded (c : CodeParts) (on : List ℕ) (core : ℕ) (h : Hosted) : 
   pub live : is_live h ≡ true
   pub none : is_here h 0 ≡ true → HasRun h []
   pub jobs : is_here h 0 ≡ true → HasJobs h []
+
+-- the rope of a core, if there is one, by which nothing was done
+abbrev pub IsNewRope : CodeParts → Places → ℕ → Option RopeState → Type 0
+IsNewRope code placement core rope = IfSome rope (λ r. r ≡ new_rope code placement core)
+
+-- the ropes of the first cores from this one on
+abbrev pub AreNewRopes : CodeParts → Places → ℕ → List RopeState → Type 0
+AreNewRopes code placement core ropes = (i : ℕ) (r : RopeState) → slice_get ropes i ≡ Some r → r ≡ new_rope code placement (core + i)
 
 -- the host of the core of thread 0
 pub record IsRoot (c : CodeParts) (on : List ℕ) (h : Hosted) : Type 0 where

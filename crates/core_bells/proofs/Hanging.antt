@@ -1,5 +1,5 @@
 -- A rope's passes and logs, when one of them changes.
-use Rattle.std.proofs.Common.{◌≡◌, ℕ, zero, suc, ◌+◌, ◌-◌, ◌^◌, ◌<◌, ◌∷◌, [], List, Bool, true, false, length, length-set, map, set, sym, ap, ◌∙◌, subst, ⊎_elim, arith}
+use Rattle.std.proofs.Common.{◌≡◌, ℕ, zero, suc, ◌+◌, ◌-◌, ◌^◌, ◌<◌, ◌≤◌, ◌∷◌, [], List, Bool, true, false, length, length-set, map, set, refl, sym, ap, ◌∙◌, subst, ⊎_elim, arith}
 use Rattle.std.specs.Prelude.{Option, Some, None, cond, get_or, min, slice_get, slice_set}
 use Rattle.std.proofs.lemmas.List.{map-set}
 use Rattle.std.proofs.lemmas.Option.{get_or_from_slice_get}
@@ -10,7 +10,7 @@ use Rattle.crossbeam_queue.specs.Fifo.{Held}
 use Rattle.core_alloc.specs.Places.{Places}
 use Rattle.core_bells.specs.declared.hints.HintLog.{HintLog}
 use Rattle.core_bells.specs.Hints.{Accounts, Knows, after_pop, after_push, new_log}
-use Rattle.core_bells.specs.Ropes.{FitsCore, WasEmpty, WasFull, capped, logs_of, pushed_by, rope_state}
+use Rattle.core_bells.specs.Ropes.{RopeState, FitsCore, IsSameRope, WasEmpty, WasFull, after_ring, after_rope_pop, capped, logs_of, pushed_by, rope_state}
 use Rattle.core_bells.proofs.Lists.{length_snoc, same_there, set_cases}
 
 pub get_map : {A B : Type 0} (f : A → B) (l : List A) (k : ℕ) (a : A) → slice_get l k ≡ Some a → slice_get (map f l) k ≡ Some (f a)
@@ -88,3 +88,24 @@ may_push false hint v w e = ap (λ (y : HintLog). y.may_pop) e
 pub may_pop : (hint : Option ℕ) (v w : HintLog) → w ≡ after_pop hint v → w.may_pop ≡ v.may_pop
 may_pop None v w e = ap (λ (y : HintLog). y.may_pop) e
 may_pop (Some hint) v w e = ap (λ (y : HintLog). y.may_pop) e
+
+-- ---- what a rope keeps
+
+pushed_more : (logs : List HintLog) (k : ℕ) (f : HintLog → HintLog) → ((v : HintLog) → length v.pushed ≤ length (f v).pushed) → pushed_by logs ≤ pushed_by (slice_set logs k (f (get_or logs k (new_log false))))
+pushed_more [] k f more = omega arith
+pushed_more (u ∷ logs) zero f more = let m = more u in omega (arith, m)
+pushed_more (u ∷ logs) (suc k) f more = let t = pushed_more logs k f more in omega (arith, t)
+
+push_more : (fits : Bool) (hint : ℕ) (v : HintLog) → length v.pushed ≤ length (after_push fits hint v).pushed
+push_more true hint v = let s = length_snoc v.pushed hint in omega (arith, s)
+push_more false hint v = omega arith
+
+pop_more : (hint : Option ℕ) (v : HintLog) → length v.pushed ≤ length (after_pop hint v).pushed
+pop_more None v = omega arith
+pop_more (Some hint) v = omega arith
+
+pub ring_same : (k hint : ℕ) (fits : Bool) (r : RopeState) → IsSameRope r (after_ring k hint fits r)
+ring_same k hint fits r = record { placement = refl; core = refl; rooms = refl; pushed = pushed_more r.logs k (after_push fits hint) (push_more fits hint) }
+
+pub pop_same : (hint : Option ℕ) (r : RopeState) → IsSameRope r (after_rope_pop hint r)
+pop_same hint r = record { placement = refl; core = refl; rooms = refl; pushed = pushed_more r.logs r.core (after_pop hint) (pop_more hint) }

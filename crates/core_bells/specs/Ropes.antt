@@ -1,5 +1,5 @@
 -- The ropes of the cores.
-use Rattle.std.specs.Prelude.{◌≡◌, ℕ, zero, suc, ◌-◌, ◌^◌, ◌<◌, ◌≤◌, ◌==◌, min, All, get_or, slice_get, slice_set, Option, Some, List, [], ◌∷◌, ◌++◌, length, map, true, false, Bool}
+use Rattle.std.specs.Prelude.{◌≡◌, ℕ, zero, suc, ◌-◌, ◌^◌, ◌<◌, ◌≤◌, ◌==◌, min, All, get_or, slice_get, slice_set, Option, None, Some, List, [], ◌∷◌, ◌++◌, length, map, true, false, Bool}
 use Rattle.crossbeam_queue.specs.declared.array_queue.Doing.{Doing}
 use Rattle.crossbeam_queue.specs.declared.array_queue.Slotted.{Slotted}
 use Rattle.crossbeam_queue.specs.Fifo.{Held}
@@ -40,6 +40,10 @@ new_ropes code placement (suc n) = new_ropes code placement n ++ new_rope code p
 
 -- ---- what the calls of a rope do
 
+-- the hints that a rope pushed
+abbrev pub pushed_by : List HintLog → ℕ
+pushed_by logs = total (λ v. length v.pushed) logs
+
 abbrev pub log_at : RopeState → ℕ → HintLog
 log_at r core = get_or r.logs core (new_log false)
 
@@ -54,6 +58,18 @@ after_ring core hint fits r = record r { logs = slice_set r.logs core (after_pus
 abbrev pub after_rope_pop : Option ℕ → RopeState → RopeState
 after_rope_pop hint r = record r { logs = slice_set r.logs r.core (after_pop hint (own_log r)) }
 
+-- a hint was pushed to the queue of the thread's core, if it fitted; a thread that has no place has no queue
+pub record HasHinted (thread hint : ℕ) (r q : RopeState) : Type 0 where
+  pub placed : (core : ℕ) → slice_get r.placement.places thread ≡ Some core → (fits : Bool) × (q ≡ after_ring core hint fits r)
+  pub else : slice_get r.placement.places thread ≡ None → q ≡ r
+
+-- the same rope, later: what it pushed to each queue, and popped, it still has
+pub record IsSameRope (r q : RopeState) : Type 0 where
+  pub placement : q.placement ≡ r.placement
+  pub core : q.core ≡ r.core
+  pub rooms : q.rooms ≡ r.rooms
+  pub pushed : pushed_by r.logs ≤ pushed_by q.logs
+
 -- at one moment the core's queue held as many hints as it has room for
 abbrev pub WasFull : ℕ → RopeState → Type 0
 WasFull core r = Held (get_or r.rooms core 0) (Knows (log_at r core))
@@ -61,10 +77,6 @@ WasFull core r = Held (get_or r.rooms core 0) (Knows (log_at r core))
 -- at one moment the own core's queue held no hint, and whatever the rope pushed there it has popped
 abbrev pub WasEmpty : RopeState → Type 0
 WasEmpty r = Held 0 (Accounts (own_log r))
-
--- the hints that a rope pushed
-abbrev pub pushed_by : List HintLog → ℕ
-pushed_by logs = total (λ v. length v.pushed) logs
 
 abbrev pub capped : ℕ → ℕ
 capped n = min n (2 ^ 64 - 1)

@@ -1,6 +1,6 @@
 //! The rope of one core.
 ghost use Rattle.std.specs.Prelude.{◌≡◌, ◌<◌, ◌+◌, ◌-◌, ◌^◌, All, None, cond, length, min, true, false};
-ghost use Rattle.core_bells.specs.Ropes.{WasEmpty, WasFull, after_ring, after_rope_pop, capped, own_log, pushed_by};
+ghost use Rattle.core_bells.specs.Ropes.{HasHinted, IsSameRope, WasEmpty, WasFull, after_ring, after_rope_pop, capped, own_log, pushed_by};
 
 use crate::belfry::Belfry;
 use crate::hints::HintPass;
@@ -88,9 +88,21 @@ impl<'b> Rope<'b> {
         fits
     }
 
+    /// Pushes a hint to the queue of a thread's core, and wakes that core. A hint that doesn't fit is dropped, and the core is
+    /// woken all the same.
+    pub fn hint<R: Wait>(&mut self, rt: &R, thread: u32, mailbox: u32)
+        ensures hinted { HasHinted thread mailbox self.old self.new }
+        ensures same { IsSameRope self.old self.new }
+    {
+        if let Some(core) = self.belfry.places.get(thread as usize) {
+            self.ring(rt, *core, mailbox);
+        }
+    }
+
     /// Pops the oldest hint of its own core. None only where there was no hint at one moment of the call.
     pub fn pop<R: Wait>(&mut self, rt: &R) -> Option<u32>
         ensures state { self.new ≡ after_rope_pop result self.old }
+        ensures same { IsSameRope self.old self.new }
         ensures empty { result ≡ None → WasEmpty self.old }
     {
         let at = self.core as usize;

@@ -25,6 +25,8 @@ use Rattle.core_host.specs.Keeping.{State, code_in, IsSeated, Sits, HasPacket, H
 use Rattle.core_host.specs.Waiting.{HasTold, IsForked, IsGathering, HasReplies, HasChild, IsBetween}
 use Rattle.core_host.specs.Serving.{MovesBranches, KeepsServing}
 use Rattle.core_host.specs.OnJob.{IsOnJob, KeepsOthers}
+use Rattle.core_host.specs.Rounds.{CanServe, IsSameRound}
+use Rattle.core_host.specs.declared.round.Round.{Round}
 use Rattle.core_host.proofs.Mails.{state, alike_then, extends_same, get_set_else}
 use Rattle.core_host.proofs.Keep.{grown_same, grown_then, packet_keeps, seated_by}
 use Rattle.core_host.proofs.Forked.{fork_at, is_forked}
@@ -99,11 +101,14 @@ branches_others a b t root m = record {
 pub others_seated : (a b : State) → KeepsOthers a b → IsSeated a → IsSeated b
 others_seated a b k seated = seated_by a b k.code k.places k.alike k.seat_count k.hand_count seated
 
-pub each_still : (a b : State) (own : List ℕ) → KeepsOthers a b → ((i k : ℕ) → slice_get own i ≡ Some k → (k < length a.mail.ends) × IsBetween a k) → (i k : ℕ) → slice_get own i ≡ Some k → (k < length b.mail.ends) × IsBetween b k
-each_still a b own keeps each i k at =
-    let e = each i k at in
-    let lt = e.0 in
-    let count = keeps.alike.count in (omega (arith, lt, count), keeps.between k e.1)
+pub round_others : (s0 s1 : State) (a b : Round) → KeepsOthers s0 s1 → IsSameRound a b → CanServe s0 a → CanServe s1 b
+round_others s0 s1 a b keeps same can = record {
+  next = same.next;
+  each = λ i k at.
+      let e = can.each i k (ap (λ l. slice_get l i) (sym same.own) ∙ at) in
+      let lt = e.0 in
+      let count = keeps.alike.count in (omega (arith, lt, count), keeps.between k e.1);
+}
 
 pub serving_gathering : (a b : State) (h : Thread) → h.number ≡ 0 → KeepsServing a b → (pairs : List Answered) → IsGathering a h pairs → IsGathering b h pairs
 serving_gathering a b h root keeps pairs w =

@@ -1,11 +1,13 @@
 -- A host serves mailboxes.
-use Rattle.std.proofs.Common.{◌≡◌, ℕ, suc, ◌<◌, ◌==◌, Bool, true, false, cond, Some, List, [], ◌∷◌, length, refl, sym, ap, ◌∙◌, subst, arith}
-use Rattle.std.specs.Prelude.{slice_get}
+use Rattle.std.proofs.Common.{◌≡◌, ℕ, suc, ◌<◌, ◌≤◌, ◌==◌, Bool, true, false, cond, Some, List, [], ◌∷◌, length, refl, sym, ap, ◌∙◌, subst, arith}
+use Rattle.std.specs.Prelude.{Option, None, get_or, slice_get}
 use Rattle.std.proofs.lemmas.Bool.Decides.{nat_tests}
+use Rattle.std.proofs.lemmas.Option.{slice_get-get_or}
 use Rattle.forec_kernel.specs.Combining.{contains}
 use Rattle.forec_kernel.specs.Packed.{HasRoom}
 use Rattle.forec_kernel.specs.Engine.{Job}
 use Rattle.forec_kernel.specs.Composed.{Turn}
+use Rattle.thread_code.specs.declared.instruction.CodeParts.{CodeParts}
 use Rattle.thread_code.specs.Plain.{plain_code}
 use Rattle.thread_code.specs.Valid.{of_shape}
 use Rattle.thread_code.specs.Alone.{Stands}
@@ -14,13 +16,18 @@ use Rattle.combine_tree.specs.declared.packet.Packet.{Packet}
 use Rattle.combine_tree.specs.Plain.{plain_packet}
 use Rattle.core_machine.specs.declared.thread.Thread.{Thread}
 use Rattle.core_machine.specs.Held.{Loaded}
+use Rattle.core_bells.specs.Ropes.{RopeState, IsSameRope, rooms_of}
 use Rattle.copy_slots.specs.Ports.{child_at, ChildIs}
+use Rattle.core_alloc.specs.Places.{Places}
 use Rattle.core_host.specs.Posts.{IsBranchOf}
 use Rattle.core_host.specs.Loads.{is_on, AreOwn}
 use Rattle.core_host.specs.Done.{HasDone}
 use Rattle.core_host.specs.Keeping.{State, code_in, IsSeated, Sits, Idle, HasPacket}
 use Rattle.core_host.specs.Waiting.{IsBetween, rests, waits}
 use Rattle.core_host.specs.Serving.{KeepsServing}
+use Rattle.core_host.specs.Hung.{IsRopeOf, IsHung, KeepsRope}
+use Rattle.core_host.specs.Rounds.{CanServe, IsSameRound}
+use Rattle.core_host.specs.declared.round.Round.{Round}
 use Rattle.core_host.specs.Hosted.{Hosted, hosted, is_here, IsWhole}
 use Rattle.core_host.specs.Rests.{RootRests, IsHosted}
 use Rattle.core_host.specs.Runs.{HasJobs, HasRun}
@@ -40,17 +47,73 @@ contains_where (x ∷ l) k e = pick (x == k) refl e (contains_where l k)
     pick true q e ih = (0, ap Some (is_it x k q))
     pick false q e ih = let r = ih e in (suc r.0, r.1)
 
+-- ---- the rope
+
+pub same_rope : (r : RopeState) → IsSameRope r r
+same_rope r = record { placement = refl; core = refl; rooms = refl; pushed = omega arith }
+
+pub same_then : (r q p : RopeState) → IsSameRope r q → IsSameRope q p → IsSameRope r p
+same_then r q p h g =
+    let one = h.pushed in
+    let two = g.pushed in record { placement = g.placement ∙ h.placement; core = g.core ∙ h.core; rooms = g.rooms ∙ h.rooms; pushed = omega (arith, one, two) }
+
+pub rope_same : (a : Option RopeState) → KeepsRope a a
+rope_same None = tt
+rope_same (Some r) = same_rope r
+
+pub rope_then : (a b c : Option RopeState) → KeepsRope a b → KeepsRope b c → KeepsRope a c
+rope_then None None None h g = tt
+rope_then (Some r) (Some q) (Some p) h g = same_then r q p h g
+rope_then None (Some q) c h g = absurd h
+rope_then (Some r) None c h g = absurd h
+rope_then None None (Some p) h g = absurd g
+rope_then (Some r) (Some q) None h g = absurd g
+
+pub hung_keeps : (code0 code1 : CodeParts) (places0 places1 cores : List ℕ) (a b : Option RopeState) → code1 ≡ code0 → places1 ≡ places0 → KeepsRope a b → IsHung code0 places0 cores a → IsHung code1 places1 cores b
+hung_keeps code0 code1 places0 places1 cores None None code places same hung = tt
+hung_keeps code0 code1 places0 places1 cores (Some r) (Some q) code places same hung = record {
+  core = hung.core ∙ ap (λ k. k ∷ []) (sym same.core);
+  places = ap (λ (p : Places). p.places) same.placement ∙ hung.places ∙ sym places;
+  rooms = same.rooms ∙ hung.rooms ∙ ap (λ (x : CodeParts × Places). rooms_of x.0 x.1) (λ i. (sym code i, sym same.placement i));
+}
+hung_keeps code0 code1 places0 places1 cores None (Some q) code places same hung = absurd same
+hung_keeps code0 code1 places0 places1 cores (Some r) None code places same hung = absurd same
+
+-- ---- the round
+
+pub round_same : (s : State) (r : Round) → CanServe s r → IsSameRound r r
+round_same s r can = record { own = refl; next = can.next; rope = rope_same r.rope }
+
+pub its_turn : (s : State) (r : Round) → CanServe s r → (i k : ℕ) → i < length r.own.items → k ≡ get_or r.own.items i k → (k < length s.mail.ends) × IsBetween s k
+its_turn s r can i k lt is = can.each i k (slice_get-get_or r.own.items i k lt ∙ ap Some (sym is))
+
+pub round_moved : (a b : Round) → a.next ≤ length a.own.items → b.own ≡ a.own → b.next ≡ a.next → KeepsRope a.rope b.rope → IsSameRound a b
+round_moved a b within own next rope =
+    let same = ap (λ v. length v.items) own in record { own = ap (λ v. v.items) own; next = omega (arith, within, same, next); rope = rope }
+
+pub round_then : (a b c : Round) → IsSameRound a b → IsSameRound b c → IsSameRound a c
+round_then a b c h g = record { own = g.own ∙ h.own; next = g.next; rope = rope_then a.rope b.rope c.rope h.rope g.rope }
+
+pub round_still : (s0 s1 : State) (a b : Round) → KeepsServing s0 s1 → IsSameRound a b → CanServe s0 a → CanServe s1 b
+round_still s0 s1 a b keeps same can = record {
+  next = same.next;
+  each = λ i k at.
+      let e = can.each i k (ap (λ l. slice_get l i) (sym same.own) ∙ at) in
+      let lt = e.0 in
+      let count = keeps.alike.count in (omega (arith, lt, count), keeps.between k e.1);
+}
+
 -- ---- what a host keeps
 
-pub hosted_seated : (s : State) (cores : List ℕ) (root : Packet) (live : Bool) → IsHosted (hosted s cores root live) → IsSeated s
-hosted_seated s cores root live inv = record { valid = inv.valid; work = inv.work; mailboxes = inv.mailboxes; seats = inv.seats; hands = inv.hands; places = inv.places }
+pub hosted_seated : (s : State) (cores : List ℕ) (root : Packet) (live : Bool) (rope : Option RopeState) → IsHosted (hosted s cores root live rope) → IsSeated s
+hosted_seated s cores root live rope inv = record { valid = inv.valid; work = inv.work; mailboxes = inv.mailboxes; seats = inv.seats; hands = inv.hands; places = inv.places }
 
-module _ (s0 s1 : State) (cores : List ℕ) (root : Packet) (live : Bool) (keeps : KeepsServing s0 s1) where
+module _ (s0 s1 : State) (cores : List ℕ) (root : Packet) (live : Bool) (rope0 rope1 : Option RopeState) (keeps : KeepsServing s0 s1) where
   abbrev h0 : Hosted
-  h0 = hosted s0 cores root live
+  h0 = hosted s0 cores root live rope0
 
   abbrev h1 : Hosted
-  h1 = hosted s1 cores root live
+  h1 = hosted s1 cores root live rope1
 
   back : (t : ℕ) → is_here h1 t ≡ true → is_here h0 t ≡ true
   back t on = ap (λ l. is_on l cores t) (sym keeps.places) ∙ on
@@ -110,9 +173,9 @@ module _ (s0 s1 : State) (cores : List ℕ) (root : Packet) (live : Bool) (keeps
     root_still : RootRests s0 → RootRests s1
     root_still r = record { thread = r.thread; sits = sits_still r.thread r.sits; resting = r.resting; jobs = r.jobs; done = done_still r.thread r.jobs r.sits.number r.done }
 
-    pub served_hosted : IsHosted h1
-    served_hosted =
-        let seated = keeps_seated s0 s1 keeps (hosted_seated s0 cores root live inv) in
+    pub served_hosted : KeepsRope rope0 rope1 → IsHosted h1
+    served_hosted same =
+        let seated = keeps_seated s0 s1 keeps (hosted_seated s0 cores root live rope0 inv) in
         record {
           valid = seated.valid;
           work = seated.work;
@@ -127,12 +190,13 @@ module _ (s0 s1 : State) (cores : List ℕ) (root : Packet) (live : Bool) (keeps
           between = λ k lt there. keeps.between k (inv.between k (within k lt) (keeps.was_here k there));
           keeper = λ on. keeps.alike.root ∙ inv.keeper (back 0 on);
           packets = λ on k lt mine. packet_still k mine (inv.packets (back 0 on) k (within k lt) (subst (λ x. IsBranchOf (plain_code x).shape 0 k) keeps.code mine));
+          hung = hung_keeps s0.code s1.code s0.places s1.places cores rope0 rope1 keeps.code keeps.places same inv.hung;
         }
 
 -- ---- its mailboxes
 
-module _ (s : State) (cores : List ℕ) (root : Packet) (live : Bool) (inv : IsHosted (hosted s cores root live)) (own : List ℕ) (are : AreOwn s.places cores own) where
-  pub its_own : (i k : ℕ) → slice_get own i ≡ Some k → (k < length s.mail.ends) × (is_here (hosted s cores root live) (suc k) ≡ true)
+module _ (s : State) (cores : List ℕ) (root : Packet) (live : Bool) (rope : Option RopeState) (inv : IsHosted (hosted s cores root live rope)) (own : List ℕ) (are : AreOwn s.places cores own) where
+  pub its_own : (i k : ℕ) → slice_get own i ≡ Some k → (k < length s.mail.ends) × (is_here (hosted s cores root live rope) (suc k) ≡ true)
   its_own i k at =
       let o = are.here i k at in
       let lt = o.0 in (omega (arith, lt, inv.places, inv.mailboxes), o.1)
@@ -140,7 +204,7 @@ module _ (s : State) (cores : List ℕ) (root : Packet) (live : Bool) (inv : IsH
   pub each_between : (i k : ℕ) → slice_get own i ≡ Some k → (k < length s.mail.ends) × IsBetween s k
   each_between i k at = let o = its_own i k at in (o.0, inv.between k o.0 (inv.here k o.0 o.1))
 
-  pub where_own : (k : ℕ) → k < length s.mail.ends → is_here (hosted s cores root live) (suc k) ≡ true → (i : ℕ) × (slice_get own i ≡ Some k)
+  pub where_own : (k : ℕ) → k < length s.mail.ends → is_here (hosted s cores root live rope) (suc k) ≡ true → (i : ℕ) × (slice_get own i ≡ Some k)
   where_own k lt on = contains_where own k (are.all k (omega (arith, lt, inv.places, inv.mailboxes)) on)
 
 -- ---- a thread that rests

@@ -66,7 +66,7 @@ module _ (code : CodeParts) (valid : IsValidCode (plain_code code)) (placement :
   st = record { code = code; places = placement.places; mail = mail; seats = seats; hands = hands }
 
   abbrev pub new_host : Hosted
-  new_host = hosted st cores root true
+  new_host = hosted st cores root true None
 
   abbrev on : ℕ → Bool
   on t = is_on placement.places cores t
@@ -178,6 +178,7 @@ module _ (code : CodeParts) (valid : IsValidCode (plain_code code)) (placement :
     between = new_between;
     keeper = can.root;
     packets = λ here k lt mine. new_packet 0 k lt mine here;
+    hung = tt;
   }
 
   pub new_jobs : is_here new_host 0 ≡ true → HasJobs new_host []

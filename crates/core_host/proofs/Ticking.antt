@@ -19,6 +19,9 @@ use Rattle.combine_tree.specs.Plain.{plain_packet}
 use Rattle.core_machine.specs.declared.thread.Thread.{Thread}
 use Rattle.core_machine.specs.Held.{CanBegin}
 use Rattle.core_machine.specs.Replies.{Replies_by}
+use Rattle.std.specs.Prelude.{Option}
+use Rattle.core_bells.specs.Ropes.{RopeState}
+use Rattle.core_host.specs.Hung.{KeepsRope}
 use Rattle.core_host.specs.Posts.{IsBranchOf, HasPosted, HasPostedTaken}
 use Rattle.core_host.specs.Done.{HasDone}
 use Rattle.core_host.specs.Jobs.{IsBetween, kind_of, job_of}
@@ -30,6 +33,7 @@ use Rattle.core_host.specs.Ending.{HasReplied}
 use Rattle.core_host.specs.Hosted.{Hosted, hosted, state_in, code_of, is_here, IsWhole}
 use Rattle.core_host.specs.Rests.{IsReady, RootRests, IsHosted}
 use Rattle.core_host.specs.Runs.{HasJobs, HasTicked}
+use Rattle.core_host.proofs.Hosting.{hung_keeps}
 use Rattle.core_host.proofs.Ticked.{Told, told, keeps_now, jobs_are, goes_on_paused, comes_to, job_fits, fits_then}
 
 -- ---- before
@@ -83,17 +87,17 @@ pub record HasRested (s : State) (cores : List ℕ) : Type 0 where
   pub keeper : is_on s.places cores 0 ≡ true → s.mail.root ≡ true
   pub packets : (k : ℕ) → k < length s.mail.ends → IsBranchOf (code_in s).shape 0 k → HasPacket s k
 
-pub quiet_rested : (s0 s1 : State) (cores : List ℕ) (p : Packet) (live : Bool) → IsHosted (hosted s0 cores p live) → s1.places ≡ s0.places → s1.mail.root ≡ s0.mail.root → QuietAbove s1 0 → HasRested s1 cores
-quiet_rested s0 s1 cores p live inv places root quiet = record {
+pub quiet_rested : (s0 s1 : State) (cores : List ℕ) (p : Packet) (live : Bool) (rope : Option RopeState) → IsHosted (hosted s0 cores p live rope) → s1.places ≡ s0.places → s1.mail.root ≡ s0.mail.root → QuietAbove s1 0 → HasRested s1 cores
+quiet_rested s0 s1 cores p live rope inv places root quiet = record {
   here = λ k lt on. (false, (quiet k (omega arith) lt).idle.child);
   between = λ k lt there. rests (record { idle = (quiet k (omega arith) lt).idle; has = λ j less mine. (quiet j (omega arith) less).packet });
   keeper = λ on. root ∙ inv.keeper (ap (λ l. is_on l cores 0) (sym places) ∙ on);
   packets = λ k lt mine. (quiet k (omega arith) lt).packet;
 }
 
-pub beside_rested : (s0 s1 : State) (cores : List ℕ) (p : Packet) (live : Bool) → IsHosted (hosted s0 cores p live) → IsSeated s1 → s1.code ≡ s0.code → s1.places ≡ s0.places → s1.mail.root ≡ s0.mail.root → ((k : ℕ) → HasChild s0.mail k → HasChild s1.mail k) →
+pub beside_rested : (s0 s1 : State) (cores : List ℕ) (p : Packet) (live : Bool) (rope : Option RopeState) → IsHosted (hosted s0 cores p live rope) → IsSeated s1 → s1.code ≡ s0.code → s1.places ≡ s0.places → s1.mail.root ≡ s0.mail.root → ((k : ℕ) → HasChild s0.mail k → HasChild s1.mail k) →
     ((k : ℕ) → HasChild s1.mail k → HasChild s0.mail k) → ((k : ℕ) → IsServed s0 k → IsServed s1 k) → ((k : ℕ) → k < length s1.mail.ends → IsBranchOf (code_in s0).shape 0 k → HasPacket s1 k) → HasRested s1 cores
-beside_rested s0 s1 cores p live inv seated code places root here was_here between packets = record {
+beside_rested s0 s1 cores p live rope inv seated code places root here was_here between packets = record {
   here = λ k lt on. here k (inv.here k (within k lt) (ap (λ l. is_on l cores (suc k)) (sym places) ∙ on));
   between = λ k lt there. between k (inv.between k (within k lt) (was_here k there));
   keeper = λ on. root ∙ inv.keeper (ap (λ l. is_on l cores 0) (sym places) ∙ on);
@@ -106,8 +110,8 @@ beside_rested s0 s1 cores p live inv seated code places root here was_here betwe
         let zero = inv.mailboxes in
         let same = ap (λ x. length (plain_code x).threads) code in omega (arith, lt, one, zero, same)
 
-module _ (s0 s1 : State) (cores : List ℕ) (p0 p1 pj : Packet) (live0 live1 : Bool) (inv : IsHosted (hosted s0 cores p0 live0)) (live : live0 ≡ true) (row : List ℤ) (budget : ℕ)
-    (isjob : IsJob (plain_packet pj) (job_of (code_in s0).shape p0 row budget)) (seated1 : IsSeated s1) (code1 : s1.code ≡ s0.code) (rested1 : HasRested s1 cores) (root1 : RootRests s1)
+module _ (s0 s1 : State) (cores : List ℕ) (p0 p1 pj : Packet) (live0 live1 : Bool) (rope0 rope1 : Option RopeState) (inv : IsHosted (hosted s0 cores p0 live0 rope0)) (live : live0 ≡ true) (row : List ℤ) (budget : ℕ)
+    (isjob : IsJob (plain_packet pj) (job_of (code_in s0).shape p0 row budget)) (seated1 : IsSeated s1) (code1 : s1.code ≡ s0.code) (places1 : s1.places ≡ s0.places) (same_rope : KeepsRope rope0 rope1) (rested1 : HasRested s1 cores) (root1 : RootRests s1)
     (room1 : HasRoom (of_shape (code_in s0).shape) 0 (plain_packet p1)) (kind1 : (t : Thread) → Sits s1 0 t → Replies_by t p1.kind)
     (replied1 : (t u : Thread) (jobs : List Job) (job : Job) → Sits s0 0 t → Sits s1 0 u → HasDone (code_in s0) t s0.mail jobs → IsJob (plain_packet pj) job → HasReplied s1 u (jobs ++ job ∷ []) (plain_packet p1))
     (outcome : Outcome) (outcome_is : outcome ≡ outcome_in p1.kind) (live_is : live1 ≡ goes_on outcome) where
@@ -118,10 +122,10 @@ module _ (s0 s1 : State) (cores : List ℕ) (p0 p1 pj : Packet) (live0 live1 : B
   job = job_of c.shape p0 row budget
 
   abbrev h0 : Hosted
-  h0 = hosted s0 cores p0 live0
+  h0 = hosted s0 cores p0 live0 rope0
 
   abbrev h1 : Hosted
-  h1 = hosted s1 cores p1 live1
+  h1 = hosted s1 cores p1 live1 rope1
 
   pub it_replied : IsReplied p1.kind
   it_replied = replied_of root1.thread p1.kind (kind1 root1.thread root1.sits)
@@ -144,6 +148,7 @@ module _ (s0 s1 : State) (cores : List ℕ) (p0 p1 pj : Packet) (live0 live1 : B
     between = rested1.between;
     keeper = rested1.keeper;
     packets = λ on. rested1.packets;
+    hung = hung_keeps s0.code s1.code s0.places s1.places cores rope0 rope1 code1 places1 same_rope inv.hung;
   }
 
   replies_for : (jobs : List Job) (old : HasJobs h0 jobs) → HasReplied s1 root1.thread (jobs ++ job ∷ []) (plain_packet p1)

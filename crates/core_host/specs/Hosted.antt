@@ -3,13 +3,15 @@ use Rattle.std.specs.Prelude.{ℕ, ◌≡◌, ◌<◌, Bool, true, Option, List,
 use Rattle.combine_tree.specs.declared.packet.Packet.{Packet}
 use Rattle.thread_code.specs.declared.instruction.CodeParts.{CodeParts}
 use Rattle.thread_code.specs.Plain.{PlainCode, plain_code}
+use Rattle.core_bells.specs.Ropes.{RopeState}
 use Rattle.core_host.specs.declared.seat.Seat.{Seat}
 use Rattle.core_host.specs.Posts.{Mail}
 use Rattle.core_host.specs.Keeping.{State, Quiet}
 use Rattle.core_host.specs.Loads.{is_on}
 
 -- `places`: the core of each thread. `cores`: those of this host. `mail`: what went through its mailboxes. `seats`: each thread, with the job in its hand.
--- `hands`: the packets in the parents' hands. `root`: the packet of thread 0, in a tick its job, between ticks its reply. `live`: each tick so far has paused
+-- `hands`: the packets in the parents' hands. `root`: the packet of thread 0, in a tick its job, between ticks its reply. `live`: each tick so far has paused.
+-- `rope`: what hangs on the host, to wait and to wake others by
 pub record Hosted : Type 0 where
   pub code : CodeParts
   pub places : List ℕ
@@ -19,10 +21,11 @@ pub record Hosted : Type 0 where
   pub hands : List (Option Packet)
   pub root : Packet
   pub live : Bool
+  pub rope : Option RopeState
 
-abbrev pub hosted : State → List ℕ → Packet → Bool → Hosted
-hosted s cores root live =
-    record { code = s.code; places = s.places; cores = cores; mail = s.mail; seats = s.seats; hands = s.hands; root = root; live = live }
+abbrev pub hosted : State → List ℕ → Packet → Bool → Option RopeState → Hosted
+hosted s cores root live rope =
+    record { code = s.code; places = s.places; cores = cores; mail = s.mail; seats = s.seats; hands = s.hands; root = root; live = live; rope = rope }
 
 abbrev pub state_in : Hosted → State
 state_in h = record { code = h.code; places = h.places; mail = h.mail; seats = h.seats; hands = h.hands }

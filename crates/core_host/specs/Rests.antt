@@ -9,6 +9,7 @@ use Rattle.thread_code.specs.Valid.{of_shape, IsValidCode}
 use Rattle.core_machine.specs.declared.thread.Thread.{Thread}
 use Rattle.core_machine.specs.Held.{IsResting, HasPaused}
 use Rattle.core_host.specs.Done.{HasDone}
+use Rattle.core_host.specs.Hung.{IsHung}
 use Rattle.core_host.specs.Posts.{IsBranchOf}
 use Rattle.core_host.specs.Keeping.{State, code_in, Sits, HasPacket}
 use Rattle.core_host.specs.Waiting.{HasChild, IsBetween}
@@ -44,3 +45,5 @@ pub record IsHosted (h : Hosted) : Type 0 where
   -- thread 0's port is the root's, and each packet of its branches is its own
   pub keeper : is_here h 0 ≡ true → h.mail.root ≡ true
   pub packets : is_here h 0 ≡ true → (k : ℕ) → k < length h.mail.ends → IsBranchOf (code_of h).shape 0 k → HasPacket (state_in h) k
+  -- a rope that hangs is that of the host's core
+  pub hung : IsHung h.code h.places h.cores h.rope

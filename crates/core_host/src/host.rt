@@ -1,5 +1,5 @@
 //! The host of some of a code's threads.
-ghost use Rattle.std.specs.Prelude.{◌≡◌, ◌≤◌, ◌<◌, ◌++◌, ◌∷◌, [], ℕ, suc, List, length, true, false, IfOk, IsTrue};
+ghost use Rattle.std.specs.Prelude.{◌≡◌, ◌≤◌, ◌<◌, ◌++◌, ◌∷◌, [], ℕ, suc, List, Some, None, option_map, length, true, false, IfOk, IsTrue};
 ghost use Rattle.forec_base.specs.declared.limits.TheConstants.{MAX_BUDGET};
 ghost use Rattle.forec_kernel.specs.Composed.{Turn, state_after};
 ghost use Rattle.forec_kernel.specs.Engine.{Job};
@@ -16,10 +16,12 @@ use crate::desk::Desk;
 use crate::job::write_job;
 use crate::load::{empty_hands, own_mailboxes, places_of, seats_of};
 use crate::outcome::write_outcome;
+use crate::round::Round;
 use crate::work::ForecWork;
 use combine_tree::Packet;
 use copy_slots::Port;
 use core_alloc::Placement;
+use core_bells::Rope;
 use forec_base::{Gate, OutOfMemory};
 use forec_kernel::Outcome;
 use std::alloc::Global;
@@ -46,14 +48,11 @@ pub enum Served {
 pub struct Host<'c, P: Port<ForecWork> + Drop> {
     pub(crate) desk: Desk<'c, P>,
     pub(crate) cores: Vec<u32>,
-    /// The mailboxes of its threads.
-    pub(crate) own: Vec<u32>,
-    /// Where in `own` the next serving starts: behind the mailbox that was served last.
-    pub(crate) next: usize,
+    pub(crate) round: Round<'c>,
     pub(crate) root: Packet,
     pub(crate) live: bool,
-    ghost own_are: { AreOwn desk.places cores.items own.items },
-    ghost next_within: { next ≤ length own.items },
+    ghost own_are: { AreOwn desk.places cores.items round.own.items },
+    ghost next_within: { round.next ≤ length round.own.items },
 }
 
 impl<'c, P: Port<ForecWork> + Drop> Model for Host<'c, P> {
@@ -62,14 +61,15 @@ impl<'c, P: Port<ForecWork> + Drop> Model for Host<'c, P> {
 
     ghost Value = { Hosted };
 
-    ghost view = { λ h. hosted h.desk h.cores.items h.root h.live };
+    ghost view = { λ h. hosted h.desk h.cores.items h.root h.live h.round.rope };
 
-    ghost invariant = { λ h. IsHosted (hosted h.desk h.cores.items h.root h.live) };
+    ghost invariant = { λ h. IsHosted (hosted h.desk h.cores.items h.root h.live h.round.rope) };
 }
 
 impl<'c, P: Port<ForecWork> + Drop> Host<'c, P> {
     ghost use Rattle.core_host.specs.Changes.{Grown, HasWorked, IsIdle};
     ghost use Rattle.core_host.specs.Hosted.{code_of, is_live, is_here, IsWhole};
+    ghost use Rattle.core_host.specs.Hung.{IsRopeOf};
     ghost use Rattle.core_host.specs.Posts.{HasPosted, HasPostedTaken};
     ghost use Rattle.core_host.specs.Runs.{HasJobs, HasRun};
 
@@ -91,6 +91,7 @@ impl<'c, P: Port<ForecWork> + Drop> Host<'c, P> {
         ensures cores { IfOk result (λ h. h.cores ≡ cores.now) }
         ensures mail { IfOk result (λ h. h.mail ≡ P.state port) }
         ensures live { IfOk result (λ h. is_live h ≡ true) }
+        ensures rope { IfOk result (λ h. h.rope ≡ None) }
         ensures none { IfOk result (λ h. is_here h 0 ≡ true → HasRun h []) }
         ensures jobs { IfOk result (λ h. is_here h 0 ≡ true → HasJobs h []) }
         ensures fresh { IfOk result (λ h. IsWhole h → HasRun h []) }
@@ -113,8 +114,11 @@ impl<'c, P: Port<ForecWork> + Drop> Host<'c, P> {
         Ok(Host {
             desk,
             cores,
-            own,
-            next: 0,
+            round: Round {
+                own,
+                next: 0,
+                rope: None,
+            },
             root,
             live: true,
         })
@@ -161,6 +165,7 @@ impl<'c, P: Port<ForecWork> + Drop> Host<'c, P> {
         ensures rest { (k : ℕ) → k < length self.new.mail.ends → ChildIs self.new.mail k false }
         ensures taken { (k : ℕ) → k < length self.new.mail.ends → taken self.new.mail k ≡ sent self.new.mail k }
         ensures grown { Grown self.old.mail self.new.mail }
+        ensures rope { self.new.rope ≡ self.old.rope }
     {
         let Host {
             desk,
@@ -177,7 +182,7 @@ impl<'c, P: Port<ForecWork> + Drop> Host<'c, P> {
     }
 
     /// Takes one job, or goes on with one thread that waits at a fork and whose branches have all replied,
-    /// and runs that thread to its next event. It takes no memory, and doesn't wait.
+    /// and runs that thread to its next event. It takes no memory, doesn't wait, and gives no hint.
     ///
     /// It begins behind the mailbox that was served last, so that each has its turn; no clause says so. Thread 0
     /// works in ticks alone; its branches' replies stay where they are.
@@ -189,22 +194,57 @@ impl<'c, P: Port<ForecWork> + Drop> Host<'c, P> {
         ensures places { self.new.places ≡ self.old.places }
         ensures cores { self.new.cores ≡ self.old.cores }
         ensures live { is_live self.new ≡ is_live self.old }
+        ensures rope { self.new.rope ≡ self.old.rope }
         ensures grown { Grown self.old.mail self.new.mail }
         ensures turns { (turns : List Turn) → HasRun self.old turns → HasRun self.new turns }
         ensures jobs { (jobs : List Job) → HasJobs self.old jobs → HasJobs self.new jobs }
         ensures whole { IsWhole self.old → IsWhole self.new }
     {
-        let Host {
-            desk,
-            own,
-            next,
-            ..
-        } = self;
-        let Some(i) = desk.serve_round(gate, own, *next) else {
+        let Host { desk, round, .. } = self;
+        let Some(i) = desk.serve_round(gate, &round.own, round.next) else {
             return Served::Nothing;
         };
-        *next = i + 1;
-        Served::Worked { k: own[i] }
+        round.next = i + 1;
+        Served::Worked { k: round.own[i] }
+    }
+
+    /// The host with a rope, by which its core waits and wakes the others. The bells of the rope are for the host's code and
+    /// placement, and the rope for its one core. A host without one waits by looking all the time.
+    ///
+    /// Of the hosts that run beside each other all should have one, or none: a core that sleeps is woken by ropes alone.
+    pub fn hang(self, rope: Rope<'c>) -> Host<'c, P>
+        requires fits { IsRopeOf self.code self.places self.cores rope }
+        requires none { self.rope ≡ None }
+        ensures hung { result ≡ record self.entry { rope = Some rope.entry } }
+        ensures turns { (turns : List Turn) → HasRun self.entry turns → HasRun result turns }
+        ensures jobs { (jobs : List Job) → HasJobs self.entry jobs → HasJobs result jobs }
+    {
+        let Host {
+            desk,
+            cores,
+            round,
+            root,
+            live,
+        } = self;
+        let Round { own, next, .. } = round;
+        Host {
+            desk,
+            cores,
+            round: Round {
+                own,
+                next,
+                rope: Some(rope),
+            },
+            root,
+            live,
+        }
+    }
+
+    /// Its rope, if one hangs.
+    pub fn rope(&self) -> Option<&Rope<'c>>
+        ensures { option_map (λ r. r.now) result ≡ self.now.rope }
+    {
+        self.round.rope.as_ref()
     }
 
     /// What a host keeps: the branches of a thread were told and have told exactly what the thread writes by

@@ -3,11 +3,13 @@
 
 mod boxed;
 mod desk;
+mod hints;
 mod host;
 mod job;
 mod load;
 mod local;
 mod outcome;
+mod round;
 mod seat;
 mod serve;
 mod tick;

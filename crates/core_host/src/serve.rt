@@ -239,7 +239,7 @@ impl<'c, P: Port<ForecWork> + Drop> Desk<'c, P> {
 
     /// Takes one job of this mailbox, or goes on with its thread where that waits at a fork and its branches
     /// have all replied, and runs the thread to its next event. Whether it did.
-    fn serve<G: Gate>(&mut self, gate: &G, mailbox: u32) -> bool
+    pub(crate) fn serve<G: Gate>(&mut self, gate: &G, mailbox: u32) -> bool
         requires inside { mailbox < length self.old.mail.ends }
         requires seated { IsSeated self.old }
         requires between { IsBetween self.old mailbox }

@@ -12,25 +12,30 @@ ghost use Rattle.thread_code.specs.Valid.{of_shape};
 ghost use Rattle.combine_tree.specs.Plain.{plain_packet};
 ghost use Rattle.core_machine.specs.declared.thread.Thread.{Thread as PlainThread};
 ghost use Rattle.core_machine.specs.Held.{Loaded, CanBegin, CanRun, HasReply};
+ghost use Rattle.core_machine.specs.Forks.{jobs_at};
 ghost use Rattle.core_machine.specs.Replies.{Replies_by};
 ghost use Rattle.core_host.specs.Changes.{Grown};
 ghost use Rattle.core_host.specs.Done.{HasDone};
 ghost use Rattle.core_host.specs.Ending.{HasReplied};
 ghost use Rattle.core_host.specs.Hosted.{code_of, is_here, is_live};
+ghost use Rattle.core_host.specs.Hung.{KeepsRope};
 ghost use Rattle.core_host.specs.Jobs.{job_of};
-ghost use Rattle.core_host.specs.Keeping.{code_in, IsSeated, Sits, HasPacket};
+ghost use Rattle.core_host.specs.Keeping.{code_in, IsSeated, Sits, HasPacket, AtFork};
 ghost use Rattle.core_host.specs.OnJob.{IsOnJob, KeepsOthers};
 ghost use Rattle.core_host.specs.Outcomes.{HasOutputs, LacksOutputs, HasOutcome};
 ghost use Rattle.core_host.specs.Posts.{IsBranchOf};
 ghost use Rattle.core_host.specs.Rests.{RootRests};
+ghost use Rattle.core_host.specs.Rounds.{CanServe, IsSameRound};
 ghost use Rattle.core_host.specs.Runs.{HasJobs, HasRun};
-ghost use Rattle.core_host.specs.Serving.{KeepsServing};
-ghost use Rattle.core_host.specs.Waiting.{HasChild, IsBetween, IsGathering, HasReplies};
+ghost use Rattle.core_host.specs.Serving.{MovesBranches, KeepsServing};
+ghost use Rattle.core_host.specs.Waiting.{HasChild, HasTold, IsBetween, IsGathering, HasReplies};
 
 use crate::desk::Desk;
+use crate::hints::hint_branches;
 use crate::host::Host;
 use crate::job::write_job;
 use crate::outcome::write_outcome;
+use crate::round::Round;
 use crate::work::ForecWork;
 use crate::worker::{Crew, Serve};
 use combine_tree::Packet;
@@ -42,21 +47,74 @@ use std::sync::Wait;
 use std::thread::yield_now;
 
 impl<'c, P: Port<ForecWork> + Drop> Desk<'c, P> {
-    /// Serves the next of these mailboxes where there is something to do. Whether there was one.
-    pub(crate) fn serve_next<G: Gate>(&mut self, gate: &G, own: &[u32], next: &mut usize) -> bool
+    /// Serves a mailbox, if it is one of the round. Whether there was something to do.
+    fn serve_one<G: Gate>(&mut self, gate: &G, mailbox: u32, round: &Round<'c>) -> bool
         requires seated { IsSeated self.old }
-        requires next { next.old ≤ length own.now }
-        requires each { (i k : ℕ) → slice_get own.now i ≡ Some k → (k < length self.old.mail.ends) × IsBetween self.old k }
+        requires round { CanServe self.old round.now }
         ensures keeps { KeepsServing self.old self.new }
-        ensures next { next.new ≤ length own.now }
     {
-        match self.serve_round(gate, own, *next) {
-            Some(i) => {
-                *next = i + 1;
-                true
-            }
-            None => false,
+        match round.own.binary_search(&mailbox) {
+            Ok(i) => self.serve(gate, round.own[i]),
+            Err(_) => false,
         }
+    }
+
+    /// Serves the mailboxes that hints name, until there was something to do at one, which it answers; None once there is no
+    /// hint left.
+    fn serve_hinted<R: Wait, G: Gate>(
+        &mut self,
+        rt: &R,
+        gate: &G,
+        round: &mut Round<'c>,
+    ) -> Option<u32>
+        requires seated { IsSeated self.old }
+        requires round { CanServe self.old round.old }
+        ensures keeps { KeepsServing self.old self.new }
+        ensures round { IsSameRound round.old round.new }
+    {
+        for _ in rt.forever() {
+            let mailbox = round.hint(rt)?;
+            if self.serve_one(gate, mailbox, round) {
+                return Some(mailbox);
+            }
+        }
+        unreachable!()
+    }
+
+    /// Serves the next of the round's mailboxes where there is something to do, and answers it; None where there is none.
+    fn serve_round_next<G: Gate>(&mut self, gate: &G, round: &mut Round<'c>) -> Option<u32>
+        requires seated { IsSeated self.old }
+        requires round { CanServe self.old round.old }
+        ensures keeps { KeepsServing self.old self.new }
+        ensures round { IsSameRound round.old round.new }
+    {
+        let i = self.serve_round(gate, &round.own, round.next)?;
+        round.next = i + 1;
+        Some(round.own[i])
+    }
+
+    /// Serves a mailbox that a hint names, or else the next of the round, where there is something to do, and hints to those to
+    /// whom its thread sent. Whether there was something to do.
+    pub(crate) fn serve_next<R: Wait, G: Gate>(
+        &mut self,
+        rt: &R,
+        gate: &G,
+        round: &mut Round<'c>,
+    ) -> bool
+        requires seated { IsSeated self.old }
+        requires round { CanServe self.old round.old }
+        ensures keeps { KeepsServing self.old self.new }
+        ensures round { IsSameRound round.old round.new }
+    {
+        if let Some(mailbox) = self.serve_hinted(rt, gate, round) {
+            self.hint(rt, mailbox, round);
+            return true;
+        }
+        let Some(mailbox) = self.serve_round_next(gate, round) else {
+            return false;
+        };
+        self.hint(rt, mailbox, round);
+        true
     }
 
     /// Serves these mailboxes and the others in turn, until nothing is left to do at either.
@@ -64,19 +122,17 @@ impl<'c, P: Port<ForecWork> + Drop> Desk<'c, P> {
         &mut self,
         rt: &R,
         gate: &G,
-        own: &[u32],
-        next: &mut usize,
+        round: &mut Round<'c>,
         others: &mut O,
     )
         requires seated { IsSeated self.old }
-        requires next { next.old ≤ length own.now }
-        requires each { (i k : ℕ) → slice_get own.now i ≡ Some k → (k < length self.old.mail.ends) × IsBetween self.old k }
+        requires round { CanServe self.old round.old }
         ensures keeps { KeepsServing self.old self.new }
-        ensures next { next.new ≤ length own.now }
+        ensures round { IsSameRound round.old round.new }
     {
         for _ in rt.forever() {
-            let mine = self.serve_next(gate, own, next);
-            let theirs = others.serve();
+            let mine = self.serve_next(rt, gate, round);
+            let theirs = others.serve(rt);
             if !mine && !theirs {
                 return;
             }
@@ -85,33 +141,53 @@ impl<'c, P: Port<ForecWork> + Drop> Desk<'c, P> {
     }
 
     /// Waits until all branches of the thread's fork have replied, and serves meanwhile. It gathers only once nothing is
-    /// left to do, since each time it begins at the first branch.
+    /// left to do, since each time it begins at the first branch. It never sleeps where there are others to serve.
     fn await_replies<R: Wait, O: Serve, G: Gate>(
         &mut self,
         rt: &R,
         gate: &G,
-        own: &[u32],
-        next: &mut usize,
+        round: &mut Round<'c>,
         others: &mut O,
         thread: &Thread,
     )
         requires seated { IsSeated self.old }
-        requires next { next.old ≤ length own.now }
-        requires each { (i k : ℕ) → slice_get own.now i ≡ Some k → (k < length self.old.mail.ends) × IsBetween self.old k }
+        requires round { CanServe self.old round.old }
         requires root { thread.now.number ≡ 0 }
         requires gathering { (pairs : List Answered) × IsGathering self.old thread.now pairs }
         ensures keeps { KeepsOthers self.old self.new }
-        ensures next { next.new ≤ length own.now }
+        ensures round { IsSameRound round.old round.new }
         ensures all { (pairs : List Answered) → IsGathering self.old thread.now pairs → HasReplies self.new thread.now pairs }
     {
+        let mut looks = 0;
         for _ in rt.forever() {
-            self.serve_all(rt, gate, own, next, others);
+            self.serve_all(rt, gate, round, others);
             if self.gather(thread) {
                 return;
             }
-            yield_now();
+            if others.is_empty() {
+                looks = round.wait(rt, looks);
+            } else {
+                yield_now();
+            }
         }
         unreachable!()
+    }
+
+    /// Tells the branches of thread 0's fork their jobs, and hints to their cores.
+    fn tell_and_hint<R: Wait>(&mut self, rt: &R, thread: &Thread, round: &mut Round<'c>)
+        requires seated { IsSeated self.old }
+        requires fork { AtFork self.old thread.now }
+        requires told { (pairs : List Answered) × HasTold self.old thread.now.number pairs [] }
+        ensures moves { MovesBranches thread.now.number self.old self.new }
+        ensures told { (pairs : List Answered) → HasTold self.old thread.now.number pairs [] → HasTold self.new thread.now.number pairs (jobs_at (code_in self.old) thread.now) }
+        ensures own { round.new.own ≡ round.old.own }
+        ensures next { round.new.next ≡ round.old.next }
+        ensures rope { KeepsRope round.old.rope round.new.rope }
+    {
+        self.tell(thread);
+        if let Some(rope) = &mut round.rope {
+            hint_branches(rt, self.code, thread, rope);
+        }
     }
 
     /// Runs thread 0, which has begun a job, until it has its reply.
@@ -119,20 +195,18 @@ impl<'c, P: Port<ForecWork> + Drop> Desk<'c, P> {
         &mut self,
         rt: &R,
         gate: &G,
-        own: &[u32],
-        next: &mut usize,
+        round: &mut Round<'c>,
         others: &mut O,
         thread: &mut Thread,
     )
         requires seated { IsSeated self.old }
-        requires next { next.old ≤ length own.now }
-        requires each { (i k : ℕ) → slice_get own.now i ≡ Some k → (k < length self.old.mail.ends) × IsBetween self.old k }
+        requires round { CanServe self.old round.old }
         requires root { thread.old.number ≡ 0 }
         requires loaded { Loaded (code_in self.old) thread.old }
         requires running { CanRun thread.old }
         requires begun { (jobs : List Job) × (job : Job) × IsOnJob self.old thread.old jobs job }
         ensures keeps { KeepsOthers self.old self.new }
-        ensures next { next.new ≤ length own.now }
+        ensures round { IsSameRound round.old round.new }
         ensures root { thread.new.number ≡ 0 }
         ensures loaded { Loaded (code_in self.old) thread.new }
         ensures reply { HasReply thread.new }
@@ -142,8 +216,8 @@ impl<'c, P: Port<ForecWork> + Drop> Desk<'c, P> {
             let Event::Fork = thread.run(self.code) else {
                 return;
             };
-            self.tell(thread);
-            self.await_replies(rt, gate, own, next, others, thread);
+            self.tell_and_hint(rt, thread, round);
+            self.await_replies(rt, gate, round, others, thread);
             self.settle(thread);
             self.join(thread);
         }
@@ -156,14 +230,12 @@ impl<'c, P: Port<ForecWork> + Drop> Desk<'c, P> {
         &mut self,
         rt: &R,
         gate: &G,
-        own: &[u32],
-        next: &mut usize,
+        round: &mut Round<'c>,
         others: &mut O,
         packet: &mut Packet,
     )
         requires seated { IsSeated self.old }
-        requires next { next.old ≤ length own.now }
-        requires each { (i k : ℕ) → slice_get own.now i ≡ Some k → (k < length self.old.mail.ends) × IsBetween self.old k }
+        requires round { CanServe self.old round.old }
         requires root { RootRests self.old }
         requires packets { (k : ℕ) → k < length self.old.mail.ends → IsBranchOf (code_in self.old).shape 0 k → HasPacket self.old k }
         requires job { (t : PlainThread) → Sits self.old 0 t → CanBegin t packet.old.kind }
@@ -174,7 +246,7 @@ impl<'c, P: Port<ForecWork> + Drop> Desk<'c, P> {
         ensures code { self.new.code ≡ self.old.code }
         ensures places { self.new.places ≡ self.old.places }
         ensures keeper { self.new.mail.root ≡ self.old.mail.root }
-        ensures next { next.new ≤ length own.now }
+        ensures round { IsSameRound round.old round.new }
         ensures here { (k : ℕ) → HasChild self.old.mail k → HasChild self.new.mail k }
         ensures was_here { (k : ℕ) → HasChild self.new.mail k → HasChild self.old.mail k }
         ensures between { (k : ℕ) → IsBetween self.old k → IsBetween self.new k }
@@ -191,7 +263,7 @@ impl<'c, P: Port<ForecWork> + Drop> Desk<'c, P> {
         };
         let thread: &mut Thread = &mut seated;
         thread.begin(self.code, packet);
-        self.finish_beside(rt, gate, own, next, others, thread);
+        self.finish_beside(rt, gate, round, others, thread);
         thread.reply(self.code, packet);
         self.seats[0].thread = Some(seated);
     }
@@ -201,6 +273,10 @@ impl<'c, P: Port<ForecWork> + Drop> Host<'c, P> {
     /// Runs one tick beside hosts that others run: the inputs get the values of the row, in order of declaration. Where the
     /// tick pauses or ends the outputs are written, in order of declaration; else they stay as they were. While thread 0
     /// waits for its branches, the threads of this host and the `others`, which nobody runs, are served. It takes no memory.
+    ///
+    /// A host on which a rope hangs hints to the cores to which it sends, and looks first where it is hinted to. After some time in
+    /// which there was nothing to do its core sleeps until it is woken, but never where there are `others`. What is hinted, and
+    /// that a sleeping core is woken, no clause says.
     ///
     /// Through the mailboxes of thread 0's branches go exactly the tick's jobs and replies, however the tick ends. The outcome
     /// and the outputs are those of a reply that the code's thread 0 gives to the jobs of the ticks so far; where the code
@@ -233,6 +309,7 @@ impl<'c, P: Port<ForecWork> + Drop> Host<'c, P> {
         ensures live { is_live self.new ≡ goes_on result }
         ensures jobs { (jobs : List Job) → HasJobs self.old jobs → HasJobs self.new (jobs ++ job_of (code_of self.old).shape self.old.root row.now budget ∷ []) }
         ensures grown { Grown self.old.mail self.new.mail }
+        ensures rope { KeepsRope self.old.rope self.new.rope }
     {
         let mut crew = Crew::new(others, gate);
         self.tick_beside(rt, row, budget, &mut crew, gate, outputs)
@@ -267,18 +344,18 @@ impl<'c, P: Port<ForecWork> + Drop> Host<'c, P> {
         ensures live { is_live self.new ≡ goes_on result }
         ensures jobs { (jobs : List Job) → HasJobs self.old jobs → HasJobs self.new (jobs ++ job_of (code_of self.old).shape self.old.root row.now budget ∷ []) }
         ensures grown { Grown self.old.mail self.new.mail }
+        ensures rope { KeepsRope self.old.rope self.new.rope }
     {
         let Host {
             desk,
-            own,
-            next,
+            round,
             root,
             live,
             ..
         } = self;
         let code = desk.code;
         write_job(root, code.shape(), row, budget);
-        desk.work_beside(rt, gate, own, next, others, root);
+        desk.work_beside(rt, gate, round, others, root);
         let outcome = write_outcome(root, code.shape(), outputs);
         *live = matches!(outcome, Outcome::Paused);
         outcome

@@ -5,6 +5,7 @@ ghost use Rattle.forec_kernel.specs.Engine.{Job};
 ghost use Rattle.copy_slots.specs.Ports.{after_stop, after_check};
 ghost use Rattle.core_host.specs.Changes.{Grown, Looked, HasWorked, IsIdle};
 ghost use Rattle.core_host.specs.Hosted.{code_of, is_live, is_here};
+ghost use Rattle.core_host.specs.Hung.{KeepsRope};
 ghost use Rattle.core_host.specs.Runs.{HasJobs, HasRun};
 
 use crate::host::{Host, Served};
@@ -14,12 +15,14 @@ use copy_slots::Port;
 use forec_base::Gate;
 use std::marker::Model;
 use std::sync::Wait;
-use std::thread::yield_now;
 
 /// What is served where nobody else runs it.
 pub trait Serve {
-    /// Does something, if there is anything to do. Whether there was.
-    fn serve(&mut self) -> bool;
+    /// Does something, if there is anything to do, and hints to those to whom it sent. Whether there was something to do.
+    fn serve<R: Wait>(&mut self, rt: &R) -> bool;
+
+    /// Whether there is nobody to serve.
+    fn is_empty(&self) -> bool;
 }
 
 /// Hosts that nobody runs.
@@ -38,17 +41,25 @@ impl<'h, 'g, 'c, P: Port<ForecWork> + Drop, G: Gate> Crew<'h, 'g, 'c, P, G> {
 
 impl<'h, 'g, 'c, P: Port<ForecWork> + Drop, G: Gate> Serve for Crew<'h, 'g, 'c, P, G> {
     /// Serves each of the hosts once.
-    fn serve(&mut self) -> bool {
+    fn serve<R: Wait>(&mut self, rt: &R) -> bool {
         let gate = self.gate;
-        serve_each(self.hosts, gate)
+        serve_each(rt, self.hosts, gate)
+    }
+
+    fn is_empty(&self) -> bool {
+        self.hosts.is_empty()
     }
 }
 
 /// Serves each of these hosts once. Whether there was something to do.
-fn serve_each<P: Port<ForecWork> + Drop, G: Gate>(hosts: &mut [Host<'_, P>], gate: &G) -> bool {
+fn serve_each<R: Wait, P: Port<ForecWork> + Drop, G: Gate>(
+    rt: &R,
+    hosts: &mut [Host<'_, P>],
+    gate: &G,
+) -> bool {
     let mut worked = false;
     for host in hosts.iter_mut() {
-        if let Served::Worked { .. } = host.serve(gate) {
+        if host.serve_beside(rt, gate) {
             worked = true;
         }
     }
@@ -63,7 +74,20 @@ impl<'c, P: Port<ForecWork> + Drop> Host<'c, P> {
         is_among(self.desk.places[0], &self.cores)
     }
 
-    /// Stores the stop word, at which each worker ends.
+    /// [`Host::serve`] where others run beside it: it looks first where a hint tells it to, and hints to those to whom it sent.
+    /// Whether there was something to do.
+    pub(crate) fn serve_beside<R: Wait, G: Gate>(&mut self, rt: &R, gate: &G) -> bool
+        ensures code { self.new.code ≡ self.old.code }
+        ensures places { self.new.places ≡ self.old.places }
+        ensures cores { self.new.cores ≡ self.old.cores }
+        ensures grown { Grown self.old.mail self.new.mail }
+        ensures rope { KeepsRope self.old.rope self.new.rope }
+    {
+        let Host { desk, round, .. } = self;
+        desk.serve_next(rt, gate, round)
+    }
+
+    /// Stores the stop word, at which each worker ends, and wakes every core.
     pub fn stop(&mut self)
         requires { is_here self.old 0 ≡ true }
         ensures stored { self.new ≡ record self.old { mail = after_stop self.old.mail } }
@@ -72,6 +96,9 @@ impl<'c, P: Port<ForecWork> + Drop> Host<'c, P> {
         ensures jobs { (jobs : List Job) → HasJobs self.old jobs → HasJobs self.new jobs }
     {
         self.desk.stop();
+        if let Some(rope) = &self.round.rope {
+            rope.wake_all();
+        }
     }
 
     /// Loads the stop word: whether it was stored.
@@ -83,6 +110,9 @@ impl<'c, P: Port<ForecWork> + Drop> Host<'c, P> {
     }
 
     /// Serves, for as long as the workers are not stopped. It ends only after it loaded a stop word 1.
+    ///
+    /// Where a rope hangs, its core sleeps after some time in which there was nothing to do, until it is woken; else it looks all
+    /// the time.
     pub fn run<R: Wait, G: Gate>(self, rt: &R, gate: &G) -> Host<'c, P>
         requires lacks { is_here self 0 ≡ false }
         ensures stopped { Looked 1 self.entry.mail.stops result.mail.stops }
@@ -90,16 +120,19 @@ impl<'c, P: Port<ForecWork> + Drop> Host<'c, P> {
         ensures places { result.places ≡ self.entry.places }
         ensures cores { result.cores ≡ self.entry.cores }
         ensures grown { Grown self.entry.mail result.mail }
+        ensures rope { KeepsRope self.entry.rope result.rope }
     {
         let mut host = self;
+        let mut looks = 0;
         for _ in rt.forever() {
-            if let Served::Worked { .. } = host.serve(gate) {
+            if host.serve_beside(rt, gate) {
+                looks = 0;
                 continue;
             }
             if host.stopped() {
                 return host;
             }
-            yield_now();
+            looks = host.round.wait(rt, looks);
         }
         unreachable!()
     }
@@ -146,8 +179,21 @@ impl<'c, P: Port<ForecWork> + Drop> Worker<'c, P> {
         ensures places { self.new.places ≡ self.old.places }
         ensures cores { self.new.cores ≡ self.old.cores }
         ensures grown { Grown self.old.mail self.new.mail }
+        ensures rope { self.new.rope ≡ self.old.rope }
     {
         self.host.serve(gate)
+    }
+
+    /// [`Host::serve`] where others run beside it: it looks first where a hint tells it to, and hints to those to whom it sent.
+    /// Whether there was something to do.
+    pub fn serve_beside<R: Wait, G: Gate>(&mut self, rt: &R, gate: &G) -> bool
+        ensures code { self.new.code ≡ self.old.code }
+        ensures places { self.new.places ≡ self.old.places }
+        ensures cores { self.new.cores ≡ self.old.cores }
+        ensures grown { Grown self.old.mail self.new.mail }
+        ensures rope { KeepsRope self.old.rope self.new.rope }
+    {
+        self.host.serve_beside(rt, gate)
     }
 
     /// [`Host::run`].
@@ -157,6 +203,7 @@ impl<'c, P: Port<ForecWork> + Drop> Worker<'c, P> {
         ensures places { result.places ≡ self.entry.places }
         ensures cores { result.cores ≡ self.entry.cores }
         ensures grown { Grown self.entry.mail result.mail }
+        ensures rope { KeepsRope self.entry.rope result.rope }
     {
         Worker {
             host: self.host.run(rt, gate),

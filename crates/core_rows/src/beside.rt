@@ -7,6 +7,7 @@ use crate::compiled::compiled;
 use board_hosts::{Hosts, board_of, hosts_of};
 use copy_slots::Port;
 use core_alloc::given;
+use core_bells::Bells;
 use core_host::{ForecWork, Host};
 use forec_base::OpenGate;
 use forec_kernel::Outcome;
@@ -15,7 +16,7 @@ use std::sync::Wait;
 use std::test::Fail;
 use thread_code::Code;
 
-const FOLDS_TWICE: &[u8] = b"shared output int s = 1 combine all with plus;
+pub const FOLDS_TWICE: &[u8] = b"shared output int s = 1 combine all with plus;
 int plus(int x, int y) { return x + y; }
 void a(void) { s = s + 1; pause; }
 void b(void) { s = s + 2; pause; }
@@ -23,10 +24,10 @@ void main(void) { par(a, b); }
 ";
 
 /// How a tick ends, and the output then. Before each tick the output has the value 7.
-type Told = (Outcome, i32);
+pub type Told = (Outcome, i32);
 
 /// Runs a tick of a program without inputs, while the others are served.
-fn run_tick<'c, P: Port<ForecWork> + Drop, R: Wait>(
+pub fn run_tick<'c, P: Port<ForecWork> + Drop, R: Wait>(
     rt: &R,
     root: &mut Host<'c, P>,
     others: &mut [Host<'c, P>],
@@ -73,7 +74,8 @@ fn placed<R: Wait>(
         return Ok((None, None));
     }
     let mut board = board_of(alloc, code, &placement)?;
-    let Hosts { root, others } = hosts_of(alloc, code, &placement, &mut board)?;
+    let mut bells = Bells::new(alloc, code, &placement)?;
+    let Hosts { root, others } = hosts_of(alloc, code, &placement, &mut board, &mut bells)?;
     let others = others
         .into_iter()
         .map(|worker| worker.into_host())

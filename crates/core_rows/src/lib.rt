@@ -20,3 +20,5 @@ mod listed;
 mod mailbox;
 #[cfg(test)]
 mod placed;
+#[cfg(test)]
+mod roped;

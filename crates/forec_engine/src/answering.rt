@@ -8,6 +8,7 @@ ghost use Rattle.thread_code.specs.Plain.{PlainCode, plain_code};
 ghost use Rattle.board_hosts.specs.Boards.{ArePorts};
 ghost use Rattle.command_words.specs.Requests.{PlainRunning, plain_placing, plain_running, plain_command};
 ghost use Rattle.core_alloc.specs.declared.fault.PlaceFault.TheVariants as fault;
+ghost use Rattle.core_bells.specs.Ropes.{new_ropes};
 ghost use Rattle.forec_engine.specs.Calls.{AppendsFront};
 ghost use Rattle.forec_engine.specs.Commands.{refused, counted, threads_listed, listed, run_report, ThreadsReport, AcceptedReport, TellsTrace, IsPlaceable, IsRunnable, IsInRange};
 ghost use Rattle.forec_engine.specs.Ends.{IsOwn, Given, Wanted, ReadFor, CommandIsMisplaced, Rewrites, running_in};
@@ -20,7 +21,7 @@ ghost use Rattle.forec_engine.specs.Workload.{ticked_report, workload_report, ze
 
 use crate::beside::{Nobody, run_hosts, tick_hosts};
 use crate::image::Image;
-use crate::loading::make_board;
+use crate::loading::{make_bells, make_board};
 use crate::rewriter::Rewriter;
 use crate::session::Session;
 use crate::sink::say;
@@ -31,6 +32,7 @@ use board_hosts::{Hosts, hosts_of};
 use code_gen::generate;
 use command_words::{Command, Placing, Running};
 use core_alloc::{PlaceFault, Placement};
+use core_bells::{Bells, GivesRopes};
 use core_host::ForecWork;
 use forec_base::{Gate, OutOfMemory, Sink, Source};
 use forec_kernel::Kernel;
@@ -96,6 +98,7 @@ fn host_rows<'b, 'c, S: Source, K: Sink, G: Gate + Sync, R: Threads + Wait + Syn
     code: &'c Code,
     placement: &Placement,
     board: &'b mut SlotBoard<ForecWork>,
+    bells: &'c mut Bells,
     session: &mut Session,
     trace: &mut S,
     out: &mut K,
@@ -104,10 +107,12 @@ fn host_rows<'b, 'c, S: Source, K: Sink, G: Gate + Sync, R: Threads + Wait + Syn
     requires stands { Stands (plain_code code.now) (plain_kernel kernel.now) }
     requires whole { ⟦<SlotBoard<ForecWork> as GivesPorts<ForecWork>>⟧.is_whole board.old }
     requires ports { ArePorts code.now placement.now (⟦<SlotBoard<ForecWork> as GivesPorts<ForecWork>>⟧.ports board.old) }
+    requires bells { ⟦<Bells as GivesRopes>⟧.is_whole bells.old }
+    requires ropes { ⟦<Bells as GivesRopes>⟧.ropes bells.old ≡ new_ropes code.now placement.now placement.now.cores }
     requires session { IsSessionOf (plain_kernel kernel.now) session.old }
     ensures { HasRunRows S.left S.faults S.down (plain_kernel kernel.now) session.old.budget trace.old trace.new (K.held out.old) (K.held out.new) (K.faults out.old) (K.faults out.new) (K.down out.new) result }
 {
-    let Ok(Hosts { root, others }) = hosts_of(alloc, code, placement, board) else {
+    let Ok(Hosts { root, others }) = hosts_of(alloc, code, placement, board, bells) else {
         return Status::NoMemory;
     };
     run_hosts(rt, alloc, session, kernel, root, others, gate, trace, out)
@@ -145,6 +150,9 @@ fn start<S: Source, K: Sink, G: Gate + Sync, R: Threads + Wait + Sync>(
     let Ok(mut board) = make_board(alloc, kernel, &code, placement) else {
         return Status::NoMemory;
     };
+    let Ok(mut bells) = make_bells(alloc, kernel, &code, placement) else {
+        return Status::NoMemory;
+    };
     host_rows(
         rt,
         alloc,
@@ -152,6 +160,7 @@ fn start<S: Source, K: Sink, G: Gate + Sync, R: Threads + Wait + Sync>(
         &code,
         placement,
         &mut board,
+        &mut bells,
         &mut session,
         trace,
         out,
@@ -371,6 +380,7 @@ fn host_workload<'b, 'c, G: Gate + Sync, R: Threads + Wait + Sync>(
     code: &'c Code,
     placement: &Placement,
     board: &'b mut SlotBoard<ForecWork>,
+    bells: &'c mut Bells,
     image: &mut Image,
     threads: u32,
     budget: u64,
@@ -380,13 +390,15 @@ fn host_workload<'b, 'c, G: Gate + Sync, R: Threads + Wait + Sync>(
     requires stands { Stands (plain_code code.now) (plain_kernel kernel.now) }
     requires whole { ⟦<SlotBoard<ForecWork> as GivesPorts<ForecWork>>⟧.is_whole board.old }
     requires ports { ArePorts code.now placement.now (⟦<SlotBoard<ForecWork> as GivesPorts<ForecWork>>⟧.ports board.old) }
+    requires bells { ⟦<Bells as GivesRopes>⟧.is_whole bells.old }
+    requires ropes { ⟦<Bells as GivesRopes>⟧.ropes bells.old ≡ new_ropes code.now placement.now placement.now.cores }
     requires zeros { image.old.inputs.items ≡ zero_row (plain_kernel kernel.now) }
     requires outputs { length image.old.outputs.items ≡ length (plain_kernel kernel.now).shape.outputs }
     requires small { budget ≤ 2 ^ 62 }
     requires ample { HasRoom waiting.old 128 }
     ensures { IfOk result (HasRunWorkload threads (plain_kernel kernel.now) budget waiting.old waiting.new) }
 {
-    let Hosts { root, others } = hosts_of(alloc, code, placement, board)?;
+    let Hosts { root, others } = hosts_of(alloc, code, placement, board, bells)?;
     tick_hosts(
         rt, alloc, kernel, root, others, gate, image, threads, budget, waiting,
     )
@@ -425,6 +437,9 @@ fn tick_workload<K: Sink, G: Gate + Sync, R: Threads + Wait + Sync>(
     let Ok(mut board) = make_board(alloc, kernel, &code, placement) else {
         return Status::NoMemory;
     };
+    let Ok(mut bells) = make_bells(alloc, kernel, &code, placement) else {
+        return Status::NoMemory;
+    };
     let Ok(status) = host_workload(
         rt,
         alloc,
@@ -432,6 +447,7 @@ fn tick_workload<K: Sink, G: Gate + Sync, R: Threads + Wait + Sync>(
         &code,
         placement,
         &mut board,
+        &mut bells,
         &mut image,
         threads,
         budget,

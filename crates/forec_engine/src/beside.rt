@@ -18,7 +18,7 @@ use crate::status::Status;
 use crate::ticks::run;
 use crate::waiting::Waiting;
 use copy_slots::Port;
-use core_host::{ForecWork, Host, Serve, Served, Worker};
+use core_host::{ForecWork, Host, Serve, Worker};
 use forec_base::{Gate, OutOfMemory, Sink, Source};
 use forec_kernel::Kernel;
 use std::alloc::{AllocError, Global};
@@ -34,9 +34,13 @@ struct GatedWorker<'g, 'c, P: Port<ForecWork> + Drop, G> {
 }
 
 impl<'g, 'c, P: Port<ForecWork> + Drop, G: Gate> Serve for GatedWorker<'g, 'c, P, G> {
-    fn serve(&mut self) -> bool {
+    fn serve<R: Wait>(&mut self, rt: &R) -> bool {
         let gate = self.gate;
-        matches!(self.worker.serve(gate), Served::Worked { .. })
+        self.worker.serve_beside(rt, gate)
+    }
+
+    fn is_empty(&self) -> bool {
+        false
     }
 }
 
@@ -52,8 +56,12 @@ impl<'g, 'c, P: Port<ForecWork> + Drop, G: Gate> Runnable for GatedWorker<'g, 'c
 pub struct Nobody;
 
 impl Serve for Nobody {
-    fn serve(&mut self) -> bool {
+    fn serve<R: Wait>(&mut self, _rt: &R) -> bool {
         false
+    }
+
+    fn is_empty(&self) -> bool {
+        true
     }
 }
 
@@ -64,14 +72,18 @@ struct Others<H> {
 }
 
 impl<H: Serve> Serve for Others<H> {
-    fn serve(&mut self) -> bool {
+    fn serve<R: Wait>(&mut self, rt: &R) -> bool {
         let mut served = false;
         for worker in self.workers.iter_mut() {
-            if worker.serve() {
+            if worker.serve(rt) {
                 served = true;
             }
         }
         served
+    }
+
+    fn is_empty(&self) -> bool {
+        self.workers.is_empty()
     }
 }
 

@@ -1,8 +1,9 @@
-use Rattle.std.proofs.Common.{rules, ◌≡◌, ◌+◌, true, sym, ◌∙◌, subst}
+use Rattle.std.proofs.Common.{rules, ◌≡◌, ◌+◌, true, false, sym, ap, ◌∙◌, subst}
 use Rattle.std.proofs.lemmas.Option.{get_or_from_slice_get}
 use Rattle.forec_kernel.specs.Combining.{contains}
+use Rattle.core_host.specs.Hosted.{Hosted, is_here}
 use Rattle.board_hosts.specs.CoreHosts.{AreMade, IsLoaded, root_core}
-use Rattle.board_hosts.proofs.Made.{made_root, made_other}
+use Rattle.board_hosts.proofs.Made.{made_root, made_other, lacks}
 use Rattle.board_hosts.proofs.hosts.make_next.Goals as goal
 
 pub returns-then-core-root_core : goal.returns-then-core-root_core
@@ -19,3 +20,10 @@ returns c had =
     (made_other c.args.code.now places c.args.core c.args.made.now.root c.args.made.now.others.items had c.in-Ok.worker
     (λ here. c.if-core-root_core.false (here ∙ get_or_from_slice_get places 0 c.args.root_core 0 c.requires.root)) has
     (subst (λ h. IsLoaded c.args.code.now places c.args.core h) (sym c.in-Ok.ensures.ok) c.in_ok-host.ensures))
+
+pub unreachable-requires : goal.unreachable-requires
+unreachable-requires c =
+    let places = c.args.placement.now.places in
+    let e = c.in_default.ensures.err in
+    let none = lacks c.args.code.now places c.args.core c.in_ok-host.host (λ here. c.if-core-root_core.false (here ∙ get_or_from_slice_get places 0 c.args.root_core 0 c.requires.root)) c.in_ok-host.ensures in
+    let both : true ≡ false = sym e.1 ∙ ap (λ (h : Hosted). is_here h 0) e.0 ∙ none in cc

@@ -10,3 +10,6 @@ returns-in_default-generate-clause-trace g c = ([], none)
 
 pub returns-in_default-make_board-clause-trace : goal.returns-in_default-make_board-clause-trace
 returns-in_default-make_board-clause-trace g c = ([], none)
+
+pub returns-in_default-make_bells-clause-trace : goal.returns-in_default-make_bells-clause-trace
+returns-in_default-make_bells-clause-trace g c = ([], none)

@@ -5,31 +5,32 @@ use Rattle.core_machine.specs.Held.{Loaded, StandsFor, Left_by}
 use Rattle.core_machine.specs.Forks.{jobs_at}
 use Rattle.core_host.specs.Keeping.{State, HaveHeard}
 use Rattle.core_host.proofs.Finishing.{replied_by}
-use Rattle.core_host.proofs.Beside.{others_same, others_then, others_seated, branches_others, each_still, on_runs, told_now, fork_now, gathering_now, replies_now, heard_now, on_next, pairs_now}
+use Rattle.core_host.proofs.Beside.{others_same, others_then, others_seated, branches_others, round_others, on_runs, told_now, fork_now, gathering_now, replies_now, heard_now, on_next, pairs_now}
+use Rattle.core_host.proofs.Hosting.{round_same, round_then, round_moved}
 use Rattle.core_host.proofs.desk.Desk.finish_beside.Goals as goal
 
 pub loop-init : goal.loop-init
 loop-init g c = record {
   keeps = others_same c.args.self.now;
-  next = c.requires.next;
+  round = round_same c.args.self.now c.args.round.now c.requires.round;
   root = c.requires.root;
   loaded = c.requires.loaded;
   running = c.requires.running;
   done = λ jobs job on. on;
 }
 
-pub tell-requires-clause-seated : goal.tell-requires-clause-seated
-tell-requires-clause-seated g c = others_seated c.args.self.now c.loop.self c.loop.invariant.keeps c.requires.seated
+pub tell_and_hint-requires-clause-seated : goal.tell_and_hint-requires-clause-seated
+tell_and_hint-requires-clause-seated g c = others_seated c.args.self.now c.loop.self c.loop.invariant.keeps c.requires.seated
 
-pub tell-requires-clause-fork : goal.tell-requires-clause-fork
-tell-requires-clause-fork g c =
+pub tell_and_hint-requires-clause-fork : goal.tell_and_hint-requires-clause-fork
+tell_and_hint-requires-clause-fork g c =
     let code : c.self.inside.code.now ≡ c.loop.self.code = ap (λ (s : State). s.code) c.self.view_is in
     fork_now c.loop.self (others_seated c.args.self.now c.loop.self c.loop.invariant.keeps c.requires.seated) c.loop.thread c.run.new.self (subst (λ (x : CodeParts). Loaded (plain_code x) c.run.new.self) code c.run.ensures.loaded) c.run.ensures.number
     (λ xs st. subst (λ (x : CodeParts). StandsFor (plain_code x) c.run.new.self xs) code (c.run.ensures.stands xs (subst (λ (x : CodeParts). StandsFor (plain_code x) c.loop.thread xs) (sym code) st)))
     (subst (λ e. Left_by c.run.new.self e) c.in-Fork.is c.run.ensures.left) (subst (λ (x : CodeParts). c.run.new.self.branches.numbers ≡ map (λ w. w.branch) (jobs_at (plain_code x) c.run.new.self)) code (c.run.ensures.branches c.in-Fork.is)) c.requires.begun.0 c.requires.begun.1 (c.loop.invariant.done c.requires.begun.0 c.requires.begun.1 c.requires.begun.2)
 
-pub tell-requires-clause-told : goal.tell-requires-clause-told
-tell-requires-clause-told g c =
+pub tell_and_hint-requires-clause-told : goal.tell_and_hint-requires-clause-told
+tell_and_hint-requires-clause-told g c =
     let code : c.self.inside.code.now ≡ c.loop.self.code = ap (λ (s : State). s.code) c.self.view_is in (
       pairs_now c.loop.self (others_seated c.args.self.now c.loop.self c.loop.invariant.keeps c.requires.seated) c.loop.thread c.run.new.self (subst (λ (x : CodeParts). Loaded (plain_code x) c.run.new.self) code c.run.ensures.loaded) c.run.ensures.number
           (λ xs st. subst (λ (x : CodeParts). StandsFor (plain_code x) c.run.new.self xs) code (c.run.ensures.stands xs (subst (λ (x : CodeParts). StandsFor (plain_code x) c.loop.thread xs) (sym code) st)))
@@ -41,12 +42,13 @@ tell-requires-clause-told g c =
 
 pub await_replies-requires-clause-seated : goal.await_replies-requires-clause-seated
 await_replies-requires-clause-seated g c =
-    others_seated c.loop.self c.tell.new.self (branches_others c.loop.self c.tell.new.self c.run.new.self.number (c.run.ensures.number ∙ c.loop.invariant.root) c.tell.ensures.moves) (others_seated c.args.self.now c.loop.self c.loop.invariant.keeps c.requires.seated)
+    others_seated c.loop.self c.tell_and_hint.new.self (branches_others c.loop.self c.tell_and_hint.new.self c.run.new.self.number (c.run.ensures.number ∙ c.loop.invariant.root) c.tell_and_hint.ensures.moves) (others_seated c.args.self.now c.loop.self c.loop.invariant.keeps c.requires.seated)
 
-pub await_replies-requires-clause-each : goal.await_replies-requires-clause-each
-await_replies-requires-clause-each g c =
-    each_still c.loop.self c.tell.new.self c.args.own.now (branches_others c.loop.self c.tell.new.self c.run.new.self.number (c.run.ensures.number ∙ c.loop.invariant.root) c.tell.ensures.moves)
-    (each_still c.args.self.now c.loop.self c.args.own.now c.loop.invariant.keeps c.requires.each)
+pub await_replies-requires-clause-round : goal.await_replies-requires-clause-round
+await_replies-requires-clause-round g c =
+    round_others c.loop.self c.tell_and_hint.new.self c.loop.round c.tell_and_hint.new.round (branches_others c.loop.self c.tell_and_hint.new.self c.run.new.self.number (c.run.ensures.number ∙ c.loop.invariant.root) c.tell_and_hint.ensures.moves)
+    (round_moved c.loop.round c.tell_and_hint.new.round c.loop.invariant.round.next c.tell_and_hint.ensures.own c.tell_and_hint.ensures.next c.tell_and_hint.ensures.rope)
+    (round_others c.args.self.now c.loop.self c.args.round.now c.loop.round c.loop.invariant.keeps c.loop.invariant.round c.requires.round)
 
 pub await_replies-requires-clause-root : goal.await_replies-requires-clause-root
 await_replies-requires-clause-root g c = c.run.ensures.number ∙ c.loop.invariant.root
@@ -60,13 +62,13 @@ await_replies-requires-clause-gathering g c =
       gathering_now c.loop.self (others_seated c.args.self.now c.loop.self c.loop.invariant.keeps c.requires.seated) c.loop.thread c.run.new.self (subst (λ (x : CodeParts). Loaded (plain_code x) c.run.new.self) code c.run.ensures.loaded) c.run.ensures.number
           (λ xs st. subst (λ (x : CodeParts). StandsFor (plain_code x) c.run.new.self xs) code (c.run.ensures.stands xs (subst (λ (x : CodeParts). StandsFor (plain_code x) c.loop.thread xs) (sym code) st)))
           (subst (λ e. Left_by c.run.new.self e) c.in-Fork.is c.run.ensures.left) (subst (λ (x : CodeParts). c.run.new.self.branches.numbers ≡ map (λ w. w.branch) (jobs_at (plain_code x) c.run.new.self)) code (c.run.ensures.branches c.in-Fork.is)) c.requires.begun.0 c.requires.begun.1 (c.loop.invariant.done c.requires.begun.0 c.requires.begun.1 c.requires.begun.2)
-          c.tell.new.self c.tell.ensures.moves c.tell.ensures.told,
+          c.tell_and_hint.new.self c.tell_and_hint.ensures.moves c.tell_and_hint.ensures.told,
     )
 
 pub settle-requires-clause-loaded : goal.settle-requires-clause-loaded
 settle-requires-clause-loaded g c =
     let code : c.self.inside.code.now ≡ c.loop.self.code = ap (λ (s : State). s.code) c.self.view_is in
-    subst (λ (x : CodeParts). Loaded (plain_code x) c.run.new.self) (sym (c.await_replies.ensures.keeps.code ∙ c.tell.ensures.moves.code)) (subst (λ (x : CodeParts). Loaded (plain_code x) c.run.new.self) code c.run.ensures.loaded)
+    subst (λ (x : CodeParts). Loaded (plain_code x) c.run.new.self) (sym (c.await_replies.ensures.keeps.code ∙ c.tell_and_hint.ensures.moves.code)) (subst (λ (x : CodeParts). Loaded (plain_code x) c.run.new.self) code c.run.ensures.loaded)
 
 pub settle-requires-clause-fork : goal.settle-requires-clause-fork
 settle-requires-clause-fork g c = subst (λ e. Left_by c.run.new.self e) c.in-Fork.is c.run.ensures.left
@@ -84,12 +86,12 @@ settle-requires-clause-heard g c =
     let r = replies_now c.loop.self (others_seated c.args.self.now c.loop.self c.loop.invariant.keeps c.requires.seated) c.loop.thread c.run.new.self (subst (λ (x : CodeParts). Loaded (plain_code x) c.run.new.self) code c.run.ensures.loaded) c.run.ensures.number
     (λ xs st. subst (λ (x : CodeParts). StandsFor (plain_code x) c.run.new.self xs) code (c.run.ensures.stands xs (subst (λ (x : CodeParts). StandsFor (plain_code x) c.loop.thread xs) (sym code) st)))
     (subst (λ e. Left_by c.run.new.self e) c.in-Fork.is c.run.ensures.left) (subst (λ (x : CodeParts). c.run.new.self.branches.numbers ≡ map (λ w. w.branch) (jobs_at (plain_code x) c.run.new.self)) code (c.run.ensures.branches c.in-Fork.is)) c.requires.begun.0 c.requires.begun.1 (c.loop.invariant.done c.requires.begun.0 c.requires.begun.1 c.requires.begun.2)
-    c.tell.new.self c.tell.ensures.moves c.tell.ensures.told c.await_replies.new.self c.await_replies.ensures.keeps c.await_replies.ensures.all in (
+    c.tell_and_hint.new.self c.tell_and_hint.ensures.moves c.tell_and_hint.ensures.told c.await_replies.new.self c.await_replies.ensures.keeps c.await_replies.ensures.all in (
       r.gathering.replies,
       heard_now c.loop.self (others_seated c.args.self.now c.loop.self c.loop.invariant.keeps c.requires.seated) c.loop.thread c.run.new.self (subst (λ (x : CodeParts). Loaded (plain_code x) c.run.new.self) code c.run.ensures.loaded) c.run.ensures.number
           (λ xs st. subst (λ (x : CodeParts). StandsFor (plain_code x) c.run.new.self xs) code (c.run.ensures.stands xs (subst (λ (x : CodeParts). StandsFor (plain_code x) c.loop.thread xs) (sym code) st)))
           (subst (λ e. Left_by c.run.new.self e) c.in-Fork.is c.run.ensures.left) (subst (λ (x : CodeParts). c.run.new.self.branches.numbers ≡ map (λ w. w.branch) (jobs_at (plain_code x) c.run.new.self)) code (c.run.ensures.branches c.in-Fork.is)) c.requires.begun.0 c.requires.begun.1 (c.loop.invariant.done c.requires.begun.0 c.requires.begun.1 c.requires.begun.2)
-          c.tell.new.self c.tell.ensures.moves c.tell.ensures.told c.await_replies.new.self c.await_replies.ensures.keeps c.await_replies.ensures.all,
+          c.tell_and_hint.new.self c.tell_and_hint.ensures.moves c.tell_and_hint.ensures.told c.await_replies.new.self c.await_replies.ensures.keeps c.await_replies.ensures.all,
     )
 
 pub join-requires-clause-some : goal.join-requires-clause-some
@@ -98,7 +100,7 @@ join-requires-clause-some g c =
     let r = replies_now c.loop.self (others_seated c.args.self.now c.loop.self c.loop.invariant.keeps c.requires.seated) c.loop.thread c.run.new.self (subst (λ (x : CodeParts). Loaded (plain_code x) c.run.new.self) code c.run.ensures.loaded) c.run.ensures.number
     (λ xs st. subst (λ (x : CodeParts). StandsFor (plain_code x) c.run.new.self xs) code (c.run.ensures.stands xs (subst (λ (x : CodeParts). StandsFor (plain_code x) c.loop.thread xs) (sym code) st)))
     (subst (λ e. Left_by c.run.new.self e) c.in-Fork.is c.run.ensures.left) (subst (λ (x : CodeParts). c.run.new.self.branches.numbers ≡ map (λ w. w.branch) (jobs_at (plain_code x) c.run.new.self)) code (c.run.ensures.branches c.in-Fork.is)) c.requires.begun.0 c.requires.begun.1 (c.loop.invariant.done c.requires.begun.0 c.requires.begun.1 c.requires.begun.2)
-    c.tell.new.self c.tell.ensures.moves c.tell.ensures.told c.await_replies.new.self c.await_replies.ensures.keeps c.await_replies.ensures.all in
+    c.tell_and_hint.new.self c.tell_and_hint.ensures.moves c.tell_and_hint.ensures.told c.await_replies.new.self c.await_replies.ensures.keeps c.await_replies.ensures.all in
     subst (λ l. 0 < length l) (sym c.settle.ensures.branches) r.gathering.forked.some
 
 pub join-requires-clause-few : goal.join-requires-clause-few
@@ -107,7 +109,7 @@ join-requires-clause-few g c =
     let r = replies_now c.loop.self (others_seated c.args.self.now c.loop.self c.loop.invariant.keeps c.requires.seated) c.loop.thread c.run.new.self (subst (λ (x : CodeParts). Loaded (plain_code x) c.run.new.self) code c.run.ensures.loaded) c.run.ensures.number
     (λ xs st. subst (λ (x : CodeParts). StandsFor (plain_code x) c.run.new.self xs) code (c.run.ensures.stands xs (subst (λ (x : CodeParts). StandsFor (plain_code x) c.loop.thread xs) (sym code) st)))
     (subst (λ e. Left_by c.run.new.self e) c.in-Fork.is c.run.ensures.left) (subst (λ (x : CodeParts). c.run.new.self.branches.numbers ≡ map (λ w. w.branch) (jobs_at (plain_code x) c.run.new.self)) code (c.run.ensures.branches c.in-Fork.is)) c.requires.begun.0 c.requires.begun.1 (c.loop.invariant.done c.requires.begun.0 c.requires.begun.1 c.requires.begun.2)
-    c.tell.new.self c.tell.ensures.moves c.tell.ensures.told c.await_replies.new.self c.await_replies.ensures.keeps c.await_replies.ensures.all in
+    c.tell_and_hint.new.self c.tell_and_hint.ensures.moves c.tell_and_hint.ensures.told c.await_replies.new.self c.await_replies.ensures.keeps c.await_replies.ensures.all in
     subst (λ l. length l ≤ 256) (sym c.settle.ensures.branches) r.gathering.forked.few
 
 pub join-requires-clause-heard : goal.join-requires-clause-heard
@@ -116,12 +118,12 @@ join-requires-clause-heard g c =
     let r = replies_now c.loop.self (others_seated c.args.self.now c.loop.self c.loop.invariant.keeps c.requires.seated) c.loop.thread c.run.new.self (subst (λ (x : CodeParts). Loaded (plain_code x) c.run.new.self) code c.run.ensures.loaded) c.run.ensures.number
     (λ xs st. subst (λ (x : CodeParts). StandsFor (plain_code x) c.run.new.self xs) code (c.run.ensures.stands xs (subst (λ (x : CodeParts). StandsFor (plain_code x) c.loop.thread xs) (sym code) st)))
     (subst (λ e. Left_by c.run.new.self e) c.in-Fork.is c.run.ensures.left) (subst (λ (x : CodeParts). c.run.new.self.branches.numbers ≡ map (λ w. w.branch) (jobs_at (plain_code x) c.run.new.self)) code (c.run.ensures.branches c.in-Fork.is)) c.requires.begun.0 c.requires.begun.1 (c.loop.invariant.done c.requires.begun.0 c.requires.begun.1 c.requires.begun.2)
-    c.tell.new.self c.tell.ensures.moves c.tell.ensures.told c.await_replies.new.self c.await_replies.ensures.keeps c.await_replies.ensures.all in (
+    c.tell_and_hint.new.self c.tell_and_hint.ensures.moves c.tell_and_hint.ensures.told c.await_replies.new.self c.await_replies.ensures.keeps c.await_replies.ensures.all in (
       r.gathering.replies,
       subst (λ l. HaveHeard c.await_replies.new.self l r.gathering.replies) (sym c.settle.ensures.branches) (heard_now c.loop.self (others_seated c.args.self.now c.loop.self c.loop.invariant.keeps c.requires.seated) c.loop.thread c.run.new.self (subst (λ (x : CodeParts). Loaded (plain_code x) c.run.new.self) code c.run.ensures.loaded) c.run.ensures.number
           (λ xs st. subst (λ (x : CodeParts). StandsFor (plain_code x) c.run.new.self xs) code (c.run.ensures.stands xs (subst (λ (x : CodeParts). StandsFor (plain_code x) c.loop.thread xs) (sym code) st)))
           (subst (λ e. Left_by c.run.new.self e) c.in-Fork.is c.run.ensures.left) (subst (λ (x : CodeParts). c.run.new.self.branches.numbers ≡ map (λ w. w.branch) (jobs_at (plain_code x) c.run.new.self)) code (c.run.ensures.branches c.in-Fork.is)) c.requires.begun.0 c.requires.begun.1 (c.loop.invariant.done c.requires.begun.0 c.requires.begun.1 c.requires.begun.2)
-          c.tell.new.self c.tell.ensures.moves c.tell.ensures.told c.await_replies.new.self c.await_replies.ensures.keeps c.await_replies.ensures.all),
+          c.tell_and_hint.new.self c.tell_and_hint.ensures.moves c.tell_and_hint.ensures.told c.await_replies.new.self c.await_replies.ensures.keeps c.await_replies.ensures.all),
     )
 
 pub loop-preserved : goal.loop-preserved
@@ -129,8 +131,8 @@ loop-preserved g c =
     let code : c.self.inside.code.now ≡ c.loop.self.code = ap (λ (s : State). s.code) c.self.view_is in
     record {
       keeps = others_then c.args.self.now c.loop.self c.await_replies.new.self c.loop.invariant.keeps
-          (others_then c.loop.self c.tell.new.self c.await_replies.new.self (branches_others c.loop.self c.tell.new.self c.run.new.self.number (c.run.ensures.number ∙ c.loop.invariant.root) c.tell.ensures.moves) c.await_replies.ensures.keeps);
-      next = c.await_replies.ensures.next;
+          (others_then c.loop.self c.tell_and_hint.new.self c.await_replies.new.self (branches_others c.loop.self c.tell_and_hint.new.self c.run.new.self.number (c.run.ensures.number ∙ c.loop.invariant.root) c.tell_and_hint.ensures.moves) c.await_replies.ensures.keeps);
+      round = round_then c.args.round.now c.loop.round c.await_replies.new.round c.loop.invariant.round (round_then c.loop.round c.tell_and_hint.new.round c.await_replies.new.round (round_moved c.loop.round c.tell_and_hint.new.round c.loop.invariant.round.next c.tell_and_hint.ensures.own c.tell_and_hint.ensures.next c.tell_and_hint.ensures.rope) c.await_replies.ensures.round);
       root = c.join.ensures.number ∙ c.settle.ensures.number ∙ c.run.ensures.number ∙ c.loop.invariant.root;
       loaded = c.join.ensures.loaded;
       running = c.join.ensures.running;
@@ -138,7 +140,7 @@ loop-preserved g c =
           on_next c.loop.self (others_seated c.args.self.now c.loop.self c.loop.invariant.keeps c.requires.seated) c.loop.thread c.run.new.self (subst (λ (x : CodeParts). Loaded (plain_code x) c.run.new.self) code c.run.ensures.loaded) c.run.ensures.number
           (λ xs st. subst (λ (x : CodeParts). StandsFor (plain_code x) c.run.new.self xs) code (c.run.ensures.stands xs (subst (λ (x : CodeParts). StandsFor (plain_code x) c.loop.thread xs) (sym code) st)))
           (subst (λ e. Left_by c.run.new.self e) c.in-Fork.is c.run.ensures.left) (subst (λ (x : CodeParts). c.run.new.self.branches.numbers ≡ map (λ w. w.branch) (jobs_at (plain_code x) c.run.new.self)) code (c.run.ensures.branches c.in-Fork.is)) jobs job (c.loop.invariant.done jobs job on)
-          c.tell.new.self c.tell.ensures.moves c.tell.ensures.told c.await_replies.new.self c.await_replies.ensures.keeps c.await_replies.ensures.all c.settle.new.thread c.join.new.thread c.settle.ensures.number c.join.ensures.number c.settle.ensures.branches c.settle.ensures.stands c.join.ensures.stands;
+          c.tell_and_hint.new.self c.tell_and_hint.ensures.moves c.tell_and_hint.ensures.told c.await_replies.new.self c.await_replies.ensures.keeps c.await_replies.ensures.all c.settle.new.thread c.join.new.thread c.settle.ensures.number c.join.ensures.number c.settle.ensures.branches c.settle.ensures.stands c.join.ensures.stands;
     }
 
 pub returns-in_default : goal.returns-in_default
@@ -146,7 +148,7 @@ returns-in_default g c =
     let code : c.self.inside.code.now ≡ c.loop.self.code = ap (λ (s : State). s.code) c.self.view_is in
     record {
       keeps = c.loop.invariant.keeps;
-      next = c.loop.invariant.next;
+      round = c.loop.invariant.round;
       root = c.run.ensures.number ∙ c.loop.invariant.root;
       loaded = subst (λ (x : CodeParts). Loaded (plain_code x) c.run.new.self) (code ∙ c.loop.invariant.keeps.code) c.run.ensures.loaded;
       reply = replied_by c.run.new.self c.run.result c.run.ensures.left c.in_default.not-Fork;

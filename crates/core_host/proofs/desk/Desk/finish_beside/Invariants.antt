@@ -1,14 +1,15 @@
-use Rattle.std.proofs.Common.{◌≡◌, ◌≤◌, List, length}
+use Rattle.std.proofs.Common.{◌≡◌, List}
 use Rattle.forec_kernel.specs.Engine.{Job}
 use Rattle.core_machine.specs.Held.{Loaded, CanRun}
 use Rattle.core_host.specs.Keeping.{code_in}
+use Rattle.core_host.specs.Rounds.{IsSameRound}
 use Rattle.core_host.specs.OnJob.{IsOnJob, KeepsOthers}
 use Rattle.core_host.proofs.desk.Desk.finish_beside.Given as goal
 
 abbrev pub invariant-loop : goal.invariant-loop
 invariant-loop g l = record {
   keeps : KeepsOthers l.fn.self l.self;
-  next : l.next ≤ length l.own;
+  round : IsSameRound l.fn.round l.round;
   root : l.thread.number ≡ 0;
   loaded : Loaded (code_in l.self) l.thread;
   running : CanRun l.thread;

@@ -14,10 +14,12 @@ finish_beside-requires-clause-seated g c =
     up_seated c.args.self.now c.requires.seated c.requires.root c.requires.packets c.self.inside.code.now c.self.inside.places.items (g.P.Port.state c.self.inside.port) c.self.inside.seats.items c.self.inside.hands.items c.self.view_is c.index_mut.result.now c.index_mut.ensures.value c.take.result c.take.ensures.value c.deref_mut-thread.result.now (c.in-Some.is ∙ ap Some (sym c.deref_mut-thread.ensures.value))
     (record { thread = c.take.new.self; job = c.index_mut.result.now.job }) c.args.packet.now c.begin.new.self c.begin.ensures.number c.begin.ensures.stands
 
-pub finish_beside-requires-clause-each : goal.finish_beside-requires-clause-each
-finish_beside-requires-clause-each g c =
-    up_each c.args.self.now c.requires.seated c.requires.root c.requires.packets c.self.inside.code.now c.self.inside.places.items (g.P.Port.state c.self.inside.port) c.self.inside.seats.items c.self.inside.hands.items c.self.view_is c.index_mut.result.now c.index_mut.ensures.value c.take.result c.take.ensures.value c.deref_mut-thread.result.now (c.in-Some.is ∙ ap Some (sym c.deref_mut-thread.ensures.value))
-    (record { thread = c.take.new.self; job = c.index_mut.result.now.job }) c.args.packet.now c.begin.new.self c.begin.ensures.number c.begin.ensures.stands c.args.own.now c.requires.each
+pub finish_beside-requires-clause-round : goal.finish_beside-requires-clause-round
+finish_beside-requires-clause-round g c = record {
+  next = c.requires.round.next;
+  each = up_each c.args.self.now c.requires.seated c.requires.root c.requires.packets c.self.inside.code.now c.self.inside.places.items (g.P.Port.state c.self.inside.port) c.self.inside.seats.items c.self.inside.hands.items c.self.view_is c.index_mut.result.now c.index_mut.ensures.value c.take.result c.take.ensures.value c.deref_mut-thread.result.now (c.in-Some.is ∙ ap Some (sym c.deref_mut-thread.ensures.value))
+      (record { thread = c.take.new.self; job = c.index_mut.result.now.job }) c.args.packet.now c.begin.new.self c.begin.ensures.number c.begin.ensures.stands c.args.round.now.own.items c.requires.round.each;
+}
 
 pub finish_beside-requires-clause-root : goal.finish_beside-requires-clause-root
 finish_beside-requires-clause-root g c =

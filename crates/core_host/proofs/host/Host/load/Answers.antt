@@ -1,5 +1,5 @@
 use Rattle.std.proofs.Common.{rules, ◌≡◌, ◌-◌, [], length, true, sym, ap, ◌∙◌, subst, arith}
-use Rattle.std.specs.Prelude.{slice_get}
+use Rattle.std.specs.Prelude.{None, slice_get}
 use Rattle.std.proofs.lemmas.List.{length-replicate, length-map}
 use Rattle.forec_kernel.specs.declared.shape.Shape.{Shape}
 use Rattle.forec_kernel.specs.Packets.{PlainPacket}
@@ -46,9 +46,9 @@ invariant_of-result-2 g c =
     let hands = c.in_ok-hands.ensures.count ∙ ap (λ n. n - 1) threads in
     let host : new_host c.args.code.now valid c.args.placement.now c.args.cores.now (g.P.Port.state c.args.port) c.requires c.in_ok-places.ensures.placed c.in_ok-seats.seats.items count
     (λ t core z place at. c.in_ok-seats.ensures.each t core z (ap (λ l. slice_get l t) read ∙ place) at) c.in_ok-hands.hands.items hands c.in_ok-hands.ensures.each c.in_ok-root.root room kind
-    ≡ hosted (record { code = c.args.code.now; places = c.in_ok-places.places.items; mail = g.P.Port.state c.args.port; seats = c.in_ok-seats.seats.items; hands = c.in_ok-hands.hands.items }) c.in_ok-cores.cores.items c.in_ok-root.root true =
-    ap (λ l. hosted (record { code = c.args.code.now; places = l; mail = g.P.Port.state c.args.port; seats = c.in_ok-seats.seats.items; hands = c.in_ok-hands.hands.items }) c.args.cores.now c.in_ok-root.root true) (sym places)
-    ∙ ap (λ l. hosted (record { code = c.args.code.now; places = c.in_ok-places.places.items; mail = g.P.Port.state c.args.port; seats = c.in_ok-seats.seats.items; hands = c.in_ok-hands.hands.items }) l c.in_ok-root.root true) (sym cores) in
+    ≡ hosted (record { code = c.args.code.now; places = c.in_ok-places.places.items; mail = g.P.Port.state c.args.port; seats = c.in_ok-seats.seats.items; hands = c.in_ok-hands.hands.items }) c.in_ok-cores.cores.items c.in_ok-root.root true None =
+    ap (λ l. hosted (record { code = c.args.code.now; places = l; mail = g.P.Port.state c.args.port; seats = c.in_ok-seats.seats.items; hands = c.in_ok-hands.hands.items }) c.args.cores.now c.in_ok-root.root true None) (sym places)
+    ∙ ap (λ l. hosted (record { code = c.args.code.now; places = c.in_ok-places.places.items; mail = g.P.Port.state c.args.port; seats = c.in_ok-seats.seats.items; hands = c.in_ok-hands.hands.items }) l c.in_ok-root.root true None) (sym cores) in
     subst IsHosted host (new_hosted c.args.code.now valid c.args.placement.now c.args.cores.now (g.P.Port.state c.args.port) c.requires c.in_ok-places.ensures.placed c.in_ok-seats.seats.items count
     (λ t core z place at. c.in_ok-seats.ensures.each t core z (ap (λ l. slice_get l t) read ∙ place) at) c.in_ok-hands.hands.items hands c.in_ok-hands.ensures.each c.in_ok-root.root room kind)
 
@@ -84,9 +84,9 @@ returns-clause-jobs g c here =
     let hands = c.in_ok-hands.ensures.count ∙ ap (λ n. n - 1) threads in
     let host : new_host c.args.code.now valid c.args.placement.now c.args.cores.now (g.P.Port.state c.args.port) c.requires c.in_ok-places.ensures.placed c.in_ok-seats.seats.items count
     (λ t core z place at. c.in_ok-seats.ensures.each t core z (ap (λ l. slice_get l t) read ∙ place) at) c.in_ok-hands.hands.items hands c.in_ok-hands.ensures.each c.in_ok-root.root room kind
-    ≡ hosted (record { code = c.args.code.now; places = c.in_ok-places.places.items; mail = g.P.Port.state c.args.port; seats = c.in_ok-seats.seats.items; hands = c.in_ok-hands.hands.items }) c.in_ok-cores.cores.items c.in_ok-root.root true =
-    ap (λ l. hosted (record { code = c.args.code.now; places = l; mail = g.P.Port.state c.args.port; seats = c.in_ok-seats.seats.items; hands = c.in_ok-hands.hands.items }) c.args.cores.now c.in_ok-root.root true) (sym places)
-    ∙ ap (λ l. hosted (record { code = c.args.code.now; places = c.in_ok-places.places.items; mail = g.P.Port.state c.args.port; seats = c.in_ok-seats.seats.items; hands = c.in_ok-hands.hands.items }) l c.in_ok-root.root true) (sym cores) in
+    ≡ hosted (record { code = c.args.code.now; places = c.in_ok-places.places.items; mail = g.P.Port.state c.args.port; seats = c.in_ok-seats.seats.items; hands = c.in_ok-hands.hands.items }) c.in_ok-cores.cores.items c.in_ok-root.root true None =
+    ap (λ l. hosted (record { code = c.args.code.now; places = l; mail = g.P.Port.state c.args.port; seats = c.in_ok-seats.seats.items; hands = c.in_ok-hands.hands.items }) c.args.cores.now c.in_ok-root.root true None) (sym places)
+    ∙ ap (λ l. hosted (record { code = c.args.code.now; places = c.in_ok-places.places.items; mail = g.P.Port.state c.args.port; seats = c.in_ok-seats.seats.items; hands = c.in_ok-hands.hands.items }) l c.in_ok-root.root true None) (sym cores) in
     subst (λ h. HasJobs h []) host (new_jobs c.args.code.now valid c.args.placement.now c.args.cores.now (g.P.Port.state c.args.port) c.requires c.in_ok-places.ensures.placed c.in_ok-seats.seats.items count
     (λ t core z place at. c.in_ok-seats.ensures.each t core z (ap (λ l. slice_get l t) read ∙ place) at) c.in_ok-hands.hands.items hands c.in_ok-hands.ensures.each c.in_ok-root.root room kind (subst (λ (h : Hosted). is_here h 0 ≡ true) (sym host) here))
 
@@ -112,9 +112,9 @@ returns-clause-none g c here k fine' stands =
     let hands = c.in_ok-hands.ensures.count ∙ ap (λ n. n - 1) threads in
     let host : new_host c.args.code.now valid c.args.placement.now c.args.cores.now (g.P.Port.state c.args.port) c.requires c.in_ok-places.ensures.placed c.in_ok-seats.seats.items count
     (λ t core z place at. c.in_ok-seats.ensures.each t core z (ap (λ l. slice_get l t) read ∙ place) at) c.in_ok-hands.hands.items hands c.in_ok-hands.ensures.each c.in_ok-root.root room kind
-    ≡ hosted (record { code = c.args.code.now; places = c.in_ok-places.places.items; mail = g.P.Port.state c.args.port; seats = c.in_ok-seats.seats.items; hands = c.in_ok-hands.hands.items }) c.in_ok-cores.cores.items c.in_ok-root.root true =
-    ap (λ l. hosted (record { code = c.args.code.now; places = l; mail = g.P.Port.state c.args.port; seats = c.in_ok-seats.seats.items; hands = c.in_ok-hands.hands.items }) c.args.cores.now c.in_ok-root.root true) (sym places)
-    ∙ ap (λ l. hosted (record { code = c.args.code.now; places = c.in_ok-places.places.items; mail = g.P.Port.state c.args.port; seats = c.in_ok-seats.seats.items; hands = c.in_ok-hands.hands.items }) l c.in_ok-root.root true) (sym cores) in
+    ≡ hosted (record { code = c.args.code.now; places = c.in_ok-places.places.items; mail = g.P.Port.state c.args.port; seats = c.in_ok-seats.seats.items; hands = c.in_ok-hands.hands.items }) c.in_ok-cores.cores.items c.in_ok-root.root true None =
+    ap (λ l. hosted (record { code = c.args.code.now; places = l; mail = g.P.Port.state c.args.port; seats = c.in_ok-seats.seats.items; hands = c.in_ok-hands.hands.items }) c.args.cores.now c.in_ok-root.root true None) (sym places)
+    ∙ ap (λ l. hosted (record { code = c.args.code.now; places = c.in_ok-places.places.items; mail = g.P.Port.state c.args.port; seats = c.in_ok-seats.seats.items; hands = c.in_ok-hands.hands.items }) l c.in_ok-root.root true None) (sym cores) in
     record {
       jobs = subst (λ h. HasJobs h []) host (new_jobs c.args.code.now valid c.args.placement.now c.args.cores.now (g.P.Port.state c.args.port) c.requires c.in_ok-places.ensures.placed c.in_ok-seats.seats.items count
           (λ t core z place at. c.in_ok-seats.ensures.each t core z (ap (λ l. slice_get l t) read ∙ place) at) c.in_ok-hands.hands.items hands c.in_ok-hands.ensures.each c.in_ok-root.root room kind (subst (λ (h : Hosted). is_here h 0 ≡ true) (sym host) here));
@@ -143,9 +143,9 @@ returns-clause-fresh g c whole k fine' stands =
     let hands = c.in_ok-hands.ensures.count ∙ ap (λ n. n - 1) threads in
     let host : new_host c.args.code.now valid c.args.placement.now c.args.cores.now (g.P.Port.state c.args.port) c.requires c.in_ok-places.ensures.placed c.in_ok-seats.seats.items count
     (λ t core z place at. c.in_ok-seats.ensures.each t core z (ap (λ l. slice_get l t) read ∙ place) at) c.in_ok-hands.hands.items hands c.in_ok-hands.ensures.each c.in_ok-root.root room kind
-    ≡ hosted (record { code = c.args.code.now; places = c.in_ok-places.places.items; mail = g.P.Port.state c.args.port; seats = c.in_ok-seats.seats.items; hands = c.in_ok-hands.hands.items }) c.in_ok-cores.cores.items c.in_ok-root.root true =
-    ap (λ l. hosted (record { code = c.args.code.now; places = l; mail = g.P.Port.state c.args.port; seats = c.in_ok-seats.seats.items; hands = c.in_ok-hands.hands.items }) c.args.cores.now c.in_ok-root.root true) (sym places)
-    ∙ ap (λ l. hosted (record { code = c.args.code.now; places = c.in_ok-places.places.items; mail = g.P.Port.state c.args.port; seats = c.in_ok-seats.seats.items; hands = c.in_ok-hands.hands.items }) l c.in_ok-root.root true) (sym cores) in
+    ≡ hosted (record { code = c.args.code.now; places = c.in_ok-places.places.items; mail = g.P.Port.state c.args.port; seats = c.in_ok-seats.seats.items; hands = c.in_ok-hands.hands.items }) c.in_ok-cores.cores.items c.in_ok-root.root true None =
+    ap (λ l. hosted (record { code = c.args.code.now; places = l; mail = g.P.Port.state c.args.port; seats = c.in_ok-seats.seats.items; hands = c.in_ok-hands.hands.items }) c.args.cores.now c.in_ok-root.root true None) (sym places)
+    ∙ ap (λ l. hosted (record { code = c.args.code.now; places = c.in_ok-places.places.items; mail = g.P.Port.state c.args.port; seats = c.in_ok-seats.seats.items; hands = c.in_ok-hands.hands.items }) l c.in_ok-root.root true None) (sym cores) in
     let here = whole_here c.args.code.now valid c.args.placement.now c.args.cores.now (g.P.Port.state c.args.port) c.requires c.in_ok-places.ensures.placed c.in_ok-seats.seats.items count
     (λ t core z place at. c.in_ok-seats.ensures.each t core z (ap (λ l. slice_get l t) read ∙ place) at) c.in_ok-hands.hands.items hands c.in_ok-hands.ensures.each c.in_ok-root.root room kind (subst IsWhole (sym host) whole) in
     record {
@@ -175,8 +175,8 @@ returns-clause-whole g c tells all =
     let hands = c.in_ok-hands.ensures.count ∙ ap (λ n. n - 1) threads in
     let host : new_host c.args.code.now valid c.args.placement.now c.args.cores.now (g.P.Port.state c.args.port) c.requires c.in_ok-places.ensures.placed c.in_ok-seats.seats.items count
     (λ t core z place at. c.in_ok-seats.ensures.each t core z (ap (λ l. slice_get l t) read ∙ place) at) c.in_ok-hands.hands.items hands c.in_ok-hands.ensures.each c.in_ok-root.root room kind
-    ≡ hosted (record { code = c.args.code.now; places = c.in_ok-places.places.items; mail = g.P.Port.state c.args.port; seats = c.in_ok-seats.seats.items; hands = c.in_ok-hands.hands.items }) c.in_ok-cores.cores.items c.in_ok-root.root true =
-    ap (λ l. hosted (record { code = c.args.code.now; places = l; mail = g.P.Port.state c.args.port; seats = c.in_ok-seats.seats.items; hands = c.in_ok-hands.hands.items }) c.args.cores.now c.in_ok-root.root true) (sym places)
-    ∙ ap (λ l. hosted (record { code = c.args.code.now; places = c.in_ok-places.places.items; mail = g.P.Port.state c.args.port; seats = c.in_ok-seats.seats.items; hands = c.in_ok-hands.hands.items }) l c.in_ok-root.root true) (sym cores) in
+    ≡ hosted (record { code = c.args.code.now; places = c.in_ok-places.places.items; mail = g.P.Port.state c.args.port; seats = c.in_ok-seats.seats.items; hands = c.in_ok-hands.hands.items }) c.in_ok-cores.cores.items c.in_ok-root.root true None =
+    ap (λ l. hosted (record { code = c.args.code.now; places = l; mail = g.P.Port.state c.args.port; seats = c.in_ok-seats.seats.items; hands = c.in_ok-hands.hands.items }) c.args.cores.now c.in_ok-root.root true None) (sym places)
+    ∙ ap (λ l. hosted (record { code = c.args.code.now; places = c.in_ok-places.places.items; mail = g.P.Port.state c.args.port; seats = c.in_ok-seats.seats.items; hands = c.in_ok-hands.hands.items }) l c.in_ok-root.root true None) (sym cores) in
     subst IsWhole host (new_whole c.args.code.now valid c.args.placement.now c.args.cores.now (g.P.Port.state c.args.port) c.requires c.in_ok-places.ensures.placed c.in_ok-seats.seats.items count
     (λ t core z place at. c.in_ok-seats.ensures.each t core z (ap (λ l. slice_get l t) read ∙ place) at) c.in_ok-hands.hands.items hands c.in_ok-hands.ensures.each c.in_ok-root.root room kind tells all)

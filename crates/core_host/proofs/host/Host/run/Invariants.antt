@@ -1,5 +1,6 @@
 use Rattle.std.proofs.Common.{◌≡◌}
 use Rattle.core_host.specs.Changes.{Grown}
+use Rattle.core_host.specs.Hung.{KeepsRope}
 use Rattle.core_host.proofs.host.Host.run.Given as goal
 
 abbrev pub invariant-loop : goal.invariant-loop
@@ -8,4 +9,5 @@ invariant-loop g l = record {
   places : l.host.places ≡ l.fn.self.places;
   cores : l.host.cores ≡ l.fn.self.cores;
   grown : Grown l.fn.self.mail l.host.mail;
+  rope : KeepsRope l.fn.self.rope l.host.rope;
 }

@@ -1,0 +1,54 @@
+//! Hints to those to whom a thread sent.
+ghost use Rattle.std.specs.Prelude.{◌≡◌};
+ghost use Rattle.core_bells.specs.Ropes.{IsSameRope};
+ghost use Rattle.core_host.specs.Hung.{KeepsRope};
+
+use crate::desk::Desk;
+use crate::round::Round;
+use crate::work::ForecWork;
+use copy_slots::Port;
+use core_bells::Rope;
+use core_machine::Thread;
+use forec_base::MAX_THREADS;
+use std::sync::Wait;
+use thread_code::Code;
+
+/// The thread that forks the one whose mailbox this is.
+fn parent_of(code: &Code, mailbox: u32) -> Option<u32> {
+    code.shape().threads.get(mailbox as usize + 1)?.parent
+}
+
+/// Hints to the cores of the branches that got jobs at the thread's fork.
+pub(crate) fn hint_branches<R: Wait>(rt: &R, code: &Code, thread: &Thread, rope: &mut Rope<'_>)
+    ensures { IsSameRope rope.old rope.new }
+{
+    for k in 0..MAX_THREADS as usize {
+        let Some(branch) = thread.active(code, k) else {
+            return;
+        };
+        rope.hint(rt, branch, branch.saturating_sub(1));
+    }
+}
+
+impl<'c, P: Port<ForecWork> + Drop> Desk<'c, P> {
+    /// Hints to those to whom a thread sent when it was served last: to its branches where it waits at a fork, and else to its
+    /// parent.
+    pub(crate) fn hint<R: Wait>(&self, rt: &R, mailbox: u32, round: &mut Round<'c>)
+        ensures own { round.new.own ≡ round.old.own }
+        ensures next { round.new.next ≡ round.old.next }
+        ensures rope { KeepsRope round.old.rope round.new.rope }
+    {
+        let Some(rope) = &mut round.rope else { return };
+        let Some(seat) = self.seats.get(mailbox as usize + 1) else {
+            return;
+        };
+        match (&seat.thread, &seat.job) {
+            (Some(thread), Some(_)) => hint_branches(rt, self.code, thread, rope),
+            _ => {
+                if let Some(parent) = parent_of(self.code, mailbox) {
+                    rope.hint(rt, parent, mailbox);
+                }
+            }
+        }
+    }
+}

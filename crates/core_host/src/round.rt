@@ -1,0 +1,49 @@
+//! The mailboxes of a host's threads, one after the other.
+ghost use Rattle.std.specs.Prelude.{◌≡◌};
+ghost use Rattle.core_host.specs.Hung.{KeepsRope};
+
+use core_bells::Rope;
+use std::sync::Wait;
+use std::thread::yield_now;
+
+/// How often a core looks in vain before it sleeps. What it waits for within a tick mostly comes sooner, and to wake a core takes
+/// longer than to look.
+const PATIENCE: u32 = 1024;
+
+/// The mailboxes of a host's threads, and how it goes round them.
+#[derive(Drop)]
+pub struct Round<'c> {
+    /// The mailboxes of its threads, in order.
+    pub own: Vec<u32>,
+    /// Where in `own` the next serving starts: after the mailbox that was served last.
+    pub next: usize,
+    /// What its core waits by, and wakes others by.
+    pub rope: Option<Rope<'c>>,
+}
+
+impl<'c> Round<'c> {
+    /// The next hint to this core: the number of a mailbox.
+    pub fn hint<R: Wait>(&mut self, rt: &R) -> Option<u32>
+        ensures own { self.new.own ≡ self.old.own }
+        ensures next { self.new.next ≡ self.old.next }
+        ensures rope { KeepsRope self.old.rope self.new.rope }
+    {
+        match &mut self.rope {
+            Some(rope) => rope.pop(rt),
+            None => None,
+        }
+    }
+
+    /// Lets other threads run; after so many looks in vain a core that has a rope sleeps until it is woken. How often it has
+    /// looked since it last slept.
+    pub fn wait<R: Wait>(&self, rt: &R, looks: u32) -> u32 {
+        if looks >= PATIENCE {
+            if let Some(rope) = &self.rope {
+                rope.sleep(rt);
+                return 0;
+            }
+        }
+        yield_now();
+        looks.saturating_add(1)
+    }
+}
