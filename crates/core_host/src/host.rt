@@ -117,6 +117,7 @@ impl<'c, P: Port<ForecWork> + Drop> Host<'c, P> {
             round: Round {
                 own,
                 next: 0,
+                up: true,
                 rope: None,
             },
             root,
@@ -226,13 +227,14 @@ impl<'c, P: Port<ForecWork> + Drop> Host<'c, P> {
             root,
             live,
         } = self;
-        let Round { own, next, .. } = round;
+        let Round { own, next, up, .. } = round;
         Host {
             desk,
             cores,
             round: Round {
                 own,
                 next,
+                up,
                 rope: Some(rope),
             },
             root,

@@ -1,5 +1,5 @@
 //! The mailboxes of a host's threads, one after the other.
-ghost use Rattle.std.specs.Prelude.{◌≡◌};
+ghost use Rattle.std.specs.Prelude.{◌≡◌, ◌<◌};
 ghost use Rattle.core_host.specs.Hung.{KeepsRope};
 
 use core_bells::Rope;
@@ -17,6 +17,8 @@ pub struct Round<'c> {
     pub own: Vec<u32>,
     /// Where in `own` the next serving starts: after the mailbox that was served last.
     pub next: usize,
+    /// Whether the next sweep goes upwards: to the branches of a thread after the thread itself.
+    pub up: bool,
     /// What its core waits by, and wakes others by.
     pub rope: Option<Rope<'c>>,
 }
@@ -34,10 +36,13 @@ impl<'c> Round<'c> {
         }
     }
 
-    /// Lets other threads run; after so many looks in vain a core that has a rope sleeps until it is woken. How often it has
-    /// looked since it last slept.
-    pub fn wait<R: Wait>(&self, rt: &R, looks: u32) -> u32 {
-        if looks >= PATIENCE {
+    /// What a core does after a look: it goes on if it found something to do. Else it lets other threads run, or sleeps until it is
+    /// woken, if it may, has a rope, and has looked in vain for long enough. How often it has looked in vain since.
+    pub fn rest<R: Wait>(&self, rt: &R, found: bool, may_sleep: bool, looks: u32) -> u32 {
+        if found {
+            return 0;
+        }
+        if may_sleep && looks >= PATIENCE {
             if let Some(rope) = &self.rope {
                 rope.sleep(rt);
                 return 0;
@@ -46,4 +51,12 @@ impl<'c> Round<'c> {
         yield_now();
         looks.saturating_add(1)
     }
+}
+
+/// The k-th of so many places, from the first one on or from the last one.
+pub fn place_of(k: usize, count: usize, up: bool) -> usize
+    requires { k < count }
+    ensures { result < count }
+{
+    if up { k } else { count - 1 - k }
 }

@@ -35,7 +35,7 @@ use crate::hints::hint_branches;
 use crate::host::Host;
 use crate::job::write_job;
 use crate::outcome::write_outcome;
-use crate::round::Round;
+use crate::round::{Round, place_of};
 use crate::work::ForecWork;
 use crate::worker::{Crew, Serve};
 use combine_tree::Packet;
@@ -44,58 +44,86 @@ use core_machine::{Event, Thread};
 use forec_base::Gate;
 use forec_kernel::Outcome;
 use std::sync::Wait;
-use std::thread::yield_now;
 
 impl<'c, P: Port<ForecWork> + Drop> Desk<'c, P> {
-    /// Serves a mailbox, if it is one of the round. Whether there was something to do.
-    fn serve_one<G: Gate>(&mut self, gate: &G, mailbox: u32, round: &Round<'c>) -> bool
+    /// Serves the mailbox at this place of the round, and hints to those to whom its thread sent. Whether there was something to do.
+    fn serve_at<R: Wait, G: Gate>(
+        &mut self,
+        rt: &R,
+        gate: &G,
+        place: usize,
+        round: &mut Round<'c>,
+    ) -> bool
         requires seated { IsSeated self.old }
-        requires round { CanServe self.old round.now }
+        requires round { CanServe self.old round.old }
+        requires place { place < length round.old.own.items }
         ensures keeps { KeepsServing self.old self.new }
+        ensures round { IsSameRound round.old round.new }
+    {
+        let mailbox = round.own[place];
+        if !self.serve(gate, mailbox) {
+            return false;
+        }
+        self.hint(rt, mailbox, round);
+        true
+    }
+
+    /// Serves a mailbox, if it is one of the round. Whether there was something to do.
+    fn serve_named<R: Wait, G: Gate>(
+        &mut self,
+        rt: &R,
+        gate: &G,
+        mailbox: u32,
+        round: &mut Round<'c>,
+    ) -> bool
+        requires seated { IsSeated self.old }
+        requires round { CanServe self.old round.old }
+        ensures keeps { KeepsServing self.old self.new }
+        ensures round { IsSameRound round.old round.new }
     {
         match round.own.binary_search(&mailbox) {
-            Ok(i) => self.serve(gate, round.own[i]),
+            Ok(place) => self.serve_at(rt, gate, place, round),
             Err(_) => false,
         }
     }
 
-    /// Serves the mailboxes that hints name, until there was something to do at one, which it answers; None once there is no
-    /// hint left.
-    fn serve_hinted<R: Wait, G: Gate>(
-        &mut self,
-        rt: &R,
-        gate: &G,
-        round: &mut Round<'c>,
-    ) -> Option<u32>
+    /// Serves the mailboxes that hints name, until there is no hint. Whether there was something to do.
+    fn serve_hinted<R: Wait, G: Gate>(&mut self, rt: &R, gate: &G, round: &mut Round<'c>) -> bool
         requires seated { IsSeated self.old }
         requires round { CanServe self.old round.old }
         ensures keeps { KeepsServing self.old self.new }
         ensures round { IsSameRound round.old round.new }
     {
+        let mut found = false;
         for _ in rt.forever() {
-            let mailbox = round.hint(rt)?;
-            if self.serve_one(gate, mailbox, round) {
-                return Some(mailbox);
-            }
+            let Some(mailbox) = round.hint(rt) else {
+                return found;
+            };
+            found |= self.serve_named(rt, gate, mailbox, round);
         }
         unreachable!()
     }
 
-    /// Serves the next of the round's mailboxes where there is something to do, and answers it; None where there is none.
-    fn serve_round_next<G: Gate>(&mut self, gate: &G, round: &mut Round<'c>) -> Option<u32>
+    /// Serves each mailbox of the round once, upwards and downwards in turn: upwards a thread comes before its branches, which it
+    /// gives jobs; downwards it comes after them, when they have replied. Whether there was something to do.
+    fn sweep<R: Wait, G: Gate>(&mut self, rt: &R, gate: &G, round: &mut Round<'c>) -> bool
         requires seated { IsSeated self.old }
         requires round { CanServe self.old round.old }
         ensures keeps { KeepsServing self.old self.new }
         ensures round { IsSameRound round.old round.new }
     {
-        let i = self.serve_round(gate, &round.own, round.next)?;
-        round.next = i + 1;
-        Some(round.own[i])
+        let count = round.own.len();
+        let up = round.up;
+        let mut found = false;
+        for k in 0..count {
+            found |= self.serve_at(rt, gate, place_of(k, count, up), round);
+        }
+        round.up = !up;
+        found
     }
 
-    /// Serves a mailbox that a hint names, or else the next of the round, where there is something to do, and hints to those to
-    /// whom its thread sent. Whether there was something to do.
-    pub(crate) fn serve_next<R: Wait, G: Gate>(
+    /// Serves the mailboxes that hints name, and then each mailbox of the round once. Whether there was something to do.
+    pub(crate) fn serve_sweep<R: Wait, G: Gate>(
         &mut self,
         rt: &R,
         gate: &G,
@@ -106,42 +134,13 @@ impl<'c, P: Port<ForecWork> + Drop> Desk<'c, P> {
         ensures keeps { KeepsServing self.old self.new }
         ensures round { IsSameRound round.old round.new }
     {
-        if let Some(mailbox) = self.serve_hinted(rt, gate, round) {
-            self.hint(rt, mailbox, round);
-            return true;
-        }
-        let Some(mailbox) = self.serve_round_next(gate, round) else {
-            return false;
-        };
-        self.hint(rt, mailbox, round);
-        true
+        let hinted = self.serve_hinted(rt, gate, round);
+        let swept = self.sweep(rt, gate, round);
+        hinted || swept
     }
 
-    /// Serves these mailboxes and the others in turn, until nothing is left to do at either.
-    fn serve_all<R: Wait, O: Serve, G: Gate>(
-        &mut self,
-        rt: &R,
-        gate: &G,
-        round: &mut Round<'c>,
-        others: &mut O,
-    )
-        requires seated { IsSeated self.old }
-        requires round { CanServe self.old round.old }
-        ensures keeps { KeepsServing self.old self.new }
-        ensures round { IsSameRound round.old round.new }
-    {
-        for _ in rt.forever() {
-            let mine = self.serve_next(rt, gate, round);
-            let theirs = others.serve(rt);
-            if !mine && !theirs {
-                return;
-            }
-        }
-        unreachable!()
-    }
-
-    /// Waits until all branches of the thread's fork have replied, and serves meanwhile. It gathers only once nothing is
-    /// left to do, since each time it begins at the first branch. It never sleeps where there are others to serve.
+    /// Waits until all branches of the thread's fork have replied, and serves meanwhile. It gathers only after a sweep, since each
+    /// time it begins at the first branch. It never sleeps where there are others to serve.
     fn await_replies<R: Wait, O: Serve, G: Gate>(
         &mut self,
         rt: &R,
@@ -160,15 +159,12 @@ impl<'c, P: Port<ForecWork> + Drop> Desk<'c, P> {
     {
         let mut looks = 0;
         for _ in rt.forever() {
-            self.serve_all(rt, gate, round, others);
+            let mine = self.serve_sweep(rt, gate, round);
+            let theirs = others.serve(rt);
             if self.gather(thread) {
                 return;
             }
-            if others.is_empty() {
-                looks = round.wait(rt, looks);
-            } else {
-                yield_now();
-            }
+            looks = round.rest(rt, mine || theirs, others.is_empty(), looks);
         }
         unreachable!()
     }
@@ -185,6 +181,7 @@ impl<'c, P: Port<ForecWork> + Drop> Desk<'c, P> {
         ensures rope { KeepsRope round.old.rope round.new.rope }
     {
         self.tell(thread);
+        round.up = true;
         if let Some(rope) = &mut round.rope {
             hint_branches(rt, self.code, thread, rope);
         }

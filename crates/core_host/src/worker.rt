@@ -74,8 +74,8 @@ impl<'c, P: Port<ForecWork> + Drop> Host<'c, P> {
         is_among(self.desk.places[0], &self.cores)
     }
 
-    /// [`Host::serve`] where others run beside it: it looks first where a hint tells it to, and hints to those to whom it sent.
-    /// Whether there was something to do.
+    /// Serves each of its mailboxes once, those that hints name first, and hints to those to whom it sent. Whether there was something
+    /// to do.
     pub(crate) fn serve_beside<R: Wait, G: Gate>(&mut self, rt: &R, gate: &G) -> bool
         ensures code { self.new.code ≡ self.old.code }
         ensures places { self.new.places ≡ self.old.places }
@@ -84,7 +84,7 @@ impl<'c, P: Port<ForecWork> + Drop> Host<'c, P> {
         ensures rope { KeepsRope self.old.rope self.new.rope }
     {
         let Host { desk, round, .. } = self;
-        desk.serve_next(rt, gate, round)
+        desk.serve_sweep(rt, gate, round)
     }
 
     /// Stores the stop word, at which each worker ends, and wakes every core.
@@ -132,7 +132,7 @@ impl<'c, P: Port<ForecWork> + Drop> Host<'c, P> {
             if host.stopped() {
                 return host;
             }
-            looks = host.round.wait(rt, looks);
+            looks = host.round.rest(rt, false, true, looks);
         }
         unreachable!()
     }
@@ -184,8 +184,8 @@ impl<'c, P: Port<ForecWork> + Drop> Worker<'c, P> {
         self.host.serve(gate)
     }
 
-    /// [`Host::serve`] where others run beside it: it looks first where a hint tells it to, and hints to those to whom it sent.
-    /// Whether there was something to do.
+    /// Serves each of its mailboxes once, those that hints name first, and hints to those to whom it sent. Whether there was something
+    /// to do.
     pub fn serve_beside<R: Wait, G: Gate>(&mut self, rt: &R, gate: &G) -> bool
         ensures code { self.new.code ≡ self.old.code }
         ensures places { self.new.places ≡ self.old.places }

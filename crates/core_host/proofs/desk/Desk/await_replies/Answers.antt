@@ -6,44 +6,35 @@ use Rattle.core_host.proofs.desk.Desk.await_replies.Goals as goal
 pub loop-init : goal.loop-init
 loop-init g c = record { keeps = others_same c.args.self.now; round = round_same c.args.self.now c.args.round.now c.requires.round; gathering = λ pairs w. w }
 
-pub serve_all-requires-clause-seated : goal.serve_all-requires-clause-seated
-serve_all-requires-clause-seated g c = others_seated c.args.self.now c.loop.self c.loop.invariant.keeps c.requires.seated
+pub serve_sweep-mine-requires-clause-seated : goal.serve_sweep-mine-requires-clause-seated
+serve_sweep-mine-requires-clause-seated g c = others_seated c.args.self.now c.loop.self c.loop.invariant.keeps c.requires.seated
 
-pub serve_all-requires-clause-round : goal.serve_all-requires-clause-round
-serve_all-requires-clause-round g c = round_others c.args.self.now c.loop.self c.args.round.now c.loop.round c.loop.invariant.keeps c.loop.invariant.round c.requires.round
+pub serve_sweep-mine-requires-clause-round : goal.serve_sweep-mine-requires-clause-round
+serve_sweep-mine-requires-clause-round g c = round_others c.args.self.now c.loop.self c.args.round.now c.loop.round c.loop.invariant.keeps c.loop.invariant.round c.requires.round
 
 pub gather-requires-clause-seated : goal.gather-requires-clause-seated
 gather-requires-clause-seated g c =
-    keeps_seated c.loop.self c.serve_all.new.self c.serve_all.ensures.keeps (others_seated c.args.self.now c.loop.self c.loop.invariant.keeps c.requires.seated)
+    keeps_seated c.loop.self c.serve_sweep-mine.new.self c.serve_sweep-mine.ensures.keeps (others_seated c.args.self.now c.loop.self c.loop.invariant.keeps c.requires.seated)
 
 pub gather-requires-clause-gathering : goal.gather-requires-clause-gathering
 gather-requires-clause-gathering g c =
     let it = c.requires.gathering in
-    (it.0, serving_gathering c.loop.self c.serve_all.new.self c.args.thread.now c.requires.root c.serve_all.ensures.keeps it.0 (c.loop.invariant.gathering it.0 it.1))
+    (it.0, serving_gathering c.loop.self c.serve_sweep-mine.new.self c.args.thread.now c.requires.root c.serve_sweep-mine.ensures.keeps it.0 (c.loop.invariant.gathering it.0 it.1))
 
 pub loop-preserved : goal.loop-preserved
 loop-preserved g c = record {
   keeps = others_then c.args.self.now c.loop.self c.gather.new.self c.loop.invariant.keeps
-      (others_then c.loop.self c.serve_all.new.self c.gather.new.self (serving_others c.loop.self c.serve_all.new.self c.serve_all.ensures.keeps)
-      (branches_others c.serve_all.new.self c.gather.new.self c.args.thread.now.number c.requires.root c.gather.ensures.moves));
-  round = round_then c.args.round.now c.loop.round c.serve_all.new.round c.loop.invariant.round c.serve_all.ensures.round;
-  gathering = λ pairs w. c.gather.ensures.gathering c.if-gather.false pairs (serving_gathering c.loop.self c.serve_all.new.self c.args.thread.now c.requires.root c.serve_all.ensures.keeps pairs (c.loop.invariant.gathering pairs w));
-}
-
-pub loop-preserved-then-is_empty : goal.loop-preserved-then-is_empty
-loop-preserved-then-is_empty g c = record {
-  keeps = others_then c.args.self.now c.loop.self c.gather.new.self c.loop.invariant.keeps
-      (others_then c.loop.self c.serve_all.new.self c.gather.new.self (serving_others c.loop.self c.serve_all.new.self c.serve_all.ensures.keeps)
-      (branches_others c.serve_all.new.self c.gather.new.self c.args.thread.now.number c.requires.root c.gather.ensures.moves));
-  round = round_then c.args.round.now c.loop.round c.serve_all.new.round c.loop.invariant.round c.serve_all.ensures.round;
-  gathering = λ pairs w. c.gather.ensures.gathering c.if-gather.false pairs (serving_gathering c.loop.self c.serve_all.new.self c.args.thread.now c.requires.root c.serve_all.ensures.keeps pairs (c.loop.invariant.gathering pairs w));
+      (others_then c.loop.self c.serve_sweep-mine.new.self c.gather.new.self (serving_others c.loop.self c.serve_sweep-mine.new.self c.serve_sweep-mine.ensures.keeps)
+      (branches_others c.serve_sweep-mine.new.self c.gather.new.self c.args.thread.now.number c.requires.root c.gather.ensures.moves));
+  round = round_then c.args.round.now c.loop.round c.serve_sweep-mine.new.round c.loop.invariant.round c.serve_sweep-mine.ensures.round;
+  gathering = λ pairs w. c.gather.ensures.gathering c.if-gather.false pairs (serving_gathering c.loop.self c.serve_sweep-mine.new.self c.args.thread.now c.requires.root c.serve_sweep-mine.ensures.keeps pairs (c.loop.invariant.gathering pairs w));
 }
 
 pub returns-then-gather : goal.returns-then-gather
 returns-then-gather g c = record {
   keeps = others_then c.args.self.now c.loop.self c.gather.new.self c.loop.invariant.keeps
-      (others_then c.loop.self c.serve_all.new.self c.gather.new.self (serving_others c.loop.self c.serve_all.new.self c.serve_all.ensures.keeps)
-      (branches_others c.serve_all.new.self c.gather.new.self c.args.thread.now.number c.requires.root c.gather.ensures.moves));
-  round = round_then c.args.round.now c.loop.round c.serve_all.new.round c.loop.invariant.round c.serve_all.ensures.round;
-  all = λ pairs w. c.gather.ensures.all c.if-gather.true pairs (serving_gathering c.loop.self c.serve_all.new.self c.args.thread.now c.requires.root c.serve_all.ensures.keeps pairs (c.loop.invariant.gathering pairs w));
+      (others_then c.loop.self c.serve_sweep-mine.new.self c.gather.new.self (serving_others c.loop.self c.serve_sweep-mine.new.self c.serve_sweep-mine.ensures.keeps)
+      (branches_others c.serve_sweep-mine.new.self c.gather.new.self c.args.thread.now.number c.requires.root c.gather.ensures.moves));
+  round = round_then c.args.round.now c.loop.round c.serve_sweep-mine.new.round c.loop.invariant.round c.serve_sweep-mine.ensures.round;
+  all = λ pairs w. c.gather.ensures.all c.if-gather.true pairs (serving_gathering c.loop.self c.serve_sweep-mine.new.self c.args.thread.now c.requires.root c.serve_sweep-mine.ensures.keeps pairs (c.loop.invariant.gathering pairs w));
 }

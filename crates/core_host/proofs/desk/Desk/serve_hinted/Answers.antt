@@ -5,23 +5,21 @@ use Rattle.core_host.proofs.desk.Desk.serve_hinted.Goals as goal
 pub loop-init : goal.loop-init
 loop-init g c = record { keeps = keeps_same c.args.self.now; round = round_same c.args.self.now c.args.round.now c.requires.round }
 
-pub serve_one-requires-clause-seated : goal.serve_one-requires-clause-seated
-serve_one-requires-clause-seated g c = keeps_seated c.args.self.now c.loop.self c.loop.invariant.keeps c.requires.seated
+pub serve_named-found-requires-clause-seated : goal.serve_named-found-requires-clause-seated
+serve_named-found-requires-clause-seated g c = keeps_seated c.args.self.now c.loop.self c.loop.invariant.keeps c.requires.seated
 
-pub serve_one-requires-clause-round : goal.serve_one-requires-clause-round
-serve_one-requires-clause-round g c =
+pub serve_named-found-requires-clause-round : goal.serve_named-found-requires-clause-round
+serve_named-found-requires-clause-round g c =
     round_still c.args.self.now c.loop.self c.args.round.now c.hint.new.self c.loop.invariant.keeps
     (round_then c.args.round.now c.loop.round c.hint.new.self c.loop.invariant.round (round_moved c.loop.round c.hint.new.self c.loop.invariant.round.next c.hint.ensures.own c.hint.ensures.next c.hint.ensures.rope)) c.requires.round
 
-pub returns-then-serve_one-clause-keeps : goal.returns-then-serve_one-clause-keeps
-returns-then-serve_one-clause-keeps g c = keeps_then c.args.self.now c.loop.self c.serve_one.new.self c.loop.invariant.keeps c.serve_one.ensures.keeps
-
-pub returns-then-serve_one-clause-round : goal.returns-then-serve_one-clause-round
-returns-then-serve_one-clause-round g c =
-    round_then c.args.round.now c.loop.round c.hint.new.self c.loop.invariant.round (round_moved c.loop.round c.hint.new.self c.loop.invariant.round.next c.hint.ensures.own c.hint.ensures.next c.hint.ensures.rope)
-
 pub loop-preserved : goal.loop-preserved
 loop-preserved g c = record {
-  keeps = keeps_then c.args.self.now c.loop.self c.serve_one.new.self c.loop.invariant.keeps c.serve_one.ensures.keeps;
-  round = round_then c.args.round.now c.loop.round c.hint.new.self c.loop.invariant.round (round_moved c.loop.round c.hint.new.self c.loop.invariant.round.next c.hint.ensures.own c.hint.ensures.next c.hint.ensures.rope);
+  keeps = keeps_then c.args.self.now c.loop.self c.serve_named-found.new.self c.loop.invariant.keeps c.serve_named-found.ensures.keeps;
+  round = round_then c.args.round.now c.loop.round c.serve_named-found.new.round c.loop.invariant.round
+      (round_then c.loop.round c.hint.new.self c.serve_named-found.new.round (round_moved c.loop.round c.hint.new.self c.loop.invariant.round.next c.hint.ensures.own c.hint.ensures.next c.hint.ensures.rope) c.serve_named-found.ensures.round);
 }
+
+pub returns-in_default-clause-round : goal.returns-in_default-clause-round
+returns-in_default-clause-round g c =
+    round_then c.args.round.now c.loop.round c.hint.new.self c.loop.invariant.round (round_moved c.loop.round c.hint.new.self c.loop.invariant.round.next c.hint.ensures.own c.hint.ensures.next c.hint.ensures.rope)
