@@ -43,12 +43,33 @@ def ticks(name, program, text, source, scratch, counts, rows):
             f"{seconds[0] / took:.2f}")
 
 
+def beside(count, words, source):
+    """The seconds that so many runs beside each other take."""
+    start = time.perf_counter()
+    runs = []
+    for _ in range(count):
+        with open(source, "rb") as stdin:
+            runs.append(subprocess.Popen(words, stdin=stdin, stdout=subprocess.DEVNULL))
+    for run in runs:
+        assert run.wait() == 0
+    return time.perf_counter() - start
+
+
+def machine(program, text, source):
+    """What the machine itself gives: as many single runs beside each other as there are cores, beside one alone."""
+    words = [program, "run", text, "--budget", "100000000"]
+    for count in (2, 4):
+        one, many = (statistics.median(beside(n, words, source) for _ in range(TIMES)) for n in (1, count))
+        row(f"{count} runs beside each other, one core each", f"{many * 1e3:.0f} ms", f"one run: {one * 1e3:.0f} ms", f"{count * one / many:.2f}")
+
+
 def grains(program, scratch):
     """Four branches of more and more units: from which on more cores pay."""
-    for turns, rows in ((10, 40_000), (100, 10_000), (1000, 2000), (10_000, 200)):
+    for turns, rows in ((10, 40_000), (100, 20_000), (1000, 4000), (10_000, 1000)):
         text = written(scratch, "work.forec", WORK.format(turns=turns))
         source = written(scratch, "work.trace", "\n" * (rows + 1))
         ticks(f"4 branches of {turns * UNITS_OF_A_TURN:,} units", program, text, source, scratch, (1, 2, 4), rows)
+    machine(program, text, source)
 
 
 def many_cores(program, scratch):
