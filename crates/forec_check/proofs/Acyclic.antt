@@ -10,7 +10,7 @@ use Rattle.forec_tree.specs.Rules.{Judging, fault_if, is_long, some_returns, fin
 use Rattle.forec_tree.specs.Pauses.{find_function, all_started, starts, function_starts}
 use Rattle.forec_tree.specs.Faults.{Before, is_in, Leads, at_once, through, calls_of, called_in, in_function, item_named, Member, here, later, Circles, IsEarly, text_faults, main_faults, items_faults, item_faults, function_faults, after_item, none_before}
 use Rattle.loop_check.proofs.Indexed.{split}
-use Rattle.forec_check.proofs.Circling.{found_member}
+use Rattle.forec_check.proofs.Recursion.{found_member}
 use Rattle.forec_check.proofs.Started.{nil_right, nil_left, calls_all, called_right, clean_right}
 
 no_members : (fs : List Fault) → ((f : Fault) → Member f fs → ⊥) → fs ≡ []

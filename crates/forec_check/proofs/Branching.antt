@@ -21,26 +21,26 @@ use Rattle.forec_tree.specs.Findings.{Finding, Loop, Opens, Closes, use_at, in_b
 use Rattle.forec_tree.specs.Rules.{Judging}
 use Rattle.forec_tree.proofs.Rows.{branch-group}
 use Rattle.forec_tree.specs.Plain.{perhaps_of}
-use Rattle.forec_check.specs.Walk.{Gathered, walked}
+use Rattle.forec_check.specs.Walk.{NotesView, walked}
 use Rattle.forec_check.proofs.Walked.{walked-append, walked-none, passed_loop}
 use Rattle.forec_check.proofs.Parts.{two, three, then, count_is}
 
 module _ (j : Judging) (text : Text) (s : Scope) where
-  pub no_statement : (kept : Gathered) (o : Option (Box Stmt Global)) → o ≡ None → kept ≡ walked j (in_perhaps text s (perhaps_of o)) kept
+  pub no_statement : (kept : NotesView) (o : Option (Box Stmt Global)) → o ≡ None → kept ≡ walked j (in_perhaps text s (perhaps_of o)) kept
   no_statement kept o h = sym (walked-none j kept) ∙ ap (λ x. walked j (in_perhaps text s (perhaps_of x)) kept) (sym h)
 
   -- another spelling of the scope
-  pub perhaps_in : (r : Scope) (kept new : Gathered) (o : plain.Perhaps) → r ≡ s → new ≡ walked j (in_perhaps text r o) kept → new ≡ walked j (in_perhaps text s o) kept
+  pub perhaps_in : (r : Scope) (kept new : NotesView) (o : plain.Perhaps) → r ≡ s → new ≡ walked j (in_perhaps text r o) kept → new ≡ walked j (in_perhaps text s o) kept
   perhaps_in r kept new o h g = g ∙ ap (λ x. walked j (in_perhaps text x o) kept) h
 
-  pub optional_in : (r : Scope) (kept new : Gathered) (o : Option plain.Term) → r ≡ s → new ≡ walked j (in_optional text r o) kept → new ≡ walked j (in_optional text s o) kept
+  pub optional_in : (r : Scope) (kept new : NotesView) (o : Option plain.Term) → r ≡ s → new ≡ walked j (in_optional text r o) kept → new ≡ walked j (in_optional text s o) kept
   optional_in r kept new o h g = g ∙ ap (λ x. walked j (in_optional text x o) kept) h
 
-  pub body_in : (r : Scope) (kept new : Gathered) (a b : Stmt) → r ≡ s → a ≡ b → new ≡ walked j (in_statement text r (statement a)) kept →
+  pub body_in : (r : Scope) (kept new : NotesView) (a b : Stmt) → r ≡ s → a ≡ b → new ≡ walked j (in_statement text r (statement a)) kept →
       new ≡ walked j (in_statement text s (statement b)) kept
   body_in r kept new a b h e g = g ∙ ap (λ x. walked j (in_statement text x (statement a)) kept) h ∙ ap (λ x. walked j (in_statement text s (statement x)) kept) e
 
-  pub for_is : (k1 k2 k3 k4 k5 k6 : Gathered) (loop : plain.Statement) (bound : Option Number) (a b d e : List Finding) →
+  pub for_is : (k1 k2 k3 k4 k5 k6 : NotesView) (loop : plain.Statement) (bound : Option Number) (a b d e : List Finding) →
       k2 ≡ walked j (in_bound bound) k1 → k3 ≡ walked j a k2 → k4 ≡ walked j b k3 → k5 ≡ walked j d k4 → k6 ≡ walked j e k5 →
       k6 ≡ walked j (Loop loop ∷ in_bound bound ++ (a ++ (b ++ (d ++ e)))) k1
   for_is k1 k2 k3 k4 k5 k6 loop bound a b d e h2 h3 h4 h5 h6 =
@@ -49,7 +49,7 @@ module _ (j : Judging) (text : Text) (s : Scope) where
 
   -- ---- branches
 
-  pub branch_call : (kept one new : Gathered) (b : Branch) (name : Name) (args list : List Expr) (n : ℕ) → b ≡ branch.Call name args → n ≡ length args → list ≡ args →
+  pub branch_call : (kept one new : NotesView) (b : Branch) (name : Name) (args list : List Expr) (n : ℕ) → b ≡ branch.Call name args → n ≡ length args → list ≡ args →
       one ≡ walked j (use_at text s (Starts n) name ∷ []) kept → new ≡ walked j (in_terms text s (terms list)) one →
       new ≡ walked j (in_branches text s (branches (b ∷ []))) kept
   branch_call kept one new b name args list n hb hn hl g f =
@@ -58,7 +58,7 @@ module _ (j : Judging) (text : Text) (s : Scope) where
       (two j (in_terms text s (terms args)) [] one new new (f ∙ ap (λ x. walked j (in_terms text s (terms x)) one) hl) (sym (walked-none j new)))
       ∙ ap (λ x. walked j (in_branches text s (branch_with x plain.no_branches)) kept) (sym hb)
 
-  pub branch_block : (kept one next new : Gathered) (b : Branch) (place : Place) (body list : List Stmt) → b ≡ branch.Group place body → list ≡ body →
+  pub branch_block : (kept one next new : NotesView) (b : Branch) (place : Place) (body list : List Stmt) → b ≡ branch.Group place body → list ≡ body →
       one ≡ walked j (Opens ∷ []) kept → next ≡ walked j (in_statements text no_scope (statements list)) one → new ≡ walked j (Closes ∷ []) next →
       new ≡ walked j (in_branches text s (branches (b ∷ []))) kept
   branch_block kept one next new b place body list hb hl g f e =
@@ -84,7 +84,7 @@ module _ (j : Judging) (text : Text) (s : Scope) where
   rest_of (branch.Call name args) rest = rest_call name (terms args) rest
   rest_of (branch.Group' place shape body) rest = rest_block place (statement_row body) rest
 
-  pub branches_step : (items : List Branch) (i : ℕ) (x : Branch) (r : Scope) (kept new whole : Gathered) → i < length items → get_or items i x ≡ x → r ≡ s →
+  pub branches_step : (items : List Branch) (i : ℕ) (x : Branch) (r : Scope) (kept new whole : NotesView) → i < length items → get_or items i x ≡ x → r ≡ s →
       new ≡ walked j (in_branches text r (branches (x ∷ []))) kept → walked j (in_branches text s (branches (drop i items))) kept ≡ whole →
       walked j (in_branches text s (branches (drop (i + 1) items))) new ≡ whole
   branches_step items i x r kept new whole h e hr g w =
@@ -96,7 +96,7 @@ module _ (j : Judging) (text : Text) (s : Scope) where
       ∙ walked-append j (in_branches text s (branches (x ∷ []))) (in_branches text s (branches rest)) kept in
       ap (walked j (in_branches text s (branches rest))) (g ∙ ap (λ q. walked j (in_branches text q (branches (x ∷ []))) kept) hr) ∙ sym a ∙ w
 
-  pub branches_end : (items : List Branch) (i : ℕ) (kept whole : Gathered) → length items ≤ i →
+  pub branches_end : (items : List Branch) (i : ℕ) (kept whole : NotesView) → length items ≤ i →
       walked j (in_branches text s (branches (drop i items))) kept ≡ whole → kept ≡ whole
   branches_end items i kept whole h w =
       sym (walked-none j kept) ∙ ap (λ xs. walked j (in_branches text s (branches xs)) kept) (sym (drop_all i items h)) ∙ w

@@ -8,7 +8,7 @@ use Rattle.std.specs.declared.alloc.Global.{Global}
 use Rattle.forec_tree.specs.declared.tree.Item.{Item}
 use Rattle.forec_tree.specs.Plain.{plain_item}
 use Rattle.loop_check.proofs.Reading.{next_of}
-use Rattle.forec_check.specs.declared.found.Event.{Event}
+use Rattle.forec_check.specs.declared.walk.effects.Effect.{Effect}
 use Rattle.forec_base.specs.declared.Place.{Place}
 use Rattle.forec_tree.specs.declared.fault.Fault.{Fault}
 use Rattle.forec_tree.specs.declared.tree.Name.{Name}
@@ -20,9 +20,9 @@ use Rattle.forec_tree.specs.Rules.{Judging, fault_if, length_faults, too_many, i
 use Rattle.forec_tree.specs.Faults.{Before, item_named, combine_faults, global_faults, function_faults, in_function, item_faults, items_faults, text_faults, main_faults, start_name, main_place, none_before, after_item, one_if}
 use Rattle.forec_check.specs.Least.{least_from, judged}
 use Rattle.forec_check.proofs.LeastLaws.{least-append}
-use Rattle.forec_check.specs.declared.counts.Counts.{Counts}
-use Rattle.forec_check.specs.Walk.{Gathered, walked, events_of, events_lists}
-use Rattle.forec_check.specs.Items.{is_extra, before_of, head_faults, in_item, counts_after, Few}
+use Rattle.forec_check.specs.declared.walk.item_counts.ItemCounts.{ItemCounts}
+use Rattle.forec_check.specs.Walk.{NotesView, walked, effects_of, effects_lists}
+use Rattle.forec_check.specs.Items.{is_extra, before_of, head_faults, in_item, counts_after, CountsBelow}
 use Rattle.forec_check.specs.Views.{judging}
 use Rattle.forec_check.proofs.Walked.{walked-append, walked-none}
 use Rattle.forec_check.proofs.Parts.{two, then}
@@ -31,7 +31,7 @@ pub no_combine : (text : Text) (c : Option Combine) (kept : Option Fault) → c 
 unfolding least_from
 no_combine text c kept h = rw h refl
 
-pub global_is : (text : Text) (names : List (List ℕ)) (at : ℕ) (c : Counts) (g : PlainGlobal) (k0 k1 k2 k3 k4 k5 k6 : Option Fault) →
+pub global_is : (text : Text) (names : List (List ℕ)) (at : ℕ) (c : ItemCounts) (g : PlainGlobal) (k0 k1 k2 k3 k4 k5 k6 : Option Fault) →
     k1 ≡ least_from k0 (fault_if (item_named g.name.id (take at text)) g.name.place 2) →
     k2 ≡ least_from k1 (length_faults g.length) →
     k3 ≡ least_from k2 (fault_if (too_many g.length (length g.values)) g.name.place 18) →
@@ -41,7 +41,7 @@ pub global_is : (text : Text) (names : List (List ℕ)) (at : ℕ) (c : Counts) 
     k6 ≡ least_from k0 (global_faults text names (before_of text at c) g)
 global_is text names at c g k0 k1 k2 k3 k4 k5 k6 e1 e2 e3 e4 e5 e6 = rw (least-append, least-append, least-append, least-append, least-append) (cc)
 
-pub head_is : (text : Text) (names : List (List ℕ)) (at : ℕ) (c : Counts) (f : PlainFunction) (k0 k1 k2 k3 k4 k5 : Option Fault) →
+pub head_is : (text : Text) (names : List (List ℕ)) (at : ℕ) (c : ItemCounts) (f : PlainFunction) (k0 k1 k2 k3 k4 k5 : Option Fault) →
     k1 ≡ least_from k0 (fault_if (item_named f.name.id (take at text)) f.name.place 2) →
     k2 ≡ least_from k1 (fault_if (is_long names f.name.id) f.name.place 21) →
     k3 ≡ least_from k2 (fault_if (nat_lt 16 (length f.params)) f.name.place 23) →
@@ -51,7 +51,7 @@ pub head_is : (text : Text) (names : List (List ℕ)) (at : ℕ) (c : Counts) (f
 head_is text names at c f k0 k1 k2 k3 k4 k5 e1 e2 e3 e4 e5 = rw (least-append, least-append, least-append, least-append) (cc)
 
 -- a function whole: its head, then its body
-pub function_is : (text : Text) (names : List (List ℕ)) (b : Before) (f : PlainFunction) (k0 k1 : Option Fault) (s new : Gathered) →
+pub function_is : (text : Text) (names : List (List ℕ)) (b : Before) (f : PlainFunction) (k0 k1 : Option Fault) (s new : NotesView) →
     k1 ≡ least_from k0 (head_faults text names b f) → s.least ≡ k1 → new ≡ walked (judging names f.gives) (in_function text f) s →
     new.least ≡ least_from k0 (function_faults text names b f)
 unfolding walked judged
@@ -68,14 +68,14 @@ function_is text names b f k0 k1 s new h e w =
     append_assoc A (B ++ (C ++ (D ++ E))) R
     ∙ ap (λ x. A ++ x) (append_assoc B (C ++ (D ++ E)) R ∙ ap (λ x. B ++ x) (append_assoc C (D ++ E) R ∙ ap (λ x. C ++ x) (append_assoc D E R))))
 
-pub walked_events : (j : Judging) (fs : List Finding) (s new : Gathered) → new ≡ walked j fs s → s.events ≡ [] → new.events ≡ events_of fs
+pub walked_effects : (j : Judging) (fs : List Finding) (s new : NotesView) → new ≡ walked j fs s → s.effects ≡ [] → new.effects ≡ effects_of fs
 unfolding walked
-walked_events j fs s new h e = ap (λ g. g.events) h ∙ ap (λ x. x ++ events_of fs) e
+walked_effects j fs s new h e = ap (λ g. g.effects) h ∙ ap (λ x. x ++ effects_of fs) e
 
 -- ---- parameters
 
 module _ (j : Judging) (text : Text) (s : Scope) where
-  pub params_step : (items : List Name) (i : ℕ) (r : Scope) (again : Bool) (kept new whole : Gathered) (d : Name) → i < length items →
+  pub params_step : (items : List Name) (i : ℕ) (r : Scope) (again : Bool) (kept new whole : NotesView) (d : Name) → i < length items →
       again ≡ is_among (get_or items i d).id s.here → r ≡ with_name s (get_or items i d).id false → new ≡ walked j (Declares (get_or items i d) again None 0 ∷ []) kept →
       walked j (in_params text s (drop i items)) kept ≡ whole → walked j (in_params text r (drop (i + 1) items)) new ≡ whole
   params_step items i r again kept new whole d h ha hr g w =
@@ -94,7 +94,7 @@ module _ (j : Judging) (text : Text) (s : Scope) where
       let e : drop i items ≡ x ∷ drop (i + 1) items = drop-cons items i d h ∙ rw add-one refl in
       ap (λ p. with_params p (drop (i + 1) items)) hr ∙ sym (ap (with_params s) e) ∙ w
 
-  pub params_end : (items : List Name) (i : ℕ) (kept whole : Gathered) → length items ≤ i → walked j (in_params text s (drop i items)) kept ≡ whole → kept ≡ whole
+  pub params_end : (items : List Name) (i : ℕ) (kept whole : NotesView) → length items ≤ i → walked j (in_params text s (drop i items)) kept ≡ whole → kept ≡ whole
   params_end items i kept whole h w = sym (walked-none j kept) ∙ ap (λ xs. walked j (in_params text s xs) kept) (sym (drop_all i items h)) ∙ w
 
 -- ---- items, one after the other
@@ -108,14 +108,14 @@ item_get [] i x h e = absurd (omega arith)
 item_get (y ∷ ys) zero x h e = ap (λ z. Some (plain_item z)) e
 item_get (y ∷ ys) (suc i) x h e = item_get ys i x (omega arith) e
 
-pub before_next : (text : Text) (at : ℕ) (c : Counts) (x : PlainItem) → slice_get text at ≡ Some x → before_of text (at + 1) (counts_after c x) ≡ after_item (before_of text at c) x
+pub before_next : (text : Text) (at : ℕ) (c : ItemCounts) (x : PlainItem) → slice_get text at ≡ Some x → before_of text (at + 1) (counts_after c x) ≡ after_item (before_of text at c) x
 before_next text at c (IsGlobal g) h =
     ap (λ xs. let b : Before = record { items = xs; inputs = c.inputs + one_if (is_input g.kind); outputs = c.outputs + one_if (is_output g.kind); functions = c.functions } in b)
     (next_of text at (IsGlobal g) h)
 before_next text at c (IsFunction f) h =
     ap (λ xs. let b : Before = record { items = xs; inputs = c.inputs; outputs = c.outputs; functions = suc c.functions } in b) (next_of text at (IsFunction f) h)
 
-pub least_step : (text : Text) (names : List (List ℕ)) (rest behind : List PlainItem) (at : ℕ) (c after : Counts) (x : PlainItem) (kept new whole : Option Fault) →
+pub least_step : (text : Text) (names : List (List ℕ)) (rest behind : List PlainItem) (at : ℕ) (c after : ItemCounts) (x : PlainItem) (kept new whole : Option Fault) →
     slice_get text at ≡ Some x → after ≡ counts_after c x → rest ≡ x ∷ behind → new ≡ least_from kept (item_faults text names (before_of text at c) x) →
     least_from kept (items_faults text names (before_of text at c) rest) ≡ whole → least_from new (items_faults text names (before_of text (at + 1) after) behind) ≡ whole
 least_step text names rest behind at c after x kept new whole g a r n w =
@@ -130,17 +130,17 @@ pub least_end : (text : Text) (names : List (List ℕ)) (b : Before) (rest : Lis
 unfolding least_from
 least_end text names b rest kept whole h w = sym (ap (λ l. least_from kept (items_faults text names b l)) h) ∙ w
 
-pub bodies_step : (text : Text) (at : ℕ) (x : PlainItem) (old new : List (Vec Event Global)) (v : Vec Event Global) (f : PlainItem → List Event) → slice_get text at ≡ Some x →
-    new ≡ old ++ v ∷ [] → v.items ≡ f x → events_lists old ≡ map f (take at text) → events_lists new ≡ map f (take (at + 1) text)
+pub bodies_step : (text : Text) (at : ℕ) (x : PlainItem) (old new : List (Vec Effect Global)) (v : Vec Effect Global) (f : PlainItem → List Effect) → slice_get text at ≡ Some x →
+    new ≡ old ++ v ∷ [] → v.items ≡ f x → effects_lists old ≡ map f (take at text) → effects_lists new ≡ map f (take (at + 1) text)
 bodies_step text at x old new v f g n e h =
-    ap events_lists n ∙ map-append (λ w. w.items) old (v ∷ []) ∙ ap (λ l. l ++ v.items ∷ []) h ∙ ap (λ i. map f (take at text) ++ i ∷ []) e
+    ap effects_lists n ∙ map-append (λ w. w.items) old (v ∷ []) ∙ ap (λ l. l ++ v.items ∷ []) h ∙ ap (λ i. map f (take at text) ++ i ∷ []) e
     ∙ sym (map-append f (take at text) (x ∷ [])) ∙ ap (map f) (sym (next_of text at x g))
 
 one_le : (b : Bool) → one_if b ≤ 1
 one_le true = omega arith
 one_le false = omega arith
 
-pub few_more : (c after : Counts) (x : PlainItem) (n : ℕ) → after ≡ counts_after c x → Few c (n + 1) → Few after (n + 1 + 1)
+pub few_more : (c after : ItemCounts) (x : PlainItem) (n : ℕ) → after ≡ counts_after c x → CountsBelow c (n + 1) → CountsBelow after (n + 1 + 1)
 few_more c after (IsGlobal g) n h f =
     let a = ap (λ y. y.inputs) h in
     let b = ap (λ y. y.outputs) h in
@@ -160,10 +160,7 @@ few_more c after (IsFunction g) n h f =
     let r = f.functions in
     record { inputs = omega (arith, a, p); outputs = omega (arith, b, q); functions = omega (arith, d, r) }
 
-pub text_is : (text : Text) (names : List (List ℕ)) (absent : Bool) (place : Place) (k1 k2 : Option Fault) → k1 ≡ least_from None (fault_if absent place 3) →
-    absent ≡ is_none (start_name names text) → place ≡ main_place names text → k2 ≡ least_from k1 (items_faults text names none_before text) →
-    k2 ≡ least_from None (text_faults text names)
-text_is text names absent place k1 k2 h a p g =
-    g ∙ ap (λ k. least_from k (items_faults text names none_before text)) (h ∙ ap (λ b. least_from None (fault_if b place 3)) a
-    ∙ ap (λ q. least_from None (fault_if (is_none (start_name names text)) q 3)) p)
-    ∙ sym (least-append None (main_faults text names) (items_faults text names none_before text))
+pub text_is : (text : Text) (names : List (List ℕ)) (k1 k2 : Option Fault) → k1 ≡ least_from None (main_faults text names) →
+    k2 ≡ least_from k1 (items_faults text names none_before text) → k2 ≡ least_from None (text_faults text names)
+text_is text names k1 k2 h g =
+    g ∙ ap (λ k. least_from k (items_faults text names none_before text)) h ∙ sym (least-append None (main_faults text names) (items_faults text names none_before text))

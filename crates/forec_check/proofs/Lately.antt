@@ -10,14 +10,14 @@ use Rattle.forec_tree.specs.Rules.{fault_if, is_plain}
 use Rattle.forec_tree.specs.ThreadTree.{thread_tree, count_naming}
 use Rattle.forec_check.specs.Least.{least_from}
 use Rattle.forec_check.proofs.LeastLaws.{least-append}
-use Rattle.forec_check.specs.Late.{item_loops, all_loops, loops_faults}
+use Rattle.forec_check.specs.Loops.{item_loops, all_loops, loops_faults}
 use Rattle.forec_check.specs.Early.{Kept}
-use Rattle.forec_check.specs.Reading.{instances_of, namings}
-use Rattle.forec_check.proofs.NamingLaws.{tree_namings}
-use Rattle.forec_check.specs.Threads.{global_fault, globals_faults}
+use Rattle.forec_check.specs.AccessScan.{instances_of, namings}
+use Rattle.forec_check.proofs.AccessLaws.{tree_namings}
+use Rattle.forec_check.specs.AccessCounts.{access_fault, access_faults}
 use Rattle.forec_check.proofs.Looping.{loops_append}
-use Rattle.forec_check.proofs.LoopsFound.{either_of, on_left, on_right, function_loops}
-use Rattle.forec_check.proofs.Circling.{kept_list, same_kept}
+use Rattle.forec_check.proofs.LoopFaults.{either_of, on_left, on_right, function_loops}
+use Rattle.forec_check.proofs.Recursion.{kept_list, same_kept}
 
 along : (x : Fault) (xs ys : List Fault) → xs ≡ ys → Member x xs → Member x ys
 along x xs ys e p = subst (λ l. Member x l) e p
@@ -42,22 +42,22 @@ module _ (text : Text) (names : List (List ℕ)) where
       pick (Some first) = sym (tree_namings text names id first h)
 
   abbrev AreSame : Type 0
-  AreSame = (g : PlainGlobal) → global_fault text names (IsGlobal g) ≡ late_item_faults text names (IsGlobal g)
+  AreSame = (g : PlainGlobal) → access_fault text names (IsGlobal g) ≡ late_item_faults text names (IsGlobal g)
 
   are_same : Kept None (IsEarly text names) → AreSame
   are_same none g = ap (λ n. fault_if (is_plain g.kind && nat_lt 1 n) g.name.place 10) (same_namings (no_member (text_faults text names) (λ f p. none f (inl p))) g.name.id)
 
   -- the faults of one item, by its sort
-  to_late : AreSame → (xs : List PlainItem) (f : Fault) → Member f (globals_faults text names xs) ⊎ Member f (loops xs) → Member f (late_faults text names xs)
+  to_late : AreSame → (xs : List PlainItem) (f : Fault) → Member f (access_faults text names xs) ⊎ Member f (loops xs) → Member f (late_faults text names xs)
   to_late same [] f p = ⊎_elim (λ a. elim a [ ]) (λ b. elim b [ ]) p
   to_late same (IsGlobal g ∷ rest) f p =
       let more = to_late same rest f in
-      let walk = global_fault text names (IsGlobal g) in
+      let walk = access_fault text names (IsGlobal g) in
       let item = late_item_faults text names (IsGlobal g) in
       ⊎_elim
       (λ a.
       ⊎_elim (λ q. on_left f item (late_faults text names rest) (along f walk item (same g) q)) (λ q. on_right f item (late_faults text names rest) (more (inl q)))
-      (either_of f walk (globals_faults text names rest) a))
+      (either_of f walk (access_faults text names rest) a))
       (λ b. on_right f item (late_faults text names rest) (more (inr b))) p
   to_late same (IsFunction h ∷ rest) f p =
       let more = to_late same rest f in
@@ -68,14 +68,14 @@ module _ (text : Text) (names : List (List ℕ)) where
       (λ q. on_right f item (late_faults text names rest) (more (inr q)))
       (either_of f (loops_faults text (item_loops (IsFunction h))) (loops rest) (along f _ _ (item_split (IsFunction h) rest) b))) p
 
-  from_late : AreSame → (xs : List PlainItem) (f : Fault) → Member f (late_faults text names xs) → Member f (globals_faults text names xs) ⊎ Member f (loops xs)
+  from_late : AreSame → (xs : List PlainItem) (f : Fault) → Member f (late_faults text names xs) → Member f (access_faults text names xs) ⊎ Member f (loops xs)
   from_late same [] f p = elim p [ ]
   from_late same (IsGlobal g ∷ rest) f p =
-      let walk = global_fault text names (IsGlobal g) in
+      let walk = access_fault text names (IsGlobal g) in
       let item = late_item_faults text names (IsGlobal g) in
       let more = from_late same rest f in
-      ⊎_elim (λ q. inl (on_left f walk (globals_faults text names rest) (along f item walk (sym (same g)) q)))
-      (λ q. ⊎_elim (λ a. inl (on_right f walk (globals_faults text names rest) a)) (λ b. inr b) (more q))
+      ⊎_elim (λ q. inl (on_left f walk (access_faults text names rest) (along f item walk (sym (same g)) q)))
+      (λ q. ⊎_elim (λ a. inl (on_right f walk (access_faults text names rest) a)) (λ b. inr b) (more q))
       (either_of f item (late_faults text names rest) p)
   from_late same (IsFunction h ∷ rest) f p =
       let item = late_item_faults text names (IsFunction h) in
@@ -85,15 +85,15 @@ module _ (text : Text) (names : List (List ℕ)) where
       (λ q. ⊎_elim (λ a. inl a) (λ b. inr (along f _ _ (sym (item_split (IsFunction h) rest)) (on_right f own (loops rest) b))) (more q))
       (either_of f item (late_faults text names rest) p)
 
-  pub late_kept : (k : Option Fault) → Kept None (IsEarly text names) → k ≡ least_from None (globals_faults text names text ++ loops text) → Kept k (IsFault text names)
+  pub late_kept : (k : Option Fault) → Kept None (IsEarly text names) → k ≡ least_from None (access_faults text names text ++ loops text) → Kept k (IsFault text names)
   late_kept k none e =
-      same_kept k (λ f. Member f (globals_faults text names text ++ loops text)) (IsFault text names)
-      (λ f p. inr (none, to_late (are_same none) text f (either_of f (globals_faults text names text) (loops text) p)))
+      same_kept k (λ f. Member f (access_faults text names text ++ loops text)) (IsFault text names)
+      (λ f p. inr (none, to_late (are_same none) text f (either_of f (access_faults text names text) (loops text) p)))
       (λ f p.
       ⊎_elim (λ a. absurd (none f a))
       (λ b.
-      ⊎_elim (λ q. on_left f (globals_faults text names text) (loops text) q) (λ q. on_right f (globals_faults text names text) (loops text) q) (from_late (are_same none) text f b.1)) p)
-      (kept_list (globals_faults text names text ++ loops text) k e)
+      ⊎_elim (λ q. on_left f (access_faults text names text) (loops text) q) (λ q. on_right f (access_faults text names text) (loops text) q) (from_late (are_same none) text f b.1)) p)
+      (kept_list (access_faults text names text ++ loops text) k e)
 
   -- a broken early rule hides the late ones
   pub early_kept : (k : Option Fault) → is_some k ≡ true → Kept k (IsEarly text names) → Kept k (IsFault text names)
@@ -108,8 +108,8 @@ module _ (text : Text) (names : List (List ℕ)) where
   none_early None s h = h
   none_early (Some m) s h = absurd (let q : true ≡ false = s in cc)
 
-  pub both_late : (loops_text : Text) (all : List Statement) (k1 k2 : Option Fault) → k1 ≡ least_from None (globals_faults text names text) → loops_text ≡ text → all ≡ all_loops text →
-      k2 ≡ least_from k1 (loops_faults loops_text all) → k2 ≡ least_from None (globals_faults text names text ++ loops text)
+  pub both_late : (loops_text : Text) (all : List Statement) (k1 k2 : Option Fault) → k1 ≡ least_from None (access_faults text names text) → loops_text ≡ text → all ≡ all_loops text →
+      k2 ≡ least_from k1 (loops_faults loops_text all) → k2 ≡ least_from None (access_faults text names text ++ loops text)
   both_late loops_text all k1 k2 a t l b =
       b ∙ ap (λ x. least_from k1 (loops_faults x all)) t ∙ ap (λ x. least_from k1 (loops_faults text x)) l ∙ ap (λ k. least_from k (loops text)) a
-      ∙ sym (least-append None (globals_faults text names text) (loops text))
+      ∙ sym (least-append None (access_faults text names text) (loops text))

@@ -16,7 +16,7 @@ use Rattle.forec_tree.specs.declared.tree.Number.{Number}
 use Rattle.forec_check.specs.Least.{least_from}
 use Rattle.forec_check.proofs.LeastLaws.{least-append}
 use Rattle.forec_tree.proofs.Rows.{of_kind}
-use Rattle.forec_check.specs.Late.{loops_in, item_loops, all_loops, loops_faults}
+use Rattle.forec_check.specs.Loops.{loops_in, item_loops, all_loops, loops_faults}
 
 pub loops_append : (text : Text) (xs ys : List Statement) → loops_faults text (xs ++ ys) ≡ loops_faults text xs ++ loops_faults text ys
 loops_append text [] ys = refl

@@ -16,10 +16,10 @@ use Rattle.forec_tree.specs.Pauses.{started, all_started, perhaps_started, branc
 use Rattle.forec_tree.specs.Faults.{is_in, called_in}
 use Rattle.forec_tree.proofs.Found.{findings-append}
 use Rattle.loop_check.proofs.Indexed.{split}
-use Rattle.forec_check.specs.Walk.{events_of}
-use Rattle.forec_check.specs.Early.{event_calls}
-use Rattle.forec_check.proofs.Walked.{events-append}
-use Rattle.forec_check.proofs.Circling.{event_calls-append, calls_is}
+use Rattle.forec_check.specs.Walk.{effects_of}
+use Rattle.forec_check.specs.Early.{effect_calls}
+use Rattle.forec_check.proofs.Walked.{effects-append}
+use Rattle.forec_check.proofs.Recursion.{effect_calls-append, calls_is}
 
 pub nil_left : {A : Type 0} (xs ys : List A) → xs ++ ys ≡ [] → xs ≡ []
 nil_left [] ys h = refl
@@ -31,8 +31,8 @@ nil_right (x ∷ xs) ys h = absurd (let q : x ∷ (xs ++ ys) ≡ [] = h in cc)
 
 called_append : (xs ys : List Finding) → called_in (xs ++ ys) ≡ called_in xs ++ called_in ys
 called_append xs ys =
-    sym (calls_is (xs ++ ys)) ∙ ap event_calls (events-append xs ys) ∙ event_calls-append (events_of xs) (events_of ys)
-    ∙ ap (λ l. l ++ event_calls (events_of ys)) (calls_is xs) ∙ ap (λ l. called_in xs ++ l) (calls_is ys)
+    sym (calls_is (xs ++ ys)) ∙ ap effect_calls (effects-append xs ys) ∙ effect_calls-append (effects_of xs) (effects_of ys)
+    ∙ ap (λ l. l ++ effect_calls (effects_of ys)) (calls_is xs) ∙ ap (λ l. called_in xs ++ l) (calls_is ys)
 
 pub in_left : (g : ℕ) (xs ys : List ℕ) → is_in g xs ≡ true → is_in g (xs ++ ys) ≡ true
 in_left g [] ys h = absurd (let q : false ≡ true = h in cc)

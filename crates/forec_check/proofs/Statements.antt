@@ -17,7 +17,7 @@ use Rattle.std.specs.declared.alloc.Global.{Global}
 use Rattle.forec_tree.specs.Plain.{term, terms, written, optional_term, declared, statement, statements, statement_at}
 use Rattle.forec_tree.specs.Findings.{Finding, Declares, Loop, Synchronous, use_at, in_term, in_terms, in_target, in_bound, in_local, in_locals, in_statement, in_statements}
 use Rattle.forec_tree.specs.Rules.{Judging}
-use Rattle.forec_check.specs.Walk.{Gathered, walked}
+use Rattle.forec_check.specs.Walk.{NotesView, walked}
 use Rattle.forec_check.proofs.Walked.{walked-append, walked-none, passed_loop}
 use Rattle.forec_tree.proofs.Rows.{statement-group, statement-abort}
 use Rattle.std.proofs.Math.Seq.{drop-cons}
@@ -28,31 +28,31 @@ module _ (j : Judging) (text : Text) (s : Scope) where
   abbrev target_as : Name → Option Expr → List Finding
   target_as name index = in_target text s (record { name = name; index = optional_term index })
 
-  pub target_none : (t : Target) (kept new : Gathered) → t.index ≡ None → new ≡ walked j (use_at text s Writes t.name ∷ []) kept →
+  pub target_none : (t : Target) (kept new : NotesView) → t.index ≡ None → new ≡ walked j (use_at text s Writes t.name ∷ []) kept →
       new ≡ walked j (in_target text s (written t)) kept
   target_none t kept new h g = g ∙ ap (λ i. walked j (target_as t.name i) kept) (sym h)
 
-  pub target_some : (t : Target) (i : Expr) (kept one new : Gathered) → t.index ≡ Some i → one ≡ walked j (use_at text s WritesAt t.name ∷ []) kept →
+  pub target_some : (t : Target) (i : Expr) (kept one new : NotesView) → t.index ≡ Some i → one ≡ walked j (use_at text s WritesAt t.name ∷ []) kept →
       new ≡ walked j (in_term text s (term i)) one → new ≡ walked j (in_target text s (written t)) kept
   target_some t i kept one new h g f =
       then j (use_at text s WritesAt t.name) (in_term text s (term i)) kept one new g f ∙ ap (λ x. walked j (target_as t.name x) kept) (sym h)
 
-  pub of_statement : (kept new : Gathered) (st : Stmt) (w : StmtKind) → st.what ≡ w →
+  pub of_statement : (kept new : NotesView) (st : Stmt) (w : StmtKind) → st.what ≡ w →
       new ≡ walked j (in_statement text s (statement_at w st.place)) kept → new ≡ walked j (in_statement text s (statement st)) kept
   of_statement kept new st w h g = g ∙ ap (λ x. walked j (in_statement text s (statement_at x st.place)) kept) (sym h)
 
-  pub group_is : (kept new : Gathered) (at : Place) (body list : List Stmt) → list ≡ body →
+  pub group_is : (kept new : NotesView) (at : Place) (body list : List Stmt) → list ≡ body →
       new ≡ walked j (in_statements text (entered s) (statements list)) kept →
       new ≡ walked j (in_statement text s (statement_at (Group body) at)) kept
   group_is kept new at body list h g =
       g ∙ ap (λ x. walked j (in_statements text (entered s) (statements x)) kept) h
       ∙ ap (λ x. walked j (in_statement text s x) kept) (sym (statement-group body at))
 
-  pub declare_is : (kept new : Gathered) (all list : List Local) → list ≡ all →
+  pub declare_is : (kept new : NotesView) (all list : List Local) → list ≡ all →
       new ≡ walked j (in_locals text s (map declared list)) kept → new ≡ walked j (in_locals text s (map declared all)) kept
   declare_is kept new all list h g = g ∙ ap (λ x. walked j (in_locals text s (map declared x)) kept) h
 
-  pub run_is : (kept one new : Gathered) (name : Name) (args list : List Expr) (n : ℕ) → n ≡ length args → list ≡ args →
+  pub run_is : (kept one new : NotesView) (name : Name) (args list : List Expr) (n : ℕ) → n ≡ length args → list ≡ args →
       one ≡ walked j (use_at text s (Runs n) name ∷ []) kept → new ≡ walked j (in_terms text s (terms list)) one →
       new ≡ walked j (use_at text s (Runs (plain.count_terms (terms args))) name ∷ in_terms text s (terms args)) kept
   run_is kept one new name args list n hn hl g f =
@@ -61,23 +61,23 @@ module _ (j : Judging) (text : Text) (s : Scope) where
       (f ∙ ap (λ x. walked j (in_terms text s (terms x)) one) hl)
 
   -- a statement inside that was read through a box
-  pub inside : (r : Scope) (kept new : Gathered) (a b : Stmt) → r ≡ s → a ≡ b →
+  pub inside : (r : Scope) (kept new : NotesView) (a b : Stmt) → r ≡ s → a ≡ b →
       new ≡ walked j (in_statement text (entered r) (statement a)) kept → new ≡ walked j (in_statement text (entered s) (statement b)) kept
   inside r kept new a b q h g =
       g ∙ ap (λ x. walked j (in_statement text (entered r) (statement x)) kept) h ∙ ap (λ x. walked j (in_statement text (entered x) (statement b)) kept) q
 
   -- the scope is the same again after a part
-  pub last : (kept new : Gathered) (a : List Finding) → new ≡ walked j a kept → new ≡ walked j (a ++ []) kept
+  pub last : (kept new : NotesView) (a : List Finding) → new ≡ walked j a kept → new ≡ walked j (a ++ []) kept
   last kept new a h = two j a [] kept new new h (sym (walked-none j new))
 
-  pub if_none : (kept one new : Gathered) (test : Expr) (yes : Box Stmt Global) (no : Option (Box Stmt Global)) (at : Place) → no ≡ None →
+  pub if_none : (kept one new : NotesView) (test : Expr) (yes : Box Stmt Global) (no : Option (Box Stmt Global)) (at : Place) → no ≡ None →
       one ≡ walked j (in_term text s (term test)) kept → new ≡ walked j (in_statement text (entered s) (statement yes.value)) one →
       new ≡ walked j (in_statement text s (statement_at (If test yes no) at)) kept
   if_none kept one new test then_ else_ at h g f =
       two j (in_term text s (term test)) (in_statement text (entered s) (statement then_.value) ++ []) kept one new g (last one new _ f)
       ∙ ap (λ n. walked j (in_statement text s (statement_at (If test then_ n) at)) kept) (sym h)
 
-  pub if_some : (kept one next new : Gathered) (test : Expr) (yes other : Box Stmt Global) (no : Option (Box Stmt Global)) (at : Place) → no ≡ Some other →
+  pub if_some : (kept one next new : NotesView) (test : Expr) (yes other : Box Stmt Global) (no : Option (Box Stmt Global)) (at : Place) → no ≡ Some other →
       one ≡ walked j (in_term text s (term test)) kept → next ≡ walked j (in_statement text (entered s) (statement yes.value)) one →
       new ≡ walked j (in_statement text (entered s) (statement other.value)) next →
       new ≡ walked j (in_statement text s (statement_at (If test yes no) at)) kept
@@ -85,7 +85,7 @@ module _ (j : Judging) (text : Text) (s : Scope) where
       three j (in_term text s (term test)) (in_statement text (entered s) (statement then_.value)) (in_statement text (entered s) (statement other.value)) kept one next new g f e
       ∙ ap (λ n. walked j (in_statement text s (statement_at (If test then_ n) at)) kept) (sym h)
 
-  pub abort_is : (kept one next new : Gathered) (weak immediate : Bool) (test : Expr) (body list : List Stmt) (at : Place) → list ≡ body →
+  pub abort_is : (kept one next new : NotesView) (weak immediate : Bool) (test : Expr) (body list : List Stmt) (at : Place) → list ≡ body →
       one ≡ walked j (Synchronous at ∷ []) kept → next ≡ walked j (in_term text s (term test)) one →
       new ≡ walked j (in_statements text (entered s) (statements list)) next →
       new ≡ walked j (in_statement text s (statement_at (Abort weak immediate test body) at)) kept
@@ -95,13 +95,13 @@ module _ (j : Judging) (text : Text) (s : Scope) where
       (e ∙ ap (λ x. walked j (in_statements text (entered s) (statements x)) next) h))
       ∙ ap (λ x. walked j (in_statement text s x) kept) (sym (statement-abort weak immediate test body at))
 
-  pub while_is : (kept one next new : Gathered) (loop : plain.Statement) (bound : Option Number) (a b : List Finding) →
+  pub while_is : (kept one next new : NotesView) (loop : plain.Statement) (bound : Option Number) (a b : List Finding) →
       one ≡ walked j (in_bound bound) kept → next ≡ walked j a one → new ≡ walked j b next →
       new ≡ walked j (Loop loop ∷ in_bound bound ++ (a ++ b)) kept
   while_is kept one next new loop bound a b g f e =
       then j (Loop loop) (in_bound bound ++ (a ++ b)) kept kept new (passed_loop j loop kept) (three j (in_bound bound) a b kept one next new g f e)
 
-  pub statements_step : (items : List Stmt) (i : ℕ) (x : Stmt) (r : Scope) (kept new whole : Gathered) → i < length items → get_or items i x ≡ x →
+  pub statements_step : (items : List Stmt) (i : ℕ) (x : Stmt) (r : Scope) (kept new whole : NotesView) → i < length items → get_or items i x ≡ x →
       r ≡ behind s (statement x) → new ≡ walked j (in_statement text s (statement x)) kept →
       walked j (in_statements text s (statements (drop i items))) kept ≡ whole →
       walked j (in_statements text r (statements (drop (i + 1) items))) new ≡ whole
@@ -115,12 +115,12 @@ module _ (j : Judging) (text : Text) (s : Scope) where
       ap (λ q. walked j (in_statements text q (statements rest)) new) hr
       ∙ ap (walked j (in_statements text (behind s (statement x)) (statements rest))) g ∙ sym a ∙ w
 
-  pub statements_end : (items : List Stmt) (i : ℕ) (kept whole : Gathered) → length items ≤ i →
+  pub statements_end : (items : List Stmt) (i : ℕ) (kept whole : NotesView) → length items ≤ i →
       walked j (in_statements text s (statements (drop i items))) kept ≡ whole → kept ≡ whole
   statements_end items i kept whole h w =
       sym (walked-none j kept) ∙ ap (λ xs. walked j (in_statements text s (statements xs)) kept) (sym (drop_all i items h)) ∙ w
 
-  pub locals_step : (items : List Local) (i : ℕ) (x : Local) (r : Scope) (kept new whole : Gathered) → i < length items → get_or items i x ≡ x →
+  pub locals_step : (items : List Local) (i : ℕ) (x : Local) (r : Scope) (kept new whole : NotesView) → i < length items → get_or items i x ≡ x →
       r ≡ with_name s x.name.id (is_array x.length) → new ≡ walked j (in_local text s (declared x)) kept →
       walked j (in_locals text s (map declared (drop i items))) kept ≡ whole →
       walked j (in_locals text r (map declared (drop (i + 1) items))) new ≡ whole
@@ -134,7 +134,7 @@ module _ (j : Judging) (text : Text) (s : Scope) where
       ∙ walked-append j (in_local text s (declared x)) (in_locals text q (map declared rest)) kept in
       ap (λ p. walked j (in_locals text p (map declared rest)) new) hr ∙ ap (walked j (in_locals text q (map declared rest))) g ∙ sym a ∙ w
 
-  pub locals_end : (items : List Local) (i : ℕ) (kept whole : Gathered) → length items ≤ i →
+  pub locals_end : (items : List Local) (i : ℕ) (kept whole : NotesView) → length items ≤ i →
       walked j (in_locals text s (map declared (drop i items))) kept ≡ whole → kept ≡ whole
   locals_end items i kept whole h w =
       sym (walked-none j kept) ∙ ap (λ xs. walked j (in_locals text s (map declared xs)) kept) (sym (drop_all i items h)) ∙ w
@@ -149,7 +149,7 @@ module _ (j : Judging) (text : Text) (s : Scope) where
   pub scope_end : (items : List Local) (i : ℕ) (whole : Scope) → length items ≤ i → with_locals s (map declared (drop i items)) ≡ whole → s ≡ whole
   scope_end items i whole h w = sym (ap (λ xs. with_locals s (map declared xs)) (drop_all i items h)) ∙ w
 
-  pub local_is : (kept one new : Gathered) (l : Local) (again : Bool) (n : ℕ) (list : List Expr) → again ≡ is_among l.name.id s.here → n ≡ length l.values → list ≡ l.values →
+  pub local_is : (kept one new : NotesView) (l : Local) (again : Bool) (n : ℕ) (list : List Expr) → again ≡ is_among l.name.id s.here → n ≡ length l.values → list ≡ l.values →
       one ≡ walked j (Declares l.name again l.length n ∷ []) kept → new ≡ walked j (in_terms text s (terms list)) one →
       new ≡ walked j (in_local text s (declared l)) kept
   local_is kept one new l again n list ha hn hl g f =

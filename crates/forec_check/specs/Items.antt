@@ -7,13 +7,13 @@ use Rattle.forec_tree.specs.Rules.{is_input, is_output, is_long, fault_if, some_
 use Rattle.forec_tree.specs.Faults.{Before, in_function, item_named, one_if}
 use Rattle.forec_tree.specs.declared.fault.Fault.{Fault}
 use Rattle.forec_tree.specs.Findings.{Finding}
-use Rattle.forec_check.specs.declared.counts.Counts.{Counts}
+use Rattle.forec_check.specs.declared.walk.item_counts.ItemCounts.{ItemCounts}
 
 -- what stands before the item of this place
-abbrev pub before_of : Text → ℕ → Counts → Before
+abbrev pub before_of : Text → ℕ → ItemCounts → Before
 before_of text at c = record { items = take at text; inputs = c.inputs; outputs = c.outputs; functions = c.functions }
 
-abbrev pub is_extra : Counts → GlobalKind → Bool
+abbrev pub is_extra : ItemCounts → GlobalKind → Bool
 is_extra c kind = (is_input kind && nat_le MAX_INPUTS c.inputs) || (is_output kind && nat_le MAX_OUTPUTS c.outputs)
 
 -- what stands in an item
@@ -30,12 +30,12 @@ head_faults text names b f =
     ++ (fault_if (nat_le MAX_FUNCTIONS b.functions) f.name.place 24
     ++ fault_if (f.gives && not (some_returns f.body)) f.name.place 15)))
 
-abbrev pub counts_after : Counts → PlainItem → Counts
+abbrev pub counts_after : ItemCounts → PlainItem → ItemCounts
 counts_after c (IsGlobal g) = record { inputs = c.inputs + one_if (is_input g.kind); outputs = c.outputs + one_if (is_output g.kind); functions = c.functions }
 counts_after c (IsFunction f) = record { inputs = c.inputs; outputs = c.outputs; functions = suc c.functions }
 
 -- fewer of each sort than a number
-pub record Few (c : Counts) (n : ℕ) : Type 0 where
+pub record CountsBelow (c : ItemCounts) (n : ℕ) : Type 0 where
   pub inputs : c.inputs < n
   pub outputs : c.outputs < n
   pub functions : c.functions < n

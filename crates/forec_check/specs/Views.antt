@@ -4,15 +4,25 @@ use Rattle.forec_tree.specs.declared.uses.Seen.{Seen}
 use Rattle.forec_tree.specs.Scopes as scopes
 use Rattle.forec_tree.specs.Scopes.{find_last}
 use Rattle.forec_tree.specs.Rules.{Judging}
-use Rattle.forec_check.specs.declared.scope.Scope.{Scope}
-use Rattle.forec_check.specs.Stack.{seen}
+use Rattle.forec_tree.specs.Terms.{Text}
+use Rattle.loop_check.specs.Views.{text_of}
+use Rattle.forec_check.specs.declared.walk.context.Context.{Context}
+use Rattle.forec_check.specs.declared.scopes.scope.Scope.{Scope}
+use Rattle.forec_check.specs.Declarations.{seen}
 
 abbrev pub judging : List (List ℕ) → Bool → Judging
 judging names gives = record { names = names; gives = gives }
 
+-- the rules as they judge a function, and the program that it is of
+abbrev pub judging_in : Context → Judging
+judging_in c = judging c.names.now c.gives
+
+abbrev pub text_in : Context → Text
+text_in c = text_of c.index.now
+
 -- the entries from `base` to `start` are those of the scopes outside
 abbrev pub scope_of : Scope → scopes.Scope
-scope_of s = record { outer = map seen (drop s.base (take s.start s.stack.entries.items)); here = map seen (drop s.start s.stack.entries.items) }
+scope_of s = record { outer = map seen (drop s.base (take s.start s.declared.list.items)); here = map seen (drop s.start s.declared.list.items) }
 
 abbrev pub array_of_seen : Option Seen → Option Bool
 array_of_seen None = None
@@ -22,13 +32,13 @@ abbrev pub local_array : scopes.Scope → ℕ → Option Bool
 local_array s id = array_of_seen (find_last id None (s.outer ++ s.here))
 
 -- the same scope as before, with names added to its innermost part
-pub record Framed (old new : Scope) : Type 0 where
+pub record ExtendsScope (old new : Scope) : Type 0 where
   pub base : new.base ≡ old.base
   pub start : new.start ≡ old.start
-  pub front : take old.start new.stack.entries.items ≡ take old.start old.stack.entries.items
+  pub front : take old.start new.declared.list.items ≡ take old.start old.declared.list.items
 
 -- the same scope as before
-pub record Same (old new : Scope) : Type 0 where
+pub record SameScope (old new : Scope) : Type 0 where
   pub base : new.base ≡ old.base
   pub start : new.start ≡ old.start
-  pub entries : new.stack.entries.items ≡ old.stack.entries.items
+  pub list : new.declared.list.items ≡ old.declared.list.items

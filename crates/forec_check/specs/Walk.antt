@@ -15,46 +15,46 @@ use Rattle.forec_tree.specs.Findings as finding
 use Rattle.forec_tree.specs.Findings.{Finding}
 use Rattle.forec_tree.specs.Rules.{Judging}
 use Rattle.forec_check.specs.Least.{judged}
-use Rattle.forec_check.specs.declared.found.Event.{Event}
-use Rattle.forec_check.specs.declared.found.Event.TheVariants as event
-use Rattle.forec_check.specs.declared.found.Found.{Found}
+use Rattle.forec_check.specs.declared.walk.effects.Effect.{Effect}
+use Rattle.forec_check.specs.declared.walk.effects.Effect.TheVariants as effect
+use Rattle.forec_check.specs.declared.walk.effects.Notes.{Notes}
 
-pub record Gathered : Type 0 where
+pub record NotesView : Type 0 where
   pub least : Option Fault
-  pub events : List Event
+  pub effects : List Effect
 
-abbrev pub found_of : Found → Gathered
-found_of f = record { least = f.least; events = f.events.items }
+abbrev pub notes_of : Notes → NotesView
+notes_of f = record { least = f.least; effects = f.effects.items }
 
 -- what a use of a name is, where it means that
-abbrev pub event_of : How → ℕ → Meaning → Option Event
-event_of (how.Computes n) id (means.Function gives params) = Some (event.Computes id)
-event_of (how.Runs n) id (means.Function gives params) = Some (event.Places id)
-event_of (how.Starts n) id (means.Function gives params) = Some (event.Starts id)
-event_of how id (means.Global kind array) = Some (event.Names id)
-event_of how id m = None
+abbrev pub effect_of : How → ℕ → Meaning → Option Effect
+effect_of (how.Computes n) id (means.Function gives params) = Some (effect.Computes id)
+effect_of (how.Runs n) id (means.Function gives params) = Some (effect.Runs id)
+effect_of (how.Starts n) id (means.Function gives params) = Some (effect.Starts id)
+effect_of how id (means.Global kind array) = Some (effect.Accesses id)
+effect_of how id m = None
 
 abbrev pub as_list : {A : Type 0} → Option A → List A
 as_list None = []
 as_list (Some a) = a ∷ []
 
-abbrev pub finding_events : Finding → List Event
-finding_events (finding.Use how name m) = as_list (event_of how name.id m)
-finding_events finding.Opens = event.Opens ∷ []
-finding_events finding.Closes = event.Closes ∷ []
-finding_events _ = []
+abbrev pub finding_effects : Finding → List Effect
+finding_effects (finding.Use how name m) = as_list (effect_of how name.id m)
+finding_effects finding.Opens = effect.Opens ∷ []
+finding_effects finding.Closes = effect.Closes ∷ []
+finding_effects _ = []
 
-abbrev pub events_of : List Finding → List Event
-events_of [] = []
-events_of (f ∷ rest) = finding_events f ++ events_of rest
+abbrev pub effects_of : List Finding → List Effect
+effects_of [] = []
+effects_of (f ∷ rest) = finding_effects f ++ effects_of rest
 
 -- what is kept after some findings
-unfoldable pub walked : Judging → List Finding → Gathered → Gathered
-walked j fs s = record { least = judged j fs s.least; events = s.events ++ events_of fs }
+unfoldable pub walked : Judging → List Finding → NotesView → NotesView
+walked j fs s = record { least = judged j fs s.least; effects = s.effects ++ effects_of fs }
 
--- the events of an item
-abbrev pub item_events : Text → PlainItem → List Event
-item_events text i = events_of (in_item text i)
+-- the effects of an item
+abbrev pub item_effects : Text → PlainItem → List Effect
+item_effects text i = effects_of (in_item text i)
 
-abbrev pub events_lists : List (Vec Event Global) → List (List Event)
-events_lists vs = map (λ v. v.items) vs
+abbrev pub effects_lists : List (Vec Effect Global) → List (List Effect)
+effects_lists vs = map (λ v. v.items) vs

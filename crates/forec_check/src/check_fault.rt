@@ -1,4 +1,4 @@
-// Why a program is refused.
+//! Why a program is refused.
 
 use forec_base::{OutOfMemory, Place};
 use thiserror::Error;

@@ -1,4 +1,4 @@
-// A program that breaks no rule.
+//! A program that breaks no rule.
 
 ghost use Rattle.std.specs.Prelude.{◌≡◌, length};
 ghost use Rattle.forec_tree.specs.Plain as plain;

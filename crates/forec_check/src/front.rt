@@ -1,4 +1,4 @@
-// The check of a program.
+//! The check of a program.
 
 ghost use Rattle.std.specs.Prelude.{◌≡◌, length, IfOk, IfErr};
 ghost use Rattle.forec_tree.specs.Plain as plain;
@@ -14,7 +14,7 @@ use std::alloc::Global;
 
 /// Judges a program by the rules of the language: it is accepted exactly where it breaks none, and
 /// else refused by the least fault by place, then rule. A refusal drops the program. Takes time in
-/// proportion to the program, but that a plain global costs a look at each event of a body, and a
+/// proportion to the program, but that a plain global costs a look at each effect of a body, and a
 /// function that reaches itself a look at each call for each step of a chain.
 pub fn check<'n>(
     alloc: Global,

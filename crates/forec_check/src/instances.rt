@@ -1,4 +1,6 @@
-// How many thread instances a program has, up to the greatest `u64`.
+//! Thread instances: how many a program has, up to the greatest `u64`, and below, which of them access a global.
+//!
+//! An instance is `main`, or one branch of one `par` where void functions that are called as statements are put in place.
 
 ghost use Rattle.std.specs.Prelude.{◌≡◌, ◌+◌, ◌-◌, ◌^◌, ℕ, min, map, IfOk, OnOk};
 ghost use Rattle.forec_tree.specs.Plain as plain;
@@ -10,12 +12,18 @@ ghost use Rattle.loop_check.specs.Views.{text_of};
 ghost use Rattle.forec_check.specs.Table.{put_at, Settles};
 ghost use Rattle.forec_check.specs.Instances.{count_at, capped_below, count_of};
 
+pub mod access_count;
+pub mod accesses;
+pub mod call_sites;
+pub mod propagate;
+pub mod single;
+
 use forec_base::OutOfMemory;
 use forec_tree::{Branch, Item, Stmt, StmtKind};
 use loop_check::{Index, find_function, order, read_calls};
 use std::alloc::Global;
 
-fn count(table: &[u64], id: u32) -> u64
+fn known_count(table: &[u64], id: u32) -> u64
     ensures { result ≡ count_at table.now id }
 {
     match table.get(id as usize) {
@@ -31,72 +39,81 @@ fn sum(a: u64, b: u64) -> u64
 }
 
 /// The instances that start in a statement, where a table tells how many start in each function.
-#[cycle(below)]
-fn below(table: &[u64], s: &Stmt) -> u64
+#[cycle(count)]
+fn count_statement(table: &[u64], s: &Stmt) -> u64
     ensures { result ≡ min (threads.below (count_at table.now) (plain.statement s.now)) (2 ^ 64 - 1) }
 {
     match &s.what {
-        StmtKind::Group { body } => all_below(table, body.as_slice()),
-        StmtKind::Call { name, .. } => count(table, name.id),
-        StmtKind::If { yes, no, .. } => sum(below(table, yes), optional_below(table, no)),
-        StmtKind::While { body, .. } => below(table, body),
+        StmtKind::Group { body } => count_statements(table, body.as_slice()),
+        StmtKind::Call { name, .. } => known_count(table, name.id),
+        StmtKind::If { yes, no, .. } => sum(
+            count_statement(table, yes),
+            count_optional_statement(table, no),
+        ),
+        StmtKind::While { body, .. } => count_statement(table, body),
         StmtKind::For {
             start,
             step,
             body,
             ..
         } => {
-            let head = optional_below(table, start);
-            sum(head, sum(optional_below(table, step), below(table, body)))
+            let head = count_optional_statement(table, start);
+            sum(
+                head,
+                sum(
+                    count_optional_statement(table, step),
+                    count_statement(table, body),
+                ),
+            )
         }
-        StmtKind::Par { branches } => branches_below(table, branches.as_slice()),
-        StmtKind::Abort { body, .. } => all_below(table, body.as_slice()),
+        StmtKind::Par { branches } => count_branches(table, branches.as_slice()),
+        StmtKind::Abort { body, .. } => count_statements(table, body.as_slice()),
         _ => 0,
     }
 }
 
-#[cycle(below)]
-fn optional_below(table: &[u64], s: &Option<Box<Stmt>>) -> u64
+#[cycle(count)]
+fn count_optional_statement(table: &[u64], s: &Option<Box<Stmt>>) -> u64
     ensures { result ≡ min (threads.below_perhaps (count_at table.now) (perhaps_of s.now)) (2 ^ 64 - 1) }
 {
     match s {
         None => 0,
-        Some(there) => below(table, there),
+        Some(there) => count_statement(table, there),
     }
 }
 
-#[cycle(below)]
-fn all_below(table: &[u64], list: &[Stmt]) -> u64
+#[cycle(count)]
+fn count_statements(table: &[u64], list: &[Stmt]) -> u64
     ensures { result ≡ min (threads.below_all (count_at table.now) (plain.statements list.now)) (2 ^ 64 - 1) }
 {
     let mut total = 0;
     for s in list {
-        total = sum(total, below(table, s));
+        total = sum(total, count_statement(table, s));
     }
     total
 }
 
-#[cycle(below)]
-fn branches_below(table: &[u64], list: &[Branch]) -> u64
+#[cycle(count)]
+fn count_branches(table: &[u64], list: &[Branch]) -> u64
     ensures { result ≡ min (threads.below_branches (count_at table.now) (plain.branches list.now)) (2 ^ 64 - 1) }
 {
     let mut total = 0;
     for branch in list {
         let inside = match branch {
-            Branch::Call { name, .. } => count(table, name.id),
-            Branch::Group { body, .. } => all_below(table, body.as_slice()),
+            Branch::Call { name, .. } => known_count(table, name.id),
+            Branch::Group { body, .. } => count_statements(table, body.as_slice()),
         };
         total = sum(total, sum(1, inside));
     }
     total
 }
 
-fn function_below(index: &Index<'_>, table: &[u64], id: u32) -> u64
+fn count_function(index: &Index<'_>, table: &[u64], id: u32) -> u64
     ensures { result ≡ capped_below (text_of index.now) (count_at table.now) id }
 {
     match find_function(index, id) {
         None => 0,
-        Some(function) => all_below(table, function.body.as_slice()),
+        Some(function) => count_statements(table, function.body.as_slice()),
     }
 }
 
@@ -118,7 +135,7 @@ fn counts(alloc: Global, index: &Index<'_>, order: &[u32]) -> Result<Vec<u64>, O
 {
     let mut table = Vec::new(alloc);
     for f in order {
-        let value = function_below(index, &table, *f);
+        let value = count_function(index, &table, *f);
         put(&mut table, *f, value)?;
     }
     Ok(table)
@@ -134,5 +151,5 @@ pub fn instances(alloc: Global, items: &[Item], first: u32) -> Result<u64, OutOf
     let calls = read_calls(alloc, &index)?;
     let order = order(alloc, &calls.functions, &calls.lists)?;
     let table = counts(alloc, &index, &order)?;
-    Ok(sum(1, count(&table, first)))
+    Ok(sum(1, known_count(&table, first)))
 }

@@ -1,33 +1,15 @@
-//! The check of a program: its least fault, or that it has none.
+//! The check of a program: its least fault, or that it has none. `walk` goes over the text, `rules` judge, `scopes` tell what a name
+//! means, and `instances` count threads.
 #![tactic(auto)]
 
 mod check_fault;
 mod checked;
-mod circles;
-mod counts;
-mod declaration;
-mod early;
-mod entry;
-mod found;
 mod front;
 mod instances;
-mod items;
-mod least;
-mod look;
-mod loops;
-mod named;
-mod naming;
-mod plains;
 mod rules;
-mod scope;
-mod sites;
+mod scopes;
 mod sizes;
-mod spread;
-mod stack;
-mod statement;
-mod term;
-mod threads;
-mod uses;
+mod walk;
 
 pub use check_fault::CheckFault;
 pub use checked::Checked;

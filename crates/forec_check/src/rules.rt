@@ -1,4 +1,18 @@
-// The least fault of a program.
+//! The rules of the language, and the least fault of a program.
+//!
+//! Where each rule is judged:
+//!
+//! - `start`: 3, there is no `main`.
+//! - `uses`: 1, a name isn't declared; 4, is of the wrong kind; 5, a call has the wrong number of arguments; 7, `main` is called;
+//!   8, an input is assigned; 9, a constant is assigned; 11, an int function names a global; 13, it calls a void function.
+//! - `declarations`: 2, a name is declared twice; 17, an array's length is out of range; 18, it has too many values; 19, a loop's bound
+//!   is out of range; 21, a name is too long.
+//! - `items`: 15, an int function may end without a value; 16, a combine function has the wrong form; 22, too many inputs or outputs;
+//!   23, too many parameters; 24, too many functions; and 1, 2, 17, 18 and 21 at globals and at names of functions.
+//! - `walk/statements`: 12, an int function takes time; 14, a void function returns a value.
+//! - `recursion`: 6, a function calls itself.
+//! - `plain_globals`: 10, two thread instances name a plain variable.
+//! - `loops`: 20, a loop might never end its tick.
 
 ghost use Rattle.std.specs.Prelude.{◌≡◌, ◌++◌, [], None, Some, map, IfOk, OnOk};
 ghost use Rattle.forec_tree.specs.Plain as plain;
@@ -7,39 +21,49 @@ ghost use Rattle.forec_check.specs.Least.{least_from};
 ghost use Rattle.loop_check.specs.Views.{text_of};
 ghost use Rattle.loop_check.specs.Graph.{callees};
 ghost use Rattle.loop_check.specs.Known.{Read};
-ghost use Rattle.forec_check.specs.Walk.{item_events, events_lists};
+ghost use Rattle.forec_check.specs.Walk.{item_effects, effects_lists};
 ghost use Rattle.forec_check.specs.Early.{Kept, calls_in};
-ghost use Rattle.forec_check.specs.Late.{all_loops, loops_faults};
-ghost use Rattle.forec_check.specs.Threads.{globals_faults, Orders};
+ghost use Rattle.forec_check.specs.Loops.{all_loops, loops_faults};
+ghost use Rattle.forec_check.specs.AccessCounts.{access_faults, Orders};
 
-use crate::circles::{judge_circles, read_bodies};
-use crate::early::{Checking, judge_text, start_name};
-use crate::found::Event;
-use crate::loops::judge_loops;
-use crate::plains::judge_plains;
+pub mod declarations;
+pub mod items;
+pub mod least;
+pub mod loops;
+pub mod plain_globals;
+pub mod recursion;
+pub mod start;
+pub mod uses;
+
+use crate::rules::loops::judge_loops;
+use crate::rules::plain_globals::judge_plain_globals;
+use crate::rules::recursion::{call_graph, judge_recursion};
+use crate::rules::start::start_name;
+use crate::walk::effects::Effect;
+use crate::walk::{ProgramNotes, walk_program};
 use forec_base::{Labels, OutOfMemory};
 use forec_tree::{Fault, Item, Program};
 use loop_check::{Calls, Index, Pauses, order};
 use std::alloc::Global;
 
-fn judge_globals(
+fn judge_accesses(
     alloc: Global,
     index: &Index<'_>,
     names: &Labels,
     items: &[Item],
-    bodies: &[Vec<Event>],
+    bodies: &[Vec<Effect>],
     order: &[u32],
     least: &mut Option<Fault>,
 ) -> Result<(), OutOfMemory>
     requires items { map plain.plain_item items.now ≡ text_of index.now }
-    requires bodies { events_lists bodies.now ≡ map (item_events (text_of index.now)) (text_of index.now) }
+    requires bodies { effects_lists bodies.now ≡ map (item_effects (text_of index.now)) (text_of index.now) }
     requires order { Orders (text_of index.now) order.now }
-    ensures { OnOk result (least.new ≡ least_from least.old (globals_faults (text_of index.now) names.now (text_of index.now))) }
+    ensures { OnOk result (least.new ≡ least_from least.old (access_faults (text_of index.now) names.now (text_of index.now))) }
 {
     match start_name(names, items) {
         None => Ok(()),
         Some(first) => {
-            judge_plains(alloc, index, names, items, bodies, order, first, least)?;
+            judge_plain_globals(alloc, index, names, items, bodies, order, first, least)?;
             Ok(())
         }
     }
@@ -51,24 +75,24 @@ fn least_late(
     index: &Index<'_>,
     names: &Labels,
     items: &[Item],
-    checking: &Checking,
+    program_notes: &ProgramNotes,
     calls: &Calls,
 ) -> Result<Option<Fault>, OutOfMemory>
     requires items { map plain.plain_item items.now ≡ text_of index.now }
     requires early { Kept None (IsEarly (text_of index.now) names.now) }
-    requires bodies { events_lists checking.now.bodies.items ≡ map (item_events (text_of index.now)) (text_of index.now) }
+    requires bodies { effects_lists program_notes.now.bodies.items ≡ map (item_effects (text_of index.now)) (text_of index.now) }
     requires read { Read (calls_in (text_of index.now)) (text_of index.now) calls.now.functions.items (callees calls.now.lists.items) }
-    ensures { IfOk result (λ least. least ≡ least_from None (globals_faults (text_of index.now) names.now (text_of index.now)
+    ensures { IfOk result (λ least. least ≡ least_from None (access_faults (text_of index.now) names.now (text_of index.now)
         ++ loops_faults (text_of index.now) (all_loops (text_of index.now)))) }
 {
     let mut least = None;
     let order = order(alloc, &calls.functions, &calls.lists)?;
-    judge_globals(
+    judge_accesses(
         alloc,
         index,
         names,
         items,
-        &checking.bodies,
+        &program_notes.bodies,
         &order,
         &mut least,
     )?;
@@ -87,13 +111,13 @@ pub fn least_fault(
 {
     let items = program.items.as_slice();
     let index = Index::of(alloc, items)?;
-    let checking = judge_text(alloc, &index, names, items)?;
-    let mut least = checking.found.least;
-    let calls = read_bodies(alloc, &index, items, &checking.bodies)?;
-    judge_circles(alloc, &index, names, items, &calls, &mut least)?;
+    let program_notes = walk_program(alloc, &index, names, items)?;
+    let mut least = program_notes.notes.least;
+    let calls = call_graph(alloc, &index, items, &program_notes.bodies)?;
+    judge_recursion(alloc, &index, names, items, &calls, &mut least)?;
     if least.is_some() {
         return Ok(least);
     }
-    let late = least_late(alloc, &index, names, items, &checking, &calls)?;
+    let late = least_late(alloc, &index, names, items, &program_notes, &calls)?;
     Ok(late)
 }

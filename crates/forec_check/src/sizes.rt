@@ -1,4 +1,4 @@
-// How large a checked program is: its thread instances, inputs and outputs.
+//! How large a checked program is: its thread instances, inputs and outputs.
 
 ghost use Rattle.std.specs.Prelude.{◌≡◌, map, IfOk};
 ghost use Rattle.forec_tree.specs.Plain as plain;
@@ -7,9 +7,9 @@ ghost use Rattle.forec_check.specs.Checked.{text_of, names_of};
 ghost use Rattle.forec_check.specs.Instances as count;
 
 use crate::checked::Checked;
-use crate::early::start_name;
 use crate::instances::instances;
-use crate::items::{is_input, is_output};
+use crate::rules::items::{is_input, is_output};
+use crate::rules::start::start_name;
 use forec_base::{Labels, OutOfMemory};
 use forec_tree::Item;
 use std::alloc::Global;

@@ -23,5 +23,5 @@ counts-requires c =
 pub returns : goal.returns
 returns c =
     let text = text_of c.in_ok-index.index in
-    counted_all text c.args.first c.count.result c.sum.result (c.count.ensures ∙ ap (λ t. count_at t c.args.first) c.deref-4.ensures.value ∙ c.in_ok-table.ensures c.args.first) c.sum.ensures
+    counted_all text c.args.first c.known_count.result c.sum.result (c.known_count.ensures ∙ ap (λ t. count_at t c.args.first) c.deref-4.ensures.value ∙ c.in_ok-table.ensures c.args.first) c.sum.ensures
     ∙ ap (λ t. min (threads.instances t c.args.first) (2 ^ 64 - 1)) c.in_ok-index.ensures

@@ -5,15 +5,15 @@ use Rattle.forec_tree.specs.Faults.{Leads}
 use Rattle.loop_check.specs.Graph.{callees, IsOrder}
 use Rattle.loop_check.specs.Judges.{judge_text}
 use Rattle.loop_check.specs.Views.{text_of}
-use Rattle.forec_check.specs.Threads.{Orders}
-use Rattle.forec_check.specs.Late.{all_loops}
+use Rattle.forec_check.specs.AccessCounts.{Orders}
+use Rattle.forec_check.specs.Loops.{all_loops}
 use Rattle.forec_check.proofs.Acyclic.{no_circle, no_reach}
 use Rattle.forec_check.proofs.Tabled.{orders_is}
 use Rattle.forec_check.proofs.Lately.{both_late}
 use Rattle.forec_check.proofs.rules.least_late.Goals as goal
 
-pub judge_globals-requires-clause-order : goal.judge_globals-requires-clause-order
-judge_globals-requires-clause-order c =
+pub judge_accesses-requires-clause-order : goal.judge_accesses-requires-clause-order
+judge_accesses-requires-clause-order c =
     let text = text_of c.args.index.now in
     let functions = c.args.calls.now.functions.items in
     let lists = c.args.calls.now.lists.items in
@@ -28,5 +28,5 @@ of-requires c = λ f l. no_circle (text_of c.args.index.now) c.args.names.now c.
 pub returns : goal.returns
 returns c =
     let text = text_of c.args.index.now in
-    both_late text c.args.names.now (judge_text c.in_ok-pauses.pauses) (all_loops (map plain.plain_item c.args.items.now)) c.judge_globals.new.least c.judge_loops.new.least c.in_ok-judge_globals.ensures
+    both_late text c.args.names.now (judge_text c.in_ok-pauses.pauses) (all_loops (map plain.plain_item c.args.items.now)) c.judge_accesses.new.least c.judge_loops.new.least c.in_ok-judge_accesses.ensures
     (c.in_ok-pauses.ensures ∙ c.requires.items) (ap all_loops c.requires.items) c.judge_loops.ensures

@@ -1,0 +1,11 @@
+use Rattle.std.proofs.Common.{◌∙◌, ap}
+use Rattle.forec_check.specs.AccessScan.{start, as_access}
+use Rattle.loop_check.specs.Views.{text_of}
+use Rattle.forec_check.specs.AccessCounts.{capped, called_access, scan_effects}
+use Rattle.forec_check.proofs.Tabled.{step_effects}
+use Rattle.forec_check.proofs.instances.accesses.function_access.Goals as goal
+
+pub returns : goal.returns
+returns c =
+    let called = called_access c.args.table.now in
+    c.in_ok-n.ensures ∙ ap (λ es. capped (as_access (scan_effects c.args.g called start es))) c.effects_of.ensures ∙ step_effects (text_of c.args.index.now) c.args.g c.args.id called

@@ -1,9 +1,0 @@
-use Rattle.std.proofs.Common.{refl, not}
-use Rattle.loop_check.specs.Views.{text_of}
-use Rattle.forec_check.proofs.Spreading.{told}
-use Rattle.forec_check.proofs.named.named_by.Goals as goal
-
-pub returns : goal.returns
-returns c =
-    told (text_of c.args.index.now) c.args.first c.args.order.now c.spread-2.new.tables (record { globals = c.spread-2.new.tables.globals; certain = not c.in_ok-moved.moved }) c.in_ok-moved.moved
-    c.requires.order c.in_ok-moved.ensures refl refl

@@ -1,0 +1,78 @@
+//! Rules 2, 17, 18 and 21 of a declaration, and rule 19 of a bound.
+
+ghost use Rattle.std.specs.Prelude.{◌≡◌, [], ◌∷◌, map, pos};
+ghost use Rattle.forec_tree.specs.Rules as rules;
+ghost use Rattle.forec_tree.specs.Findings.{Declares, in_bound};
+ghost use Rattle.forec_check.specs.Least.{judged, least_from};
+ghost use Rattle.forec_check.specs.Views.{judging};
+
+use crate::rules::least::keep_fault;
+use forec_base::{Labels, MAX_ARRAY_LENGTH, MAX_NAME_BYTES, MAX_TURNS, Place};
+use forec_tree::{Fault, Name, Number};
+
+pub fn is_long(names: &Labels, id: u32) -> bool
+    ensures { result ≡ rules.is_long (names.now) id }
+{
+    if id >= names.len() {
+        return false;
+    }
+    names.get(id).len() > MAX_NAME_BYTES
+}
+
+fn outside_length(n: Number) -> bool
+    ensures { result ≡ rules.outside (pos MAX_ARRAY_LENGTH) n.value }
+{
+    n.value < 1 || (MAX_ARRAY_LENGTH as i32) < n.value
+}
+
+fn outside_bound(n: Number) -> bool
+    ensures { result ≡ rules.outside (pos MAX_TURNS) n.value }
+{
+    n.value < 1 || (MAX_TURNS as i32) < n.value
+}
+
+pub fn judge_length(length: Option<Number>, least: &mut Option<Fault>)
+    ensures { least.new ≡ least_from least.old (rules.length_faults length) }
+{
+    match length {
+        None => {}
+        Some(n) => keep_fault(least, outside_length(n), n.place, 17),
+    }
+}
+
+pub fn too_many(length: Option<Number>, values: usize) -> bool
+    ensures { result ≡ rules.too_many length values }
+{
+    match length {
+        None => false,
+        Some(n) => values > 0 && (n.value as i128) < (values as i128),
+    }
+}
+
+/// The faults of one declaration.
+pub fn judge_declared(
+    names: &Labels,
+    gives: bool,
+    name: Name,
+    again: bool,
+    length: Option<Number>,
+    values: usize,
+    least: &mut Option<Fault>,
+)
+    ensures { least.new ≡ judged (judging names.now gives) (Declares name again length values ∷ []) least.old }
+{
+    keep_fault(least, again, name.place, 2);
+    judge_length(length, least);
+    keep_fault(least, too_many(length, values), name.place, 18);
+    keep_fault(least, is_long(names, name.id), name.place, 21);
+}
+
+/// The faults of a bound.
+pub fn judge_bound(names: &Labels, gives: bool, bound: Option<Number>, least: &mut Option<Fault>)
+    ensures { least.new ≡ judged (judging names.now gives) (in_bound bound) least.old }
+{
+    match bound {
+        None => {}
+        Some(n) => keep_fault(least, outside_bound(n), n.place, 19),
+    }
+}

@@ -1,0 +1,147 @@
+//! Rules 15, 16, 22, 23 and 24 of globals and functions, and rules 1, 2, 17, 18 and 21 there.
+
+ghost use Rattle.std.specs.Prelude.{◌≡◌, ◌+◌, ◌<◌, ◌^◌, ◌&&◌, ◌==◌, ◌++◌, not, nat_lt, nat_le, length, take};
+ghost use Rattle.forec_tree.specs.Plain as plain;
+ghost use Rattle.forec_tree.specs.Rules as rules;
+ghost use Rattle.forec_tree.specs.Faults as faults;
+ghost use Rattle.forec_check.specs.Least.{least_from};
+ghost use Rattle.loop_check.specs.Views.{text_of};
+ghost use Rattle.forec_check.specs.Items.{before_of, is_extra, head_faults};
+
+use crate::rules::declarations::{is_long, judge_length, too_many};
+use crate::rules::least::keep_fault;
+use crate::walk::item_counts::ItemCounts;
+use forec_base::{Labels, MAX_FUNCTIONS, MAX_INPUTS, MAX_OUTPUTS, MAX_PARAMS};
+use forec_tree::{Combine, Fault, Function, Global, GlobalKind, Item, Stmt, StmtKind};
+use loop_check::Index;
+
+#[cycle(returns)]
+fn returns(s: &Stmt) -> bool
+    ensures { result ≡ rules.returns (plain.statement s.now) }
+{
+    match &s.what {
+        StmtKind::Group { body } => any_returns(body.as_slice()),
+        StmtKind::If { yes, no, .. } => {
+            if !returns(yes) {
+                return false;
+            }
+            match no {
+                None => false,
+                Some(other) => returns(other),
+            }
+        }
+        StmtKind::Return { .. } => true,
+        _ => false,
+    }
+}
+
+#[cycle(returns)]
+fn any_returns(body: &[Stmt]) -> bool
+    ensures { result ≡ rules.some_returns (plain.statements body.now) }
+{
+    for s in body {
+        if returns(s) {
+            return true;
+        }
+    }
+    false
+}
+
+fn may_end(f: &Function) -> bool
+    ensures { result ≡ (f.now.gives && not (rules.some_returns (plain.statements f.now.body))) }
+{
+    if !f.gives {
+        return false;
+    }
+    !any_returns(f.body.as_slice())
+}
+
+fn combines(f: &Function) -> bool
+    ensures { result ≡ (f.now.gives && (length f.now.params == 2)) }
+{
+    f.gives && f.params.len() == 2
+}
+
+fn judge_combine(index: &Index<'_>, combine: Option<Combine>, least: &mut Option<Fault>)
+    ensures { least.new ≡ least_from least.old (faults.combine_faults (text_of index.now) combine) }
+{
+    match combine {
+        None => {}
+        Some(c) => match index.find(c.with.id) {
+            None => keep_fault(least, true, c.with.place, 1),
+            Some(Item::Global { .. }) => keep_fault(least, true, c.with.place, 16),
+            Some(Item::Function { function }) => keep_fault(
+                least,
+                !combines(function),
+                c.with.place,
+                16,
+            ),
+        },
+    }
+}
+
+/// An input.
+pub fn is_input(kind: GlobalKind) -> bool
+    ensures { result ≡ rules.is_input kind }
+{
+    match kind {
+        GlobalKind::Input => true,
+        _ => false,
+    }
+}
+
+/// An output, plain or shared.
+pub fn is_output(kind: GlobalKind) -> bool
+    ensures { result ≡ rules.is_output kind }
+{
+    match kind {
+        GlobalKind::Output | GlobalKind::SharedOutput => true,
+        _ => false,
+    }
+}
+
+fn extra(counts: ItemCounts, kind: GlobalKind) -> bool
+    ensures { result ≡ is_extra counts kind }
+{
+    if is_input(kind) && MAX_INPUTS <= counts.inputs {
+        return true;
+    }
+    is_output(kind) && MAX_OUTPUTS <= counts.outputs
+}
+
+/// The faults of a global.
+pub fn judge_global(
+    index: &Index<'_>,
+    names: &Labels,
+    at: usize,
+    counts: ItemCounts,
+    g: &Global,
+    least: &mut Option<Fault>,
+)
+    ensures { least.new ≡ least_from least.old (faults.global_faults (text_of index.now) names.now (before_of (text_of index.now) at counts) (plain.plain_global g.now)) }
+{
+    keep_fault(least, index.named_before(g.name.id, at), g.name.place, 2);
+    judge_length(g.length, least);
+    keep_fault(least, too_many(g.length, g.values.len()), g.name.place, 18);
+    keep_fault(least, is_long(names, g.name.id), g.name.place, 21);
+    judge_combine(index, g.combine, least);
+    keep_fault(least, extra(counts, g.kind), g.name.place, 22);
+}
+
+/// The faults of a function but those in its parameters and body.
+pub fn judge_head(
+    index: &Index<'_>,
+    names: &Labels,
+    at: usize,
+    counts: ItemCounts,
+    f: &Function,
+    least: &mut Option<Fault>,
+)
+    ensures { least.new ≡ least_from least.old (head_faults (text_of index.now) names.now (before_of (text_of index.now) at counts) (plain.plain_function f.now)) }
+{
+    keep_fault(least, index.named_before(f.name.id, at), f.name.place, 2);
+    keep_fault(least, is_long(names, f.name.id), f.name.place, 21);
+    keep_fault(least, MAX_PARAMS < f.params.len(), f.name.place, 23);
+    keep_fault(least, MAX_FUNCTIONS <= counts.functions, f.name.place, 24);
+    keep_fault(least, may_end(f), f.name.place, 15);
+}
