@@ -100,12 +100,12 @@ fn by_kind<'p>(
         }
         StmtKind::If { test, yes, no } => {
             let place = s.place;
-            let k = either(context, fuel, place, state, test, yes, no)?;
+            let k = if_statement(context, fuel, place, state, test, yes, no)?;
             Ok(k)
         }
         StmtKind::While { test, bound, body } => {
             let place = s.place;
-            let k = turning(context, fuel, place, state, test, *bound, body)?;
+            let k = while_statement(context, fuel, place, state, test, *bound, body)?;
             Ok(k)
         }
         StmtKind::For {
@@ -116,7 +116,7 @@ fn by_kind<'p>(
             body,
         } => {
             let turns = or_inferred(bound_of(*bound), context.source.pauses.turns(s));
-            let k = heading(
+            let k = for_statement(
                 context, fuel, s.place, state, turns, start, test, step, *bound, body,
             )?;
             Ok(k)
@@ -168,7 +168,7 @@ fn declare<'p>(
 
 /// An `if`.
 #[cycle(body)]
-fn either<'p>(
+fn if_statement<'p>(
     context: &Context<'_, 'p>,
     fuel: u32,
     place: Place,
@@ -189,7 +189,7 @@ fn either<'p>(
 
 /// A `while`.
 #[cycle(body)]
-fn turning<'p>(
+fn while_statement<'p>(
     context: &Context<'_, 'p>,
     fuel: u32,
     place: Place,
@@ -213,9 +213,9 @@ fn turning<'p>(
     })
 }
 
-/// A `for`, with its turns by its bound or its form.
+/// A `for`, with its number of iterations by its bound or its form.
 #[cycle(body)]
-fn heading<'p>(
+fn for_statement<'p>(
     context: &Context<'_, 'p>,
     fuel: u32,
     place: Place,

@@ -62,7 +62,7 @@ pub by_kind-returns-in_ok-k-in-If-clause-does : goal.by_kind-returns-in_ok-k-in-
 by_kind-returns-in_ok-k-in-If-clause-does t c =
     let text = context_text c.args.context.now in
     let F = lower_statement text (called_within text c.args.context.now.deep) c.args.context.now.owner (seen c.args.state.now.scope) (next_of c.args.state.now) in
-    does_as _ _ (stmt c.in_ok-k-in-If.k) c.args.state.now c.either.new.state
+    does_as _ _ (stmt c.in_ok-k-in-If.k) c.args.state.now c.if_statement.new.state
     (ap (λ y. F (tree.If c.args.s.now.place (term c.in-If.test) (statement y) (perhaps_of c.in-If.no))) c.deref.ensures ∙ of_if F c.args.s.now c.in-If.test c.in-If.yes c.in-If.no c.in-If.is)
     c.in_ok-k-in-If.ensures.does
 
@@ -70,7 +70,7 @@ pub by_kind-returns-in_ok-k-in-For-clause-does : goal.by_kind-returns-in_ok-k-in
 by_kind-returns-in_ok-k-in-For-clause-does t c =
     let text = context_text c.args.context.now in
     let F = lower_statement text (called_within text c.args.context.now.deep) c.args.context.now.owner (seen c.args.state.now.scope) (next_of c.args.state.now) in
-    does_as _ _ (stmt c.in_ok-k-in-For.k) c.args.state.now c.heading.new.state
+    does_as _ _ (stmt c.in_ok-k-in-For.k) c.args.state.now c.for_statement.new.state
     (ap (λ y. F (tree.For c.args.s.now.place (perhaps_of c.in-For.start) (optional_term c.in-For.test) (perhaps_of c.in-For.step) c.in-For.bound (statement y))) c.deref-in-For.ensures
     ∙ of_for F c.args.s.now c.in-For.start c.in-For.step c.in-For.test c.in-For.bound c.in-For.body c.in-For.is)
     c.in_ok-k-in-For.ensures.does
@@ -113,8 +113,8 @@ call-returns-clause-does t c =
     (stmt c.in_ok-body.body) _ c.in_ok-list.ensures (ap at (c.in_ok-behind.ensures ∙ ap (λ n. old.slot + n) (c.in_ok-taken.ensures ∙ count_args c.args.args.now))) refl c.in_ok-body.ensures.does
     (c.sequence.ensures ∙ ap sequence (ap stmts c.in_ok-push.ensures.items ∙ ends_pushed c.in_ok-list.list.items c.in_ok-body.body))
 
-pub either-returns-clause-does : goal.either-returns-clause-does
-either-returns-clause-does t c =
+pub if_statement-returns-clause-does : goal.if_statement-returns-clause-does
+if_statement-returns-clause-does t c =
     let text = context_text c.args.context.now in
     let old = c.args.state.now in
     let one = c.boxed_inner.new.state in
@@ -122,8 +122,8 @@ either-returns-clause-does t c =
     if_does text (called_within text c.args.context.now.deep) c.args.context.now.owner c.args.place (term c.args.test.now) (statement c.args.yes.now) (perhaps_of c.args.no.now) old one two (stmt c.in_ok-yes.yes.value)
     (stmt c.in_ok-no.no.value) (expr c.in_ok-test.test) c.in_ok-yes.ensures.same c.in_ok-no.ensures.same c.in_ok-yes.ensures.does c.in_ok-no.ensures.does c.in_ok-test.ensures
 
-pub turning-returns-clause-does : goal.turning-returns-clause-does
-turning-returns-clause-does t c =
+pub while_statement-returns-clause-does : goal.while_statement-returns-clause-does
+while_statement-returns-clause-does t c =
     let text = context_text c.args.context.now in
     while_does text (called_within text c.args.context.now.deep) c.args.context.now.owner c.args.place (term c.args.test.now) c.args.bound (statement c.args.body.now) c.args.state.now c.boxed_inner.new.state
     (stmt c.in_ok-body.body.value) (expr c.in_ok-test.test) c.bound_of-bound.result c.in_ok-body.ensures.same c.in_ok-body.ensures.does c.in_ok-test.ensures c.bound_of-bound.ensures
@@ -134,8 +134,8 @@ abort-returns-clause-does t c =
     abort_does text (called_within text c.args.context.now.deep) c.args.context.now.owner c.args.place c.args.weak c.args.immediate (term c.args.test.now) (statements c.args.body.now) c.args.state.now c.block.new.state
     (stmt c.in_ok-body-2.body.value) (expr c.in_ok-test.test) c.in_ok-body.ensures.same (does_boxed _ _ _ c.in_ok-body-2.ensures c.block.new.state c.in_ok-body.ensures.does) c.in_ok-test.ensures
 
-pub heading-returns-clause-does : goal.heading-returns-clause-does
-heading-returns-clause-does t c =
+pub for_statement-returns-clause-does : goal.for_statement-returns-clause-does
+for_statement-returns-clause-does t c =
     let text = context_text c.args.context.now in
     let old = c.args.state.now in
     let one = c.optional_statement.new.state in
@@ -156,8 +156,8 @@ heading-returns-clause-does t c =
     ∙ (ap (λ b. after_start start first (kernel.While test b (stmt c.in_ok-body-2.body.value) c.args.place)) c.requires.turns
     ∙ ap (λ b. after_start start first (kernel.While test (or_inferred (bound_of c.args.bound) (inferred text whole)) b c.args.place)) c.in_ok-body-2.ensures))))
 
-pub heading-returns-clause-same : goal.heading-returns-clause-same
-heading-returns-clause-same t c =
+pub for_statement-returns-clause-same : goal.for_statement-returns-clause-same
+for_statement-returns-clause-same t c =
     let a = c.args.state.now.scope in
     let one = c.optional_statement.new.state.scope in
     let two = c.optional_statement-2.new.state.scope in

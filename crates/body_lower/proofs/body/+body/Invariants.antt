@@ -40,14 +40,14 @@ decreases-in_function l = 12 * l.fuel + 5
 abbrev pub decreases-in_place : goal.decreases-in_place
 decreases-in_place l = 12 * l.fuel + 6
 
-abbrev pub decreases-either : goal.decreases-either
-decreases-either l = 12 * l.fuel + 5
+abbrev pub decreases-if_statement : goal.decreases-if_statement
+decreases-if_statement l = 12 * l.fuel + 5
 
-abbrev pub decreases-turning : goal.decreases-turning
-decreases-turning l = 12 * l.fuel + 4
+abbrev pub decreases-while_statement : goal.decreases-while_statement
+decreases-while_statement l = 12 * l.fuel + 4
 
-abbrev pub decreases-heading : goal.decreases-heading
-decreases-heading l = 12 * l.fuel + 5
+abbrev pub decreases-for_statement : goal.decreases-for_statement
+decreases-for_statement l = 12 * l.fuel + 5
 
 abbrev pub decreases-call : goal.decreases-call
 decreases-call l = 12 * l.fuel + 7
