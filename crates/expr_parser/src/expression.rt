@@ -1,9 +1,9 @@
 //! Expressions, by precedence climbing. `depth` bounds how deep calls nest; the level of the tokens ends a text first.
 
-ghost use Rattle.std.specs.Prelude.{◌≡◌, nat_lt, map};
+ghost use Rattle.std.specs.Prelude.{◌≡◌, nat_lt, map, IfErr};
 ghost use Rattle.forec_tree.specs.Plain.{term};
 ghost use Rattle.expr_parser.specs.Boxes.{term_in};
-ghost use Rattle.expr_parser.specs.Input.{Reads, max_level};
+ghost use Rattle.expr_parser.specs.Input.{Reads, StandsAt, max_level};
 ghost use Rattle.expr_parser.specs.Reading as spec;
 
 use crate::fault::Fault;
@@ -31,7 +31,8 @@ pub fn expr(
     depth: usize,
     least: u8,
 ) -> Result<Box<Expr>, Fault>
-    ensures { Reads term_in (spec.expr max_level depth least tokens.old) result tokens.new }
+    ensures read { Reads term_in (spec.expr max_level depth least tokens.old) result tokens.new }
+    ensures stands { IfErr result (λ e. StandsAt e tokens.new) }
 {
     if depth == 0 {
         return Err(tokens.too_deep());
@@ -47,7 +48,8 @@ fn climbing(
     depth: usize,
     least: u8,
 ) -> Result<Box<Expr>, Fault>
-    ensures { Reads term_in (spec.climbing max_level (spec.expr max_level depth) least tokens.old) result tokens.new }
+    ensures read { Reads term_in (spec.climbing max_level (spec.expr max_level depth) least tokens.old) result tokens.new }
+    ensures stands { IfErr result (λ e. StandsAt e tokens.new) }
 {
     let mut left = prefix(alloc, tokens, depth)?;
     for _turn in 0..tokens.left() {
@@ -70,7 +72,8 @@ fn operation(
     depth: usize,
     left: Box<Expr>,
 ) -> Result<Box<Expr>, Fault>
-    ensures { Reads term_in (spec.operation max_level (spec.expr max_level depth) (term_in left) tokens.old) result tokens.new }
+    ensures read { Reads term_in (spec.operation max_level (spec.expr max_level depth) (term_in left) tokens.old) result tokens.new }
+    ensures stands { IfErr result (λ e. StandsAt e tokens.new) }
 {
     match infix_of(tokens.kind()) {
         Infix::Joins { op } => {
@@ -94,7 +97,8 @@ fn operation(
 #[cycle(expr)]
 #[tactic(auto, unfolding(crate::specs::Reading::prefix))]
 fn prefix(alloc: Global, tokens: &mut Tokens<'_>, depth: usize) -> Result<Box<Expr>, Fault>
-    ensures { Reads term_in (spec.prefix max_level (spec.expr max_level depth) tokens.old) result tokens.new }
+    ensures read { Reads term_in (spec.prefix max_level (spec.expr max_level depth) tokens.old) result tokens.new }
+    ensures stands { IfErr result (λ e. StandsAt e tokens.new) }
 {
     match start_of(tokens.kind()) {
         Start::Literal => {
@@ -115,7 +119,8 @@ fn prefix(alloc: Global, tokens: &mut Tokens<'_>, depth: usize) -> Result<Box<Ex
 #[cycle(expr)]
 #[tactic(auto, unfolding(crate::specs::Reading::named))]
 fn named(alloc: Global, tokens: &mut Tokens<'_>, depth: usize) -> Result<Box<Expr>, Fault>
-    ensures { Reads term_in (spec.named max_level (spec.expr max_level depth) tokens.old) result tokens.new }
+    ensures read { Reads term_in (spec.named max_level (spec.expr max_level depth) tokens.old) result tokens.new }
+    ensures stands { IfErr result (λ e. StandsAt e tokens.new) }
 {
     let name = tokens.name()?;
     match behind_of(tokens.kind()) {
@@ -135,7 +140,8 @@ fn named(alloc: Global, tokens: &mut Tokens<'_>, depth: usize) -> Result<Box<Exp
 #[cycle(expr)]
 #[tactic(auto, unfolding(crate::specs::Reading::bracketed))]
 pub fn bracketed(alloc: Global, tokens: &mut Tokens<'_>, depth: usize) -> Result<Box<Expr>, Fault>
-    ensures { Reads term_in (spec.bracketed max_level (spec.expr max_level depth) tokens.old) result tokens.new }
+    ensures read { Reads term_in (spec.bracketed max_level (spec.expr max_level depth) tokens.old) result tokens.new }
+    ensures stands { IfErr result (λ e. StandsAt e tokens.new) }
 {
     let outer = tokens.level();
     tokens.enter(Fixed::LeftRound)?;
@@ -149,7 +155,8 @@ pub fn bracketed(alloc: Global, tokens: &mut Tokens<'_>, depth: usize) -> Result
 #[cycle(expr)]
 #[tactic(auto, unfolding(crate::specs::Reading::indexed))]
 pub fn indexed(alloc: Global, tokens: &mut Tokens<'_>, depth: usize) -> Result<Box<Expr>, Fault>
-    ensures { Reads term_in (spec.indexed max_level (spec.expr max_level depth) tokens.old) result tokens.new }
+    ensures read { Reads term_in (spec.indexed max_level (spec.expr max_level depth) tokens.old) result tokens.new }
+    ensures stands { IfErr result (λ e. StandsAt e tokens.new) }
 {
     let outer = tokens.level();
     tokens.enter(Fixed::LeftSquare)?;
@@ -163,7 +170,8 @@ pub fn indexed(alloc: Global, tokens: &mut Tokens<'_>, depth: usize) -> Result<B
 #[cycle(expr)]
 #[tactic(auto, unfolding(crate::specs::Reading::passed, crate::specs::Reading::arguments))]
 pub fn passed(alloc: Global, tokens: &mut Tokens<'_>, depth: usize) -> Result<Items<Expr>, Fault>
-    ensures { Reads (map term) (spec.passed max_level (spec.expr max_level depth) tokens.old) result tokens.new }
+    ensures read { Reads (map term) (spec.passed max_level (spec.expr max_level depth) tokens.old) result tokens.new }
+    ensures stands { IfErr result (λ e. StandsAt e tokens.new) }
 {
     let outer = tokens.level();
     tokens.enter(Fixed::LeftRound)?;
@@ -176,7 +184,8 @@ pub fn passed(alloc: Global, tokens: &mut Tokens<'_>, depth: usize) -> Result<It
 #[cycle(expr)]
 #[tactic(auto, unfolding(crate::specs::Reading::arguments))]
 fn arguments(alloc: Global, tokens: &mut Tokens<'_>, depth: usize) -> Result<Items<Expr>, Fault>
-    ensures { Reads (map term) (spec.arguments max_level (spec.expr max_level depth) tokens.old) result tokens.new }
+    ensures read { Reads (map term) (spec.arguments max_level (spec.expr max_level depth) tokens.old) result tokens.new }
+    ensures stands { IfErr result (λ e. StandsAt e tokens.new) }
 {
     if tokens.next_is(Fixed::RightRound) {
         return Ok(Items::new(alloc));
@@ -188,7 +197,8 @@ fn arguments(alloc: Global, tokens: &mut Tokens<'_>, depth: usize) -> Result<Ite
 #[cycle(expr)]
 #[tactic(auto, unfolding(crate::specs::Reading::separated, crate::specs::Reading::separated_from))]
 pub fn values(alloc: Global, tokens: &mut Tokens<'_>, depth: usize) -> Result<Items<Expr>, Fault>
-    ensures { Reads (map term) (spec.separated (spec.value max_level (spec.expr max_level depth)) tokens.old) result tokens.new }
+    ensures read { Reads (map term) (spec.separated (spec.value max_level (spec.expr max_level depth)) tokens.old) result tokens.new }
+    ensures stands { IfErr result (λ e. StandsAt e tokens.new) }
 {
     let mut found = Items::new(alloc);
     for _turn in 0..tokens.left() {
@@ -205,7 +215,8 @@ pub fn values(alloc: Global, tokens: &mut Tokens<'_>, depth: usize) -> Result<It
 #[cycle(expr)]
 #[tactic(auto, unfolding(crate::specs::Reading::value))]
 pub fn value(alloc: Global, tokens: &mut Tokens<'_>, depth: usize) -> Result<Box<Expr>, Fault>
-    ensures { Reads term_in (spec.value max_level (spec.expr max_level depth) tokens.old) result tokens.new }
+    ensures read { Reads term_in (spec.value max_level (spec.expr max_level depth) tokens.old) result tokens.new }
+    ensures stands { IfErr result (λ e. StandsAt e tokens.new) }
 {
     let outer = tokens.level();
     let found = expr(alloc, tokens, depth, 1)?;

@@ -1,6 +1,6 @@
 // A place in a list of tokens, and the level there.
 
-ghost use Rattle.std.specs.Prelude.{◌≡◌, length};
+ghost use Rattle.std.specs.Prelude.{◌≡◌, ◌≢◌, length, OnErr, IfErr};
 ghost use Rattle.forec_tree.specs.declared.token.Token.{Token};
 ghost use Rattle.forec_tree.specs.declared.tree.Name.{Name};
 ghost use Rattle.forec_tree.specs.declared.tree.Number.{Number};
@@ -111,7 +111,10 @@ impl<'t> Tokens<'t> {
     /// Takes a token that opens no level.
     #[tactic(auto, unfolding(crate::specs::Input::take))]
     pub fn take(&mut self) -> Result<Token, Fault>
-        ensures { Reads (λ (t : Token). t) (spec.take self.old) result self.new }
+        ensures read { Reads (λ (t : Token). t) (spec.take self.old) result self.new }
+        ensures unmoved { OnErr result (self.new ≡ self.old) }
+        ensures stands { IfErr result (λ e. spec.StandsAt e self.new) }
+        ensures caused { IfErr result (λ e. e ≢ Fault.OutOfMemory) }
     {
         let Some((token, rest)) = self.rest.split_first() else {
             return Err(Fault::Syntax { left: 0 });
@@ -123,7 +126,10 @@ impl<'t> Tokens<'t> {
     /// Takes a token that opens a level.
     #[tactic(auto, unfolding(crate::specs::Input::raise))]
     pub fn raise(&mut self) -> Result<Token, Fault>
-        ensures { Reads (λ (t : Token). t) (spec.raise spec.max_level self.old) result self.new }
+        ensures read { Reads (λ (t : Token). t) (spec.raise spec.max_level self.old) result self.new }
+        ensures unmoved { OnErr result (self.new ≡ self.old) }
+        ensures stands { IfErr result (λ e. spec.StandsAt e self.new) }
+        ensures caused { IfErr result (λ e. e ≢ Fault.OutOfMemory) }
     {
         let Some((token, rest)) = self.rest.split_first() else {
             return Err(Fault::Syntax { left: 0 });
@@ -141,7 +147,10 @@ impl<'t> Tokens<'t> {
     /// Takes this token, which opens no level.
     #[tactic(auto, unfolding(crate::specs::Reading::close))]
     pub fn close(&mut self, fixed: Fixed) -> Result<Token, Fault>
-        ensures { Reads (λ (t : Token). t) (reading.close fixed self.old) result self.new }
+        ensures read { Reads (λ (t : Token). t) (reading.close fixed self.old) result self.new }
+        ensures unmoved { OnErr result (self.new ≡ self.old) }
+        ensures stands { IfErr result (λ e. spec.StandsAt e self.new) }
+        ensures caused { IfErr result (λ e. e ≢ Fault.OutOfMemory) }
     {
         if self.next_is(fixed) {
             self.take()
@@ -153,7 +162,10 @@ impl<'t> Tokens<'t> {
     /// Takes this token, which opens a level.
     #[tactic(auto, unfolding(crate::specs::Reading::enter))]
     pub fn enter(&mut self, fixed: Fixed) -> Result<Token, Fault>
-        ensures { Reads (λ (t : Token). t) (reading.enter spec.max_level fixed self.old) result self.new }
+        ensures read { Reads (λ (t : Token). t) (reading.enter spec.max_level fixed self.old) result self.new }
+        ensures unmoved { OnErr result (self.new ≡ self.old) }
+        ensures stands { IfErr result (λ e. spec.StandsAt e self.new) }
+        ensures caused { IfErr result (λ e. e ≢ Fault.OutOfMemory) }
     {
         if self.next_is(fixed) {
             self.raise()
@@ -165,7 +177,10 @@ impl<'t> Tokens<'t> {
     /// Takes a name.
     #[tactic(auto, unfolding(crate::specs::Reading::name))]
     pub fn name(&mut self) -> Result<Name, Fault>
-        ensures { Reads (λ (n : Name). n) (reading.name self.old) result self.new }
+        ensures read { Reads (λ (n : Name). n) (reading.name self.old) result self.new }
+        ensures unmoved { OnErr result (self.new ≡ self.old) }
+        ensures stands { IfErr result (λ e. spec.StandsAt e self.new) }
+        ensures caused { IfErr result (λ e. e ≢ Fault.OutOfMemory) }
     {
         match name_of(self.kind()) {
             Some(id) => {
@@ -182,7 +197,10 @@ impl<'t> Tokens<'t> {
     /// Takes a number.
     #[tactic(auto, unfolding(crate::specs::Reading::number))]
     pub fn number(&mut self) -> Result<Number, Fault>
-        ensures { Reads (λ (n : Number). n) (reading.number self.old) result self.new }
+        ensures read { Reads (λ (n : Number). n) (reading.number self.old) result self.new }
+        ensures unmoved { OnErr result (self.new ≡ self.old) }
+        ensures stands { IfErr result (λ e. spec.StandsAt e self.new) }
+        ensures caused { IfErr result (λ e. e ≢ Fault.OutOfMemory) }
     {
         match number_of(self.kind()) {
             Some(value) => {

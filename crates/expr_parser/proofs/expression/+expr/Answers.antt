@@ -8,9 +8,9 @@ use Rattle.expr_parser.specs.Boxes.{term_in}
 use Rattle.expr_parser.proofs.LoopTurns.{next_turn, first_turn}
 use Rattle.expr_parser.proofs.expression.+expr.Goals as goal
 
-pub expr-returns : goal.expr-returns
+pub expr-returns-clause-read : goal.expr-returns-clause-read
 unfolding expr
-expr-returns t c = rw (first_turn (λ n. expr max_level n c.args.least c.args.tokens.now) c.args.depth (omega arith)) c.climbing.ensures
+expr-returns-clause-read t c = rw (first_turn (λ n. expr max_level n c.args.least c.args.tokens.now) c.args.depth (omega arith)) c.climbing.ensures.read
 
 pub climbing-loop-turn-preserved : goal.climbing-loop-turn-preserved
 unfolding climb
@@ -24,14 +24,14 @@ values-loop-turn-preserved t c =
     let e = next_turn (λ n. separated_from (value max_level (expr max_level c.args.depth)) n (map term c.loop-turn.found) c.loop-turn.tokens) _ c.loop-turn._turn c.loop-turn-test.true c.loop-turn.invariant in
     first_of (search rules, grind (arith, map-append, common_steps))
 
-pub values-returns-in_err-take : goal.values-returns-in_err-take
+pub values-returns-in_err-take-clause-read : goal.values-returns-in_err-take-clause-read
 unfolding separated_from
-values-returns-in_err-take t c =
+values-returns-in_err-take-clause-read t c =
     let e = next_turn (λ n. separated_from (value max_level (expr max_level c.args.depth)) n (map term c.loop-turn.found) c.loop-turn.tokens) _ c.loop-turn._turn c.loop-turn-test.true c.loop-turn.invariant in
     first_of (search rules, grind (arith, map-append, common_steps))
 
-pub values-returns-then-not-next_is : goal.values-returns-then-not-next_is
+pub values-returns-then-not-next_is-clause-read : goal.values-returns-then-not-next_is-clause-read
 unfolding separated_from
-values-returns-then-not-next_is t c =
+values-returns-then-not-next_is-clause-read t c =
     let e = next_turn (λ n. separated_from (value max_level (expr max_level c.args.depth)) n (map term c.loop-turn.found) c.loop-turn.tokens) _ c.loop-turn._turn c.loop-turn-test.true c.loop-turn.invariant in
     first_of (search rules, grind (arith, map-append, common_steps))
