@@ -252,7 +252,7 @@ module _ (limit : ℕ) where
   r_alone : {v u : ℕ} {o : Bool} {t : Token} {test : Term} {x : Statement} {ls ms : List Spelt} → IsWord word.If t → Brackets test (v + 1) ls → IsRead x o (v + 1) u ms
       → IsRead (plain.If t.place test x absent) true v u (at t (v + 1) ∷ (ls ++ ms))
   r_alone {v} {u} {o} {t} {test} {x} {ls} {ms} h b r d k small low far calm = deep d small far (λ e m.
-      let R : List Spelt → Type 0 = λ z. Reading limit (st.branching limit (stmt limit e)) v (plain.If t.place test x absent) v (at t (v + 1) ∷ (ls ++ z)) k in
+      let R : List Spelt → Type 0 = λ z. Reading limit (st.if_statement limit (stmt limit e)) v (plain.If t.place test x absent) v (at t (v + 1) ∷ (ls ++ z)) k in
       let done_so : R (ms ++ []) = reads_by (x_branching limit (stmt limit e) (sound_stmt limit e) u low)
       (inside (over h (λ small. both (bracketed_reads limit b) (both (r e k small low (omega arith) (λ _. calm refl)) (off (calm refl) done))))) in
       one_is (stmt limit e) sort.If (rw h) (subst R (append-nil ms) done_so))

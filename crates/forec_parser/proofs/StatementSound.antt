@@ -270,8 +270,8 @@ module _ (limit : ℕ) where
           let R : List Spelt → Type 0 = λ z. Said u v (plain.If t.place test a absent) v (at t (v + 1) ∷ (ls ++ z)) k in
           subst R (sym (append-nil ms)) (said (if_alone h b s) (λ _. e))
 
-      pub x_branching : Exact limit (st.branching limit p) (Said u) Branching
-      unfolding st.branching
+      pub x_branching : Exact limit (st.if_statement limit p) (Said u) Branching
+      unfolding st.if_statement
       x_branching = convert (λ v w x ls k q. branched_of q) (λ v w x ls k q. q)
           (scope (bind_up fixed.If (λ t. bind (a_bracketed limit) (λ test.
           choose_by fixed.Else inner_here (inner u low) (λ a. x_otherwise t test a) (λ a. done_at (plain.If t.place test a absent))))))
@@ -285,8 +285,8 @@ module _ (limit : ℕ) where
       abbrev LoopingBy : Lang Statement
       LoopingBy = Scoped (Over limit fixed.While (λ t. Bind (Reading limit (st.bracketed limit)) (λ test. Bind (Reading limit (st.bound limit)) (λ turns. Map (λ x. plain.While t.place test turns x) (Reading limit p)))))
 
-      pub x_looping : Exact limit (st.looping limit p) (Said u) LoopingBy
-      unfolding st.looping
+      pub x_looping : Exact limit (st.while_statement limit p) (Said u) LoopingBy
+      unfolding st.while_statement
       x_looping = convert looping_of (λ v w x ls k q. q)
           (scope (bind_up fixed.While (λ t. bind (a_bracketed limit) (λ test. bind (bound_by limit) (λ turns. map_to (λ x. plain.While t.place test turns x) (inner u low))))))
 
@@ -299,8 +299,8 @@ module _ (limit : ℕ) where
       abbrev CountingBy : Lang Statement
       CountingBy = Scoped (Over limit fixed.For (λ t. Bind (Reading limit (st.head limit)) (λ h. Bind (Reading limit (st.bound limit)) (λ turns. Map (λ x. plain.For t.place h.start h.test h.step turns x) (Reading limit p)))))
 
-      pub x_counting : Exact limit (st.counting limit p) (Said u) CountingBy
-      unfolding st.counting
+      pub x_counting : Exact limit (st.for_statement limit p) (Said u) CountingBy
+      unfolding st.for_statement
       x_counting = convert counting_of (λ v w x ls k q. q)
           (scope (bind_up fixed.For (λ t. bind (head_by limit) (λ h. bind (bound_by limit) (λ turns. map_to (λ x. plain.For t.place h.start h.test h.step turns x) (inner u low))))))
 

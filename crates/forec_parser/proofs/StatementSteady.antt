@@ -156,17 +156,17 @@ module _ {E : Type 0} (k l : ℕ) (le : Limits E k l) where
     unfolding st.block st.body
     block_steady = enclosing k l le fixed.LeftCurly fixed.RightCurly (λ t xs. (t.place, xs)) (looping (bodies k p) (bodies l q) (λ _. h) [])
 
-    branching_steady : Steady E 1 (st.branching k p) (st.branching l q)
-    unfolding st.branching st.otherwise
+    branching_steady : Steady E 1 (st.if_statement k p) (st.if_statement l q)
+    unfolding st.if_statement st.otherwise
     branching_steady = scope (bind (entered fixed.If k l le) (λ t. bind bracketed_steady (λ test. bind h (λ first.
         either fixed.Else (bind (entered fixed.Else k l le) (λ _. bind h (λ second. done _))) (done _)))))
 
-    looping_steady : Steady E 1 (st.looping k p) (st.looping l q)
-    unfolding st.looping
+    looping_steady : Steady E 1 (st.while_statement k p) (st.while_statement l q)
+    unfolding st.while_statement
     looping_steady = scope (bind (entered fixed.While k l le) (λ t. bind bracketed_steady (λ test. bind bound_steady (λ turns. bind h (λ x. done _)))))
 
-    counting_steady : Steady E 1 (st.counting k p) (st.counting l q)
-    unfolding st.counting
+    counting_steady : Steady E 1 (st.for_statement k p) (st.for_statement l q)
+    unfolding st.for_statement
     counting_steady = scope (bind (entered fixed.For k l le) (λ t. bind head_steady (λ head. bind bound_steady (λ turns. bind h (λ x. done _)))))
 
     launch_steady : Steady E 0 (st.launch k p) (st.launch l q)

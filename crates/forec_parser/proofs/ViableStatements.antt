@@ -162,21 +162,21 @@ module _ (limit : ℕ) where
       unfolding st.otherwise
       otherwise_at {k} t test a n = bind (opening limit fixed.Else) opening_keeps (open_at fixed.Else) (λ _. map_to (λ b. plain.If t.place test a (present b)) (higher (omega arith) (view u top k n)))
 
-      branching_at : {k : Option TokenKind} → is_fixed fixed.Else k ≡ false → Viable limit low (st.branching limit p) (Said u) (Some (kind_of fixed.If)) k
-      unfolding st.branching
+      branching_at : {k : Option TokenKind} → is_fixed fixed.Else k ≡ false → Viable limit low (st.if_statement limit p) (Said u) (Some (kind_of fixed.If)) k
+      unfolding st.if_statement
       branching_at {k} n = convert (λ v w x ls o q. ss.branched_of limit p so u top q)
           (scope (bind (opening limit fixed.If) opening_keeps (open_at fixed.If) (λ t. bind (sr.a_bracketed limit) part_keeps (bracketed_at limit) (λ test.
           choose_by fixed.Else (ss.inner_here limit p so) (ss.inner limit p so u top) (λ v w x ls o q le. omega (arith, here_level q)) (said_keeps n) n (view u top k n)
           (λ a. otherwise_at t test a n) (λ a. done_at (plain.If t.place test a absent))))))
 
-      looping_at : {k : Option TokenKind} → is_fixed fixed.Else k ≡ false → Viable limit low (st.looping limit p) (Said u) (Some (kind_of fixed.While)) k
-      unfolding st.looping
+      looping_at : {k : Option TokenKind} → is_fixed fixed.Else k ≡ false → Viable limit low (st.while_statement limit p) (Said u) (Some (kind_of fixed.While)) k
+      unfolding st.while_statement
       looping_at {k} n = convert (ss.looping_of limit p so u top)
           (scope (bind (opening limit fixed.While) opening_keeps (open_at fixed.While) (λ t. bind (sr.a_bracketed limit) part_keeps (bracketed_at limit) (λ test.
           bind (pr.bound_by limit) part_keeps (bound_at limit refl) (λ turns. map_to (λ x. plain.While t.place test turns x) (view u top k n))))))
 
-      counting_at : {k : Option TokenKind} → is_fixed fixed.Else k ≡ false → Viable limit low (st.counting limit p) (Said u) (Some (kind_of fixed.For)) k
-      unfolding st.counting
+      counting_at : {k : Option TokenKind} → is_fixed fixed.Else k ≡ false → Viable limit low (st.for_statement limit p) (Said u) (Some (kind_of fixed.For)) k
+      unfolding st.for_statement
       counting_at {k} n = convert (ss.counting_of limit p so u top)
           (scope (bind (opening limit fixed.For) opening_keeps (open_at fixed.For) (λ t. bind (pr.head_by limit) part_keeps (head_at limit) (λ h.
           bind (pr.bound_by limit) part_keeps (bound_at limit refl) (λ turns. map_to (λ x. plain.For t.place h.start h.test h.step turns x) (view u top k n))))))

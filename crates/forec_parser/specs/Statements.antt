@@ -238,23 +238,23 @@ module _ (limit : ℕ) where
       second ← stmt
       pure (plain.If t.place test first (present second))
 
-    unfoldable pub branching : Parser Statement
-    branching = scoped (do
+    unfoldable pub if_statement : Parser Statement
+    if_statement = scoped (do
       t ← enter limit fixed.If
       test ← bracketed
       first ← stmt
       (λ i. if next_is fixed.Else i then otherwise t test first i else pure (plain.If t.place test first absent) i))
 
-    unfoldable pub looping : Parser Statement
-    looping = scoped (do
+    unfoldable pub while_statement : Parser Statement
+    while_statement = scoped (do
       t ← enter limit fixed.While
       test ← bracketed
       turns ← bound
       x ← stmt
       pure (plain.While t.place test turns x))
 
-    unfoldable pub counting : Parser Statement
-    counting = scoped (do
+    unfoldable pub for_statement : Parser Statement
+    for_statement = scoped (do
       t ← enter limit fixed.For
       h ← head
       turns ← bound
@@ -290,9 +290,9 @@ module _ (limit : ℕ) where
       pure (plain.Nothing t.place)
     one_by sort.Curly = group
     one_by sort.Declares = declaring
-    one_by sort.If = branching
-    one_by sort.While = looping
-    one_by sort.For = counting
+    one_by sort.If = if_statement
+    one_by sort.While = while_statement
+    one_by sort.For = for_statement
     one_by sort.Pause = pausing
     one_by sort.Par = forking
     one_by sort.Weak = do

@@ -161,8 +161,8 @@ pub fn invoke(name: Name, args: Items<Expr>) -> Stmt
     }
 }
 
-/// `if`, with what stands behind `else` if there is one.
-pub fn branch(place: Place, test: Box<Expr>, yes: Box<Stmt>, no: Option<Box<Stmt>>) -> Stmt
+/// `if`, with what stands after `else` if there is one.
+pub fn if_of(place: Place, test: Box<Expr>, yes: Box<Stmt>, no: Option<Box<Stmt>>) -> Stmt
     ensures { statement result ≡ plain.If place (term_in test) (statement_in yes) (perhaps_of no) }
 {
     Stmt {
@@ -176,7 +176,7 @@ pub fn branch(place: Place, test: Box<Expr>, yes: Box<Stmt>, no: Option<Box<Stmt
 }
 
 /// `while`
-pub fn repeat(place: Place, test: Box<Expr>, bound: Option<Number>, body: Box<Stmt>) -> Stmt
+pub fn while_of(place: Place, test: Box<Expr>, bound: Option<Number>, body: Box<Stmt>) -> Stmt
     ensures { statement result ≡ plain.While place (term_in test) bound (statement_in body) }
 {
     Stmt {
@@ -190,7 +190,7 @@ pub fn repeat(place: Place, test: Box<Expr>, bound: Option<Number>, body: Box<St
 }
 
 /// `for`
-pub fn count(place: Place, head: ForHead, bound: Option<Number>, body: Box<Stmt>) -> Stmt
+pub fn for_of(place: Place, head: ForHead, bound: Option<Number>, body: Box<Stmt>) -> Stmt
     ensures { statement result ≡ plain.For place (perhaps_of head.start) (optional_term_in head.test) (perhaps_of head.step) bound (statement_in body) }
 {
     let ForHead { start, test, step } = head;

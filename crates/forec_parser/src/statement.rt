@@ -42,9 +42,9 @@ fn one(alloc: Global, tokens: &mut Tokens<'_>, depth: usize) -> Result<Stmt, Fau
             Ok(parts::group(block))
         }
         Sort::Declares => declaring(alloc, tokens),
-        Sort::If => branching(alloc, tokens, depth),
-        Sort::While => looping(alloc, tokens, depth),
-        Sort::For => counting(alloc, tokens, depth),
+        Sort::If => if_statement(alloc, tokens, depth),
+        Sort::While => while_statement(alloc, tokens, depth),
+        Sort::For => for_statement(alloc, tokens, depth),
         Sort::Pause => pausing(tokens),
         Sort::Par => forking(alloc, tokens, depth),
         Sort::Weak => {
@@ -104,9 +104,9 @@ pub fn block(alloc: Global, tokens: &mut Tokens<'_>, depth: usize) -> Result<Blo
 }
 
 #[cycle(stmt)]
-#[tactic(auto, unfolding(crate::specs::Statements::branching))]
-fn branching(alloc: Global, tokens: &mut Tokens<'_>, depth: usize) -> Result<Stmt, Fault>
-    ensures { Reads statement (spec.branching max_level (spec.stmt max_level depth) tokens.old) result tokens.new }
+#[tactic(auto, unfolding(crate::specs::Statements::if_statement))]
+fn if_statement(alloc: Global, tokens: &mut Tokens<'_>, depth: usize) -> Result<Stmt, Fault>
+    ensures { Reads statement (spec.if_statement max_level (spec.stmt max_level depth) tokens.old) result tokens.new }
 {
     let outer = tokens.level();
     let token = tokens.enter(Fixed::If)?;
@@ -115,7 +115,7 @@ fn branching(alloc: Global, tokens: &mut Tokens<'_>, depth: usize) -> Result<Stm
     let found = if tokens.next_is(Fixed::Else) {
         otherwise(alloc, tokens, depth, token, test, yes)?
     } else {
-        parts::branch(token.place, test, yes, None)
+        parts::if_of(token.place, test, yes, None)
     };
     tokens.leave(outer);
     Ok(found)
@@ -136,13 +136,13 @@ fn otherwise(
 {
     tokens.enter(Fixed::Else)?;
     let no = nested(alloc, tokens, depth)?;
-    Ok(parts::branch(token.place, test, yes, Some(no)))
+    Ok(parts::if_of(token.place, test, yes, Some(no)))
 }
 
 #[cycle(stmt)]
-#[tactic(auto, unfolding(crate::specs::Statements::looping))]
-fn looping(alloc: Global, tokens: &mut Tokens<'_>, depth: usize) -> Result<Stmt, Fault>
-    ensures { Reads statement (spec.looping max_level (spec.stmt max_level depth) tokens.old) result tokens.new }
+#[tactic(auto, unfolding(crate::specs::Statements::while_statement))]
+fn while_statement(alloc: Global, tokens: &mut Tokens<'_>, depth: usize) -> Result<Stmt, Fault>
+    ensures { Reads statement (spec.while_statement max_level (spec.stmt max_level depth) tokens.old) result tokens.new }
 {
     let outer = tokens.level();
     let token = tokens.enter(Fixed::While)?;
@@ -150,13 +150,13 @@ fn looping(alloc: Global, tokens: &mut Tokens<'_>, depth: usize) -> Result<Stmt,
     let turns = bound(tokens)?;
     let body = nested(alloc, tokens, depth)?;
     tokens.leave(outer);
-    Ok(parts::repeat(token.place, test, turns, body))
+    Ok(parts::while_of(token.place, test, turns, body))
 }
 
 #[cycle(stmt)]
-#[tactic(auto, unfolding(crate::specs::Statements::counting))]
-fn counting(alloc: Global, tokens: &mut Tokens<'_>, depth: usize) -> Result<Stmt, Fault>
-    ensures { Reads statement (spec.counting max_level (spec.stmt max_level depth) tokens.old) result tokens.new }
+#[tactic(auto, unfolding(crate::specs::Statements::for_statement))]
+fn for_statement(alloc: Global, tokens: &mut Tokens<'_>, depth: usize) -> Result<Stmt, Fault>
+    ensures { Reads statement (spec.for_statement max_level (spec.stmt max_level depth) tokens.old) result tokens.new }
 {
     let outer = tokens.level();
     let token = tokens.enter(Fixed::For)?;
@@ -164,7 +164,7 @@ fn counting(alloc: Global, tokens: &mut Tokens<'_>, depth: usize) -> Result<Stmt
     let turns = bound(tokens)?;
     let body = nested(alloc, tokens, depth)?;
     tokens.leave(outer);
-    Ok(parts::count(token.place, head, turns, body))
+    Ok(parts::for_of(token.place, head, turns, body))
 }
 
 #[cycle(stmt)]

@@ -33,17 +33,17 @@ decreases-block l = 8 * l.depth + 2
 abbrev pub decreases-body : goal.decreases-body
 decreases-body l = 8 * l.depth + 1
 
-abbrev pub decreases-branching : goal.decreases-branching
-decreases-branching l = 8 * l.depth + 3
+abbrev pub decreases-if_statement : goal.decreases-if_statement
+decreases-if_statement l = 8 * l.depth + 3
 
 abbrev pub decreases-otherwise : goal.decreases-otherwise
 decreases-otherwise l = 8 * l.depth + 2
 
-abbrev pub decreases-looping : goal.decreases-looping
-decreases-looping l = 8 * l.depth + 2
+abbrev pub decreases-while_statement : goal.decreases-while_statement
+decreases-while_statement l = 8 * l.depth + 2
 
-abbrev pub decreases-counting : goal.decreases-counting
-decreases-counting l = 8 * l.depth + 2
+abbrev pub decreases-for_statement : goal.decreases-for_statement
+decreases-for_statement l = 8 * l.depth + 2
 
 abbrev pub invariant-body-loop-turn : goal.invariant-body-loop-turn
 invariant-body-loop-turn l =
