@@ -58,11 +58,6 @@ after_ring core hint fits r = record r { logs = slice_set r.logs core (after_pus
 abbrev pub after_rope_pop : Option ℕ → RopeState → RopeState
 after_rope_pop hint r = record r { logs = slice_set r.logs r.core (after_pop hint (own_log r)) }
 
--- a hint was pushed to the queue of the thread's core, if it fitted; a thread that has no place has no queue
-pub record HasHinted (thread hint : ℕ) (r q : RopeState) : Type 0 where
-  pub placed : (core : ℕ) → slice_get r.placement.places thread ≡ Some core → (fits : Bool) × (q ≡ after_ring core hint fits r)
-  pub else : slice_get r.placement.places thread ≡ None → q ≡ r
-
 -- the same rope, later: what it pushed to each queue, and popped, it still has
 pub record IsSameRope (r q : RopeState) : Type 0 where
   pub placement : q.placement ≡ r.placement
@@ -73,6 +68,17 @@ pub record IsSameRope (r q : RopeState) : Type 0 where
 -- at one moment the core's queue held as many hints as it has room for
 abbrev pub WasFull : ℕ → RopeState → Type 0
 WasFull core r = Held (get_or r.rooms core 0) (Knows (log_at r core))
+
+-- a hint was pushed to a core's queue, or that was full at one moment
+pub record HasRung (core hint : ℕ) (r q : RopeState) : Type 0 where
+  pub fits : Bool
+  pub state : q ≡ after_ring core hint fits r
+  pub full : fits ≡ false → WasFull core r
+
+-- a hint was pushed to the queue of the thread's core, if it fitted; a thread that has no place has no queue
+pub record HasHinted (thread hint : ℕ) (r q : RopeState) : Type 0 where
+  pub placed : (core : ℕ) → slice_get r.placement.places thread ≡ Some core → HasRung core hint r q
+  pub else : slice_get r.placement.places thread ≡ None → q ≡ r
 
 -- at one moment the own core's queue held no hint, and whatever the rope pushed there it has popped
 abbrev pub WasEmpty : RopeState → Type 0

@@ -25,6 +25,7 @@ pub mod Advancing
 pub mod Beginning
 pub mod Resuming
 pub mod Serves
+pub mod Sweeping
 pub mod Beside
 pub mod Hosting
 pub mod Ticked

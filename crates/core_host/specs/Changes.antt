@@ -34,6 +34,11 @@ pub data HasWorked (s : PlainShape) (before after : Mail) (k : ℕ) : Type 0 whe
   replied : Gains (answered before k) (answered after k) → HasWorked s before after k
   forked : (j : ℕ) → IsBranchOf s (suc k) j → Extends (sent before j) (sent after j) → length (sent before j) < length (sent after j) → HasWorked s before after k
 
+-- the same, at least once
+pub data HasProgressed (s : PlainShape) (before after : Mail) (k : ℕ) : Type 0 where
+  answered_more : length (answered before k) < length (answered after k) → HasProgressed s before after k
+  sent_more : (j : ℕ) → IsBranchOf s (suc k) j → length (sent before j) < length (sent after j) → HasProgressed s before after k
+
 -- a branch of thread k + 1 has not answered yet
 pub record Awaits (s : PlainShape) (before after : Mail) (k : ℕ) : Type 0 where
   pub branch : ℕ

@@ -1,8 +1,9 @@
 -- How a host goes round its mailboxes.
-use Rattle.std.specs.Prelude.{ℕ, ◌≡◌, ◌<◌, ◌≤◌, Some, length, slice_get}
+use Rattle.std.specs.Prelude.{ℕ, ◌≡◌, ◌<◌, ◌≤◌, List, Some, length, slice_get}
 use Rattle.core_host.specs.declared.round.Round.{Round}
+use Rattle.core_host.specs.Changes.{HasProgressed, IsIdle}
 use Rattle.core_host.specs.Hung.{KeepsRope}
-use Rattle.core_host.specs.Keeping.{State}
+use Rattle.core_host.specs.Keeping.{State, code_in}
 use Rattle.core_host.specs.Waiting.{IsBetween}
 
 -- each of these mailboxes can be served, and the next is one of them, or none is left before the round's end
@@ -15,3 +16,14 @@ pub record IsSameRound (before after : Round) : Type 0 where
   pub own : after.own.items ≡ before.own.items
   pub next : after.next ≤ length after.own.items
   pub rope : KeepsRope before.rope after.rope
+
+-- there was something to do for the thread of one of these mailboxes, and it was done
+pub record SomeWorked (own : List ℕ) (a b : State) : Type 0 where
+  pub place : ℕ
+  pub mailbox : ℕ
+  pub at : slice_get own place ≡ Some mailbox
+  pub progress : HasProgressed (code_in a).shape a.mail b.mail mailbox
+
+-- each of their threads was seen to have nothing to do
+abbrev pub AllIdle : List ℕ → State → State → Type 0
+AllIdle own a b = (i k : ℕ) → slice_get own i ≡ Some k → IsIdle (code_in a).shape a.mail b.mail k

@@ -185,7 +185,7 @@ impl<'c, P: Port<ForecWork> + Drop> Host<'c, P> {
     /// Takes one job, or goes on with one thread that waits at a fork and whose branches have all replied,
     /// and runs that thread to its next event. It takes no memory, doesn't wait, and gives no hint.
     ///
-    /// It begins behind the mailbox that was served last, so that each has its turn; no clause says so. Thread 0
+    /// It begins after the mailbox that was served last, so that each has its turn; no clause says so. Thread 0
     /// works in ticks alone; its branches' replies stay where they are.
     pub fn serve<G: Gate>(&mut self, gate: &G) -> Served
         ensures worked { (k : ℕ) → result ≡ Served.Worked k → HasWorked (code_of self.old).shape self.old.mail self.new.mail k }

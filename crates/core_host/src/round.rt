@@ -1,5 +1,5 @@
 //! The mailboxes of a host's threads, one after the other.
-ghost use Rattle.std.specs.Prelude.{◌≡◌, ◌<◌};
+ghost use Rattle.std.specs.Prelude.{◌≡◌, ◌<◌, ◌+◌, true, false};
 ghost use Rattle.core_host.specs.Hung.{KeepsRope};
 
 use core_bells::Rope;
@@ -56,7 +56,9 @@ impl<'c> Round<'c> {
 /// The k-th of so many places, from the first one on or from the last one.
 pub fn place_of(k: usize, count: usize, up: bool) -> usize
     requires { k < count }
-    ensures { result < count }
+    ensures below { result < count }
+    ensures up { up ≡ true → result ≡ k }
+    ensures down { up ≡ false → result + k + 1 ≡ count }
 {
     if up { k } else { count - 1 - k }
 }

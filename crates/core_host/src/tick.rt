@@ -1,5 +1,5 @@
 //! A tick beside hosts that are served.
-ghost use Rattle.std.specs.Prelude.{◌≡◌, ◌≤◌, ◌<◌, ◌++◌, ◌∷◌, [], ℕ, List, Some, length, slice_get, true};
+ghost use Rattle.std.specs.Prelude.{◌≡◌, ◌≤◌, ◌<◌, ◌++◌, ◌∷◌, [], ℕ, List, Some, length, slice_get, true, false};
 ghost use Rattle.forec_base.specs.declared.limits.TheConstants.{MAX_BUDGET};
 ghost use Rattle.forec_kernel.specs.Composed.{Turn, state_after};
 ghost use Rattle.forec_kernel.specs.Engine.{Job, Answered};
@@ -14,7 +14,7 @@ ghost use Rattle.core_machine.specs.declared.thread.Thread.{Thread as PlainThrea
 ghost use Rattle.core_machine.specs.Held.{Loaded, CanBegin, CanRun, HasReply};
 ghost use Rattle.core_machine.specs.Forks.{jobs_at};
 ghost use Rattle.core_machine.specs.Replies.{Replies_by};
-ghost use Rattle.core_host.specs.Changes.{Grown};
+ghost use Rattle.core_host.specs.Changes.{Grown, IsIdle};
 ghost use Rattle.core_host.specs.Done.{HasDone};
 ghost use Rattle.core_host.specs.Ending.{HasReplied};
 ghost use Rattle.core_host.specs.Hosted.{code_of, is_here, is_live};
@@ -25,9 +25,9 @@ ghost use Rattle.core_host.specs.OnJob.{IsOnJob, KeepsOthers};
 ghost use Rattle.core_host.specs.Outcomes.{HasOutputs, LacksOutputs, HasOutcome};
 ghost use Rattle.core_host.specs.Posts.{IsBranchOf};
 ghost use Rattle.core_host.specs.Rests.{RootRests};
-ghost use Rattle.core_host.specs.Rounds.{CanServe, IsSameRound};
+ghost use Rattle.core_host.specs.Rounds.{AllIdle, CanServe, IsSameRound, SomeWorked};
 ghost use Rattle.core_host.specs.Runs.{HasJobs, HasRun};
-ghost use Rattle.core_host.specs.Serving.{MovesBranches, KeepsServing};
+ghost use Rattle.core_host.specs.Serving.{AllMissed, MovesBranches, KeepsServing};
 ghost use Rattle.core_host.specs.Waiting.{HasChild, HasTold, IsBetween, IsGathering, HasReplies};
 
 use crate::desk::Desk;
@@ -59,6 +59,9 @@ impl<'c, P: Port<ForecWork> + Drop> Desk<'c, P> {
         requires place { place < length round.old.own.items }
         ensures keeps { KeepsServing self.old self.new }
         ensures round { IsSameRound round.old round.new }
+        ensures worked { result ≡ true → SomeWorked round.old.own.items self.old self.new }
+        ensures missed { result ≡ false → AllMissed self.old self.new }
+        ensures idle { result ≡ false → (k : ℕ) → slice_get round.old.own.items place ≡ Some k → IsIdle (code_in self.old).shape self.old.mail self.new.mail k }
     {
         let mailbox = round.own[place];
         if !self.serve(gate, mailbox) {
@@ -80,6 +83,8 @@ impl<'c, P: Port<ForecWork> + Drop> Desk<'c, P> {
         requires round { CanServe self.old round.old }
         ensures keeps { KeepsServing self.old self.new }
         ensures round { IsSameRound round.old round.new }
+        ensures worked { result ≡ true → SomeWorked round.old.own.items self.old self.new }
+        ensures missed { result ≡ false → AllMissed self.old self.new }
     {
         match round.own.binary_search(&mailbox) {
             Ok(place) => self.serve_at(rt, gate, place, round),
@@ -93,6 +98,8 @@ impl<'c, P: Port<ForecWork> + Drop> Desk<'c, P> {
         requires round { CanServe self.old round.old }
         ensures keeps { KeepsServing self.old self.new }
         ensures round { IsSameRound round.old round.new }
+        ensures worked { result ≡ true → SomeWorked round.old.own.items self.old self.new }
+        ensures missed { result ≡ false → AllMissed self.old self.new }
     {
         let mut found = false;
         for _ in rt.forever() {
@@ -111,6 +118,8 @@ impl<'c, P: Port<ForecWork> + Drop> Desk<'c, P> {
         requires round { CanServe self.old round.old }
         ensures keeps { KeepsServing self.old self.new }
         ensures round { IsSameRound round.old round.new }
+        ensures worked { result ≡ true → SomeWorked round.old.own.items self.old self.new }
+        ensures idle { result ≡ false → AllIdle round.old.own.items self.old self.new }
     {
         let count = round.own.len();
         let up = round.up;
@@ -133,6 +142,8 @@ impl<'c, P: Port<ForecWork> + Drop> Desk<'c, P> {
         requires round { CanServe self.old round.old }
         ensures keeps { KeepsServing self.old self.new }
         ensures round { IsSameRound round.old round.new }
+        ensures worked { result ≡ true → SomeWorked round.old.own.items self.old self.new }
+        ensures idle { result ≡ false → AllIdle round.old.own.items self.old self.new }
     {
         let hinted = self.serve_hinted(rt, gate, round);
         let swept = self.sweep(rt, gate, round);

@@ -3,7 +3,7 @@ ghost use Rattle.std.specs.Prelude.{◌≡◌, ◌<◌, ℕ, suc, List, IfOk, If
 ghost use Rattle.forec_kernel.specs.Composed.{Turn};
 ghost use Rattle.forec_kernel.specs.Engine.{Job};
 ghost use Rattle.copy_slots.specs.Ports.{after_stop, after_check};
-ghost use Rattle.core_host.specs.Changes.{Grown, Looked, HasWorked, IsIdle};
+ghost use Rattle.core_host.specs.Changes.{Grown, Looked, HasProgressed, HasWorked, IsIdle};
 ghost use Rattle.core_host.specs.Hosted.{code_of, is_live, is_here};
 ghost use Rattle.core_host.specs.Hung.{KeepsRope};
 ghost use Rattle.core_host.specs.Runs.{HasJobs, HasRun};
@@ -77,6 +77,8 @@ impl<'c, P: Port<ForecWork> + Drop> Host<'c, P> {
     /// Serves each of its mailboxes once, those that hints name first, and hints to those to whom it sent. Whether there was something
     /// to do.
     pub(crate) fn serve_beside<R: Wait, G: Gate>(&mut self, rt: &R, gate: &G) -> bool
+        ensures worked { result ≡ true → (k : ℕ) × (is_here self.old (suc k) ≡ true) × HasProgressed (code_of self.old).shape self.old.mail self.new.mail k }
+        ensures nothing { result ≡ false → (k : ℕ) → k < length self.old.mail.ends → is_here self.old (suc k) ≡ true → IsIdle (code_of self.old).shape self.old.mail self.new.mail k }
         ensures code { self.new.code ≡ self.old.code }
         ensures places { self.new.places ≡ self.old.places }
         ensures cores { self.new.cores ≡ self.old.cores }
@@ -187,6 +189,8 @@ impl<'c, P: Port<ForecWork> + Drop> Worker<'c, P> {
     /// Serves each of its mailboxes once, those that hints name first, and hints to those to whom it sent. Whether there was something
     /// to do.
     pub fn serve_beside<R: Wait, G: Gate>(&mut self, rt: &R, gate: &G) -> bool
+        ensures worked { result ≡ true → (k : ℕ) × (is_here self.old (suc k) ≡ true) × HasProgressed (code_of self.old).shape self.old.mail self.new.mail k }
+        ensures nothing { result ≡ false → (k : ℕ) → k < length self.old.mail.ends → is_here self.old (suc k) ≡ true → IsIdle (code_of self.old).shape self.old.mail self.new.mail k }
         ensures code { self.new.code ≡ self.old.code }
         ensures places { self.new.places ≡ self.old.places }
         ensures cores { self.new.cores ≡ self.old.cores }
