@@ -20,7 +20,7 @@ use Rattle.combine_tree.specs.Joins.{begun, fold_at}
 use Rattle.thread_state.specs.Frames.{Frames, arguments, without, dropped}
 use Rattle.thread_state.specs.Pars.{HavePars}
 use Rattle.thread_state.specs.Kept.{Kept, own_of, place_in, place_of, no_copy, with_live_at, HavePlaces, Serves}
-use Rattle.thread_steps.specs.Stretch.{Comes, next, work, point_of}
+use Rattle.thread_steps.specs.BlockRun.{Comes, next, work, point_of}
 use Rattle.core_machine.specs.Branches.{trap_of, verdict_of}
 use Rattle.core_machine.specs.declared.branches.Verdict.TheVariants as verdict
 use Rattle.core_machine.specs.declared.thread.Thread.{Thread}

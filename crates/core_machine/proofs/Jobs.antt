@@ -30,7 +30,7 @@ use Rattle.combine_tree.specs.Plain.{plain_kind, plain_packet}
 use Rattle.thread_state.specs.Frames.{Frames, started as started_frames}
 use Rattle.core_machine.specs.Branches.{Says}
 use Rattle.thread_state.specs.Kept.{Kept, begun as begun_kept, with_copies, Serves}
-use Rattle.thread_steps.specs.Stretch.{block_for, first, work, point_of}
+use Rattle.thread_steps.specs.BlockRun.{block_for, first, work, point_of}
 use Rattle.core_machine.specs.declared.thread.Thread.{Thread}
 use Rattle.core_machine.specs.declared.thread.Phase.{Phase}
 use Rattle.core_machine.specs.declared.thread.Phase.TheVariants as phase

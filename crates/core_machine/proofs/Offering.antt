@@ -13,7 +13,7 @@ use Rattle.thread_code.specs.Alone.{block_of}
 use Rattle.combine_tree.specs.declared.joining.Fold.{Fold}
 use Rattle.combine_tree.specs.Joins.{fold_at, pair_of, with_value, with_mark, offered, folded}
 use Rattle.thread_state.specs.Kept.{own_of, place_of, place_in, no_copy}
-use Rattle.thread_steps.specs.Stretch.{point_of}
+use Rattle.thread_steps.specs.BlockRun.{point_of}
 use Rattle.core_machine.specs.declared.branches.Verdict.{Verdict}
 use Rattle.core_machine.specs.declared.branches.Verdict.TheVariants as verdict
 use Rattle.core_machine.specs.declared.thread.Thread.{Thread}

@@ -12,9 +12,9 @@ use Rattle.thread_code.specs.Machine.{Point, Own, Awaited, Machine, Waits, Pause
 use Rattle.thread_code.specs.Alone.{block_of, view_of, units_of}
 use Rattle.thread_state.specs.Frames.{arguments, without}
 use Rattle.thread_state.specs.Kept.{Kept, own_of}
-use Rattle.thread_steps.specs.Stretch.{block_for, owner, Comes, next, Work, work, point_of, machine_at, IsAt, Stands_before, Forks, Shows, Runs}
-use Rattle.thread_steps.specs.declared.stretch.Stop.{Stop}
-use Rattle.thread_steps.specs.declared.stretch.Stop.TheVariants as stop
+use Rattle.thread_steps.specs.BlockRun.{block_for, owner, Comes, next, Work, work, point_of, machine_at, IsAt, Stands_before, Forks, Shows, Runs}
+use Rattle.thread_steps.specs.declared.block_run.Stop.{Stop}
+use Rattle.thread_steps.specs.declared.block_run.Stop.TheVariants as stop
 use Rattle.core_machine.specs.declared.thread.Thread.{Thread}
 use Rattle.core_machine.specs.declared.thread.Phase.TheVariants as phase
 use Rattle.core_machine.specs.declared.thread.Event.TheVariants as event

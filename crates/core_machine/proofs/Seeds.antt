@@ -16,7 +16,7 @@ use Rattle.thread_code.specs.Machine.{Machine, Waits, awaited, waking, living, s
 use Rattle.thread_code.specs.Alone.{block_of, view_of}
 use Rattle.thread_state.specs.Frames.{arguments, without}
 use Rattle.thread_state.specs.Kept.{Kept, own_of, place_in, place_of, no_copy, HavePlaces, handed_by, Serves}
-use Rattle.thread_steps.specs.Stretch.{work, point_of, machine_at}
+use Rattle.thread_steps.specs.BlockRun.{work, point_of, machine_at}
 use Rattle.core_machine.specs.declared.thread.Thread.{Thread}
 use Rattle.core_machine.specs.declared.thread.Phase.TheVariants as phase
 use Rattle.core_machine.specs.Held.{machine_in, branch_of, IsBranch, AreBranches, Waits_at, Loaded, HasSettled}

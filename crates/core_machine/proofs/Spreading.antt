@@ -10,7 +10,7 @@ use Rattle.thread_code.specs.declared.instruction.Instruction.TheVariants as ins
 use Rattle.thread_code.specs.Plain.{PlainBlock, PlainCode}
 use Rattle.thread_code.specs.Valid.{IsValidCode}
 use Rattle.thread_code.specs.Alone.{block_of}
-use Rattle.thread_steps.specs.Stretch.{no_block, block_for, Next, depth_after, Comes, first, next}
+use Rattle.thread_steps.specs.BlockRun.{no_block, block_for, Next, depth_after, Comes, first, next}
 use Rattle.thread_steps.proofs.Steps.{comes_leads}
 use Rattle.core_machine.specs.declared.depths.TheConstants.{UNKNOWN}
 use Rattle.core_machine.specs.Depths.{goes_on, target, IsSoundIn, HoldsDepths, IsFollowed, AreFollowed, unknown_in, Finds, IsSpread, IsMost, IsGreatest}

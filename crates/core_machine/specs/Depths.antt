@@ -4,7 +4,7 @@ use Rattle.thread_code.specs.declared.instruction.Instruction.{Instruction}
 use Rattle.thread_code.specs.declared.instruction.Instruction.TheVariants as instruction
 use Rattle.thread_code.specs.Plain.{PlainBlock, PlainCode}
 use Rattle.thread_code.specs.Valid.{IsSound}
-use Rattle.thread_steps.specs.Stretch.{Next, Comes, IsDeep}
+use Rattle.thread_steps.specs.BlockRun.{Next, Comes, IsDeep}
 use Rattle.core_machine.specs.declared.depths.TheConstants.{UNKNOWN}
 
 -- ---- where an instruction leads

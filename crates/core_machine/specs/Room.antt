@@ -5,7 +5,7 @@ use Rattle.thread_code.specs.declared.instruction.Instruction.TheVariants as ins
 use Rattle.thread_code.specs.Plain.{PlainBlock, PlainCode}
 use Rattle.thread_code.specs.Valid.{of_shape}
 use Rattle.thread_state.specs.Pars.{HavePars}
-use Rattle.thread_steps.specs.Stretch.{no_block, IsDeep}
+use Rattle.thread_steps.specs.BlockRun.{no_block, IsDeep}
 use Rattle.core_machine.specs.declared.room.Needs.{Needs}
 
 abbrev pub function_block : PlainCode → ℕ → PlainBlock

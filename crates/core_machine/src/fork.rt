@@ -8,7 +8,7 @@ ghost use Rattle.core_machine.specs.Forks.{IsFork, args_from};
 
 use thread_code::{CodeParts, Instruction};
 use thread_state::Stack;
-use thread_steps::stretch::block_at;
+use thread_steps::block_run::block_at;
 
 /// The number of the `par`, the address at which the thread goes on while a branch has not ended, and
 /// whether the fork was held.

@@ -1,6 +1,6 @@
 use Rattle.std.proofs.Common.{◌+◌, ◌∙◌, ap, length}
 use Rattle.thread_code.specs.Plain.{plain_code, plain_block}
-use Rattle.thread_steps.specs.Stretch.{depth_after}
+use Rattle.thread_steps.specs.BlockRun.{depth_after}
 use Rattle.core_machine.specs.Depths.{target}
 use Rattle.core_machine.proofs.Spreading.{next_on, next_to, next_within, named_within, holds_spread}
 use Rattle.core_machine.proofs.depths.visit.Goals as goal

@@ -1,7 +1,7 @@
 use Rattle.std.proofs.Common.{◌≡◌, ◌<◌, ap, ⊎_elim, length, map, get_or, arith}
 use Rattle.std.proofs.lemmas.Bool.{cases_lt}
 use Rattle.thread_code.specs.Plain.{PlainBlock, plain_block}
-use Rattle.thread_steps.specs.Stretch.{no_block}
+use Rattle.thread_steps.specs.BlockRun.{no_block}
 use Rattle.thread_state.proofs.Living.{read_plain}
 use Rattle.core_machine.proofs.room.are_short.Goals as goal
 

@@ -1,6 +1,6 @@
 use Rattle.std.proofs.Common.{◌<◌, ◌^◌, ℕ, length, get_or}
 use Rattle.thread_code.specs.Plain.{plain_code}
-use Rattle.thread_steps.specs.Stretch.{no_block}
+use Rattle.thread_steps.specs.BlockRun.{no_block}
 use Rattle.core_machine.proofs.room.are_short.Given as goal
 
 abbrev pub invariant-loop-function : goal.invariant-loop-function

@@ -1,7 +1,7 @@
 use Rattle.std.proofs.Common.{◌<◌, length, subst, arith}
 use Rattle.std.proofs.lemmas.List.{length-map}
 use Rattle.thread_code.specs.Plain.{plain_code, plain_block}
-use Rattle.thread_steps.specs.Stretch.{no_block}
+use Rattle.thread_steps.specs.BlockRun.{no_block}
 use Rattle.thread_state.proofs.Living.{read_plain}
 use Rattle.core_machine.specs.Depths.{IsSoundIn}
 use Rattle.core_machine.proofs.Spreading.{sound_function}
