@@ -223,7 +223,7 @@ module _ (c : PlainCode) (h2 h3 : Thread) (l : Loaded c h2) (q : h2.phase ≡ ph
   joins_now = subst (Placed c l.needs h2) q l.placed
 
   one_state : (v : Verdict) → Joins_by c l.needs h2 v → Joins_by c l.needs one_more v
-  one_state verdict.Combine s = record { works = s.works; own = s.own; within = s.within; folds = λ v u. let f = s.folds v u in record { base = f.base; free = f.free } }
+  one_state verdict.Combine s = record { works = s.works; own = s.own; within = s.within; folds = λ v u. let f = s.folds v u in record { base = f.base; free = f.free }; rest = s.rest }
   one_state (verdict.Trap place trap) s = s
   one_state verdict.Over s = s
 

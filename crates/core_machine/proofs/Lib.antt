@@ -16,6 +16,7 @@ pub mod FoldLoop
 pub mod Offering
 pub mod Combining
 pub mod Back
+pub mod Begun
 pub mod Starting
 pub mod Finishing
 pub mod Joined

@@ -11,17 +11,17 @@ use Rattle.thread_code.specs.Valid.{of_shape}
 use Rattle.thread_code.specs.Machine.{Point, Frame, Folding as Folds_to, Share, Total, Merge, Merges, no_total, total_of, put_total, totalled, noted, folded as folded_in, offered as offered_in, entered, returned, step, uses_of}
 use Rattle.thread_code.specs.Alone.{block_of}
 use Rattle.combine_tree.specs.declared.joining.Fold.{Fold}
-use Rattle.combine_tree.specs.Joins.{fold_at, pair_of, with_value, with_mark, offered, folded}
+use Rattle.combine_tree.specs.Joins.{begun, fold_at, pair_of, with_value, with_mark, offered, folded}
 use Rattle.thread_state.specs.Kept.{own_of, place_of, place_in, no_copy}
 use Rattle.thread_steps.specs.BlockRun.{point_of}
 use Rattle.core_machine.specs.declared.branches.Verdict.{Verdict}
 use Rattle.core_machine.specs.declared.branches.Verdict.TheVariants as verdict
 use Rattle.core_machine.specs.declared.thread.Thread.{Thread}
 use Rattle.core_machine.specs.declared.thread.Phase.TheVariants as phase
-use Rattle.core_machine.specs.Held.{Loaded, Placed, Joins, Joins_by, Combines, FoldsFit, some_use, total_in, totals_in, Exceeds}
+use Rattle.core_machine.specs.Held.{IsNarrow, Loaded, Placed, Joins, Joins_by, Combines, FoldsFit, some_use, total_in, totals_in, Exceeds}
 use Rattle.core_machine.specs.Merging.{merging_with, calling, with_units, Joining_on, Fails_by, Fails, Valued, Comes_by, Combined}
 use Rattle.thread_steps.proofs.Advance.{run_add}
-use Rattle.thread_state.proofs.Indexed.{equal_of, differs_of, place_within}
+use Rattle.thread_state.proofs.Indexed.{equal_of, differs_of, place_within, found_at}
 use Rattle.core_machine.proofs.Seeds.{place_is}
 use Rattle.thread_steps.proofs.Steps.{copy_at}
 
@@ -117,6 +117,14 @@ module _ (c : PlainCode) (h : Thread) (l : Loaded c h) (joining : h.phase ≡ ph
       record { base = ap (λ (f : Fold). f.base) e ∙ old.base; free = ap (λ (f : Fold). f.waits) e ∙ old.free })
       (same_or_not p (place_of uses w))
 
+  rest_after : (u : ℕ) (f : Fold) → IsNarrow h.own h.branches.numbers → (i : ℕ) → i < length (slice_set h.joining p f) → some_use c h.branches.numbers (get_or uses i 0) ≡ false →
+      fold_at (slice_set h.joining p f) i ≡ begun (get_or h.own.copies i no_copy)
+  rest_after u f narrow i lt none =
+      get_or-set_other h.joining p i f _ (λ e.
+      let q = ap (λ j. some_use c h.branches.numbers (get_or uses j 0)) e ∙ ap (some_use c h.branches.numbers) (found_at uses v used) ∙ some in
+      let y = sym none ∙ q in cc)
+      ∙ state.rest narrow i (omega (arith, lt, length-set h.joining p f)) none
+
   pub on_after : (u : ℕ) (f : Fold) → u ≤ h.allowance → f.base ≡ F.base → f.waits ≡ false → Joining_on c h (after u f)
   on_after u f le b q = record {
     loaded = record {
@@ -164,6 +172,7 @@ module _ (c : PlainCode) (h : Thread) (l : Loaded c h) (joining : h.phase ≡ ph
                   own = state.own;
                   within = le;
                   folds = fit_after u f b q;
+                  rest = rest_after u f;
                 });
           });
     };
