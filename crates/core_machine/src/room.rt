@@ -47,7 +47,8 @@ impl Needs {
 
 /// Whether each address of a block fits 32 bits.
 pub fn is_short(block: &Block) -> bool
-    ensures { result ≡ true → length (plain_block block.now).steps < 2 ^ 32 }
+    ensures short { result ≡ true → length (plain_block block.now).steps < 2 ^ 32 }
+    ensures only { length (plain_block block.now).steps < 2 ^ 32 → result ≡ true }
 {
     block.steps.len() <= u32::MAX as usize
 }

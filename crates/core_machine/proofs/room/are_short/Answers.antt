@@ -17,5 +17,5 @@ loop-function-preserved c = λ f lt.
     let k : f ≡ i = omega (arith, lt, more) in
     let l = ap (λ (b : PlainBlock). length b.steps) e in
     let m = ap (λ j. length (get_or (map plain_block blocks) j no_block).steps) k in
-    omega (arith, l, m, c.is_short.ensures c.if-not-is_short.false))
+    omega (arith, l, m, c.is_short.ensures.short c.if-not-is_short.false))
     (cases_lt f i)
