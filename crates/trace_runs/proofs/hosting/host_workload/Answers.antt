@@ -8,6 +8,6 @@ pub returns-in_default : goal.returns-in_default
 returns-in_default g c =
     not_ticked (ticked_report c.args.threads (plain_kernel c.args.kernel.now) c.args.budget) (g.K.Sink.held c.args.out.now) (g.K.Sink.faults c.args.out.now) (g.K.Sink.down c.args.out.now)
 
-pub returns-in-Err : goal.returns-in-Err
-returns-in-Err g c =
+pub returns : goal.returns
+returns g c =
     workload_not_led g.K.Sink.held g.K.Sink.faults g.K.Sink.down c.args.out.now _ (search rules) (ticked_report c.args.threads (plain_kernel c.args.kernel.now) c.args.budget)
