@@ -6,11 +6,11 @@ use Rattle.thread_code.specs.Alone.{Stands}
 use Rattle.thread_code.specs.Plain.{PlainCode}
 use Rattle.command_words.specs.Requests.{PlainPlacing, PlainRunning, PlainCommand, Run, Check, Threads, Code, Explain}
 use Rattle.forec_engine.specs.Commands.{ThreadsReport, AcceptedReport, TellsTrace, counted, listed, run_report}
-use Rattle.forec_engine.specs.Report.{trace_report}
+use Rattle.trace_runs.specs.Report.{trace_report}
 use Rattle.forec_engine.specs.Ends.{CommandIsMisplaced}
 use Rattle.forec_engine.specs.Placing.{IsMisplaced}
 use Rattle.text_verdict.specs.declared.counts.Counts.{Counts}
-use Rattle.forec_engine.specs.Report.{Report}
+use Rattle.trace_runs.specs.Report.{Report}
 
 -- what holds of the report of what the trace holds, where it is told
 ran : (k : PlainKernel) (running : PlainRunning) (trace : Option (List ℕ)) (P : Report → Type 0) → IfSome trace (λ x. P (run_report k running x)) → (bytes : List ℕ) → trace ≡ Some bytes → P (run_report k running bytes)

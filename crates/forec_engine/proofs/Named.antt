@@ -6,7 +6,7 @@ use Rattle.forec_engine.specs.Commands.{Of_refusal, TextReport, refused}
 use Rattle.text_verdict.specs.Judging.{too_long, most_bytes}
 use Rattle.text_verdict.specs.declared.counts.Counts.{Counts}
 use Rattle.text_verdict.specs.declared.refusal.Refusal.TheVariants as why
-use Rattle.forec_engine.specs.Report.{Report}
+use Rattle.trace_runs.specs.Report.{Report}
 
 pub told_same : (o : Option (List ℕ)) (Q : List ℕ → Type 0) (text : List ℕ) → IfSome o Q → o ≡ Some text → Q text
 told_same o Q text q e = subst (λ (x : Option (List ℕ)). IfSome x Q) e q

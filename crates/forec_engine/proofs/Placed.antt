@@ -7,9 +7,10 @@ use Rattle.core_alloc.specs.declared.fault.PlaceFault.TheVariants as fault
 use Rattle.command_words.specs.Requests.{PlainRunning}
 use Rattle.forec_engine.specs.Commands.{run_report}
 use Rattle.forec_engine.specs.Placing.{misplaced, misplacing, unless_misplaced}
-use Rattle.forec_engine.specs.Report.{Report, trace_report}
-use Rattle.forec_engine.specs.Workload.{ticked_report, workload_report}
-use Rattle.forec_engine.proofs.Told.{some_map}
+use Rattle.trace_runs.specs.Report.{Report, trace_report}
+use Rattle.forec_engine.specs.Placing.{workload_report}
+use Rattle.trace_runs.specs.Workload.{ticked_report}
+use Rattle.trace_runs.proofs.Told.{some_map}
 
 -- why a list is refused, where memory isn't wanting
 pub refused_by : (o : Option PlaceFault) (why : PlaceFault) → why ≢ fault.OutOfMemory → (why ≡ fault.OutOfMemory) ⊎ (o ≡ Some why) → o ≡ Some why

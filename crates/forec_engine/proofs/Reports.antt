@@ -12,8 +12,8 @@ use Rattle.forec_engine.specs.Laws.{AskForCode, OneReport, ListOneKernel, AlikeR
 use Rattle.text_verdict.specs.declared.counts.Counts.{Counts}
 use Rattle.text_verdict.specs.declared.refusal.Refusal.{Refusal}
 use Rattle.forec_engine.specs.Placing.{misplaced, misplacing}
-use Rattle.forec_engine.specs.Report.{Report, trace_report}
-use Rattle.forec_engine.specs.Workload.{workload_report}
+use Rattle.trace_runs.specs.Report.{Report, trace_report}
+use Rattle.forec_engine.specs.Placing.{workload_report}
 
 some_same : {A : Type 0} (x y : A) → Some x ≡ Some y → x ≡ y
 some_same x y e = cc

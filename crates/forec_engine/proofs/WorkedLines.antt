@@ -3,7 +3,6 @@ use Rattle.std.proofs.Common.{◌≡◌, refl, codes}
 use Rattle.std.specs.Fmt.{digits}
 use Rattle.core_alloc.specs.declared.fault.PlaceFault.TheVariants as fault
 use Rattle.forec_engine.specs.Placing.{place_line}
-use Rattle.forec_engine.specs.Workload.{workload_line}
 
 shape_is : place_line (fault.Shape 1) ≡ codes "place shape 1\n"
 unfolding digits
@@ -12,7 +11,3 @@ shape_is = refl
 core_is : place_line (fault.Core 12) ≡ codes "place core 12\n"
 unfolding digits
 core_is = refl
-
-gen_is : workload_line 3 2502500 ≡ codes "gen 3 ticks 1000 sum 2502500\n"
-unfolding workload_line digits
-gen_is = refl

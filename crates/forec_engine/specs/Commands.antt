@@ -14,11 +14,11 @@ use Rattle.workload.specs.Text.{text_of}
 use Rattle.text_verdict.specs.Counting.{counts_line}
 use Rattle.text_verdict.specs.Judging.{refusal_line, Accepts, Refuses, Judged}
 use Rattle.forec_engine.specs.Placing.{misplaced, misplacing, unless_misplaced}
-use Rattle.forec_engine.specs.Workload.{workload_report}
+use Rattle.forec_engine.specs.Placing.{workload_report}
 use Rattle.text_verdict.specs.declared.counts.Counts.{Counts}
 use Rattle.text_verdict.specs.declared.refusal.Refusal.{Refusal}
-use Rattle.forec_engine.specs.Report.{Report, trace_report}
-use Rattle.forec_engine.specs.declared.status.Status.TheVariants as status
+use Rattle.trace_runs.specs.Report.{Report, trace_report}
+use Rattle.trace_runs.specs.declared.status.Status.TheVariants as status
 
 abbrev pub usage_line : List ℕ
 usage_line = codes "usage: forec run|check|threads|code|explain|gen PROGRAM [--cores N] [--place LIST] [--budget B] [--order N]\n"

@@ -5,7 +5,7 @@ use Rattle.thread_code.specs.Alone.{Stands}
 use Rattle.thread_code.specs.Plain.{PlainCode}
 use Rattle.command_words.specs.Requests.{OnText, Code, request_of}
 use Rattle.forec_engine.specs.Commands.{IsReport, Tells, listed}
-use Rattle.forec_engine.specs.Report.{Report}
+use Rattle.trace_runs.specs.Report.{Report}
 
 -- the words ask for the listing of a code
 abbrev pub AskForCode : List (List ℕ) → Type 0

@@ -1,15 +1,4 @@
-pub mod Calls
 pub mod Commands
 pub mod Ends
-pub mod Hosting
-pub mod KernelNames
 pub mod Laws
-pub mod Led
-pub mod Orders
 pub mod Placing
-pub mod Progress
-pub mod Report
-pub mod Sessions
-pub mod StatusNumbers
-pub mod WaitingRoom
-pub mod Workload

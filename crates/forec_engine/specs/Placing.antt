@@ -3,10 +3,11 @@ use Rattle.std.specs.Prelude.{◌≡◌, ℕ, Option, None, Some, List, [], ◌+
 use Rattle.forec_kernel.specs.Shapes.{PlainKernel}
 use Rattle.core_alloc.specs.declared.fault.PlaceFault.{PlaceFault}
 use Rattle.core_alloc.specs.declared.fault.PlaceFault.TheVariants as fault
-use Rattle.command_words.specs.Requests.{PlainPlacing}
+use Rattle.command_words.specs.Requests.{PlainPlacing, PlainRunning}
 use Rattle.thread_places.specs.Placed.{refusal_of}
-use Rattle.forec_engine.specs.Report.{Report}
-use Rattle.forec_engine.specs.declared.status.Status.TheVariants as status
+use Rattle.trace_runs.specs.Report.{Report}
+use Rattle.trace_runs.specs.Workload.{ticked_report}
+use Rattle.trace_runs.specs.declared.status.Status.TheVariants as status
 
 -- `place shape A`, `place count F` or `place core A`; want of memory refuses no list
 abbrev pub place_line : PlaceFault → List ℕ
@@ -26,6 +27,10 @@ misplacing k placing = refusal_of (length k.threads) placing
 abbrev pub unless_misplaced : Option PlaceFault → Report → Report
 unless_misplaced None r = r
 unless_misplaced (Some why) r = misplaced why
+
+-- the report of a workload of so many threads, whose kernel this is
+abbrev pub workload_report : ℕ → PlainRunning → PlainKernel → Report
+workload_report threads running k = unless_misplaced (misplacing k running.placing) (ticked_report threads k running.budget)
 
 -- the list of places is refused for a kernel
 abbrev pub IsMisplaced : PlainKernel → PlainPlacing → Type 0

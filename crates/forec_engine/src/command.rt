@@ -4,22 +4,22 @@ ghost use Rattle.forec_base.specs.Outside.{Fell, Rose};
 ghost use Rattle.command_words.specs.Requests.{PlainCommand, PlainRunning, OnText, plain_running, plain_command, plain_request, request_of};
 ghost use Rattle.command_words.specs.declared.fault.WordsFault.TheVariants as words_fault;
 ghost use Rattle.workload.specs.Text.{text_of};
-ghost use Rattle.forec_engine.specs.Calls.{AppendsFront};
+ghost use Rattle.trace_runs.specs.Calls.{AppendsFront};
 ghost use Rattle.forec_engine.specs.Commands.{usage, IsReport, TextReport, AcceptedReport, WorkloadReport, TellsTrace, Tells, IsInRange, IsRunnable, HasRanges};
-ghost use Rattle.forec_engine.specs.Ends.{IsOwn, Given, WantedByText, WantedByWords, ReadForText, ReadForWords, CommandIsMisplaced, AcceptedSo, IsMisuse, Rewrites, AskForRewriting, running_in};
+ghost use Rattle.trace_runs.specs.Ends.{IsOwn, Given};
+ghost use Rattle.forec_engine.specs.Ends.{WantedByText, WantedByWords, ReadForText, ReadForWords, CommandIsMisplaced, AcceptedSo, IsMisuse, Rewrites, AskForRewriting, running_in};
 ghost use Rattle.text_verdict.specs.Judging.{Judged, Says};
 ghost use Rattle.forec_engine.specs.Placing.{IsMisplaced};
-ghost use Rattle.forec_engine.specs.Report.{Report};
+ghost use Rattle.trace_runs.specs.Report.{Report};
 
 use crate::answering::{answer, answer_workload, refuse};
-use crate::sink::say;
-use crate::status::Status;
 use command_words::{Command, Request, Running, WordsFault, read_words};
 use forec_base::{Gate, MAX_TEXT_BYTES, Sink, Source, TextFault, Texts};
 use std::alloc::Global;
 use std::sync::Wait;
 use std::thread::Threads;
 use text_verdict::{Accepted, JudgeFault, Refusal, judge};
+use trace_runs::{Setting, Status, say};
 use workload::workload_text;
 
 const USAGE: &[u8] =
@@ -36,13 +36,11 @@ fn read_request<'a>(alloc: Global, words: &'a [String]) -> Result<Request<'a>, W
 
 // Does what a command asks of a text.
 fn run_text<S: Source, K: Sink, G: Gate + Sync, R: Threads + Wait + Sync>(
-    rt: &R,
-    alloc: Global,
+    setting: &Setting<'_, G, R>,
     command: Command<'_>,
     text: &[u8],
     trace: &mut S,
     out: &mut K,
-    gate: &G,
 ) -> Status
     requires short { length text.now ≤ MAX_TEXT_BYTES }
     requires ranges { IsInRange (plain_command command) }
@@ -64,8 +62,9 @@ fn run_text<S: Source, K: Sink, G: Gate + Sync, R: Threads + Wait + Sync>(
         × AppendsFront (K.held out.old) (K.held out.new) r.bytes)) }
     ensures usage { result ≡ Status.Usage → AcceptedSo (CommandIsMisplaced (plain_command command.entry)) text.now }
 {
+    let alloc = setting.alloc;
     match judge(alloc, text) {
-        Ok(accepted) => answer(rt, alloc, command, &accepted, trace, out, gate),
+        Ok(accepted) => answer(setting, command, &accepted, trace, out),
         Err(JudgeFault::Refused { why }) => refuse(alloc, why, out),
         Err(JudgeFault::OutOfMemory) => Status::NoMemory,
     }
@@ -73,14 +72,12 @@ fn run_text<S: Source, K: Sink, G: Gate + Sync, R: Threads + Wait + Sync>(
 
 // Does what a command asks of the text of a name.
 fn run_named<T: Texts, S: Source, K: Sink, G: Gate + Sync, R: Threads + Wait + Sync>(
-    rt: &R,
-    alloc: Global,
+    setting: &Setting<'_, G, R>,
     name: &str,
     command: Command<'_>,
     texts: &mut T,
     trace: &mut S,
     out: &mut K,
-    gate: &G,
 ) -> Status
     requires may { T.may texts.old name.now }
     requires ranges { IsInRange (plain_command command) }
@@ -103,8 +100,9 @@ fn run_named<T: Texts, S: Source, K: Sink, G: Gate + Sync, R: Threads + Wait + S
         × AppendsFront (K.held out.old) (K.held out.new) r.bytes)) }
     ensures usage { result ≡ Status.Usage → IfSome (T.content texts.old name.now) (AcceptedSo (CommandIsMisplaced (plain_command command.entry))) }
 {
+    let alloc = setting.alloc;
     match texts.read(alloc, name, MAX_TEXT_BYTES) {
-        Ok(text) => run_text(rt, alloc, command, &text, trace, out, gate),
+        Ok(text) => run_text(setting, command, &text, trace, out),
         Err(TextFault::Failed) => Status::ReadFault,
         Err(TextFault::OutOfMemory) => Status::NoMemory,
         Err(TextFault::Long) => refuse(alloc, Refusal::Long, out),
@@ -123,12 +121,10 @@ fn judge_any(alloc: Global, text: &[u8]) -> Result<Accepted, JudgeFault>
 
 // Runs the workload of so many threads.
 fn run_workload_text<K: Sink, G: Gate + Sync, R: Threads + Wait + Sync>(
-    rt: &R,
-    alloc: Global,
+    setting: &Setting<'_, G, R>,
     threads: u32,
     running: Running<'_>,
     out: &mut K,
-    gate: &G,
 ) -> Status
     requires few { threads ≤ 255 }
     requires ranges { IsRunnable (plain_running running) }
@@ -140,68 +136,14 @@ fn run_workload_text<K: Sink, G: Gate + Sync, R: Threads + Wait + Sync>(
     ensures memory { result ≡ Status.NoMemory → K.held out.new ≡ K.held out.old }
     ensures usage { result ≡ Status.Usage → AcceptedSo (λ k. IsMisplaced k (plain_running running.entry).placing) (text_of threads) }
 {
+    let alloc = setting.alloc;
     let Ok(text) = workload_text(alloc, threads) else {
         return Status::NoMemory;
     };
     match judge_any(alloc, &text) {
-        Ok(accepted) => answer_workload(rt, alloc, threads, running, &accepted.kernel, out, gate),
+        Ok(accepted) => answer_workload(setting, threads, running, &accepted.kernel, out),
         Err(JudgeFault::Refused { why }) => refuse(alloc, why, out),
         Err(JudgeFault::OutOfMemory) => Status::NoMemory,
-    }
-}
-
-// Runs a command.
-fn run_command<T: Texts, S: Source, K: Sink, G: Gate + Sync, R: Threads + Wait + Sync>(
-    rt: &R,
-    alloc: Global,
-    words: &[String],
-    texts: &mut T,
-    trace: &mut S,
-    out: &mut K,
-    gate: &G,
-) -> Status
-    // The text that the words name may be asked for.
-    requires may { (name : List ℕ) (command : PlainCommand) → request_of (map string_bytes words.now) ≡ Some (OnText name command) → T.may texts.old name }
-
-    // Where the text and the trace are told, what is printed is a report of the words, and the status is the report's.
-    ensures own { IsOwn result → Tells (map string_bytes words.now) (T.content texts.old) (S.left trace.old) → (r : Report)
-        × IsReport (map string_bytes words.now) (T.content texts.old) (S.left trace.old) r
-        × Given r result (K.held out.old) (K.held out.new) }
-
-    // A store or a trace that was wanted failed. What was printed is what the rows that had come whole print.
-    ensures read { result ≡ Status.ReadFault →
-        (Fell (T.faults texts.old) (T.faults texts.new) (T.down texts.new) × (K.held out.new ≡ K.held out.old))
-        ⊎ (Fell (S.faults trace.old) (S.faults trace.new) (S.down trace.new)
-        × WantedByWords (map string_bytes words.now) (T.content texts.old) (S.left trace.old) (S.left trace.new) (K.held out.old) (K.held out.new)) }
-
-    // The sink failed. What was printed is a front of a report of the words.
-    ensures write { result ≡ Status.WriteFault → Fell (K.faults out.old) (K.faults out.new) (K.down out.new)
-        × (Tells (map string_bytes words.now) (T.content texts.old) (S.left trace.old) → (r : Report)
-        × IsReport (map string_bytes words.now) (T.content texts.old) (S.left trace.old) r
-        × AppendsFront (K.held out.old) (K.held out.new) r.bytes) }
-
-    // The trace is read by `run` and `explain` alone, for a text that is accepted, whose list of places isn't refused, and no read is
-    // asked for once a line that stops the program has come whole.
-    ensures trace { (trace.new ≡ trace.old) ⊎ ReadForWords S.left S.faults S.down (map string_bytes words.now) (T.content texts.old) trace.old trace.new }
-
-    // Where memory was wanting, nothing was printed. Of a program that is rewritten a front of a report may be.
-    ensures memory { result ≡ Status.NoMemory → (K.held out.new ≡ K.held out.old)
-        ⊎ (AskForRewriting (map string_bytes words.now) × (Tells (map string_bytes words.now) (T.content texts.old) (S.left trace.old) → (r : Report)
-        × IsReport (map string_bytes words.now) (T.content texts.old) (S.left trace.old) r
-        × AppendsFront (K.held out.old) (K.held out.new) r.bytes)) }
-
-    // This status comes only where the words ask for nothing, or the list of places is refused.
-    ensures usage { result ≡ Status.Usage → IsMisuse (map string_bytes words.now) (T.content texts.old) }
-{
-    match read_request(alloc, words) {
-        Ok(Request::Text { program, command }) => {
-            run_named(rt, alloc, program, command, texts, trace, out, gate)
-        }
-        Ok(Request::Workload { threads, running }) => {
-            run_workload_text(rt, alloc, threads, running, out, gate)
-        }
-        Err(WordsFault::Usage) => say(out, USAGE, Status::Usage),
-        Err(WordsFault::OutOfMemory) => Status::NoMemory,
     }
 }
 
@@ -262,5 +204,15 @@ pub fn forec<T: Texts, S: Source, K: Sink, G: Gate + Sync, R: Threads + Wait + S
     ensures complete { (Rose (T.faults texts.old) (T.faults texts.new) → ⊥) → (Rose (S.faults trace.old) (S.faults trace.new) → ⊥)
         → (Rose (K.faults out.old) (K.faults out.new) → ⊥) → IsOwn result ⊎ (result ≡ Status.NoMemory) }
 {
-    run_command(rt, alloc, words, texts, trace, out, gate)
+    let setting = Setting { rt, alloc, gate };
+    match read_request(alloc, words) {
+        Ok(Request::Text { program, command }) => {
+            run_named(&setting, program, command, texts, trace, out)
+        }
+        Ok(Request::Workload { threads, running }) => {
+            run_workload_text(&setting, threads, running, out)
+        }
+        Err(WordsFault::Usage) => say(out, USAGE, Status::Usage),
+        Err(WordsFault::OutOfMemory) => Status::NoMemory,
+    }
 }

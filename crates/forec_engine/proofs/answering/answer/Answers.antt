@@ -1,8 +1,9 @@
 use Rattle.std.proofs.Common.{inl, inr, ap, refl}
 use Rattle.forec_kernel.specs.Shapes.{plain_kernel}
 use Rattle.command_words.specs.Requests.{plain_placing, plain_running, plain_command}
-use Rattle.forec_engine.specs.Calls.{AppendsFront}
-use Rattle.forec_engine.specs.Ends.{Given, running_in}
+use Rattle.trace_runs.specs.Calls.{AppendsFront}
+use Rattle.trace_runs.specs.Ends.{Given}
+use Rattle.forec_engine.specs.Ends.{running_in}
 use Rattle.forec_engine.proofs.Answered.{run_answers, explain_answers, check_answers, threads_answers, code_answers, run_misplaced, threads_misplaced}
 use Rattle.forec_engine.proofs.answering.answer.Goals as goal
 
@@ -105,19 +106,19 @@ pub returns-in-Explain-clause-own : goal.returns-in-Explain-clause-own
 returns-in-Explain-clause-own g c = λ own told.
     let a = c.args.accepted.now in
     explain_answers (plain_command c.args.command) c.in-Explain.budget c.in-Explain.order a.counts (plain_kernel a.kernel) (g.S.Source.left c.args.trace.now)
-    (λ r. Given r c.explain.result (g.K.Sink.held c.args.out.now) (g.K.Sink.held c.explain.new.out)) (ap plain_command c.in-Explain.is) (c.explain.ensures.own own) told
+    (λ r. Given r c.rewrite_trace.result (g.K.Sink.held c.args.out.now) (g.K.Sink.held c.rewrite_trace.new.out)) (ap plain_command c.in-Explain.is) (c.rewrite_trace.ensures.own own) told
 
 pub returns-in-Explain-clause-read : goal.returns-in-Explain-clause-read
-returns-in-Explain-clause-read g c = λ is. let r = c.explain.ensures.read is in (_, ap (λ x. running_in (plain_command x)) c.in-Explain.is, r.0, refl, r.1)
+returns-in-Explain-clause-read g c = λ is. let r = c.rewrite_trace.ensures.read is in (_, ap (λ x. running_in (plain_command x)) c.in-Explain.is, r.0, refl, r.1)
 
 pub returns-in-Explain-clause-write : goal.returns-in-Explain-clause-write
 returns-in-Explain-clause-write g c = λ is.
     let a = c.args.accepted.now in
-    let w = c.explain.ensures.write is in (
+    let w = c.rewrite_trace.ensures.write is in (
       w.0,
       λ told.
           explain_answers (plain_command c.args.command) c.in-Explain.budget c.in-Explain.order a.counts (plain_kernel a.kernel) (g.S.Source.left c.args.trace.now)
-          (λ r. AppendsFront (g.K.Sink.held c.args.out.now) (g.K.Sink.held c.explain.new.out) r.bytes) (ap plain_command c.in-Explain.is) w.1 told,
+          (λ r. AppendsFront (g.K.Sink.held c.args.out.now) (g.K.Sink.held c.rewrite_trace.new.out) r.bytes) (ap plain_command c.in-Explain.is) w.1 told,
     )
 
 pub returns-in-Explain-clause-memory : goal.returns-in-Explain-clause-memory
@@ -127,8 +128,8 @@ returns-in-Explain-clause-memory g c = λ is.
       (c.in-Explain.budget, c.in-Explain.order, ap plain_command c.in-Explain.is),
       λ told.
           explain_answers (plain_command c.args.command) c.in-Explain.budget c.in-Explain.order a.counts (plain_kernel a.kernel) (g.S.Source.left c.args.trace.now)
-          (λ r. AppendsFront (g.K.Sink.held c.args.out.now) (g.K.Sink.held c.explain.new.out) r.bytes) (ap plain_command c.in-Explain.is) (c.explain.ensures.memory is) told,
+          (λ r. AppendsFront (g.K.Sink.held c.args.out.now) (g.K.Sink.held c.rewrite_trace.new.out) r.bytes) (ap plain_command c.in-Explain.is) (c.rewrite_trace.ensures.memory is) told,
     )
 
 pub returns-in-Explain-clause-trace : goal.returns-in-Explain-clause-trace
-returns-in-Explain-clause-trace g c = inr (_, ap (λ x. running_in (plain_command x)) c.in-Explain.is, refl, c.explain.ensures.trace)
+returns-in-Explain-clause-trace g c = inr (_, ap (λ x. running_in (plain_command x)) c.in-Explain.is, refl, c.rewrite_trace.ensures.trace)

@@ -1,21 +1,21 @@
 use Rattle.forec_kernel.specs.Shapes.{plain_kernel}
 use Rattle.command_words.specs.Requests.{plain_running}
-use Rattle.forec_engine.specs.Calls.{AppendsFront}
-use Rattle.forec_engine.specs.Ends.{Given}
+use Rattle.trace_runs.specs.Calls.{AppendsFront}
+use Rattle.trace_runs.specs.Ends.{Given}
 use Rattle.forec_engine.specs.Placing.{misplacing}
 use Rattle.forec_engine.proofs.Placed.{refused_by, workload_placed, workload_misplaced}
 use Rattle.forec_engine.proofs.answering.answer_workload.Goals as goal
 
 pub returns-in-Ok-clause-own : goal.returns-in-Ok-clause-own
 returns-in-Ok-clause-own g c = λ own.
-    workload_placed c.args.threads (plain_kernel c.args.kernel.now) (plain_running c.args.running) (λ r. Given r c.tick_workload.result (g.K.Sink.held c.args.out.now) (g.K.Sink.held c.tick_workload.new.out))
-    c.in-Ok.ensures.taken (c.tick_workload.ensures.own own)
+    workload_placed c.args.threads (plain_kernel c.args.kernel.now) (plain_running c.args.running) (λ r. Given r c.host_workload.result (g.K.Sink.held c.args.out.now) (g.K.Sink.held c.host_workload.new.out))
+    c.in-Ok.ensures.taken (c.host_workload.ensures.own own)
 
 pub returns-in-Ok-clause-write : goal.returns-in-Ok-clause-write
 returns-in-Ok-clause-write g c = λ is.
-    let w = c.tick_workload.ensures.write is in (
+    let w = c.host_workload.ensures.write is in (
       w.0,
-      workload_placed c.args.threads (plain_kernel c.args.kernel.now) (plain_running c.args.running) (λ r. AppendsFront (g.K.Sink.held c.args.out.now) (g.K.Sink.held c.tick_workload.new.out) r.bytes)
+      workload_placed c.args.threads (plain_kernel c.args.kernel.now) (plain_running c.args.running) (λ r. AppendsFront (g.K.Sink.held c.args.out.now) (g.K.Sink.held c.host_workload.new.out) r.bytes)
           c.in-Ok.ensures.taken w.1,
     )
 

@@ -1,11 +1,12 @@
 use Rattle.std.proofs.Common.{◌≡◌, List, ℕ, inl, inr, subst, ◌∙◌}
 use Rattle.command_words.specs.Requests.{PlainRunning, plain_command}
-use Rattle.forec_engine.specs.Calls.{AppendsFront}
+use Rattle.trace_runs.specs.Calls.{AppendsFront}
 use Rattle.forec_engine.specs.Commands.{TextReport, AcceptedReport, TellsTrace}
-use Rattle.forec_engine.specs.Ends.{Given, WantedByText, ReadForText, CommandIsMisplaced, AcceptedSo}
-use Rattle.forec_engine.specs.Report.{Report}
+use Rattle.trace_runs.specs.Ends.{Given}
+use Rattle.forec_engine.specs.Ends.{WantedByText, ReadForText, CommandIsMisplaced, AcceptedSo}
+use Rattle.trace_runs.specs.Report.{Report}
 use Rattle.forec_engine.proofs.Named.{told_text, told_long}
-use Rattle.forec_engine.proofs.Told.{some_map}
+use Rattle.trace_runs.proofs.Told.{some_map}
 use Rattle.forec_engine.proofs.command.run_named.Goals as goal
 
 pub returns-in-Ok-clause-own : goal.returns-in-Ok-clause-own

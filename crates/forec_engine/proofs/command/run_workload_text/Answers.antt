@@ -3,7 +3,7 @@ use Rattle.forec_kernel.specs.Shapes.{plain_kernel}
 use Rattle.command_words.specs.Requests.{plain_running}
 use Rattle.forec_engine.specs.Commands.{Of_refusal, Of_accepted, refused}
 use Rattle.text_verdict.specs.Judging.{Accepts, Refuses, Judged}
-use Rattle.forec_engine.specs.Workload.{workload_report}
+use Rattle.forec_engine.specs.Placing.{workload_report}
 use Rattle.forec_engine.proofs.command.run_workload_text.Goals as goal
 
 pub returns-in-Ok-judge_any-clause-own : goal.returns-in-Ok-judge_any-clause-own

@@ -1,9 +1,0 @@
-use Rattle.std.proofs.Common.{[]}
-use Rattle.trace_rows.specs.Reads.{none}
-use Rattle.forec_engine.proofs.answering.explain.Goals as goal
-
-pub returns-in_default-clause-trace : goal.returns-in_default-clause-trace
-returns-in_default-clause-trace g c = ([], none)
-
-pub returns-in_default-new-clause-trace : goal.returns-in_default-new-clause-trace
-returns-in_default-new-clause-trace g c = ([], none)

@@ -1,0 +1,112 @@
+-- The report of a trace, line by line.
+use Rattle.std.proofs.Common.{◌≡◌, ℕ, ◌+◌, Bool, true, false, cond, List, [], ◌∷◌, ◌++◌, Option, Some, None, Result, Ok, Err, refl, sym, ap, subst, ◌∙◌, append_assoc, append-nil}
+use Rattle.std.specs.Option.{option_map}
+use Rattle.forec_kernel.specs.declared.shape.Outcome.{Outcome}
+use Rattle.forec_kernel.specs.declared.shape.Outcome.TheVariants as outcome
+use Rattle.forec_kernel.specs.Shapes.{PlainKernel}
+use Rattle.forec_kernel.specs.Ticks.{State, Tick, tick, goes_on, run_from}
+use Rattle.trace_rows.specs.Trace.{Row, Trace, onto, row_at}
+use Rattle.trace_rows.specs.declared.fault.RowFault.{RowFault}
+use Rattle.trace_runs.specs.Report.{Report, Pace, most_rows, tick_lines, lines_from, last_outcome, ending, behind_bytes, report_from, with_row, printed_before, advance}
+
+-- a row at which the program goes on
+pub record GoesOn (k : PlainKernel) (budget : ℕ) (places : List ℕ) (s : State) (n : ℕ) (line : List ℕ) (row : Row) : Type 0 where
+  pub row_is : row_at most_rows places n line ≡ Ok row
+  pub on : goes_on (tick k budget s row).outcome ≡ true
+
+pub paused : (o : Outcome) → goes_on o ≡ true → o ≡ outcome.Paused
+paused outcome.Paused h = refl
+paused outcome.Ended h = absurd cc
+paused (outcome.Trapped place trap) h = absurd cc
+paused outcome.Over h = absurd cc
+
+last_on : (t : Tick) (ts : List Tick) → goes_on t.outcome ≡ true → last_outcome (t ∷ ts) ≡ last_outcome ts
+last_on t [] h = paused t.outcome h
+last_on t (u ∷ us) h = refl
+
+pub run_on : (k : PlainKernel) (budget : ℕ) (s : State) (row : Row) (rows : List Row) → goes_on (tick k budget s row).outcome ≡ true →
+    run_from k budget s (row ∷ rows) ≡ tick k budget s row ∷ run_from k budget (tick k budget s row).state rows
+run_on k budget s row rows h =
+    let t = tick k budget s row in
+    ap (λ (b : Bool). elim b [ true ↦ t ∷ run_from k budget t.state rows | false ↦ t ∷ [] ]) h
+
+pub run_stops : (k : PlainKernel) (budget : ℕ) (s : State) (row : Row) (rows : List Row) → goes_on (tick k budget s row).outcome ≡ false →
+    run_from k budget s (row ∷ rows) ≡ tick k budget s row ∷ []
+run_stops k budget s row rows h =
+    let t = tick k budget s row in
+    ap (λ (b : Bool). elim b [ true ↦ t ∷ run_from k budget t.state rows | false ↦ t ∷ [] ]) h
+
+ticks_on : (k : PlainKernel) (budget n : ℕ) (t : Tick) (ts : List Tick) (trace : Trace) → goes_on t.outcome ≡ true →
+    behind_bytes (lines_from k budget n (t ∷ ts)) (ending (last_outcome (t ∷ ts)) trace.end)
+    ≡ behind_bytes (tick_lines k budget n t) (behind_bytes (lines_from k budget (n + 1) ts) (ending (last_outcome ts) trace.end))
+ticks_on k budget n t ts trace h =
+    let e = ending (last_outcome ts) trace.end in
+    ap (λ (o : Outcome). behind_bytes (tick_lines k budget n t ++ lines_from k budget (n + 1) ts) (ending o trace.end)) (last_on t ts h)
+    ∙ ap (λ (bs : List ℕ). record { bytes = bs; status = e.status }) (append_assoc (tick_lines k budget n t) (lines_from k budget (n + 1) ts) e.bytes)
+
+-- one tick more, of a row and those behind it
+pub report_step : (k : PlainKernel) (budget : ℕ) (s : State) (n m : ℕ) (row : Row) (rest : Trace) → goes_on (tick k budget s row).outcome ≡ true →
+    report_from k budget s n (onto (Ok row) m rest) ≡ (let t = tick k budget s row in behind_bytes (tick_lines k budget n t) (report_from k budget t.state (n + 1) rest))
+report_step k budget s n m row rest h =
+    let t = tick k budget s row in
+    ap (λ ts. behind_bytes (lines_from k budget n ts) (ending (last_outcome ts) rest.end)) (run_on k budget s row rest.rows h)
+    ∙ ticks_on k budget n t (run_from k budget t.state rest.rows) rest h
+
+pub advance_step : (k : PlainKernel) (budget : ℕ) (places : List ℕ) (s : State) (n : ℕ) (line : List ℕ) (lines : List (List ℕ)) (row : Row) → GoesOn k budget places s n line row →
+    advance k budget places s n (line ∷ lines)
+    ≡ (let t = tick k budget s row in option_map (printed_before (tick_lines k budget n t)) (advance k budget places t.state (n + 1) lines))
+advance_step k budget places s n line lines row h = rw (h.row_is, h.on) refl
+
+-- what an advance over a line and those after it says
+pub record Went (k : PlainKernel) (budget : ℕ) (places : List ℕ) (s : State) (n : ℕ) (line : List ℕ) (lines : List (List ℕ)) (p : Pace) : Type 0 where
+  pub row : Row
+  pub goes : GoesOn k budget places s n line row
+  pub rest : Pace
+  pub rest_is : advance k budget places (tick k budget s row).state (n + 1) lines ≡ Some rest
+  pub whole : p ≡ printed_before (tick_lines k budget n (tick k budget s row)) rest
+
+some_of : {A B : Type 0} (f : A → B) (o : Option A) (y : B) → option_map f o ≡ Some y → (x : A) × (o ≡ Some x) × (y ≡ f x)
+some_of f None y e = absurd cc
+some_of f (Some x) y e = (x, refl, cc)
+
+with_row_some : (r : Result Row RowFault) (f : Row → Option Pace) (y : Pace) → with_row r f ≡ Some y → (row : Row) × (r ≡ Ok row) × (f row ≡ Some y)
+with_row_some (Ok row) f y e = (row, refl, e)
+with_row_some (Err x) f y e = absurd cc
+
+cond_some : {A : Type 0} (b : Bool) (o : Option A) (y : A) → cond b o None ≡ Some y → (b ≡ true) × (o ≡ Some y)
+cond_some true o y e = (refl, e)
+cond_some false o y e = absurd cc
+
+pub went_of : (k : PlainKernel) (budget : ℕ) (places : List ℕ) (s : State) (n : ℕ) (line : List ℕ) (lines : List (List ℕ)) (p : Pace) → advance k budget places s n (line ∷ lines) ≡ Some p → Went k budget places s n line lines p
+went_of k budget places s n line lines p e =
+    let r = with_row_some (row_at most_rows places n line) _ p e in
+    let c = cond_some _ _ p r.2 in
+    let m = some_of _ _ p c.1 in
+    record { row = r.0; goes = record { row_is = r.1; on = c.0 }; rest = m.0; rest_is = m.1; whole = m.2 }
+
+pub behind_twice : (a b : List ℕ) (r : Report) → behind_bytes a (behind_bytes b r) ≡ behind_bytes (a ++ b) r
+behind_twice a b r = ap (λ (bs : List ℕ). record { bytes = bs; status = r.status }) (sym (append_assoc a b r.bytes))
+
+-- where the program stands after one more line
+abbrev pub pace_after : PlainKernel → ℕ → Pace → Row → Pace
+pace_after k budget p row =
+    let t = tick k budget p.state row in record { state = t.state; next = p.next + 1; bytes = p.bytes ++ tick_lines k budget p.next t }
+
+printed_twice : (k : PlainKernel) (budget : ℕ) (a : List ℕ) (p : Pace) (row : Row) → Some (printed_before a (pace_after k budget p row)) ≡ Some (pace_after k budget (printed_before a p) row)
+printed_twice k budget a p row =
+    let t = tick k budget p.state row in
+    ap (λ (bs : List ℕ). Some (record { state = t.state; next = p.next + 1; bytes = bs })) (sym (append_assoc a p.bytes (tick_lines k budget p.next t)))
+
+pub advance_more : (k : PlainKernel) (budget : ℕ) (places : List ℕ) (s : State) (n : ℕ) (lines : List (List ℕ)) (p : Pace) (line : List ℕ) (row : Row) → advance k budget places s n lines ≡ Some p →
+    GoesOn k budget places p.state p.next line row → advance k budget places s n (lines ++ line ∷ []) ≡ Some (pace_after k budget p row)
+advance_more k budget places s n [] p line row e h =
+    let same : record { state = s; next = n; bytes = [] } ≡ p = cc in
+    subst (λ (q : Pace). GoesOn k budget places q.state q.next line row → advance k budget places s n (line ∷ []) ≡ Some (pace_after k budget q row)) same
+    (λ g. advance_step k budget places s n line [] row g ∙ rw append-nil refl) h
+advance_more k budget places s n (first ∷ lines) p line row e h =
+    let w = went_of k budget places s n first lines p e in
+    let t = tick k budget s w.row in
+    subst (λ (q : Pace). GoesOn k budget places q.state q.next line row → advance k budget places s n (first ∷ (lines ++ line ∷ [])) ≡ Some (pace_after k budget q row)) (sym w.whole)
+    (λ g. advance_step k budget places s n first (lines ++ line ∷ []) w.row w.goes
+    ∙ ap (option_map (printed_before (tick_lines k budget n t))) (advance_more k budget places t.state (n + 1) lines w.rest line row w.rest_is g)
+    ∙ printed_twice k budget (tick_lines k budget n t) w.rest row) h

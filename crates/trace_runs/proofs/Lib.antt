@@ -1,0 +1,16 @@
+mod Advancing
+mod Asking
+pub mod Endings
+mod Fine
+mod Following
+mod Heading
+mod Numbered
+mod Picking
+mod Ranges
+mod Running
+mod Splitting
+mod TickLines
+mod Ticking
+pub mod Told
+mod Unrun
+mod WorkedLines

@@ -1,0 +1,158 @@
+-- The ticks of a workload, one by one.
+use Rattle.std.proofs.Common.{◌≡◌, ◌≢◌, ℕ, suc, ◌+◌, ◌-◌, ◌%◌, ◌^◌, ◌<◌, ◌≤◌, ℤ, true, false, Option, List, [], ◌∷◌, ◌++◌, length, get_or, replicate, drop, refl, sym, ap, subst, ◌∙◌, arith, append_assoc, append-nil, length-append}
+use Rattle.std.specs.Int.{cast_unsigned, w32}
+use Rattle.std.specs.List.{sum_by}
+use Rattle.std.proofs.Math.Nat.{mod-add-mod}
+use Rattle.std.proofs.lemmas.List.{drop_more}
+use Rattle.std.proofs.lemmas.List.Sums.{sum_by-cons, sum_by-append}
+use Rattle.forec_kernel.specs.declared.shape.Outcome.{Outcome}
+use Rattle.forec_kernel.specs.declared.shape.Outcome.TheVariants as outcome
+use Rattle.forec_kernel.specs.Shapes.{PlainKernel}
+use Rattle.forec_kernel.specs.Ticks.{State, Fresh, Tick, tick, goes_on, run_from}
+use Rattle.std.specs.Io.KnownBytes.{Appends}
+use Rattle.trace_runs.specs.Calls.{AppendsFront}
+use Rattle.trace_runs.specs.Ends.{IsOwn, Given}
+use Rattle.trace_runs.specs.declared.status.Status.{Status}
+use Rattle.trace_runs.specs.declared.status.Status.TheVariants as status
+use Rattle.trace_runs.proofs.Endings.{own_not}
+use Rattle.trace_runs.specs.Report.{Report, last_outcome}
+use Rattle.trace_runs.specs.Workload.{zero_row, workload_ticks, values_sum, outputs_sum, ticks_report, ticked_report}
+use Rattle.trace_runs.proofs.Advancing.{run_on, run_stops}
+use Rattle.trace_runs.specs.WaitingRoom.{Gains}
+use Rattle.trace_runs.specs.declared.waiting.Waiting.{Waiting}
+use Rattle.trace_runs.specs.declared.generated.TheConstants.{WORKLOAD_TICKS}
+
+-- ---- sums
+
+-- a value more, of those from i on
+pub sum_more : (start sum i : ℕ) (values : List ℤ) (value : ℤ) → i < length values → value ≡ get_or values i value →
+    (sum + values_sum (drop i values)) % 2 ^ 32 ≡ start → ((sum + cast_unsigned w32 value) % 2 ^ 32 + values_sum (drop (i + 1) values)) % 2 ^ 32 ≡ start
+sum_more start sum i values value low is e =
+    let rest = values_sum (drop (i + 1) values) in
+    let more : values_sum (drop i values) ≡ cast_unsigned w32 value + rest =
+    ap values_sum (drop_more values i value low) ∙ sum_by-cons (cast_unsigned w32) (get_or values i value) (drop (i + 1) values) ∙ ap (λ v. cast_unsigned w32 v + rest) (sym is) in
+    let whole : sum + cast_unsigned w32 value + rest ≡ sum + values_sum (drop i values) = omega (arith, more) in
+    mod-add-mod (sum + cast_unsigned w32 value) (2 ^ 32) rest ∙ ap (λ n. n % 2 ^ 32) whole ∙ e
+
+abbrev tick_sum : Tick → ℕ
+tick_sum t = values_sum t.outputs
+
+sum_of_one : (t : Tick) → sum_by tick_sum (t ∷ []) ≡ tick_sum t
+sum_of_one t = omega (arith, sum_by-cons tick_sum t [])
+
+outputs_more : (done : List Tick) (t : Tick) → outputs_sum (done ++ t ∷ []) ≡ (outputs_sum done + values_sum t.outputs) % 2 ^ 32
+outputs_more done t =
+    let both : sum_by tick_sum (done ++ t ∷ []) ≡ sum_by tick_sum done + tick_sum t = sum_by-append tick_sum done (t ∷ []) ∙ ap (λ n. sum_by tick_sum done + n) (sum_of_one t) in
+    ap (λ n. n % 2 ^ 32) both ∙ sym (mod-add-mod (sum_by tick_sum done) (2 ^ 32) (tick_sum t))
+
+-- ---- the last tick
+
+last_of : (done : List Tick) (t : Tick) → last_outcome (done ++ t ∷ []) ≡ t.outcome
+last_of [] t = refl
+last_of (d ∷ []) t = refl
+last_of (d ∷ e ∷ ds) t = last_of (e ∷ ds) t
+
+report_is : (threads : ℕ) (k : PlainKernel) (budget : ℕ) (ticks : List Tick) (o : Outcome) → workload_ticks k budget ≡ ticks → last_outcome ticks ≡ o →
+    ticked_report threads k budget ≡ ticks_report threads budget ticks o
+unfolding ticked_report
+report_is threads k budget ticks o e f = ap (λ ts. ticks_report threads budget ts (last_outcome ts)) e ∙ ap (ticks_report threads budget ticks) f
+
+-- ---- ticks that have all paused
+
+pub record Gone (k : PlainKernel) (budget : ℕ) (Follows : State → Type 0) (count sum : ℕ) : Type 0 where
+  pub state : State
+  pub follows : Follows state
+  pub done : List Tick
+  pub counted : length done ≡ count
+  pub summed : sum ≡ outputs_sum done
+  pub paused : last_outcome done ≡ outcome.Paused
+  pub whole : workload_ticks k budget ≡ done ++ run_from k budget state (replicate (WORKLOAD_TICKS - count) (zero_row k))
+
+pub gone_none : (k : PlainKernel) (budget : ℕ) (F : State → Type 0) → F Fresh → Gone k budget F 0 0
+gone_none k budget F f = record { state = Fresh; follows = f; done = []; counted = refl; summed = refl; paused = refl; whole = refl }
+
+module _ (k : PlainKernel) (budget : ℕ) (F : State → Type 0) (count sum : ℕ) (g : Gone k budget F count sum) where
+  abbrev next : Tick
+  next = tick k budget g.state (zero_row k)
+
+  rows_left : count < WORKLOAD_TICKS → replicate (WORKLOAD_TICKS - count) (zero_row k) ≡ zero_row k ∷ replicate (WORKLOAD_TICKS - (count + 1)) (zero_row k)
+  rows_left low =
+      let one : WORKLOAD_TICKS - count ≡ suc (WORKLOAD_TICKS - (count + 1)) = omega (arith, low) in
+      ap (λ n. replicate n (zero_row k)) one
+
+  pub gone_more : (F' : State → Type 0) (values : List ℤ) (total : ℕ) → count < WORKLOAD_TICKS → next.outcome ≡ outcome.Paused → values ≡ next.outputs → total ≡ (sum + values_sum values) % 2 ^ 32 → F' next.state →
+      Gone k budget F' (count + 1) total
+  gone_more F' values total low how are is f =
+      let on : goes_on next.outcome ≡ true = ap goes_on how in
+      let rest = replicate (WORKLOAD_TICKS - (count + 1)) (zero_row k) in
+      record {
+        state = next.state;
+        follows = f;
+        done = g.done ++ next ∷ [];
+        counted = length-append g.done (next ∷ []) ∙ ap (λ n. n + 1) g.counted;
+        summed = is ∙ ap (λ n. (n + values_sum values) % 2 ^ 32) g.summed ∙ ap (λ (vs : List ℤ). (outputs_sum g.done + values_sum vs) % 2 ^ 32) are ∙ sym (outputs_more g.done next);
+        paused = last_of g.done next ∙ how;
+        whole = g.whole ∙ ap (λ rows. g.done ++ run_from k budget g.state rows) (rows_left low) ∙ ap (λ ts. g.done ++ ts) (run_on k budget g.state (zero_row k) rest on)
+            ∙ sym (append_assoc g.done (next ∷ []) (run_from k budget next.state rest));
+      }
+
+  all_ticks : count < WORKLOAD_TICKS → goes_on next.outcome ≡ false → workload_ticks k budget ≡ g.done ++ next ∷ []
+  all_ticks low off =
+      g.whole ∙ ap (λ rows. g.done ++ run_from k budget g.state rows) (rows_left low) ∙ ap (λ ts. g.done ++ ts) (run_stops k budget g.state (zero_row k) (replicate (WORKLOAD_TICKS - (count + 1)) (zero_row k)) off)
+
+  -- the report where a tick doesn't pause
+  pub stopped : (threads : ℕ) (o : Outcome) → count < WORKLOAD_TICKS → o ≡ next.outcome → goes_on o ≡ false →
+      ticked_report threads k budget ≡ ticks_report threads budget (g.done ++ next ∷ []) o
+  stopped threads o low how off =
+      report_is threads k budget (g.done ++ next ∷ []) o (all_ticks low (ap goes_on (sym how) ∙ off)) (last_of g.done next ∙ sym how)
+
+  pub number : length (g.done ++ next ∷ []) ≡ count + 1
+  number = length-append g.done (next ∷ []) ∙ ap (λ n. n + 1) g.counted
+
+  pub total_is : (values : List ℤ) (total : ℕ) → values ≡ next.outputs → total ≡ (sum + values_sum values) % 2 ^ 32 → total ≡ outputs_sum (g.done ++ next ∷ [])
+  total_is values total are is =
+      is ∙ ap (λ n. (n + values_sum values) % 2 ^ 32) g.summed ∙ ap (λ (vs : List ℤ). (outputs_sum g.done + values_sum vs) % 2 ^ 32) are ∙ sym (outputs_more g.done next)
+
+  -- the report where all have paused
+  pub ended : (threads : ℕ) → WORKLOAD_TICKS ≤ count → ticked_report threads k budget ≡ ticks_report threads budget g.done outcome.Paused
+  ended threads all =
+      let none : WORKLOAD_TICKS - count ≡ 0 = omega (arith, all) in
+      report_is threads k budget g.done outcome.Paused
+      (g.whole ∙ ap (λ n. g.done ++ run_from k budget g.state (replicate n (zero_row k))) none ∙ append-nil g.done) g.paused
+
+-- ---- a tick that the runner made, over a row that is 0 for each input
+
+module _ (k now : PlainKernel) (budget : ℕ) (s : State) (row : List ℤ) (is : now ≡ k) (zeros : row ≡ zero_row k) where
+  same_tick : tick now budget s row ≡ tick k budget s (zero_row k)
+  same_tick = ap (λ m. tick m budget s row) is ∙ ap (tick k budget s) zeros
+
+  pub same_outcome : (o x : Outcome) → o ≡ (tick now budget s row).outcome → o ≡ x → x ≡ (tick k budget s (zero_row k)).outcome
+  same_outcome o x e f = sym f ∙ e ∙ ap (λ (t : Tick). t.outcome) same_tick
+
+  pub same_outputs : (values : List ℤ) → values ≡ (tick now budget s row).outputs → values ≡ (tick k budget s (zero_row k)).outputs
+  same_outputs values e = e ∙ ap (λ (t : Tick). t.outputs) same_tick
+
+  pub same_state : (F : State → Type 0) → F (tick now budget s row).state → F (tick k budget s (zero_row k)).state
+  same_state F f = subst (λ (t : Tick). F t.state) same_tick f
+
+-- a line was put, which is the report's
+pub gains_report : (old first new : Waiting) (line : List ℕ) (r s : Report) → old ≡ first → r ≡ s → line ≡ s.bytes → Gains old new line → Gains first new r.bytes
+gains_report old first new line r s e f h g =
+    subst (λ (bytes : List ℕ). Gains first new bytes) (h ∙ ap (λ (q : Report). q.bytes) (sym f)) (subst (λ (w : Waiting). Gains w new line) e g)
+
+-- the report of a workload, which alone was put
+module _ (threads budget : ℕ) (k now : PlainKernel) (is : now ≡ k) (empty unsent : List ℕ) (h0 h2 : Option (List ℕ)) (none : empty ≡ []) (put : unsent ≡ empty ++ (ticked_report threads now budget).bytes) where
+  put_all : unsent ≡ (ticked_report threads k budget).bytes
+  put_all = put ∙ ap (λ (x : List ℕ). x ++ (ticked_report threads now budget).bytes) none ∙ ap (λ (m : PlainKernel). (ticked_report threads m budget).bytes) is
+
+  pub workload_given : (said result : Status) → said ≡ (ticked_report threads now budget).status → (result ≢ status.WriteFault → result ≡ said) → (result ≢ status.WriteFault → Appends h0 h2 unsent) → IsOwn result →
+      Given (ticked_report threads k budget) result h0 h2
+  workload_given said result e says all own =
+      let not = own_not result own in
+      record {
+        status = says not ∙ e ∙ ap (λ (m : PlainKernel). (ticked_report threads m budget).status) is;
+        bytes = subst (Appends h0 h2) put_all (all not);
+      }
+
+  pub workload_front : AppendsFront h0 h2 unsent → AppendsFront h0 h2 (ticked_report threads k budget).bytes
+  workload_front front = subst (AppendsFront h0 h2) put_all front

@@ -1,0 +1,32 @@
+use Rattle.std.proofs.Common.{◌≡◌, ◌≤◌, ◌+◌, ◌-◌, true, length}
+use Rattle.std.specs.Io.KnownBytes.{IsAtEnd}
+use Rattle.forec_base.specs.declared.limits.TheConstants.{MAX_ROWS}
+use Rattle.trace_runs.proofs.Asking.{Asked}
+use Rattle.trace_runs.proofs.Running.{Reached}
+use Rattle.trace_runs.proofs.ticks.run_rows.Given as goal
+
+abbrev pub invariant-ticks : goal.invariant-ticks
+invariant-ticks g l =
+    let left = g.S.Source.left in
+    let held = g.K.Sink.held in
+    let kernel = g.T.Ticker.kernel l.fn.ticker in
+    record {
+      reached : Reached (record { kernel = kernel; budget = l.budget; first = l.fn.rows })
+          (g.T.Ticker.follows l.ticker) l.rows (left l.fn.trace) (left l.trace) (held l.fn.out) (held l.out) l.waiting.bytes.items l.row;
+      asked : Asked left g.S.Source.faults g.S.Source.down (record { kernel = kernel; budget = l.budget; first = l.fn.rows }) (g.T.Ticker.follows l.ticker) l.rows l.row l.fn.trace l.trace;
+      kernel : g.T.Ticker.kernel l.ticker ≡ kernel;
+      ready : g.T.Ticker.ready l.ticker ≡ g.T.Ticker.ready l.fn.ticker;
+      inputs : length l.image.inputs.items ≡ length l.fn.image.inputs.items;
+      outputs : length l.image.outputs.items ≡ length l.fn.image.outputs.items;
+      live : g.T.Ticker.live l.ticker ≡ true;
+      reads : l.rows.live ≡ true;
+      low : 1 ≤ l.row;
+      high : l.row ≤ MAX_ROWS + 1;
+      names : l.waiting.names ≡ l.fn.waiting.names;
+      ended : l.rows.ended ≡ true → IsAtEnd (left l.trace);
+      read : g.S.Source.faults l.fn.trace ≤ g.S.Source.faults l.trace;
+      written : g.K.Sink.faults l.fn.out ≤ g.K.Sink.faults l.out;
+    }
+
+abbrev pub decreases-ticks : goal.decreases-ticks
+decreases-ticks g l = MAX_ROWS + 2 - l.row

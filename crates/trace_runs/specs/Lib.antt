@@ -1,0 +1,12 @@
+pub mod Calls
+pub mod Ends
+pub mod Hosting
+pub mod KernelNames
+pub mod Led
+pub mod Orders
+pub mod Progress
+pub mod Report
+pub mod Sessions
+pub mod StatusNumbers
+pub mod WaitingRoom
+pub mod Workload

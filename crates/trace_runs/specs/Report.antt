@@ -1,0 +1,96 @@
+-- What a kernel prints for a trace, and the status.
+use Rattle.std.specs.Prelude.{ℕ, ◌+◌, ◌-◌, List, [], ◌∷◌, ◌++◌, Option, Some, None, Result, Ok, Err, if◌then◌else◌}
+use Rattle.std.specs.Option.{option_map}
+use Rattle.forec_base.specs.declared.limits.TheConstants.{MAX_ROWS}
+use Rattle.forec_kernel.specs.declared.shape.Outcome.{Outcome}
+use Rattle.forec_kernel.specs.declared.shape.Outcome.TheVariants as outcome
+use Rattle.forec_kernel.specs.Shapes.{PlainKernel}
+use Rattle.forec_kernel.specs.Ticks.{State, Fresh, Tick, tick, goes_on, run_from}
+use Rattle.trace_rows.specs.Trace.{Row, End, Trace, header_at, row_at, trace_of}
+use Rattle.trace_rows.specs.declared.fault.RowFault.{RowFault}
+use Rattle.trace_runs.specs.KernelNames.{input_names, output_names}
+use Rattle.trace_rows.specs.Report.{outcome_lines, rows_line, row_line}
+use Rattle.trace_runs.specs.declared.status.Status.{Status}
+use Rattle.trace_runs.specs.declared.status.Status.TheVariants as status
+
+pub record Report : Type 0 where
+  pub bytes : List ℕ
+  pub status : Status
+
+-- the most rows of a trace
+abbrev pub most_rows : ℕ
+most_rows = MAX_ROWS
+
+-- ---- the whole report
+
+-- the lines of tick n
+abbrev pub tick_lines : PlainKernel → ℕ → ℕ → Tick → List ℕ
+tick_lines k budget n t = outcome_lines (output_names k) budget n t.outcome t.outputs
+
+-- the lines of these ticks, of which the first is tick n
+abbrev pub lines_from : PlainKernel → ℕ → ℕ → List Tick → List ℕ
+lines_from k budget n [] = []
+lines_from k budget n (t ∷ ts) = tick_lines k budget n t ++ lines_from k budget (n + 1) ts
+
+-- how the last of these ticks went; before the first one the program goes on
+abbrev pub last_outcome : List Tick → Outcome
+last_outcome [] = outcome.Paused
+last_outcome (t ∷ []) = t.outcome
+last_outcome (t ∷ u ∷ ts) = last_outcome (u ∷ ts)
+
+-- what comes at line n of a trace, at which the program would go on
+abbrev pub end_of_trace : Option RowFault → ℕ → Report
+end_of_trace None n = record { bytes = rows_line (n - 1); status = status.Done }
+end_of_trace (Some f) n = record { bytes = row_line n f; status = status.Trace }
+
+-- what comes behind the lines of the ticks, of which the last went so
+abbrev pub ending : Outcome → End → Report
+ending outcome.Paused end = end_of_trace end.cause end.line
+ending outcome.Ended end = record { bytes = []; status = status.Done }
+ending (outcome.Trapped place trap) end = record { bytes = []; status = status.Trapped }
+ending outcome.Over end = record { bytes = []; status = status.Over }
+
+abbrev pub behind_bytes : List ℕ → Report → Report
+behind_bytes bytes r = record { bytes = bytes ++ r.bytes; status = r.status }
+
+-- the report of a kernel from tick n on
+abbrev pub report_from : PlainKernel → ℕ → State → ℕ → Trace → Report
+report_from k budget s n trace =
+    let ticks = run_from k budget s trace.rows in behind_bytes (lines_from k budget n ticks) (ending (last_outcome ticks) trace.end)
+
+-- the report of a kernel for the bytes of a trace
+unfoldable pub trace_report : PlainKernel → ℕ → List ℕ → Report
+trace_report k budget bytes = report_from k budget Fresh 1 (trace_of (input_names k) most_rows bytes)
+
+-- ---- the report so far
+
+-- how far lines have led: the state, the number of the next tick, and what was printed
+pub record Pace : Type 0 where
+  pub state : State
+  pub next : ℕ
+  pub bytes : List ℕ
+
+abbrev pub with_row : Result Row RowFault → (Row → Option Pace) → Option Pace
+with_row (Ok row) f = f row
+with_row (Err e) f = None
+
+abbrev pub printed_before : List ℕ → Pace → Pace
+printed_before bytes p = record { state = p.state; next = p.next; bytes = bytes ++ p.bytes }
+
+-- What these lines print, of which the first is line n, where each is a row and the program goes on at each. The inputs stand at
+-- these places of the header.
+abbrev pub advance : PlainKernel → ℕ → List ℕ → State → ℕ → List (List ℕ) → Option Pace
+advance k budget places s n [] = Some (record { state = s; next = n; bytes = [] })
+advance k budget places s n (line ∷ lines) = with_row (row_at most_rows places n line) (λ row.
+    let t = tick k budget s row in
+    if goes_on t.outcome then option_map (printed_before (tick_lines k budget n t)) (advance k budget places t.state (n + 1) lines) else None)
+
+abbrev pub with_header : Result (List ℕ) RowFault → (List ℕ → Option (List ℕ)) → Option (List ℕ)
+with_header (Ok places) bytes = bytes places
+with_header (Err e) bytes = None
+
+-- what a kernel has printed for these first lines of a trace, where none of them stops it
+unfoldable pub printed_for : PlainKernel → ℕ → List (List ℕ) → Option (List ℕ)
+printed_for k budget [] = Some []
+printed_for k budget (header ∷ lines) =
+    with_header (header_at (input_names k) header) (λ places. option_map (λ p. p.bytes) (advance k budget places Fresh 1 lines))

@@ -1,0 +1,18 @@
+-- Room for lines that wait.
+use Rattle.std.specs.Prelude.{◌≡◌, ◌+◌, ◌≤◌, ◌++◌, ℕ, List, length, vec_len, vec_capacity}
+use Rattle.trace_runs.specs.declared.waiting.Waiting.{Waiting}
+
+-- so many bytes more fit
+abbrev pub HasRoom : Waiting → ℕ → Type 0
+HasRoom w n = vec_len w.bytes + n ≤ vec_capacity w.bytes
+
+-- the lines of any tick fit
+abbrev pub HasTickRoom : Waiting → Type 0
+HasTickRoom w = HasRoom w (length w.line.items + 64)
+
+-- these bytes wait too, and the rest is as before
+pub record Gains (old new : Waiting) (bytes : List ℕ) : Type 0 where
+  pub bytes_are : new.bytes.items ≡ old.bytes.items ++ bytes
+  pub names : new.names ≡ old.names
+  pub line : length new.line.items ≡ length old.line.items
+  pub capacity : vec_capacity old.bytes ≤ vec_capacity new.bytes

@@ -1,0 +1,226 @@
+//! What the calling thread does beside the workers of the other cores.
+
+ghost use Rattle.std.specs.Prelude.{◌≡◌, ◌+◌, ◌<◌, ◌≤◌, [], true, length, IfOk, OnErr, vec_len, vec_capacity};
+ghost use Rattle.forec_kernel.specs.Shapes.{plain_kernel};
+ghost use Rattle.forec_kernel.specs.Ticks.{Fresh};
+ghost use Rattle.core_host.specs.Hosted.{is_here, is_live};
+ghost use Rattle.trace_runs.specs.Hosting.{HostFollows};
+
+use crate::lead::Lead;
+use crate::runner::{Runner, Stop};
+use crate::setting::{Company, Setting};
+use crate::status::Status;
+use crate::ticker::Ticker;
+use copy_slots::Port;
+use core_host::{ForecWork, Host, Serve, Worker};
+use forec_base::{Gate, OutOfMemory};
+use forec_kernel::Kernel;
+use std::alloc::{AllocError, Global};
+use std::sync::{Mutex, Wait};
+use std::thread::Threads;
+use worker_scope::{Pending, Runnable, take_refused, with_workers};
+
+/// A worker, and the gate that it passes.
+#[derive(Drop)]
+struct GatedWorker<'g, 'c, P: Port<ForecWork> + Drop, G> {
+    worker: Worker<'c, P>,
+    gate: &'g G,
+}
+
+impl<'g, 'c, P: Port<ForecWork> + Drop, G: Gate> Serve for GatedWorker<'g, 'c, P, G> {
+    fn serve<R: Wait>(&mut self, rt: &R) -> bool {
+        let gate = self.gate;
+        self.worker.serve_beside(rt, gate)
+    }
+
+    fn is_empty(&self) -> bool {
+        false
+    }
+}
+
+impl<'g, 'c, P: Port<ForecWork> + Drop, G: Gate> Runnable for GatedWorker<'g, 'c, P, G> {
+    fn run<R: Wait>(self, rt: &R) {
+        let GatedWorker { worker, gate } = self;
+        let _ = worker.run(rt, gate);
+    }
+}
+
+/// The workers that have no thread: the calling thread serves them.
+#[derive(Drop)]
+struct Others<H> {
+    pub workers: Vec<H>,
+}
+
+impl<H: Serve> Serve for Others<H> {
+    fn serve<R: Wait>(&mut self, rt: &R) -> bool {
+        let mut served = false;
+        for worker in self.workers.iter_mut() {
+            if worker.serve(rt) {
+                served = true;
+            }
+        }
+        served
+    }
+
+    fn is_empty(&self) -> bool {
+        self.workers.is_empty()
+    }
+}
+
+/// Workers on their way to a thread, each with this gate.
+fn pending_workers<'g, 'c, P: Port<ForecWork> + Drop, G: Gate>(
+    alloc: Global,
+    workers: Vec<Worker<'c, P>>,
+    gate: &'g G,
+) -> Result<Vec<Mutex<Pending<GatedWorker<'g, 'c, P, G>>>>, AllocError> {
+    workers
+        .into_iter()
+        .map(|worker| Mutex::new(Pending::new(GatedWorker { worker, gate })))
+        .collect(alloc)
+}
+
+/// Takes a worker, if it has no thread.
+fn take_one<H: Runnable, R: Wait>(rt: &R, pending: &Mutex<Pending<H>>, others: &mut Vec<H>)
+    requires { vec_len others.old < vec_capacity others.old }
+    ensures few { vec_len others.new ≤ vec_len others.old + 1 }
+    ensures room { vec_capacity others.new ≡ vec_capacity others.old }
+{
+    if let Some(worker) = take_refused(rt, pending) {
+        others.push_reserved(worker);
+    }
+}
+
+/// Takes the workers that have no thread.
+fn take_others<H: Runnable, R: Wait>(rt: &R, workers: &[Mutex<Pending<H>>], others: &mut Vec<H>)
+    requires { (vec_len others.old ≡ 0) × (length workers.now ≤ vec_capacity others.old) }
+{
+    for pending in workers {
+        take_one(rt, pending, others);
+    }
+}
+
+/// All workers on their way to a thread, with the runtime, and the gate that the cores pass.
+#[derive(Drop)]
+struct Workers<'a, 'w, H, G, R> {
+    rt: &'a R,
+    gate: &'a G,
+    all: &'w [Mutex<Pending<H>>],
+}
+
+impl<'a, 'w, H: Runnable + Serve, G: Gate, R: Wait> Workers<'a, 'w, H, G, R> {
+    /// What the calling thread does beside the workers: it takes those that have no thread, leads, and stops all.
+    fn lead_beside<T: Ticker + Stop, J: Lead>(
+        &self,
+        others: &mut Others<H>,
+        ticker: &mut T,
+        job: &mut J,
+    ) -> Status
+        requires room { (vec_len others.old.workers ≡ 0) × (length self.now.all.now ≤ vec_capacity others.old.workers) }
+        requires can { J.can job.old (T.kernel ticker.old) }
+        requires follows { T.follows ticker.old Fresh }
+        requires live { T.live ticker.old ≡ true }
+        requires ready { T.ready ticker.old ≡ true }
+        ensures { J.did job.old job.new (T.kernel ticker.old) result }
+    {
+        take_others(self.rt, self.all, &mut others.workers);
+        let mut company = Company {
+            rt: self.rt,
+            gate: self.gate,
+            others,
+        };
+        let status = job.lead(&mut company, ticker);
+        ticker.stop();
+        status
+    }
+}
+
+impl<'a, 'w, H: Runnable + Serve + Send, G: Gate, R: Threads + Wait + Sync>
+    Workers<'a, 'w, H, G, R>
+{
+    /// Starts a thread for each worker, and leads beside them.
+    fn lead_all<T: Ticker + Stop, J: Lead>(
+        &self,
+        others: &mut Others<H>,
+        ticker: &mut T,
+        job: &mut J,
+    ) -> Status
+        requires room { (vec_len others.old.workers ≡ 0) × (length self.now.all.now ≤ vec_capacity others.old.workers) }
+        requires can { J.can job.old (T.kernel ticker.old) }
+        requires follows { T.follows ticker.old Fresh }
+        requires live { T.live ticker.old ≡ true }
+        requires ready { T.ready ticker.old ≡ true }
+        ensures { J.did job.old job.new (T.kernel ticker.old) result }
+    {
+        with_workers(
+            self.rt,
+            self.all,
+            &mut || -> Status
+                requires room { (vec_len others.now.workers ≡ 0) × (length self.now.all.now ≤ vec_capacity others.now.workers) }
+                requires can { J.can job.now (T.kernel ticker.now) }
+                requires follows { T.follows ticker.now Fresh }
+                requires live { T.live ticker.now ≡ true }
+                requires ready { T.ready ticker.now ≡ true }
+            {
+                self.lead_beside(others, ticker, job)
+            },
+        )
+    }
+
+    /// Leads beside the workers, with room for those that get no thread.
+    ///
+    /// # Errors
+    ///
+    /// Want of memory. Then nothing was done.
+    fn lead<T: Ticker + Stop, J: Lead>(
+        &self,
+        alloc: Global,
+        ticker: &mut T,
+        job: &mut J,
+    ) -> Result<Status, OutOfMemory>
+        requires can { J.can job.old (T.kernel ticker.old) }
+        requires follows { T.follows ticker.old Fresh }
+        requires live { T.live ticker.old ≡ true }
+        requires ready { T.ready ticker.old ≡ true }
+        ensures ok { IfOk result (J.did job.old job.new (T.kernel ticker.old)) }
+        ensures err { OnErr result (job.new ≡ job.old) }
+    {
+        let room = Vec::with_capacity(alloc, self.all.len())?;
+        let mut others = Others { workers: room };
+        Ok(self.lead_all(&mut others, ticker, job))
+    }
+}
+
+/// Leads by hosts: that of thread 0 in the calling thread, beside the workers of the other cores.
+///
+/// # Errors
+///
+/// Want of memory. Then nothing was done.
+pub fn lead_hosts<
+    'c,
+    P: Port<ForecWork> + Drop + Send,
+    J: Lead,
+    G: Gate + Sync,
+    R: Threads + Wait + Sync,
+>(
+    setting: &Setting<'_, G, R>,
+    kernel: &'c Kernel,
+    root: Host<'c, P>,
+    workers: Vec<Worker<'c, P>>,
+    job: &mut J,
+) -> Result<Status, OutOfMemory>
+    requires root { is_here root 0 ≡ true }
+    requires follows { HostFollows (plain_kernel kernel.now) root Fresh }
+    requires live { is_live root ≡ true }
+    requires can { J.can job.old (plain_kernel kernel.now) }
+    ensures ok { IfOk result (J.did job.old job.new (plain_kernel kernel.now)) }
+    ensures err { OnErr result (job.new ≡ job.old) }
+{
+    let pending = pending_workers(setting.alloc, workers, setting.gate)?;
+    let workers = Workers {
+        rt: setting.rt,
+        gate: setting.gate,
+        all: &pending,
+    };
+    let mut runner = Runner::new(kernel, root);
+    workers.lead(setting.alloc, &mut runner, job)
+}

@@ -1,0 +1,77 @@
+// The ticks of a workload.
+ghost use Rattle.std.specs.Prelude.{◌≡◌, ◌≢◌, ◌≤◌, ◌+◌, ◌%◌, ◌^◌, true, length};
+ghost use Rattle.forec_kernel.specs.Ticks.{Fresh};
+ghost use Rattle.trace_runs.specs.Ends.{IsOwn};
+ghost use Rattle.trace_runs.specs.WaitingRoom.{HasRoom, Gains};
+ghost use Rattle.trace_runs.specs.Workload.{values_sum, zero_row, ticked_report};
+
+use crate::image::Image;
+use crate::setting::Company;
+use crate::status::Status;
+use crate::ticker::Ticker;
+use crate::waiting::Waiting;
+use core_host::Serve;
+use forec_base::Gate;
+use forec_kernel::Outcome;
+use std::sync::Wait;
+
+/// How many ticks a workload runs.
+pub const WORKLOAD_TICKS: u64 = 1_000;
+
+// A sum and values, modulo 2^32.
+fn with_values(sum: u32, values: &[i32]) -> u32
+    ensures { result ≡ (sum + values_sum values.now) % 2 ^ 32 }
+{
+    let mut sum = sum;
+    for value in values {
+        sum = sum.wrapping_add(value.cast_unsigned());
+    }
+    sum
+}
+
+/// Runs the ticks of a workload of so many threads, each over a row that is 0 for each input, by a ticker that
+/// is ready. The line that tells of them waits, and the status is its.
+pub fn run_workload<T: Ticker, O: Serve, G: Gate, R: Wait>(
+    company: &mut Company<'_, O, G, R>,
+    ticker: &mut T,
+    image: &mut Image,
+    threads: u32,
+    budget: u64,
+    waiting: &mut Waiting,
+) -> Status
+    requires follows { T.follows ticker.old Fresh }
+    requires live { T.live ticker.old ≡ true }
+    requires ready { T.ready ticker.old ≡ true }
+    requires zeros { image.old.inputs.items ≡ zero_row (T.kernel ticker.old) }
+    requires outputs { length image.old.outputs.items ≡ length (T.kernel ticker.old).shape.outputs }
+    requires small { budget ≤ 2 ^ 62 }
+    requires room { HasRoom waiting.old 128 }
+    ensures own { IsOwn result }
+    ensures usage { result ≢ Status.Usage }
+    ensures status { result ≡ (ticked_report threads (T.kernel ticker.old) budget).status }
+    ensures bytes { Gains waiting.old waiting.new (ticked_report threads (T.kernel ticker.old) budget).bytes }
+{
+    let mut sum = 0;
+    for tick in 0..WORKLOAD_TICKS {
+        let Ok(outcome) = image.tick(company, ticker, budget) else {
+            unreachable!()
+        };
+        match outcome {
+            Outcome::Paused => sum = with_values(sum, &image.outputs),
+            Outcome::Ended => {
+                waiting.put_workload(threads, with_values(sum, &image.outputs));
+                return Status::Done;
+            }
+            Outcome::Trapped { place, trap } => {
+                waiting.put_trap(tick + 1, place, trap);
+                return Status::Trapped;
+            }
+            Outcome::Over => {
+                waiting.put_over(tick + 1, budget);
+                return Status::Over;
+            }
+        }
+    }
+    waiting.put_workload(threads, sum);
+    Status::Done
+}

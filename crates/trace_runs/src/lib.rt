@@ -1,0 +1,31 @@
+//! Runs of a kernel: over the rows of a trace, by hosts beside workers or by rewriting; and over the rows of a workload.
+#![tactic(auto)]
+
+mod beside;
+mod found;
+mod generated;
+mod hosting;
+mod image;
+mod lead;
+mod loading;
+mod names;
+mod orders;
+mod rewriter;
+mod rewriting;
+mod runner;
+mod session;
+mod setting;
+mod sink;
+mod status;
+mod ticker;
+mod ticks;
+mod trace_run;
+mod waiting;
+mod workload_run;
+
+pub use hosting::{host_trace, host_workload};
+pub use rewriting::rewrite_trace;
+pub use setting::Setting;
+pub use sink::say;
+pub use status::Status;
+pub use waiting::Waiting;

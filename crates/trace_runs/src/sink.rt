@@ -1,0 +1,39 @@
+// Writing to a sink that takes a front of each piece.
+ghost use Rattle.std.specs.Prelude.{◌≡◌, ◌≢◌, OnOk, OnErr};
+ghost use Rattle.std.specs.Io.KnownBytes.{Appends};
+ghost use Rattle.forec_base.specs.Outside.{Fell};
+ghost use Rattle.trace_rows.specs.Calls.{Faults};
+ghost use Rattle.trace_runs.specs.Calls.{AppendsFront};
+
+use crate::Status;
+use forec_base::{Failed, Sink};
+
+/// Writes all of the bytes. At an `Err` a front of them is written.
+pub fn write_all<K: Sink>(out: &mut K, bytes: &[u8]) -> Result<(), Failed>
+    ensures ok { OnOk result (Appends (K.held out.old) (K.held out.new) bytes.now) }
+    ensures err { OnErr result (AppendsFront (K.held out.old) (K.held out.new) bytes.now) }
+    ensures cause { Faults (K.faults out.old) (K.faults out.new) (K.down out.new) result }
+{
+    let mut at = 0;
+    while at < bytes.len() {
+        match out.write(&bytes[at..]) {
+            Ok(n) => at += n,
+            Err(failed) => return Err(failed),
+        }
+    }
+    Ok(())
+}
+
+/// Writes the last line, and gives the status.
+pub fn say<K: Sink>(out: &mut K, line: &[u8], status: Status) -> Status
+    requires { status ≢ Status.WriteFault }
+    ensures said { result ≢ Status.WriteFault → result ≡ status }
+    ensures line { result ≢ Status.WriteFault → Appends (K.held out.old) (K.held out.new) line.now }
+    ensures fault { result ≡ Status.WriteFault → Fell (K.faults out.old) (K.faults out.new) (K.down out.new) }
+    ensures front { result ≡ Status.WriteFault → AppendsFront (K.held out.old) (K.held out.new) line.now }
+{
+    match write_all(out, line) {
+        Ok(()) => status,
+        Err(_) => Status::WriteFault,
+    }
+}

@@ -1,0 +1,47 @@
+//! A run over a trace.
+
+use crate::lead::Lead;
+use crate::session::Session;
+use crate::setting::Company;
+use crate::status::Status;
+use crate::ticker::Ticker;
+use crate::ticks::run;
+use core_host::Serve;
+use forec_base::{Gate, Sink, Source};
+use std::alloc::Global;
+use std::sync::Wait;
+
+/// A run over a trace: its session, and its streams.
+#[derive(Drop)]
+pub struct TraceRun<'a, 'b, 'c, S, K> {
+    pub alloc: Global,
+    pub session: &'a mut Session,
+    pub trace: &'b mut S,
+    pub out: &'c mut K,
+}
+
+impl<'a, 'b, 'c, S: Source, K: Sink> Lead for TraceRun<'a, 'b, 'c, S, K> {
+    ghost use Rattle.std.specs.Prelude.{◌≡◌};
+    ghost use Rattle.trace_runs.specs.Led.{HasRunRows};
+    ghost use Rattle.trace_runs.specs.Sessions.{IsSessionOf};
+
+    ghost can = { λ run k. IsSessionOf k run.session.now };
+
+    ghost did = { λ old new k end. (new.trace.ghost_name ≡ old.trace.ghost_name) × (new.out.ghost_name ≡ old.out.ghost_name)
+        × HasRunRows S.left S.faults S.down k old.session.now.budget old.trace.now new.trace.now (K.held old.out.now) (K.held new.out.now) (K.faults old.out.now) (K.faults new.out.now) (K.down new.out.now) end };
+
+    fn lead<T: Ticker, O: Serve, G: Gate, R: Wait>(
+        &mut self,
+        company: &mut Company<'_, O, G, R>,
+        ticker: &mut T,
+    ) -> Status {
+        run(
+            self.alloc,
+            company,
+            ticker,
+            self.session,
+            self.trace,
+            self.out,
+        )
+    }
+}
