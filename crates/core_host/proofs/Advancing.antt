@@ -30,12 +30,12 @@ use Rattle.core_host.specs.Waiting.{jobs_out, HasTold, IsForked, IsGathering, Is
 use Rattle.core_host.specs.Serving.{MovesBranches, Touches}
 use Rattle.core_host.proofs.Mails.{by_equal, get_set, get_set_else, children_count, child_here, child_else, parent_on_child, is_child, extends_same, extends_one}
 use Rattle.core_host.proofs.Keep.{done_keeps}
-use Rattle.core_host.proofs.Consulting.{same_test}
-use Rattle.core_host.proofs.Consults.{no_pairs}
+use Rattle.core_host.proofs.RunChildren.{same_test}
+use Rattle.core_host.proofs.ChildrenRunLemmas.{no_pairs}
 use Rattle.core_host.proofs.Loading.{length_then}
 use Rattle.core_host.proofs.Logs.{Ends, job_ends}
-use Rattle.core_host.proofs.Forked.{fork_at, is_forked}
-use Rattle.core_host.proofs.Telling.{changed, changed_is, told_posts}
+use Rattle.core_host.proofs.AfterFork.{fork_at, is_forked}
+use Rattle.core_host.proofs.OneMoreExchange.{changed, changed_is, told_posts}
 use Rattle.core_host.proofs.Waits.{told_keeps, work_keeps, has_keeps}
 
 -- ---- the jobs of a fork were sent

@@ -25,11 +25,11 @@ use Rattle.core_host.specs.Waiting.{IsWorking, IsAtRest, IsBetween, rests}
 use Rattle.core_host.specs.Serving.{Touches, OnlyLooks, HasMissed}
 use Rattle.core_host.proofs.Mails.{by_equal, alike_then, children_count, child_here, child_else, parent_on_child, is_child, extends_same, extends_one, extends_then, some_once}
 use Rattle.core_host.proofs.Keep.{idle_keeps, grown_then, seated_by}
-use Rattle.core_host.proofs.Consulting.{jobs_more}
+use Rattle.core_host.proofs.RunChildren.{jobs_more}
 use Rattle.core_host.proofs.Loading.{length_then}
-use Rattle.core_host.proofs.Employing.{job_can_begin, job_room, job_small, job_is, at_work, work_begins, taken_now, answered_same, holds_now, leaves_begin, seated_work, in_job}
-use Rattle.core_host.proofs.Desks.{took}
-use Rattle.core_host.proofs.Telling.{posts_told}
+use Rattle.core_host.proofs.RunChild.{job_can_begin, job_room, job_small, job_is, at_work, work_begins, taken_now, answered_same, holds_now, leaves_begin, seated_work, in_job}
+use Rattle.core_host.proofs.SchedulerCalls.{took}
+use Rattle.core_host.proofs.OneMoreExchange.{posts_told}
 use Rattle.core_host.proofs.Waits.{has_keeps}
 
 -- ---- one change after the other

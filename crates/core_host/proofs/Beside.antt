@@ -29,10 +29,10 @@ use Rattle.core_host.specs.Rounds.{CanServe, IsSameRound}
 use Rattle.core_host.specs.declared.round.Round.{Round}
 use Rattle.core_host.proofs.Mails.{state, alike_then, extends_same, get_set_else}
 use Rattle.core_host.proofs.Keep.{grown_same, grown_then, packet_keeps, seated_by}
-use Rattle.core_host.proofs.Forked.{fork_at, is_forked}
-use Rattle.core_host.proofs.Telling.{changed_is, told_posts, posts_told}
+use Rattle.core_host.proofs.AfterFork.{fork_at, is_forked}
+use Rattle.core_host.proofs.OneMoreExchange.{changed_is, told_posts, posts_told}
 use Rattle.core_host.proofs.Waits.{gathering_keeps, between_keeps, between_moves}
-use Rattle.core_host.proofs.Gathers.{all_heard}
+use Rattle.core_host.proofs.GatherReplies.{all_heard}
 use Rattle.core_host.proofs.Advancing.{forked_gathering}
 use Rattle.core_host.proofs.Resuming.{job_goes_on}
 use Rattle.core_host.proofs.Rooted.{raw1_is, number_1, in_job1, root_replies, root_rests}

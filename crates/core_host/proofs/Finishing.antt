@@ -14,7 +14,7 @@ use Rattle.core_host.specs.Writing.{heard, told}
 use Rattle.core_host.specs.Keeping.{State, code_in, IsFitted, Leaves, AtFork, HaveHeard}
 use Rattle.core_host.proofs.Keep.{fitted_keeps}
 use Rattle.core_host.proofs.Logs.{allowance_in}
-use Rattle.core_host.proofs.Forked.{in_job_by, fork_at, some_branches, inside, forks_bound, units_within, in_job_now, with_none}
+use Rattle.core_host.proofs.AfterFork.{in_job_by, fork_at, some_branches, inside, forks_bound, units_within, in_job_now, with_none}
 
 -- a job in progress that came to so many forks
 abbrev pub Counted : PlainCode → Thread → Mail → List Job → Job → ℕ → Type 0

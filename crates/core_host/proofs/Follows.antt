@@ -11,7 +11,7 @@ use Rattle.thread_code.specs.Machine.{Machine, On, Waits, Merges, Fails, Paused,
 use Rattle.thread_code.specs.Alone.{block_of, view_of, units_of, code_engine}
 use Rattle.thread_code.proofs.Unstuck.{reached_good}
 use Rattle.core_host.specs.Writing.{Wrote}
-use Rattle.core_host.proofs.Forking.{Lively, Fine, step_fine, join_fine}
+use Rattle.core_host.proofs.AtEachFork.{Lively, Fine, step_fine, join_fine}
 
 -- ---- runs and jobs
 

@@ -23,10 +23,10 @@ use Rattle.core_host.specs.Waiting.{HasTold, IsGathering, HasReplies, IsAtWork, 
 use Rattle.core_host.specs.OnJob.{IsOnJob}
 use Rattle.core_host.specs.Serving.{MovesBranches, Touches, HasMissed}
 use Rattle.core_host.proofs.Mails.{get_set, get_set_else, some_once}
-use Rattle.core_host.proofs.Forked.{with_none, in_job_now}
-use Rattle.core_host.proofs.Telling.{changed, changed_is, told_posts, posts_told}
+use Rattle.core_host.proofs.AfterFork.{with_none, in_job_now}
+use Rattle.core_host.proofs.OneMoreExchange.{changed, changed_is, told_posts, posts_told}
 use Rattle.core_host.proofs.Waits.{work_keeps, waiting_keeps}
-use Rattle.core_host.proofs.Gathers.{all_heard}
+use Rattle.core_host.proofs.GatherReplies.{all_heard}
 
 -- ---- its work stays while its branches are looked at
 
@@ -127,8 +127,8 @@ module _ (s0 : State) (m : ℕ) (inside : m < length s0.mail.ends) (seated : IsS
     in_seats : m + 1 < length s2.seats
     in_seats =
         let count = ap length moves.seats in
-        let rise = ap (λ (s : State). length s.seats) rising in
-        let set = length-set s0.seats (m + 1) empty in omega (arith, inside, count, rise, set, seated.seats, seated.mailboxes)
+        let take_thread = ap (λ (s : State). length s.seats) rising in
+        let set = length-set s0.seats (m + 1) empty in omega (arith, inside, count, take_thread, set, seated.seats, seated.mailboxes)
 
     -- ---- back into it
 

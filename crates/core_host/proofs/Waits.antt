@@ -16,7 +16,7 @@ use Rattle.core_host.specs.Waiting.{jobs_out, HasTold, IsForked, IsGathering, Is
 use Rattle.core_host.specs.Serving.{MovesBranches, Touches}
 use Rattle.core_host.proofs.Keep.{same_child, idle_keeps, packet_keeps, parent_once}
 use Rattle.core_host.proofs.Send.{at_map}
-use Rattle.core_host.proofs.Telling.{changed, changed_is, lacks_keeps}
+use Rattle.core_host.proofs.OneMoreExchange.{changed, changed_is, lacks_keeps}
 
 module _ (a : State) (mail : Mail) (seats : List Seat) (hands : List (Option Packet)) (blanks : mail.blanks ≡ a.mail.blanks) (count : length mail.ends ≡ length a.mail.ends) where
   abbrev b : State

@@ -3,8 +3,8 @@ ghost use Rattle.std.specs.Prelude.{◌≡◌};
 ghost use Rattle.core_bells.specs.Ropes.{IsSameRope};
 ghost use Rattle.core_host.specs.Hung.{KeepsRope};
 
-use crate::desk::Desk;
 use crate::round::Round;
+use crate::scheduler::Scheduler;
 use crate::work::ForecWork;
 use copy_slots::Port;
 use core_bells::Rope;
@@ -30,7 +30,7 @@ pub(crate) fn hint_branches<R: Wait>(rt: &R, code: &Code, thread: &Thread, rope:
     }
 }
 
-impl<'c, P: Port<ForecWork> + Drop> Desk<'c, P> {
+impl<'c, P: Port<ForecWork> + Drop> Scheduler<'c, P> {
     /// Hints to those to whom a thread sent when it was served last: to its branches where it waits at a fork, and else to its
     /// parent.
     pub(crate) fn hint<R: Wait>(&self, rt: &R, mailbox: u32, round: &mut Round<'c>)

@@ -12,11 +12,11 @@ ghost use Rattle.core_host.specs.Jobs.{job_of};
 ghost use Rattle.core_host.specs.Loads.{CanLoad, AreAll, AreOwn};
 ghost use Rattle.core_host.specs.Outcomes.{HasOutputs, LacksOutputs, HasOutcome};
 
-use crate::desk::Desk;
 use crate::job::write_job;
 use crate::load::{empty_hands, own_mailboxes, places_of, seats_of};
 use crate::outcome::write_outcome;
 use crate::round::Round;
+use crate::scheduler::Scheduler;
 use crate::work::ForecWork;
 use combine_tree::Packet;
 use copy_slots::Port;
@@ -46,12 +46,12 @@ pub enum Served {
 /// its branches are the jobs that it writes by itself, and the replies to them.
 #[derive(Drop)]
 pub struct Host<'c, P: Port<ForecWork> + Drop> {
-    pub(crate) desk: Desk<'c, P>,
+    pub(crate) scheduler: Scheduler<'c, P>,
     pub(crate) cores: Vec<u32>,
     pub(crate) round: Round<'c>,
     pub(crate) root: Packet,
     pub(crate) live: bool,
-    ghost own_are: { AreOwn desk.places cores.items round.own.items },
+    ghost own_are: { AreOwn scheduler.places cores.items round.own.items },
     ghost next_within: { round.next ≤ length round.own.items },
 }
 
@@ -61,9 +61,9 @@ impl<'c, P: Port<ForecWork> + Drop> Model for Host<'c, P> {
 
     ghost Value = { Hosted };
 
-    ghost view = { λ h. hosted h.desk h.cores.items h.root h.live h.round.rope };
+    ghost view = { λ h. hosted h.scheduler h.cores.items h.root h.live h.round.rope };
 
-    ghost invariant = { λ h. IsHosted (hosted h.desk h.cores.items h.root h.live h.round.rope) };
+    ghost invariant = { λ h. IsHosted (hosted h.scheduler h.cores.items h.root h.live h.round.rope) };
 }
 
 impl<'c, P: Port<ForecWork> + Drop> Host<'c, P> {
@@ -104,7 +104,7 @@ impl<'c, P: Port<ForecWork> + Drop> Host<'c, P> {
         let root = Packet::new(alloc, 0, code.shape().variables.len())?;
         let own = own_mailboxes(alloc, &places, cores)?;
         let cores = cores.to_vec(alloc)?;
-        let desk = Desk {
+        let scheduler = Scheduler {
             code,
             places,
             port,
@@ -112,7 +112,7 @@ impl<'c, P: Port<ForecWork> + Drop> Host<'c, P> {
             hands,
         };
         Ok(Host {
-            desk,
+            scheduler,
             cores,
             round: Round {
                 own,
@@ -169,14 +169,14 @@ impl<'c, P: Port<ForecWork> + Drop> Host<'c, P> {
         ensures rope { self.new.rope ≡ self.old.rope }
     {
         let Host {
-            desk,
+            scheduler,
             root,
             live,
             ..
         } = self;
-        let code = desk.code;
+        let code = scheduler.code;
         write_job(root, code.shape(), row, budget);
-        desk.work(gate, root);
+        scheduler.work(gate, root);
         let outcome = write_outcome(root, code.shape(), outputs);
         *live = matches!(outcome, Outcome::Paused);
         outcome
@@ -201,8 +201,12 @@ impl<'c, P: Port<ForecWork> + Drop> Host<'c, P> {
         ensures jobs { (jobs : List Job) → HasJobs self.old jobs → HasJobs self.new jobs }
         ensures whole { IsWhole self.old → IsWhole self.new }
     {
-        let Host { desk, round, .. } = self;
-        let Some(i) = desk.serve_round(gate, &round.own, round.next) else {
+        let Host {
+            scheduler,
+            round,
+            ..
+        } = self;
+        let Some(i) = scheduler.serve_round(gate, &round.own, round.next) else {
             return Served::Nothing;
         };
         round.next = i + 1;
@@ -221,7 +225,7 @@ impl<'c, P: Port<ForecWork> + Drop> Host<'c, P> {
         ensures jobs { (jobs : List Job) → HasJobs self.entry jobs → HasJobs result jobs }
     {
         let Host {
-            desk,
+            scheduler,
             cores,
             round,
             root,
@@ -229,7 +233,7 @@ impl<'c, P: Port<ForecWork> + Drop> Host<'c, P> {
         } = self;
         let Round { own, next, up, .. } = round;
         Host {
-            desk,
+            scheduler,
             cores,
             round: Round {
                 own,
@@ -255,6 +259,6 @@ impl<'c, P: Port<ForecWork> + Drop> Host<'c, P> {
         ensures root { (jobs : List Job) → HasJobs self.now jobs → HasPosted (code_of self.now) 0 self.now.mail jobs }
         ensures taken { (k : ℕ) → k < length self.now.mail.ends → ChildIs self.now.mail k false → HasPostedTaken (code_of self.now) self.now.mail k }
     {
-        let _ = &self.desk;
+        let _ = &self.scheduler;
     }
 }

@@ -2,7 +2,6 @@
 #![tactic(auto)]
 
 mod boxed;
-mod desk;
 mod hints;
 mod host;
 mod job;
@@ -10,6 +9,7 @@ mod load;
 mod local;
 mod outcome;
 mod round;
+mod scheduler;
 mod seat;
 mod serve;
 mod tick;

@@ -17,7 +17,7 @@ ghost use Rattle.core_host.specs.Waiting.{HasTold, IsGathering, HasReplies, IsWo
 ghost use Rattle.core_host.specs.Serving.{MovesBranches, Touches, OnlyLooks, HasMissed, AllMissed, KeepsServing};
 
 use crate::boxed::Boxed;
-use crate::desk::Desk;
+use crate::scheduler::Scheduler;
 use crate::seat::Seat;
 use crate::work::ForecWork;
 use combine_tree::Packet;
@@ -25,9 +25,9 @@ use copy_slots::Port;
 use core_machine::{Event, Thread};
 use forec_base::{Gate, Point};
 
-impl<'c, P: Port<ForecWork> + Drop> Desk<'c, P> {
-    /// What sits in a seat, which is then empty.
-    fn rise(&mut self, number: u32) -> Seat
+impl<'c, P: Port<ForecWork> + Drop> Scheduler<'c, P> {
+    /// Takes what a seat holds, which is then empty.
+    fn take_thread(&mut self, number: u32) -> Seat
         requires { number < length self.old.seats }
         ensures seat { slice_get self.old.seats number ≡ Some result }
         ensures rest { self.new ≡ record self.old { seats = slice_set self.old.seats number (record { thread = None; job = None }) } }
@@ -39,7 +39,8 @@ impl<'c, P: Port<ForecWork> + Drop> Desk<'c, P> {
         }
     }
 
-    fn sit(&mut self, number: u32, seat: Seat)
+    /// Puts a thread back into its seat.
+    fn put_thread(&mut self, number: u32, seat: Seat)
         requires { number < length self.old.seats }
         ensures { self.new ≡ record self.old { seats = slice_set self.old.seats number seat } }
     {
@@ -80,8 +81,8 @@ impl<'c, P: Port<ForecWork> + Drop> Desk<'c, P> {
         self.port.stopped()
     }
 
-    /// Tells the branches of the thread's fork their jobs.
-    pub(crate) fn tell(&mut self, thread: &Thread)
+    /// Sends the branches of the thread's fork their jobs.
+    pub(crate) fn send_jobs(&mut self, thread: &Thread)
         requires seated { IsSeated self.old }
         requires fork { AtFork self.old thread.now }
         requires told { (pairs : List Answered) × HasTold self.old thread.now.number pairs [] }
@@ -96,7 +97,7 @@ impl<'c, P: Port<ForecWork> + Drop> Desk<'c, P> {
     }
 
     /// Whether the reply of a branch is in hand, now or before.
-    fn hears(&mut self, mailbox: u32) -> bool
+    fn has_reply(&mut self, mailbox: u32) -> bool
         requires inside { mailbox < length self.old.mail.ends }
         requires seated { IsSeated self.old }
         requires lacks { slice_get self.old.hands mailbox ≡ Some None → LacksPacket self.old mailbox }
@@ -112,7 +113,7 @@ impl<'c, P: Port<ForecWork> + Drop> Desk<'c, P> {
     }
 
     /// Looks for the replies of the branches of the thread's fork, in their order. Whether all are in hand.
-    pub(crate) fn gather(&mut self, thread: &Thread) -> bool
+    pub(crate) fn gather_replies(&mut self, thread: &Thread) -> bool
         requires seated { IsSeated self.old }
         requires gathering { (pairs : List Answered) × IsGathering self.old thread.now pairs }
         ensures moves { MovesBranches thread.now.number self.old self.new }
@@ -122,7 +123,7 @@ impl<'c, P: Port<ForecWork> + Drop> Desk<'c, P> {
     {
         let mut k = 0;
         while let Some(branch) = thread.active(self.code, k) {
-            if !self.hears(branch - 1) {
+            if !self.has_reply(branch - 1) {
                 return false;
             }
             k += 1;
@@ -155,8 +156,8 @@ impl<'c, P: Port<ForecWork> + Drop> Desk<'c, P> {
         let mut packet = packet;
         let thread: &mut Thread = &mut seated;
         if let Event::Fork = thread.run(self.code) {
-            self.tell(thread);
-            self.sit(
+            self.send_jobs(thread);
+            self.put_thread(
                 number,
                 Seat {
                     thread: Some(seated),
@@ -166,7 +167,7 @@ impl<'c, P: Port<ForecWork> + Drop> Desk<'c, P> {
             return;
         }
         thread.reply(self.code, &mut packet);
-        self.sit(
+        self.put_thread(
             number,
             Seat {
                 thread: Some(seated),
@@ -194,7 +195,7 @@ impl<'c, P: Port<ForecWork> + Drop> Desk<'c, P> {
             return false;
         };
         gate.pass(self.places[number as usize], number, Point::Begun);
-        let Seat { thread, .. } = self.rise(number);
+        let Seat { thread, .. } = self.take_thread(number);
         let Some(mut seated) = thread else {
             unreachable!()
         };
@@ -215,14 +216,14 @@ impl<'c, P: Port<ForecWork> + Drop> Desk<'c, P> {
         ensures nothing { result ≡ false → HasMissed mailbox self.old self.new }
     {
         let number = mailbox + 1;
-        let Seat { thread, job } = self.rise(number);
+        let Seat { thread, job } = self.take_thread(number);
         let Some(mut seated) = thread else {
             unreachable!()
         };
         let Some(packet) = job else { unreachable!() };
         let thread: &mut Thread = &mut seated;
-        if !self.gather(thread) {
-            self.sit(
+        if !self.gather_replies(thread) {
+            self.put_thread(
                 number,
                 Seat {
                     thread: Some(seated),

@@ -30,12 +30,12 @@ ghost use Rattle.core_host.specs.Runs.{HasJobs, HasRun};
 ghost use Rattle.core_host.specs.Serving.{AllMissed, MovesBranches, KeepsServing};
 ghost use Rattle.core_host.specs.Waiting.{HasChild, HasTold, IsBetween, IsGathering, HasReplies};
 
-use crate::desk::Desk;
 use crate::hints::hint_branches;
 use crate::host::Host;
 use crate::job::write_job;
 use crate::outcome::write_outcome;
 use crate::round::{Round, place_of};
+use crate::scheduler::Scheduler;
 use crate::work::ForecWork;
 use crate::worker::{Crew, Serve};
 use combine_tree::Packet;
@@ -45,7 +45,7 @@ use forec_base::Gate;
 use forec_kernel::Outcome;
 use std::sync::Wait;
 
-impl<'c, P: Port<ForecWork> + Drop> Desk<'c, P> {
+impl<'c, P: Port<ForecWork> + Drop> Scheduler<'c, P> {
     /// Serves the mailbox at this place of the round, and hints to those to whom its thread sent. Whether there was something to do.
     fn serve_at<R: Wait, G: Gate>(
         &mut self,
@@ -172,7 +172,7 @@ impl<'c, P: Port<ForecWork> + Drop> Desk<'c, P> {
         for _ in rt.forever() {
             let mine = self.serve_sweep(rt, gate, round);
             let theirs = others.serve(rt);
-            if self.gather(thread) {
+            if self.gather_replies(thread) {
                 return;
             }
             looks = round.rest(rt, mine || theirs, others.is_empty(), looks);
@@ -180,8 +180,8 @@ impl<'c, P: Port<ForecWork> + Drop> Desk<'c, P> {
         unreachable!()
     }
 
-    /// Tells the branches of thread 0's fork their jobs, and hints to their cores.
-    fn tell_and_hint<R: Wait>(&mut self, rt: &R, thread: &Thread, round: &mut Round<'c>)
+    /// Sends the branches of thread 0's fork their jobs, and hints to their cores.
+    fn send_jobs_and_hint<R: Wait>(&mut self, rt: &R, thread: &Thread, round: &mut Round<'c>)
         requires seated { IsSeated self.old }
         requires fork { AtFork self.old thread.now }
         requires told { (pairs : List Answered) × HasTold self.old thread.now.number pairs [] }
@@ -191,7 +191,7 @@ impl<'c, P: Port<ForecWork> + Drop> Desk<'c, P> {
         ensures next { round.new.next ≡ round.old.next }
         ensures rope { KeepsRope round.old.rope round.new.rope }
     {
-        self.tell(thread);
+        self.send_jobs(thread);
         round.up = true;
         if let Some(rope) = &mut round.rope {
             hint_branches(rt, self.code, thread, rope);
@@ -224,7 +224,7 @@ impl<'c, P: Port<ForecWork> + Drop> Desk<'c, P> {
             let Event::Fork = thread.run(self.code) else {
                 return;
             };
-            self.tell_and_hint(rt, thread, round);
+            self.send_jobs_and_hint(rt, thread, round);
             self.await_replies(rt, gate, round, others, thread);
             self.settle(thread);
             self.join(thread);
@@ -355,15 +355,15 @@ impl<'c, P: Port<ForecWork> + Drop> Host<'c, P> {
         ensures rope { KeepsRope self.old.rope self.new.rope }
     {
         let Host {
-            desk,
+            scheduler,
             round,
             root,
             live,
             ..
         } = self;
-        let code = desk.code;
+        let code = scheduler.code;
         write_job(root, code.shape(), row, budget);
-        desk.work_beside(rt, gate, round, others, root);
+        scheduler.work_beside(rt, gate, round, others, root);
         let outcome = write_outcome(root, code.shape(), outputs);
         *live = matches!(outcome, Outcome::Paused);
         outcome

@@ -71,7 +71,7 @@ impl<'c, P: Port<ForecWork> + Drop> Host<'c, P> {
     pub fn has_root(&self) -> bool
         ensures { result ≡ is_here self.now 0 }
     {
-        is_among(self.desk.places[0], &self.cores)
+        is_among(self.scheduler.places[0], &self.cores)
     }
 
     /// Serves each of its mailboxes once, those that hints name first, and hints to those to whom it sent. Whether there was something
@@ -85,8 +85,12 @@ impl<'c, P: Port<ForecWork> + Drop> Host<'c, P> {
         ensures grown { Grown self.old.mail self.new.mail }
         ensures rope { KeepsRope self.old.rope self.new.rope }
     {
-        let Host { desk, round, .. } = self;
-        desk.serve_sweep(rt, gate, round)
+        let Host {
+            scheduler,
+            round,
+            ..
+        } = self;
+        scheduler.serve_sweep(rt, gate, round)
     }
 
     /// Stores the stop word, at which each worker ends, and wakes every core.
@@ -97,7 +101,7 @@ impl<'c, P: Port<ForecWork> + Drop> Host<'c, P> {
         ensures turns { (turns : List Turn) → HasRun self.old turns → HasRun self.new turns }
         ensures jobs { (jobs : List Job) → HasJobs self.old jobs → HasJobs self.new jobs }
     {
-        self.desk.stop();
+        self.scheduler.stop();
         if let Some(rope) = &self.round.rope {
             rope.wake_all();
         }
@@ -108,7 +112,7 @@ impl<'c, P: Port<ForecWork> + Drop> Host<'c, P> {
         ensures loaded { self.new ≡ record self.old { mail = after_check result self.old.mail } }
         ensures grown { Grown self.old.mail self.new.mail }
     {
-        self.desk.stopped()
+        self.scheduler.stopped()
     }
 
     /// Serves, for as long as the workers are not stopped. It ends only after it loaded a stop word 1.

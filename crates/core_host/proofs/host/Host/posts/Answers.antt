@@ -2,7 +2,7 @@ use Rattle.std.proofs.Common.{◌<◌, length, false, sym, subst}
 use Rattle.copy_slots.specs.Ports.{ChildIs}
 use Rattle.core_host.specs.Hosted.{Hosted, code_of}
 use Rattle.core_host.specs.Posts.{HasPostedTaken}
-use Rattle.core_host.proofs.Ticking.{root_posted, idle_posted}
+use Rattle.core_host.proofs.TickRun.{root_posted, idle_posted}
 use Rattle.core_host.proofs.Hosting.{idle_between}
 use Rattle.core_host.proofs.host.Host.posts.Goals as goal
 
@@ -13,4 +13,4 @@ pub returns-clause-taken : goal.returns-clause-taken
 returns-clause-taken g c k lt rests =
     subst (λ (h : Hosted). HasPostedTaken (code_of h) h.mail k) c.self.view_is
     (let rest = subst (λ (h : Hosted). ChildIs h.mail k false) (sym c.self.view_is) rests in
-    idle_posted c.self.inside.desk k (idle_between c.self.inside.desk k (c.self.invariant.between k (subst (λ (h : Hosted). k < length h.mail.ends) (sym c.self.view_is) lt) (false, rest)) rest))
+    idle_posted c.self.inside.scheduler k (idle_between c.self.inside.scheduler k (c.self.invariant.between k (subst (λ (h : Hosted). k < length h.mail.ends) (sym c.self.view_is) lt) (false, rest)) rest))

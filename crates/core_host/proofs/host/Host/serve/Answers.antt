@@ -9,26 +9,26 @@ use Rattle.core_host.proofs.Hosting.{whole_keeps, jobs_keep, run_keeps, served_h
 use Rattle.core_host.proofs.host.Host.serve.Goals as goal
 
 pub serve_round-requires-clause-each : goal.serve_round-requires-clause-each
-serve_round-requires-clause-each g c i k at = each_between c.self.inside.desk c.self.inside.cores.items c.self.inside.root c.self.inside.live c.self.inside.round.rope c.self.invariant c.self.inside.round.own.items c.self.inside.own_are i k (ap (λ l. slice_get l i) (sym c.deref.ensures.value) ∙ at)
+serve_round-requires-clause-each g c i k at = each_between c.self.inside.scheduler c.self.inside.cores.items c.self.inside.root c.self.inside.live c.self.inside.round.rope c.self.invariant c.self.inside.round.own.items c.self.inside.own_are i k (ap (λ l. slice_get l i) (sym c.deref.ensures.value) ∙ at)
 
 pub invariant_of-self : goal.invariant_of-self
-invariant_of-self g c = served_hosted c.self.inside.desk c.serve_round.new.self c.self.inside.cores.items c.self.inside.root c.self.inside.live c.self.inside.round.rope c.self.inside.round.rope c.serve_round.ensures.keeps c.self.invariant (rope_same c.self.inside.round.rope)
+invariant_of-self g c = served_hosted c.self.inside.scheduler c.serve_round.new.self c.self.inside.cores.items c.self.inside.root c.self.inside.live c.self.inside.round.rope c.self.inside.round.rope c.serve_round.ensures.keeps c.self.invariant (rope_same c.self.inside.round.rope)
 
 pub returns-in_default-clause-nothing : goal.returns-in_default-clause-nothing
 returns-in_default-clause-nothing g c _ k lt on =
     let lt0 = subst (λ (h : Hosted). k < length h.mail.ends) (sym c.self.view_is) lt in
     let on0 = subst (λ (h : Hosted). is_here h (suc k) ≡ true) (sym c.self.view_is) on in
-    let at = where_own c.self.inside.desk c.self.inside.cores.items c.self.inside.root c.self.inside.live c.self.inside.round.rope c.self.invariant c.self.inside.round.own.items c.self.inside.own_are k lt0 on0 in
+    let at = where_own c.self.inside.scheduler c.self.inside.cores.items c.self.inside.root c.self.inside.live c.self.inside.round.rope c.self.invariant c.self.inside.round.own.items c.self.inside.own_are k lt0 on0 in
     subst (λ (h : Hosted). IsIdle (code_of h).shape h.mail c.serve_round.new.self.mail k) c.self.view_is (c.in_default.ensures.idle refl at.0 k (ap (λ l. slice_get l at.0) c.deref.ensures.value ∙ at.1))
 
 pub returns-in_default-clause-turns : goal.returns-in_default-clause-turns
-returns-in_default-clause-turns g c turns run = run_keeps c.self.inside.desk c.serve_round.new.self c.self.inside.cores.items c.self.inside.root c.self.inside.live c.self.inside.round.rope c.self.inside.round.rope c.serve_round.ensures.keeps turns (subst (λ (h : Hosted). HasRun h turns) (sym c.self.view_is) run)
+returns-in_default-clause-turns g c turns run = run_keeps c.self.inside.scheduler c.serve_round.new.self c.self.inside.cores.items c.self.inside.root c.self.inside.live c.self.inside.round.rope c.self.inside.round.rope c.serve_round.ensures.keeps turns (subst (λ (h : Hosted). HasRun h turns) (sym c.self.view_is) run)
 
 pub returns-in_default-clause-jobs : goal.returns-in_default-clause-jobs
-returns-in_default-clause-jobs g c jobs old = jobs_keep c.self.inside.desk c.serve_round.new.self c.self.inside.cores.items c.self.inside.root c.self.inside.live c.self.inside.round.rope c.self.inside.round.rope c.serve_round.ensures.keeps jobs (subst (λ (h : Hosted). HasJobs h jobs) (sym c.self.view_is) old)
+returns-in_default-clause-jobs g c jobs old = jobs_keep c.self.inside.scheduler c.serve_round.new.self c.self.inside.cores.items c.self.inside.root c.self.inside.live c.self.inside.round.rope c.self.inside.round.rope c.serve_round.ensures.keeps jobs (subst (λ (h : Hosted). HasJobs h jobs) (sym c.self.view_is) old)
 
 pub invariant_of-self-2 : goal.invariant_of-self-2
-invariant_of-self-2 g c = served_hosted c.self.inside.desk c.serve_round.new.self c.self.inside.cores.items c.self.inside.root c.self.inside.live c.self.inside.round.rope c.self.inside.round.rope c.serve_round.ensures.keeps c.self.invariant (rope_same c.self.inside.round.rope)
+invariant_of-self-2 g c = served_hosted c.self.inside.scheduler c.serve_round.new.self c.self.inside.cores.items c.self.inside.root c.self.inside.live c.self.inside.round.rope c.self.inside.round.rope c.serve_round.ensures.keeps c.self.invariant (rope_same c.self.inside.round.rope)
 
 worked_once : (a b : ℕ) → Worked a ≡ Worked b → a ≡ b
 worked_once a b e = cc
@@ -48,16 +48,16 @@ returns-clause-mine g c k is =
     let value = c.deref.ensures.value in
     let len = ap length value in
     let at = slice_get-get_or c.self.inside.round.own.items c.in-Some.i c.index.result.now (omega (arith, lt, len)) ∙ ap Some (sym c.index.ensures ∙ worked_once c.index.result.now k is) in
-    subst (λ (h : Hosted). (k < length h.mail.ends) × (is_here h (suc k) ≡ true)) c.self.view_is (its_own c.self.inside.desk c.self.inside.cores.items c.self.inside.root c.self.inside.live c.self.inside.round.rope c.self.invariant c.self.inside.round.own.items c.self.inside.own_are c.in-Some.i k at)
+    subst (λ (h : Hosted). (k < length h.mail.ends) × (is_here h (suc k) ≡ true)) c.self.view_is (its_own c.self.inside.scheduler c.self.inside.cores.items c.self.inside.root c.self.inside.live c.self.inside.round.rope c.self.invariant c.self.inside.round.own.items c.self.inside.own_are c.in-Some.i k at)
 
 pub returns-clause-turns : goal.returns-clause-turns
-returns-clause-turns g c turns run = run_keeps c.self.inside.desk c.serve_round.new.self c.self.inside.cores.items c.self.inside.root c.self.inside.live c.self.inside.round.rope c.self.inside.round.rope c.serve_round.ensures.keeps turns (subst (λ (h : Hosted). HasRun h turns) (sym c.self.view_is) run)
+returns-clause-turns g c turns run = run_keeps c.self.inside.scheduler c.serve_round.new.self c.self.inside.cores.items c.self.inside.root c.self.inside.live c.self.inside.round.rope c.self.inside.round.rope c.serve_round.ensures.keeps turns (subst (λ (h : Hosted). HasRun h turns) (sym c.self.view_is) run)
 
 pub returns-clause-jobs : goal.returns-clause-jobs
-returns-clause-jobs g c jobs old = jobs_keep c.self.inside.desk c.serve_round.new.self c.self.inside.cores.items c.self.inside.root c.self.inside.live c.self.inside.round.rope c.self.inside.round.rope c.serve_round.ensures.keeps jobs (subst (λ (h : Hosted). HasJobs h jobs) (sym c.self.view_is) old)
+returns-clause-jobs g c jobs old = jobs_keep c.self.inside.scheduler c.serve_round.new.self c.self.inside.cores.items c.self.inside.root c.self.inside.live c.self.inside.round.rope c.self.inside.round.rope c.serve_round.ensures.keeps jobs (subst (λ (h : Hosted). HasJobs h jobs) (sym c.self.view_is) old)
 
 pub returns-in_default-clause-whole : goal.returns-in_default-clause-whole
-returns-in_default-clause-whole g c whole = whole_keeps c.self.inside.desk c.serve_round.new.self c.self.inside.cores.items c.self.inside.root c.self.inside.live c.self.inside.round.rope c.self.inside.round.rope c.serve_round.ensures.keeps (subst IsWhole (sym c.self.view_is) whole)
+returns-in_default-clause-whole g c whole = whole_keeps c.self.inside.scheduler c.serve_round.new.self c.self.inside.cores.items c.self.inside.root c.self.inside.live c.self.inside.round.rope c.self.inside.round.rope c.serve_round.ensures.keeps (subst IsWhole (sym c.self.view_is) whole)
 
 pub returns-clause-whole : goal.returns-clause-whole
-returns-clause-whole g c whole = whole_keeps c.self.inside.desk c.serve_round.new.self c.self.inside.cores.items c.self.inside.root c.self.inside.live c.self.inside.round.rope c.self.inside.round.rope c.serve_round.ensures.keeps (subst IsWhole (sym c.self.view_is) whole)
+returns-clause-whole g c whole = whole_keeps c.self.inside.scheduler c.serve_round.new.self c.self.inside.cores.items c.self.inside.root c.self.inside.live c.self.inside.round.rope c.self.inside.round.rope c.serve_round.ensures.keeps (subst IsWhole (sym c.self.view_is) whole)

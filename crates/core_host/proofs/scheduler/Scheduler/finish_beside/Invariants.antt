@@ -1,0 +1,17 @@
+use Rattle.std.proofs.Common.{◌≡◌, List}
+use Rattle.forec_kernel.specs.Engine.{Job}
+use Rattle.core_machine.specs.Held.{Loaded, CanRun}
+use Rattle.core_host.specs.Keeping.{code_in}
+use Rattle.core_host.specs.Rounds.{IsSameRound}
+use Rattle.core_host.specs.OnJob.{IsOnJob, KeepsOthers}
+use Rattle.core_host.proofs.scheduler.Scheduler.finish_beside.Given as goal
+
+abbrev pub invariant-loop : goal.invariant-loop
+invariant-loop g l = record {
+  keeps : KeepsOthers l.fn.self l.self;
+  round : IsSameRound l.fn.round l.round;
+  root : l.thread.number ≡ 0;
+  loaded : Loaded (code_in l.self) l.thread;
+  running : CanRun l.thread;
+  done : (jobs : List Job) (job : Job) → IsOnJob l.fn.self l.fn.thread jobs job → IsOnJob l.self l.thread jobs job;
+}

@@ -1,0 +1,22 @@
+use Rattle.std.proofs.Common.{◌+◌, sym, ap, ◌∙◌}
+use Rattle.std.specs.Prelude.{slice_index_or}
+use Rattle.core_host.specs.Keeping.{State}
+use Rattle.core_host.proofs.Serves.{it_waits, it_rests, quiet_turn, quiet_waits, only_false}
+use Rattle.core_host.proofs.scheduler.Scheduler.serve.Goals as goal
+
+pub resume-requires-clause-waits : goal.resume-requires-clause-waits
+resume-requires-clause-waits g c =
+    it_waits c.args.self.now c.args.mailbox c.index.result.now (c.index.ensures ∙ ap (λ (s : State). slice_index_or s.seats (c.args.mailbox + 1) c.index.result.now) c.self.view_is) c.requires.between (sym c.is_some.ensures ∙ c.if-is_some.true)
+
+pub begin-requires-clause-rests : goal.begin-requires-clause-rests
+begin-requires-clause-rests g c =
+    it_rests c.args.self.now c.args.mailbox c.index.result.now (c.index.ensures ∙ ap (λ (s : State). slice_index_or s.seats (c.args.mailbox + 1) c.index.result.now) c.self.view_is) c.requires.between (sym c.is_some.ensures ∙ c.if-is_some.false)
+
+pub returns-then-is_some-clause-quiet : goal.returns-then-is_some-clause-quiet
+returns-then-is_some-clause-quiet g c tells quiet =
+    absurd
+    (quiet_waits c.args.self.now c.args.mailbox quiet
+    (it_waits c.args.self.now c.args.mailbox c.index.result.now (c.index.ensures ∙ ap (λ (s : State). slice_index_or s.seats (c.args.mailbox + 1) c.index.result.now) c.self.view_is) c.requires.between (sym c.is_some.ensures ∙ c.if-is_some.true)))
+
+pub returns-else-is_some-clause-quiet : goal.returns-else-is_some-clause-quiet
+returns-else-is_some-clause-quiet g c tells quiet = c.begin.ensures.looks (only_false c.begin.result (λ e. c.begin.ensures.turn tells e (quiet_turn c.args.self.now c.args.mailbox quiet)))
