@@ -134,9 +134,13 @@ impl<'a, 'w, H: Runnable + Serve, G: Gate, R: Wait> Workers<'a, 'w, H, G, R> {
     }
 }
 
-impl<'a, 'w, H: Runnable + Serve + Send, G: Gate, R: Threads + Wait + Sync>
-    Workers<'a, 'w, H, G, R>
-{
+impl<'a, 'w, H: Runnable + Serve + Send, G: Gate, R: Threads + Wait + Sync> Workers<
+    'a,
+    'w,
+    H,
+    G,
+    R,
+> {
     /// Starts a thread for each worker, and leads beside them.
     fn lead_all<T: Ticker + Stop, J: Lead>(
         &self,
@@ -160,9 +164,7 @@ impl<'a, 'w, H: Runnable + Serve + Send, G: Gate, R: Threads + Wait + Sync>
                 requires follows { T.follows ticker.now Fresh }
                 requires live { T.live ticker.now ≡ true }
                 requires ready { T.ready ticker.now ≡ true }
-            {
-                self.lead_beside(others, ticker, job)
-            },
+            { self.lead_beside(others, ticker, job) },
         )
     }
 
