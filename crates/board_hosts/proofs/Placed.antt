@@ -4,7 +4,7 @@ use Rattle.std.specs.Prelude.{slice_get}
 use Rattle.std.proofs.lemmas.Bool.Decides.{nat_tests}
 use Rattle.forec_kernel.specs.Combining.{contains}
 
--- the core that is looked for is there, or is looked for behind it
+-- the core that is looked for is there, or is looked for after it
 pub contains_here : (core : ℕ) (l : List ℕ) (n x : ℕ) → slice_get l n ≡ Some x → x ≡ core → contains core (drop n l) ≡ true
 contains_here core [] zero x e same = cc
 contains_here core [] (suc n) x e same = cc

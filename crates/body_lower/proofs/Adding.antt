@@ -140,7 +140,7 @@ ListGoes text rest whole total = (more all : Added) → ListAdds text rest more 
 abbrev pub BranchesGo : Text → Branches → Branches → Added → Type 0
 BranchesGo text rest whole total = (more all : Added) → BranchesAdd text rest more → Joins total more all → BranchesAdd text whole all
 
--- a part, and more behind it
+-- a part, and more after it
 abbrev behind : Added → Added → Added → Added
 behind a more all = record { threads = a.threads + more.threads; pars = a.pars + more.pars; calls = all.calls }
 

@@ -151,7 +151,7 @@ count_args (e ∷ es) = ap suc (count_args es)
 
 -- ---- lists of statements and branches, one after the other
 
--- what is left of a list, from a state on, behind what is done
+-- what is left of a list, from a state on, after what is done
 pub record ListLeft (text : Text) (rest whole : Listed) (done : Stmts) (old now : State) : Type 0 where
   pub is : joined done rest.list ≡ whole.list
   pub next : rest.next ≡ whole.next

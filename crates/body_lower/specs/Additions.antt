@@ -10,7 +10,7 @@ use Rattle.body_lower.specs.Landings.{called_within}
 abbrev pub nothing : Added
 nothing = record { threads = 0; pars = 0; calls = 0 }
 
--- the numbers go on behind so many threads and `par`s
+-- the numbers go on after so many threads and `par`s
 pub record Moves (a : Added) (from to : Next) : Type 0 where
   pub thread : to.thread ≡ from.thread + a.threads
   pub par : to.par ≡ from.par + a.pars

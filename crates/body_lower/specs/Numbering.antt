@@ -17,7 +17,7 @@ abbrev pub counted : Counts → PlainItem → Counts
 counted c i =
     record { variables = more_if c.variables (is_variable i); tables = more_if c.tables (is_table i); functions = more_if c.functions (is_int_function i) }
 
--- the counts before the first item of a name, or behind all
+-- the counts before the first item of a name, or after all
 abbrev pub before_name : ℕ → Counts → Text → Counts
 before_name id c [] = c
 before_name id c (i ∷ rest) = cond (item_id i == id) c (before_name id (counted c i) rest)

@@ -21,7 +21,7 @@ use Rattle.body_lower.specs.declared.scope.Scope.{Scope}
 abbrev pub seen : Scope → List Slot
 seen s = drop s.base s.slots.items
 
--- the same locals as before, with others behind them
+-- the same locals as before, with others after them
 pub record Kept (old new : Scope) : Type 0 where
   pub base : new.base ≡ old.base
   pub front : take (length old.slots.items) new.slots.items ≡ old.slots.items

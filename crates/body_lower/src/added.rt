@@ -1,5 +1,5 @@
-// How many threads and `par`s a text adds, with those of the functions that are put in place. Threads and
-// `par`s are numbered in preorder: a branch takes as many numbers as its text adds.
+//! How many threads and `par`s a text adds, with those of the functions that are put in place. Threads and
+//! `par`s are numbered in preorder: a branch takes as many numbers as its text adds.
 
 ghost use Rattle.std.specs.Prelude.{◌≡◌, ◌∷◌, [], ℕ, None, Some, slice_index_or, IfOk, OnOk};
 ghost use Rattle.forec_base.specs.declared.Place.{Place};
@@ -241,7 +241,7 @@ fn put(table: &mut Vec<Option<Added>>, id: u32, added: Option<Added>) -> Result<
     Ok(())
 }
 
-/// What the calls of functions add, each of which is looked at once, behind those that it calls.
+/// What the calls of functions add, each of which is looked at once, after those that it calls.
 pub fn additions(
     alloc: Global,
     index: &Index<'_>,

@@ -1,4 +1,4 @@
-// Assignments and declarations.
+//! Assignments and declarations.
 
 ghost use Rattle.std.specs.Prelude.{◌≡◌, pos, map, length, IfOk, OnOk};
 ghost use Rattle.forec_kernel.specs.Terms.{Num};
@@ -148,7 +148,7 @@ fn element_number(at: usize) -> Result<Expression, OutOfMemory>
     }
 }
 
-/// Sets the elements of an array from its initial values, behind other statements.
+/// Sets the elements of an array from its initial values, after other statements.
 fn set_values(
     alloc: Global,
     globals: &Globals<'_>,
@@ -226,7 +226,7 @@ fn size_of(length: Option<Number>) -> Option<u32>
     }
 }
 
-/// The declarators of one declaration, which are declared from a slot on; it is moved behind them.
+/// The declarators of one declaration, which are declared from a slot on; it is moved after them.
 pub fn lower_locals(
     alloc: Global,
     globals: &Globals<'_>,

@@ -1,8 +1,8 @@
-// The body of a thread: its statements, with the functions that it calls as statements put in place.
-//
-// `fuel` is how many levels of the kernel may stand in one another: each takes a part of the stack, of
-// which there is only so much. Groups and functions of one statement add no level, so they are gone
-// through in a loop; and the bodies of branches, which are threads of their own, are left for later.
+//! The body of a thread: its statements, with the functions that it calls as statements put in place.
+//!
+//! `fuel` is how many levels of the kernel may stand in one another: each takes a part of the stack, of
+//! which there is only so much. Groups and functions of one statement add no level, so they are gone
+//! through in a loop; and the bodies of branches, which are threads of their own, are left for later.
 
 ghost use Rattle.std.specs.Prelude.{◌≡◌, ◌≤◌, ◌-◌, [], Some, map, IfOk, OnOk};
 ghost use Rattle.forec_tree.specs.Plain as plain;

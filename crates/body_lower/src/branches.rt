@@ -1,4 +1,4 @@
-// The branches of a `par`: each is a thread, whose body is translated later, by itself.
+//! The branches of a `par`: each is a thread, whose body is translated later, by itself.
 
 ghost use Rattle.std.specs.Prelude.{◌∷◌, [], map, IfOk, OnOk};
 ghost use Rattle.forec_tree.specs.Plain as plain;

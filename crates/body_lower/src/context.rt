@@ -1,4 +1,4 @@
-// What stays the same through the text of a thread.
+//! What stays the same through the text of a thread.
 
 use crate::source::Source;
 use std::alloc::Global;

@@ -1,4 +1,4 @@
-// What the names of a program's items stand for.
+//! What the names of a program's items stand for.
 
 ghost use Rattle.std.specs.Prelude.{◌≡◌, ℕ, map, None, slice_index_or, IfOk, OnOk};
 ghost use Rattle.forec_tree.specs.Plain.{plain_item, plain_global};
@@ -76,7 +76,7 @@ fn is_int_function(item: &Item) -> bool
     }
 }
 
-/// The counts behind an item.
+/// The counts after an item.
 fn counted(counts: Counts, item: &Item) -> Result<Counts, OutOfMemory>
     ensures { IfOk result (λ c. c ≡ numbering.counted counts (plain_item item.now)) }
 {

@@ -1,6 +1,6 @@
-// Where statements land. A group of one statement is this statement, and a call without arguments of a
-// function of one statement is that one, which sees global names alone: the kernel has nothing for the
-// way there.
+//! Where statements land. A group of one statement is this statement, and a call without arguments of a
+//! function of one statement is that one, which sees global names alone: the kernel has nothing for the
+//! way there.
 
 ghost use Rattle.std.specs.Prelude.{◌≡◌, ℕ, None, Some, option_map, slice_index_or, IfOk, OnOk};
 ghost use Rattle.forec_tree.specs.Plain as plain;

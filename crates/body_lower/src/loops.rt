@@ -1,4 +1,4 @@
-// The parts of a loop.
+//! The parts of a loop.
 
 ghost use Rattle.std.specs.Prelude.{◌≡◌, IfOk};
 ghost use Rattle.forec_tree.specs.Plain as plain;
@@ -53,7 +53,7 @@ pub fn optional_test(
     }
 }
 
-/// A loop's body with its step behind it, where it has one.
+/// A loop's body with its step after it, where it has one.
 pub fn then_step(
     alloc: Global,
     step: &Option<Box<Stmt>>,

@@ -1,4 +1,4 @@
-// Small parts of statements.
+//! Small parts of statements.
 
 ghost use Rattle.std.specs.Prelude.{◌≡◌, ◌+◌, map, IfOk};
 ghost use Rattle.forec_kernel.specs.Plain as kernel;

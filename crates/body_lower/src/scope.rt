@@ -1,4 +1,4 @@
-// The locals that a statement sees.
+//! The locals that a statement sees.
 
 ghost use Rattle.std.specs.Prelude.{◌≡◌, ◌≤◌, ◌++◌, ◌∷◌, [], ℕ, map, length, drop, take, None, OnOk};
 ghost use Rattle.body_lower.specs.Trail.{id_of};
@@ -11,7 +11,7 @@ use forec_tree::Name;
 use std::alloc::Global;
 use text_kernel::Slot;
 
-/// Locals in the order of declaration, of which those behind the first `base` are seen.
+/// Locals in the order of declaration, of which those after the first `base` are seen.
 #[derive(Drop)]
 pub struct Scope {
     trail: Trail,

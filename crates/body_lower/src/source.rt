@@ -1,4 +1,4 @@
-// The program that is translated.
+//! The program that is translated.
 
 ghost use Rattle.std.specs.Prelude.{◌≡◌, ◌∷◌, [], ℕ, None, Some, option_map, map, IfOk};
 ghost use Rattle.forec_tree.specs.Plain as plain;

@@ -1,4 +1,4 @@
-// What the translation keeps on its way through a thread's text.
+//! What the translation keeps on its way through a thread's text.
 
 use crate::scope::Scope;
 use forec_kernel::Statement;
@@ -6,7 +6,7 @@ use forec_tree::Branch;
 use std::alloc::Global;
 
 /// A thread below: its parent, the `par` whose branch it is, the name of its function, how many of its
-/// words are parameters, how many words it has, the number of the thread behind it and those below it,
+/// words are parameters, how many words it has, the number of the thread after it and those below it,
 /// and its body.
 #[derive(Drop)]
 pub struct Thread {

@@ -1,4 +1,4 @@
-// Expressions of the kernel.
+//! Expressions of the kernel.
 
 ghost use Rattle.std.specs.Prelude.{◌≡◌, map, IfOk};
 ghost use Rattle.forec_tree.specs.Plain as plain;

@@ -1,4 +1,4 @@
-// The threads below thread 0: the body of each is translated by itself, in the order of their numbers.
+//! The threads below thread 0: the body of each is translated by itself, in the order of their numbers.
 
 ghost use Rattle.std.specs.Prelude.{◌≡◌, ◌+◌, ◌∷◌, ◌++◌, [], map, length, IfOk, OnOk};
 ghost use Rattle.forec_base.specs.declared.Place.{Place};
@@ -84,7 +84,7 @@ fn blocking<'p>(
     })
 }
 
-/// Translates the body of a branch. The branches in it are pending behind it.
+/// Translates the body of a branch. The branches in it are pending after it.
 fn translated<'p>(
     alloc: Global,
     source: &Source<'p>,

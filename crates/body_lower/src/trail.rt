@@ -1,4 +1,4 @@
-// Numbers one after the other, with the last place of each at hand.
+//! Numbers one after the other, with the last place of each at hand.
 
 ghost use Rattle.std.specs.Prelude.{◌≡◌, ◌<◌, ◌≤◌, ◌-◌, [], ℕ, length, take, slice_index_or, OnOk, OnErr};
 ghost use Rattle.body_lower.specs.Trail.{last_of, Chained, put_at, pushed};

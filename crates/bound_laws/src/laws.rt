@@ -1,4 +1,4 @@
-// Laws of the bound.
+//! Laws of the bound.
 
 ghost use Rattle.bound_laws.specs.Laws.{TickWithinBound, NeverOver, RunsNeverOver};
 

@@ -78,7 +78,7 @@ nothing_shared g (v ∷ vs) = nothing_shared g vs
 apart : (a b : ℕ) → (a < b) → ((a == b) ≡ false) × ((b == a) ≡ false)
 apart a b lt = (grind (arith, nat_tests), grind (arith, nat_tests))
 
--- the shares behind the first one, for greater variables
+-- the shares after the first one, for greater variables
 skip_first : (g : ℕ → VarCopy → List Value) (s : Share) (ss : List Share) (vs : List ℕ) → Each (λ v. s.variable < v) vs → flat (λ v. from_share g v (share_in (s ∷ ss) v)) vs ≡ flat (λ v. from_share g v (share_in ss v)) vs
 skip_first g s ss vs h = flat_same (λ v. from_share g v (share_in (s ∷ ss) v)) (λ v. from_share g v (share_in ss v)) vs (each_map (λ v. s.variable < v) _ (λ v lt. ap (λ b. from_share g v (cond b (Some s.copy) (share_in ss v))) (apart s.variable v lt).0) vs h)
 

@@ -73,7 +73,7 @@ arguments_are p (b ∷ bs) =
     let first = expressions_code p b.args in
     omega (arith, expressions_are p b.args, arguments_are (p + length first) bs, length-append first (arguments_code (p + length first) bs))
 
--- what stands round a statement: so many instructions before a pause, and so many behind it
+-- what stands round a statement: so many instructions before a pause, and so many after it
 pub record Surrounds (a : Around) (c w : ℕ) : Type 0 where
   pub before : length (checks a) ≡ c
   pub behind : (p : ℕ) → length (prologue p a) ≡ w

@@ -16,7 +16,7 @@ use Rattle.code_gen.proofs.Blocks.{blocks_length}
 use Rattle.code_gen.proofs.Depths.{expression_depths, expressions_depths, same_length, same_lengths}
 use Rattle.code_gen.proofs.Stretch.{HasAt, has_front, has_back}
 
--- what stands behind so many elements
+-- what stands after so many elements
 pub back_at : {A : Type 0} → (s : List A) (p : ℕ) (a b : List A) (n : ℕ) → length a ≡ n → HasAt s p (a ++ b) → HasAt s (p + n) b
 back_at s p a b n e h = subst (λ i. HasAt s (p + i) b) e (has_back s p a b h)
 
@@ -54,7 +54,7 @@ module _ (depths : List ℕ) where
     starts (Choose t a b) d p h = starts t d p (has_front depths p (expression_depths d t) _ h)
     starts (Call f args) d p h = all_starts args d p _ h
 
-    -- of several expressions and a depth behind them
+    -- of several expressions and a depth after them
     pub all_starts : (xs : Exprs) (d p : ℕ) (rest : List ℕ) → HasAt depths p (expressions_depths d xs ++ (d + count_exprs xs) ∷ rest) → Leads depths p d
     all_starts no_exprs d p rest h = let e : d + 0 ≡ d = omega arith in h.0 ∙ ap Some e
     all_starts (more_exprs x xs) d p rest h = starts x d p (has_front depths p (expression_depths d x) (expressions_depths (d + 1) xs) (has_front depths p (expressions_depths d (more_exprs x xs)) _ h))

@@ -117,7 +117,7 @@ fill_first : (n : Option ℕ) → First (fill_depths n)
 fill_first None = tt
 fill_first (Some n) = refl
 
--- where a stretch begins the depth is 0, if it is behind it
+-- where a stretch begins the depth is 0, if it is after it
 pub lead_first : (depths : List ℕ) (p n : ℕ) (ds : List ℕ) → First ds → length ds ≡ n → HasAt depths p ds → Leads depths (p + n) 0 → Leads depths p 0
 lead_first depths p n [] f e h g = let z : p + n ≡ p = omega (arith, e) in subst (λ i. Leads depths i 0) z g
 lead_first depths p n (d ∷ ds) f e h g = subst (Leads depths p) f h.0
@@ -151,7 +151,7 @@ module _ (k : PlainKernel) (thread : Option ℕ) (b : PlainBlock) (depths : List
 
   -- ---- what stands round
 
-  -- each abort round a stretch ends at or behind its end
+  -- each abort round a stretch ends at or after its end
   abbrev pub Encloses : ℕ → Around → Type 0
   Encloses e Outside = Unit {0}
   Encloses e (InLoop n a) = Encloses e a
@@ -360,7 +360,7 @@ module _ (k : PlainKernel) (thread : Option ℕ) (b : PlainBlock) (depths : List
   turn_fine None w p place lt end = tt
   turn_fine (Some n) w p place lt end = ((lt, end), tt)
 
-  -- a test and a jump behind it
+  -- a test and a jump after it
   test_fine : (e : Expr) (d p : ℕ) (i : Instruction) (rest : List Instruction) (ds : List ℕ) → FineExpr (z k thread b depths) e → HasAt depths p (expression_depths 0 e ++ d ∷ ds) → d ≡ 1 → Fine k thread b depths (p + length (expression_code p e)) (i ∷ rest) (d ∷ ds) → Fine k thread b depths p (expression_code p e ++ i ∷ rest) (expression_depths 0 e ++ d ∷ ds)
   test_fine e d p i rest ds ok has is g =
       let c = expression_code p e in

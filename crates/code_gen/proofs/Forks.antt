@@ -20,7 +20,7 @@ use Rattle.code_gen.proofs.Stretch.{HasAt, has_front, has_back, SameCount, point
 use Rattle.code_gen.proofs.Exprs.{push_all, same_count, expressions_run}
 use Rattle.code_gen.proofs.Places.{ok, BranchesFit, numbers, running_in, Awaits}
 
--- all lists, one behind the other
+-- all lists, one after the other
 abbrev pub joined : List (List ℤ) → List ℤ
 joined [] = []
 joined (ns ∷ rest) = ns ++ joined rest

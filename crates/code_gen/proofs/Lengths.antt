@@ -81,7 +81,7 @@ alike_checks (InAbort w e x a) Outside h = absurd h
 alike_checks (InAbort w e x a) (InLoop n b) h = absurd h
 alike_checks (InAbort w e x a) (InAbort w' e' x' b) h = checks_abort w w' e e' x x' a b h.0 (alike_checks a b h.2)
 
--- the length of a test and one instruction behind other code
+-- the length of a test and one instruction after other code
 guard_length : (p : ℕ) (c d : List Instruction) (e e' : Expr) (i j : Instruction) → length c ≡ length d → e ≡ e' → length (c ++ (expression_code (p + length c) e ++ i ∷ [])) ≡ length (d ++ (expression_code (p + length d) e' ++ j ∷ []))
 guard_length p c d e e' i j h he =
     let same : length (expression_code (p + length c) e) ≡ length (expression_code (p + length d) e') = ap (λ n. length (expression_code (p + n) e)) h ∙ ap (λ x. length (expression_code (p + length d) x)) he in

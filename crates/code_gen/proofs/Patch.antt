@@ -46,7 +46,7 @@ patch_sides base c1 c2 c3 c4 a b x skip v n to e1 m e2 e3 e4 et =
     ∙ ap (λ i. base ++ (ca ++ skip (q + length (expression_code q b) + 1 + 1) ∷ (cb ++ tail i))) r
     ∙ ap (λ i. base ++ (ca ++ skip (q + length (expression_code q b) + 1 + 1) ∷ (expression_code i b ++ tail (q + length (expression_code q b))))) here
 
--- two branches behind a test
+-- two branches after a test
 pub patch_if : (base c1 c2 c3 c4 c5 test : List Instruction) (first second : ℕ → List Instruction) (x1 x2 : Instruction) (n m r e : ℕ) → c1 ≡ base ++ test → n ≡ length c1 → c2 ≡ c1 ++ x1 ∷ [] → c3 ≡ c2 ++ first (length c2) → m ≡ length c3 →
     c4 ≡ c3 ++ x2 ∷ [] → r ≡ length c4 → c5 ≡ c4 ++ second (length c4) → e ≡ length c5 → slice_set (slice_set c5 n (instruction.Zero r)) m (instruction.Jump e) ≡ base ++ if_code (length base) test first second
 patch_if base c1 c2 c3 c4 c5 test first second x1 x2 n m r e e1 hn e2 e3 hm e4 hr e5 he =

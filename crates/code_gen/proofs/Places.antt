@@ -191,7 +191,7 @@ module _ (k : PlainKernel) (t : ℕ) (s : List Instruction) where
     pub fits : Fits (kernel_code k) (ok k) loop.test
     pub body : StatementFits k loop.body
 
-  -- what comes behind a text that is done at m
+  -- what comes after a text that is done at m
   abbrev pub BehindAt : Around → After → ℕ → ℕ → Type 0
   BehindAt a (Go_on list) m q = StatementsAt a list m q
   BehindAt a (Again loop) m q = (h : ℕ) × (slice_get s m ≡ Some (instruction.Jump h)) × LoopAt a loop h q

@@ -36,7 +36,7 @@ counted (Some n) = 1
 abbrev pub entry_length : Bool → Bool → ℕ → ℕ
 entry_length weak immediate test = cond immediate (test + 1) (one_if weak)
 
--- a statement with so many instructions before each of its pauses, and so many behind it
+-- a statement with so many instructions before each of its pauses, and so many after it
 abbrev mutual
   pub statement_length : (checks prologue : ℕ) → Stmt → ℕ
   statement_length c w Nop = 0

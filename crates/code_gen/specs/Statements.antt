@@ -11,7 +11,7 @@ use Rattle.code_gen.specs.Expressions.{expression_code, expressions_code}
 
 -- ---- what stands round a statement
 
--- the innermost first: a loop with a bound, or an abort with the address behind it
+-- the innermost first: a loop with a bound, or an abort with the address after it
 pub data Around : Type 0 where
   Outside : Around
   InLoop : (bound : ℕ) → Around → Around
@@ -39,7 +39,7 @@ checks (InLoop n a) = checks a
 checks (InAbort false e x a) = checks a
 checks (InAbort true e x a) = instruction.Flagged (weaks a) x ∷ checks a
 
--- behind an abort's test: a strong one leaves at once, a weak one sets its flag
+-- after an abort's test: a strong one leaves at once, a weak one sets its flag
 abbrev pub guard : Bool → ℕ → ℕ → Instruction
 guard false flag x = instruction.NonZero x
 guard true flag x = instruction.Keep flag

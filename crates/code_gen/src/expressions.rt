@@ -1,4 +1,4 @@
-//! The instructions of an expression, behind those that stand already.
+//! The instructions of an expression, after those that stand already.
 
 ghost use Rattle.std.specs.Prelude.{◌≡◌, ◌+◌, [], ◌∷◌, ◌++◌, length, OnOk, IfOk};
 ghost use Rattle.forec_kernel.specs.Plain.{expr, exprs};
@@ -115,8 +115,8 @@ pub fn emit_expression(
     }
 }
 
-// Behind the sides of an `and` or an `or`: the right side becomes 0 or 1. The result is the address that
-// skips it, where the number of a side that was skipped is pushed.
+/// Behind the sides of an `and` or an `or`: the right side becomes 0 or 1. The result is the address that
+/// skips it, where the number of a side that was skipped is pushed.
 fn end_sides(steps: &mut Vec<Instruction>, skipped: i32) -> Result<u32, OutOfMemory>
     ensures code { OnOk result (steps.new.items ≡ steps.old.items ++ (Truth ∷ Jump (length steps.old.items + 1 + 1 + 1) ∷ Quiet skipped ∷ [])) }
     ensures at { IfOk result (λ to. to ≡ length steps.old.items + 1 + 1) }

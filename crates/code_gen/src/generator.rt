@@ -18,8 +18,8 @@ use forec_kernel::{FunctionShape, Kernel, KernelParts, Statement, ThreadShape};
 use std::alloc::Global;
 use thread_code::{Block, Code, CodeParts, Instruction};
 
-// A body's code, with room for an end or a return. `room` is how many more instructions the code may have:
-// it falls by those of the body and two more.
+/// A body's code, with room for an end or a return. `room` is how many more instructions the code may have:
+/// it falls by those of the body and two more.
 fn body_steps(
     alloc: Global,
     body: &Statement,
@@ -47,7 +47,7 @@ fn body_steps(
     Ok(steps)
 }
 
-// How deep loops with a bound stand in one another.
+/// How deep loops with a bound stand in one another.
 #[cycle(counters)]
 fn counters(statement: &Statement) -> Result<u32, OutOfMemory>
     ensures { IfOk result (λ n. n ≡ counters_in (stmt statement.now)) }
@@ -88,7 +88,7 @@ fn counters_within(list: &[Statement]) -> Result<u32, OutOfMemory>
     Ok(most)
 }
 
-// How deep weak aborts stand in one another.
+/// How deep weak aborts stand in one another.
 #[cycle(flags)]
 fn flags(statement: &Statement) -> Result<u32, OutOfMemory>
     ensures { IfOk result (λ n. n ≡ flags_in (stmt statement.now)) }
@@ -214,7 +214,7 @@ fn function_blocks(
 /// list of jobs and replies: the same forks, jobs and replies, units included. A code that would have
 /// more than 8,388,608 instructions is answered as want of memory, which is the only other answer.
 ///
-/// A pause has the tests of all aborts round it behind it, which are made at each wake: so code can be
+/// A pause has the tests of all aborts round it after it, which are made at each wake: so code can be
 /// far larger than its kernel.
 pub fn generate(alloc: Global, kernel: &Kernel) -> Result<Code, OutOfMemory>
     ensures { IfOk result (λ code. Stands (plain_code code) (plain_kernel kernel.now)) }

@@ -1,4 +1,4 @@
-//! How many instructions code has, counted before it is written: an abort leads behind its body, so its
+//! How many instructions code has, counted before it is written: an abort leads after its body, so its
 //! address is needed inside. A sum that passes 32 bits is past the most that a code may have, and is
 //! answered as want of memory.
 
@@ -80,7 +80,7 @@ fn arguments_size(branches: &[Launch]) -> Result<u32, OutOfMemory>
 }
 
 /// The number of instructions of a statement, with so many of them before each of its pauses (`checks`)
-/// and behind it (`prologue`). The sizes of the bodies of its aborts are put behind `sizes`, in the order
+/// and after it (`prologue`). The sizes of the bodies of its aborts are put after `sizes`, in the order
 /// of the text.
 #[cycle(statement)]
 pub fn statement_size(
@@ -150,7 +150,7 @@ pub fn statement_size(
     }
 }
 
-// An abort whose test has so many instructions.
+/// An abort whose test has so many instructions.
 #[cycle(statement)]
 fn abort_size(
     sizes: &mut Vec<u32>,

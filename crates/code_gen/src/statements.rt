@@ -1,4 +1,4 @@
-//! The instructions of a statement, behind those that stand already.
+//! The instructions of a statement, after those that stand already.
 
 ghost use Rattle.std.specs.Prelude.{◌≡◌, ◌+◌, [], ◌∷◌, ◌++◌, length, map, OnOk, IfOk};
 ghost use Rattle.forec_kernel.specs.Plain.{expr, exprs, stmt, stmts, branch};
@@ -15,7 +15,7 @@ use forec_kernel::{Expression, Launch, Spot, Statement, ThreadShape};
 use thread_code::Instruction;
 
 /// What stands round a statement, the innermost first: loops with a bound, and aborts, each with the
-/// address behind it.
+/// address after it.
 #[derive(Drop)]
 pub enum Around<'a> {
     Outside,
@@ -52,7 +52,7 @@ fn put_perhaps(
     }
 }
 
-// Before a pause: out of the innermost weak abort whose flag is set.
+/// Before a pause: out of the innermost weak abort whose flag is set.
 fn emit_checks(
     steps: &mut Vec<Instruction>,
     around: &Around<'_>,
@@ -84,7 +84,7 @@ fn emit_checks(
     }
 }
 
-// At a wake, from the outside in: the tests of the aborts, and the turns of the loops anew.
+/// At a wake, from the outside in: the tests of the aborts, and the turns of the loops anew.
 fn emit_prologue(
     steps: &mut Vec<Instruction>,
     around: &Around<'_>,
@@ -124,8 +124,8 @@ fn emit_prologue(
     }
 }
 
-// Out of a weak abort whose flag is set, else a pause, and what is done at its wakes. The result is the
-// address at which a wake goes on.
+/// Out of a weak abort whose flag is set, else a pause, and what is done at its wakes. The result is the
+/// address at which a wake goes on.
 fn emit_wait(
     steps: &mut Vec<Instruction>,
     around: &Around<'_>,
@@ -159,8 +159,8 @@ fn emit_pause(
     Ok(())
 }
 
-// A fork whose arguments are on the stack. Where a branch has not ended the thread pauses, and at its
-// wakes the branches are woken. The pause stands a second time behind that, since a fork leads onward.
+/// A fork whose arguments are on the stack. Where a branch has not ended the thread pauses, and at its
+/// wakes the branches are woken. The pause stands a second time after that, since a fork leads onward.
 fn emit_fork(
     steps: &mut Vec<Instruction>,
     par: u32,
@@ -189,7 +189,7 @@ fn emit_fork(
     Ok(())
 }
 
-// The number of a par, which its branches have.
+/// The number of a par, which its branches have.
 fn number_of(threads: &[ThreadShape], branches: &[Launch]) -> u32
     ensures { result ≡ par_number (map plain_thread threads.now) (map branch branches.now) }
 {
@@ -213,7 +213,7 @@ fn emit_arguments(steps: &mut Vec<Instruction>, branches: &[Launch]) -> Result<(
     Ok(())
 }
 
-// The start of an abort, whose body has so many instructions. The result is the address behind it.
+/// The start of an abort, whose body has so many instructions. The result is the address after it.
 fn emit_entry(
     steps: &mut Vec<Instruction>,
     weak: bool,
@@ -243,7 +243,7 @@ fn emit_entry(
     Ok(exit)
 }
 
-// A loop from its test on.
+/// A loop from its test on.
 #[cycle(statement)]
 fn emit_loop(
     steps: &mut Vec<Instruction>,
@@ -272,7 +272,7 @@ fn emit_loop(
     Ok(())
 }
 
-// A loop with its bound, if it has one.
+/// A loop with its bound, if it has one.
 #[cycle(statement)]
 fn emit_while(
     steps: &mut Vec<Instruction>,
@@ -324,7 +324,7 @@ fn emit_while(
     )
 }
 
-// An abort. How long its body is was counted beforehand, and is compared with what was written.
+/// An abort. How long its body is was counted beforehand, and is compared with what was written.
 #[cycle(statement)]
 fn emit_abort(
     steps: &mut Vec<Instruction>,

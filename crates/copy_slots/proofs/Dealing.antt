@@ -114,7 +114,7 @@ module _ {W P Q : Type 0} (plain : P → Q) (asks : W → ℕ → List Q → Typ
           children None t = tt
           children (Some x) t = t
 
-  -- a seat is split, and the new one stands behind the others
+  -- a seat is split, and the new one stands after the others
   pub resplit : (s : St) (r : Rule s) (id : ℕ) (v left right : View W Q) (parent child : ℕ → ℕ) → get_elem? s.views id ≡ some v
       → Sits r.mail parent child r.keeper r.stored id left → Sits r.mail parent child r.keeper r.stored (length s.views) right
       → ((j : ℕ) (u : View W Q) → j ≢ id → Sits r.mail r.parent r.child r.keeper r.stored j u → Sits r.mail parent child r.keeper r.stored j u)

@@ -56,7 +56,7 @@ args_shift (suc n) total first deeper stack =
     ∙ ap (λ k. word stack (total - 1 - first) ∷ args_from (deeper + total) k n stack) m
     ∙ ap (λ l. word stack (total - 1 - first) ∷ l) (args_shift n total (suc first) deeper stack)
 
--- those of the k-th branch lie below those of the branches behind it
+-- those of the k-th branch lie below those of the branches after it
 pub args_behind : (s : PlainShape) (bs : List ℕ) (k n : ℕ) (stack : List ℤ) → args_from (arguments_of s bs) (arguments_of s (take k bs)) n stack ≡ args_from (arguments_of s (drop k bs)) 0 n stack
 args_behind s bs k n stack =
     let first = arguments_of s (take k bs) in
@@ -68,7 +68,7 @@ pub length_args : (total first n : ℕ) (stack : List ℤ) → length (args_from
 length_args total first zero stack = refl
 length_args total first (suc n) stack = ap suc (length_args total (suc first) n stack)
 
--- what lies behind the topmost numbers
+-- what lies after the topmost numbers
 argument_past : (n : ℕ) (stack args : List ℤ) (i : ℕ) → n ≤ length stack → get_or (arguments n stack args) (n + i) (pos 0) ≡ get_or args i (pos 0)
 argument_past zero stack args i le = let e : zero + i ≡ i = omega arith in ap (λ k. get_or args k (pos 0)) e
 argument_past (suc n) [] args i le = absurd (omega arith)

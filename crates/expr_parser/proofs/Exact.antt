@@ -11,7 +11,7 @@ use Rattle.expr_parser.specs.Meaning.{is_fixed}
 use Rattle.expr_parser.specs.Reading.{next_is}
 use Rattle.expr_parser.proofs.Spans.{tokens_append, within_join, first, first-is, step, ok_of, ok_pair}
 
--- what a parser reads: the level before, the value, the level behind, the tokens, and the kind of the token behind them
+-- what a parser reads: the level before, the value, the level after, the tokens, and the kind of the token after them
 abbrev pub Lang : Type 0 → Type 1
 Lang A = ℕ → A → ℕ → List Spelt → Option TokenKind → Type 0
 
@@ -60,7 +60,7 @@ pub data Choice {A B : Type 0} (f : Fixed) (P1 P0 : Lang A) (Q1 Q0 : A → Lang 
   taken : {v u w : ℕ} {x : A} {y : B} {ls rs : List Spelt} {k : Option TokenKind} → is_fixed f (first rs k) ≡ true → P1 v x u ls (first rs k) → Q1 x u y w rs k → Choice f P1 P0 Q1 Q0 v y w (ls ++ rs) k
   left_out : {v u w : ℕ} {x : A} {y : B} {ls rs : List Spelt} {k : Option TokenKind} → is_fixed f (first rs k) ≡ false → P0 v x u ls (first rs k) → Q0 x u y w rs k → Choice f P1 P0 Q1 Q0 v y w (ls ++ rs) k
 
--- a part that leaves the level as it was, where the token behind is one of these
+-- a part that leaves the level as it was, where the token after is one of these
 pub data Part {A : Type 0} (C : Option TokenKind → Type 0) (R : A → ℕ → List Spelt → Type 0) : ℕ → A → ℕ → List Spelt → Option TokenKind → Type 0 where
   part : {v : ℕ} {x : A} {ls : List Spelt} {k : Option TokenKind} → R x v ls → C k → Part C R v x v ls k
 
@@ -95,7 +95,7 @@ pub follow_behind : {A : Type 0} {limit w : ℕ} {x : A} (ls : List Spelt) {rs :
 follow_behind ls comes = comes
 follow_behind ls (too_high a) = too_high (above_back ls a)
 
--- what stands behind a part
+-- what stands after a part
 pub follow_then : {A B : Type 0} {limit u w : ℕ} {x : A} {y : B} {ls : List Spelt} (rs : List Spelt) {rest : List Token} {o : Outcome A} (f : A → Parser B) → Follows limit x u ls (tokens rs ++ rest) o
     → Follows limit y w rs rest (f x (input (tokens rs ++ rest) u)) → Follows limit y w (ls ++ rs) rest (and_then o f)
 follow_then {ls = ls} rs f comes h = follow_behind ls h
@@ -109,7 +109,7 @@ follow_as f (too_high a) h = too_high a
 
 -- ---- putting together
 
--- a part behind another one
+-- a part after another one
 pub then_read : {limit : ℕ} {A B : Type 0} {P : Lang A} {Q : A → Lang B} {x : A} {y : B} {i j k : Input} → Read limit P x i j → Read limit (Q x) y j k → Read limit (Bind P Q) y i k
 then_read {limit} {A} {B} {P} {Q} {x} {y} {i} {j} {k} m n =
     let e : kind_ahead j.rest ≡ first n.spelt (kind_ahead k.rest) = ap kind_ahead n.front ∙ first-is n.spelt k.rest in

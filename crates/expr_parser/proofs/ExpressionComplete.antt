@@ -27,7 +27,7 @@ use Rattle.expr_parser.proofs.Leaves.{name_is, number_is, a_number, raises, open
 use Rattle.expr_parser.proofs.Operators.{sign_start, mark_infix, mark_behind, level_bounds, binds_small, ends, ends_ahead, ends_behind}
 use Rattle.expr_parser.proofs.ExpressionSound.{sound, a_value, a_bracketed, an_indexed, a_passed, a_named, indexed_by, passed_by, value_by}
 
--- What stands behind an expression of level m does not go on with it.
+-- What stands after an expression of level m does not go on with it.
 pub record Stops (m : ℕ) (k : Option TokenKind) : Type 0 where
   pub tight : binds (infix_of k) ≤ m
   pub right : m ≤ 1 → binds (infix_of k) ≡ 0

@@ -34,7 +34,7 @@ use Rattle.expr_parser.proofs.Operators.{Begins, begins, Joins, joins, mark_infi
 pub data At (m : ℕ) : ℕ → Term → ℕ → List Spelt → Option TokenKind → Type 0 where
   at_level : {v w : ℕ} {x : Term} {ls : List Spelt} {k : Option TokenKind} → Spells m x v ls w → At m v x w ls k
 
--- and what stands behind it goes on with no operator of that level or above
+-- and what stands after it goes on with no operator of that level or above
 pub data Found (m : ℕ) : ℕ → Term → ℕ → List Spelt → Option TokenKind → Type 0 where
   found : {v w : ℕ} {x : Term} {ls : List Spelt} {k : Option TokenKind} → Spells m x v ls w → binds (infix_of k) < m → Found m v x w ls k
 
@@ -42,7 +42,7 @@ pub data Found (m : ℕ) : ℕ → Term → ℕ → List Spelt → Option TokenK
 pub data Opens : ℕ → Token → ℕ → List Spelt → Option TokenKind → Type 0 where
   opens : {v : ℕ} {t : Token} {k : Option TokenKind} → Opens v t (v + 1) (at t (v + 1) ∷ []) k
 
--- what may stand behind a name
+-- what may stand after a name
 pub data Behind_name (n : Name) : ℕ → Term → ℕ → List Spelt → Option TokenKind → Type 0 where
   by_index : {v : ℕ} {index : Term} {ls : List Spelt} {k : Option TokenKind} → Indexes index v ls → Behind_name n v (plain.Element n.place n index) v ls k
   by_args : {v : ℕ} {args : List Term} {ls : List Spelt} {k : Option TokenKind} → Passes args v ls → Behind_name n v (plain.Call n.place n (listed args)) v ls k
@@ -59,7 +59,7 @@ pub data Operates (left : Term) : ℕ → Term → ℕ → List Spelt → Option
 pub data GoesOn (n : ℕ) (left : Term) : ℕ → Term → ℕ → List Spelt → Option TokenKind → Type 0 where
   goes_on : {v w : ℕ} {x : Term} {ls : List Spelt} {k : Option TokenKind} → Operates left v x w ls k → n ≤ binds (infix_of (first ls k)) → GoesOn n left v x w ls k
 
--- what is read so far of an expression at level n, and what stands behind it
+-- what is read so far of an expression at level n, and what stands after it
 pub data SoFar (n : ℕ) : ℕ → Term → ℕ → List Spelt → Option TokenKind → Type 0 where
   so_far : {v w : ℕ} {x : Term} {ls : List Spelt} {k : Option TokenKind} (m : ℕ) → n ≤ m → Spells m x v ls w → binds (infix_of k) ≤ m → (m ≤ 1 → binds (infix_of k) ≡ 0) → SoFar n v x w ls k
 
@@ -302,7 +302,7 @@ module _ (limit : ℕ) where
         let s = step (prefix limit ex i) (λ y k. climb limit ex n (length k.rest) y k) (x, j) h in
         s_climb (length s.state.rest) n s.value x i s.state j pos (read_as (s_prefix i s.state s.value small s.was) (λ ls e q. so_far_of n top q)) s.goes
 
-  -- What is read is spelled so, and what stands behind it does not go on with it.
+  -- What is read is spelled so, and what stands after it does not go on with it.
   pub sound : (d : ℕ) → Sounds (expr limit d)
   unfolding expr
   sound zero n pos top i j x small h = absurd (cc)

@@ -94,7 +94,7 @@ follow_opens : {limit v : ℕ} {t : Token} {ts : List Token} {o : Outcome Token}
 follow_opens (fits le) = comes
 follow_opens (exceeds lt) = too_high (above_here lt refl)
 
--- what stands behind such a token is looked at only where the limit allows it
+-- what stands after such a token is looked at only where the limit allows it
 pub opens_then : {B : Type 0} {limit v w : ℕ} {t : Token} {y : B} {ls : List Spelt} {rest : List Token} {o : Outcome Token} (g : Token → Parser B) → Raising limit t (tokens ls ++ rest) v o
     → (v + 1 ≤ limit → Follows limit y w ls rest (g t (input (tokens ls ++ rest) (v + 1)))) → Follows limit y w (at t (v + 1) ∷ ls) rest (and_then o g)
 opens_then {v = v} {t = t} g (fits le) h = follow_behind (at t (v + 1) ∷ []) (h le)
@@ -136,7 +136,7 @@ opening limit f = record { sound = so; complete = λ v w t ls rest q. of q rest 
     of : {v w : ℕ} {t : Token} {ls : List Spelt} {k : Option TokenKind} → Up f v t w ls k → (rest : List Token) → Follows limit t w ls rest (enter limit f (input (tokens ls ++ rest) v))
     of (up {v} {t} {k} h) rest = follow_opens (enters limit f t rest v h)
 
--- a token that opens a level, and what stands behind it where the limit allows this
+-- a token that opens a level, and what stands after it where the limit allows this
 pub data Over {B : Type 0} (limit : ℕ) (f : Fixed) (Q : Token → Lang B) : ℕ → B → ℕ → List Spelt → Option TokenKind → Type 0 where
   over : {v w : ℕ} {t : Token} {y : B} {ls : List Spelt} {k : Option TokenKind} → Is f t → (v + 1 ≤ limit → Q t (v + 1) y w ls k) → Over limit f Q v y w (at t (v + 1) ∷ ls) k
 

@@ -4,7 +4,7 @@ use Rattle.std.proofs.Common.{◌≡◌, ℕ, suc, ◌+◌, ◌-◌, ◌<◌, re
 left_at : (n at : ℕ) → at < n → n - at ≡ suc (n - (at + 1))
 left_at n at below = omega arith
 
--- what holds before a turn is said of one turn and those that are left behind it
+-- what holds before a turn is said of one turn and those that are left after it
 pub next_turn : {X : Type 0} {x : X} (f : ℕ → X) (n at : ℕ) → at < n → x ≡ f (n - at) → x ≡ f (suc (n - (at + 1)))
 next_turn {X} {x} f n at below e = subst (λ (left : ℕ). x ≡ f left) (left_at n at below) e
 

@@ -30,7 +30,7 @@ pub within_more : (a b : ℕ) (ls : List Spelt) → a ≤ b → IsWithin a ls �
 within_more a b [] h w = tt
 within_more a b (s ∷ ls) h w = (omega (arith, w.0), within_more a b ls h w.1)
 
--- the kind of the first token of a spelling, or of what stands behind it
+-- the kind of the first token of a spelling, or of what stands after it
 abbrev pub first : List Spelt → Option TokenKind → Option TokenKind
 first [] k = k
 first (s ∷ ls) k = Some s.token.kind

@@ -30,7 +30,7 @@ ended_too : {x y : List Token} → Meets x y → length y ≡ 0 → length x ≡
 ended_too both_end e = refl
 ended_too same_token e = absurd (omega arith)
 
--- Of n tokens those that are left behind what is found are fewer by m, and a refused one is among the n.
+-- Of n tokens those that are left after what is found are fewer by m, and a refused one is among the n.
 pub data Within {A : Type 0} (m n : ℕ) : Outcome A → Type 0 where
   leaves : {e : A} {j : Input} → m + length j.rest ≤ n → Within m n (Ok (e, j))
   refuses : {l : ℕ} → l ≤ n → Within m n (Err (Syntax l))
@@ -86,7 +86,7 @@ beyond r lt (leaves h) = past (omega (arith, lt, h))
 beyond r lt (refuses h) = stops (λ e. absurd (omega (arith, lt, h, e)))
 beyond r lt (too_deep h) = deep (λ q e. absurd (omega (arith, lt, h, e)))
 
--- a part, and what stands behind it
+-- a part, and what stands after it
 same_then : {A B E : Type 0} {x y : List Token} {k m n : ℕ} {p q : Outcome A} (f g : A → Parser B) → Same E x y p q → Within m n p
     → ((e : A) (b : List Token) (w : ℕ) → m + length (b ++ x) ≤ n → Same E x y (f e (input (b ++ x) w)) (g e (input (b ++ y) w)))
     → ((e : A) (j : Input) → Within k (length j.rest) (f e j)) → Same E x y (and_then p f) (and_then q g)
@@ -318,7 +318,7 @@ module _ {S X E : Type 0} {ends : Option TokenKind → Bool} {add : S → X → 
     same = λ x y h d v. loop_same (length (d ++ x)) (length (d ++ y)) 0 s h d v (omega (arith, length-append d x)) (omega (arith, length-append d y));
   }
 
--- what stands behind a part of a list
+-- what stands after a part of a list
 abbrev next_part : {A : Type 0} → (List A → Parser (List A)) → List A → Parser (List A)
 next_part r found i = cond (next_is fixed.Comma i) (and_then (take i) (λ _. r found)) (Ok (found, i))
 

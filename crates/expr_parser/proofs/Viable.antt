@@ -21,14 +21,14 @@ made k = record { kind = k; start = 0; end = 0; place = record { line = 1; colum
 
 -- ---- fronts
 
--- These tokens begin a phrase from the level v, behind which k stands.
+-- These tokens begin a phrase from the level v, after which k stands.
 pub record Front {A : Type 0} (P : Lang A) (k : Option TokenKind) (v : ℕ) (ls : List Spelt) : Type 0 where
   pub value : A
   pub last : ℕ
   pub behind : List Spelt
   pub spells : P v value last (ls ++ behind) k
 
--- A phrase whose first token, or the one behind it, is b.
+-- A phrase whose first token, or the one after it, is b.
 pub record Least {A : Type 0} (P : Lang A) (b k : Option TokenKind) (v : ℕ) : Type 0 where
   pub value : A
   pub last : ℕ
@@ -36,12 +36,12 @@ pub record Least {A : Type 0} (P : Lang A) (b k : Option TokenKind) (v : ℕ) : 
   pub spells : P v value last tokens k
   pub begins : first tokens k ≡ b
 
--- What stands behind the tokens that are within the limit: a token with which no rule goes on, or one that opens a level above.
+-- What stands after the tokens that are within the limit: a token with which no rule goes on, or one that opens a level above.
 pub data Barred (limit : ℕ) : Fault → List Spelt → List Token → Type 0 where
   stuck : {rest : List Token} → Barred limit (Syntax (length rest)) [] rest
   above : {t : Token} {rest : List Token} → Barred limit (Deep (suc (length rest))) (at t (limit + 1) ∷ []) (t ∷ rest)
 
--- The parser takes what is spelt, a front of a phrase in P, and is refused behind it.
+-- The parser takes what is spelt, a front of a phrase in P, and is refused after it.
 pub record Refused {A : Type 0} (limit : ℕ) (P : Lang A) (k : Option TokenKind) (i : Input) (e : Fault) : Type 0 where
   pub spelt : List Spelt
   pub opened : List Spelt
@@ -51,7 +51,7 @@ pub record Refused {A : Type 0} (limit : ℕ) (P : Lang A) (k : Option TokenKind
   pub barred : Barred limit e opened rest
   pub starts : Front P k i.level (spelt ++ opened)
 
--- From levels between the two, what the parser takes before it refuses is the front of a phrase in P, behind which k may stand; one such phrase begins with b.
+-- From levels between the two, what the parser takes before it refuses is the front of a phrase in P, after which k may stand; one such phrase begins with b.
 pub record Viable {A : Type 0} (limit low : ℕ) (p : Parser A) (P : Lang A) (b k : Option TokenKind) : Type 0 where
   pub refused : (i : Input) (e : Fault) → low ≤ i.level → i.level ≤ limit → p i ≡ Err e → Refused limit P k i e
   pub least : (v : ℕ) → Least P b k v

@@ -133,7 +133,7 @@ found_lower : {n v w : ℕ} {y : Term} {ls : List Spelt} {k : Option TokenKind} 
 found_lower {n} low top p (at_level s) = found (lower s n top) (omega (arith, p))
 
 module _ (limit : ℕ) where
-  -- from the level low on, an expression is refused behind the front of one
+  -- from the level low on, an expression is refused after the front of one
   abbrev pub Views : ℕ → (ℕ → Parser Term) → Type 0
   Views low ex = (n : ℕ) → 1 ≤ n → n ≤ 12 → (k : Option TokenKind) → Plain k → Viable limit low (ex n) (Found n) a_number k
 
@@ -272,7 +272,7 @@ module _ (limit : ℕ) where
               let g = s_prefix limit ex so i z.state z.value small z.was in
               fails p (length z.state.rest) n z.value i z.state e pos' (omega (arith, at_rises g.spells)) (read_as g (λ ls e q. so_far_of n top q)) z.goes
 
-  -- An expression is refused behind the front of one, where the depth lasts up to the limit of levels.
+  -- An expression is refused after the front of one, where the depth lasts up to the limit of levels.
   pub viable : (d low : ℕ) → limit < d + low → Views low (expr limit d)
   unfolding expr
   viable zero low deep n pos' top k p = record { refused = λ i e le small h. absurd (omega arith); least = least_found pos' p }

@@ -9,7 +9,7 @@ use Rattle.expr_parser.specs.Reading.{value, expr}
 abbrev pub reads : Parser Term
 reads = value max_level (expr max_level (suc max_level))
 
--- The tokens between the two places spell the expression within the greatest level; the level behind them is that before them.
+-- The tokens between the two places spell the expression within the greatest level; the level after them is that before them.
 pub record IsBetween (x : Term) (i j : Input) : Type 0 where
   pub spelt : List Spelt
   pub are : i.rest ≡ tokens spelt ++ j.rest

@@ -1,4 +1,4 @@
-// Why nothing is read.
+//! Why nothing is read.
 
 use std::alloc::AllocError;
 

@@ -1,4 +1,4 @@
-// Tokens that a rule asks for by themselves.
+//! Tokens that a rule asks for by themselves.
 
 ghost use Rattle.std.specs.Prelude.{◌≡◌};
 ghost use Rattle.expr_parser.specs.Meaning as spec;

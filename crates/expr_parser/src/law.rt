@@ -1,4 +1,4 @@
-// What reading an expression promises.
+//! What reading an expression promises.
 
 ghost use Rattle.std.specs.Prelude.{◌≡◌, ◌≤◌, ◌++◌, ℕ, List, Ok, true};
 ghost use Rattle.forec_tree.specs.declared.token.Token.{Token};

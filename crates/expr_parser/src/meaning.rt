@@ -1,4 +1,4 @@
-// What a token of an expression means where it stands.
+//! What a token of an expression means where it stands.
 
 ghost use Rattle.std.specs.Prelude.{◌≡◌, ◌≤◌};
 ghost use Rattle.forec_tree.specs.Spelling as spelling;
@@ -17,7 +17,7 @@ pub enum Start {
     Nothing,
 }
 
-/// What a token is behind an operand.
+/// What a token is after an operand.
 #[derive(Clone, Copy)]
 pub enum Infix {
     Joins { op: Operator },
@@ -25,7 +25,7 @@ pub enum Infix {
     Nothing,
 }
 
-/// What a token begins behind a name.
+/// What a token begins after a name.
 #[derive(Clone, Copy)]
 pub enum Behind {
     Index,
@@ -112,7 +112,7 @@ fn infix_mark(mark: Mark) -> Infix
     }
 }
 
-/// What the token is behind an operand.
+/// What the token is after an operand.
 pub fn infix_of(kind: Option<TokenKind>) -> Infix
     ensures { result ≡ spec.infix_of kind }
 {
@@ -132,7 +132,7 @@ fn behind_mark(mark: Mark) -> Behind
     }
 }
 
-/// What the token begins behind a name.
+/// What the token begins after a name.
 pub fn behind_of(kind: Option<TokenKind>) -> Behind
     ensures { result ≡ spec.behind_of kind }
 {
@@ -178,7 +178,7 @@ pub fn level_of(op: Operator) -> u8
     }
 }
 
-/// How tightly what stands behind an operand binds, up to 11; 0 is nothing.
+/// How tightly what stands after an operand binds, up to 11; 0 is nothing.
 pub fn binds(shown: Infix) -> u8
     ensures { result ≡ spec.binds shown }
 {

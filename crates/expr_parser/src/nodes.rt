@@ -1,4 +1,4 @@
-// The nodes of expressions.
+//! The nodes of expressions.
 
 ghost use Rattle.std.specs.Prelude.{◌≡◌, IfOk, map};
 ghost use Rattle.forec_tree.specs.Terms as plain;

@@ -1,4 +1,4 @@
-// A place in a list of tokens, and the level there.
+//! A place in a list of tokens, and the level there.
 
 ghost use Rattle.std.specs.Prelude.{◌≡◌, ◌≢◌, length, OnErr, IfErr};
 ghost use Rattle.forec_tree.specs.declared.token.Token.{Token};

@@ -118,7 +118,7 @@ alike : (a b : Bool) (m n : ℕ) (round : List Bool) → a ≡ b → m ≡ n →
 alike a b m n round e d = ap (λ x. reading x m round) e ∙ ap (λ x. reading b x round) d
 
 module _ (g : ℕ) where
-  -- a reading behind a text that brings so much
+  -- a reading after a text that brings so much
   abbrev after : AccessScan → Placed → AccessScan
   after r p = reading (r.own || is_in g p.named) (r.below + count_naming g p.below) r.round
 

@@ -99,7 +99,7 @@ module _ (j : Judging) (text : Text) (s : Scope) where
 
 -- ---- items, one after the other
 
--- the item of a place, and those behind it
+-- the item of a place, and those after it
 pub items_at : (items : List Item) (i : ℕ) (x : Item) → i < length items → get_or items i x ≡ x → map plain_item (drop i items) ≡ plain_item x ∷ map plain_item (drop (i + 1) items)
 items_at items i x h e = let d : drop i items ≡ x ∷ drop (i + 1) items = drop-cons items i x h ∙ rw (e, add-one) refl in ap (map plain_item) d
 

@@ -45,7 +45,7 @@ pub endless_is : (text : Text) (bound : Option Number) (b : Bool) (turns : Optio
 endless_is text bound b turns inside s w body h t c e d =
     h ∙ ap (λ x. is_none bound && (is_none x && not inside)) (t ∙ ap (inferred text) e) ∙ ap (λ x. is_none bound && (is_none (inferred text w) && not x)) c ∙ sym d
 
--- a loop behind those in its body
+-- a loop after those in its body
 pub last_loop : (text : Text) (kept new : Option Fault) (w : Statement) (b : Bool) (place : Place) → b ≡ endless text w → place ≡ loop_place w → new ≡ least_from kept (fault_if b place 20) →
     new ≡ least_from kept (loops_faults text (w ∷ []))
 last_loop text kept new w b place e p h =

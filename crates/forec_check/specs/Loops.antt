@@ -8,7 +8,7 @@ abbrev pub loops_faults : Text → List Statement → List Fault
 loops_faults text [] = []
 loops_faults text (l ∷ rest) = fault_if (endless text l) (loop_place l) 20 ++ loops_faults text rest
 
--- the loops of a statement, each behind those in its body
+-- the loops of a statement, each after those in its body
 abbrev mutual
   pub loops_in : Statement → List Statement
   loops_in (Nothing at) = []

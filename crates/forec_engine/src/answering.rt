@@ -1,4 +1,4 @@
-// What is done with a text that was judged.
+//! What is done with a text that was judged.
 ghost use Rattle.std.specs.Prelude.{◌≡◌, ◌≢◌, ◌⊎◌, length, IfSome, Some, None};
 ghost use Rattle.forec_base.specs.Outside.{Fell};
 ghost use Rattle.forec_kernel.specs.Shapes.{plain_kernel};
@@ -43,7 +43,7 @@ pub fn refuse<K: Sink>(alloc: Global, why: Refusal, out: &mut K) -> Status
     waiting.finish(out, Status::Refused)
 }
 
-// Says why a list of places is refused.
+/// Says why a list of places is refused.
 fn say_misplaced<K: Sink>(alloc: Global, why: PlaceFault, out: &mut K) -> Status
     ensures own { IsOwn result → Given (misplaced why) result (K.held out.old) (K.held out.new) }
     ensures read { result ≢ Status.ReadFault }
@@ -58,7 +58,7 @@ fn say_misplaced<K: Sink>(alloc: Global, why: PlaceFault, out: &mut K) -> Status
     waiting.finish(out, Status::Usage)
 }
 
-// Says why a list of places is refused, where memory wasn't wanting.
+/// Says why a list of places is refused, where memory wasn't wanting.
 fn misplace<K: Sink>(alloc: Global, why: PlaceFault, out: &mut K) -> Status
     ensures own { IsOwn result → (why ≢ fault.OutOfMemory) × Given (misplaced why) result (K.held out.old) (K.held out.new) }
     ensures read { result ≢ Status.ReadFault }
@@ -73,7 +73,7 @@ fn misplace<K: Sink>(alloc: Global, why: PlaceFault, out: &mut K) -> Status
     }
 }
 
-// Places the threads, and runs.
+/// Places the threads, and runs.
 fn place_and_start<S: Source, K: Sink, G: Gate + Sync, R: Threads + Wait + Sync>(
     setting: &Setting<'_, G, R>,
     kernel: &Kernel,
@@ -102,7 +102,7 @@ fn place_and_start<S: Source, K: Sink, G: Gate + Sync, R: Threads + Wait + Sync>
     }
 }
 
-// Tells what is counted of a text that is accepted.
+/// Tells what is counted of a text that is accepted.
 fn tell<K: Sink>(alloc: Global, counts: Counts, out: &mut K) -> Status
     ensures own { IsOwn result → Given (counted counts) result (K.held out.old) (K.held out.new) }
     ensures read { result ≢ Status.ReadFault }
@@ -118,7 +118,7 @@ fn tell<K: Sink>(alloc: Global, counts: Counts, out: &mut K) -> Status
     waiting.finish(out, Status::Done)
 }
 
-// Lists the threads of a kernel, which are placed so.
+/// Lists the threads of a kernel, which are placed so.
 fn list_placed<K: Sink>(
     alloc: Global,
     kernel: &Kernel,
@@ -139,7 +139,7 @@ fn list_placed<K: Sink>(
     say(out, &text, Status::Done)
 }
 
-// Places the threads of a kernel, and lists them.
+/// Places the threads of a kernel, and lists them.
 fn list_threads<K: Sink>(
     alloc: Global,
     kernel: &Kernel,
@@ -162,7 +162,7 @@ fn list_threads<K: Sink>(
     }
 }
 
-// Lists a code that stands for a kernel.
+/// Lists a code that stands for a kernel.
 fn list<K: Sink>(alloc: Global, kernel: &Kernel, out: &mut K) -> Status
     ensures own { IsOwn result → (code : PlainCode) × Stands code (plain_kernel kernel.now) × Given (listed code) result (K.held out.old) (K.held out.new) }
     ensures read { result ≢ Status.ReadFault }

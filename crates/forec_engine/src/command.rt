@@ -1,4 +1,4 @@
-// The top call.
+//! The top call.
 ghost use Rattle.std.specs.Prelude.{◌≡◌, ◌≤◌, ◌≢◌, ◌⊎◌, List, ℕ, map, length, string_bytes, IfOk, IfSome, Err, Some, None};
 ghost use Rattle.forec_base.specs.Outside.{Fell, Rose};
 ghost use Rattle.command_words.specs.Requests.{PlainCommand, PlainRunning, OnText, plain_running, plain_command, plain_request, request_of};
@@ -25,7 +25,7 @@ use workload::workload_text;
 const USAGE: &[u8] =
     b"usage: forec run|check|threads|code|explain|gen PROGRAM [--cores N] [--place LIST] [--budget B] [--order N]\n";
 
-// What the words ask for.
+/// What the words ask for.
 fn read_request<'a>(alloc: Global, words: &'a [String]) -> Result<Request<'a>, WordsFault>
     ensures request { IfOk result (λ r. request_of (map string_bytes words.entry.now) ≡ Some (plain_request r)) }
     ensures ranges { IfOk result (λ r. HasRanges (plain_request r)) }
@@ -34,7 +34,7 @@ fn read_request<'a>(alloc: Global, words: &'a [String]) -> Result<Request<'a>, W
     read_words(alloc, words)
 }
 
-// Does what a command asks of a text.
+/// Does what a command asks of a text.
 fn run_text<S: Source, K: Sink, G: Gate + Sync, R: Threads + Wait + Sync>(
     setting: &Setting<'_, G, R>,
     command: Command<'_>,
@@ -70,7 +70,7 @@ fn run_text<S: Source, K: Sink, G: Gate + Sync, R: Threads + Wait + Sync>(
     }
 }
 
-// Does what a command asks of the text of a name.
+/// Does what a command asks of the text of a name.
 fn run_named<T: Texts, S: Source, K: Sink, G: Gate + Sync, R: Threads + Wait + Sync>(
     setting: &Setting<'_, G, R>,
     name: &str,
@@ -109,7 +109,7 @@ fn run_named<T: Texts, S: Source, K: Sink, G: Gate + Sync, R: Threads + Wait + S
     }
 }
 
-// The verdict on a text of any length.
+/// The verdict on a text of any length.
 fn judge_any(alloc: Global, text: &[u8]) -> Result<Accepted, JudgeFault>
     ensures { Says (Judged text.now) result }
 {
@@ -119,7 +119,7 @@ fn judge_any(alloc: Global, text: &[u8]) -> Result<Accepted, JudgeFault>
     judge(alloc, text)
 }
 
-// Runs the workload of so many threads.
+/// Runs the workload of so many threads.
 fn run_workload_text<K: Sink, G: Gate + Sync, R: Threads + Wait + Sync>(
     setting: &Setting<'_, G, R>,
     threads: u32,

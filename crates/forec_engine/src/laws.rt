@@ -1,4 +1,4 @@
-// Laws of the reports.
+//! Laws of the reports.
 ghost use Rattle.forec_engine.specs.Laws.{OneReport, AlikeReports, SomeReport};
 
 use text_verdict::{each_text_has_a_verdict, one_verdict};

@@ -11,7 +11,7 @@ use itoa::Buffer;
 use text_verdict::{Counts, Quantity, Refusal};
 use trace_runs::Waiting;
 
-// Adds `refused`, a place and a word.
+/// Adds `refused`, a place and a word.
 fn put_refused_at(waiting: &mut Waiting, place: Place, word: &[u8])
     requires room { HasRoom waiting.old 64 }
     requires short { length word.now ≤ 8 }
@@ -25,7 +25,7 @@ fn put_refused_at(waiting: &mut Waiting, place: Place, word: &[u8])
     waiting.put(word);
 }
 
-// Adds the line of a program that breaks this rule first.
+/// Adds the line of a program that breaks this rule first.
 fn put_broken(waiting: &mut Waiting, place: Place, rule: u8)
     requires { HasRoom waiting.old 64 }
     ensures { Gains waiting.old waiting.new (refusal_line (Refusal.Rule place rule)) }
@@ -35,7 +35,7 @@ fn put_broken(waiting: &mut Waiting, place: Place, rule: u8)
     waiting.put(b"\n");
 }
 
-// Adds the line of a program that passes this limit first.
+/// Adds the line of a program that passes this limit first.
 fn put_limit(waiting: &mut Waiting, what: Quantity, count: u64)
     requires { HasRoom waiting.old 64 }
     ensures { Gains waiting.old waiting.new (refusal_line (Refusal.Limit what count)) }
@@ -61,7 +61,7 @@ pub fn put_refusal(waiting: &mut Waiting, why: Refusal)
     }
 }
 
-// Adds a line of words and a number.
+/// Adds a line of words and a number.
 fn put_numbered(waiting: &mut Waiting, words: &[u8], number: u64)
     requires room { HasRoom waiting.old 64 }
     requires short { length words.now ≤ 12 }

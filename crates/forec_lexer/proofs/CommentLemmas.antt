@@ -73,7 +73,7 @@ close_there n (b ∷ bs) (suc j) le (inr r) =
 
 -- ---- a comment at the front
 
--- what a comment of n bytes is, by the bytes behind the first two
+-- what a comment of n bytes is, by the bytes after the first two
 pub data Comment (b c : ℕ) (cs : List ℕ) (n : ℕ) : Type 0 where
   is_block : (k : ℕ) → n ≡ 2 + k → b ≡ 47 → c ≡ 42 → IsToClose (take k cs) → Comment b c cs n
   is_line : (k : ℕ) → n ≡ 2 + k → b ≡ 47 → c ≡ 47 → Each is_in_line (take k cs) → EndsOr is_line_end (drop k cs) → Comment b c cs n

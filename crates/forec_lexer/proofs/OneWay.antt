@@ -111,7 +111,7 @@ pub record State : Type 0 where
 abbrev pub state : List Token → List (List ℕ) → ℕ → State
 state ts ns a = record { tokens = ts; names = ns; at = a }
 
--- the state behind a piece
+-- the state after a piece
 abbrev given : List ℕ → State → Piece → ℕ → Option TokenKind → State
 given text s p n None = state s.tokens s.names (s.at + n)
 given text s p n (Some k) = state (s.tokens ++ token_at text s.at n k ∷ []) (names_after s.names p (slice text s.at n)) (s.at + n)

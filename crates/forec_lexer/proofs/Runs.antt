@@ -48,7 +48,7 @@ module _ (p : ℕ → Bool) where
         by_test true e ih = rw (take_while-cons p b bs, e) ih
         by_test false e ih = rw (take_while-cons p b bs, e) (h b e)
 
-    -- a front that passes, behind which a byte of the other sort or nothing stands, is the run
+    -- a front that passes, after which a byte of the other sort or nothing stands, is the run
     pub run_is : ((b : ℕ) → p b ≡ true → q b ≡ true → ⊥) → (text : List ℕ) (m : ℕ) → m ≤ length text → Each p (take m text) → EndsOr q (drop m text) → m ≡ length (take_while p text)
     run_is h [] m le a e = omega arith
     run_is h (b ∷ bs) zero le a e = by_test (p b) refl

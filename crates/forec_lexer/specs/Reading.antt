@@ -53,7 +53,7 @@ mark_ahead (m ∷ ms) text = if starts_with nat_eq text (spelling m) then Some (
 
 -- ---- numbers
 
--- the value of more digits behind those of `value`
+-- the value of more digits after those of `value`
 unfoldable pub value_from : ℕ → ℕ → List ℕ → Option ℕ
 value_from base value [] = Some value
 value_from base value (b ∷ bs) =

@@ -1,4 +1,4 @@
-// The sorts of bytes.
+//! The sorts of bytes.
 ghost use Rattle.std.specs.Prelude.{◌≡◌, ◌≤◌, length};
 ghost use Rattle.std.specs.List.{take_while};
 ghost use Rattle.forec_tree.specs.Lexis as lexis;
@@ -9,7 +9,7 @@ pub fn is_space(byte: u8) -> bool
     byte == b' ' || byte >= 9 && byte <= 13
 }
 
-// A letter or `_`.
+/// A letter or `_`.
 pub fn is_letter(byte: u8) -> bool
     ensures { result ≡ lexis.is_letter byte }
 {
@@ -22,14 +22,14 @@ pub fn is_digit(byte: u8) -> bool
     byte >= b'0' && byte <= b'9'
 }
 
-// A letter, `_` or a digit.
+/// A letter, `_` or a digit.
 pub fn goes_on(byte: u8) -> bool
     ensures { result ≡ lexis.goes_on byte }
 {
     is_letter(byte) || is_digit(byte)
 }
 
-// How many letters, `_` and digits stand at the front.
+/// How many letters, `_` and digits stand at the front.
 pub fn run_len(text: &[u8]) -> usize
     ensures value { result ≡ length (take_while lexis.goes_on text.now) }
     ensures within { result ≤ length text.now }

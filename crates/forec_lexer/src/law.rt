@@ -1,4 +1,4 @@
-// The law of the lexis.
+//! The law of the lexis.
 ghost use Rattle.std.specs.Prelude.{◌≡◌, ℕ, List};
 ghost use Rattle.forec_tree.specs.declared.token.Token.{Token};
 ghost use Rattle.forec_tree.specs.LexedText.{Lexes};

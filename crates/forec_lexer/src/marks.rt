@@ -1,4 +1,4 @@
-// Marks.
+//! Marks.
 ghost use Rattle.std.specs.Prelude.{◌≡◌};
 ghost use Rattle.forec_tree.specs.Lexis as lexis;
 ghost use Rattle.forec_lexer.specs.Reading as reading;
@@ -104,7 +104,7 @@ fn spelling(mark: Mark) -> &'static [u8]
     }
 }
 
-// The longest mark at the front, and its length.
+/// The longest mark at the front, and its length.
 pub fn mark_ahead(text: &[u8]) -> Option<(Mark, usize)>
     ensures { result ≡ reading.mark_ahead reading.marks text.now }
 {

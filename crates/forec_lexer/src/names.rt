@@ -1,13 +1,13 @@
-// The names of a text, numbered by their first use.
+//! The names of a text, numbered by their first use.
 use forec_base::{Labels, OutOfMemory};
 use indexmap::IndexSet;
 use std::alloc::Global;
 
 #[derive(Drop)]
 pub struct Names<'a> {
-    // The names as the text spells them, which tells their numbers.
+    /// The names as the text spells them, which tells their numbers.
     set: IndexSet<&'a str>,
-    // Copies of the same names, in the same order.
+    /// Copies of the same names, in the same order.
     labels: Labels,
 }
 
@@ -27,7 +27,7 @@ impl<'a> Names<'a> {
         })
     }
 
-    // The number of a name, which is added if it is new.
+    /// The number of a name, which is added if it is new.
     pub fn number(&mut self, name: &'a [u8]) -> Result<u32, OutOfMemory>
         requires ascii { IsAscii name.now }
         requires same { IsSame self.old }

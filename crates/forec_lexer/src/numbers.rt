@@ -1,9 +1,9 @@
-// Numbers.
+//! Numbers.
 ghost use Rattle.std.specs.Prelude.{◌≡◌, ◌≤◌, IfSome};
 ghost use Rattle.forec_tree.specs.Lexis as lexis;
 ghost use Rattle.forec_lexer.specs.Reading as reading;
 
-// The value of a digit, and 16 for a byte that is none.
+/// The value of a digit, and 16 for a byte that is none.
 fn digit_of(byte: u8) -> u64
     ensures value { result ≡ lexis.digit_of byte }
     ensures small { result ≤ 16 }
@@ -16,7 +16,7 @@ fn digit_of(byte: u8) -> u64
     }
 }
 
-// The value of digits, if each is one of this base and the value has 32 bits.
+/// The value of digits, if each is one of this base and the value has 32 bits.
 fn value_in(base: u64, digits: &[u8]) -> Option<u32>
     requires { base ≤ 16 }
     ensures { result ≡ reading.value_from base 0 digits.now }
@@ -35,7 +35,7 @@ fn value_in(base: u64, digits: &[u8]) -> Option<u32>
     Some(value as u32)
 }
 
-// The value of what stands behind `0x`.
+/// The value of what stands after `0x`.
 fn hexadecimal(digits: &[u8]) -> Option<u32>
     ensures { result ≡ reading.hexadecimal digits.now }
 {
@@ -45,7 +45,7 @@ fn hexadecimal(digits: &[u8]) -> Option<u32>
     value_in(16, digits)
 }
 
-// The value of a number whose first digit is 0, by what stands behind it.
+/// The value of a number whose first digit is 0, by what stands after it.
 fn behind_zero(digits: &[u8]) -> Option<u32>
     ensures { result ≡ reading.behind_zero digits.now }
 {
@@ -57,7 +57,7 @@ fn behind_zero(digits: &[u8]) -> Option<u32>
     value_in(8, digits)
 }
 
-// The value of a run that begins with a digit, if it is a number of at most 32 bits.
+/// The value of a run that begins with a digit, if it is a number of at most 32 bits.
 pub fn number_of(run: &[u8]) -> Option<u32>
     ensures { result ≡ reading.number_of run.now }
 {

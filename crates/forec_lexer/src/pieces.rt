@@ -1,4 +1,4 @@
-// What stands at the front of a text.
+//! What stands at the front of a text.
 ghost use Rattle.std.specs.Prelude.{◌≡◌, ◌≤◌, ◌<◌, length, take, IfSome, IfNone};
 ghost use Rattle.forec_tree.specs.Lexis.{Next, NothingFits};
 ghost use Rattle.forec_lexer.specs.Reading as reading;
@@ -11,7 +11,7 @@ use crate::numbers::number_of;
 use crate::words::word_of;
 use forec_tree::{Mark, Word};
 
-// A byte of white space or a comment, or what a token is.
+/// A byte of white space or a comment, or what a token is.
 #[derive(Clone, Copy)]
 pub enum Piece {
     Blank,
@@ -21,7 +21,7 @@ pub enum Piece {
     Mark { mark: Mark },
 }
 
-// A reserved word or a name.
+/// A reserved word or a name.
 fn letters_ahead(text: &[u8]) -> (Piece, usize)
     ensures { result ≡ reading.letters_ahead text.now }
 {
@@ -41,7 +41,7 @@ fn number_ahead(text: &[u8]) -> Option<(Piece, usize)>
     Some((Piece::Number { value }, len))
 }
 
-// A comment or a mark.
+/// A comment or a mark.
 fn sign_ahead(text: &[u8]) -> Option<(Piece, usize)>
     ensures { result ≡ reading.sign_ahead text.now }
 {
@@ -72,7 +72,7 @@ fn front(text: &[u8]) -> Option<(Piece, usize)>
     }
 }
 
-// The longest piece at the front of the text, and its length.
+/// The longest piece at the front of the text, and its length.
 pub fn next(text: &[u8]) -> Option<(Piece, usize)>
     ensures found { IfSome result (λ r. Next text.now (shown r.0) r.1) }
     ensures some { IfSome result (λ r. 0 < r.1) }

@@ -1,4 +1,4 @@
-// A whole text.
+//! A whole text.
 ghost use Rattle.std.specs.Prelude.{◌≡◌, ◌≢◌, ◌≤◌, ◌<◌, ◌+◌, ℕ, List, length, All, IfOk, IfErr, OnOk, IsOkAnd, Err, fold};
 ghost use Rattle.forec_base.specs.declared.Place.{Place};
 ghost use Rattle.forec_tree.specs.declared.token.Token.{Token};
@@ -24,7 +24,7 @@ pub struct Lexed {
     pub names: Labels,
 }
 
-// The place behind the bytes.
+/// The place after the bytes.
 fn place_behind(place: Place, bytes: &[u8]) -> Place
     requires line { place.line + length bytes.now < 4294967296 }
     requires column { place.column + length bytes.now < 4294967296 }
@@ -43,7 +43,7 @@ fn place_behind(place: Place, bytes: &[u8]) -> Place
     Place { line, column }
 }
 
-/// The place behind the last byte of a text of at most 1,048,576 bytes, in time linear in it.
+/// The place after the last byte of a text of at most 1,048,576 bytes, in time linear in it.
 pub fn end_place(text: &[u8]) -> Place
     requires { length text.now ≤ 1048576 }
     ensures { result ≡ fold place_after first_place text.now }
@@ -51,7 +51,7 @@ pub fn end_place(text: &[u8]) -> Place
     place_behind(Place { line: 1, column: 1 }, text)
 }
 
-// The kind of token that a piece gives, if it gives one. A new name is added to the names.
+/// The kind of token that a piece gives, if it gives one. A new name is added to the names.
 fn kind_of<'a>(
     names: &mut Names<'a>,
     piece: Piece,
@@ -78,7 +78,7 @@ fn kind_of<'a>(
     }
 }
 
-// Adds the token of a piece, if it gives one.
+/// Adds the token of a piece, if it gives one.
 fn keep(
     tokens: &mut Vec<Token>,
     kind: Option<TokenKind>,

@@ -1,4 +1,4 @@
-// Reserved words.
+//! Reserved words.
 ghost use Rattle.std.specs.Prelude.{◌≡◌};
 ghost use Rattle.forec_tree.specs.Lexis as lexis;
 ghost use Rattle.forec_lexer.specs.Reading as reading;
@@ -59,7 +59,7 @@ fn letters(word: Word) -> &'static [u8]
     }
 }
 
-// The reserved word of these letters.
+/// The reserved word of these letters.
 pub fn word_of(run: &[u8]) -> Option<Word>
     ensures { result ≡ reading.word_in reading.words run.now }
 {

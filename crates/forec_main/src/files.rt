@@ -1,4 +1,4 @@
-// Files as texts. They don't tell what they hold.
+//! Files as texts. They don't tell what they hold.
 ghost use Rattle.std.specs.Prelude.{◌≡◌, false};
 
 use forec_base::{TextFault, Texts};
@@ -25,13 +25,13 @@ impl<'r, R: FilesOf> Files<'r, R> {
     }
 }
 
-// Why the bytes of a reader can't be had.
+/// Why the bytes of a reader can't be had.
 enum Stopped {
     Failed,
     OutOfMemory,
 }
 
-// The first bytes of a reader, at most `limit` and one more.
+/// The first bytes of a reader, at most `limit` and one more.
 fn read_some<R: Read>(alloc: Global, reader: &mut R, limit: usize) -> Result<Vec<u8>, Stopped> {
     let mut bytes = Vec::new(alloc);
     let mut piece = [0; 4096];

@@ -1,4 +1,4 @@
-// Standard input as a source of bytes. It doesn't tell what it holds.
+//! Standard input as a source of bytes. It doesn't tell what it holds.
 ghost use Rattle.std.specs.Prelude.{◌≡◌, false};
 
 use forec_base::{Failed, Source};
@@ -54,7 +54,7 @@ mod tests {
     use std::io::Read;
     use std::test::Fail;
 
-    // Two bytes, then a fault, then the end.
+    /// Two bytes, then a fault, then the end.
     #[derive(Drop)]
     struct Reader {
         calls: u32,

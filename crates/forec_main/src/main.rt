@@ -17,11 +17,11 @@ use std::sync::Wait;
 use std::thread::{self, Builder, Threads};
 use std::{env, io};
 
-// The command runs in a thread with so many bytes of stack: the statements of a program stand in one another up to
-// 4,096 deep, and each takes a few frames. Where no thread can be had it runs all the same.
+/// The command runs in a thread with so many bytes of stack: the statements of a program stand in one another up to
+/// 4,096 deep, and each takes a few frames. Where no thread can be had it runs all the same.
 const STACK: usize = 67_108_864;
 
-// The words after the program's own name. Where one of them isn't text they are none, which is no command.
+/// The words after the program's own name. Where one of them isn't text they are none, which is no command.
 fn words(rt: &(impl Env + AllocGlobal)) -> Result<Vec<String>, OutOfMemory> {
     let alloc = rt.alloc();
     match env::args(rt) {
@@ -31,7 +31,7 @@ fn words(rt: &(impl Env + AllocGlobal)) -> Result<Vec<String>, OutOfMemory> {
     }
 }
 
-// Runs the command that the words are, over standard input, standard output and files.
+/// Runs the command that the words are, over standard input, standard output and files.
 fn run(
     rt: &(impl AllocGlobal + FilesOf + Print + Threads + Wait + Sync),
     words: &[String],

@@ -1,4 +1,4 @@
-// Standard output as a sink of bytes. It doesn't tell what it holds.
+//! Standard output as a sink of bytes. It doesn't tell what it holds.
 ghost use Rattle.std.specs.Prelude.{◌≡◌, false};
 
 use forec_base::{Failed, Sink};
@@ -53,7 +53,7 @@ mod tests {
     use std::io::Write;
     use std::test::Fail;
 
-    // It takes one byte a call, but none at its second call.
+    /// It takes one byte a call, but none at its second call.
     #[derive(Drop)]
     struct Writer {
         calls: u32,

@@ -70,7 +70,7 @@ policy_is_so policy.Mod = refl
 pub data PolicyIs : Policy → ℕ → List Spelt → Type 0 where
   policy_is : {v : ℕ} {t : Token} (p : Policy) → IsWord (policy_word p) t → PolicyIs p v (at t v ∷ [])
 
--- ---- what is behind a name
+-- ---- what is after a name
 
 pub data MaybeValue : List Number → ℕ → List Spelt → Type 0 where
   no_value : {v : ℕ} → MaybeValue [] v []

@@ -36,7 +36,7 @@ step_acts (kind.Mark mark.PlusPlus) op h = refl
 step_acts (kind.Mark mark.MinusMinus) op h = refl
 step_acts _ op h = absurd (cc)
 
--- what stands behind a target, if it has no index
+-- what stands after a target, if it has no index
 pub update_square : (k : TokenKind) (op : Binary) → updates_by k ≡ Some op → is_fixed fixed.LeftSquare (Some k) ≡ false
 update_square (kind.Mark mark.ShlAssign) op h = refl
 update_square (kind.Mark mark.ShrAssign) op h = refl

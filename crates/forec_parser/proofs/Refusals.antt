@@ -46,7 +46,7 @@ pub tokens_join : (ls rs : List Spelt) → tokens (ls ++ rs) ≡ tokens ls ++ to
 tokens_join [] rs = refl
 tokens_join (s ∷ ls) rs = ap (λ z. s.token ∷ z) (tokens_join ls rs)
 
--- What is too deep at t is so whatever stands behind t.
+-- What is too deep at t is so whatever stands after t.
 stays_deep : (k : ℕ) (a x y : List Token) → Meets x y → items k (input (a ++ x) 0) ≡ Err (Deep (length x)) → items k (input (a ++ y) 0) ≡ Err (Deep (length y))
 stays_deep k a x y h e = deep_too (items_steady {E = Unit {0}} k k (record { grows = omega arith; equal = λ q. refl })) tt h a 0 e
 

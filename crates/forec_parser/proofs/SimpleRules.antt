@@ -49,7 +49,7 @@ a_list a = convert (λ v w x ls k q. separated_in q) (λ v w x ls k q. q) (full_
 comma_ends : (t : Token) → IsMark mark.Comma t → ends (Some t.kind) ≡ true
 comma_ends t h = rw h
 
--- a list whose parts are read where what ends an expression stands behind
+-- a list whose parts are read where what ends an expression stands after
 pub list_reads : {limit : ℕ} {A : Type 0} {p : Parser A} {R : A → ℕ → List Spelt → Type 0} {v : ℕ} {xs : List A} {ls : List Spelt} {k : Option TokenKind}
     → ((x : A) (ls : List Spelt) (k : Option TokenKind) → R x v ls → ends k ≡ true → Reading limit p v x v ls k) → ((x : A) (ls : List Spelt) → R x v ls → Filled ls)
     → Separated R xs v ls → ends k ≡ true → is_fixed fixed.Comma k ≡ false → Listed (Full (Reading limit p)) v xs v ls k

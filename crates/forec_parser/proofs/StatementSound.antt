@@ -27,7 +27,7 @@ use Rattle.expr_parser.proofs.Leaves.{Tok, tok, Last, last, Up, up, NameIs, name
 use Rattle.forec_parser.proofs.SimpleRules.{a_list, a_value, a_bracketed, a_passed, a_simple}
 use Rattle.forec_parser.proofs.PartRules.{local_by, bound_by, head_by}
 
--- an `else` behind the statement does not belong to it
+-- an `else` after the statement does not belong to it
 abbrev pub Calm : Bool → Option TokenKind → Type 0
 Calm o k = o ≡ true → is_fixed fixed.Else k ≡ false
 

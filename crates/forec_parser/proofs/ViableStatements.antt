@@ -76,7 +76,7 @@ module _ (limit : ℕ) where
   unfolding st.called st.maybe_passed
   called_at n = convert (ss.called_of limit) (bind (a_name limit) part_keeps name_here (λ t. map_to (λ args. Calls t (listed args)) (either_off fixed.LeftRound n (passed_at limit) (done_at []))))
 
-  -- from the level low on, a statement is refused behind the front of one
+  -- from the level low on, a statement is refused after the front of one
   abbrev pub Speaks : ℕ → Parser Statement → Type 0
   Speaks low p = (u : ℕ) → u ≤ limit → (k : Option TokenKind) → is_fixed fixed.Else k ≡ false → Viable limit low p (Said u) a_semicolon k
 
@@ -226,7 +226,7 @@ module _ (limit : ℕ) where
     unfolding st.one
     one_at u top k n = record { refused = λ i e deep small h. one_stops u top n (sort_of (kind_ahead i.rest)) i e deep small h; least = least_said }
 
-  -- A statement is refused behind the front of one, where the depth lasts up to the limit of levels.
+  -- A statement is refused after the front of one, where the depth lasts up to the limit of levels.
   pub viable_stmt : (d low : ℕ) → limit < d + low → Speaks low (stmt limit d)
   unfolding stmt
   viable_stmt zero low deep u top k n = record { refused = λ i e le small h. absurd (omega arith); least = least_said }

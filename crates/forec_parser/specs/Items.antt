@@ -149,7 +149,7 @@ module _ (limit : ℕ) where
   unfoldable pub more_globals : Parser (List PlainItem)
   more_globals = λ i. if next_is fixed.Comma i then (close fixed.Comma >> separated (declared (declarator.Valued kind.Plain))) i else pure [] i
 
-  -- plain globals behind the first name
+  -- plain globals after the first name
   unfoldable pub plain_globals : Name → Parser (List PlainItem)
   plain_globals n = do
     found ← maybe_value

@@ -37,7 +37,7 @@ told_of count (inner.Syntax left) = Syntax (count - left)
 told_of count (inner.Deep left) = Deep (count - left)
 told_of count inner.OutOfMemory = OutOfMemory
 
--- the refused token is one of so many, or stands behind them
+-- the refused token is one of so many, or stands after them
 abbrev pub IsAmong : ℕ → Fault → Type 0
 IsAmong count (inner.Syntax left) = left ≤ count
 IsAmong count (inner.Deep left) = left ≤ count

@@ -1,4 +1,4 @@
-// Why no program is read.
+//! Why no program is read.
 
 use thiserror::Error;
 

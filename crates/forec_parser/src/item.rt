@@ -21,7 +21,7 @@ use forec_tree::{Combine, Global as Variable, GlobalKind, Item, Name, Number};
 use sqlite_items::Items;
 use std::alloc::Global;
 
-// More than the levels that the statements of a function have.
+/// More than the levels that the statements of a function have.
 const BLOCK_DEPTH: usize = 129;
 
 #[tactic(auto, unfolding(crate::specs::Items::negative))]
@@ -373,7 +373,7 @@ fn more_globals(alloc: Global, tokens: &mut Tokens<'_>) -> Result<Items<Item>, F
     }
 }
 
-/// Plain globals behind the first name.
+/// Plain globals after the first name.
 #[tactic(auto, unfolding(crate::specs::Items::plain_globals))]
 fn plain_globals(alloc: Global, tokens: &mut Tokens<'_>, name: Name) -> Result<Items<Item>, Fault>
     ensures { Reads (map plain_item) (spec.plain_globals max_level name tokens.old) result tokens.new }

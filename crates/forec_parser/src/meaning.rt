@@ -1,4 +1,4 @@
-// What a token means where it stands.
+//! What a token means where it stands.
 
 ghost use Rattle.std.specs.Prelude.{◌≡◌};
 ghost use Rattle.forec_parser.specs.Meaning as spec;

@@ -1,4 +1,4 @@
-// Parts of statements, and the nodes that are made of them.
+//! Parts of statements, and the nodes that are made of them.
 
 ghost use Rattle.std.specs.Prelude.{◌≡◌, [], ◌∷◌, IfOk, map, pos};
 ghost use Rattle.forec_tree.specs.Terms as plain;
@@ -23,7 +23,7 @@ pub struct Block {
     pub body: Items<Stmt>,
 }
 
-/// What stands between the brackets behind `for`.
+/// What stands between the brackets after `for`.
 #[derive(Drop)]
 pub struct ForHead {
     pub start: Option<Box<Stmt>>,

@@ -18,7 +18,7 @@ use forec_tree::{Branch, Expr, Local, Name, Number, OpAt, Stmt, Target};
 use sqlite_items::Items;
 use std::alloc::Global;
 
-// More than the levels that an expression has.
+/// More than the levels that an expression has.
 const EXPR_DEPTH: usize = 129;
 
 /// An expression of its own.
@@ -370,7 +370,7 @@ fn step(alloc: Global, tokens: &mut Tokens<'_>) -> Result<Option<Box<Stmt>>, Fau
     }
 }
 
-/// What stands between the brackets behind `for`, with the brackets.
+/// What stands between the brackets after `for`, with the brackets.
 #[tactic(auto, unfolding(crate::specs::Statements::head, crate::specs::Statements::head_parts))]
 pub fn head(alloc: Global, tokens: &mut Tokens<'_>) -> Result<ForHead, Fault>
     ensures { Reads head_view (spec.head max_level tokens.old) result tokens.new }

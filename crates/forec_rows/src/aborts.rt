@@ -1,4 +1,4 @@
-// Aborts, strong and weak, immediate or not, in one another and round branches.
+//! Aborts, strong and weak, immediate or not, in one another and round branches.
 
 use crate::memory::{Row, counts, prints_each};
 use forec_engine::Status;
@@ -16,18 +16,18 @@ const STRONG_IMMEDIATE: &[u8] =
 const WEAK_IMMEDIATE: &[u8] =
     b"input int r; output int o = 0; void main(void) { while (1) { weak abort { while (1) { o = o + 1; pause; } } when immediate (r); o = o + 100; pause; } }";
 
-// A weak abort in a strong one.
+/// A weak abort in a strong one.
 const NESTED: &[u8] =
     b"input int q, p; output int o = 0; void main(void) { while (1) { abort { weak abort { while (1) { o = o + 1; pause; } } when (q); o = o + 10; pause; } when (p); o = o + 100; pause; } }";
 
-// The outer test traps before the inner one is made.
+/// The outer test traps before the inner one is made.
 const TRAPS: &[u8] = b"input int q, p;
 void main(void) {
  abort { abort { while (1) { pause; } } when (1 / p); }
  when (1 / q); }
 ";
 
-// Branches that were left start anew.
+/// Branches that were left start anew.
 const LEAVES: &[u8] = b"input int r;
 shared output int s = 0 combine mod with plus;
 int plus(int x, int y) { return x + y; }
@@ -36,7 +36,7 @@ void b(void) { s = 2; pause; s = 20; pause; s = 200; pause; }
 void main(void) { while (1) { weak abort { par(a, b); } when (r); pause; } }
 ";
 
-// Two sensors and two motors, each a thread, and an emergency stop.
+/// Two sensors and two motors, each a thread, and an emergency stop.
 pub const ROBOT: &[u8] = b"/* Two distance sensors, two motors, an emergency stop. */
 input int left, right, stop;
 shared output int motor_l = 0 combine mod with lower;

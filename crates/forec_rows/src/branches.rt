@@ -1,10 +1,10 @@
-// Threads that run side by side, and shared variables that are combined.
+//! Threads that run side by side, and shared variables that are combined.
 
 use crate::memory::{Row, counts, prints_each};
 use forec_engine::Status;
 use std::test::Fail;
 
-// Two branches set the shared output in two ticks.
+/// Two branches set the shared output in two ticks.
 const ALL: &[u8] = b"shared output int s = 1 combine all with plus;
 int plus(int x, int y) { return x + y; }
 void a(void) { s = s + 1; pause; }
@@ -26,7 +26,7 @@ void b(void) { s = s + 2; pause; }
 void main(void) { par(a, b); }
 ";
 
-// The copies are folded in the order of the `par`.
+/// The copies are folded in the order of the `par`.
 const MINUS: &[u8] = b"shared output int s = 0 combine all with minus;
 int minus(int x, int y) { return x - y; }
 void ten(void) { s = 10; }
@@ -35,7 +35,7 @@ void two(void) { s = 2; }
 void main(void) { par(ten, three, two); }
 ";
 
-// A branch with branches, and what it does behind them.
+/// A branch with branches, and what it does after them.
 const NESTED: &[u8] = b"shared output int s = 0 combine mod with plus;
 int plus(int x, int y) { return x + y; }
 void leaf(void) { s = s + 1; }
@@ -43,7 +43,7 @@ void mid(void) { par(leaf, leaf); s = s * 10; }
 void main(void) { par(mid, leaf); }
 ";
 
-// The same branches anew at each turn.
+/// The same branches anew at each turn.
 const AGAIN: &[u8] = b"shared output int s = 0 combine mod with plus;
 int plus(int x, int y) { return x + y; }
 void leaf(void) { s = s + 1; }
@@ -51,7 +51,7 @@ void mid(void) { par(leaf, leaf); s = s * 10; }
 void main(void) { for (int i = 0; i < 3; i++) par(leaf, leaf); }
 ";
 
-// Both branches divide by zero.
+/// Both branches divide by zero.
 const DIVIDES: &[u8] = b"shared output int s = 0 combine mod with plus;
 int plus(int x, int y) { return x + y; }
 void a(void) { s = 1 / s; }
@@ -59,7 +59,7 @@ void b(void) { s = 2 / s; }
 void main(void) { par(a, b); }
 ";
 
-// Each function starts the next one twice: 510 branches.
+/// Each function starts the next one twice: 510 branches.
 const EIGHT_LEVELS: &[u8] = b"void t8(void) { }
 void t7(void) { par(t8, t8); }
 void t6(void) { par(t7, t7); }
@@ -71,7 +71,7 @@ void t1(void) { par(t2, t2); }
 void main(void) { par(t1, t1); }
 ";
 
-// 254 branches, and `main`.
+/// 254 branches, and `main`.
 const SEVEN_LEVELS: &[u8] = b"void t7(void) { }
 void t6(void) { par(t7, t7); }
 void t5(void) { par(t6, t6); }

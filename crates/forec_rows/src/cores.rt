@@ -1,4 +1,4 @@
-// Threads on several cores, lists of them, and workloads.
+//! Threads on several cores, lists of them, and workloads.
 
 use crate::memory::{shows, single, whole};
 use forec_engine::Status;
@@ -93,7 +93,7 @@ const ASKS: [(&[&str], &[u8], Status); 6] = [
     ),
 ];
 
-// The trace would fail at its first read.
+/// The trace would fail at its first read.
 #[test]
 fn lists_and_workloads(rt: HostRuntime) -> Result<(), Fail> {
     let alloc = rt.alloc();

@@ -1,4 +1,4 @@
-// The gate that the top call is given is the one that its threads pass.
+//! The gate that the top call is given is the one that its threads pass.
 
 use crate::memory::{run_past, whole};
 use forec_base::{Gate, Point};
@@ -7,7 +7,7 @@ use std::process::Abort;
 use std::sync::atomic::{AtomicU32, Ordering};
 use std::test::Fail;
 
-// Counts passes, before a job and behind it.
+/// Counts passes, before a job and after it.
 #[derive(Drop)]
 struct Passes {
     begun: AtomicU32,
@@ -28,7 +28,7 @@ impl Passes {
     }
 }
 
-// The passes of two branches on core 0, and all others but those of `main` there.
+/// The passes of two branches on core 0, and all others but those of `main` there.
 #[derive(Drop)]
 struct Counting {
     first: Passes,
@@ -51,7 +51,7 @@ impl Gate for Counting {
     }
 }
 
-// Two branches, each of two ticks.
+/// Two branches, each of two ticks.
 const TWICE: &[u8] = b"void a(void) { pause; } void main(void) { par(a, a); }";
 
 #[test]

@@ -1,4 +1,4 @@
-// The top call over stores in memory.
+//! The top call over stores in memory.
 ghost use Rattle.std.specs.Prelude.{ℕ, List};
 
 use forec_base::{Gate, MemSink, MemSource, MemTexts, NamedText, OpenGate, Sink, Source, Texts};

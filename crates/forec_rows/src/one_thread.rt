@@ -1,25 +1,25 @@
-// Programs of one thread, the words, and the sizes.
+//! Programs of one thread, the words, and the sizes.
 
 use crate::memory::{Row, ask, counts, prints_each, run, shows, single, whole};
 use forec_base::{MemSink, OpenGate, SureSource, SureTexts};
 use forec_engine::Status;
 use std::test::Fail;
 
-// One output, which a loop raises in each tick.
+/// One output, which a loop raises in each tick.
 const COUNTER: &[u8] = b"output int o = 0; void main(void) { while (1) { o = o + 1; pause; } }";
 
-// The same with a comment and a hexadecimal number.
+/// The same with a comment and a hexadecimal number.
 const HEXADECIMAL: &[u8] =
     b"// x\noutput int o = 0; void main(void) { while (1) { o = o + 0x1; pause; } }";
 
-// One output, which passes the greatest number.
+/// One output, which passes the greatest number.
 const WRAPS: &[u8] = b"output int o = 2147483647; void main(void) { o = o + 1; }";
 
-// A loop that may turn five times in a tick.
+/// A loop that may turn five times in a tick.
 const TURNS: &[u8] =
     b"output int o = 0; void main(void) { int i = 0; while (i < 10) #5 { i = i + 1; } o = i; }";
 
-// Three units in the first tick, nine in the second.
+/// Three units in the first tick, nine in the second.
 const GROWS: &[u8] =
     b"output int o = 0; void main(void) { o = 1; pause; o = o + 1; o = o + 1; pause; }";
 
@@ -178,7 +178,7 @@ fn budgets(rt: HostRuntime) -> Result<(), Fail> {
     Ok(())
 }
 
-// Neither `check` nor `code` asks for a trace: this one fails at its first read.
+/// Neither `check` nor `code` asks for a trace: this one fails at its first read.
 #[test]
 fn counts_and_lists(rt: HostRuntime) -> Result<(), Fail> {
     let alloc = rt.alloc();
@@ -199,7 +199,7 @@ fn counts_and_lists(rt: HostRuntime) -> Result<(), Fail> {
 const USAGE: &[u8] =
     b"usage: forec run|check|threads|code|explain|gen PROGRAM [--cores N] [--place LIST] [--budget B] [--order N]\n";
 
-// These words are no command.
+/// These words are no command.
 const NO_COMMANDS: [&[&str]; 12] = [
     &["run"],
     &["ran", "P"],
@@ -282,7 +282,7 @@ const LAST: [(&[u8], &str, &[u8], Status); 3] = [
     (COUNTER, "6", b"over 1 budget 6\n", Status::Over),
 ];
 
-// No byte is asked for behind the row in which a run ends: the third read would fail.
+/// No byte is asked for after the row in which a run ends: the third read would fail.
 #[test]
 fn reads_no_further(rt: HostRuntime) -> Result<(), Fail> {
     let alloc = rt.alloc();
@@ -302,7 +302,7 @@ fn reads_no_further(rt: HostRuntime) -> Result<(), Fail> {
     Ok(())
 }
 
-// Stores that never fail.
+/// Stores that never fail.
 #[test]
 fn sure_stores(rt: HostRuntime) -> Result<(), Fail> {
     let alloc = rt.alloc();
@@ -318,7 +318,7 @@ fn sure_stores(rt: HostRuntime) -> Result<(), Fail> {
     Ok(())
 }
 
-// A run whose lines fill the room for them many times.
+/// A run whose lines fill the room for them many times.
 #[test]
 fn many_ticks(rt: HostRuntime) -> Result<(), Fail> {
     let alloc = rt.alloc();

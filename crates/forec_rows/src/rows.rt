@@ -1,4 +1,4 @@
-// Worked traces, out of sources in memory that give their bytes in pieces, and worked lines.
+//! Worked traces, out of sources in memory that give their bytes in pieces, and worked lines.
 ghost use Rattle.std.specs.Prelude.{◌≡◌, ◌≤◌, length, IfOk};
 
 use forec_base::{Labels, MemSource, OutOfMemory};
@@ -7,7 +7,7 @@ use std::process::Abort;
 use std::test::Fail;
 use trace_rows::{Next, RowFault, Rows, line, line_room};
 
-// What a trace of the inputs `a` and `b` is to give: the values of its rows, one behind the other, and the last answer.
+/// What a trace of the inputs `a` and `b` is to give: the values of its rows, one after the other, and the last answer.
 const TWO: [(&[u8], &[i32], Result<Next, RowFault>); 31] = [
     (b"", &[], Err(RowFault::Bad)),
     (b"\n1 2\n", &[], Err(RowFault::Bad)),
@@ -46,7 +46,7 @@ const TWO: [(&[u8], &[i32], Result<Next, RowFault>); 31] = [
     (b"a b\n1\x0b2\n", &[], Err(RowFault::Bad)),
 ];
 
-// How many rows a trace of no inputs and at most two rows is to give, and the last answer.
+/// How many rows a trace of no inputs and at most two rows is to give, and the last answer.
 const NONE: [(&[u8], u32, Result<Next, RowFault>); 7] = [
     (b"", 0, Err(RowFault::Bad)),
     (b"\n", 0, Ok(Next::End)),
@@ -57,7 +57,7 @@ const NONE: [(&[u8], u32, Result<Next, RowFault>); 7] = [
     (b"x\n", 0, Err(RowFault::Bad)),
 ];
 
-// What the calls on a trace gave.
+/// What the calls on a trace gave.
 #[derive(Drop)]
 struct Given {
     rows: u32,
@@ -66,7 +66,7 @@ struct Given {
     live: bool,
 }
 
-// Reads at most nine rows.
+/// Reads at most nine rows.
 fn read(
     alloc: Global,
     inputs: &Labels,
@@ -106,7 +106,7 @@ fn read(
     })
 }
 
-// The same of bytes that come in pieces of a size, where the read of number `fails` does.
+/// The same of bytes that come in pieces of a size, where the read of number `fails` does.
 fn read_pieces(
     alloc: Global,
     inputs: &Labels,
@@ -159,7 +159,7 @@ fn rows_without_inputs(rt: HostRuntime) -> Result<(), Fail> {
     Ok(())
 }
 
-// How a header of so many spaces is answered.
+/// How a header of so many spaces is answered.
 fn spaces(alloc: Global, count: usize, size: usize) -> Result<Given, OutOfMemory>
     requires { 1 ≤ size }
 {
@@ -180,7 +180,7 @@ fn long_lines(rt: HostRuntime) -> Result<(), Fail> {
     Ok(())
 }
 
-// The bytes of a read, the number of the read that fails, the values of the rows that are given, and the last answer.
+/// The bytes of a read, the number of the read that fails, the values of the rows that are given, and the last answer.
 const FAILS: [(usize, u64, &[i32], Result<Next, RowFault>); 9] = [
     (1, 1, &[], Err(RowFault::ReadFault)),
     (1, 4, &[], Err(RowFault::ReadFault)),
@@ -193,7 +193,7 @@ const FAILS: [(usize, u64, &[i32], Result<Next, RowFault>); 9] = [
     (1000, 2, &[1, 2, 3, 4], Err(RowFault::ReadFault)),
 ];
 
-// Rows that came whole are given before the fault; behind the end no read is made.
+/// Rows that came whole are given before the fault; after the end no read is made.
 #[test]
 fn reads_that_fail(rt: HostRuntime) -> Result<(), Fail> {
     let alloc = rt.alloc();

@@ -1,4 +1,4 @@
-// Streams that fail at one of their calls.
+//! Streams that fail at one of their calls.
 
 use crate::memory::{Streams, shows, single, whole};
 use forec_engine::Status;
@@ -108,7 +108,7 @@ const CASES: [Case; 9] = [
     ),
 ];
 
-// The first lines of a report, so many.
+/// The first lines of a report, so many.
 fn front(report: &[u8], lines: usize) -> &[u8] {
     let mut seen = 0usize;
     for (at, byte) in report.iter().enumerate() {
@@ -122,7 +122,7 @@ fn front(report: &[u8], lines: usize) -> &[u8] {
     report
 }
 
-// How many rows came whole with the first bytes of a trace: their lines, but for the header's.
+/// How many rows came whole with the first bytes of a trace: their lines, but for the header's.
 fn rows_of(trace: &[u8], bytes: usize) -> usize {
     let mut lines = 0usize;
     for byte in trace.iter().take(bytes) {
@@ -133,7 +133,7 @@ fn rows_of(trace: &[u8], bytes: usize) -> usize {
     lines.saturating_sub(1)
 }
 
-// Streams that give at most so many bytes a call, of which one call fails.
+/// Streams that give at most so many bytes a call, of which one call fails.
 fn one_read_fails(alloc: Global, size: usize, call: usize) -> Result<Streams, Fail> {
     Ok(Streams {
         read: size,
@@ -142,7 +142,7 @@ fn one_read_fails(alloc: Global, size: usize, call: usize) -> Result<Streams, Fa
     })
 }
 
-// Where a read fails, the lines of the rows that came whole before it are held; no read is made behind the last one.
+/// Where a read fails, the lines of the rows that came whole before it are held; no read is made after the last one.
 #[test]
 fn each_read_fails(rt: HostRuntime) -> Result<(), Fail> {
     let alloc = rt.alloc();
@@ -165,7 +165,7 @@ fn each_read_fails(rt: HostRuntime) -> Result<(), Fail> {
     Ok(())
 }
 
-// Where the write of a byte fails, those before it are held; the trace comes at once, or byte by byte.
+/// Where the write of a byte fails, those before it are held; the trace comes at once, or byte by byte.
 #[test]
 fn each_write_fails(rt: HostRuntime) -> Result<(), Fail> {
     let alloc = rt.alloc();

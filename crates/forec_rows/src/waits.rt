@@ -1,4 +1,4 @@
-// A source that gives the next row only once the line of each row before it has been taken.
+//! A source that gives the next row only once the line of each row before it has been taken.
 
 use crate::memory::{ask, store};
 use forec_base::{Failed, MemSink, MemSource, OpenGate, Sink, Source};
@@ -7,7 +7,7 @@ use std::process::Abort;
 use std::sync::atomic::{AtomicU32, Ordering};
 use std::test::Fail;
 
-// Lines of one byte. It fails where a row that it gave has no line yet among those that were taken.
+/// Lines of one byte. It fails where a row that it gave has no line yet among those that were taken.
 #[derive(Drop)]
 struct Waiting<'a> {
     lines: MemSource,
@@ -40,7 +40,7 @@ impl Source for Waiting<'_> {
     }
 }
 
-// Counts the lines that it has taken.
+/// Counts the lines that it has taken.
 #[derive(Drop)]
 struct Counting<'a> {
     inner: MemSink,
@@ -98,7 +98,7 @@ const REPORTS: [(&[&str], &[u8], &[u8]); 3] = [
     ),
 ];
 
-// A body that holds its lines back would end by a fault of the source.
+/// A body that holds its lines back would end by a fault of the source.
 #[test]
 fn a_line_is_out_before_the_next_row(rt: HostRuntime) -> Result<(), Fail> {
     let alloc = rt.alloc();

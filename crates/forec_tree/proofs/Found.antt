@@ -1,4 +1,4 @@
--- The faults of findings that stand one behind the other.
+-- The faults of findings that stand one after the other.
 use Rattle.std.proofs.Common.{◌≡◌, ◌∙◌, sym, ap, refl, List, [], ◌∷◌, ◌++◌, append_assoc}
 use Rattle.forec_tree.specs.Findings.{Finding}
 use Rattle.forec_tree.specs.Rules.{Judging, finding_faults, findings_faults}

@@ -9,7 +9,7 @@ use Rattle.forec_tree.specs.Lexis.{Piece, blank, name, number, word, mark, Next,
 
 -- ---- places
 
--- the place behind a byte
+-- the place after a byte
 abbrev pub place_after : Place → ℕ → Place
 place_after p b = if is_line_end b then record { line = suc p.line; column = 1 } else record { line = p.line; column = suc p.column }
 
@@ -22,7 +22,7 @@ place_at text at = fold place_after first_place (take at text)
 
 -- ---- names, in the order of their first use
 
--- the number of a name: its place among the names, and behind all of them where it is new
+-- the number of a name: its place among the names, and after all of them where it is new
 abbrev pub number_of : List (List ℕ) → List ℕ → ℕ
 number_of [] spelt = 0
 number_of (n ∷ ns) spelt = if bytes_eq spelt n then 0 else suc (number_of ns spelt)
@@ -124,7 +124,7 @@ NumbersSpellings text tokens =
     (a b i j : ℕ) (s t : Token) → slice_get tokens a ≡ Some s → slice_get tokens b ≡ Some t → s.kind ≡ kind.Name i → t.kind ≡ kind.Name j
     → (i ≡ j) ↔ (bytes_of text s ≡ bytes_of text t)
 
--- the tokens stand one behind the other, from one byte of the text up to another, and none is empty
+-- the tokens stand one after the other, from one byte of the text up to another, and none is empty
 abbrev pub AreInOrder : ℕ → List Token → ℕ → Type 0
 AreInOrder from [] to = from ≤ to
 AreInOrder from (t ∷ ts) to = (from ≤ t.start) × (t.start < t.end) × AreInOrder t.end ts to

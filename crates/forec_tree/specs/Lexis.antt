@@ -1,4 +1,4 @@
--- The lexis: which bytes are white space, a comment or a token, by what stands behind them in the text.
+-- The lexis: which bytes are white space, a comment or a token, by what stands after them in the text.
 use Rattle.std.specs.Prelude.{◌≡◌, ℕ, ◌+◌, ◌-◌, ◌*◌, ◌≤◌, Bool, true, not, ◌&&◌, ◌||◌, ◌==◌, nat_le, nat_lt, if◌then◌else◌, ◌⊎◌, ℤ, List, [], ◌∷◌, ◌++◌, length, take, drop, fold, codes}
 use Rattle.std.specs.Int.{w32, cast_signed}
 use Rattle.forec_tree.specs.declared.token.Word.{Word}
@@ -180,7 +180,7 @@ pub data Piece : Type 0 where
 abbrev pub IsBlank : List ℕ → List ℕ → Type 0
 IsBlank bytes behind = ((b : ℕ) × (is_space b ≡ true) × (bytes ≡ b ∷ [])) ⊎ IsComment bytes behind
 
--- The bytes, with these others behind them, are such a piece.
+-- The bytes, with these others after them, are such a piece.
 -- A number is the whole run of letters, `_` and digits; where a comment opens there is no mark, also where the comment isn't closed.
 abbrev pub Fits : Piece → List ℕ → List ℕ → Type 0
 Fits blank bytes behind = IsBlank bytes behind

@@ -84,7 +84,7 @@ pub data Tests : Option Term → ℕ → List Spelt → Type 0 where
   no_test : {v : ℕ} → Tests None v []
   some_test : {v : ℕ} {test : Term} {ls : List Spelt} → Whole test v ls → Tests (Some test) v ls
 
--- what a `for` does behind its body
+-- what a `for` does after its body
 pub data Steps : Perhaps → ℕ → List Spelt → Type 0 where
   no_step : {v : ℕ} → Steps absent v []
   some_step : {v : ℕ} {x : Statement} {ls : List Spelt} → Simple x v ls → Steps (present x) v ls
@@ -108,7 +108,7 @@ pub data Optional (w : Word) : Bool → ℕ → List Spelt → Type 0 where
   missing : {v : ℕ} → Optional w false v []
 
 -- `Says x o v u ls`: the tokens of ls spell the statement x. The level is v before them, and u after the last one, which depends on
--- what the statement stands in. o tells whether it ends in an `if` without `else`, which an `else` behind it would belong to.
+-- what the statement stands in. o tells whether it ends in an `if` without `else`, which an `else` after it would belong to.
 -- `if`, `else`, `while`, `for` and `abort` raise the level up to the end of their statement.
 mutual
   pub data Says : Statement → Bool → ℕ → ℕ → List Spelt → Type 0 where

@@ -1,4 +1,4 @@
-// What stands between two operands.
+//! What stands between two operands.
 
 use forec_base::Binary;
 

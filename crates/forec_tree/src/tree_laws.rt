@@ -1,4 +1,4 @@
-// What the count of thread instances has to do with the tree of threads.
+//! What the count of thread instances has to do with the tree of threads.
 
 ghost use Rattle.std.specs.Prelude.{◌≡◌, ℕ};
 ghost use Rattle.forec_tree.specs.Terms.{Text};

@@ -70,7 +70,7 @@ shape_next names count bares at b marks rest m e =
     ∙ (ap (λ u. with_uses names b u ∷ bare_shapes names count bares (suc at) rest) (sym (marks_uses count (named_at bares at b) marks m))
     ∙ ap (λ i. with_uses names b (marked_from 0 marks) ∷ bare_shapes names count bares i rest) n)
 
--- one thread more behind those that are done
+-- one thread more after those that are done
 pub shapes_more : (done new : List ThreadShape) (shape : ThreadShape) (x : PlainThread) (now next whole : List PlainThread) → new ≡ done ++ shape ∷ [] → plain_thread shape ≡ x → now ≡ x ∷ next →
     map plain_thread done ++ now ≡ whole → map plain_thread new ++ next ≡ whole
 shapes_more done new shape x now next whole p e n w =
@@ -125,7 +125,7 @@ name_at (x ∷ xs) (suc id) name e = name_at xs id name e
 pub first_shape : (pushed fresh : List ThreadShape) (x : ThreadShape) (y : PlainThread) → pushed ≡ fresh ++ x ∷ [] → fresh ≡ [] → plain_thread x ≡ y → map plain_thread pushed ≡ y ∷ []
 first_shape pushed fresh x y p f e = ap (map plain_thread) (p ∙ ap (λ l. l ++ x ∷ []) f) ∙ ap (λ z. z ∷ []) e
 
--- ---- the threads from one on to the one behind
+-- ---- the threads from one on to the one after
 
 take_few : {A : Type 0} (n : ℕ) (xs : List A) → take (min n (length xs)) xs ≡ take n xs
 take_few zero xs = let e : min 0 (length xs) ≡ 0 = omega arith in ap (λ m. take m xs) e

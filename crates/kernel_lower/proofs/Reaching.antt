@@ -1,4 +1,4 @@
--- Sums along chains of calls, computed in an order in which each function stands behind those that it calls.
+-- Sums along chains of calls, computed in an order in which each function stands after those that it calls.
 use Rattle.std.proofs.Common.{ℕ, zero, suc, ◌+◌, ◌-◌, ◌^◌, ◌<◌, ◌≤◌, ◌≡◌, ◌∙◌, ◌==◌, min, max, sym, ap, refl, true, false, cond, List, [], ◌∷◌, ◌++◌, length, set, get_or, arith, get_or-set_same, get_or-set_other}
 use Rattle.std.proofs.lemmas.Bool.{eqb-true}
 use Rattle.std.proofs.lemmas.Bool.Decides.{nat_tests}

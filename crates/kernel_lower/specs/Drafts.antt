@@ -34,7 +34,7 @@ abbrev pub vars_bare : List Bare → List ℕ
 vars_bare [] = []
 vars_bare (b ∷ rest) = vars_of b.body ++ vars_bare rest
 
--- the thread at a place of those below thread 0, and the threads below it, where the number of the thread behind these is known
+-- the thread at a place of those below thread 0, and the threads below it, where the number of the thread after these is known
 abbrev pub part_at : List Bare → ℕ → ℕ → List Bare
 part_at all i behind = take (behind - 1 - i) (drop i all)
 

@@ -1,4 +1,4 @@
-// Programs that are too large or too deep to be made: which limit they pass first.
+//! Programs that are too large or too deep to be made: which limit they pass first.
 
 ghost use Rattle.std.specs.Prelude.{◌≡◌, ◌≤◌, ◌-◌, ◌^◌, ℕ, min, map, IfOk, IfErr, OnOk};
 ghost use Rattle.forec_tree.specs.Plain.{plain_item};

@@ -1,4 +1,4 @@
-// The kernel of a program, put together.
+//! The kernel of a program, put together.
 
 ghost use Rattle.std.specs.Prelude.{◌≡◌, ◌∷◌, ◌-◌, ◌^◌, ◌+◌, min, sum, map, length, IfOk};
 ghost use Rattle.forec_tree.specs.Plain.{plain_item};

@@ -1,4 +1,4 @@
-// From a checked program to its kernel.
+//! From a checked program to its kernel.
 
 ghost use Rattle.std.specs.Prelude.{◌≡◌, ◌≤◌, ◌-◌, ◌^◌, min, IfOk, IfErr, OnOk};
 ghost use Rattle.forec_kernel.specs.Shapes.{plain_kernel};

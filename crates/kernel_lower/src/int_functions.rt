@@ -1,4 +1,4 @@
-// The int functions of a program.
+//! The int functions of a program.
 
 ghost use Rattle.std.specs.Prelude.{◌≡◌, map, length, IfOk};
 ghost use Rattle.forec_tree.specs.Plain.{plain_item, plain_function};

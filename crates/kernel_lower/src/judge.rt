@@ -1,4 +1,4 @@
-// The limits, in their order.
+//! The limits, in their order.
 
 ghost use Rattle.std.specs.Prelude.{◌≡◌, ◌≤◌, OnOk, IfErr};
 ghost use Rattle.text_kernel.specs.Limits as limits;

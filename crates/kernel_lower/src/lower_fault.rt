@@ -1,4 +1,4 @@
-// Why a program has no kernel.
+//! Why a program has no kernel.
 
 use forec_base::OutOfMemory;
 use text_kernel::Quantity;

@@ -1,4 +1,4 @@
-// The variables that bodies of the kernel name.
+//! The variables that bodies of the kernel name.
 
 ghost use Rattle.std.specs.Prelude.{◌≡◌, map};
 ghost use Rattle.forec_kernel.specs.Plain as kernel;

@@ -1,4 +1,4 @@
-// The most words and the greatest depth of the threads and int functions of a kernel.
+//! The most words and the greatest depth of the threads and int functions of a kernel.
 
 ghost use Rattle.std.specs.Prelude.{◌≡◌, ◌+◌, ◌-◌, ◌^◌, ◌<◌, ℕ, min, map, length, IfOk};
 ghost use Rattle.forec_kernel.specs.WellFormed.{Ranked};

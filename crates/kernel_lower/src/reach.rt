@@ -1,4 +1,4 @@
-// What the bodies of threads and int functions call, and the greatest sums along chains of calls.
+//! What the bodies of threads and int functions call, and the greatest sums along chains of calls.
 
 ghost use Rattle.std.specs.Prelude.{◌≡◌, ◌+◌, ◌-◌, ◌^◌, ◌++◌, ◌<◌, ℕ, min, map, length, true, IfOk, OnOk};
 ghost use Rattle.forec_tree.specs.Faults.{is_in, Leads};

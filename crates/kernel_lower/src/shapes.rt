@@ -1,4 +1,4 @@
-// What a kernel says of the threads of a program.
+//! What a kernel says of the threads of a program.
 
 ghost use Rattle.std.specs.Prelude.{◌≡◌, ◌<◌, ◌-◌, ◌∷◌, min, max, ◌++◌, [], ℕ, Option, None, Some, Bool, true, map, length, slice_index_or, IfOk, OnOk};
 ghost use Rattle.forec_kernel.specs.Shapes.{plain_thread, named};
@@ -36,8 +36,8 @@ fn marks_of(alloc: Global, count: u32, threads: &[Thread]) -> Result<Vec<bool>, 
     Ok(marks)
 }
 
-/// The place behind a thread and those below it in a list of so many threads, from the number of the
-/// thread behind them.
+/// The place after a thread and those below it in a list of so many threads, from the number of the
+/// thread after them.
 fn end_of(behind: u32, at: usize, count: usize) -> usize
     ensures { result ≡ min (max (behind - 1) at) count }
 {

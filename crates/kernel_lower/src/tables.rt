@@ -1,4 +1,4 @@
-// The constant arrays of a program.
+//! The constant arrays of a program.
 
 ghost use Rattle.std.specs.Prelude.{◌≡◌, ◌-◌, ◌^◌, min, sum, map, drop, IfOk};
 ghost use Rattle.forec_tree.specs.Plain.{plain_item, plain_global};

@@ -1,4 +1,4 @@
-// The variables and constant arrays of a program.
+//! The variables and constant arrays of a program.
 
 ghost use Rattle.std.specs.Prelude.{◌≡◌, ◌+◌, ◌-◌, ◌^◌, ◌++◌, List, [], ◌∷◌, min, sum, map, length, IfOk, OnOk};
 ghost use Rattle.forec_tree.specs.Plain.{plain_item, plain_global};

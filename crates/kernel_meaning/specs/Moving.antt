@@ -121,7 +121,7 @@ first_is_here None no_threads = false
 first_is_here None (child t R w c st rest) = is_running st
 first_is_here (Some i) cs = i == 0
 
--- the place among the children behind the first
+-- the place among the children after the first
 abbrev pub place_behind : Option ℕ → Option ℕ
 place_behind None = None
 place_behind (Some i) = Some (i - 1)

@@ -1,4 +1,4 @@
-// The children of a fork that starts.
+//! The children of a fork that starts.
 
 ghost use Rattle.std.specs.Prelude.{◌≡◌, ◌<◌, ◌+◌, ℕ, ℤ, IfOk, map, length};
 ghost use Rattle.forec_kernel.specs.Shapes.{plain_kernel};

@@ -1,4 +1,4 @@
-// The step of a fork whose children have all stopped.
+//! The step of a fork whose children have all stopped.
 
 ghost use Rattle.std.specs.Prelude.{◌≡◌, ◌<◌, ◌+◌, ℕ, ℤ, IfOk, ◌||◌, unwrap_or};
 ghost use Rattle.forec_kernel.specs.Shapes.{plain_kernel};
@@ -17,7 +17,7 @@ use running_texts::{Fold, Halt, begin_folds, copy_in, fold_branch, has, thread_u
 use running_threads::{Children, leftmost_trap, ran};
 use std::alloc::{AllocError, Global};
 
-// All folds after all branches that ran.
+/// All folds after all branches that ran.
 fn fold_children(
     alloc: Global,
     kernel: &KernelParts,
@@ -42,7 +42,7 @@ fn fold_children(
     }
 }
 
-// Whether some branch that ran has marked its copy of a variable.
+/// Whether some branch that ran has marked its copy of a variable.
 fn some_mark(kernel: &KernelParts, variable: u32, children: &Children<'_>) -> bool
     ensures { (j : ℕ) → result ≡ some_marked (shares (plain_kernel kernel.now) variable j (threads children.now)) }
 {
@@ -62,7 +62,7 @@ fn some_mark(kernel: &KernelParts, variable: u32, children: &Children<'_>) -> bo
     }
 }
 
-// The parent's copy of a variable after the last branch.
+/// The parent's copy of a variable after the last branch.
 fn end_fold(
     kernel: &KernelParts,
     children: &Children<'_>,
@@ -79,7 +79,7 @@ fn end_fold(
     }
 }
 
-// The parent's copies after the last branch.
+/// The parent's copies after the last branch.
 fn end_folds(
     alloc: Global,
     kernel: &KernelParts,
@@ -102,7 +102,7 @@ fn end_folds(
     Ok(list)
 }
 
-// The parent's copies, with those of the children combined.
+/// The parent's copies, with those of the children combined.
 fn join_copies(
     alloc: Global,
     kernel: &KernelParts,

@@ -1,4 +1,4 @@
-// What a step of a focus comes to.
+//! What a step of a focus comes to.
 
 ghost use Rattle.std.specs.Prelude.{◌≡◌, ◌<◌, ◌+◌, ℕ, ℤ, IfOk, position, ◌==◌};
 ghost use Rattle.forec_kernel.specs.Texts as plain;
@@ -20,7 +20,7 @@ pub enum Step<'k> {
     Goes { next: Next<'k> },
 }
 
-// Where a variable stands among those that a thread uses.
+/// Where a variable stands among those that a thread uses.
 fn place_of(uses: &[u32], variable: u32) -> Option<usize>
     ensures { result ≡ position (λ u. u == variable) uses.now }
 {

@@ -1,4 +1,4 @@
-// Which thread steps next.
+//! Which thread steps next.
 
 use running_threads::{Children, Focus, Thread, runs, some_run};
 use std::alloc::AllocError;

@@ -1,4 +1,4 @@
-// One step of a statement, and of a loop in progress.
+//! One step of a statement, and of a loop in progress.
 
 ghost use Rattle.std.specs.Prelude.{◌≡◌, ◌<◌, ◌+◌, ℕ, ℤ, IfOk, map, true, Some};
 ghost use Rattle.forec_kernel.specs.Shapes.{PlainKernel, plain_kernel};
@@ -19,7 +19,7 @@ use running_texts::{Halt, evaluate, evaluate_all, index_within, pay, tested};
 use running_threads::{Next, Turn};
 use std::alloc::Global;
 
-// The value of an expression in a thread.
+/// The value of an expression in a thread.
 pub(crate) fn number_of(
     alloc: Global,
     kernel: &KernelParts,
@@ -52,7 +52,7 @@ fn numbers_of(
     evaluate_all(alloc, kernel, deep, words, uses, copies, list, left)
 }
 
-// The arguments of all branches, in order.
+/// The arguments of all branches, in order.
 fn arguments_of(
     alloc: Global,
     kernel: &KernelParts,
@@ -79,7 +79,7 @@ fn arguments_of(
     Ok(all)
 }
 
-// A loop with so many turns left.
+/// A loop with so many turns left.
 fn with_left<'k>(turn: Turn<'k>, left: u32) -> Turn<'k>
     ensures { looping result ≡ record (looping turn.entry) { left = Some left } }
 {
@@ -132,7 +132,7 @@ pub(crate) fn loop_step<'k>(
     }
 }
 
-// An abort that is tested at its start.
+/// An abort that is tested at its start.
 fn enter_step<'k>(
     alloc: Global,
     kernel: &'k KernelParts,
@@ -194,7 +194,7 @@ fn par_step<'k>(
     }
 }
 
-// A number goes to a word or a copy, for one unit.
+/// A number goes to a word or a copy, for one unit.
 fn after_assign<'k>(to: Spot, part: Result<i32, Halt>, left: &mut u64) -> Result<Step<'k>, Halt>
     ensures { (k : PlainKernel) (s : Site) (old : ℕ) (v : Value) → IsMetered number old left.old part v →
         IsMoved s old left.new result (move_with v (λ n. assigned (record { kernel = k; uses = s.uses }) s.words s.copies to n)) }
@@ -246,7 +246,7 @@ fn clear_step<'k>(slot: u32, length: u32, left: &mut u64) -> Result<Step<'k>, Ha
     }
 }
 
-// A step of a statement other than a sequence's parts.
+/// A step of a statement other than a sequence's parts.
 pub(crate) fn statement_step<'k>(
     alloc: Global,
     kernel: &'k KernelParts,

@@ -1,4 +1,4 @@
-// One step of a thread, in place, along a path that picks the child at each fork.
+//! One step of a thread, in place, along a path that picks the child at each fork.
 
 ghost use Rattle.std.specs.Prelude.{◌≡◌, ◌<◌, ◌+◌, ℕ, ℤ, IfOk, List, Err, true, false};
 ghost use Rattle.forec_kernel.specs.Shapes.{plain_kernel};
@@ -32,7 +32,7 @@ fn runs_below(focus: &Focus<'_>) -> bool
     }
 }
 
-// One step of a focus none of whose children is running.
+/// One step of a focus none of whose children is running.
 fn focus_step<'k>(
     alloc: Global,
     kernel: &'k KernelParts,
@@ -58,7 +58,7 @@ fn focus_step<'k>(
     }
 }
 
-// A thread whose focus has nothing left to do: what follows it, or the thread's end.
+/// A thread whose focus has nothing left to do: what follows it, or the thread's end.
 fn finish(t: &mut Thread<'_>) -> Result<(), AllocError>
     ensures { IfOk result (λ _. plain_thread t.new ≡ thread_after (plain_thread t.old) (plugged_move t.old.frames.items t.old.words.items t.old.copies.items Finished)) }
 {
@@ -69,7 +69,7 @@ fn finish(t: &mut Thread<'_>) -> Result<(), AllocError>
     Ok(())
 }
 
-// A thread whose focus halts: it leaves the last piece of a weak abort, or the thread is paused.
+/// A thread whose focus halts: it leaves the last piece of a weak abort, or the thread is paused.
 fn halt(t: &mut Thread<'_>)
     ensures { plain_thread t.new ≡ thread_after (plain_thread t.old) (plugged_move t.old.frames.items t.old.words.items t.old.copies.items Halts) }
 {
@@ -80,7 +80,7 @@ fn halt(t: &mut Thread<'_>)
     }
 }
 
-// What is left of a fork whose copies are combined.
+/// What is left of a fork whose copies are combined.
 fn rest(focus: &mut Focus<'_>)
     ensures { focused focus.new ≡ rested (focused focus.old) }
 {
@@ -95,7 +95,7 @@ fn rest(focus: &mut Focus<'_>)
     }
 }
 
-// A number goes to a word, or marked to a copy.
+/// A number goes to a word, or marked to a copy.
 fn set(uses: &[u32], t: &mut Thread<'_>, to: Spot, value: i32)
     ensures { (u : ℕ) → plain_thread t.new ≡ thread_after (plain_thread t.old) (plugged_move t.old.frames.items t.old.words.items t.old.copies.items (leads (site_of uses.now t.old) (Sets to value) u)) }
 {
@@ -115,7 +115,7 @@ fn set(uses: &[u32], t: &mut Thread<'_>, to: Spot, value: i32)
     }
 }
 
-// A thread whose focus stops: it traps, or the step isn't taken.
+/// A thread whose focus stops: it traps, or the step isn't taken.
 fn stop(t: &mut Thread<'_>, halt: Halt) -> Result<(), Halt>
     ensures { (uses : List ℕ) (old new : ℕ) (m : Move) → IsMoved (site_of uses t.old) old new (Err halt) m →
         IsThread old new (plain_thread t.new) result (after_move (plain_thread t.old) (plugged_move t.old.frames.items t.old.words.items t.old.copies.items m)) }
@@ -130,7 +130,7 @@ fn stop(t: &mut Thread<'_>, halt: Halt) -> Result<(), Halt>
     }
 }
 
-// A thread after a step of its focus.
+/// A thread after a step of its focus.
 fn after_step<'k>(
     alloc: Global,
     uses: &[u32],
@@ -194,7 +194,7 @@ fn behind(at: Option<u32>) -> Option<u32>
     }
 }
 
-// The child that a path picks; none for the leftmost running one.
+/// The child that a path picks; none for the leftmost running one.
 fn picked(path: &[u32], children: &Children<'_>) -> Option<u32>
     ensures { place_or_first result (threads children.now) ≡ place_at path.now (threads children.now) }
 {
@@ -210,7 +210,7 @@ fn picked(path: &[u32], children: &Children<'_>) -> Option<u32>
     }
 }
 
-// The path on from the child that it picks.
+/// The path on from the child that it picks.
 fn path_on<'a>(path: &'a [u32], children: &Children<'_>) -> &'a [u32]
     ensures { result.now ≡ path_below path.now (threads children.now) }
 {
@@ -246,7 +246,7 @@ pub(crate) fn thread_step<'k>(
     after_step(alloc, uses, t, step)
 }
 
-// A step of one of the running children of a fork.
+/// A step of one of the running children of a fork.
 #[cycle(stepping)]
 fn fork_step<'k>(
     alloc: Global,
@@ -269,7 +269,7 @@ fn fork_step<'k>(
     }
 }
 
-// A step of the child at a place, or of the leftmost running one.
+/// A step of the child at a place, or of the leftmost running one.
 #[cycle(stepping)]
 fn child_step<'k>(
     alloc: Global,

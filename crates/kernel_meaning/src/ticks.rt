@@ -1,4 +1,4 @@
-// Ticks.
+//! Ticks.
 
 ghost use Rattle.std.specs.Prelude.{◌≡◌, ◌<◌, ◌+◌, ◌≤◌, ℕ, ℤ, Bool, cond, true, false, length, List, [], get_or, pos, IfOk, OnErr};
 ghost use Rattle.forec_kernel.specs.Shapes.{PlainKernel, plain_kernel};
@@ -47,7 +47,7 @@ fn start_copy(variable: &Variable) -> VarCopy
     }
 }
 
-// The variables' values at the start of a program.
+/// The variables' values at the start of a program.
 fn first_copies(alloc: Global, variables: &[Variable]) -> Result<Vec<VarCopy>, AllocError>
     ensures { IfOk result (λ v. v.items ≡ start_copies variables.now) }
 {
@@ -71,7 +71,7 @@ fn without_marks(alloc: Global, copies: &[VarCopy]) -> Result<Vec<VarCopy>, Allo
     Ok(list)
 }
 
-// An input's copy for a row.
+/// An input's copy for a row.
 fn input_at(row: &[i32], at: usize) -> VarCopy
     requires { at < length row.now }
     ensures { result ≡ record { value = get_or row.now at (pos 0); modified = false } }
@@ -82,7 +82,7 @@ fn input_at(row: &[i32], at: usize) -> VarCopy
     }
 }
 
-// The inputs get the values of the row.
+/// The inputs get the values of the row.
 fn take_row(uses: &[u32], inputs: &[u32], row: &[i32], copies: &mut Vec<VarCopy>)
     ensures { copies.new.items ≡ with_row uses.now inputs.now row.now copies.old.items }
 {
@@ -92,7 +92,7 @@ fn take_row(uses: &[u32], inputs: &[u32], row: &[i32], copies: &mut Vec<VarCopy>
     }
 }
 
-// Thread 0 at the start of a program.
+/// Thread 0 at the start of a program.
 fn first_thread<'k>(
     alloc: Global,
     kernel: &'k KernelParts,
@@ -119,7 +119,7 @@ fn first_thread<'k>(
     })
 }
 
-// Thread 0 at the start of a tick.
+/// Thread 0 at the start of a tick.
 fn begin_tick<'k>(
     alloc: Global,
     kernel: &'k KernelParts,
@@ -145,7 +145,7 @@ fn begin_tick<'k>(
     }
 }
 
-// The path to the thread that the order picks, or to the first that can step.
+/// The path to the thread that the order picks, or to the first that can step.
 fn next_path(
     alloc: Global,
     order: &[u32],
@@ -162,7 +162,7 @@ fn next_path(
     Ok(path)
 }
 
-// The next step of thread 0, along the path that the order picks.
+/// The next step of thread 0, along the path that the order picks.
 fn advance<'k>(
     alloc: Global,
     kernel: &'k KernelParts,
@@ -179,7 +179,7 @@ fn advance<'k>(
     }
 }
 
-// Steps that cost nothing, up to one that costs units or to the end.
+/// Steps that cost nothing, up to one that costs units or to the end.
 fn run_free<'k>(
     alloc: Global,
     kernel: &'k KernelParts,
@@ -207,7 +207,7 @@ fn run_free<'k>(
     Ok(())
 }
 
-// All steps of a tick.
+/// All steps of a tick.
 fn run_tick<'k>(
     alloc: Global,
     kernel: &'k KernelParts,
@@ -228,7 +228,7 @@ fn run_tick<'k>(
     Ok(())
 }
 
-// Thread 0 at the end of a tick; none where the units pass the budget.
+/// Thread 0 at the end of a tick; none where the units pass the budget.
 fn tick_of<'k>(
     alloc: Global,
     kernel: &'k KernelParts,
@@ -277,7 +277,7 @@ fn write_outputs(uses: &[u32], copies: &[VarCopy], variables: &[u32], outputs: &
     }
 }
 
-// How a tick ended; its outputs are written where the program goes on or has ended.
+/// How a tick ended; its outputs are written where the program goes on or has ended.
 fn tell(kernel: &KernelParts, main: &Thread<'_>, outputs: &mut [i32]) -> Outcome
     requires { length outputs.old ≡ length kernel.now.shape.outputs.items }
     ensures outcome { result ≡ outcome_of (standing main.now.status) }

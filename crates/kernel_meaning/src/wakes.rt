@@ -1,4 +1,4 @@
-// Waking: a thread of the state before, as it begins a tick.
+//! Waking: a thread of the state before, as it begins a tick.
 
 ghost use Rattle.std.specs.Prelude.{◌≡◌, ◌<◌, ◌+◌, ℕ, ℤ, List, ◌++◌, IfOk, Some};
 ghost use Rattle.forec_kernel.specs.Shapes.{plain_kernel};
@@ -25,7 +25,7 @@ pub(crate) enum Reach {
     Out,
 }
 
-// A loop gets its turns again.
+/// A loop gets its turns again.
 fn refilled<'k>(turn: &Turn<'k>) -> Turn<'k>
     ensures { result ≡ record turn.now { left = turn.now.bound } }
 {
@@ -47,7 +47,7 @@ fn push_all<'k>(after: &mut Vec<Frame<'k>>, frames: &[Frame<'k>]) -> Result<(), 
     Ok(())
 }
 
-// The frames that a text has when it wakes, and how far waking goes.
+/// The frames that a text has when it wakes, and how far waking goes.
 fn wake_frames<'k>(
     alloc: Global,
     kernel: &'k KernelParts,
@@ -101,7 +101,7 @@ fn wake_frames<'k>(
     }
 }
 
-// A thread with another text, other copies and another status.
+/// A thread with another text, other copies and another status.
 fn with_text<'k>(
     alloc: Global,
     t: &Thread<'k>,
@@ -122,7 +122,7 @@ fn with_text<'k>(
     })
 }
 
-// A thread whose waking traps: its text stays.
+/// A thread whose waking traps: its text stays.
 fn trapped_at<'k>(
     alloc: Global,
     t: &Thread<'k>,
@@ -177,7 +177,7 @@ pub(crate) fn wake_thread<'k>(
     }
 }
 
-// A focus that wakes: a pause is over, and the branches of a fork wake.
+/// A focus that wakes: a pause is over, and the branches of a fork wake.
 #[cycle(waking)]
 fn wake_focus<'k>(
     alloc: Global,
@@ -204,7 +204,7 @@ fn wake_focus<'k>(
     }
 }
 
-// Each child that has not ended gets the parent's present values, unmarked, and wakes.
+/// Each child that has not ended gets the parent's present values, unmarked, and wakes.
 #[cycle(waking)]
 fn wake_children<'k>(
     alloc: Global,
@@ -238,7 +238,7 @@ fn wake_children<'k>(
     }
 }
 
-// A child in front of others.
+/// A child in front of others.
 fn child_before<'k>(
     alloc: Global,
     first: Thread<'k>,

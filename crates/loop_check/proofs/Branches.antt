@@ -12,14 +12,14 @@ use Rattle.forec_tree.specs.declared.tree.Branch as branch
 use Rattle.forec_tree.proofs.Rows.{branch-group}
 
 module _ {A : Type 0} (F : plain.Branches → A) where
-  -- a call of a function, and what stands behind it
+  -- a call of a function, and what stands after it
   pub call_first : (list : List Branch) (i : ℕ) (x : Branch) (name : Name) (args : List Expr) → i < length list → get_or list i x ≡ x → x ≡ branch.Call name args →
       F (branches (drop i list)) ≡ F (plain.by_call name (terms args) (branches (drop (i + 1) list)))
   call_first list i x name args h e k =
       let d : drop i list ≡ x ∷ drop (i + 1) list = drop-cons list i x h ∙ rw (e, add-one) refl in
       ap (λ l. F (branches l)) d ∙ ap (λ b. F (branch_with b (branches (drop (i + 1) list)))) k
 
-  -- a block, and what stands behind it
+  -- a block, and what stands after it
   pub group_first : (list : List Branch) (i : ℕ) (x : Branch) (place : Place) (body slice : List Stmt) → i < length list → get_or list i x ≡ x →
       x ≡ branch.Group place body → slice ≡ body →
       F (branches (drop i list)) ≡ F (plain.by_group place (statements slice) (branches (drop (i + 1) list)))

@@ -45,7 +45,7 @@ pub kept : (id at p : ℕ) (e : Entry) (xs : Text) → e.first ≡ suc p → (en
 kept id at p e [] h = h
 kept id at p e (x ∷ xs) h = kept id (suc at) p (noted id at x e) xs (noted_kept id at p x e h)
 
--- the first item of a name, and the items behind it
+-- the first item of a name, and the items after it
 match_first : (id at : ℕ) (x : PlainItem) (e : Entry) (xs : Text) → e.first ≡ 0 → ((name_of x).id == id) ≡ true → (entry_from id at e (x ∷ xs)).first ≡ suc at
 match_first id at x e xs z h =
     kept id (suc at) at (noted id at x e) xs (rw h (rw z refl))

@@ -1,4 +1,4 @@
--- Orders of functions, one put behind the other.
+-- Orders of functions, one put after the other.
 use Rattle.std.proofs.Common.{ℕ, zero, suc, ◌+◌, ◌<◌, ◌≤◌, ◌≡◌, ◌≢◌, ◌∙◌, ◌==◌, sym, ap, refl, ⊎_elim, Bool, true, false, cond, not, ◌&&◌, ◌||◌, List, [], ◌∷◌, ◌++◌, length, take, set, get_or, subst, arith, length-append, get_or-set_other, get_or-set_same}
 use Rattle.std.proofs.lemmas.Bool.Decides.{nat_tests}
 use Rattle.std.proofs.lemmas.Bool.{cases_lt, eqb-true}
@@ -118,7 +118,7 @@ push_same [] (suc k) = refl
 push_same (x ∷ xs) zero = refl
 push_same (x ∷ xs) (suc k) = push_same xs k
 
--- a function is put behind the others
+-- a function is put after the others
 module _ (functions : List ℕ) (calls : ℕ → List ℕ) (marks : List Bool) (order : List ℕ) (f : ℕ) (w : Waits functions calls marks order) where
   right_next : get_or marks f false ≡ true → (g : ℕ) → get_or (set marks f false) g false ≡ (is_in g functions && not (is_in g (order ++ f ∷ [])))
   right_next m g =

@@ -1,4 +1,4 @@
--- An order of functions in which each stands behind those that it calls.
+-- An order of functions in which each stands after those that it calls.
 use Rattle.std.specs.Prelude.{ℕ, ◌+◌, ◌<◌, ◌≤◌, ◌≡◌, ◌==◌, Bool, true, false, not, cond, ◌&&◌, ◌||◌, Option, Some, None, List, [], ◌∷◌, length, take, slice_get, slice_index_or}
 use Rattle.std.specs.declared.vec.Vec.{Vec}
 use Rattle.std.specs.declared.alloc.Global.{Global}
@@ -12,7 +12,7 @@ list_of (Some v) = v.items
 abbrev pub callees : List (Vec ℕ Global) → ℕ → List ℕ
 callees calls f = list_of (slice_get calls f)
 
--- each stands behind those of its callees that are functions
+-- each stands after those of its callees that are functions
 abbrev pub CalleesFirst : List ℕ → (ℕ → List ℕ) → List ℕ → Type 0
 CalleesFirst functions calls order =
     (k g : ℕ) → k < length order → is_in g (calls (slice_index_or order k 0)) ≡ true → is_in g functions ≡ true → is_in g (take k order) ≡ true

@@ -1,11 +1,11 @@
-// The strongly connected components of the graph of calls, by Tarjan's walk ("Depth-first search and
-// linear graph algorithms", 1972). Nothing is proved of what it finds: who uses it checks what is
-// needed, which takes one look at each call.
+//! The strongly connected components of the graph of calls, by Tarjan's walk ("Depth-first search and
+//! linear graph algorithms", 1972). Nothing is proved of what it finds: who uses it checks what is
+//! needed, which takes one look at each call.
 
 use forec_base::OutOfMemory;
 use std::alloc::Global;
 
-/// The functions by components, those of a component behind those that it calls, and for each function
+/// The functions by components, those of a component after those that it calls, and for each function
 /// the number of its component from 1; a call leads to no component of a higher number.
 #[derive(Drop)]
 pub struct Components {

@@ -1,4 +1,4 @@
-// Functions in an order in which each stands behind those that it calls.
+//! Functions in an order in which each stands after those that it calls.
 
 ghost use Rattle.std.specs.Prelude.{◌≡◌, ◌+◌, ◌<◌, ◌≤◌, ℕ, not, true, false, length, slice_index_or, IfOk, OnOk, [], List};
 ghost use Rattle.forec_tree.specs.Faults.{is_in};
@@ -49,7 +49,7 @@ fn any_callee_waits(marks: &[bool], calls: &[Vec<u32>], f: u32) -> bool
     }
 }
 
-/// Puts a function behind the others, unless it stands there or one that it calls does not.
+/// Puts a function after the others, unless it stands there or one that it calls does not.
 fn visit(
     functions: &[u32],
     calls: &[Vec<u32>],
@@ -75,7 +75,7 @@ fn visit(
     Ok(true)
 }
 
-/// Visits each function once, and tells whether any was put behind.
+/// Visits each function once, and tells whether any was put after.
 fn round(
     functions: &[u32],
     calls: &[Vec<u32>],
@@ -122,9 +122,9 @@ pub fn mark(marks: &mut Vec<bool>, f: u32) -> Result<(), OutOfMemory>
     Ok(())
 }
 
-/// The functions of a list, each behind those of the list that it calls, as far as there is such an
+/// The functions of a list, each after those of the list that it calls, as far as there is such an
 /// order: one that is left over calls one that is left over. The walk through the components gives
-/// them in such an order, so that each call is looked at twice; the rounds behind it make sure that
+/// them in such an order, so that each call is looked at twice; the rounds after it make sure that
 /// none is left over that could stand in the order, and there they move none.
 pub fn order(alloc: Global, functions: &[u32], calls: &[Vec<u32>]) -> Result<Vec<u32>, OutOfMemory>
     ensures { IfOk result (λ order. IsOrder functions.now (callees calls.now) order.items) }

@@ -1,4 +1,4 @@
-// The items of a program by name.
+//! The items of a program by name.
 
 ghost use Rattle.std.specs.Prelude.{◌≡◌, ◌<◌, ◌≤◌, ◌-◌, ◌^◌, ℕ, map, take, option_map, length, slice_index_or, slice_get, None, MatchOption, IfOk, OnOk};
 ghost use Rattle.forec_tree.specs.Plain.{plain_item};

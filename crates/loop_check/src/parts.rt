@@ -1,4 +1,4 @@
-// The parts of a loop's form.
+//! The parts of a loop's form.
 
 ghost use Rattle.std.specs.Prelude.{◌≤◌};
 

@@ -1,4 +1,4 @@
-// Statements that are certain to pause, and the functions that a statement calls or starts.
+//! Statements that are certain to pause, and the functions that a statement calls or starts.
 
 ghost use Rattle.std.specs.Prelude.{◌≡◌};
 ghost use Rattle.forec_tree.specs.Plain as plain;

@@ -1,4 +1,4 @@
-// Functions that certainly do not reach themselves.
+//! Functions that certainly do not reach themselves.
 
 ghost use Rattle.std.specs.Prelude.{◌≡◌, ◌<◌, ◌≤◌, ℕ, true, false, slice_index_or, IfOk};
 ghost use Rattle.forec_tree.specs.Faults.{is_in, Leads};

@@ -1,4 +1,4 @@
-// A loop over one local by numbers alone: its start, test and step.
+//! A loop over one local by numbers alone: its start, test and step.
 
 ghost use Rattle.std.specs.Prelude.{◌≡◌, map};
 ghost use Rattle.forec_tree.specs.Plain as plain;

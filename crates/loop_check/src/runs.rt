@@ -1,4 +1,4 @@
-// The number of turns of a `for` that its form tells.
+//! The number of turns of a `for` that its form tells.
 
 ghost use Rattle.std.specs.Prelude.{◌≡◌, ◌≤◌, ◌<◌, ◌*◌, ◌-◌, ◌^◌, ◌≤ℤ◌, ◌<ℤ◌, ◌+ℤ◌, ◌-ℤ◌, map, pos, negsuc, neg_ℤ, int_lt, FitsSigned};
 ghost use Rattle.std.specs.Int.{w32};

@@ -1,4 +1,4 @@
-// Whether a function reaches itself.
+//! Whether a function reaches itself.
 
 ghost use Rattle.std.specs.Prelude.{◌≡◌, ◌≤◌, ◌+◌, ◌*◌, ◌&&◌, ◌||◌, ℕ, not, true, false, length, slice_index_or, IfOk, OnOk};
 ghost use Rattle.forec_tree.specs.Faults.{is_in, Leads};
@@ -19,7 +19,7 @@ fn is_among(list: &[u32], f: u32) -> bool
     false
 }
 
-/// Puts those functions of a list that wait behind the others that are to be looked at.
+/// Puts those functions of a list that wait after the others that are to be looked at.
 fn follow(list: &[u32], waiting: &mut Vec<bool>, rest: &mut Vec<u32>) -> Result<(), OutOfMemory>
     ensures waiting { OnOk result ((g : ℕ) → slice_index_or waiting.new.items g false ≡ (slice_index_or waiting.old.items g false && not (is_in g list.now))) }
     ensures rest { OnOk result ((g : ℕ) → is_in g rest.new.items ≡ (is_in g rest.old.items || (slice_index_or waiting.old.items g false && is_in g list.now))) }

@@ -1,4 +1,4 @@
-// The functions that a statement calls or starts.
+//! The functions that a statement calls or starts.
 
 ghost use Rattle.std.specs.Prelude.{◌≡◌, ◌++◌, OnOk};
 ghost use Rattle.forec_tree.specs.Plain as plain;

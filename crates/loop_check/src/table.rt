@@ -1,4 +1,4 @@
-// Which functions are certain to pause.
+//! Which functions are certain to pause.
 
 ghost use Rattle.std.specs.Prelude.{◌≡◌, ◌+◌, ℕ, map, length, take, slice_get, Some, IfOk, OnOk};
 ghost use Rattle.forec_tree.specs.Plain as plain;

@@ -1,4 +1,4 @@
-// Whether a statement assigns or declares a name.
+//! Whether a statement assigns or declares a name.
 
 ghost use Rattle.std.specs.Prelude.{◌≡◌, map};
 ghost use Rattle.forec_tree.specs.Plain as plain;

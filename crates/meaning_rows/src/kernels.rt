@@ -1,4 +1,4 @@
-// Texts and their kernels.
+//! Texts and their kernels.
 
 ghost use Rattle.std.specs.Prelude.{◌≤◌, length};
 

@@ -1,4 +1,4 @@
-// Worked programs, tick by tick.
+//! Worked programs, tick by tick.
 
 use crate::kernels::lowered;
 use forec_base::OutOfMemory;

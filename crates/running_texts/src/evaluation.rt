@@ -1,4 +1,4 @@
-// Expressions and int functions, evaluated under an allowance of units.
+//! Expressions and int functions, evaluated under an allowance of units.
 
 ghost use Rattle.std.specs.Prelude.{◌≡◌, ◌<◌, ◌+◌, ℕ, ℤ};
 ghost use Rattle.forec_kernel.specs.Plain.{expr, exprs, stmt, stmts};
@@ -259,7 +259,7 @@ fn run_all(
     Ok(Ran::Goes(words))
 }
 
-// A loop with so many turns left.
+/// A loop with so many turns left.
 #[cycle(evaluation)]
 fn run_turns(
     alloc: Global,

@@ -1,4 +1,4 @@
-// Combining: one fold in progress for each variable, branch by branch.
+//! Combining: one fold in progress for each variable, branch by branch.
 
 ghost use Rattle.std.specs.Prelude.{◌≡◌, ◌<◌, ◌+◌, ℕ, ℤ, Option, Some, None, IfOk, length, not, ◌&&◌, ◌||◌, unwrap_or};
 ghost use Rattle.forec_base.specs.Numbers.{int_same};
@@ -78,7 +78,7 @@ fn takes_its_part(kernel: &KernelParts, uses: &[u32], copies: &[VarCopy], fold: 
         )
 }
 
-// The value of one more branch is added to a fold.
+/// The value of one more branch is added to a fold.
 fn add_value(
     alloc: Global,
     kernel: &KernelParts,

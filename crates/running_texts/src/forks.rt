@@ -1,4 +1,4 @@
-// What a kernel says of a thread, and what a thread starts with.
+//! What a kernel says of a thread, and what a thread starts with.
 
 ghost use Rattle.std.specs.Prelude.{◌≡◌, ◌<◌, ◌+◌, ℕ, ℤ, IfOk, map, length, take};
 ghost use Rattle.forec_kernel.specs.Shapes.{plain_kernel};

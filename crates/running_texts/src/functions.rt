@@ -1,4 +1,4 @@
-// What each statement of an int function adds to the numbers that it evaluates.
+//! What each statement of an int function adds to the numbers that it evaluates.
 
 ghost use Rattle.std.specs.Prelude.{◌≡◌, ◌<◌, ◌+◌, ℕ, ℤ, IfOk, slice_set, vec_len};
 ghost use Rattle.forec_base.specs.Numbers.{is_zero};

@@ -1,4 +1,4 @@
-// Units are taken from an allowance.
+//! Units are taken from an allowance.
 
 ghost use Rattle.std.specs.Prelude.{◌≡◌, ◌<◌, ◌+◌, OnOk, IfErr, ℕ};
 ghost use Rattle.forec_kernel.specs.Values.{Value, Gives, value_then};

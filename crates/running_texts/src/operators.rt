@@ -1,4 +1,4 @@
-// What each operator adds to its parts.
+//! What each operator adds to its parts.
 
 ghost use Rattle.std.specs.Prelude.{◌≡◌, ◌<◌, ◌+◌, ◌^◌, ℕ, ℤ, map, length, [], pos, get_or, not};
 ghost use Rattle.forec_base.specs.Numbers.{unary_of, binary_of, truth, is_zero};
@@ -70,7 +70,7 @@ pub(crate) fn after_unary(op: Unary, part: Result<i32, Halt>, left: &mut u64) ->
     }
 }
 
-// Stops at a place, for one unit.
+/// Stops at a place, for one unit.
 fn stop(place: Place, trap: Trap, left: &mut u64) -> Result<i32, Halt>
     ensures { IsMetered number left.old left.new result (Stops place trap 1) }
 {
@@ -81,7 +81,7 @@ fn stop(place: Place, trap: Trap, left: &mut u64) -> Result<i32, Halt>
     Err(Halt::Trapped { place, trap })
 }
 
-// A division by zero stops at its place.
+/// A division by zero stops at its place.
 fn divide(value: Option<i32>, place: Option<Place>, left: &mut u64) -> Result<i32, Halt>
     ensures { IsMetered number left.old left.new result (divided value place) }
 {

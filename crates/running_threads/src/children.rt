@@ -1,4 +1,4 @@
-// What is asked of the branches of a fork, and threads like others.
+//! What is asked of the branches of a fork, and threads like others.
 
 ghost use Rattle.std.specs.Prelude.{◌≡◌, IfOk};
 ghost use Rattle.forec_kernel.specs.Texts.{is_running, is_active, is_over, some_running, all_over, runs_at, first_trap, trap_of, ended_is_gone, ended_are_gone};
@@ -96,7 +96,7 @@ fn gone_if_ended(status: Status) -> Status
     }
 }
 
-// The first child, if it ended, is gone.
+/// The first child, if it ended, is gone.
 fn retire_first(children: &mut Children<'_>)
     ensures { threads children.new ≡ first_is_gone (threads children.old) }
 {

@@ -1,4 +1,4 @@
-// The frames of a thread's text: statements at their start, and what follows a focus.
+//! The frames of a thread's text: statements at their start, and what follows a focus.
 
 ghost use Rattle.std.specs.Prelude.{◌≡◌, ℤ, List, IfOk, IfSome, IfNone, cond, take, true, false};
 ghost use Rattle.forec_kernel.specs.declared.shape.VarCopy.{VarCopy};
@@ -13,7 +13,7 @@ use crate::threads::{Children, Focus, Frame, Turn};
 use forec_kernel::{Expression, Statement};
 use std::alloc::{AllocError, Global};
 
-// A frame for the statements that follow the first of a sequence, if there are any.
+/// A frame for the statements that follow the first of a sequence, if there are any.
 fn push_rest<'k>(frames: &mut Vec<Frame<'k>>, rest: &'k [Statement]) -> Result<(), AllocError>
     ensures { IfOk result (λ _. (R : plain.Text) → plugged frames.new.items R ≡ plugged frames.old.items (plain.then_list R (stmts rest.now))) }
 {
@@ -77,7 +77,7 @@ fn is_last(frame: &Frame<'_>) -> bool
     matches!(frame, Frame::Last)
 }
 
-// Where the innermost last piece of a weak abort stands.
+/// Where the innermost last piece of a weak abort stands.
 fn innermost_last(frames: &[Frame<'_>]) -> Option<usize>
     ensures some { IfSome result (λ i. (w : List ℤ) (c : List VarCopy) → plugged_move frames.now w c Halts ≡ Moves (plugged (take i frames.now) plain.Done) w c 0) }
     ensures none { IfNone result ((w : List ℤ) (c : List VarCopy) → plugged_move frames.now w c Halts ≡ Halts) }
@@ -146,7 +146,7 @@ pub enum Next<'k> {
     },
 }
 
-// A statement at its start inside one more frame.
+/// A statement at its start inside one more frame.
 fn start_in<'k>(
     frames: &mut Vec<Frame<'k>>,
     frame: Frame<'k>,

@@ -1,4 +1,4 @@
-// Threads, their texts and their children.
+//! Threads, their texts and their children.
 
 use forec_base::{Place, Trap};
 use forec_kernel::{Expression, Statement, VarCopy};

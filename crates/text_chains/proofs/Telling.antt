@@ -151,7 +151,7 @@ start_pars : (start : Perhaps) (a loop : Stmt) → (start ≡ absent → a ≡ k
 start_pars absent a loop h = sym (absent_none pars_of refl a loop (h refl))
 start_pars (present x) a loop h = ap (λ l. pars_of a ++ l) (append-nil (pars_of loop))
 
--- the step stands behind the body
+-- the step stands after the body
 step_vars : (v : ℕ) (step : Perhaps) (body a : Stmt) → (step ≡ absent → a ≡ kernel.Nop) → is_in v (vars_of (then_step step body a)) ≡ is_in v (vars_of a ++ vars_of body)
 step_vars v absent body a h = ap (is_in v) (sym (absent_none vars_of refl a body (h refl)))
 step_vars v (present x) body a h = ap (λ l. is_in v (vars_of body ++ l)) (append-nil (vars_of a)) ∙ in_swap v (vars_of body) (vars_of a)

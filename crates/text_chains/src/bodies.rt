@@ -1,4 +1,4 @@
-// What statements bring.
+//! What statements bring.
 
 ghost use Rattle.std.specs.Prelude.{◌≡◌, ◌≤◌, ◌+◌, ℕ};
 ghost use Rattle.forec_tree.specs.Plain as plain;
@@ -20,7 +20,7 @@ struct Spread {
     naming: usize,
 }
 
-/// Whether the variable is hidden behind a statement.
+/// Whether the variable is hidden after a statement.
 fn behind(w: &Weights<'_>, hidden: bool, s: &Stmt) -> bool
     ensures { result ≡ of.behind w.now.variable hidden (plain.statement s.now) }
 {

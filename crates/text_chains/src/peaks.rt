@@ -1,5 +1,5 @@
-// The most words of a thread: each function is looked at once for each variable that has a combine
-// function, after those that it calls or starts.
+//! The most words of a thread: each function is looked at once for each variable that has a combine
+//! function, after those that it calls or starts.
 
 ghost use Rattle.std.specs.Prelude.{◌≡◌, ◌-◌, ◌^◌, ℕ, min, max, Some, None, IfOk, OnOk};
 ghost use Rattle.forec_tree.specs.Plain.{plain_global};

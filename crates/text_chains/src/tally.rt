@@ -1,4 +1,4 @@
-// What a text brings to its thread, and to the threads below it.
+//! What a text brings to its thread, and to the threads below it.
 
 ghost use Rattle.std.specs.Prelude.{◌≡◌};
 ghost use Rattle.text_chains.specs.Tallies as of;
@@ -128,7 +128,7 @@ pub fn names(w: &Weights<'_>, hidden: bool, id: u32) -> bool
     !hidden && id == w.variable
 }
 
-/// Whether the variable is hidden behind a local of a name.
+/// Whether the variable is hidden after a local of a name.
 pub fn hides(w: &Weights<'_>, hidden: bool, id: u32) -> bool
     ensures { result ≡ of.hides w.now.variable hidden id }
 {

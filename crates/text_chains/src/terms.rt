@@ -1,4 +1,4 @@
-// What expressions and declarations bring.
+//! What expressions and declarations bring.
 
 ghost use Rattle.std.specs.Prelude.{◌≡◌, false, map};
 ghost use Rattle.forec_tree.specs.Plain as plain;
@@ -104,7 +104,7 @@ pub fn locals(w: &Weights<'_>, hidden: bool, list: &[Local]) -> Tally
     total
 }
 
-/// Whether the variable is hidden behind a declaration.
+/// Whether the variable is hidden after a declaration.
 pub fn hides_locals(w: &Weights<'_>, hidden: bool, list: &[Local]) -> bool
     ensures { result ≡ of.hides_locals w.now.variable hidden (map plain.declared list.now) }
 {

@@ -105,7 +105,7 @@ module _ (text : Text) where
       let n = h c i in
       record { id = n.id; called = ap (is_in n.id) (called_append fs gs) ∙ in_second n.id (called_in fs) (called_in gs) n.called; function = n.function; found = n.found; gives = n.gives; is = n.is }
 
-  -- two parts, one behind the other
+  -- two parts, one after the other
   parts_named : (fs gs : List Finding) (xs ys : List ℕ) → AllNamed text fs xs → AllNamed text gs ys → AllNamed text (fs ++ gs) (xs ++ ys)
   parts_named fs gs xs ys h g = both_named (fs ++ gs) xs ys (left_named fs gs xs h) (right_named fs gs ys g)
 

@@ -1,4 +1,4 @@
--- What a thread and those below it name stands in the part of the list of threads from it to the one behind.
+-- What a thread and those below it name stands in the part of the list of threads from it to the one after.
 use Rattle.std.proofs.Common.{ℕ, zero, suc, ◌+◌, ◌-◌, ◌<◌, ◌≤◌, ◌≡◌, ◌∙◌, sym, ap, List, ◌∷◌, ◌++◌, length, length-append, length-drop, take, drop, arith}
 use Rattle.std.proofs.lemmas.List.{take_all, take-append-le, drop-append-le}
 use Rattle.std.proofs.Math.Seq.{drop-append-add}

@@ -68,7 +68,7 @@ abbrev pub ends_with : Stmts → Stmt → Stmts
 ends_with no_stmts a = more_stmts a no_stmts
 ends_with (more_stmts b rest) a = more_stmts b (ends_with rest a)
 
--- one list behind another
+-- one list after another
 abbrev pub joined : Stmts → Stmts → Stmts
 joined no_stmts b = b
 joined (more_stmts a rest) b = more_stmts a (joined rest b)
@@ -81,7 +81,7 @@ pub record Next : Type 0 where
   pub thread : ℕ
   pub par : ℕ
 
--- a thread below: its parent, the par whose branch it is, the function that it is by name, its parameters, its words, the number of the thread behind it and those below it, its body, and the variables that it or a thread below it names
+-- a thread below: its parent, the par whose branch it is, the function that it is by name, its parameters, its words, the number of the thread after it and those below it, its body, and the variables that it or a thread below it names
 pub record Made : Type 0 where
   pub parent : ℕ
   pub par : ℕ
@@ -194,7 +194,7 @@ abbrev pub or_inferred : Option ℕ → Option ℕ → Option ℕ
 or_inferred None n = n
 or_inferred (Some b) n = Some b
 
--- one statement behind another
+-- one statement after another
 abbrev pub pair : Stmt → Stmt → Stmt
 pair a b = kernel.Seq (more_stmts a (more_stmts b no_stmts))
 
@@ -242,7 +242,7 @@ module _ (text : Text) where
   slots_behind slot [] = slot
   slots_behind slot (l ∷ rest) = slots_behind (slot + slots_of l.length) rest
 
-  -- the scope behind a statement
+  -- the scope after a statement
   abbrev pub scope_behind : List Slot → ℕ → Statement → List Slot
   scope_behind s slot (Declare at locals) = with_locals s slot locals
   scope_behind s slot _ = s
@@ -266,7 +266,7 @@ module _ (text : Text) where
     | Some i ↦ assign_at (stands text s t.name.id) op (lower_term text s i) value t.name.place
   ]
 
--- a call of a void function that is put in place, in a thread: the slots of its parameters, which the caller has taken, and what is free behind them
+-- a call of a void function that is put in place, in a thread: the slots of its parameters, which the caller has taken, and what is free after them
 abbrev pub InPlace : Type 0
 InPlace = (first owner : ℕ) → Next → Lowered
 

@@ -1,4 +1,4 @@
-// What a name becomes in the kernel.
+//! What a name becomes in the kernel.
 
 ghost use Rattle.std.specs.Prelude.{◌≡◌};
 ghost use Rattle.text_kernel.specs.Bindings as bindings;

@@ -1,4 +1,4 @@
-// A program that is accepted, and one that is refused.
+//! A program that is accepted, and one that is refused.
 
 ghost use Rattle.std.specs.Prelude.{◌≡◌, ◌∷◌, [], length, IfOk};
 ghost use Rattle.forec_tree.specs.Plain as plain;

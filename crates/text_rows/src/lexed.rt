@@ -1,4 +1,4 @@
-// Texts and their tokens.
+//! Texts and their tokens.
 
 ghost use Rattle.std.specs.Prelude.{◌≤◌, length};
 

@@ -1,4 +1,4 @@
-// Worked loops.
+//! Worked loops.
 
 ghost use Rattle.std.specs.Prelude.{◌≡◌, []};
 

@@ -1,4 +1,4 @@
-// Texts and the programs that they spell.
+//! Texts and the programs that they spell.
 
 use forec_base::Binary;
 use forec_lexer::lex;

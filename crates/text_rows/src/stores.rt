@@ -1,4 +1,4 @@
-// The stores in memory, with ample room and with too little.
+//! The stores in memory, with ample room and with too little.
 
 use forec_base::{MemSink, MemTexts, NamedText, Sink, Texts};
 use std::process::Abort;

@@ -128,7 +128,7 @@ body_takes : (text : Text) (called : ℕ → InPlace) (count : ℕ → ℕ) → 
 body_takes text called count right None first t n = omega arith
 body_takes text called count right (Some f) first t n = list_slots text called count right t (params_at first f.params) n f.body
 
--- the slots that a function takes that is put in place, behind its parameters
+-- the slots that a function takes that is put in place, after its parameters
 pub place_slots : (text : Text) (deep id first t : ℕ) (n : Next) →
     (within nothing_in_place (in_place_step text) deep id first t n).next.slot ≡ n.slot + within 0 (slots_step text) deep id
 unfolding within

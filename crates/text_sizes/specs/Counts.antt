@@ -163,7 +163,7 @@ module _ (called below : ℕ → ℕ) where
     under_branches (by_call name args rest) = (called name.id + below name.id) + under_branches rest
     under_branches (by_group at body rest) = (sequence_count (statement_count body) (own_all called body) + under_all body) + under_branches rest
 
--- what a function takes that is put in place, behind its parameters
+-- what a function takes that is put in place, after its parameters
 abbrev pub body_slots : (ℕ → ℕ) → Option PlainFunction → ℕ
 body_slots called None = 0
 body_slots called (Some f) = slots_all called f.body

@@ -1,5 +1,5 @@
-// How many terms the translation of a program has, up to the greatest `u64`, without it being made:
-// each function is looked at once, after those that it calls or starts.
+//! How many terms the translation of a program has, up to the greatest `u64`, without it being made:
+//! each function is looked at once, after those that it calls or starts.
 
 ghost use Rattle.std.specs.Prelude.{◌≡◌, ◌+◌, ◌-◌, ◌^◌, ℕ, min, map, IfOk, OnOk};
 ghost use Rattle.forec_tree.specs.Plain as plain;
@@ -80,7 +80,7 @@ fn own(table: &[Extent], s: &Stmt) -> u64
     }
 }
 
-/// The terms of a loop's body with its step behind it, where it has one.
+/// The terms of a loop's body with its step after it, where it has one.
 #[cycle(own)]
 fn step_own(table: &[Extent], step: &Option<Box<Stmt>>, body: u64) -> u64
     ensures { (n : ℕ) → body ≡ min n (2 ^ 64 - 1) → result ≡ min (counts.own_step (own_at table.now) (perhaps_of step.now) n) (2 ^ 64 - 1) }

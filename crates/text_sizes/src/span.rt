@@ -1,6 +1,6 @@
-// How many words the threads of a program take, and at least how many statements stand in one another,
-// up to the greatest `u64`, without it being made: each function is looked at once, after those that it
-// calls or starts.
+//! How many words the threads of a program take, and at least how many statements stand in one another,
+//! up to the greatest `u64`, without it being made: each function is looked at once, after those that it
+//! calls or starts.
 
 ghost use Rattle.std.specs.Prelude.{◌≡◌, ◌+◌, ◌-◌, ◌^◌, suc, min, map};
 ghost use Rattle.forec_tree.specs.Plain as plain;
@@ -13,7 +13,7 @@ use crate::tally::add;
 use forec_tree::{Expr, Local, Stmt, StmtKind};
 use text_kernel::slots_of;
 
-/// The words of a function that is put in place, behind its parameters, and those of the widest thread
+/// The words of a function that is put in place, after its parameters, and those of the widest thread
 /// below it; how many statements stand in one another in it, and in the deepest thread below it.
 #[derive(Clone, Copy)]
 pub struct Span {

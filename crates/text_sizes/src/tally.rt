@@ -1,4 +1,4 @@
-// How many terms the translation of expressions and declarations has, up to the greatest `u64`.
+//! How many terms the translation of expressions and declarations has, up to the greatest `u64`.
 
 ghost use Rattle.std.specs.Prelude.{◌≡◌, ◌+◌, ◌-◌, ◌^◌, suc, min, map};
 ghost use Rattle.forec_tree.specs.Plain as plain;

@@ -1,4 +1,4 @@
-// The widest and the deepest of the threads below text, up to the greatest `u64`.
+//! The widest and the deepest of the threads below text, up to the greatest `u64`.
 
 ghost use Rattle.std.specs.Prelude.{◌≡◌, ◌-◌, ◌^◌, ℕ, min, IfOk, OnOk};
 ghost use Rattle.forec_tree.specs.Plain as plain;

@@ -77,7 +77,7 @@ pub data OnProgram (program : Text) (names : List (List ℕ)) : Verdict → Type
   broken : (place : Place) (rule : ℕ) → IsLeast (record { place = place; rule = rule }) (IsFault program names) → OnProgram program names (Refuses (why.Rule place rule))
   unbroken : {v : Verdict} → ((f : Fault) → IsFault program names f → ⊥) → OnUnbroken program names v → OnProgram program names v
 
--- the place of a token, or that behind the text where there is none
+-- the place of a token, or that after the text where there is none
 abbrev pub place_by : List ℕ → Option Token → Place
 place_by text (Some t) = t.place
 place_by text None = fold place_after first_place text

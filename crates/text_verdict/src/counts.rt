@@ -1,4 +1,4 @@
-// What `check` counts of a program.
+//! What `check` counts of a program.
 
 ghost use Rattle.std.specs.Prelude.{◌≡◌, ◌≤◌, IfOk};
 ghost use Rattle.forec_tree.specs.Threads.{instances};

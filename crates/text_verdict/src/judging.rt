@@ -1,4 +1,4 @@
-// From a text to its kernel, or to the first cause for which it is refused.
+//! From a text to its kernel, or to the first cause for which it is refused.
 ghost use Rattle.std.specs.Prelude.{◌≡◌, ◌≤◌, length, IfOk, IfErr};
 ghost use Rattle.forec_tree.specs.Plain.{program};
 ghost use Rattle.forec_tree.specs.SpelledPrograms.{IsSpelled};
@@ -23,7 +23,7 @@ pub struct Accepted {
     pub kernel: Kernel,
 }
 
-/// The place of a token, counted from 0, or that behind the text where it has no more.
+/// The place of a token, counted from 0, or that after the text where it has no more.
 fn token_place(text: &[u8], tokens: &[Token], token: u32) -> Place
     requires { length text.now ≤ MAX_TEXT_BYTES }
     ensures { result ≡ place_of text.now tokens.now token }

@@ -1,4 +1,4 @@
-// Laws of the verdicts.
+//! Laws of the verdicts.
 ghost use Rattle.text_verdict.specs.Laws.{OneVerdict, SomeVerdict};
 
 use forec_lexer::one_lexing;

@@ -1,4 +1,4 @@
-// Why a text doesn't run.
+//! Why a text doesn't run.
 
 use forec_base::{OutOfMemory, Place};
 use forec_check::CheckFault;

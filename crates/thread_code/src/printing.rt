@@ -159,7 +159,7 @@ fn list_steps(text: &mut String, steps: &[Instruction]) -> Result<(), OutOfMemor
     Ok(())
 }
 
-// The blocks in order, each under a line with a word and its number.
+/// The blocks in order, each under a line with a word and its number.
 fn list_blocks(text: &mut String, word: &str, blocks: &[Block]) -> Result<(), OutOfMemory>
     ensures { OnOk result (string_bytes text.new ≡ string_bytes text.old ++ blocks_text word.now 0 (map plain_block blocks.now)) }
 {

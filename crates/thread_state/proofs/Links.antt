@@ -80,7 +80,7 @@ module _ (s : PlainShape) (fine : FineShape s) (ss : List Sibling) (n : length s
       let t = fine.each_thread b (omega (arith, h.1.within, n)) in
       omega (arith, t.params, t.words, lead_small (sibling_at ss b).next bs h.2)
 
--- what the first link says of the arguments behind it
+-- what the first link says of the arguments after it
 pub lead_arguments : (s : PlainShape) (ss : List Sibling) (o : Option ℕ) (bs : List ℕ) → Lead s ss o bs → arguments_from ss o ≡ arguments_of s bs
 lead_arguments s ss o [] h = ap (arguments_from ss) h
 lead_arguments s ss o (b ∷ bs) h = ap (arguments_from ss) h.0 ∙ h.1.arguments
@@ -193,7 +193,7 @@ linked_all s p l = record { threads = l.siblings; lead = l.lead }
 
 -- ---- from link to link
 
--- a branch, and those behind it
+-- a branch, and those after it
 pub record Ahead (s : PlainShape) (ss : List Sibling) (b : ℕ) (bs : List ℕ) : Type 0 where
   pub rest : List ℕ
   pub is : bs ≡ b ∷ rest

@@ -4,7 +4,7 @@ use Rattle.forec_kernel.specs.Shapes.{PlainShape}
 use Rattle.thread_code.specs.Valid.{branches_in, arguments_of}
 use Rattle.thread_state.specs.declared.pars.Sibling.{Sibling}
 
--- the first branch of each par, and what stands behind each thread in its par
+-- the first branch of each par, and what stands after each thread in its par
 pub record Links : Type 0 where
   pub firsts : List (Option ℕ)
   pub siblings : List Sibling
@@ -18,7 +18,7 @@ first_of p j = get_or p.firsts j None
 abbrev pub sibling_at : List Sibling → ℕ → Sibling
 sibling_at ss b = get_or ss b (record { next = None; arguments = 0 })
 
--- how many arguments a branch and all behind it have together; none where there is no branch
+-- how many arguments a branch and all after it have together; none where there is no branch
 abbrev pub arguments_from : List Sibling → Option ℕ → ℕ
 arguments_from ss None = 0
 arguments_from ss (Some b) = (sibling_at ss b).arguments
@@ -31,7 +31,7 @@ with_first j b n p =
       siblings = slice_set p.siblings b (record { next = first_of p j; arguments = n + arguments_from p.siblings (first_of p j) });
     }
 
--- what is noted of a branch, behind which these stand
+-- what is noted of a branch, after which these stand
 pub record IsLink (s : PlainShape) (ss : List Sibling) (b : ℕ) (bs : List ℕ) : Type 0 where
   pub within : b < length ss
   pub arguments : (sibling_at ss b).arguments ≡ arguments_of s (b ∷ bs)

@@ -10,16 +10,16 @@ use forec_kernel::Shape;
 use std::alloc::Global;
 use std::marker::Model;
 
-/// What stands behind a thread in its par.
+/// What stands after a thread in its par.
 #[derive(Clone, Copy)]
 pub struct Sibling {
     /// The next branch.
     next: Option<u32>,
-    /// How many arguments the thread and all branches behind it have together.
+    /// How many arguments the thread and all branches after it have together.
     arguments: u32,
 }
 
-/// The first branch of each par, and for each thread what stands behind it in its par.
+/// The first branch of each par, and for each thread what stands after it in its par.
 #[derive(Drop)]
 pub struct Pars {
     firsts: Vec<Option<u32>>,
@@ -81,7 +81,7 @@ impl Pars {
         self.firsts[par as usize] = Some(branch);
     }
 
-    /// How many arguments a branch and all behind it in its par have together; 0 where there is none.
+    /// How many arguments a branch and all after it in its par have together; 0 where there is none.
     pub fn arguments_from(&self, branch: Option<u32>) -> u32
         requires { IfSome branch (λ b. b < length self.now.siblings) }
         ensures { result ≡ arguments_from self.now.siblings branch }
@@ -102,7 +102,7 @@ impl Pars {
         }
     }
 
-    /// The next branch behind one of a par.
+    /// The next branch after one of a par.
     pub fn next(&self, branch: u32) -> Option<u32>
         requires { branch < length self.now.siblings }
         ensures { result ≡ (sibling_at self.now.siblings branch).next }

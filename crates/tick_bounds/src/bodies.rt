@@ -1,4 +1,4 @@
-// The bounds of expressions and statements.
+//! The bounds of expressions and statements.
 
 ghost use Rattle.std.specs.Prelude.{◌≡◌, ◌+◌, map};
 ghost use Rattle.forec_kernel.specs.Shapes.{plain_kernel};

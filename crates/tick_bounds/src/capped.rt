@@ -1,4 +1,4 @@
-// Sums and products of bounds, of which all past the greatest budget are one number.
+//! Sums and products of bounds, of which all past the greatest budget are one number.
 
 ghost use Rattle.std.specs.Prelude.{◌≡◌, ◌+◌, ◌*◌};
 ghost use Rattle.tick_bounds.specs.Capped.{capped};

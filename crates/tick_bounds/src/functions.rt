@@ -1,4 +1,4 @@
-// The bounds of int functions, each found once, after those of the functions that it calls.
+//! The bounds of int functions, each found once, after those of the functions that it calls.
 
 ghost use Rattle.std.specs.Prelude.{◌≡◌, ℕ, length, false, IfOk, OnOk};
 ghost use Rattle.forec_kernel.specs.Shapes.{plain_kernel};

@@ -1,4 +1,4 @@
-// The bound of a par: the arguments and the bodies of its branches, and the calls that combine their copies.
+//! The bound of a par: the arguments and the bodies of its branches, and the calls that combine their copies.
 
 ghost use Rattle.std.specs.Prelude.{◌≡◌, ◌+◌, map};
 ghost use Rattle.forec_kernel.specs.Shapes.{plain_kernel};

@@ -1,4 +1,4 @@
-// What a body is looked at with.
+//! What a body is looked at with.
 
 ghost use Rattle.std.specs.Prelude.{◌≡◌, IsTrue};
 ghost use Rattle.forec_kernel.specs.Shapes.{plain_kernel};

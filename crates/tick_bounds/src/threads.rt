@@ -1,4 +1,4 @@
-// The bounds of threads, from the last to the first: branches have greater numbers than their parent.
+//! The bounds of threads, from the last to the first: branches have greater numbers than their parent.
 
 ghost use Rattle.std.specs.Prelude.{◌≡◌, ℕ, replicate, IfOk};
 ghost use Rattle.forec_kernel.specs.Shapes.{plain_kernel};

@@ -1,4 +1,4 @@
-// The bound of a tick.
+//! The bound of a tick.
 
 ghost use Rattle.std.specs.Prelude.{◌≡◌, IfOk};
 ghost use Rattle.forec_kernel.specs.Shapes.{plain_kernel};

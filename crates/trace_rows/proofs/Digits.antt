@@ -13,7 +13,7 @@ use Rattle.trace_rows.specs.Words.{is_blank}
 pub digit_no_blank : (b : ℕ) → is_ascii_digit b ≡ true → is_blank b ≡ false
 digit_no_blank b h = grind (arith, nat_tests)
 
--- digits with a blank or nothing behind them are a word
+-- digits with a blank or nothing after them are a word
 pub word_is_digits : (text : List ℕ) (n : ℕ) → n ≡ prefix_len is_ascii_digit text → (n < length text → is_blank (get_or text n 0) ≡ true) → n ≡ position_or_len is_blank text
 word_is_digits text n e h =
     sym (position_or_len_is is_blank text n 0 (omega (arith, prefix_len-le-length is_ascii_digit text))
@@ -42,7 +42,7 @@ by_all : (w : List ℕ) (k : ℕ) → k < length w → is_ascii_digit (get_or w 
 by_all w k low other true e = absurd (let all : AllPass is_ascii_digit w = AllPass-from_list_all is_ascii_digit w e in let yes : is_ascii_digit (get_or w k 0) ≡ true = All-get_or (λ b. is_ascii_digit b ≡ true) w k 0 low all in cc)
 by_all w k low other false e = magnitude_none w e
 
--- a word with another byte behind its first digits
+-- a word with another byte after its first digits
 pub magnitude_not : (text : List ℕ) (n : ℕ) → n ≡ prefix_len is_ascii_digit text → n < length text → is_blank (get_or text n 0) ≡ false →
     magnitude_of (take (position_or_len is_blank text) text) ≡ None
 magnitude_not text n e low solid =

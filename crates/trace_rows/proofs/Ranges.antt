@@ -43,7 +43,7 @@ by_first : (p : ℕ → Bool) (x : ℕ) (xs ys : List ℕ) (b : Bool) → not (p
 by_first p x xs ys true e h rest = rw e (let i = rest (omega (arith, h)) in omega (arith, i))
 by_first p x xs ys false e h rest = absurd (omega (arith, h))
 
--- where nothing passes in a front, what passes first stands behind it
+-- where nothing passes in a front, what passes first stands after it
 pub position_behind : (p : ℕ → Bool) (xs ys : List ℕ) → position_or_len p xs ≡ length xs → position_or_len p (xs ++ ys) ≡ length xs + position_or_len p ys
 position_behind p [] ys h = omega arith
 position_behind p (x ∷ xs) ys h = by_first p x xs ys (not (p x)) refl h (position_behind p xs ys)

@@ -39,7 +39,7 @@ came_both w w' w'' a b c f s =
 pub no_line : (w : List ℕ) → (HasLine w → ⊥) → position_or_len is_newline w ≡ length w
 no_line w none = omega (arith, none, prefix_len-le-length (λ b. not (is_newline b)) w)
 
--- a piece behind what is held
+-- a piece after what is held
 pub held_more : (B C : List ℕ) (from end count : ℕ) → from ≤ end → end + count ≤ length C → take end C ≡ take end B →
     slice_range C from (end + count) ≡ slice_range B from end ++ slice_range C end (end + count)
 held_more B C from end count low within front =

@@ -32,13 +32,13 @@ HasLine bytes = position_or_len is_newline bytes < length bytes
 abbrev pub first_line : List ℕ → List ℕ
 first_line bytes = before_first is_newline bytes
 
--- bytes came from a source, behind those that were held
+-- bytes came from a source, after those that were held
 pub record Came (held_old held_new : List ℕ) (left_old left_new : Option (List ℕ)) : Type 0 where
   pub bytes : List ℕ
   pub held : held_new ≡ held_old ++ bytes
   pub source : Consumes left_old left_new bytes
 
--- of what was held and came, the first line was taken; the source has told its end where byte 10 isn't behind it
+-- of what was held and came, the first line was taken; the source has told its end where byte 10 isn't after it
 pub record Takes (line held_old held_new : List ℕ) (ended : Bool) (left_old left_new : Option (List ℕ)) : Type 0 where
   pub bytes : List ℕ
   pub came : Came held_old bytes left_old left_new

@@ -27,7 +27,7 @@ pub data Reads {S : Type 0} (left : S → Option (List ℕ)) (faults : S → ℕ
 abbrev pub Lacks : List ℕ → Bool → Type 0
 Lacks held ended = (HasLine held → ⊥) × (ended ≡ false) × (length held ≤ most_bytes)
 
--- bytes came behind those that were held, by reads that were each asked for where a line was lacking
+-- bytes came after those that were held, by reads that were each asked for where a line was lacking
 pub record Gathers {S : Type 0} (left : S → Option (List ℕ)) (faults : S → ℕ) (down : S → Bool) (held : List ℕ) (ended : Bool) (bytes : List ℕ) (old new : S) : Type 0 where
   pub given : List ℕ
   pub behind : bytes ≡ held ++ given
@@ -35,7 +35,7 @@ pub record Gathers {S : Type 0} (left : S → Option (List ℕ)) (faults : S →
 
 -- ---- what was taken of the bytes that were held and came
 
--- the first line was taken, and this is held now; the source has told its end where byte 10 isn't behind the line
+-- the first line was taken, and this is held now; the source has told its end where byte 10 isn't after the line
 pub record TakesLine (bytes held : List ℕ) (ended : Bool) : Type 0 where
   pub rest : held ≡ after_first is_newline bytes
   pub whole : ended ≡ false → HasLine bytes

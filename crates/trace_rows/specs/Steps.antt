@@ -28,7 +28,7 @@ abbrev pub HeaderTook : List (List ℕ) → List ℕ → List ℕ → Bool → R
 HeaderTook inputs places held ended (Ok u) bytes = TakesHead inputs places bytes held ended
 HeaderTook inputs places held ended (Err f) bytes = Unit {0}
 
--- what a call says that looks for the line behind so many rows, of at most `limit`: it is there, or nothing more is, or what is in its place
+-- what a call says that looks for the line after so many rows, of at most `limit`: it is there, or nothing more is, or what is in its place
 abbrev pub FindsNext : ℕ → ℕ → List ℕ → Bool → Result Next RowFault → Type 0
 FindsNext limit given held ended (Ok next.Row) =
     (given < limit) × (length (first_line held) ≤ most_bytes) × (0 < length held) × (ended ≡ false → HasLine held)

@@ -90,7 +90,7 @@ abbrev pub behind : Result (List ℕ) RowFault → (List ℕ → Trace) → Trac
 behind (Ok places) rest = rest places
 behind (Err f) rest = stop (Some f) 0
 
--- the rows behind the header, which is line 0
+-- the rows after the header, which is line 0
 abbrev pub rows_of_lines : List (List ℕ) → ℕ → List (List ℕ) → Trace
 rows_of_lines inputs limit [] = stop (Some fault.Bad) 0
 rows_of_lines inputs limit (header ∷ lines) = behind (header_at inputs header) (λ places. rows_from limit places 1 lines)

@@ -1,4 +1,4 @@
-// The bytes of a buffer.
+//! The bytes of a buffer.
 ghost use Rattle.std.specs.Prelude.{◌≡◌, ◌+◌, ◌<◌, ◌≤◌, length, take, slice_range, IfOk, MatchResult};
 ghost use Rattle.std.specs.List.{position_or_len};
 ghost use Rattle.std.specs.Io.KnownBytes.{Consumes, Keeps, IsAtEnd};
@@ -29,7 +29,7 @@ pub fn move_to_front(bytes: &mut [u8], at: usize, count: usize)
     front[..count].copy_from_slice(&back[..count]);
 }
 
-// Reads the next bytes of a source to the place `end`, and says how many.
+/// Reads the next bytes of a source to the place `end`, and says how many.
 fn fill_part<S: Source>(source: &mut S, bytes: &mut [u8], end: usize) -> Result<usize, Failed>
     requires { end < length bytes.old }
     ensures front { take end bytes.new ≡ take end bytes.old }

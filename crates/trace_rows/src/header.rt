@@ -1,4 +1,4 @@
-// The header of a trace.
+//! The header of a trace.
 ghost use Rattle.std.specs.Prelude.{◌≡◌, true, false, length, count_by, IsTrue};
 ghost use Rattle.std.specs.List.{position_or_len};
 ghost use Rattle.std.specs.Str.{bytes_eq};
@@ -20,7 +20,7 @@ fn count_words(line: &[u8]) -> usize
     count
 }
 
-// How often a name stands among the words of a line.
+/// How often a name stands among the words of a line.
 fn count_name(line: &[u8], name: &[u8]) -> usize
     ensures { result ≡ count_by (bytes_eq name.now) (words_of line.now) }
 {
@@ -35,7 +35,7 @@ fn count_name(line: &[u8], name: &[u8]) -> usize
     count
 }
 
-// Where a name stands first among the words of a line, or how many words there are.
+/// Where a name stands first among the words of a line, or how many words there are.
 fn first_place(line: &[u8], name: &[u8]) -> usize
     ensures { result ≡ position_or_len (bytes_eq name.now) (words_of line.now) }
 {

@@ -1,4 +1,4 @@
-// Lines out of a source that gives its bytes in pieces of any size.
+//! Lines out of a source that gives its bytes in pieces of any size.
 ghost use Rattle.std.specs.Prelude.{◌≡◌, ◌≢◌, ◌+◌, ◌*◌, ◌<◌, ◌≤◌, ◌++◌, true, false, List, ℕ, [], length, slice_range, IfOk, IsTrue, OnOk, OnErr, IfSome, IfNone, Ok, ◌↔◌, ◌⊎◌};
 ghost use Rattle.std.specs.List.{position_or_len, after_first};
 ghost use Rattle.std.specs.Io.KnownBytes.{IsAtEnd};
@@ -14,10 +14,10 @@ use crate::found::Found;
 use forec_base::{Failed, MAX_LINE_BYTES, OutOfMemory, Source};
 use std::alloc::Global;
 
-// The most bytes that are read at once.
+/// The most bytes that are read at once.
 const PIECE: usize = 65536;
 
-// The bytes of the buffer: two lines and a piece.
+/// The bytes of the buffer: two lines and a piece.
 const ROOM: usize = 2 * MAX_LINE_BYTES + PIECE;
 
 /// A buffer of bytes of a source, of which those from `at` to `end` aren't taken yet. At `stop` stands the first
@@ -61,7 +61,7 @@ impl Lines {
         self.stop < self.end
     }
 
-    // Makes room for a piece behind what is held.
+    /// Makes room for a piece after what is held.
     fn make_room(&mut self)
         requires short { length (held self.old) ≤ MAX_LINE_BYTES }
         ensures held { held self.new ≡ held self.old }
@@ -77,7 +77,7 @@ impl Lines {
         }
     }
 
-    // Reads the next piece.
+    /// Reads the next piece.
     fn refill<S: Source>(&mut self, source: &mut S) -> Result<(), Failed>
         requires short { length (held self.old) ≤ MAX_LINE_BYTES }
         requires none { HasLine (held self.old) → ⊥ }
@@ -99,7 +99,7 @@ impl Lines {
         Ok(())
     }
 
-    // What the bytes that are held tell of the first line, if no further ones are needed.
+    /// What the bytes that are held tell of the first line, if no further ones are needed.
     fn found(&self) -> Option<Found>
         ensures some { IfSome result (λ f. Finds (held self.now) self.now.ended (Ok f)) }
         ensures none { IfNone result ((HasLine (held self.now) → ⊥) × (self.now.ended ≡ false) × (length (held self.now) ≤ 8192)) }

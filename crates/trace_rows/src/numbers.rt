@@ -1,4 +1,4 @@
-// The numbers of a trace.
+//! The numbers of a trace.
 ghost use Rattle.std.specs.Prelude.{◌≡◌, ◌+◌, ◌≤◌, ◌<◌, true, false, take, length, min, slice_index, IsTrue, IfSome, IfNone, Some, None};
 ghost use Rattle.std.specs.Option.{option_map};
 ghost use Rattle.std.specs.List.{prefix_len, position_or_len};
@@ -8,10 +8,10 @@ ghost use Rattle.trace_rows.specs.Numbers.{digits_value, magnitude_of, positive,
 
 use crate::words::blank;
 
-// Beyond any number that counts.
+/// Beyond any number that counts.
 const CAP: u64 = 10_000_000_000;
 
-// The digits at the front of a text: how many there are, and the number that they spell, or `CAP` where it is greater.
+/// The digits at the front of a text: how many there are, and the number that they spell, or `CAP` where it is greater.
 #[derive(Clone, Copy)]
 struct Digits {
     count: usize,
@@ -44,7 +44,7 @@ fn digits_at(text: &[u8]) -> Digits
     }
 }
 
-// Whether a blank stands at this place of a text, or the text ends there.
+/// Whether a blank stands at this place of a text, or the text ends there.
 fn ends_word(text: &[u8], at: usize) -> bool
     requires { at ≤ length text.now }
     ensures yes { IsTrue result → at < length text.now → is_blank (slice_index text.now at) ≡ true }
@@ -56,7 +56,7 @@ fn ends_word(text: &[u8], at: usize) -> bool
     blank(text[at])
 }
 
-// The digits that are the first word of a text, if they are.
+/// The digits that are the first word of a text, if they are.
 fn magnitude_at(text: &[u8]) -> Option<Digits>
     ensures some { IfSome result (λ d. (d.count ≡ position_or_len is_blank text.now)
         × (option_map (min 10000000000) (magnitude_of (take d.count text.now)) ≡ Some d.value)) }
@@ -90,7 +90,7 @@ fn negative_number(magnitude: u64) -> Option<i32>
     Some((-(magnitude as i64)) as i32)
 }
 
-// The number that digits at the front of a text are, if they are its first word.
+/// The number that digits at the front of a text are, if they are its first word.
 fn positive_at(text: &[u8]) -> Option<Number>
     ensures some { IfSome result (λ n. (n.len ≡ position_or_len is_blank text.now) × (positive (magnitude_of (take n.len text.now)) ≡ Some n.value)) }
     ensures none { IfNone result (positive (magnitude_of (take (position_or_len is_blank text.now) text.now)) ≡ None) }
@@ -103,7 +103,7 @@ fn positive_at(text: &[u8]) -> Option<Number>
     })
 }
 
-// The same of what stands behind a `-`.
+/// The same of what stands after a `-`.
 fn negative_at(text: &[u8]) -> Option<Number>
     ensures some { IfSome result (λ n. (n.len ≡ position_or_len is_blank text.now) × (negative (magnitude_of (take n.len text.now)) ≡ Some n.value)) }
     ensures none { IfNone result (negative (magnitude_of (take (position_or_len is_blank text.now) text.now)) ≡ None) }

@@ -1,4 +1,4 @@
-// The steps of a reader of rows.
+//! The steps of a reader of rows.
 ghost use Rattle.std.specs.Prelude.{◌≡◌, ◌≤◌, true, false, length, Err};
 ghost use Rattle.std.specs.Io.KnownBytes.{IsAtEnd};
 ghost use Rattle.forec_base.specs.Outside.{Fell};
@@ -42,7 +42,7 @@ pub fn take_header<S: Source>(
     Ok(())
 }
 
-/// Looks for the line behind so many rows, of at most `limit`. A line beyond the limit needn't be whole.
+/// Looks for the line after so many rows, of at most `limit`. A line beyond the limit needn't be whole.
 pub fn find_next<S: Source>(
     lines: &mut Lines,
     source: &mut S,

@@ -1,4 +1,4 @@
-// The line of a tick.
+//! The line of a tick.
 ghost use Rattle.std.specs.Prelude.{◌≡◌, ◌<◌, ◌≤◌, ◌+◌, ◌-◌, ◌^◌, ◌++◌, length, take, min, pos, codes, slice_index_or};
 ghost use Rattle.std.specs.Fmt.{signed_decimal};
 ghost use Rattle.trace_rows.specs.Report.{tick_line, tick_room};
@@ -6,7 +6,7 @@ ghost use Rattle.trace_rows.specs.Report.{tick_line, tick_room};
 use forec_base::Labels;
 use itoa::Buffer;
 
-// Puts bytes at a place, and says where they end.
+/// Puts bytes at a place, and says where they end.
 fn put(buffer: &mut [u8], at: usize, bytes: &[u8]) -> usize
     requires { at + length bytes.now ≤ length buffer.old }
     ensures end { result ≡ at + length bytes.now }
@@ -17,7 +17,7 @@ fn put(buffer: &mut [u8], at: usize, bytes: &[u8]) -> usize
     end
 }
 
-// Puts the name and the value of output `i` at a place.
+/// Puts the name and the value of output `i` at a place.
 fn put_pair(buffer: &mut [u8], at: usize, name: &str, values: &[i32], i: usize) -> usize
     requires value { i < length values.now }
     requires room { at + (length name.now + 13) ≤ length buffer.old }

@@ -1,4 +1,4 @@
-// The values of a row.
+//! The values of a row.
 ghost use Rattle.std.specs.Prelude.{◌≡◌, ◌<◌, ◌≤◌, true, false, length, Some, None, IsTrue};
 ghost use Rattle.std.specs.List.{All};
 ghost use Rattle.trace_rows.specs.Words.{words_of};

@@ -1,4 +1,4 @@
-// The words of a line, one by one.
+//! The words of a line, one by one.
 ghost use Rattle.std.specs.Prelude.{◌≡◌, ◌≤◌, ◌<◌, ◌∷◌, [], length, IfSome, IfNone};
 ghost use Rattle.std.specs.List.{position, position_or_len};
 ghost use Rattle.trace_rows.specs.Words.{is_blank, words_of, BeginsNoBlank};
@@ -26,14 +26,14 @@ pub fn skip_blanks(line: &[u8]) -> &[u8]
     rest
 }
 
-// Where the first blank stands.
+/// Where the first blank stands.
 fn first_blank(line: &[u8]) -> Option<usize>
     ensures { result ≡ position is_blank line.now }
 {
     line.iter().position(|b| blank(*b))
 }
 
-// How many bytes stand before the first blank.
+/// How many bytes stand before the first blank.
 fn word_end(line: &[u8]) -> usize
     ensures end { result ≡ position_or_len is_blank line.now }
     ensures within { result ≤ length line.now }
@@ -44,7 +44,7 @@ fn word_end(line: &[u8]) -> usize
     }
 }
 
-// The first word of a line that begins with no blank, and what stands behind it.
+/// The first word of a line that begins with no blank, and what stands after it.
 fn first_word(line: &[u8]) -> Option<(&[u8], &[u8])>
     requires { BeginsNoBlank line.now }
     ensures some { IfSome result (λ r. (words_of line.now ≡ r.0.now ∷ words_of r.1.now) × (length r.1.now < length line.now)) }
@@ -59,7 +59,7 @@ fn first_word(line: &[u8]) -> Option<(&[u8], &[u8])>
     Some((word, after))
 }
 
-/// The first word of a line, and what stands behind it.
+/// The first word of a line, and what stands after it.
 pub fn next_word(line: &[u8]) -> Option<(&[u8], &[u8])>
     ensures some { IfSome result (λ r. (words_of line.now ≡ r.0.now ∷ words_of r.1.now) × (length r.1.now < length line.now)) }
     ensures none { IfNone result (words_of line.now ≡ []) }

@@ -44,7 +44,7 @@ ticks_on k budget n t ts trace h =
     ap (λ (o : Outcome). behind_bytes (tick_lines k budget n t ++ lines_from k budget (n + 1) ts) (ending o trace.end)) (last_on t ts h)
     ∙ ap (λ (bs : List ℕ). record { bytes = bs; status = e.status }) (append_assoc (tick_lines k budget n t) (lines_from k budget (n + 1) ts) e.bytes)
 
--- one tick more, of a row and those behind it
+-- one tick more, of a row and those after it
 pub report_step : (k : PlainKernel) (budget : ℕ) (s : State) (n m : ℕ) (row : Row) (rest : Trace) → goes_on (tick k budget s row).outcome ≡ true →
     report_from k budget s n (onto (Ok row) m rest) ≡ (let t = tick k budget s row in behind_bytes (tick_lines k budget n t) (report_from k budget t.state (n + 1) rest))
 report_step k budget s n m row rest h =

@@ -16,7 +16,7 @@ use Rattle.trace_runs.proofs.Heading.{printed_none, printed_rows}
 use Rattle.trace_runs.proofs.Running.{Run, Stands_at, row_here}
 use Rattle.trace_runs.proofs.Splitting.{no_line, first_none, first_cut, whole_lines-line}
 
--- the first line of bytes, and those behind it
+-- the first line of bytes, and those after it
 lines_behind : (bytes held rest : List ℕ) → HasLine bytes → held ≡ after_first is_newline bytes →
     whole_lines (bytes ++ rest) ≡ first_line bytes ∷ whole_lines (held ++ rest)
 lines_behind bytes held rest has e =
@@ -52,7 +52,7 @@ covers_more run now new p given came bytes values c behind at takes e on =
     }
 
 module _ {S : Type 0} (left : S → Option (List ℕ)) (faults : S → ℕ) (down : S → Bool) where
-  -- reads behind reads
+  -- reads after reads
   reads_then : (May Then : List ℕ → Type 0) (o t : S) (front : List ℕ) {x : List ℕ} {v : S} → Reads left faults down May o front t → ((x : List ℕ) → Then x → May (front ++ x)) →
       Reads left faults down Then t x v → Reads left faults down May o (front ++ x) v
   reads_then May Then o t front first f none = subst (λ x. Reads left faults down May o x t) (sym (append-nil front)) first
@@ -104,7 +104,7 @@ module _ {S : Type 0} (left : S → Option (List ℕ)) (faults : S → ℕ) (dow
         covers = λ e. covers_more run now new a.pace a.given g.given r.0 values (a.covers (stays e)) g.behind (subst (λ n. Stands_at run n now) (sym a.next) at) r.2 e on;
       }
 
-  -- the header, and the rows behind it
+  -- the header, and the rows after it
   pub asked_all : (k : PlainKernel) (budget : ℕ) (inputs : List (List ℕ)) (first : Reader) (old s t : S) → inputs ≡ input_names k →
       Reading left faults down [] false old s (λ bytes. TakesHead inputs first.places bytes first.held first.ended) →
       (given : List ℕ) × Reads left faults down (GoesOnFrom k budget first) s given t → ReadFor left faults down k budget old t

@@ -50,7 +50,7 @@ head_failed k b inputs l l' h0 n = (
   told_map l l' _ (PrintedFor k b []) (came_told [] n.0 l l' n.1.came) (λ x y e. (n.0, e, rw (no_line n.0 n.1.none) (printed_none k b))),
 )
 
--- behind a header
+-- after a header
 pub head_own : (k : PlainKernel) (b : ℕ) (inputs : List (List ℕ)) (r : Reader) (l l' h0 h2 : Option (List ℕ)) (end : Status) → inputs ≡ input_names k → Started inputs l l' r →
     IfSome l' (λ y. Given (report_rest k b r y) end h0 h2) → IfSome l (λ x. Given (trace_report k b x) end h0 h2)
 head_own k b inputs r l l' h0 h2 end e n g =

@@ -1,4 +1,4 @@
--- Numbers behind a number.
+-- Numbers after a number.
 use Rattle.std.proofs.Common.{◌≡◌, ℕ, suc, ◌+◌, ◌-◌, ◌<◌, List, [], ◌∷◌, ◌++◌, refl, sym, ap, ◌∙◌, arith, append_assoc, append-nil, ◌≤◌}
 use Rattle.trace_runs.specs.Orders.{next, numbers}
 

@@ -9,7 +9,7 @@ right_too : (a b : Bool) → IsTrue (a && b) → IsTrue b
 right_too true b h = h
 right_too false b h = absurd cc
 
--- the first variable and those behind it
+-- the first variable and those after it
 pub below_more : (n : ℕ) (vs : List ℕ) (i : ℕ) → i < length vs → IsTrue (all_below n (drop i vs)) → IsTrue (all_below n (drop (i + 1) vs))
 below_more n vs i h b =
     right_too (nat_lt (get_or vs i 0) n) (all_below n (drop (i + 1) vs)) (subst (λ l. IsTrue (all_below n l)) (drop_more vs i 0 h) b)

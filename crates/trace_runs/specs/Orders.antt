@@ -4,7 +4,7 @@ use Rattle.std.specs.Prelude.{ℕ, zero, suc, ◌+◌, ◌*◌, ◌%◌, ◌^◌
 abbrev pub next : ℕ → ℕ
 next x = (1103515245 * x + 12345) % 2 ^ 31
 
--- so many numbers behind x
+-- so many numbers after x
 abbrev pub numbers : ℕ → ℕ → List ℕ
 numbers zero x = []
 numbers (suc n) x = next x ∷ numbers n (next x)

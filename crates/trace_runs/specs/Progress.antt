@@ -87,6 +87,6 @@ abbrev pub StartedTook : List (List ℕ) → Result Reader Unread → List ℕ �
 StartedTook inputs (Ok r) bytes = TakesHead inputs r.places bytes r.held r.ended
 StartedTook inputs (Err e) bytes = Unit {0}
 
--- the source has not told its end, and the lines that have come whole behind a header are rows at which the program goes on
+-- the source has not told its end, and the lines that have come whole after a header are rows at which the program goes on
 abbrev pub GoesOnFrom : PlainKernel → ℕ → Reader → List ℕ → Type 0
 GoesOnFrom k budget first came = (first.ended ≡ false) × (p : Pace) × (advance k budget first.places Fresh 1 (whole_lines (first.held ++ came)) ≡ Some p)

@@ -43,7 +43,7 @@ abbrev pub end_of_trace : Option RowFault → ℕ → Report
 end_of_trace None n = record { bytes = rows_line (n - 1); status = status.Done }
 end_of_trace (Some f) n = record { bytes = row_line n f; status = status.Trace }
 
--- what comes behind the lines of the ticks, of which the last went so
+-- what comes after the lines of the ticks, of which the last went so
 abbrev pub ending : Outcome → End → Report
 ending outcome.Paused end = end_of_trace end.cause end.line
 ending outcome.Ended end = record { bytes = []; status = status.Done }

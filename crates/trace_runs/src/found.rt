@@ -1,4 +1,4 @@
-// What stands next in a trace.
+//! What stands next in a trace.
 
 use trace_rows::RowFault;
 

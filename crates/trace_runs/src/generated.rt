@@ -1,4 +1,4 @@
-// The ticks of a workload.
+//! The ticks of a workload.
 ghost use Rattle.std.specs.Prelude.{◌≡◌, ◌≢◌, ◌≤◌, ◌+◌, ◌%◌, ◌^◌, true, length};
 ghost use Rattle.forec_kernel.specs.Ticks.{Fresh};
 ghost use Rattle.trace_runs.specs.Ends.{IsOwn};
@@ -18,7 +18,7 @@ use std::sync::Wait;
 /// How many ticks a workload runs.
 pub const WORKLOAD_TICKS: u64 = 1_000;
 
-// A sum and values, modulo 2^32.
+/// A sum and values, modulo 2^32.
 fn with_values(sum: u32, values: &[i32]) -> u32
     ensures { result ≡ (sum + values_sum values.now) % 2 ^ 32 }
 {

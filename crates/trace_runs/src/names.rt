@@ -1,4 +1,4 @@
-// Names of variables.
+//! Names of variables.
 
 ghost use Rattle.std.specs.Prelude.{◌≡◌, ◌<◌, ◌≤◌, ◌^◌, length, IfOk, IsTrue};
 ghost use Rattle.forec_kernel.specs.WellFormed.{all_below};

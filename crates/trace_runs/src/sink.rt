@@ -1,4 +1,4 @@
-// Writing to a sink that takes a front of each piece.
+//! Writing to a sink that takes a front of each piece.
 ghost use Rattle.std.specs.Prelude.{◌≡◌, ◌≢◌, OnOk, OnErr};
 ghost use Rattle.std.specs.Io.KnownBytes.{Appends};
 ghost use Rattle.forec_base.specs.Outside.{Fell};

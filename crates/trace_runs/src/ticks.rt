@@ -1,4 +1,4 @@
-// The loop over the rows of a trace.
+//! The loop over the rows of a trace.
 ghost use Rattle.std.specs.Prelude.{◌≡◌, ◌≢◌, ◌≤◌, ◌++◌, ◌^◌, true, false, List, ℕ, OnOk, OnErr, IfOk, IfErr, Err, IfSome, [], length};
 ghost use Rattle.std.specs.Io.KnownBytes.{Appends, IsAtEnd};
 ghost use Rattle.forec_base.specs.Outside.{Fell};
@@ -28,7 +28,7 @@ use std::alloc::Global;
 use std::sync::Wait;
 use trace_rows::{RowFault, Rows};
 
-// Writes the lines that wait, where a read of the trace comes next, or the lines of a further tick don't fit.
+/// Writes the lines that wait, where a read of the trace comes next, or the lines of a further tick don't fit.
 fn send_due<K: Sink>(rows: &Rows, waiting: &mut Waiting, out: &mut K) -> Result<(), Failed>
     ensures ok { OnOk result ((sent : List ℕ) × Appends (K.held out.old) (K.held out.new) sent
         × (waiting.old.bytes.items ≡ sent ++ waiting.new.bytes.items)) }
@@ -111,7 +111,7 @@ pub fn run_rows<S: Source, K: Sink, T: Ticker, O: Serve, G: Gate, R: Wait>(
     }
 }
 
-// Reads the header, for inputs of these names.
+/// Reads the header, for inputs of these names.
 fn start_rows<S: Source>(alloc: Global, trace: &mut S, inputs: &Labels) -> Result<Rows, Unread>
     requires { length inputs.now ≤ MAX_INPUTS }
     ensures ok { IfOk result (Started inputs.now (S.left trace.old) (S.left trace.new)) }

@@ -1,4 +1,4 @@
-// Finished lines of the report that aren't with the sink yet.
+//! Finished lines of the report that aren't with the sink yet.
 ghost use Rattle.std.specs.Prelude.{◌≡◌, ◌≢◌, ◌+◌, ◌-◌, ◌^◌, ◌≤◌, ◌++◌, ◌∷◌, [], ℤ, List, length, min, take, codes, decimal, vec_len, vec_capacity, IfOk, OnOk, OnErr, IsTrue};
 ghost use Rattle.std.specs.Io.KnownBytes.{Appends};
 ghost use Rattle.forec_base.specs.Outside.{Fell};
@@ -16,10 +16,10 @@ use itoa::Buffer;
 use std::alloc::Global;
 use trace_rows::{RowFault, line, line_room};
 
-// Room for the lines of a tick, that of its outputs apart.
+/// Room for the lines of a tick, that of its outputs apart.
 const TICK_ROOM: usize = 64;
 
-// What is written at once where many lines wait.
+/// What is written at once where many lines wait.
 const PIECE: usize = 65536;
 
 /// Lines that wait, in room that is made once, and the names of the outputs in order of declaration. In `line` the
@@ -34,7 +34,7 @@ pub struct Waiting {
     ghost whole: { min (tick_room names) (2 ^ 64 - 1) ≤ length line.items },
 }
 
-// Adds bytes for which there is room.
+/// Adds bytes for which there is room.
 fn append(to: &mut Vec<u8>, bytes: &[u8])
     requires { vec_len to.old + length bytes.now ≤ vec_capacity to.old }
     ensures items { to.new.items ≡ to.old.items ++ bytes.now }
@@ -91,7 +91,7 @@ impl Waiting {
         self.put(Buffer::new().format(number).as_bytes());
     }
 
-    // Adds the line of a tick whose outputs have these values.
+    /// Adds the line of a tick whose outputs have these values.
     fn put_tick(&mut self, tick: u64, values: &[i32])
         requires room { HasRoom self.old (length self.old.line.items) }
         requires values { length values.now ≡ length self.old.names }

@@ -7,7 +7,7 @@ use crate::scopes::declarations::Declarations;
 use forec_base::OutOfMemory;
 use std::alloc::Global;
 
-/// The names that are seen: those behind the first `base` ones, of which those behind the first
+/// The names that are seen: those after the first `base` ones, of which those after the first
 /// `start` ones are of the innermost scope.
 #[derive(Drop)]
 pub struct Scope {

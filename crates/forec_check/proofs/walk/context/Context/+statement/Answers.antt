@@ -194,7 +194,7 @@ statement-returns-in_ok-expression-in-Return-clause-notes t c =
     of_statement j text s k _ c.args.s.now _ c.in-Return.is
     (then j _ _ k (notes_of c.judge_return.new.notes) (notes_of c.expression-in-Return.new.notes) c.judge_return.ensures c.in_ok-expression-in-Return.ensures)
 
--- ---- the scope behind a statement
+-- ---- the scope after a statement
 
 pub statement-returns-in-Nothing-clause-scope : goal.statement-returns-in-Nothing-clause-scope
 statement-returns-in-Nothing-clause-scope t c = of_kind (behind (scope_of c.args.scope.now)) c.args.s.now _ c.in-Nothing.is
