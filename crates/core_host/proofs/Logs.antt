@@ -3,7 +3,7 @@ use Rattle.std.proofs.Common.{◌≡◌, ℕ, ◌-◌, ◌<◌, ◌==◌, true, 
 use Rattle.std.proofs.lemmas.Bool.Decides.{nat_tests}
 use Rattle.forec_kernel.specs.Packets.{PlainPacket}
 use Rattle.forec_kernel.specs.Packed.{IsReply}
-use Rattle.forec_kernel.specs.Engine.{Job, Start, Wake, allowance_of, Reply, Seed, Written, written, View, Going, AtFork, Pausing, Ending, Trapping, Exceeding, Engine, Reaches, Rest, Asleep, Nothing, Exchange, Output, ends_at, first_jobs, AtEvent, Goes, over, event, Either, Serves, Begins, Alone, Answered, pair_forks, pair_all, Allowed, last_reply, Answers}
+use Rattle.forec_kernel.specs.Engine.{Job, Start, Wake, allowance_of, Reply, Seed, Written, written, View, Going, AtFork, Pausing, Ending, Trapping, Exceeding, Engine, Reaches, Rest, Asleep, Nothing, Exchange, Output, ends_at, first_jobs, AtEvent, RunsOn, over, event, Either, Serves, Begins, Alone, Answered, pair_forks, pair_all, Allowed, last_reply, Answers}
 use Rattle.forec_kernel.specs.Reached.{Reached, Inside, AloneTo}
 use Rattle.forec_kernel.proofs.Same.{IsSteady, one_stop, not_both, serves_one}
 use Rattle.forec_kernel.proofs.Reach.{alone_of}
@@ -162,7 +162,7 @@ module _ (S : Type 0) (e : Engine S) (steady : IsSteady e) where
   ends_none : (ws : List Written) (o : Output) (r : Reply) → o ≡ ends_at ws → o.reply ≡ Some r → ⊥
   ends_none ws o r e h = no_reply r (sym (ap (λ (x : Output). x.reply) e) ∙ h)
 
-  no_forks : (n : ℕ) (s : S) (o : Output) (r : Rest S) (f : S → List Seed → Output → Rest S → Type 0) → ((s' : S) (seeds : List Seed) → f s' seeds o r → o.jobs ≡ []) → Goes e n s f o r → o.jobs ≡ []
+  no_forks : (n : ℕ) (s : S) (o : Output) (r : Rest S) (f : S → List Seed → Output → Rest S → Type 0) → ((s' : S) (seeds : List Seed) → f s' seeds o r → o.jobs ≡ []) → RunsOn e n s f o r → o.jobs ≡ []
   no_forks n s o r f fork (over p eo er) = ap (λ (x : Output). x.jobs) eo
   no_forks n s o r f fork (event s' reaches at) = by_view (e.view s') at
     where
@@ -177,7 +177,7 @@ module _ (S : Type 0) (e : Engine S) (steady : IsSteady e) where
   same_count : (a b : ℕ) → a ≡ b → (a == b) ≡ true
   same_count a b h = grind (arith, nat_tests)
 
-  goes_fork : (n : ℕ) (s : S) (o : Output) (r : Rest S) (f : S → List Seed → Output → Rest S → Type 0) (s1 : S) (seeds : List Seed) → Reaches e n s s1 → e.view s1 ≡ AtFork seeds → Goes e n s f o r → f s1 seeds o r
+  goes_fork : (n : ℕ) (s : S) (o : Output) (r : Rest S) (f : S → List Seed → Output → Rest S → Type 0) (s1 : S) (seeds : List Seed) → Reaches e n s s1 → e.view s1 ≡ AtFork seeds → RunsOn e n s f o r → f s1 seeds o r
   goes_fork n s o r f s1 seeds reach view (over p eo er) = absurd (not_both S e steady n s s1 reach p)
   goes_fork n s o r f s1 seeds reach view (event s' reaches at) =
       let here = subst (λ x. AtEvent e x (e.view x) (f x) o r) (one_stop S e steady n s s' s1 reaches reach) at in

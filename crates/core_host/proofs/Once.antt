@@ -1,7 +1,7 @@
 -- What threads answer to jobs is determined.
 use Rattle.std.proofs.Common.{◌≡◌, ℕ, zero, suc, ◌-◌, ◌==◌, Bool, true, false, cond, Some, None, List, [], ◌∷◌, ◌++◌, map, length, refl, sym, ap, ◌∙◌, subst, append_assoc, arith}
 use Rattle.std.proofs.lemmas.Bool.Decides.{nat_tests}
-use Rattle.forec_kernel.specs.Engine.{Job, Start, Wake, allowance_of, Reply, WasPaused, WasEnded, WasTrapped, WasOver, Seed, Written, written, View, Going, AtFork, Pausing, Ending, Trapping, Exceeding, Engine, Rest, Asleep, Nothing, Exchange, Output, answers_with, ends_at, first_jobs, AtEvent, Goes, over, event, Either, Serves, Begins, Alone, Answered, pair_up, pair_forks, pair_all, jobs_to, Allowed, AllReply, last_reply, AnswersBy, answers_within, Answers}
+use Rattle.forec_kernel.specs.Engine.{Job, Start, Wake, allowance_of, Reply, WasPaused, WasEnded, WasTrapped, WasOver, Seed, Written, written, View, Going, AtFork, Pausing, Ending, Trapping, Exceeding, Engine, Rest, Asleep, Nothing, Exchange, Output, answers_with, ends_at, first_jobs, AtEvent, RunsOn, over, event, Either, Serves, Begins, Alone, Answered, pair_up, pair_forks, pair_all, jobs_to, Allowed, AllReply, last_reply, AnswersBy, answers_within, Answers}
 use Rattle.forec_kernel.proofs.Same.{IsSteady, one_stop, not_both}
 use Rattle.forec_kernel.proofs.Serving.{allowed_first, allowed_then}
 
@@ -52,7 +52,7 @@ module _ (S : Type 0) (e : Engine S) (steady : IsSteady e) where
   -- two runs from one state come to the same event
   goes_once : (a : ℕ) (s : S) (f g : S → List Seed → Output → Rest S → Type 0) (o o' : Output) (r r' : Rest S) (Q : Type 0) →
       ((reply : Reply) → o ≡ answers_with reply → o' ≡ answers_with reply → r ≡ r' → Q) → ((s' : S) (seeds : List Seed) → f s' seeds o r → g s' seeds o' r' → Q) →
-      Goes e a s f o r → Goes e a s g o' r' → Q
+      RunsOn e a s f o r → RunsOn e a s g o' r' → Q
   goes_once a s f g o o' r r' Q same fork (over p po pr) (over q qo qr) = same WasOver po qo (pr ∙ sym qr)
   goes_once a s f g o o' r r' Q same fork (over p po pr) (event s2 b at) = absurd (not_both S e steady a s s2 b p)
   goes_once a s f g o o' r r' Q same fork (event s1 b at) (over q qo qr) = absurd (not_both S e steady a s s1 b q)

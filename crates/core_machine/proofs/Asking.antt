@@ -1,7 +1,7 @@
 -- The jobs that a thread asks of its branches.
 use Rattle.std.proofs.Common.{◌≡◌, ◌≢◌, ℕ, ◌-◌, ◌≤◌, ◌==◌, List, [], ◌∷◌, ◌++◌, length, map, None, true, refl, sym, ap, ◌∙◌, subst, arith}
 use Rattle.std.proofs.lemmas.Bool.Decides.{nat_tests}
-use Rattle.forec_kernel.specs.Engine.{Job, allowance_of, Reply, Seed, Starts, Wakes, Written, written, AtFork, Engine, Stops, Rest, Nothing, Exchange, Output, first_jobs, ends_at, AtEvent, event as at_event, Either, Serves}
+use Rattle.forec_kernel.specs.Engine.{Job, allowance_of, Reply, Seed, Starts, Wakes, Written, written, AtFork, Engine, IsStopped, Rest, Nothing, Exchange, Output, first_jobs, ends_at, AtEvent, event as at_event, Either, Serves}
 use Rattle.forec_kernel.specs.Reached.{Reached, Inside}
 use Rattle.forec_kernel.proofs.Reach.{Went, tells, alone_of, alone_snoc}
 use Rattle.thread_code.specs.Plain.{PlainCode}
@@ -28,7 +28,7 @@ module _ (S : Type 0) (e : Engine S) where
   went_fork n [] s0 js s seeds h le v =
       let fork : S → List Seed → Output → Rest S → Type 0 = λ s seeds o r. (o ≡ ends_at (map (written (n - e.units s)) seeds)) × (r ≡ Nothing) in
       subst (λ l. Serves e n [] s0 (ends_with l (map (written (n - e.units s)) seeds)) Nothing) (sym h.1)
-      (at_event s (record { count = h.0.count; lands = h.0.lands; stops = subst Stops (sym v) tt; within = le })
+      (at_event s (record { count = h.0.count; lands = h.0.lands; stops = subst IsStopped (sym v) tt; within = le })
       (subst (λ w. AtEvent e s w (fork s) (ends_with [] (map (written (n - e.units s)) seeds)) Nothing) (sym v) (refl, refl)))
   went_fork n (rs ∷ more) s0 js s seeds h le v =
       let rest = went_fork n more (e.join rs h.0) h.2 s seeds h.7 le v in

@@ -13,7 +13,7 @@ use Rattle.forec_kernel.specs.Values.{fresh_words}
 use Rattle.forec_kernel.specs.Texts.{params_in, words_in, uses_in}
 use Rattle.forec_kernel.specs.Packets.{PlainPacket}
 use Rattle.forec_kernel.specs.Packed.{HasRoom, IsJob, IsReply}
-use Rattle.forec_kernel.specs.Engine.{Job, Start, Wake, allowance_of, Reply, WasPaused, WasEnded, WasTrapped, WasOver, Written, View, Going, AtFork, Pausing, Ending, Trapping, Exceeding, Engine, run_for, Stops, Rest, Asleep, Nothing, Exchange, Output, Serves as Serves_by, last_reply}
+use Rattle.forec_kernel.specs.Engine.{Job, Start, Wake, allowance_of, Reply, WasPaused, WasEnded, WasTrapped, WasOver, Written, View, Going, AtFork, Pausing, Ending, Trapping, Exceeding, Engine, run_for, IsStopped, Rest, Asleep, Nothing, Exchange, Output, Serves as Serves_by, last_reply}
 use Rattle.forec_kernel.specs.Reached.{Reached, AtRest, Inside, none, begun, stepped, answered, exceeded, Closes}
 use Rattle.forec_kernel.proofs.Reach.{Went, alone_of, alone_snoc, went_answer, went_over}
 use Rattle.forec_kernel.proofs.Same.{one_stop, not_both}
@@ -434,7 +434,7 @@ module _ (c : PlainCode) (t : ℕ) where
   steps_on xs job before zero m r = r
   steps_on xs job before (suc n) m r = steps_on xs job before n (step c t m) (stepped xs job before m (step c t m) r refl)
 
-  stops_at : (v : View) (r : Event) → event_of v ≡ Some r → Stops v
+  stops_at : (v : View) (r : Event) → event_of v ≡ Some r → IsStopped v
   stops_at Going r h = cc
   stops_at (AtFork jobs) r h = tt
   stops_at (Pausing copies) r h = tt
@@ -547,7 +547,7 @@ module _ (c : PlainCode) (h : Thread) (m : Machine) (st : Stands_at c h m) where
       by (inl past) = passes (record { count = 0; past = past })
       by (inr v) =
           ⊎_elim (λ past. passes (record { count = 0; past = past }))
-          (λ le. reaches m event.Over (record { count = 0; lands = refl; stops = subst Stops (sym v) tt; within = le }) (ap event_of v))
+          (λ le. reaches m event.Over (record { count = 0; lands = refl; stops = subst IsStopped (sym v) tt; within = le }) (ap event_of v))
           (cases_lt h.allowance (units_of m))
 
   pub over_exactly : h.phase ≡ phase.Over → (s : Event) → Tells (code_engine c h.number) h.allowance m s ↔ (s ≡ event.Over)

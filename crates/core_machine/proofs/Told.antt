@@ -1,6 +1,6 @@
 -- What a thread has told before it comes to a place: each earlier job has its reply.
 use Rattle.std.proofs.Common.{◌≡◌, ℕ, zero, suc, ◌+◌, ◌-◌, ◌≤◌, List, [], ◌∷◌, ◌++◌, Some, map, length, refl, sym, ap, ◌∙◌, subst, arith}
-use Rattle.forec_kernel.specs.Engine.{allowance_of, Reply, WasOver, Seed, Written, written, AtFork, Engine, run_for, Stops, Rest, Nothing, Output, Exchange, Begins, AllReply}
+use Rattle.forec_kernel.specs.Engine.{allowance_of, Reply, WasOver, Seed, Written, written, AtFork, Engine, run_for, IsStopped, Rest, Nothing, Output, Exchange, Begins, AllReply}
 use Rattle.forec_kernel.specs.Reached.{AloneTo, Position, AtRest, Inside, Reached, none, begun, stepped, joined, answered, exceeded}
 use Rattle.forec_kernel.proofs.Reach.{Went, alone_snoc, went_answer, went_over}
 use Rattle.forec_kernel.proofs.Agree.{answers_join}
@@ -23,7 +23,7 @@ module _ (S : Type 0) (e : Engine S) where
   went_join : (n : ℕ) (before : List (List Reply)) (rs : List Reply) (seeds : List Seed) (s0 : S) (js : List (List Written)) (s : S) → Went S e n s0 before js s → e.view s ≡ AtFork seeds → e.units s ≤ n → length rs ≡ length seeds →
       Went S e n s0 (before ++ rs ∷ []) (js ++ map (written (n - e.units s)) seeds ∷ []) (e.join rs s)
   went_join n [] rs seeds s0 js s h v le c =
-      (s, seeds, [], record { count = h.0.count; lands = h.0.lands; stops = subst Stops (sym v) tt; within = le }, v, c, ap (λ l. l ++ map (written (n - e.units s)) seeds ∷ []) h.1, (record { count = 0; lands = refl }, refl))
+      (s, seeds, [], record { count = h.0.count; lands = h.0.lands; stops = subst IsStopped (sym v) tt; within = le }, v, c, ap (λ l. l ++ map (written (n - e.units s)) seeds ∷ []) h.1, (record { count = 0; lands = refl }, refl))
   went_join n (qs ∷ more) rs seeds s0 js s h v le c =
       (h.0, h.1, h.2 ++ map (written (n - e.units s)) seeds ∷ [], h.3, h.4, h.5, ap (λ l. l ++ map (written (n - e.units s)) seeds ∷ []) h.6, went_join n more rs seeds (e.join qs h.0) h.2 s h.7 v le c)
 

@@ -13,7 +13,7 @@ use Rattle.forec_kernel.specs.Texts.{params_in, handed_down, put_copy}
 use Rattle.forec_kernel.specs.Combining.{takes_part, variable_of}
 use Rattle.forec_kernel.specs.WellFormed.{branches_of, is_par}
 use Rattle.forec_kernel.specs.Solo.{unmarked_copies, some_reply_over, all_units}
-use Rattle.forec_kernel.specs.Engine.{Job, Start, Wake, Reply, WasPaused, WasEnded, WasTrapped, WasOver, Seed, Starts, Wakes, written, Engine, run_for, Rest, Asleep, Nothing, Exchange, Output, AtEvent, Goes, over, event, Either, Serves, Begins, Alone, allowance_of, first_jobs, ends_at}
+use Rattle.forec_kernel.specs.Engine.{Job, Start, Wake, Reply, WasPaused, WasEnded, WasTrapped, WasOver, Seed, Starts, Wakes, written, Engine, run_for, Rest, Asleep, Nothing, Exchange, Output, AtEvent, RunsOn, over, event, Either, Serves, Begins, Alone, allowance_of, first_jobs, ends_at}
 use Rattle.thread_code.specs.declared.instruction.Instruction.{Instruction}
 use Rattle.thread_code.specs.declared.instruction.Instruction.TheVariants as instruction
 use Rattle.thread_code.specs.Plain.{PlainBlock, PlainCode}
@@ -300,7 +300,7 @@ module _ (c : PlainCode) (t : ℕ) where
 
   goes_sized : (a : ℕ) (m : Machine) → Sized m → (fork : Machine → List Seed → Output → Rest Machine → Type 0) →
       ((m' : Machine) → Sized m' → (seeds : List Seed) → All_fit seeds → (o : Output) (r : Rest Machine) → fork m' seeds o r → Served o r) →
-      (o : Output) (r : Rest Machine) → Goes e a m fork o r → Served o r
+      (o : Output) (r : Rest Machine) → RunsOn e a m fork o r → Served o r
   goes_sized a m h fork f o r (over p eo er) = served_as o _ r _ eo er (tt, tt, tt)
   goes_sized a m h fork f o r (event m' reaches at) =
       let h' = subst Sized reaches.lands (run_sized reaches.count m h) in
