@@ -9,7 +9,7 @@ use Rattle.forec_kernel.specs.Shapes.{PlainKernel}
 use Rattle.forec_kernel.specs.Values.{Value, copy_of}
 use Rattle.forec_kernel.specs.Texts.{Status, Text, Threads, no_threads, child, is_active, uses_of}
 use Rattle.forec_kernel.specs.Combining.{contains, shares, taking_part, some_marked, Joint, variable_calls, variable_of, combine_of, joined_copy, joined_copies, calls_of, calls_from, calls_at, in_order}
-use Rattle.thread_code.specs.Machine.{Share, Total, total_of, settled, shares_of}
+use Rattle.thread_code.specs.Machine.{BranchCopy, Total, total_of, settled, shares_of}
 use Rattle.code_gen.proofs.Each.{Each, each_map}
 use Rattle.code_gen.proofs.Columns.{Ascends, not_above, kept, Sized, rest_calls, total_in, total_combined, with_share}
 
@@ -47,11 +47,11 @@ in_order_same g h vs (suc n) j e =
 
 -- ---- one branch
 
-abbrev pub variables_of : List Share → List ℕ
+abbrev pub variables_of : List BranchCopy → List ℕ
 variables_of [] = []
 variables_of (s ∷ ss) = s.variable ∷ variables_of ss
 
-abbrev pub share_in : List Share → ℕ → Option VarCopy
+abbrev pub share_in : List BranchCopy → ℕ → Option VarCopy
 share_in [] v = None
 share_in (s ∷ ss) v = cond (s.variable == v) (Some s.copy) (share_in ss v)
 
@@ -59,15 +59,15 @@ abbrev pub from_share : (ℕ → VarCopy → List Value) → ℕ → Option VarC
 from_share g v None = []
 from_share g v (Some d) = g v d
 
-abbrev pub list_calls : (ℕ → VarCopy → List Value) → List Share → List Value
+abbrev pub list_calls : (ℕ → VarCopy → List Value) → List BranchCopy → List Value
 list_calls g [] = []
 list_calls g (s ∷ ss) = g s.variable s.copy ++ list_calls g ss
 
 -- where a variable isn't one of the thread's there is no call
-abbrev pub Silent : (ℕ → VarCopy → List Value) → List ℕ → List Share → Type 0
+abbrev pub Silent : (ℕ → VarCopy → List Value) → List ℕ → List BranchCopy → Type 0
 Silent g vs = Each (λ s. contains s.variable vs ≡ false → g s.variable s.copy ≡ [])
 
-no_calls : (g : ℕ → VarCopy → List Value) (ss : List Share) → Silent g [] ss → [] ≡ list_calls g ss
+no_calls : (g : ℕ → VarCopy → List Value) (ss : List BranchCopy) → Silent g [] ss → [] ≡ list_calls g ss
 no_calls g [] h = refl
 no_calls g (s ∷ ss) h = no_calls g ss h.1 ∙ ap (λ l. l ++ list_calls g ss) (sym (h.0 refl))
 
@@ -79,26 +79,26 @@ apart : (a b : ℕ) → (a < b) → ((a == b) ≡ false) × ((b == a) ≡ false)
 apart a b lt = (grind (arith, nat_tests), grind (arith, nat_tests))
 
 -- the shares after the first one, for greater variables
-skip_first : (g : ℕ → VarCopy → List Value) (s : Share) (ss : List Share) (vs : List ℕ) → Each (λ v. s.variable < v) vs → flat (λ v. from_share g v (share_in (s ∷ ss) v)) vs ≡ flat (λ v. from_share g v (share_in ss v)) vs
+skip_first : (g : ℕ → VarCopy → List Value) (s : BranchCopy) (ss : List BranchCopy) (vs : List ℕ) → Each (λ v. s.variable < v) vs → flat (λ v. from_share g v (share_in (s ∷ ss) v)) vs ≡ flat (λ v. from_share g v (share_in ss v)) vs
 skip_first g s ss vs h = flat_same (λ v. from_share g v (share_in (s ∷ ss) v)) (λ v. from_share g v (share_in ss v)) vs (each_map (λ v. s.variable < v) _ (λ v lt. ap (λ b. from_share g v (cond b (Some s.copy) (share_in ss v))) (apart s.variable v lt).0) vs h)
 
-absent : (v : ℕ) (ss : List Share) → Each (λ w. v < w) (variables_of ss) → share_in ss v ≡ None
+absent : (v : ℕ) (ss : List BranchCopy) → Each (λ w. v < w) (variables_of ss) → share_in ss v ≡ None
 absent v [] h = refl
 absent v (s ∷ ss) h = ap (λ b. cond b (Some s.copy) (share_in ss v)) (apart v s.variable h.0).1 ∙ absent v ss h.1
 
 -- no variable of these is v, so v may be left out
-silent_rest : (g : ℕ → VarCopy → List Value) (v : ℕ) (vs : List ℕ) (ss : List Share) → Each (λ w. v < w) (variables_of ss) → Silent g (v ∷ vs) ss → Silent g vs ss
+silent_rest : (g : ℕ → VarCopy → List Value) (v : ℕ) (vs : List ℕ) (ss : List BranchCopy) → Each (λ w. v < w) (variables_of ss) → Silent g (v ∷ vs) ss → Silent g vs ss
 silent_rest g v vs [] a h = tt
 silent_rest g v vs (s ∷ ss) a h = ((λ e. h.0 (ap (λ b. cond b true (contains s.variable vs)) (apart v s.variable a.0).0 ∙ e)), silent_rest g v vs ss a.1 h.1)
 
 above_too : (x : ℕ) (ys : List ℕ) → Each (λ y. x < y) ys → (z : ℕ) → z < x → Each (λ y. z < y) ys
 above_too x ys h z lt = each_map (λ y. x < y) (λ y. z < y) (λ y g. omega (arith, g, lt)) ys h
 
-pub cross : (g : ℕ → VarCopy → List Value) (vs : List ℕ) (ss : List Share) → Ascends vs → Ascends (variables_of ss) → Silent g vs ss → flat (λ v. from_share g v (share_in ss v)) vs ≡ list_calls g ss
+pub cross : (g : ℕ → VarCopy → List Value) (vs : List ℕ) (ss : List BranchCopy) → Ascends vs → Ascends (variables_of ss) → Silent g vs ss → flat (λ v. from_share g v (share_in ss v)) vs ≡ list_calls g ss
 cross g [] ss av asc h = no_calls g ss h
 cross g (v ∷ vs) ss av asc h = inner ss asc h (λ ss asc h. cross g vs ss av.1 asc h)
   where
-    inner : (ss : List Share) → Ascends (variables_of ss) → Silent g (v ∷ vs) ss → ((ss : List Share) → Ascends (variables_of ss) → Silent g vs ss → flat (λ v. from_share g v (share_in ss v)) vs ≡ list_calls g ss) →
+    inner : (ss : List BranchCopy) → Ascends (variables_of ss) → Silent g (v ∷ vs) ss → ((ss : List BranchCopy) → Ascends (variables_of ss) → Silent g vs ss → flat (λ v. from_share g v (share_in ss v)) vs ≡ list_calls g ss) →
         flat (λ v. from_share g v (share_in ss v)) (v ∷ vs) ≡ list_calls g ss
     inner [] asc h ih = nothing_shared g vs
     inner (s ∷ ss) asc h ih =
@@ -152,10 +152,10 @@ shares_share (x ∷ uses) (c ∷ copies) v = pick (x == v) (shares_share uses co
     pick true h = refl
     pick false h = h
 
-abbrev pub branch_shares : PlainKernel → ℕ → Status → List VarCopy → List Share
+abbrev pub branch_shares : PlainKernel → ℕ → Status → List VarCopy → List BranchCopy
 branch_shares k t st copies = cond (is_active st) (shares_of (uses_of k t) copies) []
 
-abbrev pub child_shares : PlainKernel → Threads → List Share
+abbrev pub child_shares : PlainKernel → Threads → List BranchCopy
 child_shares k no_threads = []
 child_shares k (child t R w c st rest) = branch_shares k t st c ++ child_shares k rest
 

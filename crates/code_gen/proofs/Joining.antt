@@ -14,7 +14,7 @@ use Rattle.forec_kernel.specs.Solo.{fork_of, with_fork, seeds_for, all_replied, 
 use Rattle.forec_kernel.proofs.Commute.{fork_quiet}
 use Rattle.thread_code.specs.declared.instruction.Instruction.{Instruction}
 use Rattle.thread_code.specs.Machine as machine
-use Rattle.thread_code.specs.Machine.{Point, Own, Awaited, Machine, On, Merges, Share, put_at, no_totals, is_ended, all_shares, live_after, back_to, replied}
+use Rattle.thread_code.specs.Machine.{Point, Own, Awaited, Machine, On, Merges, BranchCopy, put_at, no_totals, is_ended, all_shares, live_after, back_to, replied}
 use Rattle.code_gen.specs.Statements.{Around, InAbort}
 use Rattle.code_gen.specs.Blocks.{kernel_code}
 use Rattle.code_gen.proofs.Cells.{put_same, put_other}

@@ -8,7 +8,7 @@ use Rattle.forec_kernel.specs.Values.{Value, Gives, Stops, more_units, copy_of, 
 use Rattle.forec_kernel.specs.Texts.{Status, Text, Threads, no_threads, child, uses_of}
 use Rattle.forec_kernel.specs.Combining as combining
 use Rattle.forec_kernel.specs.Combining.{contains, shares, takes_part, taking_part, some_marked, Joint, variable_of, combine_of, joined_copies, calls_of, calls_from, calls_at, count_threads, in_order, Cost, Costs, Fails, more_cost, cost_of, join_cost}
-use Rattle.thread_code.specs.Machine.{Point, Share, Total, Folding, Own, Machine, On, Merges, Trapped, total_of, put_total, no_totals, folded, entered, step}
+use Rattle.thread_code.specs.Machine.{Point, BranchCopy, Total, Folding, Own, Machine, On, Merges, Trapped, total_of, put_total, no_totals, folded, entered, step}
 use Rattle.code_gen.specs.Blocks.{kernel_code}
 use Rattle.code_gen.proofs.Each.{Each, each_front, each_back}
 use Rattle.code_gen.proofs.Fits.{FitsCall, CallsRun}
@@ -27,15 +27,15 @@ module _ (k : PlainKernel) (t : ℕ) (run : CallsRun (kernel_code k) t (ok k) (c
   abbrev base : ℕ → ℤ
   base v = (copy_of (uses_of k t) o.copies v).value
 
-  abbrev at : List Share → List Total → ℕ → Machine
+  abbrev at : List BranchCopy → List Total → ℕ → Machine
   at left totals u = Merges (record { left = left; totals = totals; back = back }) o u
 
   -- the machine comes to these shares with totals of which something holds, or traps
-  abbrev pub Merged : Machine → ℕ → List Share → (List Total → Type 0) → Cost → Type 0
+  abbrev pub Merged : Machine → ℕ → List BranchCopy → (List Total → Type 0) → Cost → Type 0
   Merged m u more Facts (Costs a) = (totals : List Total) × Comes (kernel_code k) t m (at more totals (u + a)) × Facts totals
   Merged m u more Facts (Fails place trap a) = Comes (kernel_code k) t m (Trapped place trap (u + a))
 
-  merged_then : (m : Machine) (u : ℕ) (mid more : List Share) (Facts Facts' : List Total → Type 0) (x y : Cost) → Merged m u mid Facts x → ((a : ℕ) → x ≡ Costs a → (totals : List Total) → Facts totals → Merged (at mid totals (u + a)) (u + a) more Facts' y) → Merged m u more Facts' (cost_then x y)
+  merged_then : (m : Machine) (u : ℕ) (mid more : List BranchCopy) (Facts Facts' : List Total → Type 0) (x y : Cost) → Merged m u mid Facts x → ((a : ℕ) → x ≡ Costs a → (totals : List Total) → Facts totals → Merged (at mid totals (u + a)) (u + a) more Facts' y) → Merged m u more Facts' (cost_then x y)
   merged_then m u mid more Facts Facts' (Fails place trap a) y g h = g
   merged_then m u mid more Facts Facts' (Costs a) y g h = later y (h a refl g.0 g.2)
     where
@@ -53,12 +53,12 @@ module _ (k : PlainKernel) (t : ℕ) (run : CallsRun (kernel_code k) t (ok k) (c
   share_now v d totals = called (joins k v) (takes_part (policy k v) (base v) d) (total_of (uses_of k t) totals v).value d.value
 
   -- what one share does to the totals
-  pub record Shared (s : Share) (totals totals' : List Total) : Type 0 where
+  pub record Shared (s : BranchCopy) (totals totals' : List Total) : Type 0 where
     pub sized : Sized (uses_of k t) o.copies totals'
     pub others : (w : ℕ) → (s.variable ≡ w → ⊥) → total_of (uses_of k t) totals' w ≡ total_of (uses_of k t) totals w
     pub own : contains s.variable K ≡ true → total_of (uses_of k t) totals' s.variable ≡ record { value = total_after (joins k s.variable) (takes_part (policy k s.variable) (base s.variable) s.copy) (total_of (uses_of k t) totals s.variable).value s.copy.value; marked = (total_of (uses_of k t) totals s.variable).marked || s.copy.modified }
 
-  module _ (s : Share) (rest : List Share) (totals : List Total) (sized : Sized (uses_of k t) o.copies totals) where
+  module _ (s : BranchCopy) (rest : List BranchCopy) (totals : List Total) (sized : Sized (uses_of k t) o.copies totals) where
     abbrev v : ℕ
     v = s.variable
 
@@ -164,7 +164,7 @@ module _ (k : PlainKernel) (t : ℕ) (run : CallsRun (kernel_code k) t (ok k) (c
   share_done v (Some d) x = record { value = total_after (joins k v) (takes_part (policy k v) (base v) d) x.value d.value; marked = x.marked || d.modified }
 
   -- what a branch's shares do to the totals
-  pub record Branched (left : List Share) (totals totals' : List Total) : Type 0 where
+  pub record Branched (left : List BranchCopy) (totals totals' : List Total) : Type 0 where
     pub sized : Sized (uses_of k t) o.copies totals'
     pub others : (w : ℕ) → contains w (variables_of left) ≡ false → total_of (uses_of k t) totals' w ≡ total_of (uses_of k t) totals w
     pub each : (w : ℕ) → contains w K ≡ true → total_of (uses_of k t) totals' w ≡ share_done w (share_in left w) (total_of (uses_of k t) totals w)
@@ -172,14 +172,14 @@ module _ (k : PlainKernel) (t : ℕ) (run : CallsRun (kernel_code k) t (ok k) (c
   differ : (a b : ℕ) → (a == b) ≡ false → a ≡ b → ⊥
   differ a b h e = let t : (a == b) ≡ true = grind (arith, nat_tests, e) in let f : true ≡ false = sym t ∙ h in cc
 
-  later_same : (totals totals' : List Total) (x : ℕ) (left : List Share) → Each (λ w. x < w) (variables_of left) → ((w : ℕ) → (x ≡ w → ⊥) → total_of (uses_of k t) totals' w ≡ total_of (uses_of k t) totals w) → list_calls (now totals') left ≡ list_calls (now totals) left
+  later_same : (totals totals' : List Total) (x : ℕ) (left : List BranchCopy) → Each (λ w. x < w) (variables_of left) → ((w : ℕ) → (x ≡ w → ⊥) → total_of (uses_of k t) totals' w ≡ total_of (uses_of k t) totals w) → list_calls (now totals') left ≡ list_calls (now totals) left
   later_same totals totals' x [] a h = refl
   later_same totals totals' x (s ∷ left) a h =
       let lt : x < s.variable = a.0 in
       ap (λ (y : Total). called (joins k s.variable) (takes_part (policy k s.variable) (base s.variable) s.copy) y.value s.copy.value ++ list_calls (now totals') left) (h s.variable (λ e. omega (arith, e, lt)))
       ∙ ap (λ l. share_now s.variable s.copy totals ++ l) (later_same totals totals' x left a.1 h)
 
-  first_then_rest : (s : Share) (left : List Share) (totals totals1 totals' : List Total) → Each (λ w. s.variable < w) (variables_of left) → Shared s totals totals1 → Branched left totals1 totals' → Branched (s ∷ left) totals totals'
+  first_then_rest : (s : BranchCopy) (left : List BranchCopy) (totals totals1 totals' : List Total) → Each (λ w. s.variable < w) (variables_of left) → Shared s totals totals1 → Branched left totals1 totals' → Branched (s ∷ left) totals totals'
   first_then_rest s left totals totals1 totals' above h g = record { sized = g.sized; others = others; each = each }
     where
       others : (w : ℕ) → cond (s.variable == w) true (contains w (variables_of left)) ≡ false → total_of (uses_of k t) totals' w ≡ total_of (uses_of k t) totals w
@@ -203,7 +203,7 @@ module _ (k : PlainKernel) (t : ℕ) (run : CallsRun (kernel_code k) t (ok k) (c
               not_in x (y ∷ ys) h = let e : (y == x) ≡ false = grind (arith, nat_tests, h.0) in rw e (not_in x ys h.1)
           by_test false is = g.each w m ∙ ap (share_done w (share_in left w)) (h.others w (differ s.variable w is))
 
-  branch_runs : (left more : List Share) (totals : List Total) (u : ℕ) → Ascends (variables_of left) → Sized (uses_of k t) o.copies totals → Merged (at (left ++ more) totals u) u more (Branched left totals) (cost_of (list_calls (now totals) left))
+  branch_runs : (left more : List BranchCopy) (totals : List Total) (u : ℕ) → Ascends (variables_of left) → Sized (uses_of k t) o.copies totals → Merged (at (left ++ more) totals u) u more (Branched left totals) (cost_of (list_calls (now totals) left))
   branch_runs [] more totals u a h = let z : u ≡ u + 0 = omega arith in (totals, comes_at (kernel_code k) t (ap (at more totals) z) (stays (kernel_code k) t _), record { sized = h; others = λ w e. refl; each = λ w m. refl })
   branch_runs (s ∷ left) more totals u a h =
       subst (Merged (at (s ∷ (left ++ more)) totals u) u more (Branched (s ∷ left) totals)) (sym (cost_append (share_now s.variable s.copy totals) (list_calls (now totals) left)))
@@ -257,7 +257,7 @@ module _ (k : PlainKernel) (t : ℕ) (run : CallsRun (kernel_code k) t (ok k) (c
       pick true = refl
       pick false = refl
 
-  silent : (totals : List Total) → Sized (uses_of k t) o.copies totals → (left : List Share) → Silent (now totals) K left
+  silent : (totals : List Total) → Sized (uses_of k t) o.copies totals → (left : List BranchCopy) → Silent (now totals) K left
   silent totals h [] = tt
   silent totals h (s ∷ left) = (
     (λ e. no_call (joins k s.variable) (takes_part (policy k s.variable) (base s.variable) s.copy) (total_of (uses_of k t) totals s.variable).value s.copy.value (ap (λ (y : Total). y.value) (total_outside (uses_of k t) o.copies totals s.variable h e))),
@@ -282,7 +282,7 @@ module _ (k : PlainKernel) (t : ℕ) (run : CallsRun (kernel_code k) t (ok k) (c
       ∙ cross (now totals) K left (kept_ascends (uses_of k t) o.copies (asc t)) (branch_ascends k n st c (asc n)) (silent totals h left)
 
   module _ (n : ℕ) (R : Text) (w : List ℤ) (c : List VarCopy) (st : Status) (rest : Threads) (j : ℕ) (totals totals1 : List Total) (sized : Sized (uses_of k t) o.copies totals) (done : Branched (branch_shares k n st c) totals totals1) (a : ℕ) (costs : cost_of (list_calls (now totals) (branch_shares k n st c)) ≡ Costs a) where
-    abbrev left : List Share
+    abbrev left : List BranchCopy
     left = branch_shares k n st c
 
     given : Each (λ v. Each Given (from_share (now totals) v (share_in left v))) K

@@ -19,7 +19,7 @@ use Rattle.thread_code.specs.declared.instruction.Instruction.{Instruction}
 use Rattle.thread_code.specs.declared.instruction.Instruction.TheVariants as instruction
 use Rattle.thread_code.specs.Plain.{PlainBlock, PlainCode}
 use Rattle.thread_code.specs.Valid.{Leads, IsFine, IsParOf, IsValidCode, costs, of_shape, branches_in, arguments_of, function_arguments}
-use Rattle.thread_code.specs.Machine.{Point, Share, Merge, Frame, Caller, Folding, Own, Awaited, Machine, On, Waits, Merges, Fails, Paused, Ended, Trapped, Exceeded, Stuck, onward, with_top, with_arguments, unless_none, turn_taken, put_at, entered, uses_of, total_of, folded, offered, merge_step, returned, living, starts, wakes, awaited, waking, act, step, is_ended, live_after, back_to, replied, join}
+use Rattle.thread_code.specs.Machine.{Point, BranchCopy, Merge, Frame, Caller, Folding, Own, Awaited, Machine, On, Waits, Merges, Fails, Paused, Ended, Trapped, Exceeded, Stuck, onward, with_top, with_arguments, unless_none, turn_taken, put_at, entered, uses_of, total_of, folded, offered, merge_step, returned, living, starts, wakes, awaited, waking, act, step, is_ended, live_after, back_to, replied, join}
 use Rattle.thread_code.specs.Alone.{block_of, view_of}
 use Rattle.thread_code.proofs.Unstuck.{IsHere, Good, owner, fetched, fine_at}
 use Rattle.core_machine.specs.Held.{branch_of}
@@ -325,12 +325,12 @@ module _ (c : PlainCode) (valid : IsValidCode c) (t : ℕ) where
 
     -- ---- combining
 
-    fold_fine : (s : Share) (m : Merge) (o : Own) (u : ℕ) (combine : Option ℕ) (total : Option ℤ) → F (Merges m o u) → F (folded c t s m o u combine total)
+    fold_fine : (s : BranchCopy) (m : Merge) (o : Own) (u : ℕ) (combine : Option ℕ) (total : Option ℤ) → F (Merges m o u) → F (folded c t s m o u combine total)
     fold_fine s m o u combine None h = h
     fold_fine s m o u None (Some x) h = h
     fold_fine s m o u (Some f) (Some x) h = enter_fine (slice_get c.functions f) _ (Folding s.variable m) [] o u (λ p. (h.0, few_grows n u (u + 1) m.back.at h.1 (omega arith))) h.2
 
-    offer_fine : (s : Share) (m : Merge) (o : Own) (u : ℕ) → F (Merges m o u) → F (offered c t s m o u)
+    offer_fine : (s : BranchCopy) (m : Merge) (o : Own) (u : ℕ) → F (Merges m o u) → F (offered c t s m o u)
     offer_fine s m o u h =
         let v = variable_of (of_shape c.shape) s.variable in
         by_test (takes_part v.policy (copy_of (uses_of c t) o.copies s.variable).value s.copy) v.combine (total_of (uses_of c t) m.totals s.variable).value
@@ -339,7 +339,7 @@ module _ (c : PlainCode) (valid : IsValidCode c) (t : ℕ) where
         by_test true combine total = fold_fine s m o u combine total h
         by_test false combine total = h
 
-    merge_fine : (left : List Share) (m : Merge) (o : Own) (u : ℕ) → F (Merges m o u) → F (merge_step c t left m o u)
+    merge_fine : (left : List BranchCopy) (m : Merge) (o : Own) (u : ℕ) → F (Merges m o u) → F (merge_step c t left m o u)
     merge_fine [] m o u h = ((h.0, h.1), h.2)
     merge_fine (s ∷ rest) m o u h = offer_fine s _ o u h
 

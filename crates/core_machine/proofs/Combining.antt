@@ -6,7 +6,7 @@ use Rattle.forec_kernel.specs.Engine.{run_for}
 use Rattle.forec_kernel.specs.Combining.{contains}
 use Rattle.forec_kernel.specs.WellFormed.{all_in}
 use Rattle.thread_code.specs.Plain.{PlainCode}
-use Rattle.thread_code.specs.Machine.{Share, shares_of, step, uses_of}
+use Rattle.thread_code.specs.Machine.{BranchCopy, shares_of, step, uses_of}
 use Rattle.thread_state.specs.Kept.{no_copy}
 use Rattle.core_machine.specs.declared.branches.Verdict.{Verdict}
 use Rattle.core_machine.specs.declared.branches.Verdict.TheVariants as verdict
@@ -54,7 +54,7 @@ length_shares [] copies = refl
 length_shares (v ∷ vs) [] = ap suc (length_shares vs [])
 length_shares (v ∷ vs) (x ∷ copies) = ap suc (length_shares vs copies)
 
-abbrev pub blank_share : Share
+abbrev pub blank_share : BranchCopy
 blank_share = record { variable = 0; copy = no_copy }
 
 pub share_at : (vs : List ℕ) (copies : List VarCopy) (i : ℕ) → length copies ≡ length vs → i < length vs → get_or (shares_of vs copies) i blank_share ≡ record { variable = get_or vs i 0; copy = get_or copies i no_copy }
@@ -74,7 +74,7 @@ combined_none c h l p e = record {
   runs = λ rest. subst (Comes_by c h (merging_with c h rest) rest) (sym e) (0, refl);
 }
 
-module _ (c : PlainCode) (a b d : Thread) (s t : List Share) (x : Combined c a b s) where
+module _ (c : PlainCode) (a b d : Thread) (s t : List BranchCopy) (x : Combined c a b s) where
   pub on_then : Joining_on c b d → Joining_on c a d
   on_then y = record {
     loaded = y.loaded;
@@ -85,7 +85,7 @@ module _ (c : PlainCode) (a b d : Thread) (s t : List Share) (x : Combined c a b
     joined = y.joined ∙ x.on.joined;
   }
 
-  runs_then : b.branches.verdict ≡ verdict.Combine → d.number ≡ b.number → (rest : List Share) (v : Verdict) → Comes_by c d (merging_with c b (t ++ rest)) rest v → Comes_by c d (merging_with c a ((s ++ t) ++ rest)) rest v
+  runs_then : b.branches.verdict ≡ verdict.Combine → d.number ≡ b.number → (rest : List BranchCopy) (v : Verdict) → Comes_by c d (merging_with c b (t ++ rest)) rest v → Comes_by c d (merging_with c a ((s ++ t) ++ rest)) rest v
   runs_then go n rest v more =
       let k = subst (Comes_by c b (merging_with c a (s ++ (t ++ rest))) (t ++ rest)) go (x.runs (t ++ rest)) in
       let e : run_for (step c d.number) k.0 (merging_with c a ((s ++ t) ++ rest)) ≡ merging_with c b (t ++ rest) =
@@ -102,10 +102,10 @@ module _ (c : PlainCode) (a b d : Thread) (s t : List Share) (x : Combined c a b
   combined_then go y = record { on = on_then y.on; runs = λ rest. runs_then go y.on.number rest d.branches.verdict (y.runs rest) }
 
 -- nothing more is combined
-pub combined_stop : (c : PlainCode) (a b : Thread) (s t : List Share) → Combined c a b s → b.branches.verdict ≢ verdict.Combine → Combined c a b (s ++ t)
+pub combined_stop : (c : PlainCode) (a b : Thread) (s t : List BranchCopy) → Combined c a b s → b.branches.verdict ≢ verdict.Combine → Combined c a b (s ++ t)
 combined_stop c a b s t x no_more = record { on = x.on; runs = λ rest. by b.branches.verdict refl rest (x.runs (t ++ rest)) }
   where
-    by : (v : Verdict) → b.branches.verdict ≡ v → (rest : List Share) → Comes_by c b (merging_with c a (s ++ (t ++ rest))) (t ++ rest) b.branches.verdict → Comes_by c b (merging_with c a ((s ++ t) ++ rest)) rest b.branches.verdict
+    by : (v : Verdict) → b.branches.verdict ≡ v → (rest : List BranchCopy) → Comes_by c b (merging_with c a (s ++ (t ++ rest))) (t ++ rest) b.branches.verdict → Comes_by c b (merging_with c a ((s ++ t) ++ rest)) rest b.branches.verdict
     by verdict.Combine e rest k = absurd (no_more e)
     by (verdict.Trap place trap) e rest k =
         let k' = subst (Comes_by c b (merging_with c a (s ++ (t ++ rest))) (t ++ rest)) e k in

@@ -10,7 +10,7 @@ use Rattle.forec_kernel.specs.Packets.{PlainPacket}
 use Rattle.forec_kernel.specs.Packed.{IsReply}
 use Rattle.forec_kernel.specs.Reached.{Reached, Inside, joined, stepped}
 use Rattle.thread_code.specs.Plain.{PlainCode}
-use Rattle.thread_code.specs.Machine.{Share, Machine, Trapped, all_shares, shares_of, copies_in, join, uses_of, step}
+use Rattle.thread_code.specs.Machine.{BranchCopy, Machine, Trapped, all_shares, shares_of, copies_in, join, uses_of, step}
 use Rattle.thread_code.specs.Alone.{code_engine}
 use Rattle.core_machine.specs.Branches.{one_joined, trap_of, verdict_of, Says}
 use Rattle.core_machine.specs.declared.branches.Verdict.{Verdict}
@@ -157,7 +157,7 @@ module _ (c : PlainCode) (h1 h2 : Thread) (k : ℕ) (rs : List Reply) (r : Reply
   Went_on : Machine → Type 0
   Went_on m = (q : ℕ) × Stands_mid c h2 rs (k + 1) h2.branches.verdict (run_for (step c h2.number) q m)
 
-  rest : List Share
+  rest : List BranchCopy
   rest = all_shares c (drop (k + 1) h1.branches.numbers) (drop (k + 1) rs)
 
   combines_on : (m : Machine) → verdict_of rs ≡ verdict.Combine → m ≡ merging_with c h1 (all_shares c (drop h1.branches.joined h1.branches.numbers) (drop h1.branches.joined rs)) → Combined c h1 h2 (shares_of (uses_of c (branch_at h1 k)) p.copies) → Went_on m
@@ -310,7 +310,7 @@ joined_stands c h h1 h2 h3 l k at prepared p on stays s xs rs r n e is stands =
     (end_stands c h2 h3 o2.loaded o2.phase s come.before come.job come.forks rs (n1 ∙ sym (ap length o2.numbers)) (o2.allowance ∙ o1.0.allowance ∙ come.allowance) (run_for (step c h2.number) went.0 come.machine)
     (steps_on c h2.number come.before come.job (come.forks ++ rs ∷ []) went.0 come.machine reached) mid)
 
-pub joined_loaded : (c : PlainCode) (h h1 h2 h3 : Thread) (l : Loaded c h) (k : ℕ) (at : HasJoined h k) (prepared : Prepared c h h1 k) (shares : List Share)
+pub joined_loaded : (c : PlainCode) (h h1 h2 h3 : Thread) (l : Loaded c h) (k : ℕ) (at : HasJoined h k) (prepared : Prepared c h h1 k) (shares : List BranchCopy)
     (on : h1.branches.verdict ≡ verdict.Combine → Combined c h1 h2 shares) (stays : h1.branches.verdict ≢ verdict.Combine → h2 ≡ h1) (s : Steps_on c h2 h3) → Loaded c h3
 joined_loaded c h h1 h2 h3 l k at prepared shares on stays s =
     let o1 = prepared_on c h l k at h1 prepared in

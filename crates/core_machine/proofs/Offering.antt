@@ -8,7 +8,7 @@ use Rattle.forec_kernel.specs.Values.{copy_of}
 use Rattle.forec_kernel.specs.Combining.{contains, takes_part, variable_of}
 use Rattle.thread_code.specs.Plain.{PlainCode}
 use Rattle.thread_code.specs.Valid.{of_shape}
-use Rattle.thread_code.specs.Machine.{Point, Frame, Folding as Folds_to, Share, Total, Merge, Merges, no_total, total_of, put_total, totalled, noted, folded as folded_in, offered as offered_in, entered, returned, step, uses_of}
+use Rattle.thread_code.specs.Machine.{Point, Frame, Folding as Folds_to, BranchCopy, Total, Merge, Merges, no_total, total_of, put_total, totalled, noted, folded as folded_in, offered as offered_in, entered, returned, step, uses_of}
 use Rattle.thread_code.specs.Alone.{block_of}
 use Rattle.combine_tree.specs.declared.joining.Fold.{Fold}
 use Rattle.combine_tree.specs.Joins.{begun, fold_at, pair_of, with_value, with_mark, offered, folded}
@@ -185,13 +185,13 @@ module _ (c : PlainCode) (h : Thread) (l : Loaded c h) (joining : h.phase ≡ ph
 
   -- ---- the machine
 
-  abbrev share : Share
+  abbrev share : BranchCopy
   share = record { variable = v; copy = copy }
 
   abbrev back : Point
   back = point_of (block_of c h.number) h.at h.stack
 
-  abbrev merge : List Share → List Total → Merge
+  abbrev merge : List BranchCopy → List Total → Merge
   merge rest ts = record { left = rest; totals = ts; back = back }
 
   abbrev M : Fold
@@ -210,19 +210,19 @@ module _ (c : PlainCode) (h : Thread) (l : Loaded c h) (joining : h.phase ≡ ph
   long f = length-set h.joining p f ∙ l.folds
 
   -- the mark is noted
-  marked : (rest : List Share) → noted uses share (merge rest (totals_in c h.branches.numbers uses h.joining)) ≡ merge rest (totals M)
+  marked : (rest : List BranchCopy) → noted uses share (merge rest (totals_in c h.branches.numbers uses h.joining)) ≡ merge rest (totals M)
   marked rest =
       let note : Total → Merge = λ (q : Total). merge rest (put_total uses (totals_in c h.branches.numbers uses h.joining) v (record q { marked = q.marked || copy.modified })) in
       ap note (total_here h.joining l.folds) ∙ ap (merge rest) (put_here h.joining M l.folds)
 
-  one_step : (rest : List Share) → step c h.number (merging_with c h (share ∷ rest)) ≡ offered_in c h.number share (merge rest (totals M)) (own_of h.own) h.units
+  one_step : (rest : List BranchCopy) → step c h.number (merging_with c h (share ∷ rest)) ≡ offered_in c h.number share (merge rest (totals M)) (own_of h.own) h.units
   one_step rest = ap (λ m. offered_in c h.number share m (own_of h.own) h.units) (marked rest)
 
   -- what a value that takes part does to the totals
   total_marked : total_of uses (totals M) v ≡ total_in M
   total_marked = total_here (slice_set h.joining p M) (long M) ∙ ap total_in (get_or-set_same h.joining p M _ within)
 
-  totalled_is : (rest : List Share) (n : ℤ) (f : Fold) → total_in f ≡ record { value = Some n; marked = M.marked } → totalled uses v n (merge rest (totals M)) ≡ merge rest (totals f)
+  totalled_is : (rest : List BranchCopy) (n : ℤ) (f : Fold) → total_in f ≡ record { value = Some n; marked = M.marked } → totalled uses v n (merge rest (totals M)) ≡ merge rest (totals f)
   totalled_is rest n f e =
       let put : Total → Merge = λ q. merge rest (put_total uses (totals M) v q) in
       ap (λ (q : Total). put (record q { value = Some n })) total_marked ∙ ap put (sym e) ∙ ap (merge rest) (put_here (slice_set h.joining p M) f (long M) ∙ ap (totals_in c h.branches.numbers uses) (set_twice h.joining p M f))
@@ -230,7 +230,7 @@ module _ (c : PlainCode) (h : Thread) (l : Loaded c h) (joining : h.phase ≡ ph
   same_totals : (f g : Fold) → total_in f ≡ total_in g → totals f ≡ totals g
   same_totals f g e = sym (put_here h.joining f l.folds) ∙ ap (put_total uses (totals_in c h.branches.numbers uses h.joining) v) e ∙ put_here h.joining g l.folds
 
-  by_part : (rest : List Share) (t : Bool) → takes_part x.policy F.base.value copy ≡ t →
+  by_part : (rest : List BranchCopy) (t : Bool) → takes_part x.policy F.base.value copy ≡ t →
       offered_in c h.number share (merge rest (totals M)) (own_of h.own) h.units ≡ cond t (folded_in c h.number share (merge rest (totals M)) (own_of h.own) h.units x.combine F.total) (Merges (merge rest (totals M)) (own_of h.own) h.units)
   by_part rest t e = by (takes_part x.policy (copy_of uses h.own.copies v).value copy) (ap (λ b. takes_part x.policy b copy) (sym base_is) ∙ e)
     where
@@ -240,7 +240,7 @@ module _ (c : PlainCode) (h : Thread) (l : Loaded c h) (joining : h.phase ≡ ph
       by true k = ap (λ o. folded_in c h.number share (merge rest (totals M)) (own_of h.own) h.units x.combine o) (ap (λ (q : Total). q.value) total_marked) ∙ ap (λ t. cond t (folded_in c h.number share (merge rest (totals M)) (own_of h.own) h.units x.combine F.total) (Merges (merge rest (totals M)) (own_of h.own) h.units)) k
       by false k = ap (λ t. cond t (folded_in c h.number share (merge rest (totals M)) (own_of h.own) h.units x.combine F.total) (Merges (merge rest (totals M)) (own_of h.own) h.units)) k
 
-  comes_one : (f : Fold) → f.base ≡ F.base → f.waits ≡ false → ((rest : List Share) → step c h.number (merging_with c h (share ∷ rest)) ≡ Merges (merge rest (totals f)) (own_of h.own) h.units) → Combined c h (after h.units f) (share ∷ [])
+  comes_one : (f : Fold) → f.base ≡ F.base → f.waits ≡ false → ((rest : List BranchCopy) → step c h.number (merging_with c h (share ∷ rest)) ≡ Merges (merge rest (totals f)) (own_of h.own) h.units) → Combined c h (after h.units f) (share ∷ [])
   comes_one f b q s = record {
     on = on_after h.units f state.within b q;
     runs = λ rest. subst (Comes_by c (after h.units f) (merging_with c h (share ∷ rest)) rest) (sym going) (1, s rest);
@@ -256,7 +256,7 @@ module _ (c : PlainCode) (h : Thread) (l : Loaded c h) (joining : h.phase ≡ ph
       let f : Fold = record M { total = Some copy.value } in
       comes_one f refl free (λ rest. one_step rest ∙ by_part rest true e ∙ ap (folded_in c h.number share (merge rest (totals M)) (own_of h.own) h.units x.combine) k ∙ first_in x.combine rest f)
     where
-      first_in : (combine : Option ℕ) (rest : List Share) (f : Fold) → folded_in c h.number share (merge rest (totals M)) (own_of h.own) h.units combine None ≡ Merges (merge rest (totals (record M { total = Some copy.value }))) (own_of h.own) h.units
+      first_in : (combine : Option ℕ) (rest : List BranchCopy) (f : Fold) → folded_in c h.number share (merge rest (totals M)) (own_of h.own) h.units combine None ≡ Merges (merge rest (totals (record M { total = Some copy.value }))) (own_of h.own) h.units
       first_in None rest f = ap (λ m. Merges m (own_of h.own) h.units) (totalled_is rest copy.value (record M { total = Some copy.value }) refl)
       first_in (Some g) rest f = ap (λ m. Merges m (own_of h.own) h.units) (totalled_is rest copy.value (record M { total = Some copy.value }) refl)
 
@@ -288,14 +288,14 @@ module _ (c : PlainCode) (h : Thread) (l : Loaded c h) (joining : h.phase ≡ ph
     pub offered_waits : offered x.policy copy F ≡ W
     offered_waits = ap (λ t. cond t (with_value copy.value M F.total) M) paired.part ∙ ap (with_value copy.value M) paired.total
 
-    to_fold : (rest : List Share) → step c h.number (merging_with c h (share ∷ rest)) ≡ folded_in c h.number share (merge rest (totals M)) (own_of h.own) h.units x.combine (Some n)
+    to_fold : (rest : List BranchCopy) → step c h.number (merging_with c h (share ∷ rest)) ≡ folded_in c h.number share (merge rest (totals M)) (own_of h.own) h.units x.combine (Some n)
     to_fold rest = one_step rest ∙ by_part rest true paired.part ∙ ap (folded_in c h.number share (merge rest (totals M)) (own_of h.own) h.units x.combine) paired.total
 
     -- the state in which the combine function is called
     abbrev called : Thread
     called = after h.units W
 
-    calls : (f : ℕ) → x.combine ≡ Some f → (rest : List Share) → step c h.number (merging_with c h (share ∷ rest)) ≡ calling c called f n right (Folds_to v (merge rest (totals M)))
+    calls : (f : ℕ) → x.combine ≡ Some f → (rest : List BranchCopy) → step c h.number (merging_with c h (share ∷ rest)) ≡ calling c called f n right (Folds_to v (merge rest (totals M)))
     calls f e rest =
         to_fold rest ∙ ap (λ o. folded_in c h.number share (merge rest (totals M)) (own_of h.own) h.units o (Some n)) e
         ∙ ap (λ r. entered (slice_get c.functions f) (n ∷ r ∷ []) (Folds_to v (merge rest (totals M)) ∷ []) (own_of h.own) h.units) (sym paired.value)
@@ -325,7 +325,7 @@ module _ (c : PlainCode) (h : Thread) (l : Loaded c h) (joining : h.phase ≡ ph
     }
 
     -- or it fails
-    fails_one : (h' : Thread) → h'.number ≡ h.number → (f : ℕ) → x.combine ≡ Some f → (rest : List Share) (w : Verdict) → Fails_by c h' (calling c called f n right (Folds_to v (merge rest (totals M)))) w → Comes_by c h' (merging_with c h (share ∷ rest)) rest w
+    fails_one : (h' : Thread) → h'.number ≡ h.number → (f : ℕ) → x.combine ≡ Some f → (rest : List BranchCopy) (w : Verdict) → Fails_by c h' (calling c called f n right (Folds_to v (merge rest (totals M)))) w → Comes_by c h' (merging_with c h (share ∷ rest)) rest w
     fails_one h' t f e rest verdict.Combine k = absurd k
     fails_one h' t f e rest (verdict.Trap place trap) k =
         let s = subst (λ t. step c t (merging_with c h (share ∷ rest)) ≡ calling c called f n right (Folds_to v (merge rest (totals M)))) (sym t) (calls f e rest) in

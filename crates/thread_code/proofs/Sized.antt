@@ -18,7 +18,7 @@ use Rattle.thread_code.specs.declared.instruction.Instruction.{Instruction}
 use Rattle.thread_code.specs.declared.instruction.Instruction.TheVariants as instruction
 use Rattle.thread_code.specs.Plain.{PlainBlock, PlainCode}
 use Rattle.thread_code.specs.Valid.{of_shape, branches_in, arguments_of, function_arguments}
-use Rattle.thread_code.specs.Machine.{Point, Share, Total, Merge, Frame, Caller, Folding, Own, Awaited, Machine, On, Waits, Merges, Fails, Paused, Ended, Trapped, Exceeded, Stuck, onward, with_top, with_arguments, unless_none, turn_taken, put_at, entered, uses_of, settled, folded, merge_step, returned, living, handed, starts, wakes, awaited, waking, act, step, replied, join}
+use Rattle.thread_code.specs.Machine.{Point, BranchCopy, Total, Merge, Frame, Caller, Folding, Own, Awaited, Machine, On, Waits, Merges, Fails, Paused, Ended, Trapped, Exceeded, Stuck, onward, with_top, with_arguments, unless_none, turn_taken, put_at, entered, uses_of, settled, folded, merge_step, returned, living, handed, starts, wakes, awaited, waking, act, step, replied, join}
 use Rattle.thread_code.specs.Alone.{woken, view_of, code_engine}
 use Rattle.thread_code.specs.Laws.{FitsThread, FitsReply, FitBranches, FitForks, JobsFit, OutputsFit, JobsAndRepliesFit}
 
@@ -132,18 +132,18 @@ module _ (c : PlainCode) (t : ℕ) where
   enter_sized None args fs o u h = tt
   enter_sized (Some b) args fs o u h = h
 
-  fold_sized : (s : Share) (m : Merge) (o : Own) (u : ℕ) (combine : Option ℕ) (total : Option ℤ) → length o.copies ≡ length (uses_of c t) →
+  fold_sized : (s : BranchCopy) (m : Merge) (o : Own) (u : ℕ) (combine : Option ℕ) (total : Option ℤ) → length o.copies ≡ length (uses_of c t) →
       Sized (folded c t s m o u combine total)
   fold_sized s m o u combine None h = h
   fold_sized s m o u None (Some n) h = h
   fold_sized s m o u (Some f) (Some n) h = enter_sized (slice_get c.functions f) _ _ o u h
 
-  test_sized : (b : Bool) (s : Share) (m : Merge) (o : Own) (u : ℕ) (combine : Option ℕ) (total : Option ℤ) → length o.copies ≡ length (uses_of c t) →
+  test_sized : (b : Bool) (s : BranchCopy) (m : Merge) (o : Own) (u : ℕ) (combine : Option ℕ) (total : Option ℤ) → length o.copies ≡ length (uses_of c t) →
       Sized (elim b [ true ↦ folded c t s m o u combine total | false ↦ Merges m o u ])
   test_sized true s m o u combine total h = fold_sized s m o u combine total h
   test_sized false s m o u combine total h = h
 
-  merge_sized : (left : List Share) (m : Merge) (o : Own) (u : ℕ) → length o.copies ≡ length (uses_of c t) → Sized (merge_step c t left m o u)
+  merge_sized : (left : List BranchCopy) (m : Merge) (o : Own) (u : ℕ) → length o.copies ≡ length (uses_of c t) → Sized (merge_step c t left m o u)
   merge_sized [] m o u h = settled_length m.totals o.copies ∙ h
   merge_sized (s ∷ rest) m o u h =
       let v = variable_of (of_shape c.shape) s.variable in
