@@ -289,29 +289,29 @@ module _ (k : PlainKernel) (uses : List ℕ) where
 
   module _ (params : (b : ℕ) → params_of k b ≤ words_of k b) where
     -- where the arguments are ready, such a branch starts
-    abbrev Starts : ℕ → List VarCopy → List Branch → Arguments → Type 0
-    Starts m c bs (Ready lists u) = SomeLasts k m (started (record { kernel = k; uses = uses }) c bs lists)
-    Starts m c bs (Refused place trap u) = Unit {0}
+    abbrev SomeStarts : ℕ → List VarCopy → List Branch → Arguments → Type 0
+    SomeStarts m c bs (Ready lists u) = SomeLasts k m (started (record { kernel = k; uses = uses }) c bs lists)
+    SomeStarts m c bs (Refused place trap u) = Unit {0}
 
     starts_now : (m : ℕ) (c : List VarCopy) (b : Branch) (bs : List Branch) (vs : Values) (rest : Arguments) →
-        NeverEnds k (words_of k b.thread) (uses_of k b.thread) (body_of k b.thread) → Starts m c (b ∷ bs) (arguments_then vs rest)
+        NeverEnds k (words_of k b.thread) (uses_of k b.thread) (body_of k b.thread) → SomeStarts m c (b ∷ bs) (arguments_then vs rest)
     starts_now m c b bs (AllGive ns u) (Ready lists v) h =
         inl (h m _ _ (taken_length ns (params_of k b.thread) (words_of k b.thread) (params b.thread)))
     starts_now m c b bs (AllGive ns u) (Refused place trap v) h = tt
     starts_now m c b bs (OneStops place trap u) rest h = tt
 
-    starts_later : (m : ℕ) (c : List VarCopy) (b : Branch) (bs : List Branch) (vs : Values) (rest : Arguments) → Starts m c bs rest →
-        Starts m c (b ∷ bs) (arguments_then vs rest)
+    starts_later : (m : ℕ) (c : List VarCopy) (b : Branch) (bs : List Branch) (vs : Values) (rest : Arguments) → SomeStarts m c bs rest →
+        SomeStarts m c (b ∷ bs) (arguments_then vs rest)
     starts_later m c b bs (AllGive ns u) (Ready lists v) h = inr h
     starts_later m c b bs (AllGive ns u) (Refused place trap v) h = tt
     starts_later m c b bs (OneStops place trap u) rest h = tt
 
-    starts : (m : ℕ) (c : List VarCopy) (s : Setting) (e : Sight) (bs : List Branch) → SomeNever bs → Starts m c bs (arguments s e bs)
+    starts : (m : ℕ) (c : List VarCopy) (s : Setting) (e : Sight) (bs : List Branch) → SomeNever bs → SomeStarts m c bs (arguments s e bs)
     starts m c s e [] h = absurd h
     starts m c s e (b ∷ bs) (inl h) = starts_now m c b bs (vals s e b.args) (arguments s e bs) h
     starts m c s e (b ∷ bs) (inr h) = starts_later m c b bs (vals s e b.args) (arguments s e bs) (starts m c s e bs h)
 
-    forked_never : (m : ℕ) (w : List ℤ) (c : List VarCopy) (bs : List Branch) (args : Arguments) → Starts m c bs args →
+    forked_never : (m : ℕ) (w : List ℤ) (c : List VarCopy) (bs : List Branch) (args : Arguments) → SomeStarts m c bs args →
         NotEnded (KeepsOn k uses m) (forked (record { kernel = k; uses = uses }) w c bs args)
     forked_never m w c bs (Ready lists u) h = fork_never m (started (record { kernel = k; uses = uses }) c bs lists) w c h
     forked_never m w c bs (Refused place trap u) h = tt

@@ -45,12 +45,12 @@ module _ (k : PlainKernel) where
 
   -- ---- a step
 
-  pub record Goes (u m : ℕ) (R : Text) (w : List ℤ) (mv : Move) : Type 0 where
+  pub record MovesWithin (u m : ℕ) (R : Text) (w : List ℤ) (mv : Move) : Type 0 where
     pub left : ℕ
     pub fits : u + left ≤ thread_bound k 0
     pub move : AfterMove (Stands m) (Sleeps m R w) left mv
 
-  moved_within : (t u : ℕ) (R : Text) (w : List ℤ) (c : List VarCopy) → t ≡ 0 → (mv : Move) → ((m : ℕ) → Goes u m R w mv) →
+  moved_within : (t u : ℕ) (R : Text) (w : List ℤ) (c : List VarCopy) → t ≡ 0 → (mv : Move) → ((m : ℕ) → MovesWithin u m R w mv) →
       GoingWithin (moved (record { thread = record { number = t; text = R; words = w; copies = c; status = Running }; units = u }) mv)
   moved_within t u R w c e Finished h = let fits = (h 0).fits in record { number = e; stands = omega arith }
   moved_within t u R w c e Halts h =
