@@ -78,7 +78,7 @@ all_told k table n right many told g = pick (nat_lt g n) refl
 -- ---- threads
 
 -- a thread's body as it was read, with the bound that was found for it
-pub record Found (k parts : KernelParts) (functions : List (Option ℕ)) (table slice uses : List ℕ) (bodies : List Statement) (t b : ℕ) (x : Statement) : Type 0 where
+pub record BoundFound (k parts : KernelParts) (functions : List (Option ℕ)) (table slice uses : List ℕ) (bodies : List Statement) (t b : ℕ) (x : Statement) : Type 0 where
   pub within : t < length k.threads.items
   pub same : parts ≡ k
   pub lent : bodies ≡ parts.threads.items
@@ -87,7 +87,7 @@ pub record Found (k parts : KernelParts) (functions : List (Option ℕ)) (table 
   pub used : uses ≡ uses_of (plain_kernel k) t
   pub bound : b ≡ capped (stmt_bound (plain_kernel k) (by_tables functions slice) uses (stmt x))
 
-module _ (k parts : KernelParts) (wf : WellFormed (plain_kernel k)) (functions : List (Option ℕ)) (table slice uses : List ℕ) (bodies : List Statement) (t b : ℕ) (x : Statement) (r : Found k parts functions table slice uses bodies t b x) (told : (g : ℕ) → Tells (plain_kernel k) functions g) (above : TellsFrom (plain_kernel k) table (t + 1)) where
+module _ (k parts : KernelParts) (wf : WellFormed (plain_kernel k)) (functions : List (Option ℕ)) (table slice uses : List ℕ) (bodies : List Statement) (t b : ℕ) (x : Statement) (r : BoundFound k parts functions table slice uses bodies t b x) (told : (g : ℕ) → Tells (plain_kernel k) functions g) (above : TellsFrom (plain_kernel k) table (t + 1)) where
   own : body_of (plain_kernel k) t ≡ stmt x
   own = body_read k parts t x r.within r.same (r.is ∙ ap (λ l. get_or l t x) r.lent)
 

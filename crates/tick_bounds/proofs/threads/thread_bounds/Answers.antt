@@ -2,7 +2,7 @@ use Rattle.std.proofs.Common.{◌≡◌, ◌∙◌, ◌-◌, List, length, ap, a
 use Rattle.std.proofs.Math.ListN.{length-set}
 use Rattle.forec_kernel.specs.declared.shape.KernelParts.{KernelParts}
 use Rattle.forec_kernel.specs.declared.terms.Statement.{Statement}
-use Rattle.tick_bounds.proofs.Visiting.{Found, found_more}
+use Rattle.tick_bounds.proofs.Visiting.{BoundFound, found_more}
 use Rattle.tick_bounds.proofs.threads.thread_bounds.Goals as goal
 
 pub loop-thread-preserved : goal.loop-thread-preserved
@@ -16,7 +16,7 @@ loop-thread-preserved c =
     let read : length bodies ≡ length c.parts.result.now.threads.items = ap (λ (l : List Statement). length l) c.as_slice-bodies.ensures.value in
     let same : length c.parts.result.now.threads.items ≡ length kernel.threads.items = ap (λ (p : KernelParts). length p.threads.items) c.parts.ensures.same in
     let long = c.loop-thread.invariant.long in
-    let found : Found kernel c.parts.result.now c.args.functions.now table c.as_slice.result.now c.uses_of.result.now bodies thread c.statement_bound-bound.result c.index-bodies-thread.result =
+    let found : BoundFound kernel c.parts.result.now c.args.functions.now table c.as_slice.result.now c.uses_of.result.now bodies thread c.statement_bound-bound.result c.index-bodies-thread.result =
     record {
       within = omega arith;
       same = c.parts.ensures.same;
