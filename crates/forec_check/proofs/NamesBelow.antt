@@ -15,7 +15,7 @@ use Rattle.forec_tree.specs.Parts.{in_order, Launch, launched, Head}
 use Rattle.forec_tree.specs.Spelling as sp
 use Rattle.forec_tree.specs.Spelling.{Spelt, IsName, joined, listed, tokens, Spells, Whole, Brackets, Indexes, Passes, Arguments}
 use Rattle.forec_tree.specs.SpelledStatements as st
-use Rattle.forec_tree.specs.SpelledStatements.{Separated, Targets, Simple, Lengths, Declares, Bounds, Starts, Tests, Steps, HeadParts, Heads, Optional, Says, Block, Lists, Forks, Starting, Launches}
+use Rattle.forec_tree.specs.SpelledStatements.{Separated, Targets, Simple, Lengths, Declares, Bounds, LoopStarts, Tests, Steps, HeadParts, Heads, Optional, Says, Block, Lists, Forks, Starting, Launches}
 use Rattle.forec_tree.specs.SpelledPrograms as pr
 use Rattle.forec_tree.specs.SpelledPrograms.{Signed, Named, Scalar, Table, Sharing, Combines, Param, Params, Parameters, Introduces, Programs, IsSpelled}
 use Rattle.forec_tree.specs.LexedText.{IsNumbered, AreDistinct}
@@ -125,7 +125,7 @@ module _ (n : ℕ) where
 
   -- ---- loops
 
-  of_start : {v : ℕ} {x : Perhaps} {ls : List Spelt} → Starts x v ls → AreLow ls → AreBelow (perhaps_names x)
+  of_start : {v : ℕ} {x : Perhaps} {ls : List Spelt} → LoopStarts x v ls → AreLow ls → AreBelow (perhaps_names x)
   of_start st.no_start h = tt
   of_start (st.simple_start s) h = of_simple s h
   of_start (st.declared_start {value = e} id is also equal s) h =

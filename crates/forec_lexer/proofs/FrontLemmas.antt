@@ -10,7 +10,7 @@ use Rattle.std.proofs.lemmas.Bool.Decides.{nat_tests}
 use Rattle.forec_tree.specs.declared.token.Word.{Word}
 use Rattle.forec_tree.specs.declared.token.Mark.{Mark}
 use Rattle.forec_tree.specs.Lexis as lexis
-use Rattle.forec_tree.specs.Lexis.{is_space, is_letter, is_digit, goes_on, is_line_end, Each, EndsOr, letters_of, spelling, IsName, IsReserved, IsInt, IsToClose, IsComment, block, line, OpensComment, IsBlank, Fits, FitsAhead, Next, NothingFits}
+use Rattle.forec_tree.specs.Lexis.{is_space, is_letter, is_digit, goes_on, is_line_end, Each, EndsOr, letters_of, spelling, IsName, IsReserved, IsInt, IsToClose, IsComment, block, line, OpensComment, IsBlank, Fits, FitsAhead, NextPiece, NothingFits}
 use Rattle.forec_lexer.specs.declared.pieces.Piece.{Piece}
 use Rattle.forec_lexer.specs.declared.pieces.Piece.TheVariants as piece
 use Rattle.forec_lexer.specs.Reading.{shown, IsText, words, word_in, marks, mark_ahead, number_of, close_from, is_in_line, run, word_or_name, letters_ahead, number_ahead, sign_ahead, front}
@@ -67,11 +67,11 @@ some_byte (lexis.mark m) behind f = mark_some m f.0
 
 abbrev pub Reads : List ℕ → Option (Piece × ℕ) → Type 0
 Reads text None = NothingFits text
-Reads text (Some r) = Next text (shown r.0) r.1
+Reads text (Some r) = NextPiece text (shown r.0) r.1
 
 -- ---- white space
 
-reads_space : (b : ℕ) (bs : List ℕ) → is_space b ≡ true → Next (b ∷ bs) lexis.blank 1
+reads_space : (b : ℕ) (bs : List ℕ) → is_space b ≡ true → NextPiece (b ∷ bs) lexis.blank 1
 reads_space b bs h = record { fits = record { within = omega arith; fits = inl (b, h, refl) }; longest = longest }
   where
     no_comment : (c : ℕ) → is_space c ≡ true → c ≡ 47 → ⊥
@@ -113,7 +113,7 @@ letters_fit : (bytes behind : List ℕ) → IsName bytes → (o : Option Word) �
 letters_fit bytes behind h None e = (h, λ r. word_none words bytes e r.0 (word_among r.0) r.1)
 letters_fit bytes behind h (Some w) e = word_found words bytes w e
 
-reads_letters : (b : ℕ) (bs : List ℕ) → is_letter b ≡ true → Next (b ∷ bs) (shown (word_or_name (word_in words (run (b ∷ bs))))) (length (run (b ∷ bs)))
+reads_letters : (b : ℕ) (bs : List ℕ) → is_letter b ≡ true → NextPiece (b ∷ bs) (shown (word_or_name (word_in words (run (b ∷ bs))))) (length (run (b ∷ bs)))
 reads_letters b bs h = record {
   fits = record {
     within = run_within goes_on (b ∷ bs);
@@ -220,7 +220,7 @@ line_or b e = by (is_line_end b) refl
     by true f = f
     by false f = absurd (let g : not false ≡ false = rw f at e in cc)
 
-reads_line : (b c : ℕ) (cs : List ℕ) → NoRun b → b ≡ 47 → c ≡ 47 → OpensComment (b ∷ c ∷ cs) → Next (b ∷ c ∷ cs) lexis.blank (suc (suc (length (take_while is_in_line cs))))
+reads_line : (b c : ℕ) (cs : List ℕ) → NoRun b → b ≡ 47 → c ≡ 47 → OpensComment (b ∷ c ∷ cs) → NextPiece (b ∷ c ∷ cs) lexis.blank (suc (suc (length (take_while is_in_line cs))))
 reads_line b c cs sort e f o = record {
   fits = record {
     within = let w = run_within is_in_line cs in omega arith;
@@ -236,7 +236,7 @@ reads_line b c cs sort e f o = record {
     size m w (is_block k n e2 f2 h) = absurd (omega arith)
     size m w (is_line k n e2 f2 h g) = let r = run_is is_in_line is_line_end line_apart cs k (omega arith) h g in omega arith
 
-reads_block : (b c : ℕ) (cs : List ℕ) (v : ℕ) → NoRun b → b ≡ 47 → c ≡ 42 → OpensComment (b ∷ c ∷ cs) → close_from 0 cs ≡ Some v → Next (b ∷ c ∷ cs) lexis.blank (suc (suc v))
+reads_block : (b c : ℕ) (cs : List ℕ) (v : ℕ) → NoRun b → b ≡ 47 → c ≡ 42 → OpensComment (b ∷ c ∷ cs) → close_from 0 cs ≡ Some v → NextPiece (b ∷ c ∷ cs) lexis.blank (suc (suc v))
 reads_block b c cs v sort e f o h = by (close_found 0 cs v h)
   where
     some_number : (x y : ℕ) → Some x ≡ Some y → x ≡ y
@@ -246,7 +246,7 @@ reads_block b c cs v sort e f o h = by (close_found 0 cs v h)
     size m w (is_block k n e2 f2 g) = let r = close_there 0 cs k (omega arith) g in let s : 0 + k ≡ v = some_number (0 + k) v (sym r ∙ h) in omega arith
     size m w (is_line k n e2 f2 g l) = absurd (omega arith)
 
-    by : Closed 0 cs v → Next (b ∷ c ∷ cs) lexis.blank (suc (suc v))
+    by : Closed 0 cs v → NextPiece (b ∷ c ∷ cs) lexis.blank (suc (suc v))
     by r =
         let same : r.size ≡ v = omega (arith, r.is) in
         let P : ℕ → Type 0 = λ z. IsToClose (take z cs) in
@@ -324,7 +324,7 @@ reads_opened b c cs sort f e o = by (close_from 0 cs) refl
   where
     by : (a : Option ℕ) → close_from 0 cs ≡ a → Reads (b ∷ c ∷ cs) (option_map (λ n. (piece.Blank, 2 + n)) a)
     by None h = no_block b c cs sort f o h
-    by (Some v) h = let P : ℕ → Type 0 = λ z. Next (b ∷ c ∷ cs) lexis.blank z in subst P (add_two v) (reads_block b c cs v sort e f o h)
+    by (Some v) h = let P : ℕ → Type 0 = λ z. NextPiece (b ∷ c ∷ cs) lexis.blank z in subst P (add_two v) (reads_block b c cs v sort e f o h)
 
 one_byte : (b x y : ℕ) → starts_with nat_eq (b ∷ []) (x ∷ y ∷ []) ≡ false
 one_byte b x y = by (starts_with nat_eq (b ∷ []) (x ∷ y ∷ [])) refl
@@ -348,7 +348,7 @@ reads_sign b (c ∷ cs) sort = by_line (starts_with nat_eq (b ∷ c ∷ cs) (cod
     by_line true e =
         let s = begins_true (b ∷ c ∷ cs) (codes "//") e in
         let p = two_slashes b c 47 47 cs s in
-        let P : ℕ → Type 0 = λ z. Next (b ∷ c ∷ cs) lexis.blank z in
+        let P : ℕ → Type 0 = λ z. NextPiece (b ∷ c ∷ cs) lexis.blank z in
         subst P (add_two (length (take_while is_in_line cs))) (reads_line b c cs sort p.0 p.1 (inr s))
     by_line false e = by_block (begins_false (b ∷ c ∷ cs) (codes "//") e) (starts_with nat_eq (b ∷ c ∷ cs) (codes "/*")) refl
 
@@ -378,7 +378,7 @@ reads (b ∷ bs) = by_space (is_space b) refl
 
 -- ---- what the callers ask
 
-some_size : (text : List ℕ) (p : lexis.Piece) (n : ℕ) → Next text p n → 0 < n
+some_size : (text : List ℕ) (p : lexis.Piece) (n : ℕ) → NextPiece text p n → 0 < n
 some_size text p zero r = absurd (some_byte p text r.fits.fits)
 some_size text p (suc n) r = omega arith
 
@@ -399,12 +399,12 @@ fits_text (piece.Word w) bytes behind f = tt
 fits_text (piece.Mark m) bytes behind f = tt
 
 pub record Read (text : List ℕ) (p : Piece) (n : ℕ) : Type 0 where
-  pub next : Next text (shown p) n
+  pub next : NextPiece text (shown p) n
   pub some : 0 < n
   pub within : n ≤ length text
   pub letters : IsText p (take n text)
 
-pub read_of : (text : List ℕ) (p : Piece) (n : ℕ) → Next text (shown p) n → Read text p n
+pub read_of : (text : List ℕ) (p : Piece) (n : ℕ) → NextPiece text (shown p) n → Read text p n
 read_of text p n r = record { next = r; some = some_size text (shown p) n r; within = r.fits.within; letters = fits_text p (take n text) (drop n text) r.fits.fits }
 
 pub reads_as : (text : List ℕ) (o : Option (Piece × ℕ)) → o ≡ front text → Reads text o

@@ -7,7 +7,7 @@ use Rattle.forec_tree.specs.declared.token.Word.{Word}
 use Rattle.forec_tree.specs.declared.token.Mark.{Mark}
 use Rattle.forec_tree.specs.declared.token.Token.{Token}
 use Rattle.forec_tree.specs.declared.token.TokenKind.{TokenKind}
-use Rattle.forec_tree.specs.Lexis.{is_space, is_letter, is_digit, spelling, IsComment, block, line, IsInt, OpensComment, Piece, blank, name, number, word, mark, Fits, Next, NothingFits}
+use Rattle.forec_tree.specs.Lexis.{is_space, is_letter, is_digit, spelling, IsComment, block, line, IsInt, OpensComment, Piece, blank, name, number, word, mark, Fits, NextPiece, NothingFits}
 use Rattle.forec_tree.specs.LexedText.{kind_of, names_after, token_at, place_at, slice, Cuts, begins, skips, takes, Lexes, IsLexed, IsBad, IsMany}
 use Rattle.forec_lexer.specs.Reading.{words, word_in, marks, mark_ahead}
 use Rattle.forec_lexer.proofs.NumberLemmas.{number_complete}
@@ -93,7 +93,7 @@ one_sort : (p q : Piece) (bs behind : List ℕ) → Fits p bs behind → Fits q 
 one_sort p q [] behind f g = absurd (some_byte p behind f)
 one_sort p q (b ∷ bs) behind f g = one_piece p q b bs behind f g (first p b bs behind f) (first q b bs behind g)
 
-pub next_one : (text : List ℕ) (p q : Piece) (n m : ℕ) → Next text p n → Next text q m → (p ≡ q) × (n ≡ m)
+pub next_one : (text : List ℕ) (p q : Piece) (n m : ℕ) → NextPiece text p n → NextPiece text q m → (p ≡ q) × (n ≡ m)
 next_one text p q n m x y =
     let a : m ≤ n = x.longest q m y.fits in
     let b : n ≤ m = y.longest p n x.fits in
@@ -122,7 +122,7 @@ behind_piece text s p n = given text s p n (kind_of s.names p (slice text s.at n
 pub record Step (text : List ℕ) (s t : State) : Type 0 where
   pub piece : Piece
   pub size : ℕ
-  pub next : Next (drop s.at text) piece size
+  pub next : NextPiece (drop s.at text) piece size
   pub is : t ≡ behind_piece text s piece size
 
 step_one : (text : List ℕ) (s t u : State) → Step text s t → Step text s u → t ≡ u

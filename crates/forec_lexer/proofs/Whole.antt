@@ -11,7 +11,7 @@ use Rattle.forec_base.specs.declared.Place.{Place}
 use Rattle.forec_tree.specs.declared.token.Token.{Token}
 use Rattle.forec_tree.specs.declared.token.TokenKind.{TokenKind}
 use Rattle.forec_tree.specs.declared.token.TokenKind.TheVariants as kind
-use Rattle.forec_tree.specs.Lexis.{Piece, blank, name, number, word, mark, is_line_end, Next, NothingFits}
+use Rattle.forec_tree.specs.Lexis.{Piece, blank, name, number, word, mark, is_line_end, NextPiece, NothingFits}
 use Rattle.forec_tree.specs.LexedText.{place_after, first_place, place_at, number_of, with_name, kind_of, names_after, token_at, slice, Cuts, begins, skips, takes, IsLexed, IsBad, AreDistinct, IsSpelt, NumbersSpellings, AreInOrder, bytes_of}
 use Rattle.forec_lexer.specs.declared.fault.LexFault.{LexFault}
 use Rattle.forec_lexer.specs.declared.fault.LexFault.TheVariants as fault
@@ -64,11 +64,11 @@ blank_only names (number z) bytes h = absurd (cc)
 blank_only names (word w) bytes h = absurd (cc)
 blank_only names (mark m) bytes h = absurd (cc)
 
-pub turn : (text : List ℕ) (tokens : List Token) (names after : List (List ℕ)) (at n : ℕ) (p : Piece) (k : Option TokenKind) → Cuts text tokens names at → Next (drop at text) p n
+pub turn : (text : List ℕ) (tokens : List Token) (names after : List (List ℕ)) (at n : ℕ) (p : Piece) (k : Option TokenKind) → Cuts text tokens names at → NextPiece (drop at text) p n
     → k ≡ kind_of names p (slice text at n) → after ≡ names_after names p (slice text at n) → Cuts text (kept tokens k at (at + n) (place_at text at)) after (at + n)
 turn text tokens names after at n p None c x h e =
     let b = blank_only names p (slice text at n) h in
-    let P : Piece → Type 0 = λ z. Next (drop at text) z n in
+    let P : Piece → Type 0 = λ z. NextPiece (drop at text) z n in
     let Q : List (List ℕ) → Type 0 = λ z. Cuts text tokens z (at + n) in
     let f : names ≡ after = sym (e ∙ ap (λ z. names_after names z (slice text at n)) b) in
     subst Q f (skips n c (subst P b x))
@@ -76,7 +76,7 @@ turn text tokens names after at n p (Some k) c x h e =
     let Q : List (List ℕ) → Type 0 = λ z. Cuts text (tokens ++ token_at text at n k ∷ []) z (at + n) in
     subst Q (sym e) (takes p n k c x (sym h))
 
-pub full : (text : List ℕ) (tokens : List Token) (names : List (List ℕ)) (at n : ℕ) (p : Piece) (k : Option TokenKind) (f : LexFault) → Cuts text tokens names at → Next (drop at text) p n
+pub full : (text : List ℕ) (tokens : List Token) (names : List (List ℕ)) (at n : ℕ) (p : Piece) (k : Option TokenKind) (f : LexFault) → Cuts text tokens names at → NextPiece (drop at text) p n
     → k ≡ kind_of names p (slice text at n) → IsFull tokens k (place_at text at) f → HasCause text f
 full text tokens names at n p k (fault.Bad q) c x h i = absurd i
 full text tokens names at n p None (fault.Many q) c x h i = absurd i
@@ -180,7 +180,7 @@ order_wide : (from to end : ℕ) (ts : List Token) → AreInOrder from ts to →
 order_wide from to end [] h a = omega (arith, h)
 order_wide from to end (x ∷ xs) h a = (h.0, h.1, order_wide x.end to end xs h.2 a)
 
-some_size : (text : List ℕ) (p : Piece) (n : ℕ) → Next text p n → 0 < n
+some_size : (text : List ℕ) (p : Piece) (n : ℕ) → NextPiece text p n → 0 < n
 some_size text p zero r = absurd (some_byte p text r.fits.fits)
 some_size text p (suc n) r = omega arith
 

@@ -1,6 +1,6 @@
 //! What stands at the front of a text.
 ghost use Rattle.std.specs.Prelude.{◌≡◌, ◌≤◌, ◌<◌, length, take, IfSome, IfNone};
-ghost use Rattle.forec_tree.specs.Lexis.{Next, NothingFits};
+ghost use Rattle.forec_tree.specs.Lexis.{NextPiece, NothingFits};
 ghost use Rattle.forec_lexer.specs.Reading as reading;
 ghost use Rattle.forec_lexer.specs.Reading.{shown, IsText};
 
@@ -74,7 +74,7 @@ fn front(text: &[u8]) -> Option<(Piece, usize)>
 
 /// The longest piece at the front of the text, and its length.
 pub fn next(text: &[u8]) -> Option<(Piece, usize)>
-    ensures found { IfSome result (λ r. Next text.now (shown r.0) r.1) }
+    ensures found { IfSome result (λ r. NextPiece text.now (shown r.0) r.1) }
     ensures some { IfSome result (λ r. 0 < r.1) }
     ensures within { IfSome result (λ r. r.1 ≤ length text.now) }
     ensures letters { IfSome result (λ r. IsText r.0 (take r.1 text.now)) }

@@ -10,7 +10,7 @@ use Rattle.forec_tree.specs.Terms as plain
 use Rattle.forec_tree.specs.Terms.{Written, absent, present}
 use Rattle.forec_tree.specs.Spelling.{Spelt, at, listed, Whole, Brackets, Indexes, Passes, Arguments}
 use Rattle.forec_tree.specs.Parts.{op_at, updates_by, steps_by, written_at, declared_as, head_of}
-use Rattle.forec_tree.specs.SpelledStatements.{Separated, Targets, Simple, Lengths, Declares, Bounds, Starts, Tests, Steps, HeadParts, Heads}
+use Rattle.forec_tree.specs.SpelledStatements.{Separated, Targets, Simple, Lengths, Declares, Bounds, LoopStarts, Tests, Steps, HeadParts, Heads}
 use Rattle.expr_parser.specs.declared.fault.Fault.{Fault}
 use Rattle.expr_parser.specs.declared.fixed.Fixed.TheVariants as fixed
 use Rattle.forec_parser.specs.declared.meaning.Change.{Change}
@@ -184,7 +184,7 @@ module _ (limit : ℕ) where
   first_local_at = bind (token limit fixed.Int) token_keeps (token_at fixed.Int) (λ int. bind (leaf.a_name limit) part_keeps name_here (λ n.
       bind (token limit fixed.Assign) token_keeps (token_at fixed.Assign) (λ _. map_to (pr.first_declared limit int n) (value_at refl))))
 
-  start_at : {low : ℕ} → Viable limit low (st.start limit) (Part Any Starts) (Some (kind_of fixed.Semicolon)) (Some (kind_of fixed.Semicolon))
+  start_at : {low : ℕ} → Viable limit low (st.start limit) (Part Any LoopStarts) (Some (kind_of fixed.Semicolon)) (Some (kind_of fixed.Semicolon))
   unfolding st.start st.some_start
   start_at = convert (pr.starts_of limit) (either_on fixed.Semicolon refl (done_at absent) (either_off fixed.Int refl first_local_at (map_to (λ x. present x) (simple_at refl))))
 

@@ -5,7 +5,7 @@ use Rattle.forec_base.specs.declared.Place.{Place}
 use Rattle.forec_tree.specs.declared.token.Token.{Token}
 use Rattle.forec_tree.specs.declared.token.TokenKind.{TokenKind}
 use Rattle.forec_tree.specs.declared.token.TokenKind.TheVariants as kind
-use Rattle.forec_tree.specs.Lexis.{Piece, blank, name, number, word, mark, Next, NothingFits, is_line_end}
+use Rattle.forec_tree.specs.Lexis.{Piece, blank, name, number, word, mark, NextPiece, NothingFits, is_line_end}
 
 -- ---- places
 
@@ -58,10 +58,10 @@ slice text at n = take n (drop at text)
 pub data Cuts (text : List ℕ) : List Token → List (List ℕ) → ℕ → Type 0 where
   begins : Cuts text [] [] zero
   skips : {tokens : List Token} {names : List (List ℕ)} {at : ℕ} (n : ℕ) → Cuts text tokens names at
-      → Next (drop at text) blank n
+      → NextPiece (drop at text) blank n
       → Cuts text tokens names (at + n)
   takes : {tokens : List Token} {names : List (List ℕ)} {at : ℕ} (piece : Piece) (n : ℕ) (k : TokenKind) → Cuts text tokens names at
-      → Next (drop at text) piece n → kind_of names piece (slice text at n) ≡ Some k
+      → NextPiece (drop at text) piece n → kind_of names piece (slice text at n) ≡ Some k
       → Cuts text (tokens ++ token_at text at n k ∷ []) (names_after names piece (slice text at n)) (at + n)
 
 -- The lexed front of the text has these tokens and names, and ends at the byte `stop`: nothing fits there.

@@ -195,7 +195,7 @@ pub record FitsAhead (text : List ℕ) (piece : Piece) (n : ℕ) : Type 0 where
   pub fits : Fits piece (take n text) (drop n text)
 
 -- The piece is the longest that fits, and has n bytes.
-pub record Next (text : List ℕ) (piece : Piece) (n : ℕ) : Type 0 where
+pub record NextPiece (text : List ℕ) (piece : Piece) (n : ℕ) : Type 0 where
   pub fits : FitsAhead text piece n
   pub longest : (other : Piece) (m : ℕ) → FitsAhead text other m → m ≤ n
 

@@ -73,11 +73,11 @@ pub data Bounds : Option Number → ℕ → List Spelt → Type 0 where
   bounded : {v : ℕ} {hash t : Token} (value : ℤ) → IsMark mark.Hash hash → IsNumber value t → Bounds (Some (number_at value t.place)) v (at hash v ∷ at t v ∷ [])
 
 -- how a `for` starts
-pub data Starts : Perhaps → ℕ → List Spelt → Type 0 where
-  no_start : {v : ℕ} → Starts absent v []
-  simple_start : {v : ℕ} {x : Statement} {ls : List Spelt} → Simple x v ls → Starts (present x) v ls
+pub data LoopStarts : Perhaps → ℕ → List Spelt → Type 0 where
+  no_start : {v : ℕ} → LoopStarts absent v []
+  simple_start : {v : ℕ} {x : Statement} {ls : List Spelt} → Simple x v ls → LoopStarts (present x) v ls
   declared_start : {v : ℕ} {int t equal : Token} {value : Term} {ls : List Spelt} (id : ℕ) → IsWord word.Int int → IsName id t → IsMark mark.Assign equal → Whole value v ls
-      → Starts (present (plain.Declare int.place (declared_as (name_at id t.place) None (value ∷ []) ∷ []))) v (at int v ∷ at t v ∷ at equal v ∷ ls)
+      → LoopStarts (present (plain.Declare int.place (declared_as (name_at id t.place) None (value ∷ []) ∷ []))) v (at int v ∷ at t v ∷ at equal v ∷ ls)
 
 -- the test of a `for`
 pub data Tests : Option Term → ℕ → List Spelt → Type 0 where
@@ -92,7 +92,7 @@ pub data Steps : Perhaps → ℕ → List Spelt → Type 0 where
 -- what stands between the brackets of a `for`
 pub data HeadParts : Head → ℕ → List Spelt → Type 0 where
   head_parts : {v : ℕ} (first second : Token) {start : Perhaps} {test : Option Term} {step : Perhaps} {ls ms rs : List Spelt}
-      → Starts start v ls → IsMark mark.Semicolon first → Tests test v ms → IsMark mark.Semicolon second → Steps step v rs
+      → LoopStarts start v ls → IsMark mark.Semicolon first → Tests test v ms → IsMark mark.Semicolon second → Steps step v rs
       → HeadParts (head_of start test step) v (ls ++ (at first v ∷ (ms ++ (at second v ∷ rs))))
 
 -- the head of a `for`, with its brackets

@@ -5,7 +5,7 @@ use Rattle.forec_tree.specs.declared.token.Token.{Token}
 use Rattle.forec_tree.specs.Terms.{Terms, no_terms, more_terms, Declared, Statement, Declare, Nothing, Group, Assign, Invoke, If, While, For, Pause, Par, Abort, Return, Statements, no_statements, more_statements, Perhaps, absent, present, Branches, no_branches, by_call, by_group, Text, PlainItem, PlainGlobal, PlainFunction, IsGlobal, IsFunction}
 use Rattle.forec_tree.specs.Spelling.{Spelt}
 use Rattle.forec_tree.specs.Parts.{in_order, Launch, launched_before, launched, Head}
-use Rattle.forec_tree.specs.SpelledStatements.{Separated, last_part, next_part, Simple, sets, updates, steps_behind, steps_ahead, invokes, Declares, bare, valued, array, valued_array, Starts, no_start, simple_start, declared_start, Steps, no_step, some_step, HeadParts, head_parts, Heads, heads, Says, acts, group, declares, if_alone, if_else, loops, counts, pauses, forks, aborts, gives_back, Block, block, Lists, no_more, and_more, Forks, forked, Starting, bare_call, call, blocked, Launches, last_branch, next_branch}
+use Rattle.forec_tree.specs.SpelledStatements.{Separated, last_part, next_part, Simple, sets, updates, steps_behind, steps_ahead, invokes, Declares, bare, valued, array, valued_array, LoopStarts, no_start, simple_start, declared_start, Steps, no_step, some_step, HeadParts, head_parts, Heads, heads, Says, acts, group, declares, if_alone, if_else, loops, counts, pauses, forks, aborts, gives_back, Block, block, Lists, no_more, and_more, Forks, forked, Starting, bare_call, call, blocked, Launches, last_branch, next_branch}
 use Rattle.forec_tree.specs.SpelledStatements as says
 use Rattle.forec_tree.specs.SpelledPrograms.{Introduces, constants, inputs, outputs, globals, shares, function, Programs, no_items, more_items, IsSpelled}
 use Rattle.forec_tree.specs.Faults.{Member, here, later}
@@ -73,7 +73,7 @@ locals_one : {locals : List Declared} {v : ℕ} {ls : List Spelt} → Separated 
 locals_one (last_part d) = (declares_one d, tt)
 locals_one (next_part comma d m rest) = (declares_one d, locals_one rest)
 
-start_one : {s : Perhaps} {v : ℕ} {ls : List Spelt} → Starts s v ls → OneIfPresent s
+start_one : {s : Perhaps} {v : ℕ} {ls : List Spelt} → LoopStarts s v ls → OneIfPresent s
 start_one no_start = tt
 start_one (simple_start x) = simple_one x
 start_one (declared_start id w n m e) = (refl, tt)

@@ -4,13 +4,13 @@ use Rattle.std.proofs.lemmas.Bool.Decides.{nat_tests}
 use Rattle.forec_base.specs.declared.Place.{Place}
 use Rattle.forec_tree.specs.declared.token.Token.{Token}
 use Rattle.forec_tree.specs.declared.token.TokenKind.TheVariants as kind
-use Rattle.forec_tree.specs.Lexis.{Piece, blank, name, number, word, mark, FitsAhead, Next, NothingFits}
+use Rattle.forec_tree.specs.Lexis.{Piece, blank, name, number, word, mark, FitsAhead, NextPiece, NothingFits}
 use Rattle.forec_tree.specs.LexedText.{number_of, names_after, token_at, slice, place_at, Cuts, begins, skips, takes, Lexes, max_tokens, IsLexed, IsBad, IsMany}
 use Rattle.forec_lexer.proofs.FrontLemmas.{some_byte}
 
 -- ---- where something fits, a piece is the longest
 
-module _ (rest : List ℕ) (never : (p : Piece) (n : ℕ) → Next rest p n → ⊥) where
+module _ (rest : List ℕ) (never : (p : Piece) (n : ℕ) → NextPiece rest p n → ⊥) where
   no_more : (k : ℕ) → ((p : Piece) (n : ℕ) → FitsAhead rest p n → n ≤ k) → (p : Piece) (n : ℕ) → FitsAhead rest p n → ⊥
   no_more zero bound p n f = never p n (record { fits = f; longest = λ q m g. let b = bound q m g in omega arith })
   no_more (suc k) bound p n f = no_more k (λ q m g. shorter q m g (nat_le m k) refl) p n f
@@ -36,7 +36,7 @@ record Cut (text : List ℕ) (at : ℕ) : Type 0 where
   names : List (List ℕ)
   cuts : Cuts text tokens names at
 
-next_cut : (text : List ℕ) (at n : ℕ) (p : Piece) → Cut text at → Next (drop at text) p n → Cut text (at + n)
+next_cut : (text : List ℕ) (at n : ℕ) (p : Piece) → Cut text at → NextPiece (drop at text) p n → Cut text (at + n)
 next_cut text at n blank c x = record { tokens = c.tokens; names = c.names; cuts = skips n c.cuts x }
 next_cut text at n name c x =
     let k = kind.Name (number_of c.names (slice text at n)) in

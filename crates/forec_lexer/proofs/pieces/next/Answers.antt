@@ -1,11 +1,11 @@
 use Rattle.std.proofs.Common.{ℕ, ◌<◌, ◌≤◌, List, length, take, Option, Some, None, IfSome, IfNone}
-use Rattle.forec_tree.specs.Lexis.{Next, NothingFits}
+use Rattle.forec_tree.specs.Lexis.{NextPiece, NothingFits}
 use Rattle.forec_lexer.specs.declared.pieces.Piece.{Piece}
 use Rattle.forec_lexer.specs.Reading.{shown, IsText}
 use Rattle.forec_lexer.proofs.FrontLemmas.{Reads, read_of, reads_as}
 use Rattle.forec_lexer.proofs.pieces.next.Goals as goal
 
-found : (text : List ℕ) (o : Option (Piece × ℕ)) → Reads text o → IfSome o (λ r. Next text (shown r.0) r.1)
+found : (text : List ℕ) (o : Option (Piece × ℕ)) → Reads text o → IfSome o (λ r. NextPiece text (shown r.0) r.1)
 found text None h = tt
 found text (Some r) h = h
 
