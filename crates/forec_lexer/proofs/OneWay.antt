@@ -119,43 +119,43 @@ given text s p n (Some k) = state (s.tokens ++ token_at text s.at n k ∷ []) (n
 abbrev behind_piece : List ℕ → State → Piece → ℕ → State
 behind_piece text s p n = given text s p n (kind_of s.names p (slice text s.at n))
 
-pub record Step (text : List ℕ) (s t : State) : Type 0 where
+pub record TakesPiece (text : List ℕ) (s t : State) : Type 0 where
   pub piece : Piece
   pub size : ℕ
   pub next : NextPiece (drop s.at text) piece size
   pub is : t ≡ behind_piece text s piece size
 
-step_one : (text : List ℕ) (s t u : State) → Step text s t → Step text s u → t ≡ u
+step_one : (text : List ℕ) (s t u : State) → TakesPiece text s t → TakesPiece text s u → t ≡ u
 step_one text s t u x y =
     let e = next_one (drop s.at text) x.piece y.piece x.size y.size x.next y.next in
     x.is ∙ ap (λ p. behind_piece text s p x.size) e.0 ∙ ap (λ n. behind_piece text s y.piece n) e.1 ∙ sym y.is
 
-pub data Goes (text : List ℕ) : State → State → Type 0 where
-  stays : {s : State} → Goes text s s
-  goes : {s t u : State} → Step text s t → Goes text t u → Goes text s u
+pub data TakesPieces (text : List ℕ) : State → State → Type 0 where
+  stays : {s : State} → TakesPieces text s s
+  goes : {s t u : State} → TakesPiece text s t → TakesPieces text t u → TakesPieces text s u
 
-one_more : {text : List ℕ} {s t u : State} → Goes text s t → Step text t u → Goes text s u
+one_more : {text : List ℕ} {s t u : State} → TakesPieces text s t → TakesPiece text t u → TakesPieces text s u
 one_more stays x = goes x stays
 one_more (goes y g) x = goes y (one_more g x)
 
 abbrev pub start : State
 start = state [] [] zero
 
-pub goes_there : {text : List ℕ} {ts : List Token} {ns : List (List ℕ)} {a : ℕ} → Cuts text ts ns a → Goes text start (state ts ns a)
+pub goes_there : {text : List ℕ} {ts : List Token} {ns : List (List ℕ)} {a : ℕ} → Cuts text ts ns a → TakesPieces text start (state ts ns a)
 goes_there begins = stays
 goes_there (skips n c x) = one_more (goes_there c) (record { piece = blank; size = n; next = x; is = refl })
 goes_there {text} (takes {tokens} {names} {at} p n k c x e) =
     one_more (goes_there c) (record { piece = p; size = n; next = x; is = ap (given text (state tokens names at) p n) (sym e) })
 
-linear : {text : List ℕ} {s t u : State} → Goes text s t → Goes text s u → Goes text t u ⊎ Goes text u t
+linear : {text : List ℕ} {s t u : State} → TakesPieces text s t → TakesPieces text s u → TakesPieces text t u ⊎ TakesPieces text u t
 linear stays g = inl g
 linear (goes x f) stays = inr (goes x f)
 linear {text} (goes {s} {t} x f) (goes {t = v} {u} y g) =
     let e = step_one text s t v x y in
-    let P : State → Type 0 = λ z. Goes text z u in
+    let P : State → Type 0 = λ z. TakesPieces text z u in
     linear f (subst P (sym e) g)
 
-no_more : {text : List ℕ} {s t : State} → NothingFits (drop s.at text) → Goes text s t → s ≡ t
+no_more : {text : List ℕ} {s t : State} → NothingFits (drop s.at text) → TakesPieces text s t → s ≡ t
 no_more h stays = refl
 no_more h (goes x g) = absurd (h x.piece x.size x.next.fits)
 
@@ -167,7 +167,7 @@ step_longer : (text : List ℕ) (s : State) (p : Piece) (n : ℕ) (o : Option To
 step_longer text s p n None = record { more = []; are = sym (append-nil s.tokens) }
 step_longer text s p n (Some k) = record { more = token_at text s.at n k ∷ []; are = refl }
 
-longer : {text : List ℕ} {s t : State} → Goes text s t → Longer s.tokens t.tokens
+longer : {text : List ℕ} {s t : State} → TakesPieces text s t → Longer s.tokens t.tokens
 longer {s} stays = record { more = []; are = sym (append-nil s.tokens) }
 longer {text} (goes {s} {t} {u} x g) =
     let r = longer g in
@@ -177,7 +177,7 @@ longer {text} (goes {s} {t} {u} x g) =
 
 -- ---- the ends
 
-same_end : {text : List ℕ} {s t : State} → Goes text start s → Goes text start t → NothingFits (drop s.at text) → NothingFits (drop t.at text) → s ≡ t
+same_end : {text : List ℕ} {s t : State} → TakesPieces text start s → TakesPieces text start t → NothingFits (drop s.at text) → NothingFits (drop t.at text) → s ≡ t
 same_end f g x y = elim (linear f g) [ inl k ↦ no_more x k | inr k ↦ sym (no_more y k) ]
 
 pub one_way : (text : List ℕ) (ts us : List Token) (ns ms : List (List ℕ)) (a b : ℕ) → Lexes text ts ns a → Lexes text us ms b → (ts ≡ us) × (ns ≡ ms) × (a ≡ b)
