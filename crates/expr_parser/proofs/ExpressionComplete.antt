@@ -28,12 +28,12 @@ use Rattle.expr_parser.proofs.Operators.{sign_start, mark_infix, mark_behind, le
 use Rattle.expr_parser.proofs.ExpressionSound.{sound, a_value, a_bracketed, an_indexed, a_passed, a_named, indexed_by, passed_by, value_by}
 
 -- What stands after an expression of level m does not go on with it.
-pub record Stops (m : ℕ) (k : Option TokenKind) : Type 0 where
+pub record EndsLevel (m : ℕ) (k : Option TokenKind) : Type 0 where
   pub tight : binds (infix_of k) ≤ m
   pub right : m ≤ 1 → binds (infix_of k) ≡ 0
   pub alone : behind_of k ≡ follow.Nothing
 
-pub halts : (m : ℕ) (k : Option TokenKind) → ends k ≡ true → Stops m k
+pub halts : (m : ℕ) (k : Option TokenKind) → ends k ≡ true → EndsLevel m k
 halts m k h = let e = ends_ahead k h in record { tight = omega (arith, e); right = λ _. e; alone = ends_behind k h }
 
 -- the level never falls over an expression
@@ -201,21 +201,21 @@ module _ (limit : ℕ) where
         by small o e (too_high u) = too_high (above_front (at colon w ∷ rs) u)
 
   -- The parser comes to where x is read and operators of level n and above may follow.
-  pub record Goes (d n : ℕ) (x : Term) (i j : Input) : Type 0 where
+  pub record HasRead (d n : ℕ) (x : Term) (i j : Input) : Type 0 where
     pub turns : ℕ
     pub enough : length j.rest ≤ turns
     pub reads : expr limit (suc d) n i ≡ climb limit (expr limit d) n turns x j
 
   -- the same, unless a token before opens a level above the limit
   pub data Arrives (d n : ℕ) (x : Term) (ls : List Spelt) (i : Input) (rest : List Token) (w : ℕ) : Type 0 where
-    arrives : Goes d n x i (input rest w) → Arrives d n x ls i rest w
+    arrives : HasRead d n x i (input rest w) → Arrives d n x ls i rest w
     too_deep : {l : ℕ} → Above limit l rest ls → expr limit (suc d) n i ≡ Err (Deep l) → Arrives d n x ls i rest w
 
   abbrev pub Completes : ℕ → Term → ℕ → List Spelt → ℕ → Type 0
-  Completes m x v ls w = (d n : ℕ) (rest : List Token) → limit ≤ d + v → 1 ≤ n → n ≤ m → Stops m (kind_ahead rest) → Arrives d n x ls (input (tokens ls ++ rest) v) rest w
+  Completes m x v ls w = (d n : ℕ) (rest : List Token) → limit ≤ d + v → 1 ≤ n → n ≤ m → EndsLevel m (kind_ahead rest) → Arrives d n x ls (input (tokens ls ++ rest) v) rest w
 
   pub finish : (m : ℕ) (x : Term) (v : ℕ) (ls : List Spelt) (w : ℕ) → Completes m x v ls w → (d n : ℕ) (rest : List Token)
-      → v ≤ limit → limit < d + v → 1 ≤ n → n ≤ m → Stops m (kind_ahead rest) → binds (infix_of (kind_ahead rest)) < n
+      → v ≤ limit → limit < d + v → 1 ≤ n → n ≤ m → EndsLevel m (kind_ahead rest) → binds (infix_of (kind_ahead rest)) < n
       → Follows limit x w ls rest (expr limit d n (input (tokens ls ++ rest) v))
   finish m x v ls w c zero n rest small deep pos le stops low = absurd (omega arith)
   finish m x v ls w c (suc d) n rest small deep pos le stops low = of (c d n rest (omega arith) pos le stops)
@@ -224,7 +224,7 @@ module _ (limit : ℕ) where
       of (arrives g) = rw (g.reads ∙ climb_stop (expr limit d) n g.turns x (input rest w) low) comes
       of (too_deep a e) = rw e (too_high a)
 
-  goes_prefix : (d n : ℕ) (x : Term) (i j : Input) → prefix limit (expr limit d) i ≡ Ok (x, j) → Goes d n x i j
+  goes_prefix : (d n : ℕ) (x : Term) (i j : Input) → prefix limit (expr limit d) i ≡ Ok (x, j) → HasRead d n x i j
   unfolding expr
   goes_prefix d n x i j h = record { turns = length j.rest; enough = omega arith; reads = climbing_ok (expr limit d) n x i j h }
 
@@ -234,14 +234,14 @@ module _ (limit : ℕ) where
   prefix_arrives d n {x} {w} {ls} {i} {rest} o e (too_high {l} a) = too_deep a (climbing_deep (expr limit d) n i (Deep l) e)
 
   -- one turn of the loop
-  goes_on : (d n : ℕ) (left longer : Term) (i j k : Input) → Goes d n left i j → n ≤ ahead j → suc (length k.rest) ≤ length j.rest → operation limit (expr limit d) left j ≡ Ok (longer, k) → Goes d n longer i k
+  goes_on : (d n : ℕ) (left longer : Term) (i j k : Input) → HasRead d n left i j → n ≤ ahead j → suc (length k.rest) ≤ length j.rest → operation limit (expr limit d) left j ≡ Ok (longer, k) → HasRead d n longer i k
   goes_on d n left longer i j k g le less o = turn g.turns g.enough g.reads
     where
-      turn : (f : ℕ) → length j.rest ≤ f → expr limit (suc d) n i ≡ climb limit (expr limit d) n f left j → Goes d n longer i k
+      turn : (f : ℕ) → length j.rest ≤ f → expr limit (suc d) n i ≡ climb limit (expr limit d) n f left j → HasRead d n longer i k
       turn zero h e = absurd (omega arith)
       turn (suc f) h e = record { turns = f; enough = omega arith; reads = e ∙ climb_on (expr limit d) n f left longer j k le o }
 
-  goes_deep : (d n l : ℕ) (left : Term) (i j : Input) → Goes d n left i j → n ≤ ahead j → 1 ≤ length j.rest → operation limit (expr limit d) left j ≡ Err (Deep l) → expr limit (suc d) n i ≡ Err (Deep l)
+  goes_deep : (d n l : ℕ) (left : Term) (i j : Input) → HasRead d n left i j → n ≤ ahead j → 1 ≤ length j.rest → operation limit (expr limit d) left j ≡ Err (Deep l) → expr limit (suc d) n i ≡ Err (Deep l)
   goes_deep d n l left i j g le some o = turn g.turns g.enough g.reads
     where
       turn : (f : ℕ) → length j.rest ≤ f → expr limit (suc d) n i ≡ climb limit (expr limit d) n f left j → expr limit (suc d) n i ≡ Err (Deep l)
@@ -257,7 +257,7 @@ module _ (limit : ℕ) where
   -- an expression of its own, before what ends one
   own_reads : (x : Term) (v w : ℕ) (ls : List Spelt) (k : Option TokenKind) (d : ℕ) → Completes 1 x v ls w → v ≤ limit → limit < d + v → ends k ≡ true → Reading limit (expr limit d 1) v x w ls k
   own_reads x v w ls k d c small deep h = reading (λ rest e.
-      let halt : Stops 1 (kind_ahead rest) = halts 1 (kind_ahead rest) (ap ends e ∙ h) in
+      let halt : EndsLevel 1 (kind_ahead rest) = halts 1 (kind_ahead rest) (ap ends e ∙ h) in
       finish 1 x v ls w c d 1 rest small deep (omega arith) (omega arith) halt (omega (arith, halt.right (omega arith))))
 
   -- ---- operands
@@ -359,7 +359,7 @@ module _ (limit : ℕ) where
   c_unary : (n v w : ℕ) (t : Token) (x : Term) (ls : List Spelt) (op : Unary) → n ≤ 12 → IsMark (sign_of op) t → Completes 12 x (v + 1) ls w → Completes n (plain.Un t.place op x) v (at t (v + 1) ∷ ls) w
   c_unary n v w t x ls op top ht c d n' rest deep pos le stops =
       let low = binds_small (infix_of (kind_ahead rest)) in
-      let halt : Stops 12 (kind_ahead rest) = record { tight = omega arith; right = λ h. absurd (omega arith); alone = stops.alone } in
+      let halt : EndsLevel 12 (kind_ahead rest) = record { tight = omega arith; right = λ h. absurd (omega arith); alone = stops.alone } in
       prefix_arrives d n' _ refl (sign_follows (expr limit d) t v w op x ls rest ht (λ small.
       finish 12 x (v + 1) ls w c d 12 rest small (omega arith) (omega arith) (omega arith) halt low))
 
@@ -376,8 +376,8 @@ module _ (limit : ℕ) where
       let q : behind_of (Some t.kind) ≡ follow.Nothing = rw ht (mark_behind op) in
       let same : binds (infix_of (Some t.kind)) ≡ level_of op = ap binds k in
       let two = level_bounds op in
-      let halt : Stops (level_of op) (Some t.kind) = record { tight = omega arith; right = λ h. absurd (omega (arith, two.0)); alone = q } in
-      let behind : Stops (level_of op + 1) (kind_ahead rest) = record { tight = omega (arith, stops.tight); right = λ h. absurd (omega (arith, two.0)); alone = stops.alone } in
+      let halt : EndsLevel (level_of op) (Some t.kind) = record { tight = omega arith; right = λ h. absurd (omega (arith, two.0)); alone = q } in
+      let behind : EndsLevel (level_of op + 1) (kind_ahead rest) = record { tight = omega (arith, stops.tight); right = λ h. absurd (omega (arith, two.0)); alone = stops.alone } in
       let g : Arrives d n' a ls (input (tokens ls ++ (t ∷ tail)) v) (t ∷ tail) w = ca d n' (t ∷ tail) deep pos (omega arith) halt in
       let o : Follows limit (joined op t.place a b) x (at t (w + 1) ∷ rs) rest (operation limit (expr limit d) a (input (t ∷ tail) w)) =
       join_follows (expr limit d) t w x op a b rs rest ht (λ small.
@@ -395,9 +395,9 @@ module _ (limit : ℕ) where
       let k : binds (infix_of (Some t.kind)) ≡ 1 = rw ht in
       let q : behind_of (Some t.kind) ≡ follow.Nothing = rw ht in
       let e1 : ends (Some colon.kind) ≡ true = rw hc in
-      let halt : Stops 2 (Some t.kind) = record { tight = omega arith; right = λ h. absurd (omega arith); alone = q } in
+      let halt : EndsLevel 2 (Some t.kind) = record { tight = omega arith; right = λ h. absurd (omega arith); alone = q } in
       let none : binds (infix_of (kind_ahead rest)) ≡ 0 = stops.right (omega arith) in
-      let behind : Stops 1 (kind_ahead rest) = record { tight = omega arith; right = λ _. none; alone = stops.alone } in
+      let behind : EndsLevel 1 (kind_ahead rest) = record { tight = omega arith; right = λ _. none; alone = stops.alone } in
       let g : Arrives d n' test ls (input (tokens ls ++ (t ∷ tail)) v) (t ∷ tail) w = ct d n' (t ∷ tail) deep pos (omega arith) halt in
       let o : Follows limit (plain.Choose t.place test a b) y (at t (w + 1) ∷ (ms ++ (at colon x ∷ rs))) rest (operation limit (expr limit d) test (input (t ∷ tail) w)) =
       choose_follows (expr limit d) t colon w x y test a b ms rs rest ht hc

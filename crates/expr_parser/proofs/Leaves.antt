@@ -15,7 +15,7 @@ use Rattle.expr_parser.specs.Input.{Input, input, Parser, Outcome, and_then, ◌
 use Rattle.expr_parser.specs.Meaning.{is_fixed, name_of, number_of}
 use Rattle.expr_parser.specs.Reading as reading
 use Rattle.expr_parser.specs.Reading.{next_is, close, enter, name, number, name_by, number_by, separated, separated_from}
-use Rattle.expr_parser.proofs.Spans.{tokens_append, longer, within_join, Step, step, ok_of, ok_pair, Took, Raised, took, raised, head_kind, take_ok}
+use Rattle.expr_parser.proofs.Spans.{tokens_append, longer, within_join, BothSucceed, step, ok_of, ok_pair, Took, Raised, took, raised, head_kind, take_ok}
 use Rattle.expr_parser.proofs.Closers.{kind_of, fixed-kind, kind-fixed}
 use Rattle.expr_parser.proofs.Exact.{Lang, Read, Exact, Bind, Part, part, Any, Follows, comes, too_high, above_here, above_later, above_front, follow_behind, follow_then, follow_as, bind, convert}
 
@@ -318,7 +318,7 @@ module _ {limit : ℕ} {A : Type 0} {p : Parser A} {P P' : Lang A} (a : Exact li
   l_turn zero found all i j small h = absurd (cc)
   l_turn (suc n) found all i j small h = by_test (l_turn n) (is_fixed fixed.Comma (kind_ahead s.state.rest)) refl s.goes
     where
-      s : Step (p i) (λ x k. cond (is_fixed fixed.Comma (kind_ahead k.rest)) (and_then (take k) (λ _ l. separated_from p n (found ++ x ∷ []) l)) (Ok (found ++ x ∷ [], k))) (all, j)
+      s : BothSucceed (p i) (λ x k. cond (is_fixed fixed.Comma (kind_ahead k.rest)) (and_then (take k) (λ _ l. separated_from p n (found ++ x ∷ []) l)) (Ok (found ++ x ∷ [], k))) (all, j)
       s = step (p i) _ (all, j) h
 
       m : Read limit P s.value i s.state

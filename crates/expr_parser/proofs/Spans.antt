@@ -43,15 +43,15 @@ pub first-append : (a b : List Spelt) (k : Option TokenKind) → first (a ++ b) 
 first-append [] b k = refl
 first-append (s ∷ a) b k = refl
 
--- ---- steps, read backwards
+-- ---- two parsers one after the other, read backwards
 
-pub record Step {A B : Type 0} (r : Outcome A) (f : A → Parser B) (y : B × Input) : Type 0 where
+pub record BothSucceed {A B : Type 0} (r : Outcome A) (f : A → Parser B) (y : B × Input) : Type 0 where
   pub value : A
   pub state : Input
   pub was : r ≡ Ok (value, state)
   pub goes : f value state ≡ Ok y
 
-pub step : {A B : Type 0} (r : Outcome A) (f : A → Parser B) (y : B × Input) → and_then r f ≡ Ok y → Step r f y
+pub step : {A B : Type 0} (r : Outcome A) (f : A → Parser B) (y : B × Input) → and_then r f ≡ Ok y → BothSucceed r f y
 step (Ok p) f y h = record { value = p.0; state = p.1; was = refl; goes = h }
 step (Err x) f y h = absurd (cc)
 
