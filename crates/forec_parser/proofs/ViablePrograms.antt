@@ -51,10 +51,10 @@ introduces_before : {v w : ℕ} {xs : List PlainItem} {ls : List Spelt} {o k : O
 introduces_before (part s c) = part s tt
 
 module _ (limit : ℕ) where
-  abbrev Fails : ℕ → Type 0
-  Fails turns = (found : Text) (i : Input) (e : Fault) → i.level ≤ limit → items_from limit turns found i ≡ Err e → Refused limit Programmed None i e
+  abbrev ItemsRefused : ℕ → Type 0
+  ItemsRefused turns = (found : Text) (i : Input) (e : Fault) → i.level ≤ limit → items_from limit turns found i ≡ Err e → Refused limit Programmed None i e
 
-  fails_end : Fails zero
+  fails_end : ItemsRefused zero
   unfolding items_from
   fails_end found i e small h = by_test (at_end (kind_ahead i.rest)) h
     where
@@ -62,7 +62,7 @@ module _ (limit : ℕ) where
       by_test true h = absurd (cc)
       by_test false h = refused_here (least_programmed i.level) (cc)
 
-  fails_turn : (turns : ℕ) → Fails turns → Fails (suc turns)
+  fails_turn : (turns : ℕ) → ItemsRefused turns → ItemsRefused (suc turns)
   unfolding items_from
   fails_turn turns ih found i e small h = by_test (at_end (kind_ahead i.rest)) h
     where
@@ -78,7 +78,7 @@ module _ (limit : ℕ) where
       by_test true h = absurd (cc)
       by_test false h = of (failed (item limit i) (λ xs. items_from limit turns (found ++ xs)) e h)
 
-  fails : (turns : ℕ) → Fails turns
+  fails : (turns : ℕ) → ItemsRefused turns
   fails zero = fails_end
   fails (suc turns) = fails_turn turns (fails turns)
 

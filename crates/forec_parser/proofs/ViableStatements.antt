@@ -83,8 +83,8 @@ module _ (limit : ℕ) where
   module _ (p : Parser Statement) (so : SoundStmt limit p) (low : ℕ) (view : Speaks (low + 1) p) where
     -- ---- lists of statements
 
-    abbrev Fails : Option TokenKind → ℕ → Type 0
-    Fails k turns = (found : List Statement) (i : Input) (e : Fault) → low + 1 ≤ i.level → i.level ≤ limit → st.body_from limit p turns found i ≡ Err e → Refused limit Bodied k i e
+    abbrev BodyRefused : Option TokenKind → ℕ → Type 0
+    BodyRefused k turns = (found : List Statement) (i : Input) (e : Fault) → low + 1 ≤ i.level → i.level ≤ limit → st.body_from limit p turns found i ≡ Err e → Refused limit Bodied k i e
 
     abbrev Adding : ℕ → Option TokenKind → Input → Fault → Type 0
     Adding v k i e = Refused limit (Bind (Said v) (λ x. Map (λ ys. x ∷ ys) Bodied)) k i e
@@ -92,7 +92,7 @@ module _ (limit : ℕ) where
     added : {k : Option TokenKind} (i : Input) (e : Fault) → Adding i.level k i e → Refused limit Bodied k i e
     added i e r = refused_so r (λ ls s. record { value = s.value; last = s.last; behind = s.behind; spells = ss.add_on limit p so s.spells })
 
-    fails_end : {k : Option TokenKind} → Fails k zero
+    fails_end : {k : Option TokenKind} → BodyRefused k zero
     unfolding st.body_from
     fails_end {k} found i e deep small h = by_test (ends_body (kind_ahead i.rest)) h
       where
@@ -100,7 +100,7 @@ module _ (limit : ℕ) where
         by_test true h = absurd (cc)
         by_test false h = refused_here (least_bodied i.level) (cc)
 
-    fails_turn : {k : Option TokenKind} → is_fixed fixed.Else k ≡ false → (turns : ℕ) → Fails k turns → Fails k (suc turns)
+    fails_turn : {k : Option TokenKind} → is_fixed fixed.Else k ≡ false → (turns : ℕ) → BodyRefused k turns → BodyRefused k (suc turns)
     unfolding st.body_from
     fails_turn {k} n turns ih found i e deep small h = by_test (ends_body (kind_ahead i.rest)) h
       where
@@ -116,7 +116,7 @@ module _ (limit : ℕ) where
         by_test true h = absurd (cc)
         by_test false h = of (failed (p i) (λ x. st.body_from limit p turns (found ++ x ∷ [])) e h)
 
-    fails : {k : Option TokenKind} → is_fixed fixed.Else k ≡ false → (turns : ℕ) → Fails k turns
+    fails : {k : Option TokenKind} → is_fixed fixed.Else k ≡ false → (turns : ℕ) → BodyRefused k turns
     fails n zero = fails_end
     fails n (suc turns) = fails_turn n turns (fails n turns)
 
