@@ -5,7 +5,7 @@ use Rattle.forec_base.specs.declared.operators.Binary.TheVariants.{Add, Sub, Lt,
 use Rattle.forec_tree.specs.Turns as form
 use Rattle.loop_check.specs.declared.parts.Start.{Start}
 use Rattle.loop_check.specs.declared.parts.Test.{Test}
-use Rattle.loop_check.specs.declared.parts.Step.{Step}
+use Rattle.loop_check.specs.declared.parts.LoopStep.{LoopStep}
 use Rattle.loop_check.specs.declared.parts.Form.{Form}
 use Rattle.forec_tree.specs.Terms.{Statement, Text}
 
@@ -17,7 +17,7 @@ abbrev pub test_from : Option Test → Option form.Test
 test_from None = None
 test_from (Some t) = form.test_by t.op t.id t.number
 
-abbrev pub step_from : Option Step → Option form.PlainStep
+abbrev pub step_from : Option LoopStep → Option form.PlainStep
 step_from None = None
 step_from (Some s) = form.step_by s.op s.id s.by
 
@@ -52,7 +52,7 @@ turns_unless text None = None
 turns_unless text (Some f) = cond (form.global_named f.id text) None (run_form f)
 
 -- the three parts of a form with a body
-abbrev pub FormOf : Option Form → Start → Test → Step → Statement → Type 0
+abbrev pub FormOf : Option Form → Start → Test → LoopStep → Statement → Type 0
 FormOf r a t s body =
     (text : Text) → form.turns_from text body (pair_of (Some a)) (test_from (Some t)) (step_from (Some s)) ≡ turns_unless text r
 

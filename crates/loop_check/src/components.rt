@@ -15,7 +15,7 @@ pub struct Components {
 
 /// A function on the way to the one that is looked at, and how many of its calls were followed.
 #[derive(Clone, Copy)]
-struct Step {
+struct Visit {
     function: u32,
     followed: usize,
 }
@@ -29,7 +29,7 @@ struct Walk {
     ranks: Vec<usize>,
     numbers: Vec<usize>,
     lows: Vec<usize>,
-    way: Vec<Step>,
+    way: Vec<Visit>,
     open: Vec<u32>,
     seen: usize,
     components: usize,
@@ -49,10 +49,10 @@ fn put(table: &mut [usize], f: u32, value: usize) {
     }
 }
 
-fn call(calls: &[Vec<u32>], step: Step) -> Option<u32> {
-    match calls.get(step.function as usize) {
+fn call(calls: &[Vec<u32>], visit: Visit) -> Option<u32> {
+    match calls.get(visit.function as usize) {
         None => None,
-        Some(list) => match list.get(step.followed) {
+        Some(list) => match list.get(visit.followed) {
             None => None,
             Some(g) => Some(*g),
         },
@@ -79,7 +79,7 @@ impl Walk {
         put(&mut self.numbers, f, self.seen);
         put(&mut self.lows, f, self.seen);
         self.open.push(f)?;
-        self.way.push(Step {
+        self.way.push(Visit {
             function: f,
             followed: 0,
         })?;
@@ -123,8 +123,8 @@ impl Walk {
     /// Goes back from a function whose calls were all followed.
     fn leave(&mut self, f: u32) -> Result<(), OutOfMemory> {
         let low = at(&self.lows, f);
-        if let Some(step) = self.way.last() {
-            let caller = step.function;
+        if let Some(visit) = self.way.last() {
+            let caller = visit.function;
             self.lower(caller, low);
         }
         if low == at(&self.numbers, f) {
@@ -134,15 +134,15 @@ impl Walk {
     }
 
     /// Follows the next call of a function, which was taken from the way, or goes back from it.
-    fn step(&mut self, calls: &[Vec<u32>], step: Step) -> Result<(), OutOfMemory> {
-        let Some(g) = call(calls, step) else {
-            return self.leave(step.function);
+    fn step(&mut self, calls: &[Vec<u32>], visit: Visit) -> Result<(), OutOfMemory> {
+        let Some(g) = call(calls, visit) else {
+            return self.leave(visit.function);
         };
-        self.way.push(Step {
-            function: step.function,
-            followed: step.followed.saturating_add(1),
+        self.way.push(Visit {
+            function: visit.function,
+            followed: visit.followed.saturating_add(1),
         })?;
-        self.follow(step.function, g)
+        self.follow(visit.function, g)
     }
 
     /// Walks from a function as far as it leads, in so many steps at most.
@@ -151,7 +151,7 @@ impl Walk {
         for _ in 0..most {
             match self.way.pop() {
                 None => return Ok(()),
-                Some(step) => self.step(calls, step)?,
+                Some(visit) => self.step(calls, visit)?,
             }
         }
         Ok(())

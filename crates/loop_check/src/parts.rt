@@ -21,7 +21,7 @@ pub struct Test {
 
 /// `i = i + c`, or with `-`, as the step of a loop.
 #[derive(Clone, Copy)]
-pub struct Step {
+pub struct LoopStep {
     pub id: u32,
     pub op: Binary,
     pub by: i32,

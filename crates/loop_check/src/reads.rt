@@ -6,7 +6,7 @@ ghost use Rattle.forec_tree.specs.Turns as form;
 ghost use Rattle.forec_tree.specs.Plain.{perhaps_of};
 ghost use Rattle.loop_check.specs.Forms.{pair_of, test_from, step_from};
 
-use crate::parts::{Start, Step, Test};
+use crate::parts::{LoopStep, Start, Test};
 use forec_base::{Binary, Unary, unary};
 use forec_tree::{Expr, ExprKind, Local, Stmt, StmtKind, Target};
 
@@ -139,7 +139,7 @@ fn number_of(e: &Expr) -> Option<i32>
     }
 }
 
-pub fn step_of(step: &Option<Box<Stmt>>) -> Option<Step>
+pub fn step_of(step: &Option<Box<Stmt>>) -> Option<LoopStep>
     ensures { step_from result ≡ form.step_of (perhaps_of step.now) }
 {
     match step {
@@ -148,7 +148,7 @@ pub fn step_of(step: &Option<Box<Stmt>>) -> Option<Step>
     }
 }
 
-fn step_statement(s: &Stmt) -> Option<Step>
+fn step_statement(s: &Stmt) -> Option<LoopStep>
     ensures { step_from result ≡ form.step_statement (plain.statement s.now) }
 {
     match &s.what {
@@ -166,16 +166,16 @@ fn step_statement(s: &Stmt) -> Option<Step>
     }
 }
 
-fn step_with(id: Option<u32>, op: Binary, by: Option<i32>) -> Option<Step>
+fn step_with(id: Option<u32>, op: Binary, by: Option<i32>) -> Option<LoopStep>
     ensures { step_from result ≡ form.step_with id op by }
 {
     match (id, by) {
-        (Some(id), Some(by)) => Some(Step { id, op, by }),
+        (Some(id), Some(by)) => Some(LoopStep { id, op, by }),
         _ => None,
     }
 }
 
-fn step_by_sum(target: &Target, value: &Expr) -> Option<Step>
+fn step_by_sum(target: &Target, value: &Expr) -> Option<LoopStep>
     ensures { step_from result ≡ form.step_by_sum (plain.written target.now) (plain.term value.now) }
 {
     match &value.what {

@@ -6,7 +6,7 @@ ghost use Rattle.forec_tree.specs.Plain as plain;
 ghost use Rattle.forec_tree.specs.Turns as form;
 ghost use Rattle.loop_check.specs.Forms.{fits_way, FormOf, run_form, HasForm};
 
-use crate::parts::{Form, Start, Step, Test};
+use crate::parts::{Form, LoopStep, Start, Test};
 use crate::reads::{start_of, step_of, test_of};
 use crate::touch::touches;
 use forec_base::{Binary, MAX_TURNS};
@@ -22,7 +22,7 @@ fn same_way(test: Binary, step: Binary) -> bool
     }
 }
 
-fn joined(start: Start, test: Test, step: Step, body: &Stmt) -> Option<Form>
+fn joined(start: Start, test: Test, step: LoopStep, body: &Stmt) -> Option<Form>
     ensures { FormOf result start test step (plain.statement body.now) }
 {
     if start.id != test.id || test.id != step.id {
