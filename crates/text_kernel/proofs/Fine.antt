@@ -113,16 +113,16 @@ found id f (x ∷ s) = ap (λ o. find_last id o (map seen_of s)) (both_ways (x.i
     both_ways true = refl
     both_ways false = refl
 
-pub data Found (s : List Slot) (f : Option Slot) : Option Slot → Type 0 where
-  is_old : Found s f f
-  is_among : (x : Slot) → Member x s → Found s f (Some x)
+pub data FoundSlot (s : List Slot) (f : Option Slot) : Option Slot → Type 0 where
+  is_old : FoundSlot s f f
+  is_among : (x : Slot) → Member x s → FoundSlot s f (Some x)
 
-found_more : (y : Slot) (s : List Slot) (f o : Option Slot) (b : Bool) → Found s (cond b (Some y) f) o → Found (y ∷ s) f o
+found_more : (y : Slot) (s : List Slot) (f o : Option Slot) (b : Bool) → FoundSlot s (cond b (Some y) f) o → FoundSlot (y ∷ s) f o
 found_more y s f o true is_old = is_among y here
 found_more y s f o false is_old = is_old
 found_more y s f o b (is_among x m) = is_among x (later m)
 
-pub finds : (id : ℕ) (f : Option Slot) (s : List Slot) → Found s f (find_slot id f s)
+pub finds : (id : ℕ) (f : Option Slot) (s : List Slot) → FoundSlot s f (find_slot id f s)
 finds id f [] = is_old
 finds id f (y ∷ s) = found_more y s f (find_slot id f (y ∷ s)) (y.id == id) (finds id (cond (y.id == id) (Some y) f) s)
 
@@ -224,7 +224,7 @@ module _ (text : Text) (k : PlainKernel) (words : ℕ) (uses : List ℕ) (j : Ju
   count_lowered s no_terms = refl
   count_lowered s (more_terms e rest) = ap suc (count_lowered s rest)
 
-  pub slot_good : (sc : Scope) (s : List Slot) (id : ℕ) (o : Option Slot) → Matches words sc s → Found s None o → (x : Slot) → o ≡ Some x → GoodSlot words x
+  pub slot_good : (sc : Scope) (s : List Slot) (id : ℕ) (o : Option Slot) → Matches words sc s → FoundSlot s None o → (x : Slot) → o ≡ Some x → GoodSlot words x
   slot_good sc s id None m is_old x e = cc
   slot_good sc s id (Some y) m (is_among z i) x e = let same : y ≡ x = cc in subst (GoodSlot words) same (m.good y i)
 
