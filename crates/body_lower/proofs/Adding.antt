@@ -15,7 +15,7 @@ use Rattle.forec_tree.specs.Terms.{Text, Term, Terms, count_terms, Declared, Wri
 use Rattle.forec_tree.specs.Pauses.{within, find_function}
 use Rattle.loop_check.proofs.Indexed.{split}
 use Rattle.text_kernel.specs.Bindings.{params_at}
-use Rattle.text_kernel.specs.Lowering.{Next, Lowered, Started, from_slot, scope_behind, scope_behind_perhaps, par_behind, body_in_place, lower_statement, lower_list, lower_perhaps, lower_branches}
+use Rattle.text_kernel.specs.Lowering.{NextNumbers, Lowered, Started, from_slot, scope_behind, scope_behind_perhaps, par_behind, body_in_place, lower_statement, lower_list, lower_perhaps, lower_branches}
 use Rattle.body_lower.specs.declared.added.Added.{Added}
 use Rattle.body_lower.specs.Additions.{nothing, Moves, StatementAdds, PerhapsAdds, ListAdds, BranchesAdd, BodyAdds, FunctionAdds, AllAdd, Joins, put_at}
 use Rattle.body_lower.specs.Landings.{called_within}
@@ -23,10 +23,10 @@ use Rattle.body_lower.proofs.Statements.{drop_next}
 use Rattle.body_lower.proofs.Doing.{branch_first, par_some}
 use Rattle.body_lower.proofs.Going.{place_is}
 
-pub moves_then : (a b c : Added) (n m k : Next) → Joins a b c → Moves a n m → Moves b m k → Moves c n k
+pub moves_then : (a b c : Added) (n m k : NextNumbers) → Joins a b c → Moves a n m → Moves b m k → Moves c n k
 moves_then a b c n m k j f g = record { thread = omega (arith, j.threads, f.thread, g.thread); par = omega (arith, j.pars, f.par, g.par) }
 
-still : (n : Next) → Moves nothing n n
+still : (n : NextNumbers) → Moves nothing n n
 still n = record { thread = omega arith; par = omega arith }
 
 module _ (text : Text) where
@@ -108,13 +108,13 @@ module _ (text : Text) where
 
   pub called_adds : (name : Name) (args : Terms) (one a c : Added) → one.threads ≡ 1 → one.pars ≡ 0 → FunctionAdds text name.id (Some a) → Joins one a c → BranchesAdd text (by_call name args no_branches) c
   called_adds name args one a c e z f j deep t p s n h =
-      let from : Next = record { slot = count_terms args; thread = suc n.thread; par = n.par } in
+      let from : NextNumbers = record { slot = count_terms args; thread = suc n.thread; par = n.par } in
       let m = f deep 0 n.thread from (omega (arith, h, j.second)) in
       record { thread = omega (arith, m.thread, j.threads, e); par = omega (arith, m.par, j.pars, z) }
 
   pub block_adds : (at : Place) (body : Statements) (one a c : Added) → one.threads ≡ 1 → one.pars ≡ 0 → ListAdds text body a → Joins one a c → BranchesAdd text (by_group at body no_branches) c
   block_adds at body one a c e z f j deep t p s n h =
-      let from : Next = record { slot = 0; thread = suc n.thread; par = n.par } in
+      let from : NextNumbers = record { slot = 0; thread = suc n.thread; par = n.par } in
       let m = f deep n.thread [] from (omega (arith, h, j.second)) in
       record { thread = omega (arith, m.thread, j.threads, e); par = omega (arith, m.par, j.pars, z) }
 
@@ -127,7 +127,7 @@ module _ (text : Text) where
   par_adds at (b ∷ rest) one a c some e z f j =
       λ deep t s n h.
       let next = (par_some text (called_within text deep) t s n.par n.par n b (branches rest)).1 in
-      let from : Next = record { slot = n.slot; thread = n.thread; par = par_behind (branches (b ∷ rest)) n.par } in
+      let from : NextNumbers = record { slot = n.slot; thread = n.thread; par = par_behind (branches (b ∷ rest)) n.par } in
       let m = f deep t n.par s from (omega (arith, h, j.second)) in
       record { thread = omega (arith, m.thread, j.threads, e); par = omega (arith, m.par, j.pars, z, next) }
 
@@ -185,7 +185,7 @@ module _ (text : Text) where
 
   -- ---- functions
 
-  none_moves : (id deep first t : ℕ) (n : Next) → find_function id text ≡ None → Moves nothing n (called_within text deep id first t n).next
+  none_moves : (id deep first t : ℕ) (n : NextNumbers) → find_function id text ≡ None → Moves nothing n (called_within text deep id first t n).next
   unfolding within
   none_moves id zero first t n e = still n
   none_moves id (suc deep) first t n e = subst (Moves nothing n) (ap (λ (o : Option PlainFunction). (body_in_place text (called_within text deep) o first t n).next) (sym e)) (still n)

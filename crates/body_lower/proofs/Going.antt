@@ -16,7 +16,7 @@ use Rattle.forec_kernel.specs.declared.terms.Launch.{Launch}
 use Rattle.text_kernel.specs.declared.names.Slot.{Slot}
 use Rattle.body_lower.specs.declared.scope.Scope.{Scope}
 use Rattle.body_lower.specs.declared.state.State.{State}
-use Rattle.text_kernel.specs.Lowering.{Next, Listed, Started, InPlace, as_one, sequence, scope_behind, lower_statement, lower_list, lower_branches, body_in_place, in_place_step, nothing_in_place}
+use Rattle.text_kernel.specs.Lowering.{NextNumbers, Listed, Started, InPlace, as_one, sequence, scope_behind, lower_statement, lower_list, lower_branches, body_in_place, in_place_step, nothing_in_place}
 use Rattle.body_lower.specs.Landings.{called_within}
 use Rattle.body_lower.specs.Views.{seen, Kept, Same, next_of, threads_of, bare, Does, DoesList, DoesBranches}
 use Rattle.body_lower.proofs.Statements.{drop_next}
@@ -59,13 +59,13 @@ module _ (text : Text) (called : ℕ → InPlace) (t : ℕ) where
       branches_finish text (lower_branches text called t (seen now.scope) p (next_of now) (branches (drop i all))) whole (map branch xs) old now
       (ap (λ q. lower_branches text called t (seen now.scope) p (next_of now) (branches q)) (drop_all i all l)) w
 
-  pub par_goes : (s : List Slot) (n : Next) (at : Place) (all : List tree_branch.Branch) (old one new : State) (ls : List kernel.Branch) → (length all == 0) ≡ false →
-      next_of one ≡ (let from : Next = record { slot = n.slot; thread = n.thread; par = n.par + 1 } in from) → threads_of text one ≡ threads_of text old →
+  pub par_goes : (s : List Slot) (n : NextNumbers) (at : Place) (all : List tree_branch.Branch) (old one new : State) (ls : List kernel.Branch) → (length all == 0) ≡ false →
+      next_of one ≡ (let from : NextNumbers = record { slot = n.slot; thread = n.thread; par = n.par + 1 } in from) → threads_of text one ≡ threads_of text old →
       DoesBranches text (lower_branches text called t s n.par (next_of one) (branches all)) ls one new → Does text (lower_statement text called t s n (tree.Par at (branches all))) (kernel.Par ls) old new
   par_goes s n at [] old one new ls some e h d = absurd (let q : true ≡ false = some in cc)
   par_goes s n at (b ∷ rest) old one new ls some e h d =
       let z : n.par + 1 ≡ suc n.par = omega arith in
-      par_does text called t s n at b (branches rest) old one new ls (e ∙ ap (λ p. (let m : Next = record { slot = n.slot; thread = n.thread; par = p } in m)) z) h d
+      par_does text called t s n at b (branches rest) old one new ls (e ∙ ap (λ p. (let m : NextNumbers = record { slot = n.slot; thread = n.thread; par = p } in m)) z) h d
 
 pub branches_as : {text : Text} (l m : Started) (ks : List kernel.Branch) (old new : State) → l ≡ m → DoesBranches text l ks old new → DoesBranches text m ks old new
 branches_as {text} l m ks old new e d = subst (λ x. DoesBranches text x ks old new) e d
@@ -81,7 +81,7 @@ as_one_does text l m ks k old one two new e h d g n w =
       threads = w ∙ (q.threads ∙ ap (λ x. x ++ map bare m.made) h);
     }
 
-pub same_list : (text : Text) (called : ℕ → InPlace) (t : ℕ) (s s1 : List Slot) (n n1 : Next) (a b : List tree_stmt.Stmt) → s ≡ s1 → n ≡ n1 → a ≡ b →
+pub same_list : (text : Text) (called : ℕ → InPlace) (t : ℕ) (s s1 : List Slot) (n n1 : NextNumbers) (a b : List tree_stmt.Stmt) → s ≡ s1 → n ≡ n1 → a ≡ b →
     lower_list text called t s n (statements a) ≡ lower_list text called t s1 n1 (statements b)
 same_list text called t s s1 n n1 a b e d f =
     ap (λ x. lower_list text called t x n (statements a)) e ∙ (ap (λ x. lower_list text called t s1 x (statements a)) d ∙ ap (λ x. lower_list text called t s1 n1 (statements x)) f)
@@ -100,7 +100,7 @@ unfolding within
 place_none text zero id first t s e = record { is = refl; next = refl; threads = sym (append-nil (threads_of text s)) }
 place_none text (suc deep) id first t s e = absurd (omega (arith, e))
 
-pub place_is : (text : Text) (deep id first t : ℕ) (n : Next) → (deep ≡ 0 → ⊥) → called_within text deep id first t n ≡ body_in_place text (called_within text (deep - 1)) (find_function id text) first t n
+pub place_is : (text : Text) (deep id first t : ℕ) (n : NextNumbers) → (deep ≡ 0 → ⊥) → called_within text deep id first t n ≡ body_in_place text (called_within text (deep - 1)) (find_function id text) first t n
 unfolding within
 place_is text zero id first t n e = absurd (e refl)
 place_is text (suc deep) id first t n e =

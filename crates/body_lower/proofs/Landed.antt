@@ -20,7 +20,7 @@ use Rattle.forec_kernel.specs.Plain.{stmt}
 use Rattle.forec_kernel.specs.declared.terms.Statement as rust
 use Rattle.text_kernel.specs.declared.names.Slot.{Slot}
 use Rattle.text_kernel.specs.Bindings.{params_at}
-use Rattle.text_kernel.specs.Lowering.{Next, Lowered, InPlace, scope_behind, from_slot, as_one, bound_of, lower_term, lower_statement, lower_list, lower_perhaps, body_in_place}
+use Rattle.text_kernel.specs.Lowering.{NextNumbers, Lowered, InPlace, scope_behind, from_slot, as_one, bound_of, lower_term, lower_statement, lower_list, lower_perhaps, body_in_place}
 use Rattle.body_lower.specs.declared.landing.Landing.{Landing}
 use Rattle.body_lower.specs.declared.state.State.{State}
 use Rattle.body_lower.specs.Landings.{only, inside, SameKernel, called_within, FunctionLands, AllLand, CallLands, put_at}
@@ -103,7 +103,7 @@ fewer (Return at value) b h = cc
 
 -- ---- functions of one statement
 
-called_one : (text : Text) (id : ℕ) (f : PlainFunction) (a : Statement) (d first t : ℕ) (n : Next) → find_function id text ≡ Some f → f.params ≡ [] → f.body ≡ more_statements a no_statements →
+called_one : (text : Text) (id : ℕ) (f : PlainFunction) (a : Statement) (d first t : ℕ) (n : NextNumbers) → find_function id text ≡ Some f → f.params ≡ [] → f.body ≡ more_statements a no_statements →
     called_within text (suc d) id first t n ≡ lower_statement text (called_within text d) t [] n a
 unfolding within
 called_one text id f a d first t n e p b =

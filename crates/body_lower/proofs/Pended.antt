@@ -14,7 +14,7 @@ use Rattle.forec_tree.specs.Pauses.{find_function}
 use Rattle.forec_kernel.specs.Terms as kernel
 use Rattle.forec_kernel.specs.Terms.{Stmt}
 use Rattle.text_kernel.specs.declared.names.Slot.{Slot}
-use Rattle.text_kernel.specs.Lowering.{Next, Lowered, InPlace, as_one, params_of, thread_of, lower_terms, lower_list, lower_branches}
+use Rattle.text_kernel.specs.Lowering.{NextNumbers, Lowered, InPlace, as_one, params_of, thread_of, lower_terms, lower_list, lower_branches}
 use Rattle.body_lower.specs.declared.added.Added.{Added}
 use Rattle.body_lower.specs.declared.state.Pending.{Pending}
 use Rattle.body_lower.specs.declared.state.State.{State}
@@ -36,15 +36,15 @@ stack_pushed text (p ∷ ps) q =
     ap (λ l. l ++ map bare (made_of text p)) (stack_pushed text ps q) ∙ append_assoc (map bare (made_of text q)) (threads_on text ps) (map bare (made_of text p))
 
 -- what a branch becomes doesn't hang on the scope and the slot in which its `par` stands
-made_anywhere : (text : Text) (called : ℕ → InPlace) (t p : ℕ) (s : List Slot) (n : Next) (b : Branch) →
+made_anywhere : (text : Text) (called : ℕ → InPlace) (t p : ℕ) (s : List Slot) (n : NextNumbers) (b : Branch) →
     (lower_branches text called t [] p (record { slot = 0; thread = n.thread; par = n.par }) (branch_with b no_branches)).made ≡ (lower_branches text called t s p n (branch_with b no_branches)).made
 made_anywhere text called t p s n (Call name args) = refl
 made_anywhere text called t p s n (Group' place shape body) = refl
 
-abbrev next_at : ℕ → ℕ → ℕ → Next
+abbrev next_at : ℕ → ℕ → ℕ → NextNumbers
 next_at slot thread par = record { slot = slot; thread = thread; par = par }
 
-next_behind : (text : Text) (called : ℕ → InPlace) (t p : ℕ) (s : List Slot) (n : Next) (b : Branch) →
+next_behind : (text : Text) (called : ℕ → InPlace) (t p : ℕ) (s : List Slot) (n : NextNumbers) (b : Branch) →
     (let l = lower_branches text called t s p n (branch_with b no_branches) in next_at n.slot l.next.thread l.next.par ≡ l.next)
 next_behind text called t p s n (Call name args) = refl
 next_behind text called t p s n (Group' place shape body) = refl
@@ -92,7 +92,7 @@ thread_made : (text : Text) (l : Lowered) (k : Stmt) (one new : State) (parent p
     bare_as parent par name params new.slot new.thread k ∷ threads_of text new ≡ map bare (thread_of parent par name params l ++ [])
 thread_made text l k one new parent par name params e d =
     ap (λ x. bare_as parent par name params new.slot new.thread k ∷ x) (d.threads ∙ ap (λ x. x ++ map bare l.made) e)
-    ∙ (ap (λ (n : Next). bare_as parent par name params n.slot n.thread k ∷ map bare l.made) d.next
+    ∙ (ap (λ (n : NextNumbers). bare_as parent par name params n.slot n.thread k ∷ map bare l.made) d.next
     ∙ (ap (λ x. bare_as parent par name params l.next.slot l.next.thread x ∷ map bare l.made) d.is ∙ ap (map bare) (sym (append-nil (thread_of parent par name params l)))))
 
 begins : (slot thread par number : ℕ) (one : State) → one.slot ≡ slot → one.thread ≡ number + 1 → one.par ≡ par → next_of one ≡ next_at slot (suc number) par

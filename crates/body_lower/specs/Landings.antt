@@ -3,7 +3,7 @@ use Rattle.std.specs.Prelude.{ℕ, ◌+◌, ◌≡◌, ◌==◌, cond, Option, S
 use Rattle.forec_tree.specs.Plain.{statement}
 use Rattle.forec_tree.specs.Terms.{Text, Statement, Group, Statements, no_statements, more_statements}
 use Rattle.forec_tree.specs.Pauses.{within}
-use Rattle.text_kernel.specs.Lowering.{Next, InPlace, in_place_step, nothing_in_place, lower_statement}
+use Rattle.text_kernel.specs.Lowering.{NextNumbers, InPlace, in_place_step, nothing_in_place, lower_statement}
 use Rattle.text_kernel.specs.declared.names.Slot.{Slot}
 use Rattle.body_lower.specs.declared.landing.Landing.{Landing}
 
@@ -20,7 +20,7 @@ inside _ = None
 
 -- two statements become the same wherever they stand
 abbrev pub SameKernel : Statement → Statement → Type 0
-SameKernel a b = (text : Text) (called : ℕ → InPlace) (t : ℕ) (s : List Slot) (n : Next) → lower_statement text called t s n a ≡ lower_statement text called t s n b
+SameKernel a b = (text : Text) (called : ℕ → InPlace) (t : ℕ) (s : List Slot) (n : NextNumbers) → lower_statement text called t s n a ≡ lower_statement text called t s n b
 
 -- what is called as a statement is put in place, up to so many calls deep
 abbrev pub called_within : Text → ℕ → ℕ → InPlace
@@ -30,7 +30,7 @@ called_within text deep = within nothing_in_place (in_place_step text) deep
 abbrev pub FunctionLands : Text → ℕ → Option Landing → Type 0
 FunctionLands text id None = Unit {0}
 FunctionLands text id (Some l) =
-    (above first t : ℕ) (n : Next) → called_within text (l.calls + above) id first t n ≡ lower_statement text (called_within text above) t [] n (statement l.statement.now)
+    (above first t : ℕ) (n : NextNumbers) → called_within text (l.calls + above) id first t n ≡ lower_statement text (called_within text above) t [] n (statement l.statement.now)
 
 abbrev pub AllLand : Text → List (Option Landing) → Type 0
 AllLand text table = (id : ℕ) → FunctionLands text id (slice_index_or table id None)
@@ -39,7 +39,7 @@ AllLand text table = (id : ℕ) → FunctionLands text id (slice_index_or table 
 abbrev pub CallLands : Text → Statement → Option Landing → Type 0
 CallLands text a None = Unit {0}
 CallLands text a (Some l) =
-    (above t : ℕ) (s : List Slot) (n : Next) →
+    (above t : ℕ) (s : List Slot) (n : NextNumbers) →
     lower_statement text (called_within text (l.calls + above)) t s n a ≡ lower_statement text (called_within text above) t [] n (statement l.statement.now)
 
 -- a landing was put at a name

@@ -13,7 +13,7 @@ use Rattle.body_lower.specs.Landings.{called_within, AllLand}
 use Rattle.body_lower.specs.declared.state.Pending.{Pending}
 use Rattle.body_lower.specs.declared.state.Thread.{Thread}
 use Rattle.body_lower.specs.declared.state.State.{State}
-use Rattle.text_kernel.specs.Lowering.{Next, Made, Lowered, Listed, Started, InPlace, as_one, lower_statement, lower_perhaps, lower_list, lower_branches}
+use Rattle.text_kernel.specs.Lowering.{NextNumbers, Made, Lowered, Listed, Started, InPlace, as_one, lower_statement, lower_perhaps, lower_list, lower_branches}
 use Rattle.text_kernel.specs.declared.names.Slot.{Slot}
 use Rattle.body_lower.specs.declared.scope.Scope.{Scope}
 
@@ -32,7 +32,7 @@ pub record Same (old new : Scope) : Type 0 where
   pub slots : new.slots.items ≡ old.slots.items
 
 -- where a thread's translation stands
-abbrev pub next_of : State → Next
+abbrev pub next_of : State → NextNumbers
 next_of s = record { slot = s.slot; thread = s.thread; par = s.par }
 
 -- a thread below, without the variables that it names
@@ -98,7 +98,7 @@ context_text c = text_of c.source.now.globals.index
 
 -- the arguments of a single branch, from where it stands
 abbrev pub Launches : Text → List Slot → Branches → Exprs → Type 0
-Launches text s bs args = (called : ℕ → InPlace) (t p : ℕ) (n : Next) → (lower_branches text called t s p n bs).launches ≡ record { thread = n.thread; args = args } ∷ []
+Launches text s bs args = (called : ℕ → InPlace) (t p : ℕ) (n : NextNumbers) → (lower_branches text called t s p n bs).launches ≡ record { thread = n.thread; args = args } ∷ []
 
 -- the same, in a context
 abbrev pub Done : Context → Statement → Stmt → State → State → Type 0

@@ -16,7 +16,7 @@ use Rattle.std.specs.declared.alloc.Global.{Global as Alloc}
 use Rattle.body_lower.specs.declared.state.State.{State}
 use Rattle.body_lower.specs.declared.state.Thread.{Thread}
 use Rattle.text_kernel.specs.Bindings.{first_value}
-use Rattle.text_kernel.specs.Lowering.{Next, as_one, body_in_place}
+use Rattle.text_kernel.specs.Lowering.{NextNumbers, as_one, body_in_place}
 use Rattle.text_kernel.specs.Kernels.{padded, function_body}
 use Rattle.body_lower.specs.Landings.{called_within}
 use Rattle.body_lower.specs.Views.{Bare, bare, of_thread, next_of, threads_in, threads_of, Does}
@@ -29,18 +29,18 @@ use Rattle.body_lower.proofs.Statements.{drop_next}
 
 -- ---- int functions
 
-from_params : ℕ → Next
+from_params : ℕ → NextNumbers
 from_params n = record { slot = n; thread = 1; par = 0 }
 
 -- where nothing is put in place
-alone : (text : Text) (names : List (List ℕ)) (f : PlainFunction) (n : Next) → n ≡ (let m : Next = record { slot = length f.params; thread = 1; par = 0 } in m) →
+alone : (text : Text) (names : List (List ℕ)) (f : PlainFunction) (n : NextNumbers) → n ≡ (let m : NextNumbers = record { slot = length f.params; thread = 1; par = 0 } in m) →
     body_in_place text (called_within text 0) (Some f) 0 0 n ≡ as_one (function_body text names f)
 unfolding within
 alone text names f n e = ap (body_in_place text (called_within text 0) (Some f) 0 0) e
 
-begins : (s : State) (p : ℕ) → s.slot ≡ p → s.thread ≡ 1 → s.par ≡ 0 → next_of s ≡ (let m : Next = record { slot = p; thread = 1; par = 0 } in m)
+begins : (s : State) (p : ℕ) → s.slot ≡ p → s.thread ≡ 1 → s.par ≡ 0 → next_of s ≡ (let m : NextNumbers = record { slot = p; thread = 1; par = 0 } in m)
 begins s p e t q =
-    let at = λ (a : ℕ) (b : ℕ) (c : ℕ). let m : Next = record { slot = a; thread = b; par = c } in m in
+    let at = λ (a : ℕ) (b : ℕ) (c : ℕ). let m : NextNumbers = record { slot = a; thread = b; par = c } in m in
     ap (λ x. at x s.thread s.par) e ∙ (ap (λ x. at p x s.par) t ∙ ap (at p 1) q)
 
 pub translated : (text : Text) (names : List (List ℕ)) (f : PlainFunction) (k : Stmt) (old new : State) → old.slot ≡ length f.params → old.thread ≡ 1 → old.par ≡ 0 →
@@ -51,12 +51,12 @@ translated text names f k old new s t p d = subst (λ l. Does text l k old new) 
 pub expanded : (text : Text) (deep first : ℕ) (b : Bodies) (old new : State) → deep ≡ length text → old.slot ≡ 0 → old.thread ≡ 1 → old.par ≡ 0 → old.pending.items ≡ [] →
     Does text (called_within text deep first 0 0 (next_of old)) (stmt b.main) old new → b.words ≡ new.slot → map of_thread b.threads.items ≡ threads_of text new → Expanded text first b
 expanded text deep first b old new e s t p none d w threads =
-    let n : Next = record { slot = 0; thread = 1; par = 0 } in
+    let n : NextNumbers = record { slot = 0; thread = 1; par = 0 } in
     let root : Does text (called_within text (length text) first 0 0 n) (stmt b.main) old new =
     subst (λ x. Does text (called_within text (length text) first 0 0 x) (stmt b.main) old new) (begins old 0 s t p) (subst (λ x. Does text (called_within text x first 0 0 (next_of old)) (stmt b.main) old new) e d) in
     record {
       main = root.is;
-      words = w ∙ ap (λ (x : Next). x.slot) root.next;
+      words = w ∙ ap (λ (x : NextNumbers). x.slot) root.next;
       threads = threads ∙ (root.threads ∙ ap (λ l. threads_in text l ++ map bare (called_within text (length text) first 0 0 n).made) none);
     }
 

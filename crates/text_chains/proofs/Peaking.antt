@@ -17,7 +17,7 @@ use Rattle.forec_kernel.specs.WellFormed.{greatest, count_up, stmt_calls, pars_o
 use Rattle.forec_kernel.specs.declared.shape.Variable.{Variable}
 use Rattle.loop_check.proofs.Indexed.{split}
 use Rattle.text_kernel.specs.Bindings.{number_among, is_variable, is_int_function}
-use Rattle.text_kernel.specs.Lowering.{stands, read_as, vars_in, Next, Made}
+use Rattle.text_kernel.specs.Lowering.{stands, read_as, vars_in, NextNumbers, Made}
 use Rattle.text_kernel.specs.declared.names.Slot.{Slot}
 use Rattle.text_kernel.specs.Kernels.{kernel_of, root, main_id, thread_shape, variable_items, variable_shape, variable_count, combine_of, filter_in}
 use Rattle.text_kernel.proofs.Faultless.{Clean, own_item}
@@ -108,7 +108,7 @@ module _ (text : Text) (names : List (List ℕ)) where
         peak_by i value worth text (main_id text names) ≡ min (by_variable u (kernel_of text names) v worth) (2 ^ 64 - 1)
     unfolding tally_value
     peak_told i v worth Real either inside reading =
-        let from : Next = record { slot = 0; thread = 1; par = 0 } in
+        let from : NextNumbers = record { slot = 0; thread = 1; par = 0 } in
         let x = place_told text (kernel_of text names) (variable_count text names) i v worth u Real either inside reading (length text) (main_id text names) 0 0 from root_sits in
         let c = x.calls in
         let s = x.slot in

@@ -21,7 +21,7 @@ use Rattle.text_kernel.specs.declared.names.Stands.{Stands}
 use Rattle.text_kernel.specs.declared.names.Stands.TheVariants as st
 use Rattle.text_kernel.specs.Bindings.{with_locals, params_at, slots_of, number_of, number_among, is_int_function, find_slot}
 use Rattle.text_kernel.specs.Lowering as low
-use Rattle.text_kernel.specs.Lowering.{read_as, element_as, stands, lower_term, lower_terms, sequence, ends_with, operated, assign_to, assign_at, array_values, lower_local, lower_locals, slots_behind, set_params, optional_test, lower_target, lower_statement, lower_list, lower_perhaps, lower_branches, scope_behind, scope_behind_perhaps, after_start, then_step, par_of, par_behind, bound_of, or_inferred, params_of, vars_in, vars_all, vars_of, vars_list, vars_launches, vars_made, Next, Made, Lowered, InPlace, body_in_place, in_place_step, nothing_in_place}
+use Rattle.text_kernel.specs.Lowering.{read_as, element_as, stands, lower_term, lower_terms, sequence, ends_with, operated, assign_to, assign_at, array_values, lower_local, lower_locals, slots_behind, set_params, optional_test, lower_target, lower_statement, lower_list, lower_perhaps, lower_branches, scope_behind, scope_behind_perhaps, after_start, then_step, par_of, par_behind, bound_of, or_inferred, params_of, vars_in, vars_all, vars_of, vars_list, vars_launches, vars_made, NextNumbers, Made, Lowered, InPlace, body_in_place, in_place_step, nothing_in_place}
 use Rattle.text_kernel.specs.Kernels.{filter_in}
 use Rattle.text_kernel.proofs.NamedVariables.{in_append, sequence_vars, ends_vars}
 use Rattle.text_kernel.proofs.Covered.{vars_append}
@@ -311,8 +311,8 @@ module _
   -- ---- statements
 
   module _
-      (called : ℕ → InPlace) (known : ℕ → Tally) (grown : (id first t : ℕ) (n : Next) → IsGrown t n (pars_of (called id first t n).stmt) (called id first t n).made (called id first t n).next)
-      (right : (id first t : ℕ) (n : Next) → SitsIn k count n.thread (called id first t n).made →
+      (called : ℕ → InPlace) (known : ℕ → Tally) (grown : (id first t : ℕ) (n : NextNumbers) → IsGrown t n (pars_of (called id first t n).stmt) (called id first t n).made (called id first t n).next)
+      (right : (id first t : ℕ) (n : NextNumbers) → SitsIn k count n.thread (called id first t n).made →
       Tells (vars_of (called id first t n).stmt) (stmt_calls (called id first t n).stmt) (pars_of (called id first t n).stmt) (called id first t n).made n.slot (called id first t n).next.slot (known id)) where
     abbrev Branched : List Branch → List Made → ℕ → Tally → Type 0
     Branched ls made from p = Tells (vars_launches ls) (branch_calls ls) [] made from from p
@@ -377,26 +377,26 @@ module _
         record { taken = 0; named = λ r. refl; calls = omega (arith, e); slot = omega arith; words = omega arith; peak = omega arith } in
         two [] _ [] _ (threads_in (b ∷ ls) ∷ []) [] [] made from from from _ p one x
 
-    list_thread : (t : ℕ) (s : List Slot) (n : Next) (a : Statements) → (lower_list text called t s n a).next.thread ≡ n.thread + length (lower_list text called t s n a).made
+    list_thread : (t : ℕ) (s : List Slot) (n : NextNumbers) (a : Statements) → (lower_list text called t s n a).next.thread ≡ n.thread + length (lower_list text called t s n a).made
     list_thread t s n a = threads_grow (list_grows text called grown t s n a).grown
 
-    perhaps_thread : (t : ℕ) (s : List Slot) (n : Next) (a : Perhaps) → (lower_perhaps text called t s n a).next.thread ≡ n.thread + length (lower_perhaps text called t s n a).made
+    perhaps_thread : (t : ℕ) (s : List Slot) (n : NextNumbers) (a : Perhaps) → (lower_perhaps text called t s n a).next.thread ≡ n.thread + length (lower_perhaps text called t s n a).made
     perhaps_thread t s n a = threads_grow (perhaps_grows text called grown t s n a).grown
 
-    one_thread : (t : ℕ) (s : List Slot) (n : Next) (a : Statement) → (lower_statement text called t s n a).next.thread ≡ n.thread + length (lower_statement text called t s n a).made
+    one_thread : (t : ℕ) (s : List Slot) (n : NextNumbers) (a : Statement) → (lower_statement text called t s n a).next.thread ≡ n.thread + length (lower_statement text called t s n a).made
     one_thread t s n a = threads_grow (grows text called grown t s n a).grown
 
-    nop_of : (t : ℕ) (s : List Slot) (n : Next) (a : Perhaps) → a ≡ absent → (lower_perhaps text called t s n a).stmt ≡ kernel.Nop
+    nop_of : (t : ℕ) (s : List Slot) (n : NextNumbers) (a : Perhaps) → a ≡ absent → (lower_perhaps text called t s n a).stmt ≡ kernel.Nop
     nop_of t s n a e = ap (λ x. (lower_perhaps text called t s n x).stmt) e
 
-    branches_slot : (t : ℕ) (s : List Slot) (q : ℕ) (n : Next) (bs : Branches) → (lower_branches text called t s q n bs).next.slot ≡ n.slot
+    branches_slot : (t : ℕ) (s : List Slot) (q : ℕ) (n : NextNumbers) (bs : Branches) → (lower_branches text called t s q n bs).next.slot ≡ n.slot
     branches_slot t s q n no_branches = refl
     branches_slot t s q n (by_call name args rest) =
         let b = called name.id 0 n.thread (record { slot = count_terms args; thread = suc n.thread; par = n.par }) in branches_slot t s q (record { slot = n.slot; thread = b.next.thread; par = b.next.par }) rest
     branches_slot t s q n (by_group at body rest) =
         let l = lower_list text called n.thread [] (record { slot = 0; thread = suc n.thread; par = n.par }) body in branches_slot t s q (record { slot = n.slot; thread = l.next.thread; par = l.next.par }) rest
 
-    no_launch : (t : ℕ) (s : List Slot) (q : ℕ) (n : Next) (bs : Branches) → (lower_branches text called t s q n bs).launches ≡ [] → of.count_naming i value worth known bs ≡ 0
+    no_launch : (t : ℕ) (s : List Slot) (q : ℕ) (n : NextNumbers) (bs : Branches) → (lower_branches text called t s q n bs).launches ≡ [] → of.count_naming i value worth known bs ≡ 0
     no_launch t s q n no_branches e = refl
     no_launch t s q n (by_call name args rest) e = cc
     no_launch t s q n (by_group at body rest) e = cc
@@ -405,7 +405,7 @@ module _
     ended vs cs ps m from to other p e x = let s = x.slot in record { taken = x.taken; named = x.named; calls = x.calls; slot = omega (arith, e, s); words = x.words; peak = x.peak }
 
     mutual
-      pub told : (t : ℕ) (s : List Slot) (n : Next) (h : Bool) (a : Statement) → seen i s ≡ h → SitsIn k count n.thread (lower_statement text called t s n a).made →
+      pub told : (t : ℕ) (s : List Slot) (n : NextNumbers) (h : Bool) (a : Statement) → seen i s ≡ h → SitsIn k count n.thread (lower_statement text called t s n a).made →
           let l = lower_statement text called t s n a in Tells (vars_of l.stmt) (stmt_calls l.stmt) (pars_of l.stmt) l.made n.slot l.next.slot (of.tally i value worth known h a)
       told t s n h (Nothing at) w z = none_told n.slot
       told t s n h (Group at body) w z =
@@ -463,7 +463,7 @@ module _
           (two _ _ _ _ [] _ [] (j0.made ++ l0.made) i0.next.slot i0.next.slot l0.next.slot _ _ b (two _ _ _ _ _ _ j0.made l0.made i0.next.slot j0.next.slot l0.next.slot _ _ c d)))
       told t s n h (Pause at) w z = none_told n.slot
       told t s n h (Par at bs) w z =
-          let next : Next = record { slot = n.slot; thread = n.thread; par = par_behind bs n.par } in
+          let next : NextNumbers = record { slot = n.slot; thread = n.thread; par = par_behind bs n.par } in
           let m = lower_branches text called t s n.par next bs in
           ended _ _ _ m.made n.slot n.slot m.next.slot _ (branches_slot t s n.par next bs)
           (par_listed m.launches m.made n.slot (of.count_naming i value worth known bs) _ (branches_told t s n.par next h bs w z) (users_told t s n.par next bs z) (no_launch t s n.par next bs))
@@ -473,7 +473,7 @@ module _
           (two _ _ _ _ [] _ [] l.made n.slot n.slot l.next.slot _ _ (term_told n.slot s h w test) (list_told t s n h body w z))
       told t s n h (Return at e) w z = term_told n.slot s h w e
 
-      pub list_told : (t : ℕ) (s : List Slot) (n : Next) (h : Bool) (a : Statements) → seen i s ≡ h → SitsIn k count n.thread (lower_list text called t s n a).made →
+      pub list_told : (t : ℕ) (s : List Slot) (n : NextNumbers) (h : Bool) (a : Statements) → seen i s ≡ h → SitsIn k count n.thread (lower_list text called t s n a).made →
           let l = lower_list text called t s n a in Tells (vars_list l.list) (stmts_calls l.list) (pars_in l.list) l.made n.slot l.next.slot (of.all_tally i value worth known h a)
       list_told t s n h no_statements w z = none_told n.slot
       list_told t s n h (more_statements a rest) w z =
@@ -483,18 +483,18 @@ module _
           two _ _ _ _ _ _ l.made m.made n.slot l.next.slot m.next.slot _ _ (told t s n h a w (sits_left k count n.thread l.made m.made z))
           (list_told t scope l.next (behind i h a) rest (seen_behind i text s n.slot a h w) (sits_right k count n.thread l.next.thread l.made m.made (one_thread t s n a) z))
 
-      perhaps_told : (t : ℕ) (s : List Slot) (n : Next) (h : Bool) (a : Perhaps) → seen i s ≡ h → SitsIn k count n.thread (lower_perhaps text called t s n a).made →
+      perhaps_told : (t : ℕ) (s : List Slot) (n : NextNumbers) (h : Bool) (a : Perhaps) → seen i s ≡ h → SitsIn k count n.thread (lower_perhaps text called t s n a).made →
           let l = lower_perhaps text called t s n a in Tells (vars_of l.stmt) (stmt_calls l.stmt) (pars_of l.stmt) l.made n.slot l.next.slot (of.perhaps_tally i value worth known h a)
       perhaps_told t s n h absent w z = none_told n.slot
       perhaps_told t s n h (present a) w z = told t s n h a w z
 
-      branches_told : (t : ℕ) (s : List Slot) (q : ℕ) (n : Next) (h : Bool) (bs : Branches) → seen i s ≡ h → SitsIn k count n.thread (lower_branches text called t s q n bs).made →
+      branches_told : (t : ℕ) (s : List Slot) (q : ℕ) (n : NextNumbers) (h : Bool) (bs : Branches) → seen i s ≡ h → SitsIn k count n.thread (lower_branches text called t s q n bs).made →
           let m = lower_branches text called t s q n bs in Branched m.launches m.made n.slot (of.branches_tally i value worth known h bs)
       branches_told t s q n h no_branches w z = none_told n.slot
       branches_told t s q n h (by_call name args rest) w z =
-          let inner : Next = record { slot = count_terms args; thread = suc n.thread; par = n.par } in
+          let inner : NextNumbers = record { slot = count_terms args; thread = suc n.thread; par = n.par } in
           let b = called name.id 0 n.thread inner in
-          let next : Next = record { slot = n.slot; thread = b.next.thread; par = b.next.par } in
+          let next : NextNumbers = record { slot = n.slot; thread = b.next.thread; par = b.next.par } in
           let m = lower_branches text called t s q next rest in
           let params = length (params_of (find_function name.id text)) in
           let first = low.thread_of t q (Some name.id) params b in
@@ -504,10 +504,10 @@ module _
           listed _ _ _ _ [] [] (first ++ m.made) n.slot n.slot _ (ap (λ l. l ++ vars_launches m.launches) (sym (append-nil (vars_all (lower_terms text s args))))) (ap (λ l. l ++ branch_calls m.launches) (sym (append-nil (calls_in (lower_terms text s args))))) refl
           (two _ _ _ _ [] [] first m.made n.slot n.slot n.slot _ _ x (branches_told t s q next h rest w (sits_right k count n.thread b.next.thread first m.made (omega (arith, grew)) z)))
       branches_told t s q n h (by_group at body rest) w z =
-          let inner : Next = record { slot = 0; thread = suc n.thread; par = n.par } in
+          let inner : NextNumbers = record { slot = 0; thread = suc n.thread; par = n.par } in
           let l = lower_list text called n.thread [] inner body in
           let b : Lowered = record { stmt = sequence l.list; next = l.next; made = l.made } in
-          let next : Next = record { slot = n.slot; thread = l.next.thread; par = l.next.par } in
+          let next : NextNumbers = record { slot = n.slot; thread = l.next.thread; par = l.next.par } in
           let m = lower_branches text called t s q next rest in
           let first = low.thread_of t q None 0 b in
           let grew = list_thread n.thread [] inner body in
@@ -515,13 +515,13 @@ module _
           two [] _ [] _ [] [] first m.made n.slot n.slot n.slot _ _ (thread_told n.slot 0 t q None 0 b _ own)
           (branches_told t s q next h rest w (sits_right k count n.thread l.next.thread first m.made (omega (arith, grew)) z))
 
-      users_told : (t : ℕ) (s : List Slot) (q : ℕ) (n : Next) (bs : Branches) → SitsIn k count n.thread (lower_branches text called t s q n bs).made → Real →
+      users_told : (t : ℕ) (s : List Slot) (q : ℕ) (n : NextNumbers) (bs : Branches) → SitsIn k count n.thread (lower_branches text called t s q n bs).made → Real →
           users k (threads_in (lower_branches text called t s q n bs).launches) v ≡ of.count_naming i value worth known bs
       users_told t s q n no_branches z r = refl
       users_told t s q n (by_call name args rest) z r =
-          let inner : Next = record { slot = count_terms args; thread = suc n.thread; par = n.par } in
+          let inner : NextNumbers = record { slot = count_terms args; thread = suc n.thread; par = n.par } in
           let b = called name.id 0 n.thread inner in
-          let next : Next = record { slot = n.slot; thread = b.next.thread; par = b.next.par } in
+          let next : NextNumbers = record { slot = n.slot; thread = b.next.thread; par = b.next.par } in
           let m = lower_branches text called t s q next rest in
           let params = length (params_of (find_function name.id text)) in
           let first = low.thread_of t q (Some name.id) params b in
@@ -530,10 +530,10 @@ module _
           one_user (contains v (uses_of k n.thread)) (known name.id).named (users k (threads_in m.launches) v) (of.count_naming i value worth known rest)
           (uses_told n.thread t q (Some name.id) params (count_terms args) b (known name.id) m.made own z r) (users_told t s q next rest (sits_right k count n.thread b.next.thread first m.made (omega (arith, grew)) z) r)
       users_told t s q n (by_group at body rest) z r =
-          let inner : Next = record { slot = 0; thread = suc n.thread; par = n.par } in
+          let inner : NextNumbers = record { slot = 0; thread = suc n.thread; par = n.par } in
           let l = lower_list text called n.thread [] inner body in
           let b : Lowered = record { stmt = sequence l.list; next = l.next; made = l.made } in
-          let next : Next = record { slot = n.slot; thread = l.next.thread; par = l.next.par } in
+          let next : NextNumbers = record { slot = n.slot; thread = l.next.thread; par = l.next.par } in
           let m = lower_branches text called t s q next rest in
           let first = low.thread_of t q None 0 b in
           let grew = list_thread n.thread [] inner body in
@@ -543,10 +543,10 @@ module _
 
   -- ---- functions that are put in place
 
-  body_told : (called : ℕ → InPlace) (known : ℕ → Tally) → ((id first t : ℕ) (n : Next) → IsGrown t n (pars_of (called id first t n).stmt) (called id first t n).made (called id first t n).next) →
-      ((id first t : ℕ) (n : Next) → SitsIn k count n.thread (called id first t n).made →
+  body_told : (called : ℕ → InPlace) (known : ℕ → Tally) → ((id first t : ℕ) (n : NextNumbers) → IsGrown t n (pars_of (called id first t n).stmt) (called id first t n).made (called id first t n).next) →
+      ((id first t : ℕ) (n : NextNumbers) → SitsIn k count n.thread (called id first t n).made →
       Tells (vars_of (called id first t n).stmt) (stmt_calls (called id first t n).stmt) (pars_of (called id first t n).stmt) (called id first t n).made n.slot (called id first t n).next.slot (known id)) →
-      (f : Option PlainFunction) (first t : ℕ) (n : Next) → let l = body_in_place text called f first t n in
+      (f : Option PlainFunction) (first t : ℕ) (n : NextNumbers) → let l = body_in_place text called f first t n in
       SitsIn k count n.thread l.made → Tells (vars_of l.stmt) (stmt_calls l.stmt) (pars_of l.stmt) l.made n.slot l.next.slot (of.body_tally i value worth known f)
   body_told called known grown right None first t n z = none_told n.slot
   body_told called known grown right (Some f) first t n z =
@@ -554,7 +554,7 @@ module _
       listed _ _ _ _ _ _ l.made n.slot l.next.slot _ (sequence_vars l.list) (sequence_calls l.list) (sequence_pars l.list)
       (list_told called known grown right t (params_at first f.params) n (hides_params i false f.params) f.body (seen_params i f.params first) z)
 
-  pub place_told : (deep id first t : ℕ) (n : Next) → let l = within nothing_in_place (in_place_step text) deep id first t n in
+  pub place_told : (deep id first t : ℕ) (n : NextNumbers) → let l = within nothing_in_place (in_place_step text) deep id first t n in
       SitsIn k count n.thread l.made → Tells (vars_of l.stmt) (stmt_calls l.stmt) (pars_of l.stmt) l.made n.slot l.next.slot (within nothing (of.tally_step i value worth text) deep id)
   unfolding within
   place_told zero id first t n z = none_told n.slot

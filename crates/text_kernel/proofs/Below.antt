@@ -13,7 +13,7 @@ use Rattle.forec_kernel.specs.WellFormed.{FineStmt}
 use Rattle.text_kernel.specs.declared.names.Slot.{Slot}
 use Rattle.text_kernel.specs.Bindings.{params_at}
 use Rattle.text_kernel.specs.Lowering as low
-use Rattle.text_kernel.specs.Lowering.{sequence, lower_statement, lower_list, lower_perhaps, lower_branches, scope_behind, scope_behind_perhaps, par_behind, params_of, Next, Made, Lowered, InPlace, body_in_place, in_place_step, nothing_in_place}
+use Rattle.text_kernel.specs.Lowering.{sequence, lower_statement, lower_list, lower_perhaps, lower_branches, scope_behind, scope_behind_perhaps, par_behind, params_of, NextNumbers, Made, Lowered, InPlace, body_in_place, in_place_step, nothing_in_place}
 use Rattle.text_kernel.proofs.Fine.{none_left, none_right, parts_left, parts_right, good_use, Knows}
 use Rattle.text_kernel.proofs.FineStatements.{sequence_fine}
 use Rattle.text_kernel.proofs.Grown.{made_of, in_place_grows, grows, list_grows, perhaps_grows}
@@ -53,7 +53,7 @@ module _ (text : Text) (k : PlainKernel) (uses : List ℕ) (names : List (List �
   judging = record { names = names; gives = false }
 
   abbrev pub Below : (deep : ℕ) → Type 0
-  Below deep = (t n first id : ℕ) (from : Next) → ((f : PlainFunction) → find_function id text ≡ Some f → Runnable n f) →
+  Below deep = (t n first id : ℕ) (from : NextNumbers) → ((f : PlainFunction) → find_function id text ≡ Some f → Runnable n f) →
       Sits k from.thread (within nothing_in_place (in_place_step text) deep id first t from).made → AllFine k uses (within nothing_in_place (in_place_step text) deep id first t from).made
 
   module _ (deep : ℕ) (deeper : Below deep) where
@@ -67,7 +67,7 @@ module _ (text : Text) (k : PlainKernel) (uses : List ℕ) (names : List (List �
     start_of sc name n h = startable false n (find_last name.id None (sc.outer ++ sc.here)) (find_item name.id text) (good_use judging (Starts n) name (meaning text sc name.id) h)
 
     -- a branch, before the threads below it
-    branch_fine : (t q : ℕ) (n : Next) (name : Option ℕ) (params : ℕ) (b : Lowered) → Sits k n.thread (low.thread_of t q name params b) → params ≤ b.next.slot →
+    branch_fine : (t q : ℕ) (n : NextNumbers) (name : Option ℕ) (params : ℕ) (b : Lowered) → Sits k n.thread (low.thread_of t q name params b) → params ≤ b.next.slot →
         (Sits k (suc n.thread) b.made → FineStmt false (record { kernel = k; words = b.next.slot; uses = uses }) b.stmt) → (Sits k (suc n.thread) b.made → AllFine k uses b.made) →
         AllFine k uses (low.thread_of t q name params b)
     branch_fine t q n name params b z l f g =
@@ -75,7 +75,7 @@ module _ (text : Text) (k : PlainKernel) (uses : List ℕ) (names : List (List �
         all_more k uses (made_of t q name params b) b.made (record { params = l; body = f inner }) (g inner)
 
     mutual
-      made_fine : (t : ℕ) (s : List Slot) (n : Next) (sc : Scope) (a : Statement) → findings_faults judging (in_statement text sc a) ≡ [] →
+      made_fine : (t : ℕ) (s : List Slot) (n : NextNumbers) (sc : Scope) (a : Statement) → findings_faults judging (in_statement text sc a) ≡ [] →
           Sits k n.thread (lower_statement text called t s n a).made → AllFine k uses (lower_statement text called t s n a).made
       made_fine t s n sc (Nothing at) h z = none_fine k uses
       made_fine t s n sc (Group at body) h z = list_made t s n (entered sc) body h z
@@ -123,7 +123,7 @@ module _ (text : Text) (k : PlainKernel) (uses : List ℕ) (names : List (List �
           list_made t s n (entered sc) body (parts_right judging (in_term text sc test) (in_statements text (entered sc) body) h) z
       made_fine t s n sc (Return at value) h z = none_fine k uses
 
-      pub list_made : (t : ℕ) (s : List Slot) (n : Next) (sc : Scope) (a : Statements) → findings_faults judging (in_statements text sc a) ≡ [] →
+      pub list_made : (t : ℕ) (s : List Slot) (n : NextNumbers) (sc : Scope) (a : Statements) → findings_faults judging (in_statements text sc a) ≡ [] →
           Sits k n.thread (lower_list text called t s n a).made → AllFine k uses (lower_list text called t s n a).made
       list_made t s n sc no_statements h z = none_fine k uses
       list_made t s n sc (more_statements a rest) h z =
@@ -135,18 +135,18 @@ module _ (text : Text) (k : PlainKernel) (uses : List ℕ) (names : List (List �
           (made_fine t s n sc a (parts_left judging (in_statement text sc a) (in_statements text (behind sc a) rest) h) (sits_left k n.thread one.made two.made z))
           (list_made t s2 one.next (behind sc a) rest (parts_right judging (in_statement text sc a) (in_statements text (behind sc a) rest) h) (sits_right k n.thread one.next.thread one.made two.made long z))
 
-      perhaps_made : (t : ℕ) (s : List Slot) (n : Next) (sc : Scope) (a : Perhaps) → findings_faults judging (in_perhaps text sc a) ≡ [] →
+      perhaps_made : (t : ℕ) (s : List Slot) (n : NextNumbers) (sc : Scope) (a : Perhaps) → findings_faults judging (in_perhaps text sc a) ≡ [] →
           Sits k n.thread (lower_perhaps text called t s n a).made → AllFine k uses (lower_perhaps text called t s n a).made
       perhaps_made t s n sc absent h z = none_fine k uses
       perhaps_made t s n sc (present a) h z = made_fine t s n sc a h z
 
-      branches_made : (t : ℕ) (s : List Slot) (q : ℕ) (n : Next) (sc : Scope) (bs : Branches) → findings_faults judging (in_branches text sc bs) ≡ [] →
+      branches_made : (t : ℕ) (s : List Slot) (q : ℕ) (n : NextNumbers) (sc : Scope) (bs : Branches) → findings_faults judging (in_branches text sc bs) ≡ [] →
           Sits k n.thread (lower_branches text called t s q n bs).made → AllFine k uses (lower_branches text called t s q n bs).made
       branches_made t s q n sc no_branches h z = none_fine k uses
       branches_made t s q n sc (by_call name args rest) h z =
-          let inside : Next = record { slot = count_terms args; thread = suc n.thread; par = n.par } in
+          let inside : NextNumbers = record { slot = count_terms args; thread = suc n.thread; par = n.par } in
           let b = called name.id 0 n.thread inside in
-          let next : Next = record { slot = n.slot; thread = b.next.thread; par = b.next.par } in
+          let next : NextNumbers = record { slot = n.slot; thread = b.next.thread; par = b.next.par } in
           let own = use_faults judging (Starts (count_terms args)) name (meaning text sc name.id) in
           let u = start_of sc name (count_terms args) (none_left own (findings_faults judging (in_terms text sc args ++ in_branches text sc rest)) h) in
           let h1 = none_right own (findings_faults judging (in_terms text sc args ++ in_branches text sc rest)) h in
@@ -162,10 +162,10 @@ module _ (text : Text) (k : PlainKernel) (uses : List ℕ) (names : List (List �
           (λ y. deeper n.thread (count_terms args) 0 name.id inside u y))
           (branches_made t s q next sc rest (parts_right judging (in_terms text sc args) (in_branches text sc rest) h1) (sits_right k n.thread b.next.thread first others (omega (arith, long)) z))
       branches_made t s q n sc (by_group place body rest) h z =
-          let inside : Next = record { slot = 0; thread = suc n.thread; par = n.par } in
+          let inside : NextNumbers = record { slot = 0; thread = suc n.thread; par = n.par } in
           let l = lower_list text called n.thread [] inside body in
           let b : Lowered = record { stmt = sequence l.list; next = l.next; made = l.made } in
-          let next : Next = record { slot = n.slot; thread = l.next.thread; par = l.next.par } in
+          let next : NextNumbers = record { slot = n.slot; thread = l.next.thread; par = l.next.par } in
           let hb = parts_left judging (in_statements text no_scope body) (Closes ∷ in_branches text sc rest) h in
           let hr = parts_right judging (in_statements text no_scope body) (Closes ∷ in_branches text sc rest) h in
           let first = low.thread_of t q None 0 b in
@@ -179,7 +179,7 @@ module _ (text : Text) (k : PlainKernel) (uses : List ℕ) (names : List (List �
           (λ y. list_made n.thread [] inside no_scope body hb y))
           (branches_made t s q next sc rest hr (sits_right k n.thread l.next.thread first others (omega (arith, long)) z))
 
-  body_made : (deep : ℕ) → Below deep → (t n first : ℕ) (from : Next) (o : Option PlainFunction) →
+  body_made : (deep : ℕ) → Below deep → (t n first : ℕ) (from : NextNumbers) (o : Option PlainFunction) →
       ((f : PlainFunction) → o ≡ Some f → findings_faults judging (in_function text f) ≡ []) →
       let l = body_in_place text (within nothing_in_place (in_place_step text) deep) o first t from in Sits k from.thread l.made → AllFine k uses l.made
   body_made deep deeper t n first from None c z = none_fine k uses

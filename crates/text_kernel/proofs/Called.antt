@@ -23,7 +23,7 @@ use Rattle.text_kernel.specs.declared.names.Slot.{Slot}
 use Rattle.text_kernel.specs.declared.names.Stands.{Stands}
 use Rattle.text_kernel.specs.declared.names.Stands.TheVariants as st
 use Rattle.text_kernel.specs.Bindings.{with_locals, params_at, slots_of, number_of, number_among, is_int_function}
-use Rattle.text_kernel.specs.Lowering.{Next, stands, read_as, element_as, lower_term, lower_terms, sequence, ends_with, operated, assign_to, assign_at, array_values, lower_local, lower_locals, set_params, optional_test, lower_target, lower_statement, lower_list, lower_perhaps, scope_behind, scope_behind_perhaps, after_start, then_step}
+use Rattle.text_kernel.specs.Lowering.{NextNumbers, stands, read_as, element_as, lower_term, lower_terms, sequence, ends_with, operated, assign_to, assign_at, array_values, lower_local, lower_locals, set_params, optional_test, lower_target, lower_statement, lower_list, lower_perhaps, scope_behind, scope_behind_perhaps, after_start, then_step}
 use Rattle.text_kernel.specs.Kernels as kernels
 use Rattle.text_kernel.specs.Kernels.{kernel_of, int_functions}
 use Rattle.text_kernel.proofs.Fine.{none_left, none_right, not_broken, parts_left, parts_right, GoodUse, good_use}
@@ -282,12 +282,12 @@ module _ (text : Text) where
     optional_named sc s None h = none_named []
     optional_named sc s (Some e) h = term_named sc s e h
 
-    after_calls : (start : Perhaps) (t : ℕ) (s : List Slot) (n : Next) (loop : Stmt) →
+    after_calls : (start : Perhaps) (t : ℕ) (s : List Slot) (n : NextNumbers) (loop : Stmt) →
         let i = lower_perhaps text nothing t s n start in stmt_calls (after_start start i.stmt loop) ≡ stmt_calls i.stmt ++ stmt_calls loop
     after_calls absent t s n loop = refl
     after_calls (present a) t s n loop = ap (λ l. stmt_calls (lower_statement text nothing t s n a).stmt ++ l) (append-nil (stmt_calls loop))
 
-    step_calls : (step : Perhaps) (t : ℕ) (s : List Slot) (n : Next) (body : Stmt) →
+    step_calls : (step : Perhaps) (t : ℕ) (s : List Slot) (n : NextNumbers) (body : Stmt) →
         let d = lower_perhaps text nothing t s n step in stmt_calls (then_step step body d.stmt) ≡ stmt_calls body ++ stmt_calls d.stmt
     step_calls absent t s n body = sym (append-nil (stmt_calls body))
     step_calls (present a) t s n body = ap (λ l. stmt_calls body ++ l) (append-nil (stmt_calls (lower_statement text nothing t s n a).stmt))
@@ -296,7 +296,7 @@ module _ (text : Text) where
     no_pause place fs h = let bad : true ≡ false = sym gives ∙ not_broken j.gives place 12 (none_left (fault_if j.gives place 12) (findings_faults j fs) h) in cc
 
     mutual
-      statement_named : (t : ℕ) (s : List Slot) (n : Next) (sc : Scope) (a : Statement) → findings_faults j (in_statement text sc a) ≡ [] →
+      statement_named : (t : ℕ) (s : List Slot) (n : NextNumbers) (sc : Scope) (a : Statement) → findings_faults j (in_statement text sc a) ≡ [] →
           AllNamed text (in_statement text sc a) (stmt_calls (lower_statement text nothing t s n a).stmt)
       statement_named t s n sc (Nothing at) h = none_named []
       statement_named t s n sc (Group at body) h =
@@ -359,7 +359,7 @@ module _ (text : Text) where
       statement_named t s n sc (Return at value) h =
           right_named (Gives at ∷ []) (in_term text sc value) _ (term_named sc s value (parts_right j (Gives at ∷ []) (in_term text sc value) h))
 
-      list_named : (t : ℕ) (s : List Slot) (n : Next) (sc : Scope) (a : Statements) → findings_faults j (in_statements text sc a) ≡ [] →
+      list_named : (t : ℕ) (s : List Slot) (n : NextNumbers) (sc : Scope) (a : Statements) → findings_faults j (in_statements text sc a) ≡ [] →
           AllNamed text (in_statements text sc a) (stmts_calls (lower_list text nothing t s n a).list)
       list_named t s n sc no_statements h = none_named []
       list_named t s n sc (more_statements a rest) h =
@@ -368,7 +368,7 @@ module _ (text : Text) where
           parts_named fa fr _ _ (statement_named t s n sc a (parts_left j fa fr h))
           (list_named t (scope_behind text s n.slot a) (lower_statement text nothing t s n a).next (behind sc a) rest (parts_right j fa fr h))
 
-      perhaps_named : (t : ℕ) (s : List Slot) (n : Next) (sc : Scope) (a : Perhaps) → findings_faults j (in_perhaps text sc a) ≡ [] →
+      perhaps_named : (t : ℕ) (s : List Slot) (n : NextNumbers) (sc : Scope) (a : Perhaps) → findings_faults j (in_perhaps text sc a) ≡ [] →
           AllNamed text (in_perhaps text sc a) (stmt_calls (lower_perhaps text nothing t s n a).stmt)
       perhaps_named t s n sc absent h = none_named []
       perhaps_named t s n sc (present a) h = statement_named t s n sc a h

@@ -20,7 +20,7 @@ use Rattle.text_kernel.specs.declared.names.Slot.{Slot}
 use Rattle.text_kernel.specs.Bindings as binds
 use Rattle.text_kernel.specs.Bindings.{find_slot}
 use Rattle.text_kernel.specs.Lowering as low
-use Rattle.text_kernel.specs.Lowering.{lower_term, lower_terms, sequence, ends_with, set_params, lower_locals, slots_behind, optional_test, bound_of, or_inferred, lower_statement, lower_list, lower_perhaps, lower_branches, scope_behind, scope_behind_perhaps, after_start, then_step, par_of, par_behind, params_of, Next, Made, InPlace}
+use Rattle.text_kernel.specs.Lowering.{lower_term, lower_terms, sequence, ends_with, set_params, lower_locals, slots_behind, optional_test, bound_of, or_inferred, lower_statement, lower_list, lower_perhaps, lower_branches, scope_behind, scope_behind_perhaps, after_start, then_step, par_of, par_behind, params_of, NextNumbers, Made, InPlace}
 use Rattle.text_kernel.proofs.Fine.{none_left, none_right, not_broken, not_not, parts_left, parts_right, GoodUse, seen_option, Matches, Knows, fine_term, fine_terms, count_lowered, use_good}
 use Rattle.text_kernel.proofs.FineStatements.{sequence_fine, ends_fine, target_fine}
 use Rattle.text_kernel.proofs.Unbroken.{Unbroken, unbroken_left, unbroken_right}
@@ -65,9 +65,9 @@ right_if gives k m m1 a b e z = λ d. sits_right k m m1 a b e (z d)
 
 module _
     (text : Text) (k : PlainKernel) (words : ℕ) (uses : List ℕ) (j : Judging) (knows : Knows text k uses j.gives) (called : ℕ → InPlace)
-    (right : (id first t : ℕ) (n : Next) → IsGrown t n (pars_of (called id first t n).stmt) (called id first t n).made (called id first t n).next)
-    (up : (id first t : ℕ) (n : Next) → n.slot ≤ (called id first t n).next.slot)
-    (runs : (t n first : ℕ) (sc : Scope) (name : Name) (from : Next) → use_faults j (Runs n) name (meaning text sc name.id) ≡ [] → first + n ≤ from.slot → (called name.id first t from).next.slot ≤ words →
+    (right : (id first t : ℕ) (n : NextNumbers) → IsGrown t n (pars_of (called id first t n).stmt) (called id first t n).made (called id first t n).next)
+    (up : (id first t : ℕ) (n : NextNumbers) → n.slot ≤ (called id first t n).next.slot)
+    (runs : (t n first : ℕ) (sc : Scope) (name : Name) (from : NextNumbers) → use_faults j (Runs n) name (meaning text sc name.id) ≡ [] → first + n ≤ from.slot → (called name.id first t from).next.slot ≤ words →
     SitsIf j.gives k from.thread (called name.id first t from).made → FineStmt j.gives (record { kernel = k; words = words; uses = uses }) (called name.id first t from).stmt)
     (while_ok : (sc : Scope) (at : Place) (test : Term) (bound : Option Number) (body : Statement) → Unbroken text j (in_statement text sc (While at test bound body)) → FineBound j.gives (bound_of bound))
     (for_ok : (sc : Scope) (at : Place) (start : Perhaps) (test : Option Term) (step : Perhaps) (bound : Option Number) (body : Statement) →
@@ -88,7 +88,7 @@ module _
   entered_matches : (sc : Scope) (s : List Slot) → Matches words sc s → Matches words (entered sc) s
   entered_matches sc s m = record { same = m.same ∙ sym (Rattle.std.proofs.Common.append-nil (sc.outer ++ sc.here)); good = m.good }
 
-  behind_matches : (sc : Scope) (s : List Slot) (n : Next) (t : ℕ) (a : Statement) → Matches words sc s → findings_faults j (in_statement text sc a) ≡ [] →
+  behind_matches : (sc : Scope) (s : List Slot) (n : NextNumbers) (t : ℕ) (a : Statement) → Matches words sc s → findings_faults j (in_statement text sc a) ≡ [] →
       (lower_statement text called t s n a).next.slot ≤ words → Matches words (behind sc a) (scope_behind text s n.slot a)
   behind_matches sc s n t (Declare at locals) m h l = (locals_ok sc s n.slot locals m h l).1
   behind_matches sc s n t (Nothing at) m h l = m
@@ -103,7 +103,7 @@ module _
   behind_matches sc s n t (Abort at weak immediate test body) m h l = m
   behind_matches sc s n t (Return at value) m h l = m
 
-  perhaps_matches : (sc : Scope) (s : List Slot) (n : Next) (t : ℕ) (a : Perhaps) → Matches words sc s → findings_faults j (in_perhaps text sc a) ≡ [] →
+  perhaps_matches : (sc : Scope) (s : List Slot) (n : NextNumbers) (t : ℕ) (a : Perhaps) → Matches words sc s → findings_faults j (in_perhaps text sc a) ≡ [] →
       (lower_perhaps text called t s n a).next.slot ≤ words → Matches words (behind_perhaps sc a) (scope_behind_perhaps text s n.slot a)
   perhaps_matches sc s n t absent m h l = m
   perhaps_matches sc s n t (present a) m h l = behind_matches sc s n t a m h l
@@ -138,13 +138,13 @@ module _
   start_params n (Some (IsFunction f)) None u = let c : not (n == length f.params) ≡ false = u.counts in grind (arith, nat_tests)
 
   -- the launches of a par: each names a thread with as many parameters
-  branches_fine : (t : ℕ) (s : List Slot) (q : ℕ) (n : Next) (sc : Scope) (bs : Branches) → Matches words sc s → findings_faults j (in_branches text sc bs) ≡ [] →
+  branches_fine : (t : ℕ) (s : List Slot) (q : ℕ) (n : NextNumbers) (sc : Scope) (bs : Branches) → Matches words sc s → findings_faults j (in_branches text sc bs) ≡ [] →
       Sits k n.thread (lower_branches text called t s q n bs).made → FineBranches inside_of (lower_branches text called t s q n bs).launches
   branches_fine t s q n sc no_branches m h z = tt
   branches_fine t s q n sc (by_call name args rest) m h z =
-      let inside : Next = record { slot = count_terms args; thread = suc n.thread; par = n.par } in
+      let inside : NextNumbers = record { slot = count_terms args; thread = suc n.thread; par = n.par } in
       let b = called name.id 0 n.thread inside in
-      let next : Next = record { slot = n.slot; thread = b.next.thread; par = b.next.par } in
+      let next : NextNumbers = record { slot = n.slot; thread = b.next.thread; par = b.next.par } in
       let how = Starts (count_terms args) in
       let own = use_faults j how name (meaning text sc name.id) in
       let h1 = none_right own (findings_faults j (in_terms text sc args ++ in_branches text sc rest)) h in
@@ -164,9 +164,9 @@ module _
             (sits_right k n.thread b.next.thread first others (omega (arith, long)) z),
       )
   branches_fine t s q n sc (by_group place body rest) m h z =
-      let inside : Next = record { slot = 0; thread = suc n.thread; par = n.par } in
+      let inside : NextNumbers = record { slot = 0; thread = suc n.thread; par = n.par } in
       let b = lower_list text called n.thread [] inside body in
-      let next : Next = record { slot = n.slot; thread = b.next.thread; par = b.next.par } in
+      let next : NextNumbers = record { slot = n.slot; thread = b.next.thread; par = b.next.par } in
       let long = threads_grow (list_grows text called right n.thread [] inside body).grown in
       let first = low.thread_of t q None 0 (record { stmt = sequence b.list; next = b.next; made = b.made }) in
       let others = (lower_branches text called t s q next rest).made in
@@ -184,12 +184,12 @@ module _
   launches_fine [] g f = tt
   launches_fine (b ∷ bs) g f = (thread_only j.gives g, λ e. cc, f)
 
-  par_fine : (t : ℕ) (s : List Slot) (q : ℕ) (n : Next) (sc : Scope) (bs : Branches) → Matches words sc s → j.gives ≡ false → findings_faults j (in_branches text sc bs) ≡ [] →
+  par_fine : (t : ℕ) (s : List Slot) (q : ℕ) (n : NextNumbers) (sc : Scope) (bs : Branches) → Matches words sc s → j.gives ≡ false → findings_faults j (in_branches text sc bs) ≡ [] →
       Sits k n.thread (lower_branches text called t s q n bs).made → FineStmt j.gives inside_of (par_of (lower_branches text called t s q n bs).launches)
   par_fine t s q n sc bs m g h z = launches_fine (lower_branches text called t s q n bs).launches g (branches_fine t s q n sc bs m h z)
 
   mutual
-    pub fine : (t : ℕ) (s : List Slot) (n : Next) (sc : Scope) (a : Statement) → Matches words sc s → Unbroken text j (in_statement text sc a) →
+    pub fine : (t : ℕ) (s : List Slot) (n : NextNumbers) (sc : Scope) (a : Statement) → Matches words sc s → Unbroken text j (in_statement text sc a) →
         (lower_statement text called t s n a).next.slot ≤ words → SitsIf j.gives k n.thread (lower_statement text called t s n a).made → FineStmt j.gives inside_of (lower_statement text called t s n a).stmt
     fine t s n sc (Nothing at) m h l z = tt
     fine t s n sc (Group at body) m h l z =
@@ -200,7 +200,7 @@ module _
         (fine_term text k words uses j knows sc s m value (parts_right j (in_target text sc target) (in_term text sc value) h.rules)) (parts_left j (in_target text sc target) (in_term text sc value) h.rules)
     fine t s n sc (Invoke at name args) m h l z =
         let how = Runs (count_terms args) in
-        let from : Next = record { slot = n.slot + count_terms args; thread = n.thread; par = n.par } in
+        let from : NextNumbers = record { slot = n.slot + count_terms args; thread = n.thread; par = n.par } in
         let b = runs t (count_terms args) n.slot sc name from (none_left (use_faults j how name (meaning text sc name.id)) (findings_faults j (in_terms text sc args)) h.rules) (omega arith) l z in
         let g = up name.id n.slot t from in
         sequence_fine j.gives inside_of (ends_with (set_params text s n.slot args) (called name.id n.slot t from).stmt)
@@ -271,7 +271,7 @@ module _
     fine t s n sc (Return at value) m h l z =
         (giving at (in_term text sc value) h.rules, fine_term text k words uses j knows sc s m value (none_right (fault_if (not j.gives) at 14) (findings_faults j (in_term text sc value)) h.rules))
 
-    pub list_fine : (t : ℕ) (s : List Slot) (n : Next) (sc : Scope) (a : Statements) → Matches words sc s → Unbroken text j (in_statements text sc a) →
+    pub list_fine : (t : ℕ) (s : List Slot) (n : NextNumbers) (sc : Scope) (a : Statements) → Matches words sc s → Unbroken text j (in_statements text sc a) →
         (lower_list text called t s n a).next.slot ≤ words → SitsIf j.gives k n.thread (lower_list text called t s n a).made → FineStmts j.gives inside_of (lower_list text called t s n a).list
     list_fine t s n sc no_statements m h l z = tt
     list_fine t s n sc (more_statements a rest) m h l z =
@@ -285,7 +285,7 @@ module _
           list_fine t (scope_behind text s n.slot a) one.next (behind sc a) rest (behind_matches sc s n t a m here_.rules low_) (unbroken_right text j (in_statement text sc a) (in_statements text (behind sc a) rest) h) l (right_if j.gives k n.thread one.next.thread one.made rest_made long z),
         )
 
-    perhaps_fine : (t : ℕ) (s : List Slot) (n : Next) (sc : Scope) (a : Perhaps) → Matches words sc s → Unbroken text j (in_perhaps text sc a) →
+    perhaps_fine : (t : ℕ) (s : List Slot) (n : NextNumbers) (sc : Scope) (a : Perhaps) → Matches words sc s → Unbroken text j (in_perhaps text sc a) →
         (lower_perhaps text called t s n a).next.slot ≤ words → SitsIf j.gives k n.thread (lower_perhaps text called t s n a).made → FineStmt j.gives inside_of (lower_perhaps text called t s n a).stmt
     perhaps_fine t s n sc absent m h l z = tt
     perhaps_fine t s n sc (present a) m h l z = fine t s n sc a m h l z

@@ -19,7 +19,7 @@ use Rattle.forec_kernel.specs.Combining.{variable_of}
 use Rattle.forec_kernel.specs.WellFormed as wf
 use Rattle.forec_kernel.specs.WellFormed.{FineStmt, FineFunction, FineVariable, function_params, function_body}
 use Rattle.text_kernel.specs.Bindings.{params_at, number_among, is_int_function}
-use Rattle.text_kernel.specs.Lowering.{Next, InPlace, lowered, sequence}
+use Rattle.text_kernel.specs.Lowering.{NextNumbers, InPlace, lowered, sequence}
 use Rattle.text_kernel.specs.Kernels as kernels
 use Rattle.text_kernel.specs.Kernels.{kernel_of, int_functions, variable_items, variable_shape, combine_of}
 use Rattle.text_kernel.specs.Limits.{WithinLimits}
@@ -109,7 +109,7 @@ module _ (text : Text) (names : List (List ℕ)) where
         let c = function_of text names clean f m in
         let j : Judging = record { names = names; gives = true } in
         let words = (kernels.function_body text names f).next.slot in
-        let from : Next = record { slot = length f.params; thread = 1; par = 0 } in
+        let from : NextNumbers = record { slot = length f.params; thread = 1; par = 0 } in
         let inside = with_params no_scope f.params in
         let params = in_params text no_scope f.params in
         let body = in_statements text inside f.body in
@@ -140,7 +140,7 @@ module _ (text : Text) (names : List (List ℕ)) where
         let words = words_of_function n low in
         let body = body_of_function n low in
         let params = shape_params text names n low in
-        let from : Next = record { slot = length f.params; thread = 1; par = 0 } in
+        let from : NextNumbers = record { slot = length f.params; thread = 1; par = 0 } in
         let up = list_rises text nothing (λ id first t n. omega arith) 0 (params_at 0 f.params) from f.body in
         let few = c.few in
         record {

@@ -13,7 +13,7 @@ use Rattle.text_kernel.specs.declared.names.Slot.{Slot}
 use Rattle.text_kernel.specs.declared.names.Stands.{Stands}
 use Rattle.text_kernel.specs.declared.names.Stands.TheVariants as st
 use Rattle.text_kernel.specs.Bindings.{with_locals, params_at, slots_of, number_of}
-use Rattle.text_kernel.specs.Lowering.{stands, lower_term, sequence, ends_with, assign_to, assign_at, array_values, lower_local, lower_locals, set_params, lower_target, lower_statement, lower_list, lower_perhaps, lower_branches, scope_behind, scope_behind_perhaps, after_start, then_step, par_of, params_of, vars_of, vars_made, thread_of, Next, Made, Lowered, Listed, InPlace, body_in_place, in_place_step, in_place, nothing_in_place}
+use Rattle.text_kernel.specs.Lowering.{stands, lower_term, sequence, ends_with, assign_to, assign_at, array_values, lower_local, lower_locals, set_params, lower_target, lower_statement, lower_list, lower_perhaps, lower_branches, scope_behind, scope_behind_perhaps, after_start, then_step, par_of, params_of, vars_of, vars_made, thread_of, NextNumbers, Made, Lowered, Listed, InPlace, body_in_place, in_place_step, in_place, nothing_in_place}
 
 -- a par of a body: its number, and the threads that are its branches
 pub record Fork : Type 0 where
@@ -45,20 +45,20 @@ mutual
         Branching t q m p a m1 p1 → Row t q m1 p1 b us m2 p2 → Row t q m p (a ++ b) (m ∷ us) m2 p2
 
 -- the lowering of a statement, list or call that has these pars, from a state on
-pub record IsGrown (t : ℕ) (n : Next) (pars : List (List ℕ)) (made : List Made) (next : Next) : Type 0 where
+pub record IsGrown (t : ℕ) (n : NextNumbers) (pars : List (List ℕ)) (made : List Made) (next : NextNumbers) : Type 0 where
   pub forks : List Fork
   pub are : lists forks ≡ pars
   pub grown : Grown t n.thread n.par made forks next.thread next.par
 
-pub still : (t : ℕ) (n next : Next) (pars : List (List ℕ)) → pars ≡ [] → next.thread ≡ n.thread → next.par ≡ n.par → IsGrown t n pars [] next
+pub still : (t : ℕ) (n next : NextNumbers) (pars : List (List ℕ)) → pars ≡ [] → next.thread ≡ n.thread → next.par ≡ n.par → IsGrown t n pars [] next
 still t n next pars e th pr =
     record { forks = []; are = sym e; grown = subst (λ m. Grown t n.thread n.par [] [] m next.par) (sym th) (subst (λ q. Grown t n.thread n.par [] [] n.thread q) (sym pr) nothing) }
 
-joins : (t : ℕ) (n m next : Next) (pars xs ys : List (List ℕ)) (a b : List Made) → pars ≡ xs ++ ys → IsGrown t n xs a m → IsGrown t m ys b next → IsGrown t n pars (a ++ b) next
+joins : (t : ℕ) (n m next : NextNumbers) (pars xs ys : List (List ℕ)) (a b : List Made) → pars ≡ xs ++ ys → IsGrown t n xs a m → IsGrown t m ys b next → IsGrown t n pars (a ++ b) next
 joins t n m next pars xs ys a b e g h =
     record { forks = g.forks ++ h.forks; are = map-append _ g.forks h.forks ∙ (ap (λ l. l ++ lists h.forks) g.are ∙ ap (λ l. xs ++ l) h.are) ∙ sym e; grown = both g.grown h.grown }
 
-renamed : (t : ℕ) (n next : Next) (pars xs : List (List ℕ)) (a : List Made) → pars ≡ xs → IsGrown t n xs a next → IsGrown t n pars a next
+renamed : (t : ℕ) (n next : NextNumbers) (pars xs : List (List ℕ)) (a : List Made) → pars ≡ xs → IsGrown t n xs a next → IsGrown t n pars a next
 renamed t n next pars xs a e g = record { forks = g.forks; are = g.are ∙ sym e; grown = g.grown }
 
 pub sequence_pars : (list : Stmts) → pars_of (sequence list) ≡ pars_in list
@@ -93,17 +93,17 @@ abbrev pub made_of : ℕ → ℕ → Option ℕ → ℕ → Lowered → Made
 made_of t q name params l =
     record { parent = t; par = q; name = name; params = params; words = l.next.slot; behind = l.next.thread; body = l.stmt; named = vars_of l.stmt ++ vars_made l.made }
 
-start_pars : (text : Text) (called : ℕ → InPlace) (t : ℕ) (s : List Slot) (n : Next) (start : Perhaps) (loop : Stmt) →
+start_pars : (text : Text) (called : ℕ → InPlace) (t : ℕ) (s : List Slot) (n : NextNumbers) (start : Perhaps) (loop : Stmt) →
     let i = lower_perhaps text called t s n start in pars_of (after_start start i.stmt loop) ≡ pars_of i.stmt ++ pars_of loop
 start_pars text called t s n absent loop = refl
 start_pars text called t s n (present a) loop = ap (λ x. pars_of (lower_statement text called t s n a).stmt ++ x) (append-nil (pars_of loop))
 
-step_pars : (text : Text) (called : ℕ → InPlace) (t : ℕ) (s : List Slot) (n : Next) (step : Perhaps) (body : Stmt) →
+step_pars : (text : Text) (called : ℕ → InPlace) (t : ℕ) (s : List Slot) (n : NextNumbers) (step : Perhaps) (body : Stmt) →
     let j = lower_perhaps text called t s n step in pars_of (then_step step body j.stmt) ≡ pars_of body ++ pars_of j.stmt
 step_pars text called t s n absent body = sym (append-nil (pars_of body))
 step_pars text called t s n (present a) body = ap (λ x. pars_of body ++ x) (append-nil (pars_of (lower_statement text called t s n a).stmt))
 
-module _ (text : Text) (called : ℕ → InPlace) (right : (id first t : ℕ) (n : Next) → IsGrown t n (pars_of (called id first t n).stmt) (called id first t n).made (called id first t n).next) where
+module _ (text : Text) (called : ℕ → InPlace) (right : (id first t : ℕ) (n : NextNumbers) → IsGrown t n (pars_of (called id first t n).stmt) (called id first t n).made (called id first t n).next) where
   values_pars : (s : List Slot) (slot size k : ℕ) (es : Terms) (place : Place) → pars_in (array_values text s slot size k es place) ≡ []
   values_pars s slot size k no_terms place = refl
   values_pars s slot size k (more_terms e rest) place = values_pars s slot size (suc k) rest place
@@ -134,29 +134,29 @@ module _ (text : Text) (called : ℕ → InPlace) (right : (id first t : ℕ) (n
       pick None e = rw e (to_pars (stands text s target.name.id) op value)
       pick (Some i) e = rw e (at_pars (stands text s target.name.id) op (lower_term text s i) value target.name.place)
 
-  call_branch : (t q : ℕ) (n : Next) (id taken params : ℕ) →
+  call_branch : (t q : ℕ) (n : NextNumbers) (id taken params : ℕ) →
       let b = called id 0 n.thread (record { slot = taken; thread = suc n.thread; par = n.par }) in
       Branching t q n.thread n.par (thread_of t q (Some id) params b) b.next.thread b.next.par
   call_branch t q n id taken params =
-      let inside : Next = record { slot = taken; thread = suc n.thread; par = n.par } in
+      let inside : NextNumbers = record { slot = taken; thread = suc n.thread; par = n.par } in
       let b = called id 0 n.thread inside in
       let g = right id 0 n.thread inside in
       branch (made_of t q (Some id) params b) refl refl refl g.are refl g.grown
 
-  group_branch : (t q : ℕ) (n : Next) (l : Listed) → IsGrown n.thread (record { slot = 0; thread = suc n.thread; par = n.par }) (pars_in l.list) l.made l.next →
+  group_branch : (t q : ℕ) (n : NextNumbers) (l : Listed) → IsGrown n.thread (record { slot = 0; thread = suc n.thread; par = n.par }) (pars_in l.list) l.made l.next →
       Branching t q n.thread n.par (thread_of t q None 0 (record { stmt = sequence l.list; next = l.next; made = l.made })) l.next.thread l.next.par
   group_branch t q n l g =
       branch (made_of t q None 0 (record { stmt = sequence l.list; next = l.next; made = l.made })) refl refl refl (g.are ∙ sym (sequence_pars l.list)) refl g.grown
 
   mutual
-    pub grows : (t : ℕ) (s : List Slot) (n : Next) (a : Statement) →
+    pub grows : (t : ℕ) (s : List Slot) (n : NextNumbers) (a : Statement) →
         IsGrown t n (pars_of (lower_statement text called t s n a).stmt) (lower_statement text called t s n a).made (lower_statement text called t s n a).next
     grows t s n (Nothing at) = still t n n [] refl refl refl
     grows t s n (Group at body) = let l = lower_list text called t s n body in renamed t n l.next _ _ l.made (sequence_pars l.list) (list_grows t s n body)
     grows t s n (Declare at locals) = still t n _ _ (sequence_pars (lower_locals text s n.slot locals) ∙ locals_pars s n.slot locals) refl refl
     grows t s n (Assign at target op value) = still t n n _ (target_pars s target op (lower_term text s value)) refl refl
     grows t s n (Invoke at name args) =
-        let from : Next = record { slot = n.slot + count_terms args; thread = n.thread; par = n.par } in
+        let from : NextNumbers = record { slot = n.slot + count_terms args; thread = n.thread; par = n.par } in
         let l = called name.id n.slot t from in
         let g = right name.id n.slot t from in
         let sets = set_params text s n.slot args in
@@ -189,19 +189,19 @@ module _ (text : Text) (called : ℕ → InPlace) (right : (id first t : ℕ) (n
     grows t s n (Pause at) = still t n n [] refl refl refl
     grows t s n (Par at no_branches) = still t n _ [] refl refl refl
     grows t s n (Par at (by_call name args rest)) =
-        let from : Next = record { slot = n.slot; thread = n.thread; par = suc n.par } in
+        let from : NextNumbers = record { slot = n.slot; thread = n.thread; par = suc n.par } in
         let b = called name.id 0 n.thread (record { slot = count_terms args; thread = suc n.thread; par = suc n.par }) in
-        let m : Next = record { slot = n.slot; thread = b.next.thread; par = b.next.par } in
+        let m : NextNumbers = record { slot = n.slot; thread = b.next.thread; par = b.next.par } in
         record {
           forks = record { number = n.par; threads = n.thread ∷ threads_in (lower_branches text called t s n.par m rest).launches } ∷ [];
           are = refl;
           grown = fork (call_branch t n.par from name.id (count_terms args) (length (params_of (find_function name.id text)))) (branches_grow t s n.par m rest);
         }
     grows t s n (Par at (by_group place body rest)) =
-        let from : Next = record { slot = n.slot; thread = n.thread; par = suc n.par } in
-        let inside : Next = record { slot = 0; thread = suc n.thread; par = suc n.par } in
+        let from : NextNumbers = record { slot = n.slot; thread = n.thread; par = suc n.par } in
+        let inside : NextNumbers = record { slot = 0; thread = suc n.thread; par = suc n.par } in
         let l = lower_list text called n.thread [] inside body in
-        let m : Next = record { slot = n.slot; thread = l.next.thread; par = l.next.par } in
+        let m : NextNumbers = record { slot = n.slot; thread = l.next.thread; par = l.next.par } in
         record {
           forks = record { number = n.par; threads = n.thread ∷ threads_in (lower_branches text called t s n.par m rest).launches } ∷ [];
           are = refl;
@@ -210,7 +210,7 @@ module _ (text : Text) (called : ℕ → InPlace) (right : (id first t : ℕ) (n
     grows t s n (Abort at weak immediate test body) = let l = lower_list text called t s n body in renamed t n l.next _ _ l.made (sequence_pars l.list) (list_grows t s n body)
     grows t s n (Return at value) = still t n n [] refl refl refl
 
-    pub list_grows : (t : ℕ) (s : List Slot) (n : Next) (a : Statements) →
+    pub list_grows : (t : ℕ) (s : List Slot) (n : NextNumbers) (a : Statements) →
         IsGrown t n (pars_in (lower_list text called t s n a).list) (lower_list text called t s n a).made (lower_list text called t s n a).next
     list_grows t s n no_statements = still t n n [] refl refl refl
     list_grows t s n (more_statements a rest) =
@@ -219,40 +219,40 @@ module _ (text : Text) (called : ℕ → InPlace) (right : (id first t : ℕ) (n
         let m = lower_list text called t inner l.next rest in
         joins t n l.next m.next _ (pars_of l.stmt) (pars_in m.list) l.made m.made refl (grows t s n a) (list_grows t inner l.next rest)
 
-    pub perhaps_grows : (t : ℕ) (s : List Slot) (n : Next) (a : Perhaps) →
+    pub perhaps_grows : (t : ℕ) (s : List Slot) (n : NextNumbers) (a : Perhaps) →
         IsGrown t n (pars_of (lower_perhaps text called t s n a).stmt) (lower_perhaps text called t s n a).made (lower_perhaps text called t s n a).next
     perhaps_grows t s n absent = still t n n [] refl refl refl
     perhaps_grows t s n (present a) = grows t s n a
 
-    pub branches_grow : (t : ℕ) (s : List Slot) (q : ℕ) (n : Next) (bs : Branches) →
+    pub branches_grow : (t : ℕ) (s : List Slot) (q : ℕ) (n : NextNumbers) (bs : Branches) →
         Row t q n.thread n.par (lower_branches text called t s q n bs).made (threads_in (lower_branches text called t s q n bs).launches)
         (lower_branches text called t s q n bs).next.thread (lower_branches text called t s q n bs).next.par
     branches_grow t s q n no_branches = no_row
     branches_grow t s q n (by_call name args rest) =
         let b = called name.id 0 n.thread (record { slot = count_terms args; thread = suc n.thread; par = n.par }) in
-        let m : Next = record { slot = n.slot; thread = b.next.thread; par = b.next.par } in
+        let m : NextNumbers = record { slot = n.slot; thread = b.next.thread; par = b.next.par } in
         more_row (call_branch t q n name.id (count_terms args) (length (params_of (find_function name.id text)))) (branches_grow t s q m rest)
     branches_grow t s q n (by_group at body rest) =
-        let inside : Next = record { slot = 0; thread = suc n.thread; par = n.par } in
+        let inside : NextNumbers = record { slot = 0; thread = suc n.thread; par = n.par } in
         let l = lower_list text called n.thread [] inside body in
-        let m : Next = record { slot = n.slot; thread = l.next.thread; par = l.next.par } in
+        let m : NextNumbers = record { slot = n.slot; thread = l.next.thread; par = l.next.par } in
         more_row (group_branch t q n l (list_grows n.thread [] inside body)) (branches_grow t s q m rest)
 
-body_grows : (text : Text) (called : ℕ → InPlace) → ((id first t : ℕ) (n : Next) → IsGrown t n (pars_of (called id first t n).stmt) (called id first t n).made (called id first t n).next) →
-    (f : Option PlainFunction) (first t : ℕ) (n : Next) → let l = body_in_place text called f first t n in IsGrown t n (pars_of l.stmt) l.made l.next
+body_grows : (text : Text) (called : ℕ → InPlace) → ((id first t : ℕ) (n : NextNumbers) → IsGrown t n (pars_of (called id first t n).stmt) (called id first t n).made (called id first t n).next) →
+    (f : Option PlainFunction) (first t : ℕ) (n : NextNumbers) → let l = body_in_place text called f first t n in IsGrown t n (pars_of l.stmt) l.made l.next
 body_grows text called right None first t n = still t n n [] refl refl refl
 body_grows text called right (Some f) first t n =
     let l = lower_list text called t (params_at first f.params) n f.body in
     let g = list_grows text called right t (params_at first f.params) n f.body in
     record { forks = g.forks; are = g.are ∙ sym (sequence_pars l.list); grown = g.grown }
 
-pub in_place_grows : (text : Text) (deep id first t : ℕ) (n : Next) →
+pub in_place_grows : (text : Text) (deep id first t : ℕ) (n : NextNumbers) →
     let l = within nothing_in_place (in_place_step text) deep id first t n in IsGrown t n (pars_of l.stmt) l.made l.next
 unfolding within
 in_place_grows text zero id first t n = still t n n [] refl refl refl
 in_place_grows text (suc deep) id first t n = body_grows text (within nothing_in_place (in_place_step text) deep) (in_place_grows text deep) (find_function id text) first t n
 
 -- a function that is put in place
-pub place_grows : (text : Text) (id first t : ℕ) (n : Next) →
+pub place_grows : (text : Text) (id first t : ℕ) (n : NextNumbers) →
     let l = in_place text id first t n in IsGrown t n (pars_of l.stmt) l.made l.next
 place_grows text id first t n = in_place_grows text (length text) id first t n

@@ -6,7 +6,7 @@ use Rattle.forec_tree.specs.Rules as rule
 use Rattle.forec_kernel.specs.Terms.{Stmts, no_stmts, more_stmts}
 use Rattle.forec_kernel.specs.WellFormed.{returns, some_returns}
 use Rattle.text_kernel.specs.declared.names.Slot.{Slot}
-use Rattle.text_kernel.specs.Lowering.{sequence, lower_statement, lower_list, lower_perhaps, scope_behind, Next, InPlace}
+use Rattle.text_kernel.specs.Lowering.{sequence, lower_statement, lower_list, lower_perhaps, scope_behind, NextNumbers, InPlace}
 
 or_none : (b : Bool) → (b || false) ≡ b
 or_none true = refl
@@ -23,7 +23,7 @@ either false y u v h f g = or_right u v (g h)
 
 module _ (text : Text) (called : ℕ → InPlace) where
   mutual
-    pub returns_too : (t : ℕ) (s : List Slot) (n : Next) (a : Statement) → rule.returns a ≡ true → returns (lower_statement text called t s n a).stmt ≡ true
+    pub returns_too : (t : ℕ) (s : List Slot) (n : NextNumbers) (a : Statement) → rule.returns a ≡ true → returns (lower_statement text called t s n a).stmt ≡ true
     returns_too t s n (Nothing at) h = cc
     returns_too t s n (Group at body) h = sequence_returns (lower_list text called t s n body).list ∙ list_returns t s n body h
     returns_too t s n (Declare at locals) h = cc
@@ -40,7 +40,7 @@ module _ (text : Text) (called : ℕ → InPlace) where
     returns_too t s n (Abort at weak immediate test body) h = cc
     returns_too t s n (Return at value) h = refl
 
-    pub list_returns : (t : ℕ) (s : List Slot) (n : Next) (a : Statements) → rule.some_returns a ≡ true → some_returns (lower_list text called t s n a).list ≡ true
+    pub list_returns : (t : ℕ) (s : List Slot) (n : NextNumbers) (a : Statements) → rule.some_returns a ≡ true → some_returns (lower_list text called t s n a).list ≡ true
     list_returns t s n no_statements h = cc
     list_returns t s n (more_statements a rest) h =
         let l = lower_statement text called t s n a in
@@ -48,6 +48,6 @@ module _ (text : Text) (called : ℕ → InPlace) where
         either (rule.returns a) (rule.some_returns rest) (returns l.stmt) (some_returns (lower_list text called t inner l.next rest).list) h
         (λ k. returns_too t s n a k) (λ k. list_returns t inner l.next rest k)
 
-    perhaps_return : (t : ℕ) (s : List Slot) (n : Next) (a : Perhaps) → rule.perhaps_returns a ≡ true → returns (lower_perhaps text called t s n a).stmt ≡ true
+    perhaps_return : (t : ℕ) (s : List Slot) (n : NextNumbers) (a : Perhaps) → rule.perhaps_returns a ≡ true → returns (lower_perhaps text called t s n a).stmt ≡ true
     perhaps_return t s n absent h = cc
     perhaps_return t s n (present a) h = returns_too t s n a h

@@ -4,15 +4,15 @@ use Rattle.forec_tree.specs.Terms.{count_terms, Declared, Statement, Declare, No
 use Rattle.forec_tree.specs.Pauses.{within, find_function}
 use Rattle.text_kernel.specs.declared.names.Slot.{Slot}
 use Rattle.text_kernel.specs.Bindings.{slots_of, params_at}
-use Rattle.text_kernel.specs.Lowering.{slots_behind, lower_statement, lower_list, lower_perhaps, lower_branches, scope_behind, scope_behind_perhaps, par_behind, Next, InPlace, body_in_place, in_place_step, nothing_in_place}
+use Rattle.text_kernel.specs.Lowering.{slots_behind, lower_statement, lower_list, lower_perhaps, lower_branches, scope_behind, scope_behind_perhaps, par_behind, NextNumbers, InPlace, body_in_place, in_place_step, nothing_in_place}
 
 pub behind_rises : (text : Text) (called : ℕ → InPlace) (slot : ℕ) (ls : List Declared) → slot ≤ slots_behind text slot ls
 behind_rises text called slot [] = omega arith
 behind_rises text called slot (l ∷ rest) = let g = behind_rises text called (slot + slots_of l.length) rest in omega arith
 
-module _ (text : Text) (called : ℕ → InPlace) (right : (id first t : ℕ) (n : Next) → n.slot ≤ (called id first t n).next.slot) where
+module _ (text : Text) (called : ℕ → InPlace) (right : (id first t : ℕ) (n : NextNumbers) → n.slot ≤ (called id first t n).next.slot) where
   mutual
-    pub rises : (t : ℕ) (s : List Slot) (n : Next) (a : Statement) → n.slot ≤ (lower_statement text called t s n a).next.slot
+    pub rises : (t : ℕ) (s : List Slot) (n : NextNumbers) (a : Statement) → n.slot ≤ (lower_statement text called t s n a).next.slot
     rises t s n (Nothing at) = omega arith
     rises t s n (Group at body) = list_rises t s n body
     rises t s n (Declare at locals) = behind_rises text called n.slot locals
@@ -32,17 +32,17 @@ module _ (text : Text) (called : ℕ → InPlace) (right : (id first t : ℕ) (n
     rises t s n (Abort at weak immediate test body) = list_rises t s n body
     rises t s n (Return at value) = omega arith
 
-    pub list_rises : (t : ℕ) (s : List Slot) (n : Next) (a : Statements) → n.slot ≤ (lower_list text called t s n a).next.slot
+    pub list_rises : (t : ℕ) (s : List Slot) (n : NextNumbers) (a : Statements) → n.slot ≤ (lower_list text called t s n a).next.slot
     list_rises t s n no_statements = omega arith
     list_rises t s n (more_statements a rest) =
         let l = lower_statement text called t s n a in omega (arith, rises t s n a, list_rises t (scope_behind text s n.slot a) l.next rest)
 
-    pub perhaps_rises : (t : ℕ) (s : List Slot) (n : Next) (a : Perhaps) → n.slot ≤ (lower_perhaps text called t s n a).next.slot
+    pub perhaps_rises : (t : ℕ) (s : List Slot) (n : NextNumbers) (a : Perhaps) → n.slot ≤ (lower_perhaps text called t s n a).next.slot
     perhaps_rises t s n absent = omega arith
     perhaps_rises t s n (present a) = rises t s n a
 
     -- branches have slots of their own
-    pub branches_rise : (t : ℕ) (s : List Slot) (q : ℕ) (n : Next) (bs : Branches) → (lower_branches text called t s q n bs).next.slot ≡ n.slot
+    pub branches_rise : (t : ℕ) (s : List Slot) (q : ℕ) (n : NextNumbers) (bs : Branches) → (lower_branches text called t s q n bs).next.slot ≡ n.slot
     branches_rise t s q n no_branches = refl
     branches_rise t s q n (by_call name args rest) =
         let b = called name.id 0 n.thread (record { slot = count_terms args; thread = suc n.thread; par = n.par }) in
@@ -51,13 +51,13 @@ module _ (text : Text) (called : ℕ → InPlace) (right : (id first t : ℕ) (n
         let l = lower_list text called n.thread [] (record { slot = 0; thread = suc n.thread; par = n.par }) body in
         branches_rise t s q (record { slot = n.slot; thread = l.next.thread; par = l.next.par }) rest
 
-body_rises : (text : Text) (called : ℕ → InPlace) → ((id first t : ℕ) (n : Next) → n.slot ≤ (called id first t n).next.slot) →
-    (f : Option PlainFunction) (first t : ℕ) (n : Next) → n.slot ≤ (body_in_place text called f first t n).next.slot
+body_rises : (text : Text) (called : ℕ → InPlace) → ((id first t : ℕ) (n : NextNumbers) → n.slot ≤ (called id first t n).next.slot) →
+    (f : Option PlainFunction) (first t : ℕ) (n : NextNumbers) → n.slot ≤ (body_in_place text called f first t n).next.slot
 body_rises text called right None first t n = omega arith
 body_rises text called right (Some f) first t n =
     list_rises text called right t (params_at first f.params) n f.body
 
-pub place_rises : (text : Text) (deep id first t : ℕ) (n : Next) → n.slot ≤ (within nothing_in_place (in_place_step text) deep id first t n).next.slot
+pub place_rises : (text : Text) (deep id first t : ℕ) (n : NextNumbers) → n.slot ≤ (within nothing_in_place (in_place_step text) deep id first t n).next.slot
 unfolding within
 place_rises text zero id first t n = omega arith
 place_rises text (suc deep) id first t n = body_rises text (within nothing_in_place (in_place_step text) deep) (place_rises text deep) (find_function id text) first t n

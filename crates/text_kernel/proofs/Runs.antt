@@ -15,7 +15,7 @@ use Rattle.forec_kernel.specs.WellFormed as wf
 use Rattle.forec_kernel.specs.WellFormed.{FineStmt, FineStmts}
 use Rattle.text_kernel.specs.declared.names.Slot.{Slot}
 use Rattle.text_kernel.specs.Bindings.{params_at}
-use Rattle.text_kernel.specs.Lowering.{Next, InPlace, lower_list, body_in_place, in_place_step, nothing_in_place}
+use Rattle.text_kernel.specs.Lowering.{NextNumbers, InPlace, lower_list, body_in_place, in_place_step, nothing_in_place}
 use Rattle.text_kernel.proofs.Fine.{none_left, none_right, not_broken, parts_left, parts_right, GoodUse, good_use, GoodSlot, Matches, Knows}
 use Rattle.text_kernel.proofs.FineStatements.{sequence_fine}
 use Rattle.text_kernel.proofs.Locals.{matches_more, locals_fine}
@@ -81,12 +81,12 @@ module _ (text : Text) (k : PlainKernel) (words : ℕ) (uses : List ℕ) (names 
   no_names = record { same = refl; good = λ x h. elim h [ ] }
 
   abbrev pub Run : (deep : ℕ) → Type 0
-  Run deep = (t n first id : ℕ) (from : Next) → ((f : PlainFunction) → find_function id text ≡ Some f → Runnable n f) → first + n ≤ from.slot →
+  Run deep = (t n first id : ℕ) (from : NextNumbers) → ((f : PlainFunction) → find_function id text ≡ Some f → Runnable n f) → first + n ≤ from.slot →
       (within nothing_in_place (in_place_step text) deep id first t from).next.slot ≤ words → Sits k from.thread (within nothing_in_place (in_place_step text) deep id first t from).made →
       FineStmt false scope (within nothing_in_place (in_place_step text) deep id first t from).stmt
 
   -- a list of statements, where what is called is put in place up to so many calls deep
-  pub list_runs : (deep : ℕ) → Run deep → (t : ℕ) (s : List Slot) (n : Next) (sc : Scope) (a : Statements) → Matches words sc s → findings_faults judging (in_statements text sc a) ≡ [] →
+  pub list_runs : (deep : ℕ) → Run deep → (t : ℕ) (s : List Slot) (n : NextNumbers) (sc : Scope) (a : Statements) → Matches words sc s → findings_faults judging (in_statements text sc a) ≡ [] →
       (lower_list text (within nothing_in_place (in_place_step text) deep) t s n a).next.slot ≤ words →
       Sits k n.thread (lower_list text (within nothing_in_place (in_place_step text) deep) t s n a).made →
       FineStmts false scope (lower_list text (within nothing_in_place (in_place_step text) deep) t s n a).list
@@ -99,7 +99,7 @@ module _ (text : Text) (k : PlainKernel) (words : ℕ) (uses : List ℕ) (names 
       (locals_fine text k words uses judging knows (within nothing_in_place (in_place_step text) deep))
       t s n sc a m (in_thread h) l (λ e. z)
 
-  body_runs : (deep : ℕ) → Run deep → (t n first : ℕ) (from : Next) (o : Option PlainFunction) → ((f : PlainFunction) → o ≡ Some f → Runnable n f) →
+  body_runs : (deep : ℕ) → Run deep → (t n first : ℕ) (from : NextNumbers) (o : Option PlainFunction) → ((f : PlainFunction) → o ≡ Some f → Runnable n f) →
       ((f : PlainFunction) → o ≡ Some f → findings_faults judging (in_function text f) ≡ []) → first + n ≤ from.slot →
       let l = body_in_place text (within nothing_in_place (in_place_step text) deep) o first t from in l.next.slot ≤ words → Sits k from.thread l.made → FineStmt false scope l.stmt
   body_runs deep run t n first from None u c h l z = tt

@@ -8,7 +8,7 @@ use Rattle.forec_tree.specs.Pauses.{within, find_function}
 use Rattle.forec_tree.specs.ThreadTree.{Threads, no_threads, thread, followed_by, Placed, nothing, placed, all_placed, perhaps_placed, branches_placed, body_placed, placed_step, count_threads}
 use Rattle.text_kernel.specs.declared.names.Slot.{Slot}
 use Rattle.text_kernel.specs.Bindings.{params_at}
-use Rattle.text_kernel.specs.Lowering.{Next, Made, from_slot, scope_behind, scope_behind_perhaps, par_behind, lower_statement, lower_list, lower_perhaps, lower_branches, InPlace, body_in_place, in_place_step, nothing_in_place}
+use Rattle.text_kernel.specs.Lowering.{NextNumbers, Made, from_slot, scope_behind, scope_behind_perhaps, par_behind, lower_statement, lower_list, lower_perhaps, lower_branches, InPlace, body_in_place, in_place_step, nothing_in_place}
 use Rattle.text_kernel.specs.Kernels.{kernel_of, root, thread_shape, main_id}
 use Rattle.text_kernel.specs.Instances.{parents, ThreadsOfTree}
 
@@ -67,10 +67,10 @@ branch_first t m m1 m2 x a b named p q e g h =
     }
 
 module _ (text : Text) (called : ℕ → InPlace) (tree : ℕ → Placed)
-    (right : (id first t : ℕ) (n : Next) → Adds t n.thread (called id first t n).made (called id first t n).next.thread (tree id).below)
+    (right : (id first t : ℕ) (n : NextNumbers) → Adds t n.thread (called id first t n).made (called id first t n).next.thread (tree id).below)
   where
     mutual
-      one : (t : ℕ) (s : List Slot) (n : Next) (sc : Scope) (a : Statement) →
+      one : (t : ℕ) (s : List Slot) (n : NextNumbers) (sc : Scope) (a : Statement) →
           Adds t n.thread (lower_statement text called t s n a).made (lower_statement text called t s n a).next.thread (placed text tree sc a).below
       one t s n sc (Nothing at) = none t n.thread
       one t s n sc (Group at body) = all t s n (entered sc) body
@@ -94,38 +94,38 @@ module _ (text : Text) (called : ℕ → InPlace) (tree : ℕ → Placed)
       one t s n sc (Abort at weak immediate test body) = all t s n (entered sc) body
       one t s n sc (Return at value) = none t n.thread
 
-      all : (t : ℕ) (s : List Slot) (n : Next) (sc : Scope) (list : Statements) →
+      all : (t : ℕ) (s : List Slot) (n : NextNumbers) (sc : Scope) (list : Statements) →
           Adds t n.thread (lower_list text called t s n list).made (lower_list text called t s n list).next.thread (all_placed text tree sc list).below
       all t s n sc no_statements = none t n.thread
       all t s n sc (more_statements a rest) =
           let l = lower_statement text called t s n a in
           two t n.thread l.next.thread _ _ _ _ _ (one t s n sc a) (all t (scope_behind text s n.slot a) l.next (behind sc a) rest)
 
-      maybe : (t : ℕ) (s : List Slot) (n : Next) (sc : Scope) (a : Perhaps) →
+      maybe : (t : ℕ) (s : List Slot) (n : NextNumbers) (sc : Scope) (a : Perhaps) →
           Adds t n.thread (lower_perhaps text called t s n a).made (lower_perhaps text called t s n a).next.thread (perhaps_placed text tree sc a).below
       maybe t s n sc absent = none t n.thread
       maybe t s n sc (present a) = one t s n sc a
 
-      each : (t : ℕ) (s : List Slot) (par : ℕ) (n : Next) (sc : Scope) (bs : Branches) →
+      each : (t : ℕ) (s : List Slot) (par : ℕ) (n : NextNumbers) (sc : Scope) (bs : Branches) →
           Adds t n.thread (lower_branches text called t s par n bs).made (lower_branches text called t s par n bs).next.thread (branches_placed text tree sc bs).below
       each t s par n sc no_branches = none t n.thread
       each t s par n sc (by_call name args rest) =
-          let inner : Next = record { slot = Rattle.forec_tree.specs.Terms.count_terms args; thread = suc n.thread; par = n.par } in
+          let inner : NextNumbers = record { slot = Rattle.forec_tree.specs.Terms.count_terms args; thread = suc n.thread; par = n.par } in
           let b = called name.id 0 n.thread inner in
           branch_first t n.thread b.next.thread _ _ _ _ _ _ _ refl (right name.id 0 n.thread inner)
           (each t s par (record { slot = n.slot; thread = b.next.thread; par = b.next.par }) sc rest)
       each t s par n sc (by_group at body rest) =
-          let inner : Next = record { slot = 0; thread = suc n.thread; par = n.par } in
+          let inner : NextNumbers = record { slot = 0; thread = suc n.thread; par = n.par } in
           let l = lower_list text called n.thread [] inner body in
           branch_first t n.thread l.next.thread _ _ _ _ _ _ _ refl (all n.thread [] inner no_scope body)
           (each t s par (record { slot = n.slot; thread = l.next.thread; par = l.next.par }) sc rest)
 
-    in_body : (f : Option PlainFunction) (first t : ℕ) (n : Next) →
+    in_body : (f : Option PlainFunction) (first t : ℕ) (n : NextNumbers) →
         Adds t n.thread (body_in_place text called f first t n).made (body_in_place text called f first t n).next.thread (body_placed text tree f).below
     in_body None first t n = none t n.thread
     in_body (Some f) first t n = all t (params_at first f.params) n (with_params no_scope f.params) f.body
 
-in_turn : (text : Text) (deep id first t : ℕ) (n : Next) →
+in_turn : (text : Text) (deep id first t : ℕ) (n : NextNumbers) →
     Adds t n.thread (within nothing_in_place (in_place_step text) deep id first t n).made (within nothing_in_place (in_place_step text) deep id first t n).next.thread
     (within nothing (placed_step text) deep id).below
 unfolding within

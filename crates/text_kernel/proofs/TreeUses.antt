@@ -17,7 +17,7 @@ use Rattle.forec_kernel.specs.Texts.{uses_of}
 use Rattle.forec_kernel.specs.WellFormed.{count_up}
 use Rattle.text_kernel.specs.declared.names.Slot.{Slot}
 use Rattle.text_kernel.specs.Bindings.{params_at, number_among, is_variable}
-use Rattle.text_kernel.specs.Lowering.{Next, Made, Listed, from_slot, scope_behind, scope_behind_perhaps, par_behind, par_of, after_start, then_step, optional_test, set_params, lower_term, lower_terms, lower_locals, lower_target, lower_statement, lower_list, lower_perhaps, lower_branches, InPlace, body_in_place, in_place_step, nothing_in_place, sequence, ends_with, vars_in, vars_all, vars_of, vars_list, vars_launches, vars_made}
+use Rattle.text_kernel.specs.Lowering.{NextNumbers, Made, Listed, from_slot, scope_behind, scope_behind_perhaps, par_behind, par_of, after_start, then_step, optional_test, set_params, lower_term, lower_terms, lower_locals, lower_target, lower_statement, lower_list, lower_perhaps, lower_branches, InPlace, body_in_place, in_place_step, nothing_in_place, sequence, ends_with, vars_in, vars_all, vars_of, vars_list, vars_launches, vars_made}
 use Rattle.text_kernel.specs.Kernels.{kernel_of, root, main_id, variable_count, filter_in}
 use Rattle.text_kernel.specs.Laws.{UsesAreThoseOfTheTree}
 use Rattle.text_kernel.specs.Instances.{UsesOfTree}
@@ -128,7 +128,7 @@ module _ (text : Text) (names : List (List ℕ)) (g : PlainGlobal) (is_item : fi
       }
 
   module _ (called : ℕ → InPlace) (tree : ℕ → Placed)
-      (right : (id first t : ℕ) (n : Next) → ((f : PlainFunction) → find_function id text ≡ Some f → f.gives ≡ false) →
+      (right : (id first t : ℕ) (n : NextNumbers) → ((f : PlainFunction) → find_function id text ≡ Some f → f.gives ≡ false) →
       Names (vars_of (called id first t n).stmt) (called id first t n).made (tree id))
     where
       runs_void : (n : ℕ) (sc : Scope) (name : Name) → use_faults j (Runs n) name (meaning text sc name.id) ≡ [] → (f : PlainFunction) → find_function name.id text ≡ Some f → f.gives ≡ false
@@ -158,12 +158,12 @@ module _ (text : Text) (names : List (List ℕ)) (g : PlainGlobal) (is_item : fi
       perhaps_agree sc s slot absent m o h = m
       perhaps_agree sc s slot (present a) m o h = behind_agree sc s slot a m o h
 
-      start_vars : (t : ℕ) (s : List Slot) (n : Next) (start : Perhaps) (loop : Stmt) →
+      start_vars : (t : ℕ) (s : List Slot) (n : NextNumbers) (start : Perhaps) (loop : Stmt) →
           vars_of (after_start start (lower_perhaps text called t s n start).stmt loop) ≡ vars_of (lower_perhaps text called t s n start).stmt ++ vars_of loop
       start_vars t s n absent loop = refl
       start_vars t s n (present a) loop = ap (λ l. vars_of (lower_statement text called t s n a).stmt ++ l) (append-nil (vars_of loop))
 
-      step_vars : (x t : ℕ) (s : List Slot) (n : Next) (step : Perhaps) (body : Stmt) →
+      step_vars : (x t : ℕ) (s : List Slot) (n : NextNumbers) (step : Perhaps) (body : Stmt) →
           is_in x (vars_of (then_step step body (lower_perhaps text called t s n step).stmt)) ≡ is_in x (vars_of (lower_perhaps text called t s n step).stmt ++ vars_of body)
       step_vars x t s n absent body = refl
       step_vars x t s n (present a) body = swapped_in x (vars_of body) (vars_of (lower_statement text called t s n a).stmt)
@@ -175,7 +175,7 @@ module _ (text : Text) (names : List (List ℕ)) (g : PlainGlobal) (is_item : fi
       as_one_names l p h = alike (vars_list l.list) (vars_of (sequence l.list)) l.made p (ap (is_in v) (sequence_vars l.list)) h
 
       mutual
-        one : (t : ℕ) (s : List Slot) (n : Next) (sc : Scope) (a : Statement) → Agree sc s → OneEach a → findings_faults j (in_statement text sc a) ≡ [] →
+        one : (t : ℕ) (s : List Slot) (n : NextNumbers) (sc : Scope) (a : Statement) → Agree sc s → OneEach a → findings_faults j (in_statement text sc a) ≡ [] →
             Names (vars_of (lower_statement text called t s n a).stmt) (lower_statement text called t s n a).made (placed text tree sc a)
         one t s n sc (Nothing at) m o h = leaf [] [] refl
         one t s n sc (Group at body) m o h =
@@ -243,7 +243,7 @@ module _ (text : Text) (names : List (List ℕ)) (g : PlainGlobal) (is_item : fi
             (two _ _ _ _ _ _ (maybe t inside li.next own step m1 o.1 h3) (one t last lj.next end_ body (entered_agree (behind_perhaps own step) last m2) o.2 h4))))
         one t s n sc (Pause at) m o h = leaf [] [] refl
         one t s n sc (Par at bs) m o h =
-            let from : Next = record { slot = n.slot; thread = n.thread; par = par_behind bs n.par } in
+            let from : NextNumbers = record { slot = n.slot; thread = n.thread; par = par_behind bs n.par } in
             let l = lower_branches text called t s n.par from bs in
             alike (vars_launches l.launches) (vars_of (par_of l.launches)) l.made (branches_placed text tree sc bs) (ap (is_in v) (launches_vars l.launches))
             (branches t s n.par from sc bs m o (none_right (fault_if j.gives at 12) (findings_faults j (in_branches text sc bs)) h))
@@ -254,7 +254,7 @@ module _ (text : Text) (names : List (List ℕ)) (g : PlainGlobal) (is_item : fi
             (as_one_names (lower_list text called t s n body) (all_placed text tree (entered sc) body) (every t s n (entered sc) body (entered_agree sc s m) o (parts_right j (in_term text sc test) rest hs)))
         one t s n sc (Return at value) m o h = tested sc s m value (none_right (fault_if (not j.gives) at 14) (findings_faults j (in_term text sc value)) h)
 
-        every : (t : ℕ) (s : List Slot) (n : Next) (sc : Scope) (list : Statements) → Agree sc s → OneInAll list → findings_faults j (in_statements text sc list) ≡ [] →
+        every : (t : ℕ) (s : List Slot) (n : NextNumbers) (sc : Scope) (list : Statements) → Agree sc s → OneInAll list → findings_faults j (in_statements text sc list) ≡ [] →
             Names (vars_list (lower_list text called t s n list).list) (lower_list text called t s n list).made (all_placed text tree sc list)
         every t s n sc no_statements m o h = leaf [] [] refl
         every t s n sc (more_statements a rest) m o h =
@@ -264,18 +264,18 @@ module _ (text : Text) (names : List (List ℕ)) (g : PlainGlobal) (is_item : fi
             (every t (scope_behind text s n.slot a) l.next (behind sc a) rest (behind_agree sc s n.slot a m o.0 ha) o.1
             (parts_right j (in_statement text sc a) (in_statements text (behind sc a) rest) h))
 
-        maybe : (t : ℕ) (s : List Slot) (n : Next) (sc : Scope) (a : Perhaps) → Agree sc s → OneIfPresent a → findings_faults j (in_perhaps text sc a) ≡ [] →
+        maybe : (t : ℕ) (s : List Slot) (n : NextNumbers) (sc : Scope) (a : Perhaps) → Agree sc s → OneIfPresent a → findings_faults j (in_perhaps text sc a) ≡ [] →
             Names (vars_of (lower_perhaps text called t s n a).stmt) (lower_perhaps text called t s n a).made (perhaps_placed text tree sc a)
         maybe t s n sc absent m o h = leaf [] [] refl
         maybe t s n sc (present a) m o h = one t s n sc a m o h
 
-        branches : (t : ℕ) (s : List Slot) (par : ℕ) (n : Next) (sc : Scope) (bs : Branches) → Agree sc s → OneInBranches bs → findings_faults j (in_branches text sc bs) ≡ [] →
+        branches : (t : ℕ) (s : List Slot) (par : ℕ) (n : NextNumbers) (sc : Scope) (bs : Branches) → Agree sc s → OneInBranches bs → findings_faults j (in_branches text sc bs) ≡ [] →
             Names (vars_launches (lower_branches text called t s par n bs).launches) (lower_branches text called t s par n bs).made (branches_placed text tree sc bs)
         branches t s par n sc no_branches m o h = leaf [] [] refl
         branches t s par n sc (by_call name args rest) m o h =
-            let inner : Next = record { slot = count_terms args; thread = suc n.thread; par = n.par } in
+            let inner : NextNumbers = record { slot = count_terms args; thread = suc n.thread; par = n.par } in
             let b = called name.id 0 n.thread inner in
-            let next : Next = record { slot = n.slot; thread = b.next.thread; par = b.next.par } in
+            let next : NextNumbers = record { slot = n.slot; thread = b.next.thread; par = b.next.par } in
             let own = use_faults j (Starts (count_terms args)) name (meaning text sc name.id) in
             let fs = in_terms text sc args ++ in_branches text sc rest in
             let hs = none_right own (findings_faults j fs) h in
@@ -285,9 +285,9 @@ module _ (text : Text) (names : List (List ℕ)) (g : PlainGlobal) (is_item : fi
             (right name.id 0 n.thread inner (starts_void (count_terms args) sc name (none_left own (findings_faults j fs) h)))
             (branches t s par next sc rest m o (parts_right j (in_terms text sc args) (in_branches text sc rest) hs)))
         branches t s par n sc (by_group at body rest) m o h =
-            let inner : Next = record { slot = 0; thread = suc n.thread; par = n.par } in
+            let inner : NextNumbers = record { slot = 0; thread = suc n.thread; par = n.par } in
             let l = lower_list text called n.thread [] inner body in
-            let next : Next = record { slot = n.slot; thread = l.next.thread; par = l.next.par } in
+            let next : NextNumbers = record { slot = n.slot; thread = l.next.thread; par = l.next.par } in
             branch_first _ (vars_of (sequence l.list)) _ l.made _ (all_placed text tree no_scope body) _ refl refl
             (as_one_names l (all_placed text tree no_scope body) (every n.thread [] inner no_scope body no_names o.0 (parts_left j (in_statements text no_scope body) (Closes ∷ in_branches text sc rest) h)))
             (branches t s par next sc rest m o.1 (parts_right j (in_statements text no_scope body) (Closes ∷ in_branches text sc rest) h))
@@ -302,7 +302,7 @@ module _ (text : Text) (names : List (List ℕ)) (g : PlainGlobal) (is_item : fi
           subst (Agree (with_params (with_name sc p.id false) rest)) (append_assoc s (x ∷ []) (params_at (suc slot) rest))
           (params_agree (with_name sc p.id false) (s ++ x ∷ []) (suc slot) rest (agree_more sc s x false m refl again) (none_right own more h))
 
-      in_body : (f : Option PlainFunction) (first t : ℕ) (n : Next) → ((h : PlainFunction) → f ≡ Some h → findings_faults j (in_function text h) ≡ []) →
+      in_body : (f : Option PlainFunction) (first t : ℕ) (n : NextNumbers) → ((h : PlainFunction) → f ≡ Some h → findings_faults j (in_function text h) ≡ []) →
           ((h : PlainFunction) → f ≡ Some h → OneInAll h.body) →
           Names (vars_of (body_in_place text called f first t n).stmt) (body_in_place text called f first t n).made (body_placed text tree f)
       in_body None first t n clean ones = leaf [] [] refl
@@ -316,7 +316,7 @@ module _ (text : Text) (names : List (List ℕ)) (g : PlainGlobal) (is_item : fi
   module _ (faultless : (id : ℕ) (f : PlainFunction) → find_function id text ≡ Some f → f.gives ≡ false → findings_faults j (in_function text f) ≡ [])
       (ones : (id : ℕ) (f : PlainFunction) → find_function id text ≡ Some f → OneInAll f.body)
     where
-      in_turn : (deep id first t : ℕ) (n : Next) → ((f : PlainFunction) → find_function id text ≡ Some f → f.gives ≡ false) →
+      in_turn : (deep id first t : ℕ) (n : NextNumbers) → ((f : PlainFunction) → find_function id text ≡ Some f → f.gives ≡ false) →
           Names (vars_of (within nothing_in_place (in_place_step text) deep id first t n).stmt) (within nothing_in_place (in_place_step text) deep id first t n).made
           (within nothing (placed_step text) deep id)
       unfolding within

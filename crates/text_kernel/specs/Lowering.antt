@@ -76,7 +76,7 @@ joined (more_stmts a rest) b = more_stmts a (joined rest b)
 -- ---- statements
 
 -- the next free slot of the thread, the number of the next thread, and that of the next par
-pub record Next : Type 0 where
+pub record NextNumbers : Type 0 where
   pub slot : ℕ
   pub thread : ℕ
   pub par : ℕ
@@ -94,28 +94,28 @@ pub record Made : Type 0 where
 
 pub record Lowered : Type 0 where
   pub stmt : Stmt
-  pub next : Next
+  pub next : NextNumbers
   -- the threads below that came in, in preorder
   pub made : List Made
 
 pub record Listed : Type 0 where
   pub list : Stmts
-  pub next : Next
+  pub next : NextNumbers
   pub made : List Made
 
 pub record Started : Type 0 where
   pub launches : List Branch
-  pub next : Next
+  pub next : NextNumbers
   pub made : List Made
 
 -- a list as one statement
 abbrev pub as_one : Listed → Lowered
 as_one l = record { stmt = sequence l.list; next = l.next; made = l.made }
 
-abbrev pub lowered : Stmt → Next → Lowered
+abbrev pub lowered : Stmt → NextNumbers → Lowered
 lowered s n = record { stmt = s; next = n; made = [] }
 
-abbrev pub from_slot : Next → ℕ → Next
+abbrev pub from_slot : NextNumbers → ℕ → NextNumbers
 from_slot n slot = record { slot = slot; thread = n.thread; par = n.par }
 
 -- the variables that an expression or a statement names
@@ -268,11 +268,11 @@ module _ (text : Text) where
 
 -- a call of a void function that is put in place, in a thread: the slots of its parameters, which the caller has taken, and what is free after them
 abbrev pub InPlace : Type 0
-InPlace = (first owner : ℕ) → Next → Lowered
+InPlace = (first owner : ℕ) → NextNumbers → Lowered
 
 module _ (text : Text) (called : ℕ → InPlace) where
   abbrev mutual
-    pub lower_statement : ℕ → List Slot → Next → Statement → Lowered
+    pub lower_statement : ℕ → List Slot → NextNumbers → Statement → Lowered
     lower_statement t s n (Nothing at) = lowered kernel.Nop n
     lower_statement t s n (Group at body) =
         as_one (lower_list t s n body)
@@ -310,19 +310,19 @@ module _ (text : Text) (called : ℕ → InPlace) where
         record { stmt = kernel.Enter weak immediate (lower_term text s test) (sequence l.list); next = l.next; made = l.made }
     lower_statement t s n (Return at value) = lowered (kernel.Return (lower_term text s value)) n
 
-    pub lower_list : ℕ → List Slot → Next → Statements → Listed
+    pub lower_list : ℕ → List Slot → NextNumbers → Statements → Listed
     lower_list t s n no_statements = record { list = no_stmts; next = n; made = [] }
     lower_list t s n (more_statements a rest) =
         let l = lower_statement t s n a in
         let m = lower_list t (scope_behind text s n.slot a) l.next rest in
         record { list = more_stmts l.stmt m.list; next = m.next; made = l.made ++ m.made }
 
-    pub lower_perhaps : ℕ → List Slot → Next → Perhaps → Lowered
+    pub lower_perhaps : ℕ → List Slot → NextNumbers → Perhaps → Lowered
     lower_perhaps t s n absent = lowered kernel.Nop n
     lower_perhaps t s n (present a) = lower_statement t s n a
 
     -- each branch is the next thread, and those below it follow it
-    pub lower_branches : ℕ → List Slot → ℕ → Next → Branches → Started
+    pub lower_branches : ℕ → List Slot → ℕ → NextNumbers → Branches → Started
     lower_branches t s p n no_branches = record { launches = []; next = n; made = [] }
     lower_branches t s p n (by_call name args rest) =
         let b = called name.id 0 n.thread (record { slot = count_terms args; thread = suc n.thread; par = n.par }) in

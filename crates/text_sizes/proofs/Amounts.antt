@@ -4,7 +4,7 @@ use Rattle.forec_tree.specs.Terms.{Text, PlainFunction}
 use Rattle.forec_kernel.specs.WellFormed.{stmt_terms, bodies_terms}
 use Rattle.text_kernel.specs.declared.limits.Quantity.TheVariants.{Terms}
 use Rattle.text_kernel.specs.Bindings.{params_at}
-use Rattle.text_kernel.specs.Lowering.{Next, Made, sequence}
+use Rattle.text_kernel.specs.Lowering.{NextNumbers, Made, sequence}
 use Rattle.text_kernel.specs.Kernels.{kernel_of, root, main_id, int_functions}
 use Rattle.text_kernel.specs.Kernels as kernels
 use Rattle.text_kernel.specs.Limits.{amount}
@@ -22,8 +22,8 @@ bodies_made (m ∷ a) = ap (λ n. stmt_terms m.body + n) (bodies_made a)
 functions_terms : (text : Text) (names : List (List ℕ)) (fs : List PlainFunction) → bodies_terms (map (λ f. sequence (kernels.function_body text names f).list) fs) ≡ counts_of fs
 functions_terms text names [] = refl
 functions_terms text names (f ∷ rest) =
-    let right = λ (id first t : ℕ) (n : Next). ap (λ (x : Extent). x.own) (sym (nothing_known id)) in
-    let n : Next = record { slot = length f.params; thread = 1; par = 0 } in
+    let right = λ (id first t : ℕ) (n : NextNumbers). ap (λ (x : Extent). x.own) (sym (nothing_known id)) in
+    let n : NextNumbers = record { slot = length f.params; thread = 1; par = 0 } in
     let s = params_at 0 f.params in
     let one =
     sequence_as (kernels.function_body text names f).list _ _ (length_is text nothing (own_at []) right 0 s n f.body) (all_is text nothing (own_at []) right 0 s n f.body) in
@@ -39,7 +39,7 @@ terms_amount text names first own under functions main whole fs f i o u g m w =
     let ko = kept.own in
     let ku = kept.under in
     let all = has_terms text (length text) (main_id text names) in
-    let from : Next = record { slot = 0; thread = 1; par = 0 } in
+    let from : NextNumbers = record { slot = 0; thread = 1; par = 0 } in
     let a = all.own 0 0 from in
     let b = all.under 0 0 from in
     let oo = o ∙ ap (λ n. (extent_value text n).own) f in

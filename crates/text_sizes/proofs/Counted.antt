@@ -13,7 +13,7 @@ use Rattle.text_kernel.specs.declared.names.Stands.{Stands}
 use Rattle.text_kernel.specs.declared.names.Stands.TheVariants as st
 use Rattle.text_kernel.specs.Bindings.{with_locals, slots_of, number_of}
 use Rattle.text_kernel.specs.Lowering as low
-use Rattle.text_kernel.specs.Lowering.{read_as, element_as, stands, lower_term, lower_terms, sequence, ends_with, operated, assign_to, assign_at, array_values, lower_local, lower_locals, set_params, optional_test, lower_target, lower_statement, lower_list, lower_perhaps, lower_branches, scope_behind, scope_behind_perhaps, after_start, then_step, par_of, par_behind, Next, InPlace}
+use Rattle.text_kernel.specs.Lowering.{read_as, element_as, stands, lower_term, lower_terms, sequence, ends_with, operated, assign_to, assign_at, array_values, lower_local, lower_locals, set_params, optional_test, lower_target, lower_statement, lower_list, lower_perhaps, lower_branches, scope_behind, scope_behind_perhaps, after_start, then_step, par_of, par_behind, NextNumbers, InPlace}
 use Rattle.text_sizes.specs.Counts.{term_count, terms_count, sequence_count, values_count, first_count, local_count, locals_count, operated_count, assign_count, sets_count, optional_count, branches_count, statement_count, own, own_all, own_perhaps, own_start, own_step}
 
 read_weight : (x : Stands) → expr_weight (read_as x) ≡ 1
@@ -100,7 +100,7 @@ pub par_terms : (bs : List Branch) → stmt_terms (par_of bs) ≡ suc (branches_
 par_terms [] = refl
 par_terms (b ∷ rest) = omega arith
 
-module _ (text : Text) (called : ℕ → InPlace) (sizes : ℕ → ℕ) (right : (id first t : ℕ) (n : Next) → stmt_terms (called id first t n).stmt ≡ sizes id) where
+module _ (text : Text) (called : ℕ → InPlace) (sizes : ℕ → ℕ) (right : (id first t : ℕ) (n : NextNumbers) → stmt_terms (called id first t n).stmt ≡ sizes id) where
   values_length : (s : List Slot) (slot size k : ℕ) (es : Terms) (place : Place) → stmts_length (array_values text s slot size k es place) ≡ count_terms es
   values_length s slot size k no_terms place = refl
   values_length s slot size k (more_terms e rest) place = ap suc (values_length s slot size (suc k) rest place)
@@ -167,7 +167,7 @@ module _ (text : Text) (called : ℕ → InPlace) (sizes : ℕ → ℕ) (right :
   optional_weight s (Some e) = term_weight text s e
 
   mutual
-    pub own_is : (t : ℕ) (s : List Slot) (n : Next) (a : Statement) → stmt_terms (lower_statement text called t s n a).stmt ≡ own sizes a
+    pub own_is : (t : ℕ) (s : List Slot) (n : NextNumbers) (a : Statement) → stmt_terms (lower_statement text called t s n a).stmt ≡ own sizes a
     own_is t s n (Nothing at) = refl
     own_is t s n (Group at body) = sequence_as _ _ _ (length_is t s n body) (all_is t s n body)
     own_is t s n (Declare at locals) = sequence_as (lower_locals text s n.slot locals) _ _ (locals_length s n.slot locals) (locals_terms s n.slot locals)
@@ -194,27 +194,27 @@ module _ (text : Text) (called : ℕ → InPlace) (sizes : ℕ → ℕ) (right :
         (omega (arith, optional_weight inside test, d))
     own_is t s n (Pause at) = refl
     own_is t s n (Par at bs) =
-        let from : Next = record { slot = n.slot; thread = n.thread; par = par_behind bs n.par } in
+        let from : NextNumbers = record { slot = n.slot; thread = n.thread; par = par_behind bs n.par } in
         par_terms (lower_branches text called t s n.par from bs).launches ∙ (let e = branches_are t s n.par from bs in omega (arith, e))
     own_is t s n (Abort at weak immediate test body) =
         let e = sequence_as _ _ _ (length_is t s n body) (all_is t s n body) in omega (arith, term_weight text s test, e)
     own_is t s n (Return at value) = omega (arith, term_weight text s value)
 
-    pub length_is : (t : ℕ) (s : List Slot) (n : Next) (a : Statements) → stmts_length (lower_list text called t s n a).list ≡ statement_count a
+    pub length_is : (t : ℕ) (s : List Slot) (n : NextNumbers) (a : Statements) → stmts_length (lower_list text called t s n a).list ≡ statement_count a
     length_is t s n no_statements = refl
     length_is t s n (more_statements a rest) =
         ap suc (length_is t (scope_behind text s n.slot a) (lower_statement text called t s n a).next rest)
 
-    pub all_is : (t : ℕ) (s : List Slot) (n : Next) (a : Statements) → stmts_terms (lower_list text called t s n a).list ≡ own_all sizes a
+    pub all_is : (t : ℕ) (s : List Slot) (n : NextNumbers) (a : Statements) → stmts_terms (lower_list text called t s n a).list ≡ own_all sizes a
     all_is t s n no_statements = refl
     all_is t s n (more_statements a rest) =
         omega (arith, own_is t s n a, all_is t (scope_behind text s n.slot a) (lower_statement text called t s n a).next rest)
 
-    perhaps_is : (t : ℕ) (s : List Slot) (n : Next) (a : Perhaps) → stmt_terms (lower_perhaps text called t s n a).stmt ≡ own_perhaps sizes a
+    perhaps_is : (t : ℕ) (s : List Slot) (n : NextNumbers) (a : Perhaps) → stmt_terms (lower_perhaps text called t s n a).stmt ≡ own_perhaps sizes a
     perhaps_is t s n absent = refl
     perhaps_is t s n (present a) = own_is t s n a
 
-    branches_are : (t : ℕ) (s : List Slot) (p : ℕ) (n : Next) (bs : Branches) → branches_weight (lower_branches text called t s p n bs).launches ≡ branches_count bs
+    branches_are : (t : ℕ) (s : List Slot) (p : ℕ) (n : NextNumbers) (bs : Branches) → branches_weight (lower_branches text called t s p n bs).launches ≡ branches_count bs
     branches_are t s p n no_branches = refl
     branches_are t s p n (by_call name args rest) =
         let b = called name.id 0 n.thread (record { slot = count_terms args; thread = suc n.thread; par = n.par }) in

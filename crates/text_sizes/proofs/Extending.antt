@@ -16,7 +16,7 @@ use Rattle.forec_check.proofs.Tables.{settles_by}
 use Rattle.text_sizes.specs.declared.extents.Extent.{Extent}
 use Rattle.text_kernel.specs.Bindings.{params_at}
 use Rattle.text_sizes.specs.Counts.{sequence_count, statement_count, own_all, under_all}
-use Rattle.text_kernel.specs.Lowering.{Next, InPlace, in_place_step, nothing_in_place, body_in_place}
+use Rattle.text_kernel.specs.Lowering.{NextNumbers, InPlace, in_place_step, nothing_in_place, body_in_place}
 use Rattle.text_sizes.specs.Extents.{nothing, extent_at, extent_by, extent_step, exact, capped, extent_value}
 use Rattle.text_sizes.proofs.Counted.{sequence_as, all_is, length_is}
 use Rattle.text_sizes.proofs.Sized.{made_terms, list_under}
@@ -110,29 +110,29 @@ value_capped text id = within_capped text (length text) id
 -- ---- what is put in place has so many terms
 
 pub record HasTerms (text : Text) (deep id : ℕ) (e : Extent) : Type 0 where
-  pub own : (first t : ℕ) (n : Next) → stmt_terms (within nothing_in_place (in_place_step text) deep id first t n).stmt ≡ e.own
-  pub under : (first t : ℕ) (n : Next) → made_terms (within nothing_in_place (in_place_step text) deep id first t n).made ≡ e.under
+  pub own : (first t : ℕ) (n : NextNumbers) → stmt_terms (within nothing_in_place (in_place_step text) deep id first t n).stmt ≡ e.own
+  pub under : (first t : ℕ) (n : NextNumbers) → made_terms (within nothing_in_place (in_place_step text) deep id first t n).made ≡ e.under
 
-body_own : (text : Text) (called : ℕ → InPlace) (sizes : ℕ → Extent) → ((id first t : ℕ) (n : Next) → stmt_terms (called id first t n).stmt ≡ (sizes id).own) →
-    (f : Option PlainFunction) (first t : ℕ) (n : Next) → stmt_terms (body_in_place text called f first t n).stmt ≡ (extent_by exact sizes f).own
+body_own : (text : Text) (called : ℕ → InPlace) (sizes : ℕ → Extent) → ((id first t : ℕ) (n : NextNumbers) → stmt_terms (called id first t n).stmt ≡ (sizes id).own) →
+    (f : Option PlainFunction) (first t : ℕ) (n : NextNumbers) → stmt_terms (body_in_place text called f first t n).stmt ≡ (extent_by exact sizes f).own
 body_own text called sizes right None first t n = refl
 body_own text called sizes right (Some f) first t n =
     sequence_as _ _ _ (length_is text called (λ g. (sizes g).own) right t (params_at first f.params) n f.body) (all_is text called (λ g. (sizes g).own) right t (params_at first f.params) n f.body)
 
-body_under : (text : Text) (called : ℕ → InPlace) (sizes : ℕ → Extent) → ((id first t : ℕ) (n : Next) → stmt_terms (called id first t n).stmt ≡ (sizes id).own) →
-    ((id first t : ℕ) (n : Next) → made_terms (called id first t n).made ≡ (sizes id).under) →
-    (f : Option PlainFunction) (first t : ℕ) (n : Next) → made_terms (body_in_place text called f first t n).made ≡ (extent_by exact sizes f).under
+body_under : (text : Text) (called : ℕ → InPlace) (sizes : ℕ → Extent) → ((id first t : ℕ) (n : NextNumbers) → stmt_terms (called id first t n).stmt ≡ (sizes id).own) →
+    ((id first t : ℕ) (n : NextNumbers) → made_terms (called id first t n).made ≡ (sizes id).under) →
+    (f : Option PlainFunction) (first t : ℕ) (n : NextNumbers) → made_terms (body_in_place text called f first t n).made ≡ (extent_by exact sizes f).under
 body_under text called sizes right beneath None first t n = refl
 body_under text called sizes right beneath (Some f) first t n =
     list_under text called (λ g. (sizes g).own) (λ g. (sizes g).under) right beneath t (params_at first f.params) n f.body
 
-place_own : (text : Text) (deep id first t : ℕ) (n : Next) → stmt_terms (within nothing_in_place (in_place_step text) deep id first t n).stmt ≡ (within nothing (extent_step exact text) deep id).own
+place_own : (text : Text) (deep id first t : ℕ) (n : NextNumbers) → stmt_terms (within nothing_in_place (in_place_step text) deep id first t n).stmt ≡ (within nothing (extent_step exact text) deep id).own
 unfolding within
 place_own text zero id first t n = refl
 place_own text (suc deep) id first t n =
     body_own text (within nothing_in_place (in_place_step text) deep) (within nothing (extent_step exact text) deep) (place_own text deep) (find_function id text) first t n
 
-place_under : (text : Text) (deep id first t : ℕ) (n : Next) → made_terms (within nothing_in_place (in_place_step text) deep id first t n).made ≡ (within nothing (extent_step exact text) deep id).under
+place_under : (text : Text) (deep id first t : ℕ) (n : NextNumbers) → made_terms (within nothing_in_place (in_place_step text) deep id first t n).made ≡ (within nothing (extent_step exact text) deep id).under
 unfolding within
 place_under text zero id first t n = refl
 place_under text (suc deep) id first t n =

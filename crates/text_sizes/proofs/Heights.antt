@@ -8,7 +8,7 @@ use Rattle.text_kernel.specs.declared.names.Slot.{Slot}
 use Rattle.text_sizes.specs.declared.span.Span.{Span}
 use Rattle.text_kernel.specs.Bindings.{params_at}
 use Rattle.text_kernel.specs.Lowering as low
-use Rattle.text_kernel.specs.Lowering.{sequence, ends_with, set_params, scope_behind, scope_behind_perhaps, par_behind, after_start, then_step, Next, Made, InPlace, body_in_place, in_place_step, nothing_in_place, lower_statement, lower_list, lower_perhaps, lower_branches}
+use Rattle.text_kernel.specs.Lowering.{sequence, ends_with, set_params, scope_behind, scope_behind_perhaps, par_behind, after_start, then_step, NextNumbers, Made, InPlace, body_in_place, in_place_step, nothing_in_place, lower_statement, lower_list, lower_perhaps, lower_branches}
 use Rattle.text_sizes.specs.Counts.{slots_all, statement_count}
 use Rattle.text_sizes.specs.Extents.{exact}
 use Rattle.text_sizes.specs.Spans.{sequence_levels, levels, levels_all, levels_perhaps, block_levels, most, most_all, most_perhaps, most_branches, words_by, levels_by, no_span, span_by, span_step}
@@ -52,13 +52,13 @@ none_at called a e = ap (levels_perhaps called) e
 
 -- ---- levels
 
-module _ (text : Text) (called : ℕ → InPlace) (known : ℕ → ℕ) (right : (id first t : ℕ) (n : Next) → known id ≤ stmt_depth (called id first t n).stmt) where
-  list_long : (t : ℕ) (s : List Slot) (n : Next) (a : Statements) → stmts_length (lower_list text called t s n a).list ≡ statement_count a
+module _ (text : Text) (called : ℕ → InPlace) (known : ℕ → ℕ) (right : (id first t : ℕ) (n : NextNumbers) → known id ≤ stmt_depth (called id first t n).stmt) where
+  list_long : (t : ℕ) (s : List Slot) (n : NextNumbers) (a : Statements) → stmts_length (lower_list text called t s n a).list ≡ statement_count a
   list_long t s n no_statements = refl
   list_long t s n (more_statements a rest) = ap suc (list_long t (scope_behind text s n.slot a) (lower_statement text called t s n a).next rest)
 
   mutual
-    pub deep_is : (t : ℕ) (s : List Slot) (n : Next) (a : Statement) → levels known a ≤ stmt_depth (lower_statement text called t s n a).stmt
+    pub deep_is : (t : ℕ) (s : List Slot) (n : NextNumbers) (a : Statement) → levels known a ≤ stmt_depth (lower_statement text called t s n a).stmt
     deep_is t s n (Nothing at) = omega arith
     deep_is t s n (Group at body) = sequence_deep (lower_list text called t s n body).list (statement_count body) (levels_all known body) (list_long t s n body) (all_deep t s n body)
     deep_is t s n (Declare at locals) = omega arith
@@ -90,7 +90,7 @@ module _ (text : Text) (called : ℕ → InPlace) (known : ℕ → ℕ) (right :
         let e = sequence_deep (lower_list text called t s n body).list (statement_count body) (levels_all known body) (list_long t s n body) (all_deep t s n body) in omega (arith, e)
     deep_is t s n (Return at value) = omega arith
 
-    all_deep : (t : ℕ) (s : List Slot) (n : Next) (a : Statements) → levels_all known a ≤ stmts_depth (lower_list text called t s n a).list
+    all_deep : (t : ℕ) (s : List Slot) (n : NextNumbers) (a : Statements) → levels_all known a ≤ stmts_depth (lower_list text called t s n a).list
     all_deep t s n no_statements = omega arith
     all_deep t s n (more_statements a rest) =
         let l = lower_statement text called t s n a in
@@ -98,11 +98,11 @@ module _ (text : Text) (called : ℕ → InPlace) (known : ℕ → ℕ) (right :
         let d = all_deep t (scope_behind text s n.slot a) l.next rest in
         omega (arith, e, d)
 
-    perhaps_deep : (t : ℕ) (s : List Slot) (n : Next) (a : Perhaps) → levels_perhaps known a ≤ stmt_depth (lower_perhaps text called t s n a).stmt
+    perhaps_deep : (t : ℕ) (s : List Slot) (n : NextNumbers) (a : Perhaps) → levels_perhaps known a ≤ stmt_depth (lower_perhaps text called t s n a).stmt
     perhaps_deep t s n absent = omega arith
     perhaps_deep t s n (present a) = deep_is t s n a
 
-  pub list_is : (t : ℕ) (s : List Slot) (n : Next) (a : Statements) → block_levels known a ≤ stmt_depth (sequence (lower_list text called t s n a).list)
+  pub list_is : (t : ℕ) (s : List Slot) (n : NextNumbers) (a : Statements) → block_levels known a ≤ stmt_depth (sequence (lower_list text called t s n a).list)
   list_is t s n a = sequence_deep (lower_list text called t s n a).list (statement_count a) (levels_all known a) (list_long t s n a) (all_deep t s n a)
 
 -- ---- a measure of the threads below
@@ -118,7 +118,7 @@ module _ (measure : Made → ℕ) where
 
   module _
       (text : Text) (called : ℕ → InPlace) (by_name : ℕ → ℕ → ℕ) (by_body : Statements → ℕ) (below : ℕ → ℕ)
-      (names : (t p thread args : ℕ) (name : Rattle.forec_tree.specs.declared.tree.Name.Name) (n : Next) (params : ℕ) → n.slot ≡ args →
+      (names : (t p thread args : ℕ) (name : Rattle.forec_tree.specs.declared.tree.Name.Name) (n : NextNumbers) (params : ℕ) → n.slot ≡ args →
       by_name name.id args ≤ measure (record {
         parent = t;
         par = p;
@@ -129,7 +129,7 @@ module _ (measure : Made → ℕ) where
         body = (called name.id 0 thread n).stmt;
         named = low.vars_of (called name.id 0 thread n).stmt ++ low.vars_made (called name.id 0 thread n).made;
       }))
-      (bodies : (t p thread : ℕ) (n : Next) (body : Statements) → n.slot ≡ 0 →
+      (bodies : (t p thread : ℕ) (n : NextNumbers) (body : Statements) → n.slot ≡ 0 →
       by_body body ≤ measure (record {
         parent = t;
         par = p;
@@ -140,9 +140,9 @@ module _ (measure : Made → ℕ) where
         body = sequence (lower_list text called thread [] n body).list;
         named = low.vars_of (sequence (lower_list text called thread [] n body).list) ++ low.vars_made (lower_list text called thread [] n body).made;
       }))
-      (beneath : (id first t : ℕ) (n : Next) → below id ≤ made_most (called id first t n).made) where
+      (beneath : (id first t : ℕ) (n : NextNumbers) → below id ≤ made_most (called id first t n).made) where
     mutual
-      pub most_least : (t : ℕ) (s : List Slot) (n : Next) (a : Statement) → most by_name by_body below a ≤ made_most (lower_statement text called t s n a).made
+      pub most_least : (t : ℕ) (s : List Slot) (n : NextNumbers) (a : Statement) → most by_name by_body below a ≤ made_most (lower_statement text called t s n a).made
       most_least t s n (Nothing at) = omega arith
       most_least t s n (Group at body) = all_least t s n body
       most_least t s n (Declare at locals) = omega arith
@@ -173,7 +173,7 @@ module _ (measure : Made → ℕ) where
       most_least t s n (Abort at weak immediate test body) = all_least t s n body
       most_least t s n (Return at value) = omega arith
 
-      pub all_least : (t : ℕ) (s : List Slot) (n : Next) (a : Statements) → most_all by_name by_body below a ≤ made_most (lower_list text called t s n a).made
+      pub all_least : (t : ℕ) (s : List Slot) (n : NextNumbers) (a : Statements) → most_all by_name by_body below a ≤ made_most (lower_list text called t s n a).made
       all_least t s n no_statements = omega arith
       all_least t s n (more_statements a rest) =
           let l = lower_statement text called t s n a in
@@ -184,16 +184,16 @@ module _ (measure : Made → ℕ) where
           let f = all_least t inner l.next rest in
           omega (arith, e, d, f)
 
-      perhaps_least : (t : ℕ) (s : List Slot) (n : Next) (a : Perhaps) → most_perhaps by_name by_body below a ≤ made_most (lower_perhaps text called t s n a).made
+      perhaps_least : (t : ℕ) (s : List Slot) (n : NextNumbers) (a : Perhaps) → most_perhaps by_name by_body below a ≤ made_most (lower_perhaps text called t s n a).made
       perhaps_least t s n absent = omega arith
       perhaps_least t s n (present a) = most_least t s n a
 
-      branches_least : (t : ℕ) (s : List Slot) (p : ℕ) (n : Next) (bs : Branches) → most_branches by_name by_body below bs ≤ made_most (lower_branches text called t s p n bs).made
+      branches_least : (t : ℕ) (s : List Slot) (p : ℕ) (n : NextNumbers) (bs : Branches) → most_branches by_name by_body below bs ≤ made_most (lower_branches text called t s p n bs).made
       branches_least t s p n no_branches = omega arith
       branches_least t s p n (by_call name args rest) =
-          let inside : Next = record { slot = count_terms args; thread = suc n.thread; par = n.par } in
+          let inside : NextNumbers = record { slot = count_terms args; thread = suc n.thread; par = n.par } in
           let b = called name.id 0 n.thread inside in
-          let next : Next = record { slot = n.slot; thread = b.next.thread; par = b.next.par } in
+          let next : NextNumbers = record { slot = n.slot; thread = b.next.thread; par = b.next.par } in
           let m = lower_branches text called t s p next rest in
           let e = most_append b.made m.made in
           let f = names t p n.thread (count_terms args) name inside (Rattle.std.proofs.Common.length (low.params_of (find_function name.id text))) refl in
@@ -201,9 +201,9 @@ module _ (measure : Made → ℕ) where
           let h = branches_least t s p next rest in
           omega (arith, e, f, g, h)
       branches_least t s p n (by_group at body rest) =
-          let inside : Next = record { slot = 0; thread = suc n.thread; par = n.par } in
+          let inside : NextNumbers = record { slot = 0; thread = suc n.thread; par = n.par } in
           let l = lower_list text called n.thread [] inside body in
-          let next : Next = record { slot = n.slot; thread = l.next.thread; par = l.next.par } in
+          let next : NextNumbers = record { slot = n.slot; thread = l.next.thread; par = l.next.par } in
           let m = lower_branches text called t s p next rest in
           let e = most_append l.made m.made in
           let f = bodies t p n.thread inside body refl in
@@ -213,7 +213,7 @@ module _ (measure : Made → ℕ) where
 
   module _
       (text : Text) (called : ℕ → InPlace) (by_name : ℕ → ℕ → ℕ) (by_body : Statements → ℕ) (below : ℕ → ℕ)
-      (names : (t p thread args : ℕ) (name : Rattle.forec_tree.specs.declared.tree.Name.Name) (n : Next) (params : ℕ) → n.slot ≡ args →
+      (names : (t p thread args : ℕ) (name : Rattle.forec_tree.specs.declared.tree.Name.Name) (n : NextNumbers) (params : ℕ) → n.slot ≡ args →
       measure (record {
         parent = t;
         par = p;
@@ -224,7 +224,7 @@ module _ (measure : Made → ℕ) where
         body = (called name.id 0 thread n).stmt;
         named = low.vars_of (called name.id 0 thread n).stmt ++ low.vars_made (called name.id 0 thread n).made;
       }) ≤ by_name name.id args)
-      (bodies : (t p thread : ℕ) (n : Next) (body : Statements) → n.slot ≡ 0 →
+      (bodies : (t p thread : ℕ) (n : NextNumbers) (body : Statements) → n.slot ≡ 0 →
       measure (record {
         parent = t;
         par = p;
@@ -235,9 +235,9 @@ module _ (measure : Made → ℕ) where
         body = sequence (lower_list text called thread [] n body).list;
         named = low.vars_of (sequence (lower_list text called thread [] n body).list) ++ low.vars_made (lower_list text called thread [] n body).made;
       }) ≤ by_body body)
-      (beneath : (id first t : ℕ) (n : Next) → made_most (called id first t n).made ≤ below id) where
+      (beneath : (id first t : ℕ) (n : NextNumbers) → made_most (called id first t n).made ≤ below id) where
     mutual
-      pub most_greatest : (t : ℕ) (s : List Slot) (n : Next) (a : Statement) → made_most (lower_statement text called t s n a).made ≤ most by_name by_body below a
+      pub most_greatest : (t : ℕ) (s : List Slot) (n : NextNumbers) (a : Statement) → made_most (lower_statement text called t s n a).made ≤ most by_name by_body below a
       most_greatest t s n (Nothing at) = omega arith
       most_greatest t s n (Group at body) = all_greatest t s n body
       most_greatest t s n (Declare at locals) = omega arith
@@ -268,7 +268,7 @@ module _ (measure : Made → ℕ) where
       most_greatest t s n (Abort at weak immediate test body) = all_greatest t s n body
       most_greatest t s n (Return at value) = omega arith
 
-      pub all_greatest : (t : ℕ) (s : List Slot) (n : Next) (a : Statements) → made_most (lower_list text called t s n a).made ≤ most_all by_name by_body below a
+      pub all_greatest : (t : ℕ) (s : List Slot) (n : NextNumbers) (a : Statements) → made_most (lower_list text called t s n a).made ≤ most_all by_name by_body below a
       all_greatest t s n no_statements = omega arith
       all_greatest t s n (more_statements a rest) =
           let l = lower_statement text called t s n a in
@@ -279,16 +279,16 @@ module _ (measure : Made → ℕ) where
           let f = all_greatest t inner l.next rest in
           omega (arith, e, d, f)
 
-      perhaps_greatest : (t : ℕ) (s : List Slot) (n : Next) (a : Perhaps) → made_most (lower_perhaps text called t s n a).made ≤ most_perhaps by_name by_body below a
+      perhaps_greatest : (t : ℕ) (s : List Slot) (n : NextNumbers) (a : Perhaps) → made_most (lower_perhaps text called t s n a).made ≤ most_perhaps by_name by_body below a
       perhaps_greatest t s n absent = omega arith
       perhaps_greatest t s n (present a) = most_greatest t s n a
 
-      branches_greatest : (t : ℕ) (s : List Slot) (p : ℕ) (n : Next) (bs : Branches) → made_most (lower_branches text called t s p n bs).made ≤ most_branches by_name by_body below bs
+      branches_greatest : (t : ℕ) (s : List Slot) (p : ℕ) (n : NextNumbers) (bs : Branches) → made_most (lower_branches text called t s p n bs).made ≤ most_branches by_name by_body below bs
       branches_greatest t s p n no_branches = omega arith
       branches_greatest t s p n (by_call name args rest) =
-          let inside : Next = record { slot = count_terms args; thread = suc n.thread; par = n.par } in
+          let inside : NextNumbers = record { slot = count_terms args; thread = suc n.thread; par = n.par } in
           let b = called name.id 0 n.thread inside in
-          let next : Next = record { slot = n.slot; thread = b.next.thread; par = b.next.par } in
+          let next : NextNumbers = record { slot = n.slot; thread = b.next.thread; par = b.next.par } in
           let m = lower_branches text called t s p next rest in
           let e = most_append b.made m.made in
           let f = names t p n.thread (count_terms args) name inside (Rattle.std.proofs.Common.length (low.params_of (find_function name.id text))) refl in
@@ -296,9 +296,9 @@ module _ (measure : Made → ℕ) where
           let h = branches_greatest t s p next rest in
           omega (arith, e, f, g, h)
       branches_greatest t s p n (by_group at body rest) =
-          let inside : Next = record { slot = 0; thread = suc n.thread; par = n.par } in
+          let inside : NextNumbers = record { slot = 0; thread = suc n.thread; par = n.par } in
           let l = lower_list text called n.thread [] inside body in
-          let next : Next = record { slot = n.slot; thread = l.next.thread; par = l.next.par } in
+          let next : NextNumbers = record { slot = n.slot; thread = l.next.thread; par = l.next.par } in
           let m = lower_branches text called t s p next rest in
           let e = most_append l.made m.made in
           let f = bodies t p n.thread inside body refl in
@@ -315,20 +315,20 @@ abbrev pub depth_in : List Made → ℕ
 depth_in = made_most (λ m. stmt_depth m.body)
 
 pub record Told (called : ℕ → InPlace) (known : ℕ → Span) : Type 0 where
-  pub slots : (id first t : ℕ) (n : Next) → (called id first t n).next.slot ≡ n.slot + (known id).slots
-  pub widest : (id first t : ℕ) (n : Next) → words_in (called id first t n).made ≡ (known id).widest
-  pub levels : (id first t : ℕ) (n : Next) → (known id).levels ≤ stmt_depth (called id first t n).stmt
-  pub deepest : (id first t : ℕ) (n : Next) → (known id).deepest ≤ depth_in (called id first t n).made
+  pub slots : (id first t : ℕ) (n : NextNumbers) → (called id first t n).next.slot ≡ n.slot + (known id).slots
+  pub widest : (id first t : ℕ) (n : NextNumbers) → words_in (called id first t n).made ≡ (known id).widest
+  pub levels : (id first t : ℕ) (n : NextNumbers) → (known id).levels ≤ stmt_depth (called id first t n).stmt
+  pub deepest : (id first t : ℕ) (n : NextNumbers) → (known id).deepest ≤ depth_in (called id first t n).made
 
 module _ (text : Text) (called : ℕ → InPlace) (known : ℕ → Span) (told : Told called known) where
-  taken : (f : Option PlainFunction) (first t : ℕ) (n : Next) → (body_in_place text called f first t n).next.slot ≡ n.slot + (span_by exact known f).slots
+  taken : (f : Option PlainFunction) (first t : ℕ) (n : NextNumbers) → (body_in_place text called f first t n).next.slot ≡ n.slot + (span_by exact known f).slots
   taken None first t n = omega arith
   taken (Some f) first t n = list_slots text called (λ g. (known g).slots) told.slots t (params_at first f.params) n f.body
 
-  body_slots_are : (t p thread : ℕ) (n : Next) (body : Statements) → n.slot ≡ 0 → (lower_list text called thread [] n body).next.slot ≡ slots_all (λ g. (known g).slots) body
+  body_slots_are : (t p thread : ℕ) (n : NextNumbers) (body : Statements) → n.slot ≡ 0 → (lower_list text called thread [] n body).next.slot ≡ slots_all (λ g. (known g).slots) body
   body_slots_are t p thread n body z = let e = list_slots text called (λ g. (known g).slots) told.slots thread [] n body in omega (arith, e, z)
 
-  wide : (f : Option PlainFunction) (first t : ℕ) (n : Next) → words_in (body_in_place text called f first t n).made ≡ (span_by exact known f).widest
+  wide : (f : Option PlainFunction) (first t : ℕ) (n : NextNumbers) → words_in (body_in_place text called f first t n).made ≡ (span_by exact known f).widest
   wide None first t n = refl
   wide (Some f) first t n =
       let at_least =
@@ -341,11 +341,11 @@ module _ (text : Text) (called : ℕ → InPlace) (known : ℕ → Span) (told :
       (λ id first t n. (let e = told.widest id first t n in omega (arith, e))) t (params_at first f.params) n f.body in
       omega (arith, at_least, at_most)
 
-  stacked : (f : Option PlainFunction) (first t : ℕ) (n : Next) → (span_by exact known f).levels ≤ stmt_depth (body_in_place text called f first t n).stmt
+  stacked : (f : Option PlainFunction) (first t : ℕ) (n : NextNumbers) → (span_by exact known f).levels ≤ stmt_depth (body_in_place text called f first t n).stmt
   stacked None first t n = omega arith
   stacked (Some f) first t n = list_is text called (λ g. (known g).levels) told.levels t (params_at first f.params) n f.body
 
-  deep_below : (f : Option PlainFunction) (first t : ℕ) (n : Next) → (span_by exact known f).deepest ≤ depth_in (body_in_place text called f first t n).made
+  deep_below : (f : Option PlainFunction) (first t : ℕ) (n : NextNumbers) → (span_by exact known f).deepest ≤ depth_in (body_in_place text called f first t n).made
   deep_below None first t n = omega arith
   deep_below (Some f) first t n =
       all_least (λ m. stmt_depth m.body) text called (levels_by (λ g. (known g).levels)) (block_levels (λ g. (known g).levels)) (λ g. (known g).deepest) (λ t p thread args name n params z. told.levels name.id 0 thread n)

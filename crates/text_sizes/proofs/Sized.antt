@@ -6,13 +6,13 @@ use Rattle.forec_tree.specs.Threads.{below, below_all, below_perhaps, below_bran
 use Rattle.forec_kernel.specs.WellFormed.{stmt_terms}
 use Rattle.text_kernel.specs.declared.names.Slot.{Slot}
 use Rattle.text_kernel.specs.Bindings.{params_at, slots_of}
-use Rattle.text_kernel.specs.Lowering.{sequence, slots_behind, scope_behind, scope_behind_perhaps, par_behind, Next, Made, InPlace, body_in_place, in_place_step, nothing_in_place, lower_statement, lower_list, lower_perhaps, lower_branches}
+use Rattle.text_kernel.specs.Lowering.{sequence, slots_behind, scope_behind, scope_behind_perhaps, par_behind, NextNumbers, Made, InPlace, body_in_place, in_place_step, nothing_in_place, lower_statement, lower_list, lower_perhaps, lower_branches}
 use Rattle.text_sizes.specs.Counts.{locals_slots, slots, slots_all, slots_perhaps, under, under_all, under_perhaps, under_branches, sequence_count, statement_count, own_all, body_slots, slots_step}
 use Rattle.text_sizes.proofs.Counted.{sequence_as, all_is, length_is}
 
-module _ (text : Text) (called : ℕ → InPlace) (count : ℕ → ℕ) (right : (id first t : ℕ) (n : Next) → length (called id first t n).made ≡ count id) where
+module _ (text : Text) (called : ℕ → InPlace) (count : ℕ → ℕ) (right : (id first t : ℕ) (n : NextNumbers) → length (called id first t n).made ≡ count id) where
   mutual
-    pub threads_are : (t : ℕ) (s : List Slot) (n : Next) (a : Statement) → length (lower_statement text called t s n a).made ≡ below count a
+    pub threads_are : (t : ℕ) (s : List Slot) (n : NextNumbers) (a : Statement) → length (lower_statement text called t s n a).made ≡ below count a
     threads_are t s n (Nothing at) = refl
     threads_are t s n (Group at body) = list_threads t s n body
     threads_are t s n (Declare at locals) = refl
@@ -37,7 +37,7 @@ module _ (text : Text) (called : ℕ → InPlace) (count : ℕ → ℕ) (right :
     threads_are t s n (Abort at weak immediate test body) = list_threads t s n body
     threads_are t s n (Return at value) = refl
 
-    pub list_threads : (t : ℕ) (s : List Slot) (n : Next) (a : Statements) → length (lower_list text called t s n a).made ≡ below_all count a
+    pub list_threads : (t : ℕ) (s : List Slot) (n : NextNumbers) (a : Statements) → length (lower_list text called t s n a).made ≡ below_all count a
     list_threads t s n no_statements = refl
     list_threads t s n (more_statements a rest) =
         let l = lower_statement text called t s n a in
@@ -45,32 +45,32 @@ module _ (text : Text) (called : ℕ → InPlace) (count : ℕ → ℕ) (right :
         let m = lower_list text called t inner l.next rest in
         let e = length-append l.made m.made in omega (arith, e, threads_are t s n a, list_threads t inner l.next rest)
 
-    perhaps_threads : (t : ℕ) (s : List Slot) (n : Next) (a : Perhaps) → length (lower_perhaps text called t s n a).made ≡ below_perhaps count a
+    perhaps_threads : (t : ℕ) (s : List Slot) (n : NextNumbers) (a : Perhaps) → length (lower_perhaps text called t s n a).made ≡ below_perhaps count a
     perhaps_threads t s n absent = refl
     perhaps_threads t s n (present a) = threads_are t s n a
 
-    branches_threads : (t : ℕ) (s : List Slot) (p : ℕ) (n : Next) (bs : Branches) → length (lower_branches text called t s p n bs).made ≡ below_branches count bs
+    branches_threads : (t : ℕ) (s : List Slot) (p : ℕ) (n : NextNumbers) (bs : Branches) → length (lower_branches text called t s p n bs).made ≡ below_branches count bs
     branches_threads t s p n no_branches = refl
     branches_threads t s p n (by_call name args rest) =
-        let inside : Next = record { slot = count_terms args; thread = suc n.thread; par = n.par } in
+        let inside : NextNumbers = record { slot = count_terms args; thread = suc n.thread; par = n.par } in
         let b = called name.id 0 n.thread inside in
-        let next : Next = record { slot = n.slot; thread = b.next.thread; par = b.next.par } in
+        let next : NextNumbers = record { slot = n.slot; thread = b.next.thread; par = b.next.par } in
         let m = lower_branches text called t s p next rest in
         let e = length-append b.made m.made in omega (arith, e, right name.id 0 n.thread inside, branches_threads t s p next rest)
     branches_threads t s p n (by_group at body rest) =
-        let inside : Next = record { slot = 0; thread = suc n.thread; par = n.par } in
+        let inside : NextNumbers = record { slot = 0; thread = suc n.thread; par = n.par } in
         let l = lower_list text called n.thread [] inside body in
-        let next : Next = record { slot = n.slot; thread = l.next.thread; par = l.next.par } in
+        let next : NextNumbers = record { slot = n.slot; thread = l.next.thread; par = l.next.par } in
         let m = lower_branches text called t s p next rest in
         let e = length-append l.made m.made in omega (arith, e, list_threads n.thread [] inside body, branches_threads t s p next rest)
 
-body_threads : (text : Text) (called : ℕ → InPlace) (count : ℕ → ℕ) → ((id first t : ℕ) (n : Next) → length (called id first t n).made ≡ count id) →
-    (f : Option PlainFunction) (first t : ℕ) (n : Next) → length (body_in_place text called f first t n).made ≡ body_below count f
+body_threads : (text : Text) (called : ℕ → InPlace) (count : ℕ → ℕ) → ((id first t : ℕ) (n : NextNumbers) → length (called id first t n).made ≡ count id) →
+    (f : Option PlainFunction) (first t : ℕ) (n : NextNumbers) → length (body_in_place text called f first t n).made ≡ body_below count f
 body_threads text called count right None first t n = refl
 body_threads text called count right (Some f) first t n = list_threads text called count right t (params_at first f.params) n f.body
 
 -- the threads below a function that is put in place
-pub place_threads : (text : Text) (deep id first t : ℕ) (n : Next) →
+pub place_threads : (text : Text) (deep id first t : ℕ) (n : NextNumbers) →
     length (within nothing_in_place (in_place_step text) deep id first t n).made ≡ within 0 (below_step text) deep id
 unfolding within
 place_threads text zero id first t n = refl
@@ -83,9 +83,9 @@ behind_is : (text : Text) (slot : ℕ) (ls : List Declared) → slots_behind tex
 behind_is text slot [] = omega arith
 behind_is text slot (l ∷ rest) = let e = behind_is text (slot + slots_of l.length) rest in omega (arith, e)
 
-module _ (text : Text) (called : ℕ → InPlace) (count : ℕ → ℕ) (right : (id first t : ℕ) (n : Next) → (called id first t n).next.slot ≡ n.slot + count id) where
+module _ (text : Text) (called : ℕ → InPlace) (count : ℕ → ℕ) (right : (id first t : ℕ) (n : NextNumbers) → (called id first t n).next.slot ≡ n.slot + count id) where
   mutual
-    pub slots_are : (t : ℕ) (s : List Slot) (n : Next) (a : Statement) → (lower_statement text called t s n a).next.slot ≡ n.slot + slots count a
+    pub slots_are : (t : ℕ) (s : List Slot) (n : NextNumbers) (a : Statement) → (lower_statement text called t s n a).next.slot ≡ n.slot + slots count a
     slots_are t s n (Nothing at) = omega arith
     slots_are t s n (Group at body) = list_slots t s n body
     slots_are t s n (Declare at locals) = behind_is text n.slot locals
@@ -105,16 +105,16 @@ module _ (text : Text) (called : ℕ → InPlace) (count : ℕ → ℕ) (right :
     slots_are t s n (Abort at weak immediate test body) = list_slots t s n body
     slots_are t s n (Return at value) = omega arith
 
-    pub list_slots : (t : ℕ) (s : List Slot) (n : Next) (a : Statements) → (lower_list text called t s n a).next.slot ≡ n.slot + slots_all count a
+    pub list_slots : (t : ℕ) (s : List Slot) (n : NextNumbers) (a : Statements) → (lower_list text called t s n a).next.slot ≡ n.slot + slots_all count a
     list_slots t s n no_statements = omega arith
     list_slots t s n (more_statements a rest) =
         let l = lower_statement text called t s n a in omega (arith, slots_are t s n a, list_slots t (scope_behind text s n.slot a) l.next rest)
 
-    perhaps_slots : (t : ℕ) (s : List Slot) (n : Next) (a : Perhaps) → (lower_perhaps text called t s n a).next.slot ≡ n.slot + slots_perhaps count a
+    perhaps_slots : (t : ℕ) (s : List Slot) (n : NextNumbers) (a : Perhaps) → (lower_perhaps text called t s n a).next.slot ≡ n.slot + slots_perhaps count a
     perhaps_slots t s n absent = omega arith
     perhaps_slots t s n (present a) = slots_are t s n a
 
-    branches_slots : (t : ℕ) (s : List Slot) (p : ℕ) (n : Next) (bs : Branches) → (lower_branches text called t s p n bs).next.slot ≡ n.slot
+    branches_slots : (t : ℕ) (s : List Slot) (p : ℕ) (n : NextNumbers) (bs : Branches) → (lower_branches text called t s p n bs).next.slot ≡ n.slot
     branches_slots t s p n no_branches = refl
     branches_slots t s p n (by_call name args rest) =
         let b = called name.id 0 n.thread (record { slot = count_terms args; thread = suc n.thread; par = n.par }) in
@@ -123,13 +123,13 @@ module _ (text : Text) (called : ℕ → InPlace) (count : ℕ → ℕ) (right :
         let l = lower_list text called n.thread [] (record { slot = 0; thread = suc n.thread; par = n.par }) body in
         branches_slots t s p (record { slot = n.slot; thread = l.next.thread; par = l.next.par }) rest
 
-body_takes : (text : Text) (called : ℕ → InPlace) (count : ℕ → ℕ) → ((id first t : ℕ) (n : Next) → (called id first t n).next.slot ≡ n.slot + count id) →
-    (f : Option PlainFunction) (first t : ℕ) (n : Next) → (body_in_place text called f first t n).next.slot ≡ n.slot + body_slots count f
+body_takes : (text : Text) (called : ℕ → InPlace) (count : ℕ → ℕ) → ((id first t : ℕ) (n : NextNumbers) → (called id first t n).next.slot ≡ n.slot + count id) →
+    (f : Option PlainFunction) (first t : ℕ) (n : NextNumbers) → (body_in_place text called f first t n).next.slot ≡ n.slot + body_slots count f
 body_takes text called count right None first t n = omega arith
 body_takes text called count right (Some f) first t n = list_slots text called count right t (params_at first f.params) n f.body
 
 -- the slots that a function takes that is put in place, after its parameters
-pub place_slots : (text : Text) (deep id first t : ℕ) (n : Next) →
+pub place_slots : (text : Text) (deep id first t : ℕ) (n : NextNumbers) →
     (within nothing_in_place (in_place_step text) deep id first t n).next.slot ≡ n.slot + within 0 (slots_step text) deep id
 unfolding within
 place_slots text zero id first t n = omega arith
@@ -147,10 +147,10 @@ made_append [] b = omega arith
 made_append (m ∷ a) b = let e = made_append a b in omega (arith, e)
 
 module _
-    (text : Text) (called : ℕ → InPlace) (sizes count : ℕ → ℕ) (right : (id first t : ℕ) (n : Next) → stmt_terms (called id first t n).stmt ≡ sizes id)
-    (beneath : (id first t : ℕ) (n : Next) → made_terms (called id first t n).made ≡ count id) where
+    (text : Text) (called : ℕ → InPlace) (sizes count : ℕ → ℕ) (right : (id first t : ℕ) (n : NextNumbers) → stmt_terms (called id first t n).stmt ≡ sizes id)
+    (beneath : (id first t : ℕ) (n : NextNumbers) → made_terms (called id first t n).made ≡ count id) where
   mutual
-    pub under_is : (t : ℕ) (s : List Slot) (n : Next) (a : Statement) → made_terms (lower_statement text called t s n a).made ≡ under sizes count a
+    pub under_is : (t : ℕ) (s : List Slot) (n : NextNumbers) (a : Statement) → made_terms (lower_statement text called t s n a).made ≡ under sizes count a
     under_is t s n (Nothing at) = refl
     under_is t s n (Group at body) = list_under t s n body
     under_is t s n (Declare at locals) = refl
@@ -175,7 +175,7 @@ module _
     under_is t s n (Abort at weak immediate test body) = list_under t s n body
     under_is t s n (Return at value) = refl
 
-    pub list_under : (t : ℕ) (s : List Slot) (n : Next) (a : Statements) → made_terms (lower_list text called t s n a).made ≡ under_all sizes count a
+    pub list_under : (t : ℕ) (s : List Slot) (n : NextNumbers) (a : Statements) → made_terms (lower_list text called t s n a).made ≡ under_all sizes count a
     list_under t s n no_statements = refl
     list_under t s n (more_statements a rest) =
         let l = lower_statement text called t s n a in
@@ -183,23 +183,23 @@ module _
         let m = lower_list text called t inner l.next rest in
         let e = made_append l.made m.made in omega (arith, e, under_is t s n a, list_under t inner l.next rest)
 
-    perhaps_under : (t : ℕ) (s : List Slot) (n : Next) (a : Perhaps) → made_terms (lower_perhaps text called t s n a).made ≡ under_perhaps sizes count a
+    perhaps_under : (t : ℕ) (s : List Slot) (n : NextNumbers) (a : Perhaps) → made_terms (lower_perhaps text called t s n a).made ≡ under_perhaps sizes count a
     perhaps_under t s n absent = refl
     perhaps_under t s n (present a) = under_is t s n a
 
-    branches_under : (t : ℕ) (s : List Slot) (p : ℕ) (n : Next) (bs : Branches) → made_terms (lower_branches text called t s p n bs).made ≡ under_branches sizes count bs
+    branches_under : (t : ℕ) (s : List Slot) (p : ℕ) (n : NextNumbers) (bs : Branches) → made_terms (lower_branches text called t s p n bs).made ≡ under_branches sizes count bs
     branches_under t s p n no_branches = refl
     branches_under t s p n (by_call name args rest) =
-        let inside : Next = record { slot = count_terms args; thread = suc n.thread; par = n.par } in
+        let inside : NextNumbers = record { slot = count_terms args; thread = suc n.thread; par = n.par } in
         let b = called name.id 0 n.thread inside in
-        let next : Next = record { slot = n.slot; thread = b.next.thread; par = b.next.par } in
+        let next : NextNumbers = record { slot = n.slot; thread = b.next.thread; par = b.next.par } in
         let m = lower_branches text called t s p next rest in
         let e = made_append b.made m.made in
         omega (arith, e, right name.id 0 n.thread inside, beneath name.id 0 n.thread inside, branches_under t s p next rest)
     branches_under t s p n (by_group at body rest) =
-        let inside : Next = record { slot = 0; thread = suc n.thread; par = n.par } in
+        let inside : NextNumbers = record { slot = 0; thread = suc n.thread; par = n.par } in
         let l = lower_list text called n.thread [] inside body in
-        let next : Next = record { slot = n.slot; thread = l.next.thread; par = l.next.par } in
+        let next : NextNumbers = record { slot = n.slot; thread = l.next.thread; par = l.next.par } in
         let m = lower_branches text called t s p next rest in
         let e = made_append l.made m.made in
         let own : stmt_terms (sequence l.list) ≡ sequence_count (statement_count body) (own_all sizes body) = sequence_as l.list _ _ (length_is text called sizes right n.thread [] inside body) (all_is text called sizes right n.thread [] inside body) in

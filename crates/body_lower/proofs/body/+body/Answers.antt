@@ -7,7 +7,7 @@ use Rattle.forec_tree.specs.Plain.{perhaps_of}
 use Rattle.forec_kernel.specs.Terms as kernel
 use Rattle.forec_kernel.specs.Plain.{stmt, stmts, expr}
 use Rattle.body_lower.specs.declared.state.State.{State}
-use Rattle.text_kernel.specs.Lowering.{Next, sequence, bound_of, or_inferred, after_start, lower_statement}
+use Rattle.text_kernel.specs.Lowering.{NextNumbers, sequence, bound_of, or_inferred, after_start, lower_statement}
 use Rattle.text_kernel.specs.Bindings.{params_at}
 use Rattle.body_lower.specs.Landings.{called_within}
 use Rattle.body_lower.specs.Views.{context_text, seen, next_of, Does, Done}
@@ -108,7 +108,7 @@ call-returns-clause-does t c =
     let text = context_text c.args.context.now in
     let old = c.args.state.now in
     let one : State = record old { slot = c.in_ok-behind.behind } in
-    let at = λ (x : Rattle.std.proofs.Common.ℕ). let n : Next = record { slot = x; thread = (next_of old).thread; par = old.par } in n in
+    let at = λ (x : Rattle.std.proofs.Common.ℕ). let n : NextNumbers = record { slot = x; thread = (next_of old).thread; par = old.par } in n in
     call_does text (called_within text c.args.context.now.deep) c.args.context.now.owner (seen old.scope) (next_of old) c.args.place c.args.name (terms c.args.args.now) old one c.in_place.new.state (stmts c.in_ok-list.list.items)
     (stmt c.in_ok-body.body) _ c.in_ok-list.ensures (ap at (c.in_ok-behind.ensures ∙ ap (λ n. old.slot + n) (c.in_ok-taken.ensures ∙ count_args c.args.args.now))) refl c.in_ok-body.ensures.does
     (c.sequence.ensures ∙ ap sequence (ap stmts c.in_ok-push.ensures.items ∙ ends_pushed c.in_ok-list.list.items c.in_ok-body.body))

@@ -4,7 +4,7 @@ use Rattle.forec_kernel.specs.Plain.{stmt}
 use Rattle.forec_kernel.specs.declared.shape.FunctionShape.{FunctionShape}
 use Rattle.loop_check.specs.Views.{text_of}
 use Rattle.body_lower.specs.declared.state.State.{State}
-use Rattle.text_kernel.specs.Lowering.{Next}
+use Rattle.text_kernel.specs.Lowering.{NextNumbers}
 use Rattle.kernel_lower.proofs.Assembled.{translated}
 use Rattle.kernel_lower.proofs.int_functions.translated.Goals as goal
 
@@ -23,4 +23,4 @@ returns-clause-shape c =
     let d =
     translated (text_of c.args.source.now.globals.index) c.args.names.now (plain_function c.args.function.now) (stmt c.in_ok-body.body) old c.in_function.new.state (c.in_ok-params.ensures ∙ c.len.ensures) c.new-state.ensures.thread
     c.new-state.ensures.par c.in_ok-body.ensures.does in
-    ap (λ a. made a c.in_function.new.state.slot) (c.in_ok-params.ensures ∙ c.len.ensures) ∙ ap (λ (n : Next). made (length (plain_function c.args.function.now).params) n.slot) d.next
+    ap (λ a. made a c.in_function.new.state.slot) (c.in_ok-params.ensures ∙ c.len.ensures) ∙ ap (λ (n : NextNumbers). made (length (plain_function c.args.function.now).params) n.slot) d.next
