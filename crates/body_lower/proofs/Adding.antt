@@ -15,7 +15,7 @@ use Rattle.forec_tree.specs.Terms.{Text, Term, Terms, count_terms, Declared, Wri
 use Rattle.forec_tree.specs.Pauses.{within, find_function}
 use Rattle.loop_check.proofs.Indexed.{split}
 use Rattle.text_kernel.specs.Bindings.{params_at}
-use Rattle.text_kernel.specs.Lowering.{NextNumbers, Lowered, Started, from_slot, scope_behind, scope_behind_perhaps, par_behind, body_in_place, lower_statement, lower_list, lower_perhaps, lower_branches}
+use Rattle.text_kernel.specs.Lowering.{NextNumbers, Lowered, Started, from_slot, scope_after, scope_after_perhaps, par_after, body_in_place, lower_statement, lower_list, lower_perhaps, lower_branches}
 use Rattle.body_lower.specs.declared.added.Added.{Added}
 use Rattle.body_lower.specs.Additions.{nothing, Moves, StatementAdds, PerhapsAdds, ListAdds, BranchesAdd, BodyAdds, FunctionAdds, AllAdd, Joins, put_at}
 use Rattle.body_lower.specs.Landings.{called_within}
@@ -65,12 +65,12 @@ module _ (text : Text) where
       Joins b c d → Joins a d e → StatementAdds text (tree.For at start test step bound body) e
   for_adds at start test step bound body a b c d e f g k i j deep t s n h =
       let called = called_within text deep in
-      let within_ = scope_behind_perhaps text s n.slot start in
+      let within_ = scope_after_perhaps text s n.slot start in
       let l = lower_perhaps text called t s n start in
       let m = lower_perhaps text called t within_ l.next step in
       let low : d.calls ≤ deep = omega (arith, h, j.second) in
       moves_then a d e n l.next _ j (f deep t s n (omega (arith, h, j.first)))
-      (moves_then b c d l.next m.next _ i (g deep t within_ l.next (omega (arith, low, i.first))) (k deep t (scope_behind_perhaps text within_ l.next.slot step) m.next (omega (arith, low, i.second))))
+      (moves_then b c d l.next m.next _ i (g deep t within_ l.next (omega (arith, low, i.first))) (k deep t (scope_after_perhaps text within_ l.next.slot step) m.next (omega (arith, low, i.second))))
 
   pub call_adds : (at : Place) (name : Name) (args : Terms) (a : Added) → FunctionAdds text name.id (Some a) → StatementAdds text (tree.Invoke at name args) a
   call_adds at name args a f deep t s n h =
@@ -91,7 +91,7 @@ module _ (text : Text) where
   list_more : (x : Statement) (rest : Statements) (a b c : Added) → StatementAdds text x a → ListAdds text rest b → Joins a b c → ListAdds text (more_statements x rest) c
   list_more x rest a b c f g j deep t s n h =
       let l = lower_statement text (called_within text deep) t s n x in
-      moves_then a b c n l.next _ j (f deep t s n (omega (arith, h, j.first))) (g deep t (scope_behind text s n.slot x) l.next (omega (arith, h, j.second)))
+      moves_then a b c n l.next _ j (f deep t s n (omega (arith, h, j.first))) (g deep t (scope_after text s n.slot x) l.next (omega (arith, h, j.second)))
 
   -- ---- branches
 
@@ -127,7 +127,7 @@ module _ (text : Text) where
   par_adds at (b ∷ rest) one a c some e z f j =
       λ deep t s n h.
       let next = (par_some text (called_within text deep) t s n.par n.par n b (branches rest)).1 in
-      let from : NextNumbers = record { slot = n.slot; thread = n.thread; par = par_behind (branches (b ∷ rest)) n.par } in
+      let from : NextNumbers = record { slot = n.slot; thread = n.thread; par = par_after (branches (b ∷ rest)) n.par } in
       let m = f deep t n.par s from (omega (arith, h, j.second)) in
       record { thread = omega (arith, m.thread, j.threads, e); par = omega (arith, m.par, j.pars, z, next) }
 

@@ -18,7 +18,7 @@ use Rattle.forec_kernel.specs.declared.terms.Statement as rust
 use Rattle.text_kernel.specs.declared.names.Slot.{Slot}
 use Rattle.body_lower.specs.declared.scope.Scope.{Scope}
 use Rattle.body_lower.specs.declared.state.State.{State}
-use Rattle.text_kernel.specs.Lowering.{joined, NextNumbers, Made, Lowered, Listed, Started, InPlace, as_one, params_of, lower_terms, sequence, ends_with, bound_of, or_inferred, optional_test, after_start, then_step, set_params, scope_behind, scope_behind_perhaps, par_of, par_behind, thread_of, lower_statement, lower_list, lower_perhaps, lower_branches}
+use Rattle.text_kernel.specs.Lowering.{joined, NextNumbers, Made, Lowered, Listed, Started, InPlace, as_one, params_of, lower_terms, sequence, ends_with, bound_of, or_inferred, optional_test, after_start, then_step, set_params, scope_after, scope_after_perhaps, par_of, par_after, thread_of, lower_statement, lower_list, lower_perhaps, lower_branches}
 use Rattle.body_lower.proofs.Statements.{joined_none, joined_more}
 use Rattle.body_lower.specs.Views.{seen, Kept, Same, next_of, threads_of, Bare, bare, Does, DoesList, DoesBranches}
 
@@ -44,7 +44,7 @@ does_rest {text} l k old mid new r d = record { is = d.is; next = r.next ∙ d.n
 module _ (text : Text) (called : ℕ → InPlace) (t : ℕ) where
   -- ---- a list
 
-  pub list_step : (s s1 : List Slot) (n n1 : NextNumbers) (a : Statement) (rest : Statements) → s1 ≡ scope_behind text s n.slot a → n1 ≡ (lower_statement text called t s n a).next →
+  pub list_step : (s s1 : List Slot) (n n1 : NextNumbers) (a : Statement) (rest : Statements) → s1 ≡ scope_after text s n.slot a → n1 ≡ (lower_statement text called t s n a).next →
       lower_list text called t s n (more_statements a rest)
       ≡ (let l = lower_statement text called t s n a in
       let m = lower_list text called t s1 n1 rest in
@@ -54,8 +54,8 @@ module _ (text : Text) (called : ℕ → InPlace) (t : ℕ) where
   -- ---- a loop with its head
 
   pub for_step : (s s1 s2 : List Slot) (n n1 n2 : NextNumbers) (at : Place) (start : Perhaps) (test : Option Term) (step : Perhaps) (bound : Option Number) (body : Statement) →
-      s1 ≡ scope_behind_perhaps text s n.slot start → n1 ≡ (lower_perhaps text called t s n start).next →
-      s2 ≡ scope_behind_perhaps text s1 n1.slot step → n2 ≡ (lower_perhaps text called t s1 n1 step).next →
+      s1 ≡ scope_after_perhaps text s n.slot start → n1 ≡ (lower_perhaps text called t s n start).next →
+      s2 ≡ scope_after_perhaps text s1 n1.slot step → n2 ≡ (lower_perhaps text called t s1 n1 step).next →
       lower_statement text called t s n (tree.For at start test step bound body)
       ≡ (let i = lower_perhaps text called t s n start in
       let j = lower_perhaps text called t s1 n1 step in
@@ -88,13 +88,13 @@ module _ (text : Text) (called : ℕ → InPlace) (t : ℕ) where
       ap (λ x. record { launches = record { thread = n.thread; args = no_exprs } ∷ m.launches; next = m.next; made = x ++ m.made }) (sym (append-nil one))
 
   pub par_some : (s : List Slot) (p q : ℕ) (n : NextNumbers) (b : Branch) (rest : Branches) →
-      (par_of (lower_branches text called t s p n (branch_with b rest)).launches ≡ kernel.Par (lower_branches text called t s p n (branch_with b rest)).launches) × (par_behind (branch_with b rest) q ≡ suc q)
+      (par_of (lower_branches text called t s p n (branch_with b rest)).launches ≡ kernel.Par (lower_branches text called t s p n (branch_with b rest)).launches) × (par_after (branch_with b rest) q ≡ suc q)
   par_some s p q n (Call name args) rest = (refl, refl)
   par_some s p q n (Group' place shape body) rest = (refl, refl)
 
   pub for_does : (s : List Slot) (n : NextNumbers) (at : Place) (start : Perhaps) (test : Option Term) (step : Perhaps) (bound : Option Number) (body : Statement) (old one two three new : State) (turns : Option ℕ) (kt : kernel.Expr) (k1 k2 k3 k : Stmt) →
-      Does text (lower_perhaps text called t s n start) k1 old one → seen one.scope ≡ scope_behind_perhaps text s n.slot start → kt ≡ optional_test text (seen one.scope) test →
-      Does text (lower_perhaps text called t (seen one.scope) (next_of one) step) k2 one two → seen two.scope ≡ scope_behind_perhaps text (seen one.scope) one.slot step →
+      Does text (lower_perhaps text called t s n start) k1 old one → seen one.scope ≡ scope_after_perhaps text s n.slot start → kt ≡ optional_test text (seen one.scope) test →
+      Does text (lower_perhaps text called t (seen one.scope) (next_of one) step) k2 one two → seen two.scope ≡ scope_after_perhaps text (seen one.scope) one.slot step →
       Does text (lower_statement text called t (seen two.scope) (next_of two) body) k3 two three → Rest text three new → turns ≡ inferred text (tree.For at start test step bound body) →
       k ≡ after_start start k1 (kernel.While kt (or_inferred (bound_of bound) turns) (then_step step k3 k2) at) →
       Does text (lower_statement text called t s n (tree.For at start test step bound body)) k old new
@@ -130,9 +130,9 @@ module _ (text : Text) (called : ℕ → InPlace) (t : ℕ) where
       next_of one ≡ (let from : NextNumbers = record { slot = n.slot; thread = n.thread; par = suc n.par } in from) → threads_of text one ≡ threads_of text old →
       DoesBranches text (lower_branches text called t s n.par (next_of one) (branch_with b rest)) ls one new → Does text (lower_statement text called t s n (tree.Par at (branch_with b rest))) (kernel.Par ls) old new
   par_does s n at b rest old one new ls e h d =
-      let some = par_some s n.par n.par (record { slot = n.slot; thread = n.thread; par = par_behind (branch_with b rest) n.par }) b rest in
+      let some = par_some s n.par n.par (record { slot = n.slot; thread = n.thread; par = par_after (branch_with b rest) n.par }) b rest in
       let from : NextNumbers = record { slot = n.slot; thread = n.thread; par = suc n.par } in
-      let to : NextNumbers = record { slot = n.slot; thread = n.thread; par = par_behind (branch_with b rest) n.par } in
+      let to : NextNumbers = record { slot = n.slot; thread = n.thread; par = par_after (branch_with b rest) n.par } in
       let same : next_of one ≡ to = e ∙ ap (λ p. (let m : NextNumbers = record { slot = n.slot; thread = n.thread; par = p } in m)) (sym some.1) in
       let q : DoesBranches text (lower_branches text called t s n.par to (branch_with b rest)) ls one new = subst (λ m. DoesBranches text (lower_branches text called t s n.par m (branch_with b rest)) ls one new) same d in
       record {

@@ -16,7 +16,7 @@ use Rattle.forec_kernel.specs.declared.terms.Launch.{Launch}
 use Rattle.text_kernel.specs.declared.names.Slot.{Slot}
 use Rattle.body_lower.specs.declared.scope.Scope.{Scope}
 use Rattle.body_lower.specs.declared.state.State.{State}
-use Rattle.text_kernel.specs.Lowering.{NextNumbers, Listed, Started, InPlace, as_one, sequence, scope_behind, lower_statement, lower_list, lower_branches, body_in_place, in_place_step, nothing_in_place}
+use Rattle.text_kernel.specs.Lowering.{NextNumbers, Listed, Started, InPlace, as_one, sequence, scope_after, lower_statement, lower_list, lower_branches, body_in_place, in_place_step, nothing_in_place}
 use Rattle.body_lower.specs.Landings.{called_within}
 use Rattle.body_lower.specs.Views.{seen, Kept, Same, next_of, threads_of, bare, Does, DoesList, DoesBranches}
 use Rattle.body_lower.proofs.Statements.{drop_next}
@@ -24,7 +24,7 @@ use Rattle.body_lower.proofs.Doing.{ListLeft, BranchesLeft, list_step, list_more
 
 module _ (text : Text) (called : ℕ → InPlace) (t : ℕ) where
   pub list_goes : (body : List tree_stmt.Stmt) (i : ℕ) (x : tree_stmt.Stmt) (xs ys : List rust.Statement) (k : rust.Statement) (whole : Listed) (old now new : State) →
-      i < length body → get_or body i x ≡ x → seen new.scope ≡ scope_behind text (seen now.scope) now.slot (statement x) →
+      i < length body → get_or body i x ≡ x → seen new.scope ≡ scope_after text (seen now.scope) now.slot (statement x) →
       Does text (lower_statement text called t (seen now.scope) (next_of now) (statement x)) (stmt k) now new → ys ≡ xs ++ k ∷ [] →
       ListLeft text (lower_list text called t (seen now.scope) (next_of now) (statements (drop i body))) whole (stmts xs) old now →
       ListLeft text (lower_list text called t (seen new.scope) (next_of new) (statements (drop (i + 1) body))) whole (stmts ys) old new

@@ -20,7 +20,7 @@ use Rattle.forec_kernel.specs.Plain.{stmt}
 use Rattle.forec_kernel.specs.declared.terms.Statement as rust
 use Rattle.text_kernel.specs.declared.names.Slot.{Slot}
 use Rattle.text_kernel.specs.Bindings.{params_at}
-use Rattle.text_kernel.specs.Lowering.{NextNumbers, Lowered, InPlace, scope_behind, from_slot, as_one, bound_of, lower_term, lower_statement, lower_list, lower_perhaps, body_in_place}
+use Rattle.text_kernel.specs.Lowering.{NextNumbers, Lowered, InPlace, scope_after, from_slot, as_one, bound_of, lower_term, lower_statement, lower_list, lower_perhaps, body_in_place}
 use Rattle.body_lower.specs.declared.landing.Landing.{Landing}
 use Rattle.body_lower.specs.declared.state.State.{State}
 use Rattle.body_lower.specs.Landings.{only, inside, SameKernel, called_within, FunctionLands, AllLand, CallLands, put_at}
@@ -235,7 +235,7 @@ all_put text f landing old new a p h =
 
 -- ---- a statement that declares nothing
 
-behind_kind : (text : Text) (s : List Slot) (slot : ℕ) (w : StmtKind) (at : Place) → ((locals : List Local) → w ≡ tree_kind.Declare locals → ⊥) → scope_behind text s slot (statement_at w at) ≡ s
+behind_kind : (text : Text) (s : List Slot) (slot : ℕ) (w : StmtKind) (at : Place) → ((locals : List Local) → w ≡ tree_kind.Declare locals → ⊥) → scope_after text s slot (statement_at w at) ≡ s
 behind_kind text s slot tree_kind.Nothing at h = refl
 behind_kind text s slot (Group' shape body) at h = refl
 behind_kind text s slot (tree_kind.Declare locals) at h = absurd (h locals refl)
@@ -249,5 +249,5 @@ behind_kind text s slot (Par' shape branches) at h = refl
 behind_kind text s slot (Abort' weak immediate test shape body) at h = refl
 behind_kind text s slot (tree_kind.Return value) at h = refl
 
-pub behind_same : (text : Text) (s now : List Slot) (slot : ℕ) (st : tree_stmt.Stmt) → now ≡ s → ((locals : List Local) → st.what ≡ tree_kind.Declare locals → ⊥) → now ≡ scope_behind text s slot (statement st)
+pub behind_same : (text : Text) (s now : List Slot) (slot : ℕ) (st : tree_stmt.Stmt) → now ≡ s → ((locals : List Local) → st.what ≡ tree_kind.Declare locals → ⊥) → now ≡ scope_after text s slot (statement st)
 behind_same text s now slot st e h = e ∙ sym (behind_kind text s slot st.what st.place h)

@@ -15,7 +15,7 @@ use Rattle.text_kernel.specs.declared.names.Slot.{Slot}
 use Rattle.body_lower.specs.declared.scope.Scope.{Scope}
 use Rattle.text_kernel.specs.Bindings.{local_slot, slots_of, with_locals}
 use Rattle.body_lower.specs.Views.{Kept}
-use Rattle.text_kernel.specs.Lowering.{joined, sequence, lower_term, array_values, set_params, lower_local, lower_locals, slots_behind}
+use Rattle.text_kernel.specs.Lowering.{joined, sequence, lower_term, array_values, set_params, lower_local, lower_locals, slots_after}
 
 pub joined_none : (a : Stmts) → joined a no_stmts ≡ a
 joined_none no_stmts = refl
@@ -89,8 +89,8 @@ locals_list text s t at next d rest xs ys x whole items i e g n v p w =
     v p w
 
 pub locals_slot : (text : Text) (at next : ℕ) (d : Local) (rest items : List Local) (i whole : ℕ) → drop i items ≡ d ∷ rest → next ≡ at + slots_of d.length →
-    slots_behind text at (map declared (drop i items)) ≡ whole → slots_behind text next (map declared rest) ≡ whole
-locals_slot text at next d rest items i whole e n w = ap (λ m. slots_behind text m (map declared rest)) n ∙ (ap (λ l. slots_behind text at (map declared l)) (sym e) ∙ w)
+    slots_after text at (map declared (drop i items)) ≡ whole → slots_after text next (map declared rest) ≡ whole
+locals_slot text at next d rest items i whole e n w = ap (λ m. slots_after text m (map declared rest)) n ∙ (ap (λ l. slots_after text at (map declared l)) (sym e) ∙ w)
 
 pub locals_seen : (s t : List Slot) (at next : ℕ) (d : Local) (rest items : List Local) (i : ℕ) (whole : List Slot) → drop i items ≡ d ∷ rest → t ≡ s ++ local_slot at (declared d) ∷ [] → next ≡ at + slots_of d.length →
     with_locals s at (map declared (drop i items)) ≡ whole → with_locals t next (map declared rest) ≡ whole

@@ -235,7 +235,7 @@ pub fn lower_locals(
     locals: &[Local],
 ) -> Result<Vec<Statement>, OutOfMemory>
     ensures list { IfOk result (λ k. kernel.stmts k.items ≡ lowering.lower_locals (text_of globals.now.index) (seen scope.old) slot.old (map plain.declared locals.now)) }
-    ensures slot { OnOk result (slot.new ≡ lowering.slots_behind (text_of globals.now.index) slot.old (map plain.declared locals.now)) }
+    ensures slot { OnOk result (slot.new ≡ lowering.slots_after (text_of globals.now.index) slot.old (map plain.declared locals.now)) }
     ensures seen { OnOk result (seen scope.new ≡ bindings.with_locals (seen scope.old) slot.old (map plain.declared locals.now)) }
     ensures kept { OnOk result (Kept scope.old scope.new) }
 {

@@ -40,7 +40,7 @@ pub fn statement<'p>(
 ) -> Result<Statement, OutOfMemory>
     requires { OneText context.now.source.now }
     ensures does { IfOk result (λ k. Done context.now (plain.statement s.now) (kernel.stmt k) state.old state.new) }
-    ensures seen { OnOk result (seen state.new.scope ≡ lowering.scope_behind (context_text context.now) (seen state.old.scope) state.old.slot (plain.statement s.now)) }
+    ensures seen { OnOk result (seen state.new.scope ≡ lowering.scope_after (context_text context.now) (seen state.old.scope) state.old.slot (plain.statement s.now)) }
     ensures kept { OnOk result (Kept state.old.scope state.new.scope) }
 {
     match &s.what {
@@ -153,7 +153,7 @@ fn declare<'p>(
 ) -> Result<Statement, OutOfMemory>
     ensures does { IfOk result (λ k. Done context.now (tree.Declare place (map plain.declared locals.now)) (kernel.stmt k) state.old state.new) }
     ensures seen { OnOk result (seen state.new.scope
-        ≡ lowering.scope_behind (context_text context.now) (seen state.old.scope) state.old.slot (tree.Declare place (map plain.declared locals.now))) }
+        ≡ lowering.scope_after (context_text context.now) (seen state.old.scope) state.old.slot (tree.Declare place (map plain.declared locals.now))) }
     ensures kept { OnOk result (Kept state.old.scope state.new.scope) }
 {
     let list = lower_locals(
@@ -424,7 +424,7 @@ fn optional_statement<'p>(
 ) -> Result<Box<Statement>, OutOfMemory>
     requires { OneText context.now.source.now }
     ensures does { IfOk result (λ k. DonePerhaps context.now (perhaps_of s.now) (kernel.stmt k.value) state.old state.new) }
-    ensures seen { OnOk result (seen state.new.scope ≡ lowering.scope_behind_perhaps (context_text context.now) (seen state.old.scope) state.old.slot (perhaps_of s.now)) }
+    ensures seen { OnOk result (seen state.new.scope ≡ lowering.scope_after_perhaps (context_text context.now) (seen state.old.scope) state.old.slot (perhaps_of s.now)) }
     ensures kept { OnOk result (Kept state.old.scope state.new.scope) }
 {
     match s {

@@ -21,7 +21,7 @@ use Rattle.text_kernel.specs.declared.names.Stands.{Stands}
 use Rattle.text_kernel.specs.declared.names.Stands.TheVariants as st
 use Rattle.text_kernel.specs.Bindings.{with_locals, params_at, slots_of, number_of, number_among, is_int_function, find_slot}
 use Rattle.text_kernel.specs.Lowering as low
-use Rattle.text_kernel.specs.Lowering.{read_as, element_as, stands, lower_term, lower_terms, sequence, ends_with, operated, assign_to, assign_at, array_values, lower_local, lower_locals, slots_behind, set_params, optional_test, lower_target, lower_statement, lower_list, lower_perhaps, lower_branches, scope_behind, scope_behind_perhaps, after_start, then_step, par_of, par_behind, bound_of, or_inferred, params_of, vars_in, vars_all, vars_of, vars_list, vars_launches, vars_made, NextNumbers, Made, Lowered, InPlace, body_in_place, in_place_step, nothing_in_place}
+use Rattle.text_kernel.specs.Lowering.{read_as, element_as, stands, lower_term, lower_terms, sequence, ends_with, operated, assign_to, assign_at, array_values, lower_local, lower_locals, slots_after, set_params, optional_test, lower_target, lower_statement, lower_list, lower_perhaps, lower_branches, scope_after, scope_after_perhaps, after_start, then_step, par_of, par_after, bound_of, or_inferred, params_of, vars_in, vars_all, vars_of, vars_list, vars_launches, vars_made, NextNumbers, Made, Lowered, InPlace, body_in_place, in_place_step, nothing_in_place}
 use Rattle.text_kernel.specs.Kernels.{filter_in}
 use Rattle.text_kernel.proofs.NamedVariables.{in_append, sequence_vars, ends_vars}
 use Rattle.text_kernel.proofs.Covered.{vars_append}
@@ -285,10 +285,10 @@ module _
       (two [] _ [] _ [] _ [] [] slot to to _ _ (took slot (number_of n)) (elements_told to s h w slot (number_of n) 0 es place))
 
   pub locals_told : (s : List Slot) (h : Bool) → seen i s ≡ h → (slot : ℕ) (ls : List Declared) →
-      let list = lower_locals text s slot ls in Tells (vars_list list) (stmts_calls list) (pars_in list) [] slot (slots_behind text slot ls) (of.of_locals i value h ls)
+      let list = lower_locals text s slot ls in Tells (vars_list list) (stmts_calls list) (pars_in list) [] slot (slots_after text slot ls) (of.of_locals i value h ls)
   locals_told s h w slot [] = none_told slot
   locals_told s h w slot (l ∷ rest) =
-      two _ _ _ _ _ _ [] [] slot (slot + slots_of l.length) (slots_behind text (slot + slots_of l.length) rest) _ _ (local_told s h w slot l.length l.values l.name.place)
+      two _ _ _ _ _ _ [] [] slot (slot + slots_of l.length) (slots_after text (slot + slots_of l.length) rest) _ _ (local_told s h w slot l.length l.values l.name.place)
       (locals_told (with_locals s slot (l ∷ [])) (hides i h l.name.id) (seen_locals i s slot (l ∷ []) h w) (slot + slots_of l.length) rest)
 
   target_told : (from : ℕ) (s : List Slot) (h : Bool) → seen i s ≡ h → (name : Name) (index : Option Term) (op : Option OpAt) (x : Expr) (q : Tally) → Tells (vars_in x) (calls_of x) [] [] from from q →
@@ -412,7 +412,7 @@ module _
           let l = lower_list text called t s n body in listed _ _ _ _ _ _ l.made n.slot l.next.slot _ (sequence_vars l.list) (sequence_calls l.list) (sequence_pars l.list) (list_told t s n h body w z)
       told t s n h (Declare at locals) w z =
           let list = lower_locals text s n.slot locals in
-          listed _ _ _ _ _ _ [] n.slot (slots_behind text n.slot locals) _ (sequence_vars list) (sequence_calls list) (sequence_pars list) (locals_told s h w n.slot locals)
+          listed _ _ _ _ _ _ [] n.slot (slots_after text n.slot locals) _ (sequence_vars list) (sequence_calls list) (sequence_pars list) (locals_told s h w n.slot locals)
       told t s n h (Assign at target op e) w z = target_told n.slot s h w target.name target.index op (lower_term text s e) _ (term_told n.slot s h w e)
       told t s n h (Invoke at name args) w z =
           let to = n.slot + count_terms args in
@@ -432,10 +432,10 @@ module _
       told t s n h (While at test bound body) w z =
           let l = lower_statement text called t s n body in two _ _ _ _ [] _ [] l.made n.slot n.slot l.next.slot _ _ (term_told n.slot s h w test) (told t s n h body w z)
       told t s n h (For at start test step bound body) w z =
-          let scope = scope_behind_perhaps text s n.slot start in
+          let scope = scope_after_perhaps text s n.slot start in
           let i0 = lower_perhaps text called t s n start in
           let j0 = lower_perhaps text called t scope i0.next step in
-          let inner = scope_behind_perhaps text scope i0.next.slot step in
+          let inner = scope_after_perhaps text scope i0.next.slot step in
           let l0 = lower_statement text called t inner j0.next body in
           let hidden = behind_perhaps i h start in
           let deeper = behind_perhaps i hidden step in
@@ -463,7 +463,7 @@ module _
           (two _ _ _ _ [] _ [] (j0.made ++ l0.made) i0.next.slot i0.next.slot l0.next.slot _ _ b (two _ _ _ _ _ _ j0.made l0.made i0.next.slot j0.next.slot l0.next.slot _ _ c d)))
       told t s n h (Pause at) w z = none_told n.slot
       told t s n h (Par at bs) w z =
-          let next : NextNumbers = record { slot = n.slot; thread = n.thread; par = par_behind bs n.par } in
+          let next : NextNumbers = record { slot = n.slot; thread = n.thread; par = par_after bs n.par } in
           let m = lower_branches text called t s n.par next bs in
           ended _ _ _ m.made n.slot n.slot m.next.slot _ (branches_slot t s n.par next bs)
           (par_listed m.launches m.made n.slot (of.count_naming i value worth known bs) _ (branches_told t s n.par next h bs w z) (users_told t s n.par next bs z) (no_launch t s n.par next bs))
@@ -478,7 +478,7 @@ module _
       list_told t s n h no_statements w z = none_told n.slot
       list_told t s n h (more_statements a rest) w z =
           let l = lower_statement text called t s n a in
-          let scope = scope_behind text s n.slot a in
+          let scope = scope_after text s n.slot a in
           let m = lower_list text called t scope l.next rest in
           two _ _ _ _ _ _ l.made m.made n.slot l.next.slot m.next.slot _ _ (told t s n h a w (sits_left k count n.thread l.made m.made z))
           (list_told t scope l.next (behind i h a) rest (seen_behind i text s n.slot a h w) (sits_right k count n.thread l.next.thread l.made m.made (one_thread t s n a) z))

@@ -13,7 +13,7 @@ use Rattle.forec_kernel.specs.WellFormed.{FineStmt}
 use Rattle.text_kernel.specs.declared.names.Slot.{Slot}
 use Rattle.text_kernel.specs.Bindings.{params_at}
 use Rattle.text_kernel.specs.Lowering as low
-use Rattle.text_kernel.specs.Lowering.{sequence, lower_statement, lower_list, lower_perhaps, lower_branches, scope_behind, scope_behind_perhaps, par_behind, params_of, NextNumbers, Made, Lowered, InPlace, body_in_place, in_place_step, nothing_in_place}
+use Rattle.text_kernel.specs.Lowering.{sequence, lower_statement, lower_list, lower_perhaps, lower_branches, scope_after, scope_after_perhaps, par_after, params_of, NextNumbers, Made, Lowered, InPlace, body_in_place, in_place_step, nothing_in_place}
 use Rattle.text_kernel.proofs.Fine.{none_left, none_right, parts_left, parts_right, good_use, Knows}
 use Rattle.text_kernel.proofs.FineStatements.{sequence_fine}
 use Rattle.text_kernel.proofs.Grown.{made_of, in_place_grows, grows, list_grows, perhaps_grows}
@@ -99,10 +99,10 @@ module _ (text : Text) (k : PlainKernel) (uses : List â„•) (names : List (List â
           let sc1 = entered sc in
           let sc2 = behind_perhaps sc1 start in
           let sc3 = behind_perhaps sc2 step in
-          let s2 = scope_behind_perhaps text s n.slot start in
+          let s2 = scope_after_perhaps text s n.slot start in
           let i = lower_perhaps text called t s n start in
           let d = lower_perhaps text called t s2 i.next step in
-          let s3 = scope_behind_perhaps text s2 i.next.slot step in
+          let s3 = scope_after_perhaps text s2 i.next.slot step in
           let last = lower_statement text called t s3 d.next body in
           let r4 = in_perhaps text sc2 step ++ in_statement text (entered sc3) body in
           let r3 = in_optional text sc2 test ++ r4 in
@@ -118,7 +118,7 @@ module _ (text : Text) (k : PlainKernel) (uses : List â„•) (names : List (List â
           (perhaps_made t s2 i.next sc2 step (parts_left judging (in_perhaps text sc2 step) (in_statement text (entered sc3) body) h4) (sits_left k i.next.thread d.made last.made z2))
           (made_fine t s3 d.next (entered sc3) body (parts_right judging (in_perhaps text sc2 step) (in_statement text (entered sc3) body) h4) (sits_right k i.next.thread d.next.thread d.made last.made long_d z2)))
       made_fine t s n sc (Pause at) h z = none_fine k uses
-      made_fine t s n sc (Par at bs) h z = branches_made t s n.par (record { slot = n.slot; thread = n.thread; par = par_behind bs n.par }) sc bs h z
+      made_fine t s n sc (Par at bs) h z = branches_made t s n.par (record { slot = n.slot; thread = n.thread; par = par_after bs n.par }) sc bs h z
       made_fine t s n sc (Abort at weak immediate test body) h z =
           list_made t s n (entered sc) body (parts_right judging (in_term text sc test) (in_statements text (entered sc) body) h) z
       made_fine t s n sc (Return at value) h z = none_fine k uses
@@ -128,7 +128,7 @@ module _ (text : Text) (k : PlainKernel) (uses : List â„•) (names : List (List â
       list_made t s n sc no_statements h z = none_fine k uses
       list_made t s n sc (more_statements a rest) h z =
           let one = lower_statement text called t s n a in
-          let s2 = scope_behind text s n.slot a in
+          let s2 = scope_after text s n.slot a in
           let two = lower_list text called t s2 one.next rest in
           let long = threads_grow (grows text called (in_place_grows text deep) t s n a).grown in
           all_append k uses one.made two.made

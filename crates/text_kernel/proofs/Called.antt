@@ -23,7 +23,7 @@ use Rattle.text_kernel.specs.declared.names.Slot.{Slot}
 use Rattle.text_kernel.specs.declared.names.Stands.{Stands}
 use Rattle.text_kernel.specs.declared.names.Stands.TheVariants as st
 use Rattle.text_kernel.specs.Bindings.{with_locals, params_at, slots_of, number_of, number_among, is_int_function}
-use Rattle.text_kernel.specs.Lowering.{NextNumbers, stands, read_as, element_as, lower_term, lower_terms, sequence, ends_with, operated, assign_to, assign_at, array_values, lower_local, lower_locals, set_params, optional_test, lower_target, lower_statement, lower_list, lower_perhaps, scope_behind, scope_behind_perhaps, after_start, then_step}
+use Rattle.text_kernel.specs.Lowering.{NextNumbers, stands, read_as, element_as, lower_term, lower_terms, sequence, ends_with, operated, assign_to, assign_at, array_values, lower_local, lower_locals, set_params, optional_test, lower_target, lower_statement, lower_list, lower_perhaps, scope_after, scope_after_perhaps, after_start, then_step}
 use Rattle.text_kernel.specs.Kernels as kernels
 use Rattle.text_kernel.specs.Kernels.{kernel_of, int_functions}
 use Rattle.text_kernel.proofs.Fine.{none_left, none_right, not_broken, parts_left, parts_right, GoodUse, good_use}
@@ -331,10 +331,10 @@ module _ (text : Text) where
           let sc1 = entered sc in
           let sc2 = behind_perhaps sc1 start in
           let sc3 = behind_perhaps sc2 step in
-          let s2 = scope_behind_perhaps text s n.slot start in
+          let s2 = scope_after_perhaps text s n.slot start in
           let i = lower_perhaps text nothing t s n start in
           let d = lower_perhaps text nothing t s2 i.next step in
-          let s3 = scope_behind_perhaps text s2 i.next.slot step in
+          let s3 = scope_after_perhaps text s2 i.next.slot step in
           let last = lower_statement text nothing t s3 d.next body in
           let f1 = in_perhaps text sc1 start in
           let f2 = in_optional text sc2 test in
@@ -366,7 +366,7 @@ module _ (text : Text) where
           let fa = in_statement text sc a in
           let fr = in_statements text (behind sc a) rest in
           parts_named fa fr _ _ (statement_named t s n sc a (parts_left j fa fr h))
-          (list_named t (scope_behind text s n.slot a) (lower_statement text nothing t s n a).next (behind sc a) rest (parts_right j fa fr h))
+          (list_named t (scope_after text s n.slot a) (lower_statement text nothing t s n a).next (behind sc a) rest (parts_right j fa fr h))
 
       perhaps_named : (t : ℕ) (s : List Slot) (n : NextNumbers) (sc : Scope) (a : Perhaps) → findings_faults j (in_perhaps text sc a) ≡ [] →
           AllNamed text (in_perhaps text sc a) (stmt_calls (lower_perhaps text nothing t s n a).stmt)

@@ -20,7 +20,7 @@ use Rattle.text_kernel.specs.declared.names.Slot.{Slot}
 use Rattle.text_kernel.specs.Bindings as binds
 use Rattle.text_kernel.specs.Bindings.{find_slot}
 use Rattle.text_kernel.specs.Lowering as low
-use Rattle.text_kernel.specs.Lowering.{lower_term, lower_terms, sequence, ends_with, set_params, lower_locals, slots_behind, optional_test, bound_of, or_inferred, lower_statement, lower_list, lower_perhaps, lower_branches, scope_behind, scope_behind_perhaps, after_start, then_step, par_of, par_behind, params_of, NextNumbers, Made, InPlace}
+use Rattle.text_kernel.specs.Lowering.{lower_term, lower_terms, sequence, ends_with, set_params, lower_locals, slots_after, optional_test, bound_of, or_inferred, lower_statement, lower_list, lower_perhaps, lower_branches, scope_after, scope_after_perhaps, after_start, then_step, par_of, par_after, params_of, NextNumbers, Made, InPlace}
 use Rattle.text_kernel.proofs.Fine.{none_left, none_right, not_broken, not_not, parts_left, parts_right, GoodUse, seen_option, Matches, Knows, fine_term, fine_terms, count_lowered, use_good}
 use Rattle.text_kernel.proofs.FineStatements.{sequence_fine, ends_fine, target_fine}
 use Rattle.text_kernel.proofs.Unbroken.{Unbroken, unbroken_left, unbroken_right}
@@ -72,7 +72,7 @@ module _
     (while_ok : (sc : Scope) (at : Place) (test : Term) (bound : Option Number) (body : Statement) → Unbroken text j (in_statement text sc (While at test bound body)) → FineBound j.gives (bound_of bound))
     (for_ok : (sc : Scope) (at : Place) (start : Perhaps) (test : Option Term) (step : Perhaps) (bound : Option Number) (body : Statement) →
     Unbroken text j (in_statement text sc (For at start test step bound body)) → FineBound j.gives (or_inferred (bound_of bound) (inferred text (For at start test step bound body))))
-    (locals_ok : (sc : Scope) (s : List Slot) (slot : ℕ) (ls : List Declared) → Matches words sc s → findings_faults j (in_locals text sc ls) ≡ [] → slots_behind text slot ls ≤ words →
+    (locals_ok : (sc : Scope) (s : List Slot) (slot : ℕ) (ls : List Declared) → Matches words sc s → findings_faults j (in_locals text sc ls) ≡ [] → slots_after text slot ls ≤ words →
     FineStmts j.gives (record { kernel = k; words = words; uses = uses }) (lower_locals text s slot ls) × Matches words (tree.with_locals sc ls) (binds.with_locals s slot ls)) where
   abbrev inside_of : wf.Scope
   inside_of = record { kernel = k; words = words; uses = uses }
@@ -89,7 +89,7 @@ module _
   entered_matches sc s m = record { same = m.same ∙ sym (Rattle.std.proofs.Common.append-nil (sc.outer ++ sc.here)); good = m.good }
 
   behind_matches : (sc : Scope) (s : List Slot) (n : NextNumbers) (t : ℕ) (a : Statement) → Matches words sc s → findings_faults j (in_statement text sc a) ≡ [] →
-      (lower_statement text called t s n a).next.slot ≤ words → Matches words (behind sc a) (scope_behind text s n.slot a)
+      (lower_statement text called t s n a).next.slot ≤ words → Matches words (behind sc a) (scope_after text s n.slot a)
   behind_matches sc s n t (Declare at locals) m h l = (locals_ok sc s n.slot locals m h l).1
   behind_matches sc s n t (Nothing at) m h l = m
   behind_matches sc s n t (Group at body) m h l = m
@@ -104,7 +104,7 @@ module _
   behind_matches sc s n t (Return at value) m h l = m
 
   perhaps_matches : (sc : Scope) (s : List Slot) (n : NextNumbers) (t : ℕ) (a : Perhaps) → Matches words sc s → findings_faults j (in_perhaps text sc a) ≡ [] →
-      (lower_perhaps text called t s n a).next.slot ≤ words → Matches words (behind_perhaps sc a) (scope_behind_perhaps text s n.slot a)
+      (lower_perhaps text called t s n a).next.slot ≤ words → Matches words (behind_perhaps sc a) (scope_after_perhaps text s n.slot a)
   perhaps_matches sc s n t absent m h l = m
   perhaps_matches sc s n t (present a) m h l = behind_matches sc s n t a m h l
 
@@ -227,10 +227,10 @@ module _
         let sc1 = entered sc in
         let sc2 = behind_perhaps sc1 start in
         let sc3 = behind_perhaps sc2 step in
-        let s2 = scope_behind_perhaps text s n.slot start in
+        let s2 = scope_after_perhaps text s n.slot start in
         let i = lower_perhaps text called t s n start in
         let d = lower_perhaps text called t s2 i.next step in
-        let s3 = scope_behind_perhaps text s2 i.next.slot step in
+        let s3 = scope_after_perhaps text s2 i.next.slot step in
         let r4 = in_perhaps text sc2 step ++ in_statement text (entered sc3) body in
         let r3 = in_optional text sc2 test ++ r4 in
         let r2 = in_perhaps text sc1 start ++ r3 in
@@ -260,7 +260,7 @@ module _
         )
     fine t s n sc (Pause at) m h l z = thread_only j.gives (synchronous at [] h.rules)
     fine t s n sc (Par at bs) m h l z =
-        par_fine t s n.par (record { slot = n.slot; thread = n.thread; par = par_behind bs n.par }) sc bs m (synchronous at (in_branches text sc bs) h.rules)
+        par_fine t s n.par (record { slot = n.slot; thread = n.thread; par = par_after bs n.par }) sc bs m (synchronous at (in_branches text sc bs) h.rules)
         (none_right (fault_if j.gives at 12) (findings_faults j (in_branches text sc bs)) h.rules) (z (synchronous at (in_branches text sc bs) h.rules))
     fine t s n sc (Abort at weak immediate test body) m h l z =
         let r = unbroken_right text j (Synchronous at ∷ []) (in_term text sc test ++ in_statements text (entered sc) body) h in (
@@ -277,12 +277,12 @@ module _
     list_fine t s n sc (more_statements a rest) m h l z =
         let one = lower_statement text called t s n a in
         let here_ = unbroken_left text j (in_statement text sc a) (in_statements text (behind sc a) rest) h in
-        let two = list_rises text called up t (scope_behind text s n.slot a) one.next rest in
+        let two = list_rises text called up t (scope_after text s n.slot a) one.next rest in
         let long = threads_grow (grows text called right t s n a).grown in
-        let rest_made = (lower_list text called t (scope_behind text s n.slot a) one.next rest).made in
+        let rest_made = (lower_list text called t (scope_after text s n.slot a) one.next rest).made in
         let low_ : one.next.slot ≤ words = omega (arith, two, l) in (
           fine t s n sc a m here_ low_ (left_if j.gives k n.thread one.made rest_made z),
-          list_fine t (scope_behind text s n.slot a) one.next (behind sc a) rest (behind_matches sc s n t a m here_.rules low_) (unbroken_right text j (in_statement text sc a) (in_statements text (behind sc a) rest) h) l (right_if j.gives k n.thread one.next.thread one.made rest_made long z),
+          list_fine t (scope_after text s n.slot a) one.next (behind sc a) rest (behind_matches sc s n t a m here_.rules low_) (unbroken_right text j (in_statement text sc a) (in_statements text (behind sc a) rest) h) l (right_if j.gives k n.thread one.next.thread one.made rest_made long z),
         )
 
     perhaps_fine : (t : ℕ) (s : List Slot) (n : NextNumbers) (sc : Scope) (a : Perhaps) → Matches words sc s → Unbroken text j (in_perhaps text sc a) →

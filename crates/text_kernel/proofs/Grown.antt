@@ -13,7 +13,7 @@ use Rattle.text_kernel.specs.declared.names.Slot.{Slot}
 use Rattle.text_kernel.specs.declared.names.Stands.{Stands}
 use Rattle.text_kernel.specs.declared.names.Stands.TheVariants as st
 use Rattle.text_kernel.specs.Bindings.{with_locals, params_at, slots_of, number_of}
-use Rattle.text_kernel.specs.Lowering.{stands, lower_term, sequence, ends_with, assign_to, assign_at, array_values, lower_local, lower_locals, set_params, lower_target, lower_statement, lower_list, lower_perhaps, lower_branches, scope_behind, scope_behind_perhaps, after_start, then_step, par_of, params_of, vars_of, vars_made, thread_of, NextNumbers, Made, Lowered, Listed, InPlace, body_in_place, in_place_step, in_place, nothing_in_place}
+use Rattle.text_kernel.specs.Lowering.{stands, lower_term, sequence, ends_with, assign_to, assign_at, array_values, lower_local, lower_locals, set_params, lower_target, lower_statement, lower_list, lower_perhaps, lower_branches, scope_after, scope_after_perhaps, after_start, then_step, par_of, params_of, vars_of, vars_made, thread_of, NextNumbers, Made, Lowered, Listed, InPlace, body_in_place, in_place_step, in_place, nothing_in_place}
 
 -- a par of a body: its number, and the threads that are its branches
 pub record Fork : Type 0 where
@@ -167,10 +167,10 @@ module _ (text : Text) (called : ℕ → InPlace) (right : (id first t : ℕ) (n
         joins t n l.next m.next _ (pars_of l.stmt) (pars_of m.stmt) l.made m.made refl (grows t s n a) (perhaps_grows t s l.next b)
     grows t s n (While at test bound body) = grows t s n body
     grows t s n (For at start test step bound body) =
-        let inside = scope_behind_perhaps text s n.slot start in
+        let inside = scope_after_perhaps text s n.slot start in
         let i = lower_perhaps text called t s n start in
         let j = lower_perhaps text called t inside i.next step in
-        let inner = scope_behind_perhaps text inside i.next.slot step in
+        let inner = scope_after_perhaps text inside i.next.slot step in
         let l = lower_statement text called t inner j.next body in
         let g = perhaps_grows t s n start in
         let gj = perhaps_grows t inside i.next step in
@@ -215,7 +215,7 @@ module _ (text : Text) (called : ℕ → InPlace) (right : (id first t : ℕ) (n
     list_grows t s n no_statements = still t n n [] refl refl refl
     list_grows t s n (more_statements a rest) =
         let l = lower_statement text called t s n a in
-        let inner = scope_behind text s n.slot a in
+        let inner = scope_after text s n.slot a in
         let m = lower_list text called t inner l.next rest in
         joins t n l.next m.next _ (pars_of l.stmt) (pars_in m.list) l.made m.made refl (grows t s n a) (list_grows t inner l.next rest)
 

@@ -19,7 +19,7 @@ use Rattle.forec_kernel.specs.WellFormed.{FineExpr, FineStmt, FineStmts, IsArray
 use Rattle.text_kernel.specs.declared.names.Slot.{Slot}
 use Rattle.text_kernel.specs.Bindings as binds
 use Rattle.text_kernel.specs.Bindings.{number_of, size_of, slots_of, local_slot}
-use Rattle.text_kernel.specs.Lowering.{array_values, lower_local, lower_locals, slots_behind, InPlace}
+use Rattle.text_kernel.specs.Lowering.{array_values, lower_local, lower_locals, slots_after, InPlace}
 use Rattle.text_kernel.proofs.Fine.{none_left, none_right, not_broken, parts_left, parts_right, seen_of, has_size, long_of, GoodSlot, Matches, Knows, fine_term}
 use Rattle.text_kernel.proofs.FineStatements.{sequence_fine}
 use Rattle.text_kernel.proofs.Rises.{behind_rises}
@@ -94,7 +94,7 @@ module _ (text : Text) (k : PlainKernel) (words : ℕ) (uses : List ℕ) (j : Ju
       sequence_fine j.gives scope (more_stmts (kernel.Clear slot (number_of n)) (array_values text s slot (number_of n) 0 es name.place))
       (a, values_fine sc s slot (number_of n) 0 es name.place a m h)
 
-  pub locals_fine : (sc : Scope) (s : List Slot) (slot : ℕ) (ls : List Declared) → Matches words sc s → findings_faults j (in_locals text sc ls) ≡ [] → slots_behind text slot ls ≤ words →
+  pub locals_fine : (sc : Scope) (s : List Slot) (slot : ℕ) (ls : List Declared) → Matches words sc s → findings_faults j (in_locals text sc ls) ≡ [] → slots_after text slot ls ≤ words →
       FineStmts j.gives scope (lower_locals text s slot ls) × Matches words (tree.with_locals sc ls) (binds.with_locals s slot ls)
   locals_fine sc s slot [] m h l = (tt, m)
   locals_fine sc s slot (d ∷ rest) m h l =

@@ -6,7 +6,7 @@ use Rattle.forec_tree.specs.Rules as rule
 use Rattle.forec_kernel.specs.Terms.{Stmts, no_stmts, more_stmts}
 use Rattle.forec_kernel.specs.WellFormed.{returns, some_returns}
 use Rattle.text_kernel.specs.declared.names.Slot.{Slot}
-use Rattle.text_kernel.specs.Lowering.{sequence, lower_statement, lower_list, lower_perhaps, scope_behind, NextNumbers, InPlace}
+use Rattle.text_kernel.specs.Lowering.{sequence, lower_statement, lower_list, lower_perhaps, scope_after, NextNumbers, InPlace}
 
 or_none : (b : Bool) → (b || false) ≡ b
 or_none true = refl
@@ -44,7 +44,7 @@ module _ (text : Text) (called : ℕ → InPlace) where
     list_returns t s n no_statements h = cc
     list_returns t s n (more_statements a rest) h =
         let l = lower_statement text called t s n a in
-        let inner = scope_behind text s n.slot a in
+        let inner = scope_after text s n.slot a in
         either (rule.returns a) (rule.some_returns rest) (returns l.stmt) (some_returns (lower_list text called t inner l.next rest).list) h
         (λ k. returns_too t s n a k) (λ k. list_returns t inner l.next rest k)
 

@@ -4,9 +4,9 @@ use Rattle.forec_tree.specs.Terms.{count_terms, Declared, Statement, Declare, No
 use Rattle.forec_tree.specs.Pauses.{within, find_function}
 use Rattle.text_kernel.specs.declared.names.Slot.{Slot}
 use Rattle.text_kernel.specs.Bindings.{slots_of, params_at}
-use Rattle.text_kernel.specs.Lowering.{slots_behind, lower_statement, lower_list, lower_perhaps, lower_branches, scope_behind, scope_behind_perhaps, par_behind, NextNumbers, InPlace, body_in_place, in_place_step, nothing_in_place}
+use Rattle.text_kernel.specs.Lowering.{slots_after, lower_statement, lower_list, lower_perhaps, lower_branches, scope_after, scope_after_perhaps, par_after, NextNumbers, InPlace, body_in_place, in_place_step, nothing_in_place}
 
-pub behind_rises : (text : Text) (called : ℕ → InPlace) (slot : ℕ) (ls : List Declared) → slot ≤ slots_behind text slot ls
+pub behind_rises : (text : Text) (called : ℕ → InPlace) (slot : ℕ) (ls : List Declared) → slot ≤ slots_after text slot ls
 behind_rises text called slot [] = omega arith
 behind_rises text called slot (l ∷ rest) = let g = behind_rises text called (slot + slots_of l.length) rest in omega arith
 
@@ -22,20 +22,20 @@ module _ (text : Text) (called : ℕ → InPlace) (right : (id first t : ℕ) (n
     rises t s n (If at test a b) = let l = lower_statement text called t s n a in omega (arith, rises t s n a, perhaps_rises t s l.next b)
     rises t s n (While at test bound body) = rises t s n body
     rises t s n (For at start test step bound body) =
-        let inside = scope_behind_perhaps text s n.slot start in
+        let inside = scope_after_perhaps text s n.slot start in
         let i = lower_perhaps text called t s n start in
         let j = lower_perhaps text called t inside i.next step in
-        let inner = scope_behind_perhaps text inside i.next.slot step in
+        let inner = scope_after_perhaps text inside i.next.slot step in
         omega (arith, perhaps_rises t s n start, perhaps_rises t inside i.next step, rises t inner j.next body)
     rises t s n (Pause at) = omega arith
-    rises t s n (Par at bs) = let e = branches_rise t s n.par (record { slot = n.slot; thread = n.thread; par = par_behind bs n.par }) bs in omega (arith, e)
+    rises t s n (Par at bs) = let e = branches_rise t s n.par (record { slot = n.slot; thread = n.thread; par = par_after bs n.par }) bs in omega (arith, e)
     rises t s n (Abort at weak immediate test body) = list_rises t s n body
     rises t s n (Return at value) = omega arith
 
     pub list_rises : (t : ℕ) (s : List Slot) (n : NextNumbers) (a : Statements) → n.slot ≤ (lower_list text called t s n a).next.slot
     list_rises t s n no_statements = omega arith
     list_rises t s n (more_statements a rest) =
-        let l = lower_statement text called t s n a in omega (arith, rises t s n a, list_rises t (scope_behind text s n.slot a) l.next rest)
+        let l = lower_statement text called t s n a in omega (arith, rises t s n a, list_rises t (scope_after text s n.slot a) l.next rest)
 
     pub perhaps_rises : (t : ℕ) (s : List Slot) (n : NextNumbers) (a : Perhaps) → n.slot ≤ (lower_perhaps text called t s n a).next.slot
     perhaps_rises t s n absent = omega arith

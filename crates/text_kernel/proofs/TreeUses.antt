@@ -17,7 +17,7 @@ use Rattle.forec_kernel.specs.Texts.{uses_of}
 use Rattle.forec_kernel.specs.WellFormed.{count_up}
 use Rattle.text_kernel.specs.declared.names.Slot.{Slot}
 use Rattle.text_kernel.specs.Bindings.{params_at, number_among, is_variable}
-use Rattle.text_kernel.specs.Lowering.{NextNumbers, Made, Listed, from_slot, scope_behind, scope_behind_perhaps, par_behind, par_of, after_start, then_step, optional_test, set_params, lower_term, lower_terms, lower_locals, lower_target, lower_statement, lower_list, lower_perhaps, lower_branches, InPlace, body_in_place, in_place_step, nothing_in_place, sequence, ends_with, vars_in, vars_all, vars_of, vars_list, vars_launches, vars_made}
+use Rattle.text_kernel.specs.Lowering.{NextNumbers, Made, Listed, from_slot, scope_after, scope_after_perhaps, par_after, par_of, after_start, then_step, optional_test, set_params, lower_term, lower_terms, lower_locals, lower_target, lower_statement, lower_list, lower_perhaps, lower_branches, InPlace, body_in_place, in_place_step, nothing_in_place, sequence, ends_with, vars_in, vars_all, vars_of, vars_list, vars_launches, vars_made}
 use Rattle.text_kernel.specs.Kernels.{kernel_of, root, main_id, variable_count, filter_in}
 use Rattle.text_kernel.specs.Laws.{UsesAreThoseOfTheTree}
 use Rattle.text_kernel.specs.Instances.{UsesOfTree}
@@ -139,7 +139,7 @@ module _ (text : Text) (names : List (List ℕ)) (g : PlainGlobal) (is_item : fi
       starts_void n sc name h f e =
           let r = startable false n (find_last name.id None (sc.outer ++ sc.here)) (find_item name.id text) (good_use j (Starts n) name (meaning text sc name.id) h) f e in r.void
 
-      behind_agree : (sc : Scope) (s : List Slot) (slot : ℕ) (a : Statement) → Agree sc s → OneEach a → findings_faults j (in_statement text sc a) ≡ [] → Agree (behind sc a) (scope_behind text s slot a)
+      behind_agree : (sc : Scope) (s : List Slot) (slot : ℕ) (a : Statement) → Agree sc s → OneEach a → findings_faults j (in_statement text sc a) ≡ [] → Agree (behind sc a) (scope_after text s slot a)
       behind_agree sc s slot (Declare at locals) m o h = (named.locals_names text j g is_item changes sc s m slot locals o h).1
       behind_agree sc s slot (Nothing at) m o h = m
       behind_agree sc s slot (Group at body) m o h = m
@@ -154,7 +154,7 @@ module _ (text : Text) (names : List (List ℕ)) (g : PlainGlobal) (is_item : fi
       behind_agree sc s slot (Return at value) m o h = m
 
       perhaps_agree : (sc : Scope) (s : List Slot) (slot : ℕ) (a : Perhaps) → Agree sc s → OneIfPresent a → findings_faults j (in_perhaps text sc a) ≡ [] →
-          Agree (behind_perhaps sc a) (scope_behind_perhaps text s slot a)
+          Agree (behind_perhaps sc a) (scope_after_perhaps text s slot a)
       perhaps_agree sc s slot absent m o h = m
       perhaps_agree sc s slot (present a) m o h = behind_agree sc s slot a m o h
 
@@ -211,10 +211,10 @@ module _ (text : Text) (names : List (List ℕ)) (g : PlainGlobal) (is_item : fi
             two (vars_in (lower_term text s test)) _ [] _ (naming (in_term text sc test)) _ (tested sc s m test (parts_left j (in_term text sc test) (in_statement text (entered sc) body) hs))
             (one t s n (entered sc) body (entered_agree sc s m) o (parts_right j (in_term text sc test) (in_statement text (entered sc) body) hs))
         one t s n sc (For at start test step bound body) m o h =
-            let inside = scope_behind_perhaps text s n.slot start in
+            let inside = scope_after_perhaps text s n.slot start in
             let li = lower_perhaps text called t s n start in
             let lj = lower_perhaps text called t inside li.next step in
-            let last = scope_behind_perhaps text inside li.next.slot step in
+            let last = scope_after_perhaps text inside li.next.slot step in
             let ll = lower_statement text called t last lj.next body in
             let own = behind_perhaps (entered sc) start in
             let end_ = entered (behind_perhaps own step) in
@@ -243,7 +243,7 @@ module _ (text : Text) (names : List (List ℕ)) (g : PlainGlobal) (is_item : fi
             (two _ _ _ _ _ _ (maybe t inside li.next own step m1 o.1 h3) (one t last lj.next end_ body (entered_agree (behind_perhaps own step) last m2) o.2 h4))))
         one t s n sc (Pause at) m o h = leaf [] [] refl
         one t s n sc (Par at bs) m o h =
-            let from : NextNumbers = record { slot = n.slot; thread = n.thread; par = par_behind bs n.par } in
+            let from : NextNumbers = record { slot = n.slot; thread = n.thread; par = par_after bs n.par } in
             let l = lower_branches text called t s n.par from bs in
             alike (vars_launches l.launches) (vars_of (par_of l.launches)) l.made (branches_placed text tree sc bs) (ap (is_in v) (launches_vars l.launches))
             (branches t s n.par from sc bs m o (none_right (fault_if j.gives at 12) (findings_faults j (in_branches text sc bs)) h))
@@ -261,7 +261,7 @@ module _ (text : Text) (names : List (List ℕ)) (g : PlainGlobal) (is_item : fi
             let l = lower_statement text called t s n a in
             let ha = parts_left j (in_statement text sc a) (in_statements text (behind sc a) rest) h in
             two _ _ _ _ _ _ (one t s n sc a m o.0 ha)
-            (every t (scope_behind text s n.slot a) l.next (behind sc a) rest (behind_agree sc s n.slot a m o.0 ha) o.1
+            (every t (scope_after text s n.slot a) l.next (behind sc a) rest (behind_agree sc s n.slot a m o.0 ha) o.1
             (parts_right j (in_statement text sc a) (in_statements text (behind sc a) rest) h))
 
         maybe : (t : ℕ) (s : List Slot) (n : NextNumbers) (sc : Scope) (a : Perhaps) → Agree sc s → OneIfPresent a → findings_faults j (in_perhaps text sc a) ≡ [] →

@@ -213,10 +213,10 @@ abbrev pub par_of : List Branch → Stmt
 par_of [] = kernel.Nop
 par_of (b ∷ rest) = kernel.Par (b ∷ rest)
 
-abbrev pub par_behind : Branches → ℕ → ℕ
-par_behind no_branches p = p
-par_behind (by_call name args rest) p = suc p
-par_behind (by_group at body rest) p = suc p
+abbrev pub par_after : Branches → ℕ → ℕ
+par_after no_branches p = p
+par_after (by_call name args rest) p = suc p
+par_after (by_group at body rest) p = suc p
 
 abbrev pub params_of : Option PlainFunction → List Name
 params_of None = []
@@ -238,18 +238,18 @@ module _ (text : Text) where
   lower_locals s slot [] = no_stmts
   lower_locals s slot (l ∷ rest) = more_stmts (lower_local s slot l) (lower_locals (with_locals s slot (l ∷ [])) (slot + slots_of l.length) rest)
 
-  abbrev pub slots_behind : ℕ → List Declared → ℕ
-  slots_behind slot [] = slot
-  slots_behind slot (l ∷ rest) = slots_behind (slot + slots_of l.length) rest
+  abbrev pub slots_after : ℕ → List Declared → ℕ
+  slots_after slot [] = slot
+  slots_after slot (l ∷ rest) = slots_after (slot + slots_of l.length) rest
 
   -- the scope after a statement
-  abbrev pub scope_behind : List Slot → ℕ → Statement → List Slot
-  scope_behind s slot (Declare at locals) = with_locals s slot locals
-  scope_behind s slot _ = s
+  abbrev pub scope_after : List Slot → ℕ → Statement → List Slot
+  scope_after s slot (Declare at locals) = with_locals s slot locals
+  scope_after s slot _ = s
 
-  abbrev pub scope_behind_perhaps : List Slot → ℕ → Perhaps → List Slot
-  scope_behind_perhaps s slot absent = s
-  scope_behind_perhaps s slot (present a) = scope_behind s slot a
+  abbrev pub scope_after_perhaps : List Slot → ℕ → Perhaps → List Slot
+  scope_after_perhaps s slot absent = s
+  scope_after_perhaps s slot (present a) = scope_after s slot a
 
   -- the parameters of a function that is put in place are set from the arguments
   abbrev pub set_params : List Slot → ℕ → Terms → Stmts
@@ -276,7 +276,7 @@ module _ (text : Text) (called : ℕ → InPlace) where
     lower_statement t s n (Nothing at) = lowered kernel.Nop n
     lower_statement t s n (Group at body) =
         as_one (lower_list t s n body)
-    lower_statement t s n (Declare at locals) = lowered (sequence (lower_locals text s n.slot locals)) (from_slot n (slots_behind text n.slot locals))
+    lower_statement t s n (Declare at locals) = lowered (sequence (lower_locals text s n.slot locals)) (from_slot n (slots_after text n.slot locals))
     lower_statement t s n (Assign at target op value) = lowered (lower_target text s target op (lower_term text s value)) n
     lower_statement t s n (Invoke at name args) =
         let l = called name.id n.slot t (from_slot n (n.slot + count_terms args)) in
@@ -289,10 +289,10 @@ module _ (text : Text) (called : ℕ → InPlace) where
         let l = lower_statement t s n body in
         record { stmt = kernel.While (lower_term text s test) (bound_of bound) l.stmt at; next = l.next; made = l.made }
     lower_statement t s n (For at start test step bound body) =
-        let inside = scope_behind_perhaps text s n.slot start in
+        let inside = scope_after_perhaps text s n.slot start in
         let i = lower_perhaps t s n start in
         let j = lower_perhaps t inside i.next step in
-        let l = lower_statement t (scope_behind_perhaps text inside i.next.slot step) j.next body in
+        let l = lower_statement t (scope_after_perhaps text inside i.next.slot step) j.next body in
         record {
           stmt =
               after_start start i.stmt
@@ -303,7 +303,7 @@ module _ (text : Text) (called : ℕ → InPlace) where
         }
     lower_statement t s n (Pause at) = lowered kernel.Pause n
     lower_statement t s n (Par at bs) =
-        let l = lower_branches t s n.par (record { slot = n.slot; thread = n.thread; par = par_behind bs n.par }) bs in
+        let l = lower_branches t s n.par (record { slot = n.slot; thread = n.thread; par = par_after bs n.par }) bs in
         record { stmt = par_of l.launches; next = l.next; made = l.made }
     lower_statement t s n (Abort at weak immediate test body) =
         let l = lower_list t s n body in
@@ -314,7 +314,7 @@ module _ (text : Text) (called : ℕ → InPlace) where
     lower_list t s n no_statements = record { list = no_stmts; next = n; made = [] }
     lower_list t s n (more_statements a rest) =
         let l = lower_statement t s n a in
-        let m = lower_list t (scope_behind text s n.slot a) l.next rest in
+        let m = lower_list t (scope_after text s n.slot a) l.next rest in
         record { list = more_stmts l.stmt m.list; next = m.next; made = l.made ++ m.made }
 
     pub lower_perhaps : ℕ → List Slot → NextNumbers → Perhaps → Lowered

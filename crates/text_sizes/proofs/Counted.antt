@@ -13,7 +13,7 @@ use Rattle.text_kernel.specs.declared.names.Stands.{Stands}
 use Rattle.text_kernel.specs.declared.names.Stands.TheVariants as st
 use Rattle.text_kernel.specs.Bindings.{with_locals, slots_of, number_of}
 use Rattle.text_kernel.specs.Lowering as low
-use Rattle.text_kernel.specs.Lowering.{read_as, element_as, stands, lower_term, lower_terms, sequence, ends_with, operated, assign_to, assign_at, array_values, lower_local, lower_locals, set_params, optional_test, lower_target, lower_statement, lower_list, lower_perhaps, lower_branches, scope_behind, scope_behind_perhaps, after_start, then_step, par_of, par_behind, NextNumbers, InPlace}
+use Rattle.text_kernel.specs.Lowering.{read_as, element_as, stands, lower_term, lower_terms, sequence, ends_with, operated, assign_to, assign_at, array_values, lower_local, lower_locals, set_params, optional_test, lower_target, lower_statement, lower_list, lower_perhaps, lower_branches, scope_after, scope_after_perhaps, after_start, then_step, par_of, par_after, NextNumbers, InPlace}
 use Rattle.text_sizes.specs.Counts.{term_count, terms_count, sequence_count, values_count, first_count, local_count, locals_count, operated_count, assign_count, sets_count, optional_count, branches_count, statement_count, own, own_all, own_perhaps, own_start, own_step}
 
 read_weight : (x : Stands) → expr_weight (read_as x) ≡ 1
@@ -184,17 +184,17 @@ module _ (text : Text) (called : ℕ → InPlace) (sizes : ℕ → ℕ) (right :
         omega (arith, term_weight text s test, own_is t s n a, perhaps_is t s l.next b)
     own_is t s n (While at test bound body) = omega (arith, term_weight text s test, own_is t s n body)
     own_is t s n (For at start test step bound body) =
-        let inside = scope_behind_perhaps text s n.slot start in
+        let inside = scope_after_perhaps text s n.slot start in
         let i = lower_perhaps text called t s n start in
         let j = lower_perhaps text called t inside i.next step in
-        let inner = scope_behind_perhaps text inside i.next.slot step in
+        let inner = scope_after_perhaps text inside i.next.slot step in
         let l = lower_statement text called t inner j.next body in
         let d = step_terms step l.stmt j.stmt (own sizes body) (own_is t inner j.next body) (perhaps_is t inside i.next step) in
         after_terms start i.stmt _ (1 + optional_count test + own_step sizes step (own sizes body)) (perhaps_is t s n start)
         (omega (arith, optional_weight inside test, d))
     own_is t s n (Pause at) = refl
     own_is t s n (Par at bs) =
-        let from : NextNumbers = record { slot = n.slot; thread = n.thread; par = par_behind bs n.par } in
+        let from : NextNumbers = record { slot = n.slot; thread = n.thread; par = par_after bs n.par } in
         par_terms (lower_branches text called t s n.par from bs).launches ∙ (let e = branches_are t s n.par from bs in omega (arith, e))
     own_is t s n (Abort at weak immediate test body) =
         let e = sequence_as _ _ _ (length_is t s n body) (all_is t s n body) in omega (arith, term_weight text s test, e)
@@ -203,12 +203,12 @@ module _ (text : Text) (called : ℕ → InPlace) (sizes : ℕ → ℕ) (right :
     pub length_is : (t : ℕ) (s : List Slot) (n : NextNumbers) (a : Statements) → stmts_length (lower_list text called t s n a).list ≡ statement_count a
     length_is t s n no_statements = refl
     length_is t s n (more_statements a rest) =
-        ap suc (length_is t (scope_behind text s n.slot a) (lower_statement text called t s n a).next rest)
+        ap suc (length_is t (scope_after text s n.slot a) (lower_statement text called t s n a).next rest)
 
     pub all_is : (t : ℕ) (s : List Slot) (n : NextNumbers) (a : Statements) → stmts_terms (lower_list text called t s n a).list ≡ own_all sizes a
     all_is t s n no_statements = refl
     all_is t s n (more_statements a rest) =
-        omega (arith, own_is t s n a, all_is t (scope_behind text s n.slot a) (lower_statement text called t s n a).next rest)
+        omega (arith, own_is t s n a, all_is t (scope_after text s n.slot a) (lower_statement text called t s n a).next rest)
 
     perhaps_is : (t : ℕ) (s : List Slot) (n : NextNumbers) (a : Perhaps) → stmt_terms (lower_perhaps text called t s n a).stmt ≡ own_perhaps sizes a
     perhaps_is t s n absent = refl

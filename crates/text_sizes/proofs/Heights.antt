@@ -8,7 +8,7 @@ use Rattle.text_kernel.specs.declared.names.Slot.{Slot}
 use Rattle.text_sizes.specs.declared.span.Span.{Span}
 use Rattle.text_kernel.specs.Bindings.{params_at}
 use Rattle.text_kernel.specs.Lowering as low
-use Rattle.text_kernel.specs.Lowering.{sequence, ends_with, set_params, scope_behind, scope_behind_perhaps, par_behind, after_start, then_step, NextNumbers, Made, InPlace, body_in_place, in_place_step, nothing_in_place, lower_statement, lower_list, lower_perhaps, lower_branches}
+use Rattle.text_kernel.specs.Lowering.{sequence, ends_with, set_params, scope_after, scope_after_perhaps, par_after, after_start, then_step, NextNumbers, Made, InPlace, body_in_place, in_place_step, nothing_in_place, lower_statement, lower_list, lower_perhaps, lower_branches}
 use Rattle.text_sizes.specs.Counts.{slots_all, statement_count}
 use Rattle.text_sizes.specs.Extents.{exact}
 use Rattle.text_sizes.specs.Spans.{sequence_levels, levels, levels_all, levels_perhaps, block_levels, most, most_all, most_perhaps, most_branches, words_by, levels_by, no_span, span_by, span_step}
@@ -55,7 +55,7 @@ none_at called a e = ap (levels_perhaps called) e
 module _ (text : Text) (called : ℕ → InPlace) (known : ℕ → ℕ) (right : (id first t : ℕ) (n : NextNumbers) → known id ≤ stmt_depth (called id first t n).stmt) where
   list_long : (t : ℕ) (s : List Slot) (n : NextNumbers) (a : Statements) → stmts_length (lower_list text called t s n a).list ≡ statement_count a
   list_long t s n no_statements = refl
-  list_long t s n (more_statements a rest) = ap suc (list_long t (scope_behind text s n.slot a) (lower_statement text called t s n a).next rest)
+  list_long t s n (more_statements a rest) = ap suc (list_long t (scope_after text s n.slot a) (lower_statement text called t s n a).next rest)
 
   mutual
     pub deep_is : (t : ℕ) (s : List Slot) (n : NextNumbers) (a : Statement) → levels known a ≤ stmt_depth (lower_statement text called t s n a).stmt
@@ -77,10 +77,10 @@ module _ (text : Text) (called : ℕ → InPlace) (known : ℕ → ℕ) (right :
         omega (arith, e, d)
     deep_is t s n (While at test bound body) = let e = deep_is t s n body in omega (arith, e)
     deep_is t s n (For at start test step bound body) =
-        let inside = scope_behind_perhaps text s n.slot start in
+        let inside = scope_after_perhaps text s n.slot start in
         let i = lower_perhaps text called t s n start in
         let j = lower_perhaps text called t inside i.next step in
-        let inner = scope_behind_perhaps text inside i.next.slot step in
+        let inner = scope_after_perhaps text inside i.next.slot step in
         let l = lower_statement text called t inner j.next body in
         let d = step_deep step l.stmt j.stmt (levels_perhaps known step) (levels known body) (deep_is t inner j.next body) (perhaps_deep t inside i.next step) (none_at known step) in
         after_deep start i.stmt _ (levels_perhaps known start) (1 + max (levels_perhaps known step) (levels known body)) (perhaps_deep t s n start) (omega (arith, d)) (none_at known start)
@@ -95,7 +95,7 @@ module _ (text : Text) (called : ℕ → InPlace) (known : ℕ → ℕ) (right :
     all_deep t s n (more_statements a rest) =
         let l = lower_statement text called t s n a in
         let e = deep_is t s n a in
-        let d = all_deep t (scope_behind text s n.slot a) l.next rest in
+        let d = all_deep t (scope_after text s n.slot a) l.next rest in
         omega (arith, e, d)
 
     perhaps_deep : (t : ℕ) (s : List Slot) (n : NextNumbers) (a : Perhaps) → levels_perhaps known a ≤ stmt_depth (lower_perhaps text called t s n a).stmt
@@ -157,10 +157,10 @@ module _ (measure : Made → ℕ) where
           omega (arith, e, d, f)
       most_least t s n (While at test bound body) = most_least t s n body
       most_least t s n (For at start test step bound body) =
-          let inside = scope_behind_perhaps text s n.slot start in
+          let inside = scope_after_perhaps text s n.slot start in
           let i = lower_perhaps text called t s n start in
           let j = lower_perhaps text called t inside i.next step in
-          let inner = scope_behind_perhaps text inside i.next.slot step in
+          let inner = scope_after_perhaps text inside i.next.slot step in
           let l = lower_statement text called t inner j.next body in
           let e = most_append i.made (j.made ++ l.made) in
           let d = most_append j.made l.made in
@@ -169,7 +169,7 @@ module _ (measure : Made → ℕ) where
           let h = most_least t inner j.next body in
           omega (arith, e, d, f, g, h)
       most_least t s n (Pause at) = omega arith
-      most_least t s n (Par at bs) = branches_least t s n.par (record { slot = n.slot; thread = n.thread; par = par_behind bs n.par }) bs
+      most_least t s n (Par at bs) = branches_least t s n.par (record { slot = n.slot; thread = n.thread; par = par_after bs n.par }) bs
       most_least t s n (Abort at weak immediate test body) = all_least t s n body
       most_least t s n (Return at value) = omega arith
 
@@ -177,7 +177,7 @@ module _ (measure : Made → ℕ) where
       all_least t s n no_statements = omega arith
       all_least t s n (more_statements a rest) =
           let l = lower_statement text called t s n a in
-          let inner = scope_behind text s n.slot a in
+          let inner = scope_after text s n.slot a in
           let m = lower_list text called t inner l.next rest in
           let e = most_append l.made m.made in
           let d = most_least t s n a in
@@ -252,10 +252,10 @@ module _ (measure : Made → ℕ) where
           omega (arith, e, d, f)
       most_greatest t s n (While at test bound body) = most_greatest t s n body
       most_greatest t s n (For at start test step bound body) =
-          let inside = scope_behind_perhaps text s n.slot start in
+          let inside = scope_after_perhaps text s n.slot start in
           let i = lower_perhaps text called t s n start in
           let j = lower_perhaps text called t inside i.next step in
-          let inner = scope_behind_perhaps text inside i.next.slot step in
+          let inner = scope_after_perhaps text inside i.next.slot step in
           let l = lower_statement text called t inner j.next body in
           let e = most_append i.made (j.made ++ l.made) in
           let d = most_append j.made l.made in
@@ -264,7 +264,7 @@ module _ (measure : Made → ℕ) where
           let h = most_greatest t inner j.next body in
           omega (arith, e, d, f, g, h)
       most_greatest t s n (Pause at) = omega arith
-      most_greatest t s n (Par at bs) = branches_greatest t s n.par (record { slot = n.slot; thread = n.thread; par = par_behind bs n.par }) bs
+      most_greatest t s n (Par at bs) = branches_greatest t s n.par (record { slot = n.slot; thread = n.thread; par = par_after bs n.par }) bs
       most_greatest t s n (Abort at weak immediate test body) = all_greatest t s n body
       most_greatest t s n (Return at value) = omega arith
 
@@ -272,7 +272,7 @@ module _ (measure : Made → ℕ) where
       all_greatest t s n no_statements = omega arith
       all_greatest t s n (more_statements a rest) =
           let l = lower_statement text called t s n a in
-          let inner = scope_behind text s n.slot a in
+          let inner = scope_after text s n.slot a in
           let m = lower_list text called t inner l.next rest in
           let e = most_append l.made m.made in
           let d = most_greatest t s n a in

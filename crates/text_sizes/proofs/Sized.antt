@@ -6,7 +6,7 @@ use Rattle.forec_tree.specs.Threads.{below, below_all, below_perhaps, below_bran
 use Rattle.forec_kernel.specs.WellFormed.{stmt_terms}
 use Rattle.text_kernel.specs.declared.names.Slot.{Slot}
 use Rattle.text_kernel.specs.Bindings.{params_at, slots_of}
-use Rattle.text_kernel.specs.Lowering.{sequence, slots_behind, scope_behind, scope_behind_perhaps, par_behind, NextNumbers, Made, InPlace, body_in_place, in_place_step, nothing_in_place, lower_statement, lower_list, lower_perhaps, lower_branches}
+use Rattle.text_kernel.specs.Lowering.{sequence, slots_after, scope_after, scope_after_perhaps, par_after, NextNumbers, Made, InPlace, body_in_place, in_place_step, nothing_in_place, lower_statement, lower_list, lower_perhaps, lower_branches}
 use Rattle.text_sizes.specs.Counts.{locals_slots, slots, slots_all, slots_perhaps, under, under_all, under_perhaps, under_branches, sequence_count, statement_count, own_all, body_slots, slots_step}
 use Rattle.text_sizes.proofs.Counted.{sequence_as, all_is, length_is}
 
@@ -24,16 +24,16 @@ module _ (text : Text) (called : ℕ → InPlace) (count : ℕ → ℕ) (right :
         let e = length-append l.made m.made in omega (arith, e, threads_are t s n a, perhaps_threads t s l.next b)
     threads_are t s n (While at test bound body) = threads_are t s n body
     threads_are t s n (For at start test step bound body) =
-        let inside = scope_behind_perhaps text s n.slot start in
+        let inside = scope_after_perhaps text s n.slot start in
         let i = lower_perhaps text called t s n start in
         let j = lower_perhaps text called t inside i.next step in
-        let inner = scope_behind_perhaps text inside i.next.slot step in
+        let inner = scope_after_perhaps text inside i.next.slot step in
         let l = lower_statement text called t inner j.next body in
         let e = length-append i.made (j.made ++ l.made) in
         let d = length-append j.made l.made in
         omega (arith, e, d, perhaps_threads t s n start, perhaps_threads t inside i.next step, threads_are t inner j.next body)
     threads_are t s n (Pause at) = refl
-    threads_are t s n (Par at bs) = branches_threads t s n.par (record { slot = n.slot; thread = n.thread; par = par_behind bs n.par }) bs
+    threads_are t s n (Par at bs) = branches_threads t s n.par (record { slot = n.slot; thread = n.thread; par = par_after bs n.par }) bs
     threads_are t s n (Abort at weak immediate test body) = list_threads t s n body
     threads_are t s n (Return at value) = refl
 
@@ -41,7 +41,7 @@ module _ (text : Text) (called : ℕ → InPlace) (count : ℕ → ℕ) (right :
     list_threads t s n no_statements = refl
     list_threads t s n (more_statements a rest) =
         let l = lower_statement text called t s n a in
-        let inner = scope_behind text s n.slot a in
+        let inner = scope_after text s n.slot a in
         let m = lower_list text called t inner l.next rest in
         let e = length-append l.made m.made in omega (arith, e, threads_are t s n a, list_threads t inner l.next rest)
 
@@ -79,7 +79,7 @@ place_threads text (suc deep) id first t n =
 
 -- ---- slots
 
-behind_is : (text : Text) (slot : ℕ) (ls : List Declared) → slots_behind text slot ls ≡ slot + locals_slots ls
+behind_is : (text : Text) (slot : ℕ) (ls : List Declared) → slots_after text slot ls ≡ slot + locals_slots ls
 behind_is text slot [] = omega arith
 behind_is text slot (l ∷ rest) = let e = behind_is text (slot + slots_of l.length) rest in omega (arith, e)
 
@@ -95,20 +95,20 @@ module _ (text : Text) (called : ℕ → InPlace) (count : ℕ → ℕ) (right :
         let l = lower_statement text called t s n a in omega (arith, slots_are t s n a, perhaps_slots t s l.next b)
     slots_are t s n (While at test bound body) = slots_are t s n body
     slots_are t s n (For at start test step bound body) =
-        let inside = scope_behind_perhaps text s n.slot start in
+        let inside = scope_after_perhaps text s n.slot start in
         let i = lower_perhaps text called t s n start in
         let j = lower_perhaps text called t inside i.next step in
-        let inner = scope_behind_perhaps text inside i.next.slot step in
+        let inner = scope_after_perhaps text inside i.next.slot step in
         omega (arith, perhaps_slots t s n start, perhaps_slots t inside i.next step, slots_are t inner j.next body)
     slots_are t s n (Pause at) = omega arith
-    slots_are t s n (Par at bs) = let e = branches_slots t s n.par (record { slot = n.slot; thread = n.thread; par = par_behind bs n.par }) bs in omega (arith, e)
+    slots_are t s n (Par at bs) = let e = branches_slots t s n.par (record { slot = n.slot; thread = n.thread; par = par_after bs n.par }) bs in omega (arith, e)
     slots_are t s n (Abort at weak immediate test body) = list_slots t s n body
     slots_are t s n (Return at value) = omega arith
 
     pub list_slots : (t : ℕ) (s : List Slot) (n : NextNumbers) (a : Statements) → (lower_list text called t s n a).next.slot ≡ n.slot + slots_all count a
     list_slots t s n no_statements = omega arith
     list_slots t s n (more_statements a rest) =
-        let l = lower_statement text called t s n a in omega (arith, slots_are t s n a, list_slots t (scope_behind text s n.slot a) l.next rest)
+        let l = lower_statement text called t s n a in omega (arith, slots_are t s n a, list_slots t (scope_after text s n.slot a) l.next rest)
 
     perhaps_slots : (t : ℕ) (s : List Slot) (n : NextNumbers) (a : Perhaps) → (lower_perhaps text called t s n a).next.slot ≡ n.slot + slots_perhaps count a
     perhaps_slots t s n absent = omega arith
@@ -162,16 +162,16 @@ module _
         let e = made_append l.made m.made in omega (arith, e, under_is t s n a, perhaps_under t s l.next b)
     under_is t s n (While at test bound body) = under_is t s n body
     under_is t s n (For at start test step bound body) =
-        let inside = scope_behind_perhaps text s n.slot start in
+        let inside = scope_after_perhaps text s n.slot start in
         let i = lower_perhaps text called t s n start in
         let j = lower_perhaps text called t inside i.next step in
-        let inner = scope_behind_perhaps text inside i.next.slot step in
+        let inner = scope_after_perhaps text inside i.next.slot step in
         let l = lower_statement text called t inner j.next body in
         let e = made_append i.made (j.made ++ l.made) in
         let d = made_append j.made l.made in
         omega (arith, e, d, perhaps_under t s n start, perhaps_under t inside i.next step, under_is t inner j.next body)
     under_is t s n (Pause at) = refl
-    under_is t s n (Par at bs) = branches_under t s n.par (record { slot = n.slot; thread = n.thread; par = par_behind bs n.par }) bs
+    under_is t s n (Par at bs) = branches_under t s n.par (record { slot = n.slot; thread = n.thread; par = par_after bs n.par }) bs
     under_is t s n (Abort at weak immediate test body) = list_under t s n body
     under_is t s n (Return at value) = refl
 
@@ -179,7 +179,7 @@ module _
     list_under t s n no_statements = refl
     list_under t s n (more_statements a rest) =
         let l = lower_statement text called t s n a in
-        let inner = scope_behind text s n.slot a in
+        let inner = scope_after text s n.slot a in
         let m = lower_list text called t inner l.next rest in
         let e = made_append l.made m.made in omega (arith, e, under_is t s n a, list_under t inner l.next rest)
 

@@ -13,7 +13,7 @@ invariant-loop-local l =
     let rest = map plain.declared (drop l.local-index l.locals) in
     record {
       list : lowering.joined (kernel.stmts l.list.items) (lowering.lower_locals text (seen l.scope) l.slot rest) ≡ lowering.lower_locals text (seen l.fn.scope) l.fn.slot (map plain.declared l.locals);
-      slot : lowering.slots_behind text l.slot rest ≡ lowering.slots_behind text l.fn.slot (map plain.declared l.locals);
+      slot : lowering.slots_after text l.slot rest ≡ lowering.slots_after text l.fn.slot (map plain.declared l.locals);
       seen : bindings.with_locals (seen l.scope) l.slot rest ≡ bindings.with_locals (seen l.fn.scope) l.fn.slot (map plain.declared l.locals);
       kept : Kept l.fn.scope l.scope;
     }
