@@ -9,7 +9,7 @@ use Rattle.forec_tree.specs.declared.uses.Meaning.TheVariants as means
 use Rattle.forec_tree.specs.declared.uses.How.{How}
 use Rattle.forec_tree.specs.declared.uses.How.TheVariants.{Reads, Indexes, Writes, WritesAt, Computes, Runs, Starts}
 use Rattle.forec_tree.specs.Terms.{Term, Num, Read, Element, Un, Bin, And, Or, Choose, Call, Terms, no_terms, more_terms, count_terms, Declared, Statement, Declare, Nothing, Group, Assign, Invoke, If, While, For, Pause, Par, Abort, Return, Statements, no_statements, more_statements, Perhaps, absent, present, Branches, no_branches, by_call, by_group, Text, PlainItem, IsGlobal, IsFunction, PlainFunction}
-use Rattle.forec_tree.specs.Scopes.{Scope, no_scope, entered, with_name, behind, behind_perhaps, with_params, is_array, meaning, name_of, find_item}
+use Rattle.forec_tree.specs.Scopes.{Scope, no_scope, entered, with_name, after as scope_after, after_perhaps, with_params, is_array, meaning, name_of, find_item}
 use Rattle.forec_tree.specs.Findings.{Finding, Use, Declares, Bound, Loop, Synchronous, Gives, Opens, Closes, use_at, in_term, in_terms, in_optional, in_target, in_local, in_locals, in_bound, in_statement, in_statements, in_perhaps, in_branches, in_params, in_function}
 use Rattle.forec_tree.specs.Rules.{Judging, finding_faults, findings_faults, fault_if, is_long, some_returns}
 use Rattle.forec_tree.specs.Faults.{is_in, item_named, Before, after_item, item_faults, items_faults, none_before, main_faults, text_faults}
@@ -317,8 +317,8 @@ module _ (g : ℕ) where
           (two (in_term text s test) (in_statement text (entered s) body) (naming (in_term text s test)) (placed text called (entered s) body) (in_one_term s test)
           (in_one (entered s) body (back (in_term text s test) (in_statement text (entered s) body) d)))
       in_one s (For at start test step bound body) c =
-          let inside = behind_perhaps (entered s) start in
-          let last = entered (behind_perhaps inside step) in
+          let inside = after_perhaps (entered s) start in
+          let last = entered (after_perhaps inside step) in
           let first = in_perhaps text (entered s) start in
           let tests = in_optional text inside test in
           let steps = in_perhaps text inside step in
@@ -342,9 +342,9 @@ module _ (g : ℕ) where
       in_all : (s : Scope) (list : Statements) → AllClear (in_statements text s list) → Brings (in_statements text s list) (all_placed text called s list)
       in_all s no_statements c = none
       in_all s (more_statements a rest) c =
-          two (in_statement text s a) (in_statements text (behind s a) rest) (placed text called s a) (all_placed text called (behind s a) rest)
-          (in_one s a (front (in_statement text s a) (in_statements text (behind s a) rest) c))
-          (in_all (behind s a) rest (back (in_statement text s a) (in_statements text (behind s a) rest) c))
+          two (in_statement text s a) (in_statements text (scope_after s a) rest) (placed text called s a) (all_placed text called (scope_after s a) rest)
+          (in_one s a (front (in_statement text s a) (in_statements text (scope_after s a) rest) c))
+          (in_all (scope_after s a) rest (back (in_statement text s a) (in_statements text (scope_after s a) rest) c))
 
       in_maybe : (s : Scope) (a : Perhaps) → AllClear (in_perhaps text s a) → Brings (in_perhaps text s a) (perhaps_placed text called s a)
       in_maybe s absent c = none

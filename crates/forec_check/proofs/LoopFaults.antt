@@ -5,7 +5,7 @@ use Rattle.forec_tree.specs.declared.tree.Name.{Name}
 use Rattle.forec_tree.specs.declared.tree.Number.{Number}
 use Rattle.forec_tree.specs.declared.uses.How.TheVariants.{Starts}
 use Rattle.forec_tree.specs.Terms.{Term, Num, Read, Element, Un, Bin, And, Or, Choose, Call, Terms, no_terms, more_terms, count_terms, Declared, Statement, Declare, Nothing, Group, Assign, Invoke, If, While, For, Pause, Par, Abort, Return, Statements, no_statements, more_statements, Perhaps, absent, present, Branches, no_branches, by_call, by_group, Text, PlainFunction}
-use Rattle.forec_tree.specs.Scopes.{Scope, no_scope, entered, with_name, with_params, is_array, behind, behind_perhaps}
+use Rattle.forec_tree.specs.Scopes.{Scope, no_scope, entered, with_name, with_params, is_array, after, after_perhaps}
 use Rattle.forec_tree.specs.Findings.{Finding, Use, Declares, Bound, Loop, Synchronous, Gives, Opens, Closes, use_at, in_term, in_terms, in_optional, in_target, in_local, in_locals, in_bound, in_statement, in_statements, in_perhaps, in_branches, in_params, in_function}
 use Rattle.forec_tree.specs.Rules.{fault_if, endless, loop_place, loop_faults}
 use Rattle.forec_tree.specs.Faults.{Member, here, later}
@@ -156,8 +156,8 @@ module _ (text : Text) where
         (finds_behind (in_bound bound) rest (loops_in body) (none_bound bound)
         (finds_behind (in_term text s test) (in_statement text (entered s) body) (loops_in body) (none_term s test) (finds (entered s) body)))
     finds s (For at start test step bound body) =
-        let inside = behind_perhaps (entered s) start in
-        let last = entered (behind_perhaps inside step) in
+        let inside = after_perhaps (entered s) start in
+        let last = entered (after_perhaps inside step) in
         let w = For at start test step bound body in
         let p = in_perhaps text (entered s) start in
         let q = in_optional text inside test in
@@ -181,7 +181,7 @@ module _ (text : Text) where
     finds_all : (s : Scope) (a : Statements) → Finds (in_statements text s a) (loops_in_all a)
     finds_all s no_statements = same_as [] [] refl
     finds_all s (more_statements a rest) =
-        finds_both (in_statement text s a) (in_statements text (behind s a) rest) (loops_in a) (loops_in_all rest) (finds s a) (finds_all (behind s a) rest)
+        finds_both (in_statement text s a) (in_statements text (after s a) rest) (loops_in a) (loops_in_all rest) (finds s a) (finds_all (after s a) rest)
 
     finds_perhaps : (s : Scope) (a : Perhaps) → Finds (in_perhaps text s a) (loops_in_perhaps a)
     finds_perhaps s absent = same_as [] [] refl

@@ -8,7 +8,7 @@ use Rattle.forec_tree.specs.declared.uses.How.TheVariants as how
 use Rattle.forec_tree.specs.declared.uses.Meaning.{Meaning}
 use Rattle.forec_tree.specs.declared.uses.Meaning.TheVariants as means
 use Rattle.forec_tree.specs.Terms.{Text, PlainItem, IsGlobal, IsFunction, PlainFunction, Statement, Declare, Nothing, Group, Assign, Invoke, If, While, For, Pause, Par, Abort, Return, Statements, no_statements, more_statements, Perhaps, absent, present, Branches, no_branches, by_call, by_group, count_terms}
-use Rattle.forec_tree.specs.Scopes.{Scope, no_scope, entered, behind, behind_perhaps, name_of, find_item, meaning}
+use Rattle.forec_tree.specs.Scopes.{Scope, no_scope, entered, after, after_perhaps, name_of, find_item, meaning}
 use Rattle.forec_tree.specs.Findings as finding
 use Rattle.forec_tree.specs.Findings.{Finding, Use, use_at, in_bound, in_terms, in_term, in_optional, in_statement, in_statements, in_perhaps, in_branches}
 use Rattle.forec_tree.specs.Rules.{Judging, use_faults, finding_faults, findings_faults}
@@ -114,17 +114,17 @@ module _ (j : Judging) (text : Text) where
         let x = calls (entered s) body (clean_right j (in_term text s test) (in_statement text (entered s) body) c1) g h in
         called_right g (in_bound bound) rest (called_right g (in_term text s test) (in_statement text (entered s) body) x)
     calls s (For at start test step bound body) c g h =
-        let inside = behind_perhaps (entered s) start in
+        let inside = after_perhaps (entered s) start in
         let p1 = in_perhaps text (entered s) start in
         let p2 = in_optional text inside test in
         let p3 = in_perhaps text inside step in
-        let p4 = in_statement text (entered (behind_perhaps inside step)) body in
+        let p4 = in_statement text (entered (after_perhaps inside step)) body in
         let c1 = clean_right j (in_bound bound) (p1 ++ (p2 ++ (p3 ++ p4))) c in
         let c2 = clean_right j p1 (p2 ++ (p3 ++ p4)) c1 in
         let c3 = clean_right j p2 (p3 ++ p4) c2 in
         let x1 = calls_perhaps (entered s) start (clean_left j p1 (p2 ++ (p3 ++ p4)) c1) g in
         let x3 = calls_perhaps inside step (clean_left j p3 p4 c3) g in
-        let x4 = calls (entered (behind_perhaps inside step)) body (clean_right j p3 p4 c3) g in
+        let x4 = calls (entered (after_perhaps inside step)) body (clean_right j p3 p4 c3) g in
         called_right g (in_bound bound) (p1 ++ (p2 ++ (p3 ++ p4)))
         (⊎_elim (λ i. called_left g p1 (p2 ++ (p3 ++ p4)) (x1 i))
         (λ i.
@@ -142,10 +142,10 @@ module _ (j : Judging) (text : Text) where
     pub calls_all : (s : Scope) (a : Statements) → Clean j (in_statements text s a) → (g : ℕ) → is_in g (all_started a) ≡ true → is_in g (called_in (in_statements text s a)) ≡ true
     calls_all s no_statements c g h = absurd (let q : false ≡ true = h in cc)
     calls_all s (more_statements a rest) c g h =
-        let x = calls s a (clean_left j (in_statement text s a) (in_statements text (behind s a) rest) c) g in
-        let y = calls_all (behind s a) rest (clean_right j (in_statement text s a) (in_statements text (behind s a) rest) c) g in
-        ⊎_elim (λ i. called_left g (in_statement text s a) (in_statements text (behind s a) rest) (x i))
-        (λ i. called_right g (in_statement text s a) (in_statements text (behind s a) rest) (y i)) (either g (started a) (all_started rest) h)
+        let x = calls s a (clean_left j (in_statement text s a) (in_statements text (after s a) rest) c) g in
+        let y = calls_all (after s a) rest (clean_right j (in_statement text s a) (in_statements text (after s a) rest) c) g in
+        ⊎_elim (λ i. called_left g (in_statement text s a) (in_statements text (after s a) rest) (x i))
+        (λ i. called_right g (in_statement text s a) (in_statements text (after s a) rest) (y i)) (either g (started a) (all_started rest) h)
 
     pub calls_perhaps : (s : Scope) (a : Perhaps) → Clean j (in_perhaps text s a) → (g : ℕ) → is_in g (perhaps_started a) ≡ true → is_in g (called_in (in_perhaps text s a)) ≡ true
     calls_perhaps s absent c g h = absurd (let q : false ≡ true = h in cc)

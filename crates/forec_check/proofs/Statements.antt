@@ -6,7 +6,7 @@ use Rattle.forec_tree.specs.declared.tree.Expr.{Expr}
 use Rattle.forec_tree.specs.declared.tree.Target.{Target}
 use Rattle.forec_tree.specs.declared.uses.How.TheVariants.{Writes, WritesAt, Runs}
 use Rattle.forec_tree.specs.Terms.{Text}
-use Rattle.forec_tree.specs.Scopes.{Scope, entered, behind, with_name, with_locals, is_array, is_among}
+use Rattle.forec_tree.specs.Scopes.{Scope, entered, after, with_name, with_locals, is_array, is_among}
 use Rattle.forec_tree.specs.Terms as plain
 use Rattle.forec_tree.specs.declared.tree.Stmt.{Stmt}
 use Rattle.forec_tree.specs.declared.tree.Local.{Local}
@@ -102,18 +102,18 @@ module _ (j : Judging) (text : Text) (s : Scope) where
       then j (Loop loop) (in_bound bound ++ (a ++ b)) kept kept new (passed_loop j loop kept) (three j (in_bound bound) a b kept one next new g f e)
 
   pub statements_step : (items : List Stmt) (i : ℕ) (x : Stmt) (r : Scope) (kept new whole : NotesView) → i < length items → get_or items i x ≡ x →
-      r ≡ behind s (statement x) → new ≡ walked j (in_statement text s (statement x)) kept →
+      r ≡ after s (statement x) → new ≡ walked j (in_statement text s (statement x)) kept →
       walked j (in_statements text s (statements (drop i items))) kept ≡ whole →
       walked j (in_statements text r (statements (drop (i + 1) items))) new ≡ whole
   statements_step items i x r kept new whole h e hr g w =
       let rest = drop (i + 1) items in
       let d : drop i items ≡ x ∷ rest = drop-cons items i x h ∙ rw (e, add-one) refl in
       let a : walked j (in_statements text s (statements (drop i items))) kept
-      ≡ walked j (in_statements text (behind s (statement x)) (statements rest)) (walked j (in_statement text s (statement x)) kept) =
+      ≡ walked j (in_statements text (after s (statement x)) (statements rest)) (walked j (in_statement text s (statement x)) kept) =
       ap (λ xs. walked j (in_statements text s (statements xs)) kept) d
-      ∙ walked-append j (in_statement text s (statement x)) (in_statements text (behind s (statement x)) (statements rest)) kept in
+      ∙ walked-append j (in_statement text s (statement x)) (in_statements text (after s (statement x)) (statements rest)) kept in
       ap (λ q. walked j (in_statements text q (statements rest)) new) hr
-      ∙ ap (walked j (in_statements text (behind s (statement x)) (statements rest))) g ∙ sym a ∙ w
+      ∙ ap (walked j (in_statements text (after s (statement x)) (statements rest))) g ∙ sym a ∙ w
 
   pub statements_end : (items : List Stmt) (i : ℕ) (kept whole : NotesView) → length items ≤ i →
       walked j (in_statements text s (statements (drop i items))) kept ≡ whole → kept ≡ whole
@@ -167,7 +167,7 @@ pub with_locals_outer : (s : Scope) (ls : List plain.Declared) → (with_locals 
 with_locals_outer s [] = refl
 with_locals_outer s (l ∷ rest) = with_locals_outer (with_name s l.name.id (is_array l.length)) rest ∙ with_name_outer s l.name.id (is_array l.length)
 
-pub behind_outer : (s : Scope) (st : plain.Statement) → (behind s st).outer ≡ s.outer
+pub behind_outer : (s : Scope) (st : plain.Statement) → (after s st).outer ≡ s.outer
 behind_outer s (plain.Declare at locals) = with_locals_outer s locals
 behind_outer s (plain.Nothing at) = refl
 behind_outer s (plain.Group at body) = refl

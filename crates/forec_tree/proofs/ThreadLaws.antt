@@ -1,7 +1,7 @@
 -- The number of thread instances is the size of the tree of threads.
 use Rattle.std.proofs.Common.{ℕ, zero, suc, ◌+◌, ◌≡◌, refl, Option, Some, None, length, arith}
 use Rattle.forec_tree.specs.Terms.{Statement, Declare, Nothing, Group, Assign, Invoke, If, While, For, Pause, Par, Abort, Return, Statements, no_statements, more_statements, Perhaps, absent, present, Branches, no_branches, by_call, by_group, Text, PlainFunction}
-use Rattle.forec_tree.specs.Scopes.{Scope, no_scope, entered, behind, behind_perhaps, with_params}
+use Rattle.forec_tree.specs.Scopes.{Scope, no_scope, entered, after, after_perhaps, with_params}
 use Rattle.forec_tree.specs.Pauses.{within, find_function}
 use Rattle.forec_tree.specs.Threads.{below, below_all, below_perhaps, below_branches, body_below, below_step, instances}
 use Rattle.forec_tree.specs.ThreadTree.{Threads, no_threads, thread, followed_by, Placed, nothing, placed, all_placed, perhaps_placed, branches_placed, body_placed, placed_step, thread_tree, count_threads}
@@ -27,9 +27,9 @@ module _ (text : Text) (called : ℕ → Placed) (counts : ℕ → ℕ) (right :
     size_of s (If at test a b) = size_two _ _ _ _ (size_of (entered s) a) (size_perhaps (entered s) b)
     size_of s (While at test bound body) = size_of (entered s) body
     size_of s (For at start test step bound body) =
-        let inside = behind_perhaps (entered s) start in
+        let inside = after_perhaps (entered s) start in
         size_two _ _ _ _ (size_perhaps (entered s) start)
-        (size_two _ _ _ _ (size_perhaps inside step) (size_of (entered (behind_perhaps inside step)) body))
+        (size_two _ _ _ _ (size_perhaps inside step) (size_of (entered (after_perhaps inside step)) body))
     size_of s (Pause at) = refl
     size_of s (Par at bs) = size_branches s bs
     size_of s (Abort at weak immediate test body) = size_all (entered s) body
@@ -37,7 +37,7 @@ module _ (text : Text) (called : ℕ → Placed) (counts : ℕ → ℕ) (right :
 
     size_all : (s : Scope) (list : Statements) → size (all_placed text called s list) ≡ below_all counts list
     size_all s no_statements = refl
-    size_all s (more_statements a rest) = size_two _ _ _ _ (size_of s a) (size_all (behind s a) rest)
+    size_all s (more_statements a rest) = size_two _ _ _ _ (size_of s a) (size_all (after s a) rest)
 
     size_perhaps : (s : Scope) (a : Perhaps) → size (perhaps_placed text called s a) ≡ below_perhaps counts a
     size_perhaps s absent = refl

@@ -3,7 +3,7 @@
 use Rattle.std.specs.Prelude.{ℕ, zero, suc, ◌+◌, cond, Option, Some, None, List, [], ◌∷◌, ◌++◌, length, slice_get}
 use Rattle.forec_tree.specs.declared.uses.Meaning.TheVariants as means
 use Rattle.forec_tree.specs.Terms.{Statement, Declare, Nothing, Group, Assign, Invoke, If, While, For, Pause, Par, Abort, Return, Statements, no_statements, more_statements, Perhaps, absent, present, Branches, no_branches, by_call, by_group, Text, IsGlobal, IsFunction, PlainFunction}
-use Rattle.forec_tree.specs.Scopes.{Scope, no_scope, entered, behind, behind_perhaps, with_params, is_constant, is_in}
+use Rattle.forec_tree.specs.Scopes.{Scope, no_scope, entered, after, after_perhaps, with_params, is_constant, is_in}
 use Rattle.forec_tree.specs.Findings.{Finding, Use, in_term, in_terms, in_optional, in_target, in_locals}
 use Rattle.forec_tree.specs.Pauses.{within, find_function}
 
@@ -53,9 +53,9 @@ module _ (text : Text) (called : ℕ → Placed) where
     placed s (If at test a b) = joined (naming (in_term text s test)) (joined (placed (entered s) a) (perhaps_placed (entered s) b))
     placed s (While at test bound body) = joined (naming (in_term text s test)) (placed (entered s) body)
     placed s (For at start test step bound body) =
-        let inside = behind_perhaps (entered s) start in
+        let inside = after_perhaps (entered s) start in
         joined (perhaps_placed (entered s) start)
-        (joined (naming (in_optional text inside test)) (joined (perhaps_placed inside step) (placed (entered (behind_perhaps inside step)) body)))
+        (joined (naming (in_optional text inside test)) (joined (perhaps_placed inside step) (placed (entered (after_perhaps inside step)) body)))
     placed s (Pause at) = nothing
     placed s (Par at bs) = branches_placed s bs
     placed s (Abort at weak immediate test body) = joined (naming (in_term text s test)) (all_placed (entered s) body)
@@ -63,7 +63,7 @@ module _ (text : Text) (called : ℕ → Placed) where
 
     pub all_placed : Scope → Statements → Placed
     all_placed s no_statements = nothing
-    all_placed s (more_statements a rest) = joined (placed s a) (all_placed (behind s a) rest)
+    all_placed s (more_statements a rest) = joined (placed s a) (all_placed (after s a) rest)
 
     pub perhaps_placed : Scope → Perhaps → Placed
     perhaps_placed s absent = nothing

@@ -3,7 +3,7 @@ use Rattle.std.proofs.Common.{ℕ, zero, suc, ◌+◌, ◌<◌, ◌≤◌, ◌�
 use Rattle.forec_tree.specs.declared.tree.Name.{Name}
 use Rattle.forec_tree.specs.declared.uses.How.TheVariants.{Runs, Starts}
 use Rattle.forec_tree.specs.Terms.{count_terms, Statement, Declare, Nothing, Group, Assign, Invoke, If, While, For, Pause, Par, Abort, Return, Statements, no_statements, more_statements, Perhaps, absent, present, Branches, no_branches, by_call, by_group, Text, PlainFunction}
-use Rattle.forec_tree.specs.Scopes.{Scope, no_scope, entered, behind, behind_perhaps, with_params, find_item, find_last, meaning}
+use Rattle.forec_tree.specs.Scopes.{Scope, no_scope, entered, after, after_perhaps, with_params, find_item, find_last, meaning}
 use Rattle.forec_tree.specs.Findings.{Closes, in_bound, in_term, in_terms, in_optional, in_statement, in_statements, in_perhaps, in_branches, in_params}
 use Rattle.forec_tree.specs.Faults.{in_function}
 use Rattle.forec_tree.specs.Rules.{Judging, use_faults, findings_faults}
@@ -97,8 +97,8 @@ module _ (text : Text) (k : PlainKernel) (uses : List ℕ) (names : List (List �
           made_fine t s n (entered sc) body (parts_right judging (in_term text sc test) (in_statement text (entered sc) body) r) z
       made_fine t s n sc (For at start test step bound body) h z =
           let sc1 = entered sc in
-          let sc2 = behind_perhaps sc1 start in
-          let sc3 = behind_perhaps sc2 step in
+          let sc2 = after_perhaps sc1 start in
+          let sc3 = after_perhaps sc2 step in
           let s2 = scope_after_perhaps text s n.slot start in
           let i = lower_perhaps text called t s n start in
           let d = lower_perhaps text called t s2 i.next step in
@@ -132,8 +132,8 @@ module _ (text : Text) (k : PlainKernel) (uses : List ℕ) (names : List (List �
           let two = lower_list text called t s2 one.next rest in
           let long = threads_grow (grows text called (in_place_grows text deep) t s n a).grown in
           all_append k uses one.made two.made
-          (made_fine t s n sc a (parts_left judging (in_statement text sc a) (in_statements text (behind sc a) rest) h) (sits_left k n.thread one.made two.made z))
-          (list_made t s2 one.next (behind sc a) rest (parts_right judging (in_statement text sc a) (in_statements text (behind sc a) rest) h) (sits_right k n.thread one.next.thread one.made two.made long z))
+          (made_fine t s n sc a (parts_left judging (in_statement text sc a) (in_statements text (after sc a) rest) h) (sits_left k n.thread one.made two.made z))
+          (list_made t s2 one.next (after sc a) rest (parts_right judging (in_statement text sc a) (in_statements text (after sc a) rest) h) (sits_right k n.thread one.next.thread one.made two.made long z))
 
       perhaps_made : (t : ℕ) (s : List Slot) (n : NextNumbers) (sc : Scope) (a : Perhaps) → findings_faults judging (in_perhaps text sc a) ≡ [] →
           Sits k n.thread (lower_perhaps text called t s n a).made → AllFine k uses (lower_perhaps text called t s n a).made

@@ -10,7 +10,7 @@ use Rattle.forec_tree.specs.declared.uses.Meaning.{Meaning}
 use Rattle.forec_tree.specs.declared.uses.Meaning.TheVariants as means
 use Rattle.forec_tree.specs.declared.uses.How.TheVariants.{Reads, Indexes, Writes, WritesAt, Computes, Runs, Starts}
 use Rattle.forec_tree.specs.Terms.{Term, Num, Read, Element, Un, Bin, And, Or, Choose, Call, Terms, no_terms, more_terms, count_terms, Declared, Statement, Declare, Nothing, Group, Assign, Invoke, If, While, For, Pause, Par, Abort, Return, Statements, no_statements, more_statements, Perhaps, absent, present, Text, PlainItem, PlainFunction, IsGlobal, IsFunction}
-use Rattle.forec_tree.specs.Scopes.{Scope, no_scope, entered, behind, behind_perhaps, with_name, with_params, is_among, is_array, find_item, find_last, local_meaning, item_meaning, meaning}
+use Rattle.forec_tree.specs.Scopes.{Scope, no_scope, entered, after, after_perhaps, with_name, with_params, is_among, is_array, find_item, find_last, local_meaning, item_meaning, meaning}
 use Rattle.forec_tree.specs.Findings.{Finding, Use, Declares, Bound, Loop, Synchronous, Gives, Opens, Closes, use_at, in_bound, in_term, in_terms, in_optional, in_locals, in_target, in_statement, in_statements, in_perhaps, in_branches, in_params}
 use Rattle.forec_tree.specs.Rules.{Judging, fault_if, use_faults, findings_faults}
 use Rattle.forec_tree.specs.Faults.{Member, in_function, calls_of, called_in, is_in}
@@ -329,8 +329,8 @@ module _ (text : Text) where
           (parts_named ft fb _ _ (term_named sc s test (parts_left j ft fb h1)) (statement_named t s n (entered sc) body (parts_right j ft fb h1))))
       statement_named t s n sc (For at start test step bound body) h =
           let sc1 = entered sc in
-          let sc2 = behind_perhaps sc1 start in
-          let sc3 = behind_perhaps sc2 step in
+          let sc2 = after_perhaps sc1 start in
+          let sc3 = after_perhaps sc2 step in
           let s2 = scope_after_perhaps text s n.slot start in
           let i = lower_perhaps text nothing t s n start in
           let d = lower_perhaps text nothing t s2 i.next step in
@@ -364,9 +364,9 @@ module _ (text : Text) where
       list_named t s n sc no_statements h = none_named []
       list_named t s n sc (more_statements a rest) h =
           let fa = in_statement text sc a in
-          let fr = in_statements text (behind sc a) rest in
+          let fr = in_statements text (after sc a) rest in
           parts_named fa fr _ _ (statement_named t s n sc a (parts_left j fa fr h))
-          (list_named t (scope_after text s n.slot a) (lower_statement text nothing t s n a).next (behind sc a) rest (parts_right j fa fr h))
+          (list_named t (scope_after text s n.slot a) (lower_statement text nothing t s n a).next (after sc a) rest (parts_right j fa fr h))
 
       perhaps_named : (t : ℕ) (s : List Slot) (n : NextNumbers) (sc : Scope) (a : Perhaps) → findings_faults j (in_perhaps text sc a) ≡ [] →
           AllNamed text (in_perhaps text sc a) (stmt_calls (lower_perhaps text nothing t s n a).stmt)

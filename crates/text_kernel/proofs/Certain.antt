@@ -7,7 +7,7 @@ use Rattle.forec_tree.specs.declared.uses.Meaning.{Meaning}
 use Rattle.forec_tree.specs.declared.uses.Meaning.TheVariants as means
 use Rattle.forec_tree.specs.declared.uses.How.TheVariants.{Runs}
 use Rattle.forec_tree.specs.Terms.{Term, count_terms, Statement, Declare, Nothing, Group, Assign, Invoke, If, While, For, Pause, Par, Abort, Return, Statements, no_statements, more_statements, Perhaps, Text}
-use Rattle.forec_tree.specs.Scopes.{Scope, entered, behind, behind_perhaps, meaning}
+use Rattle.forec_tree.specs.Scopes.{Scope, entered, after, after_perhaps, meaning}
 use Rattle.forec_tree.specs.Findings.{Finding, Loop, Synchronous, in_bound, in_term, in_terms, in_optional, in_statement, in_statements, in_perhaps, in_branches}
 use Rattle.forec_tree.specs.Turns.{inferred}
 use Rattle.forec_tree.specs.Pauses.{is_nonzero, always, at_least_one, certain, certain_function, certain_by, some_certain, certain_perhaps}
@@ -75,8 +75,8 @@ module _ (text : Text) (j : Judging) (gives : j.gives ≡ true) (called : ℕ �
         let r = parts_right j (in_bound bound) (in_term text sc test ++ in_statement text (entered sc) body) h in
         and_no (is_nonzero test) (certain_by text called body) (certain_no (entered sc) body (parts_right j (in_term text sc test) (in_statement text (entered sc) body) r))
     certain_no sc (For at start test step bound body) h =
-        let sc2 = behind_perhaps (entered sc) start in
-        let sc3 = behind_perhaps sc2 step in
+        let sc2 = after_perhaps (entered sc) start in
+        let sc3 = after_perhaps sc2 step in
         let r4 = in_perhaps text sc2 step ++ in_statement text (entered sc3) body in
         let r3 = in_optional text sc2 test ++ r4 in
         let h2 = parts_right j (in_bound bound) (in_perhaps text (entered sc) start ++ r3) h in
@@ -92,8 +92,8 @@ module _ (text : Text) (j : Judging) (gives : j.gives ≡ true) (called : ℕ �
     some_no sc no_statements h = refl
     some_no sc (more_statements a rest) h =
         or_no (certain_by text called a) (some_certain text called rest)
-        (certain_no sc a (parts_left j (in_statement text sc a) (in_statements text (behind sc a) rest) h))
-        (some_no (behind sc a) rest (parts_right j (in_statement text sc a) (in_statements text (behind sc a) rest) h))
+        (certain_no sc a (parts_left j (in_statement text sc a) (in_statements text (after sc a) rest) h))
+        (some_no (after sc a) rest (parts_right j (in_statement text sc a) (in_statements text (after sc a) rest) h))
 
 -- ---- bounds
 
@@ -122,16 +122,16 @@ module _ (text : Text) (j : Judging) (gives : j.gives ≡ true) where
   for_with : (sc : Scope) (at : Place) (start : Perhaps) (test : Option Term) (step : Perhaps) (bound : Option Number) (body : Statement) (o : Option ℕ) →
       inferred text (For at start test step bound body) ≡ o → Unbroken text j (in_statement text sc (For at start test step bound body)) → FineBound j.gives (or_inferred (bound_of bound) o)
   for_with sc at start test step (Some n) body o e h =
-      let sc2 = behind_perhaps (entered sc) start in
-      let sc3 = behind_perhaps sc2 step in
+      let sc2 = after_perhaps (entered sc) start in
+      let sc3 = after_perhaps sc2 step in
       let r4 = in_perhaps text sc2 step ++ in_statement text (entered sc3) body in
       let r2 = in_perhaps text (entered sc) start ++ (in_optional text sc2 test ++ r4) in
       bounded j.gives (Some (number_of n)) (written_short j (Some n) (parts_left j (in_bound (Some n)) r2 h.rules)) (λ d. cc)
   for_with sc at start test step None body (Some m) e h =
       bounded j.gives (Some m) (λ n d. inferred_short text at start test step None body n (e ∙ d)) (λ d. cc)
   for_with sc at start test step None body None e h =
-      let sc2 = behind_perhaps (entered sc) start in
-      let sc3 = behind_perhaps sc2 step in
+      let sc2 = after_perhaps (entered sc) start in
+      let sc3 = after_perhaps sc2 step in
       let r4 = in_perhaps text sc2 step ++ in_statement text (entered sc3) body in
       let r3 = in_optional text sc2 test ++ r4 in
       let h4 = parts_right j (in_optional text sc2 test) r4 (parts_right j (in_perhaps text (entered sc) start) r3 h.rules) in

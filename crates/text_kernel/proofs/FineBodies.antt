@@ -7,7 +7,7 @@ use Rattle.forec_tree.specs.declared.tree.Number.{Number}
 use Rattle.forec_tree.specs.declared.uses.How.TheVariants.{Runs, Starts}
 use Rattle.forec_tree.specs.Terms.{Term, Terms, no_terms, more_terms, count_terms, Declared, Statement, Declare, Nothing, Group, Assign, Invoke, If, While, For, Pause, Par, Abort, Return, Statements, no_statements, more_statements, Perhaps, absent, present, Branches, no_branches, by_call, by_group, Text, PlainItem, IsGlobal, IsFunction}
 use Rattle.forec_tree.specs.Scopes as tree
-use Rattle.forec_tree.specs.Scopes.{Scope, no_scope, entered, behind, behind_perhaps, find_item, local_meaning, item_meaning, meaning}
+use Rattle.forec_tree.specs.Scopes.{Scope, no_scope, entered, after, after_perhaps, find_item, local_meaning, item_meaning, meaning}
 use Rattle.forec_tree.specs.Findings.{Finding, Loop, Synchronous, Gives, Closes, in_bound, in_term, in_terms, in_optional, in_locals, in_target, in_statement, in_statements, in_perhaps, in_branches}
 use Rattle.forec_tree.specs.Rules.{Judging, fault_if, use_faults, findings_faults}
 use Rattle.forec_tree.specs.Pauses.{find_function}
@@ -89,7 +89,7 @@ module _
   entered_matches sc s m = record { same = m.same ∙ sym (Rattle.std.proofs.Common.append-nil (sc.outer ++ sc.here)); good = m.good }
 
   behind_matches : (sc : Scope) (s : List Slot) (n : NextNumbers) (t : ℕ) (a : Statement) → Matches words sc s → findings_faults j (in_statement text sc a) ≡ [] →
-      (lower_statement text called t s n a).next.slot ≤ words → Matches words (behind sc a) (scope_after text s n.slot a)
+      (lower_statement text called t s n a).next.slot ≤ words → Matches words (after sc a) (scope_after text s n.slot a)
   behind_matches sc s n t (Declare at locals) m h l = (locals_ok sc s n.slot locals m h l).1
   behind_matches sc s n t (Nothing at) m h l = m
   behind_matches sc s n t (Group at body) m h l = m
@@ -104,7 +104,7 @@ module _
   behind_matches sc s n t (Return at value) m h l = m
 
   perhaps_matches : (sc : Scope) (s : List Slot) (n : NextNumbers) (t : ℕ) (a : Perhaps) → Matches words sc s → findings_faults j (in_perhaps text sc a) ≡ [] →
-      (lower_perhaps text called t s n a).next.slot ≤ words → Matches words (behind_perhaps sc a) (scope_after_perhaps text s n.slot a)
+      (lower_perhaps text called t s n a).next.slot ≤ words → Matches words (after_perhaps sc a) (scope_after_perhaps text s n.slot a)
   perhaps_matches sc s n t absent m h l = m
   perhaps_matches sc s n t (present a) m h l = behind_matches sc s n t a m h l
 
@@ -225,8 +225,8 @@ module _
         )
     fine t s n sc (For at start test step bound body) m h l z =
         let sc1 = entered sc in
-        let sc2 = behind_perhaps sc1 start in
-        let sc3 = behind_perhaps sc2 step in
+        let sc2 = after_perhaps sc1 start in
+        let sc3 = after_perhaps sc2 step in
         let s2 = scope_after_perhaps text s n.slot start in
         let i = lower_perhaps text called t s n start in
         let d = lower_perhaps text called t s2 i.next step in
@@ -276,13 +276,13 @@ module _
     list_fine t s n sc no_statements m h l z = tt
     list_fine t s n sc (more_statements a rest) m h l z =
         let one = lower_statement text called t s n a in
-        let here_ = unbroken_left text j (in_statement text sc a) (in_statements text (behind sc a) rest) h in
+        let here_ = unbroken_left text j (in_statement text sc a) (in_statements text (after sc a) rest) h in
         let two = list_rises text called up t (scope_after text s n.slot a) one.next rest in
         let long = threads_grow (grows text called right t s n a).grown in
         let rest_made = (lower_list text called t (scope_after text s n.slot a) one.next rest).made in
         let low_ : one.next.slot ≤ words = omega (arith, two, l) in (
           fine t s n sc a m here_ low_ (left_if j.gives k n.thread one.made rest_made z),
-          list_fine t (scope_after text s n.slot a) one.next (behind sc a) rest (behind_matches sc s n t a m here_.rules low_) (unbroken_right text j (in_statement text sc a) (in_statements text (behind sc a) rest) h) l (right_if j.gives k n.thread one.next.thread one.made rest_made long z),
+          list_fine t (scope_after text s n.slot a) one.next (after sc a) rest (behind_matches sc s n t a m here_.rules low_) (unbroken_right text j (in_statement text sc a) (in_statements text (after sc a) rest) h) l (right_if j.gives k n.thread one.next.thread one.made rest_made long z),
         )
 
     perhaps_fine : (t : ℕ) (s : List Slot) (n : NextNumbers) (sc : Scope) (a : Perhaps) → Matches words sc s → Unbroken text j (in_perhaps text sc a) →

@@ -3,7 +3,7 @@ use Rattle.std.proofs.Common.{ℕ, zero, suc, ◌+◌, ◌≡◌, ◌∙◌, sym
 use Rattle.std.proofs.lemmas.List.{map-append, length-map}
 use Rattle.forec_kernel.specs.Shapes.{PlainThread}
 use Rattle.forec_tree.specs.Terms.{Statement, Declare, Nothing, Group, Assign, Invoke, If, While, For, Pause, Par, Abort, Return, Statements, no_statements, more_statements, Perhaps, absent, present, Branches, no_branches, by_call, by_group, Text, PlainFunction}
-use Rattle.forec_tree.specs.Scopes.{Scope, no_scope, entered, behind, behind_perhaps, with_params}
+use Rattle.forec_tree.specs.Scopes.{Scope, no_scope, entered, after, after_perhaps, with_params}
 use Rattle.forec_tree.specs.Pauses.{within, find_function}
 use Rattle.forec_tree.specs.ThreadTree.{Threads, no_threads, thread, followed_by, Placed, nothing, placed, all_placed, perhaps_placed, branches_placed, body_placed, placed_step, count_threads}
 use Rattle.text_kernel.specs.declared.names.Slot.{Slot}
@@ -85,10 +85,10 @@ module _ (text : Text) (called : ℕ → InPlace) (tree : ℕ → Placed)
           let inside = scope_after_perhaps text s n.slot start in
           let i = lower_perhaps text called t s n start in
           let j = lower_perhaps text called t inside i.next step in
-          let own = behind_perhaps (entered sc) start in
+          let own = after_perhaps (entered sc) start in
           two t n.thread i.next.thread _ _ _ _ _ (maybe t s n (entered sc) start)
           (two t i.next.thread j.next.thread _ _ _ _ _ (maybe t inside i.next own step)
-          (one t (scope_after_perhaps text inside i.next.slot step) j.next (entered (behind_perhaps own step)) body))
+          (one t (scope_after_perhaps text inside i.next.slot step) j.next (entered (after_perhaps own step)) body))
       one t s n sc (Pause at) = none t n.thread
       one t s n sc (Par at bs) = each t s n.par (record { slot = n.slot; thread = n.thread; par = par_after bs n.par }) sc bs
       one t s n sc (Abort at weak immediate test body) = all t s n (entered sc) body
@@ -99,7 +99,7 @@ module _ (text : Text) (called : ℕ → InPlace) (tree : ℕ → Placed)
       all t s n sc no_statements = none t n.thread
       all t s n sc (more_statements a rest) =
           let l = lower_statement text called t s n a in
-          two t n.thread l.next.thread _ _ _ _ _ (one t s n sc a) (all t (scope_after text s n.slot a) l.next (behind sc a) rest)
+          two t n.thread l.next.thread _ _ _ _ _ (one t s n sc a) (all t (scope_after text s n.slot a) l.next (after sc a) rest)
 
       maybe : (t : ℕ) (s : List Slot) (n : NextNumbers) (sc : Scope) (a : Perhaps) →
           Adds t n.thread (lower_perhaps text called t s n a).made (lower_perhaps text called t s n a).next.thread (perhaps_placed text tree sc a).below

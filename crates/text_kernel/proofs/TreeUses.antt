@@ -6,7 +6,7 @@ use Rattle.std.proofs.lemmas.Option.{slice_get-get_or}
 use Rattle.forec_tree.specs.declared.tree.Name.{Name}
 use Rattle.forec_tree.specs.declared.uses.How.TheVariants.{Runs, Starts}
 use Rattle.forec_tree.specs.Terms.{Term, count_terms, Statement, Declare, Nothing, Group, Assign, Invoke, If, While, For, Pause, Par, Abort, Return, Statements, no_statements, more_statements, Perhaps, absent, present, Branches, no_branches, by_call, by_group, Text, PlainGlobal, PlainFunction, IsGlobal, IsFunction}
-use Rattle.forec_tree.specs.Scopes.{Scope, no_scope, entered, behind, behind_perhaps, with_name, with_params, is_among, find_item, find_last, meaning}
+use Rattle.forec_tree.specs.Scopes.{Scope, no_scope, entered, after, after_perhaps, with_name, with_params, is_among, find_item, find_last, meaning}
 use Rattle.forec_tree.specs.Findings.{Closes, in_bound, in_term, in_terms, in_optional, in_locals, in_target, in_statement, in_statements, in_perhaps, in_branches, in_params}
 use Rattle.forec_tree.specs.Rules.{Judging, fault_if, is_constant, use_faults, declared_faults, findings_faults}
 use Rattle.forec_tree.specs.Faults.{is_in, in_function, none_before}
@@ -139,7 +139,7 @@ module _ (text : Text) (names : List (List ℕ)) (g : PlainGlobal) (is_item : fi
       starts_void n sc name h f e =
           let r = startable false n (find_last name.id None (sc.outer ++ sc.here)) (find_item name.id text) (good_use j (Starts n) name (meaning text sc name.id) h) f e in r.void
 
-      behind_agree : (sc : Scope) (s : List Slot) (slot : ℕ) (a : Statement) → Agree sc s → OneEach a → findings_faults j (in_statement text sc a) ≡ [] → Agree (behind sc a) (scope_after text s slot a)
+      behind_agree : (sc : Scope) (s : List Slot) (slot : ℕ) (a : Statement) → Agree sc s → OneEach a → findings_faults j (in_statement text sc a) ≡ [] → Agree (after sc a) (scope_after text s slot a)
       behind_agree sc s slot (Declare at locals) m o h = (named.locals_names text j g is_item changes sc s m slot locals o h).1
       behind_agree sc s slot (Nothing at) m o h = m
       behind_agree sc s slot (Group at body) m o h = m
@@ -154,7 +154,7 @@ module _ (text : Text) (names : List (List ℕ)) (g : PlainGlobal) (is_item : fi
       behind_agree sc s slot (Return at value) m o h = m
 
       perhaps_agree : (sc : Scope) (s : List Slot) (slot : ℕ) (a : Perhaps) → Agree sc s → OneIfPresent a → findings_faults j (in_perhaps text sc a) ≡ [] →
-          Agree (behind_perhaps sc a) (scope_after_perhaps text s slot a)
+          Agree (after_perhaps sc a) (scope_after_perhaps text s slot a)
       perhaps_agree sc s slot absent m o h = m
       perhaps_agree sc s slot (present a) m o h = behind_agree sc s slot a m o h
 
@@ -216,8 +216,8 @@ module _ (text : Text) (names : List (List ℕ)) (g : PlainGlobal) (is_item : fi
             let lj = lower_perhaps text called t inside li.next step in
             let last = scope_after_perhaps text inside li.next.slot step in
             let ll = lower_statement text called t last lj.next body in
-            let own = behind_perhaps (entered sc) start in
-            let end_ = entered (behind_perhaps own step) in
+            let own = after_perhaps (entered sc) start in
+            let end_ = entered (after_perhaps own step) in
             let f1 = in_perhaps text (entered sc) start in
             let f2 = in_optional text own test in
             let f3 = in_perhaps text own step in
@@ -240,7 +240,7 @@ module _ (text : Text) (names : List (List ℕ)) (g : PlainGlobal) (is_item : fi
             (behind_same v (vars_in test') (vars_of body') (vars_of lj.stmt ++ vars_of ll.stmt) (step_vars v t inside li.next step ll.stmt)))
             (two _ _ _ _ _ _ (maybe t s n (entered sc) start (entered_agree sc s m) o.0 h1)
             (two (vars_in test') _ [] _ (naming f2) _ (leaf (vars_in test') (globals_in f2) (named.optional_names text j g is_item changes own inside m1 test h2))
-            (two _ _ _ _ _ _ (maybe t inside li.next own step m1 o.1 h3) (one t last lj.next end_ body (entered_agree (behind_perhaps own step) last m2) o.2 h4))))
+            (two _ _ _ _ _ _ (maybe t inside li.next own step m1 o.1 h3) (one t last lj.next end_ body (entered_agree (after_perhaps own step) last m2) o.2 h4))))
         one t s n sc (Pause at) m o h = leaf [] [] refl
         one t s n sc (Par at bs) m o h =
             let from : NextNumbers = record { slot = n.slot; thread = n.thread; par = par_after bs n.par } in
@@ -259,10 +259,10 @@ module _ (text : Text) (names : List (List ℕ)) (g : PlainGlobal) (is_item : fi
         every t s n sc no_statements m o h = leaf [] [] refl
         every t s n sc (more_statements a rest) m o h =
             let l = lower_statement text called t s n a in
-            let ha = parts_left j (in_statement text sc a) (in_statements text (behind sc a) rest) h in
+            let ha = parts_left j (in_statement text sc a) (in_statements text (after sc a) rest) h in
             two _ _ _ _ _ _ (one t s n sc a m o.0 ha)
-            (every t (scope_after text s n.slot a) l.next (behind sc a) rest (behind_agree sc s n.slot a m o.0 ha) o.1
-            (parts_right j (in_statement text sc a) (in_statements text (behind sc a) rest) h))
+            (every t (scope_after text s n.slot a) l.next (after sc a) rest (behind_agree sc s n.slot a m o.0 ha) o.1
+            (parts_right j (in_statement text sc a) (in_statements text (after sc a) rest) h))
 
         maybe : (t : ℕ) (s : List Slot) (n : NextNumbers) (sc : Scope) (a : Perhaps) → Agree sc s → OneIfPresent a → findings_faults j (in_perhaps text sc a) ≡ [] →
             Names (vars_of (lower_perhaps text called t s n a).stmt) (lower_perhaps text called t s n a).made (perhaps_placed text tree sc a)

@@ -3,7 +3,7 @@
 ghost use Rattle.std.specs.Prelude.{◌≡◌, [], ◌∷◌, ◌++◌, map, OnOk};
 ghost use Rattle.forec_tree.specs.Plain as plain;
 ghost use Rattle.forec_tree.specs.Plain.{perhaps_of};
-ghost use Rattle.forec_tree.specs.Scopes.{behind, behind_perhaps, with_locals, with_name, is_array};
+ghost use Rattle.forec_tree.specs.Scopes.{after, after_perhaps, with_locals, with_name, is_array};
 ghost use Rattle.forec_tree.specs.Findings.{in_terms, in_target, in_local, in_locals, in_statement, in_statements, in_optional, in_perhaps, in_branches, in_bound, Synchronous, Gives, Opens, Closes};
 ghost use Rattle.forec_tree.specs.Scopes as scopes;
 ghost use Rattle.forec_check.specs.Views.{judging_in, text_in, scope_of, ExtendsScope, SameScope};
@@ -136,7 +136,7 @@ impl Context<'_, '_> {
     #[cycle(statement)]
     fn statement(&self, scope: &mut Scope, s: &Stmt, notes: &mut Notes) -> Result<(), OutOfMemory>
         ensures notes { OnOk result (notes_of notes.new ≡ walked (judging_in self.now) (in_statement (text_in self.now) (scope_of scope.old) (plain.statement s.now)) (notes_of notes.old)) }
-        ensures scope { OnOk result (scope_of scope.new ≡ behind (scope_of scope.old) (plain.statement s.now)) }
+        ensures scope { OnOk result (scope_of scope.new ≡ after (scope_of scope.old) (plain.statement s.now)) }
         ensures frame { OnOk result (ExtendsScope scope.old scope.new) }
     {
         match &s.what {
@@ -222,7 +222,7 @@ impl Context<'_, '_> {
         notes: &mut Notes,
     ) -> Result<(), OutOfMemory>
         ensures notes { OnOk result (notes_of notes.new ≡ walked (judging_in self.now) (in_perhaps (text_in self.now) (scope_of scope.old) (perhaps_of s.now)) (notes_of notes.old)) }
-        ensures scope { OnOk result (scope_of scope.new ≡ behind_perhaps (scope_of scope.old) (perhaps_of s.now)) }
+        ensures scope { OnOk result (scope_of scope.new ≡ after_perhaps (scope_of scope.old) (perhaps_of s.now)) }
         ensures frame { OnOk result (ExtendsScope scope.old scope.new) }
     {
         match s {

@@ -1,7 +1,7 @@
 use Rattle.std.proofs.Common.{◌≡◌, ◌∙◌, sym, ap, refl, map}
 use Rattle.forec_tree.specs.Plain as plain
 use Rattle.forec_tree.specs.Terms.{Statement}
-use Rattle.forec_tree.specs.Scopes.{entered, behind, behind_perhaps, with_locals}
+use Rattle.forec_tree.specs.Scopes.{entered, after, after_perhaps, with_locals}
 use Rattle.forec_tree.specs.Findings.{in_statement}
 use Rattle.forec_tree.proofs.Rows.{of_kind, of_group, of_abort, of_if, of_for, of_par}
 use Rattle.forec_tree.specs.Plain.{perhaps_of}
@@ -155,8 +155,8 @@ statement-returns-in_ok-scoped_statement-in-For-clause-notes t c =
     let k = notes_of c.args.notes.now in
     let F = λ (x : Statement). walked j (in_statement text s x) k in
     let s1 = c.enter-outer.ensures.scope in
-    let s2 = c.in_ok-optional_statement-in-For.ensures.scope ∙ ap (λ x. behind_perhaps x (perhaps_of c.in-For.start)) s1 in
-    let s3 = c.in_ok-optional_statement-in-For-2.ensures.scope ∙ ap (λ x. behind_perhaps x (perhaps_of c.in-For.step)) s2 in
+    let s2 = c.in_ok-optional_statement-in-For.ensures.scope ∙ ap (λ x. after_perhaps x (perhaps_of c.in-For.start)) s1 in
+    let s3 = c.in_ok-optional_statement-in-For-2.ensures.scope ∙ ap (λ x. after_perhaps x (perhaps_of c.in-For.step)) s2 in
     for_is j text s k (notes_of c.bound-in-For.new.notes) (notes_of c.optional_statement.new.notes) (notes_of c.optional_expression.new.notes)
     (notes_of c.optional_statement-in-For.new.notes) (notes_of c.scoped_statement-in-For.new.notes) _ c.in-For.bound _ _ _ _
     c.bound-in-For.ensures
@@ -197,7 +197,7 @@ statement-returns-in_ok-expression-in-Return-clause-notes t c =
 -- ---- the scope after a statement
 
 pub statement-returns-in-Nothing-clause-scope : goal.statement-returns-in-Nothing-clause-scope
-statement-returns-in-Nothing-clause-scope t c = of_kind (behind (scope_of c.args.scope.now)) c.args.s.now _ c.in-Nothing.is
+statement-returns-in-Nothing-clause-scope t c = of_kind (after (scope_of c.args.scope.now)) c.args.s.now _ c.in-Nothing.is
 
 pub statement-returns-in-Nothing-clause-frame : goal.statement-returns-in-Nothing-clause-frame
 statement-returns-in-Nothing-clause-frame t c = framed_none c.args.scope.now
@@ -205,7 +205,7 @@ statement-returns-in-Nothing-clause-frame t c = framed_none c.args.scope.now
 pub statement-returns-in_ok-block-in-Group-clause-scope : goal.statement-returns-in_ok-block-in-Group-clause-scope
 statement-returns-in_ok-block-in-Group-clause-scope t c =
     same_scope c.args.scope.now c.block.new.scope c.in_ok-block-in-Group.ensures.same
-    ∙ of_group (behind (scope_of c.args.scope.now)) c.args.s.now c.in-Group.body c.as_slice.result.now c.in-Group.is c.as_slice.ensures
+    ∙ of_group (after (scope_of c.args.scope.now)) c.args.s.now c.in-Group.body c.as_slice.result.now c.in-Group.is c.as_slice.ensures
 
 pub statement-returns-in_ok-block-in-Group-clause-frame : goal.statement-returns-in_ok-block-in-Group-clause-frame
 statement-returns-in_ok-block-in-Group-clause-frame t c = same_framed c.args.scope.now c.block.new.scope c.in_ok-block-in-Group.ensures.same
@@ -222,19 +222,19 @@ statement-returns-in_ok-locals-in-Declare-clause-notes t c =
 pub statement-returns-in_ok-locals-in-Declare-clause-scope : goal.statement-returns-in_ok-locals-in-Declare-clause-scope
 statement-returns-in_ok-locals-in-Declare-clause-scope t c =
     let s = scope_of c.args.scope.now in
-    c.in_ok-locals-in-Declare.ensures.scope ∙ ap (λ x. with_locals s (map plain.declared x)) c.as_slice-in-Declare.ensures ∙ of_kind (behind s) c.args.s.now _ c.in-Declare.is
+    c.in_ok-locals-in-Declare.ensures.scope ∙ ap (λ x. with_locals s (map plain.declared x)) c.as_slice-in-Declare.ensures ∙ of_kind (after s) c.args.s.now _ c.in-Declare.is
 
 pub statement-returns-in_ok-locals-in-Declare-clause-frame : goal.statement-returns-in_ok-locals-in-Declare-clause-frame
 statement-returns-in_ok-locals-in-Declare-clause-frame t c = c.in_ok-locals-in-Declare.ensures.frame
 
 pub statement-returns-in_ok-expression-in-Assign-clause-scope : goal.statement-returns-in_ok-expression-in-Assign-clause-scope
-statement-returns-in_ok-expression-in-Assign-clause-scope t c = of_kind (behind (scope_of c.args.scope.now)) c.args.s.now _ c.in-Assign.is
+statement-returns-in_ok-expression-in-Assign-clause-scope t c = of_kind (after (scope_of c.args.scope.now)) c.args.s.now _ c.in-Assign.is
 
 pub statement-returns-in_ok-expression-in-Assign-clause-frame : goal.statement-returns-in_ok-expression-in-Assign-clause-frame
 statement-returns-in_ok-expression-in-Assign-clause-frame t c = framed_none c.args.scope.now
 
 pub statement-returns-in_ok-expressions-in-Call-clause-scope : goal.statement-returns-in_ok-expressions-in-Call-clause-scope
-statement-returns-in_ok-expressions-in-Call-clause-scope t c = of_kind (behind (scope_of c.args.scope.now)) c.args.s.now _ c.in-Call.is
+statement-returns-in_ok-expressions-in-Call-clause-scope t c = of_kind (after (scope_of c.args.scope.now)) c.args.s.now _ c.in-Call.is
 
 pub statement-returns-in_ok-expressions-in-Call-clause-frame : goal.statement-returns-in_ok-expressions-in-Call-clause-frame
 statement-returns-in_ok-expressions-in-Call-clause-frame t c = framed_none c.args.scope.now
@@ -243,7 +243,7 @@ pub statement-returns-in_ok-optional_scoped_statement-in-If-clause-scope : goal.
 statement-returns-in_ok-optional_scoped_statement-in-If-clause-scope t c =
     let old = c.args.scope.now in
     same_scope old c.optional_scoped_statement.new.scope (same_on old c.scoped_statement.new.scope c.optional_scoped_statement.new.scope c.in_ok-scoped_statement-in-If.ensures.same c.in_ok-optional_scoped_statement-in-If.ensures.same)
-    ∙ of_if (behind (scope_of old)) c.args.s.now c.in-If.test c.in-If.yes c.in-If.no c.in-If.is
+    ∙ of_if (after (scope_of old)) c.args.s.now c.in-If.test c.in-If.yes c.in-If.no c.in-If.is
 
 pub statement-returns-in_ok-optional_scoped_statement-in-If-clause-frame : goal.statement-returns-in_ok-optional_scoped_statement-in-If-clause-frame
 statement-returns-in_ok-optional_scoped_statement-in-If-clause-frame t c =
@@ -252,7 +252,7 @@ statement-returns-in_ok-optional_scoped_statement-in-If-clause-frame t c =
 
 pub statement-returns-in_ok-scoped_statement-in-While-clause-scope : goal.statement-returns-in_ok-scoped_statement-in-While-clause-scope
 statement-returns-in_ok-scoped_statement-in-While-clause-scope t c =
-    same_scope c.args.scope.now c.scoped_statement-in-While.new.scope c.in_ok-scoped_statement-in-While.ensures.same ∙ of_kind (behind (scope_of c.args.scope.now)) c.args.s.now _ c.in-While.is
+    same_scope c.args.scope.now c.scoped_statement-in-While.new.scope c.in_ok-scoped_statement-in-While.ensures.same ∙ of_kind (after (scope_of c.args.scope.now)) c.args.s.now _ c.in-While.is
 
 pub statement-returns-in_ok-scoped_statement-in-While-clause-frame : goal.statement-returns-in_ok-scoped_statement-in-While-clause-frame
 statement-returns-in_ok-scoped_statement-in-While-clause-frame t c = same_framed c.args.scope.now c.scoped_statement-in-While.new.scope c.in_ok-scoped_statement-in-While.ensures.same
@@ -263,7 +263,7 @@ statement-returns-in-Pause-clause-notes t c =
     of_statement j (text_in c.args.self.now) (scope_of c.args.scope.now) (notes_of c.args.notes.now) _ c.args.s.now _ c.in-Pause.is c.judge_synchronous.ensures
 
 pub statement-returns-in-Pause-clause-scope : goal.statement-returns-in-Pause-clause-scope
-statement-returns-in-Pause-clause-scope t c = of_kind (behind (scope_of c.args.scope.now)) c.args.s.now _ c.in-Pause.is
+statement-returns-in-Pause-clause-scope t c = of_kind (after (scope_of c.args.scope.now)) c.args.s.now _ c.in-Pause.is
 
 pub statement-returns-in-Pause-clause-frame : goal.statement-returns-in-Pause-clause-frame
 statement-returns-in-Pause-clause-frame t c = framed_none c.args.scope.now
@@ -271,7 +271,7 @@ statement-returns-in-Pause-clause-frame t c = framed_none c.args.scope.now
 pub statement-returns-in_ok-branches-in-Par-clause-scope : goal.statement-returns-in_ok-branches-in-Par-clause-scope
 statement-returns-in_ok-branches-in-Par-clause-scope t c =
     same_scope c.args.scope.now c.branches.new.scope c.in_ok-branches-in-Par.ensures.same
-    ∙ of_par (behind (scope_of c.args.scope.now)) c.args.s.now c.in-Par.list c.as_slice-in-Par.result.now c.in-Par.is c.as_slice-in-Par.ensures
+    ∙ of_par (after (scope_of c.args.scope.now)) c.args.s.now c.in-Par.list c.as_slice-in-Par.result.now c.in-Par.is c.as_slice-in-Par.ensures
 
 pub statement-returns-in_ok-branches-in-Par-clause-frame : goal.statement-returns-in_ok-branches-in-Par-clause-frame
 statement-returns-in_ok-branches-in-Par-clause-frame t c = same_framed c.args.scope.now c.branches.new.scope c.in_ok-branches-in-Par.ensures.same
@@ -279,13 +279,13 @@ statement-returns-in_ok-branches-in-Par-clause-frame t c = same_framed c.args.sc
 pub statement-returns-in_ok-block-in-Abort-clause-scope : goal.statement-returns-in_ok-block-in-Abort-clause-scope
 statement-returns-in_ok-block-in-Abort-clause-scope t c =
     same_scope c.args.scope.now c.block-in-Abort.new.scope c.in_ok-block-in-Abort.ensures.same
-    ∙ of_abort (behind (scope_of c.args.scope.now)) c.args.s.now c.in-Abort.weak c.in-Abort.immediate c.in-Abort.test c.in-Abort.body c.as_slice-in-Abort.result.now c.in-Abort.is c.as_slice-in-Abort.ensures
+    ∙ of_abort (after (scope_of c.args.scope.now)) c.args.s.now c.in-Abort.weak c.in-Abort.immediate c.in-Abort.test c.in-Abort.body c.as_slice-in-Abort.result.now c.in-Abort.is c.as_slice-in-Abort.ensures
 
 pub statement-returns-in_ok-block-in-Abort-clause-frame : goal.statement-returns-in_ok-block-in-Abort-clause-frame
 statement-returns-in_ok-block-in-Abort-clause-frame t c = same_framed c.args.scope.now c.block-in-Abort.new.scope c.in_ok-block-in-Abort.ensures.same
 
 pub statement-returns-in_ok-expression-in-Return-clause-scope : goal.statement-returns-in_ok-expression-in-Return-clause-scope
-statement-returns-in_ok-expression-in-Return-clause-scope t c = of_kind (behind (scope_of c.args.scope.now)) c.args.s.now _ c.in-Return.is
+statement-returns-in_ok-expression-in-Return-clause-scope t c = of_kind (after (scope_of c.args.scope.now)) c.args.s.now _ c.in-Return.is
 
 pub statement-returns-in_ok-expression-in-Return-clause-frame : goal.statement-returns-in_ok-expression-in-Return-clause-frame
 statement-returns-in_ok-expression-in-Return-clause-frame t c = framed_none c.args.scope.now
