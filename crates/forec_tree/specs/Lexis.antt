@@ -158,11 +158,11 @@ abbrev pub IsToClose : List ℕ → Type 0
 IsToClose [] = ⊥
 IsToClose (b ∷ bs) = (b ∷ bs ≡ codes "*/") ⊎ ((take 2 (b ∷ bs) ≡ codes "*/" → ⊥) × IsToClose bs)
 
-pub data IsComment (bytes behind : List ℕ) : Type 0 where
+pub data IsComment (bytes after : List ℕ) : Type 0 where
   -- from `/*` to the next `*/`
-  block : (inner : List ℕ) → bytes ≡ codes "/*" ++ inner → IsToClose inner → IsComment bytes behind
+  block : (inner : List ℕ) → bytes ≡ codes "/*" ++ inner → IsToClose inner → IsComment bytes after
   -- from `//` up to the end of the line or of the text
-  line : (inner : List ℕ) → bytes ≡ codes "//" ++ inner → Each (λ b. not (is_line_end b)) inner → EndsOr is_line_end behind → IsComment bytes behind
+  line : (inner : List ℕ) → bytes ≡ codes "//" ++ inner → Each (λ b. not (is_line_end b)) inner → EndsOr is_line_end after → IsComment bytes after
 
 abbrev pub OpensComment : List ℕ → Type 0
 OpensComment text = (take 2 text ≡ codes "/*") ⊎ (take 2 text ≡ codes "//")
@@ -178,16 +178,16 @@ pub data Piece : Type 0 where
   mark : Mark → Piece
 
 abbrev pub IsBlank : List ℕ → List ℕ → Type 0
-IsBlank bytes behind = ((b : ℕ) × (is_space b ≡ true) × (bytes ≡ b ∷ [])) ⊎ IsComment bytes behind
+IsBlank bytes after = ((b : ℕ) × (is_space b ≡ true) × (bytes ≡ b ∷ [])) ⊎ IsComment bytes after
 
 -- The bytes, with these others after them, are such a piece.
 -- A number is the whole run of letters, `_` and digits; where a comment opens there is no mark, also where the comment isn't closed.
 abbrev pub Fits : Piece → List ℕ → List ℕ → Type 0
-Fits blank bytes behind = IsBlank bytes behind
-Fits name bytes behind = IsName bytes × (IsReserved bytes → ⊥)
-Fits (number int) bytes behind = IsInt bytes int × EndsOr (λ b. not (goes_on b)) behind
-Fits (word w) bytes behind = bytes ≡ letters_of w
-Fits (mark m) bytes behind = (bytes ≡ spelling m) × (OpensComment (bytes ++ behind) → ⊥)
+Fits blank bytes after = IsBlank bytes after
+Fits name bytes after = IsName bytes × (IsReserved bytes → ⊥)
+Fits (number int) bytes after = IsInt bytes int × EndsOr (λ b. not (goes_on b)) after
+Fits (word w) bytes after = bytes ≡ letters_of w
+Fits (mark m) bytes after = (bytes ≡ spelling m) × (OpensComment (bytes ++ after) → ⊥)
 
 -- The first n bytes of the text fit the piece.
 pub record FitsAhead (text : List ℕ) (piece : Piece) (n : ℕ) : Type 0 where

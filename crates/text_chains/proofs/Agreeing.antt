@@ -16,7 +16,7 @@ use Rattle.forec_check.proofs.Tables.{settles_by}
 use Rattle.text_chains.specs.declared.tally.Tally.{Tally}
 use Rattle.text_chains.specs.Tallies as of
 use Rattle.text_chains.proofs.Sums.{both}
-use Rattle.text_chains.specs.Tallies.{nothing, joined, tally_at, tally_step, tally_value, behind, behind_perhaps, hides_params}
+use Rattle.text_chains.specs.Tallies.{nothing, joined, tally_at, tally_step, tally_value, after, after_perhaps, hides_params}
 
 -- ---- tables
 
@@ -68,11 +68,11 @@ module _ (i : ℕ) (value : ℕ → ℕ) (worth : ℕ) (a b : ℕ → Tally) whe
         (both _ _ _ _ (tally_same h x (left a b (started x) (perhaps_started y) w)) (perhaps_same h y (right a b (started x) (perhaps_started y) w)))
     tally_same h (While at test bound body) w = ap (joined (of.of_term i value h test)) (tally_same h body w)
     tally_same h (For at start test step bound body) w =
-        let inside = behind_perhaps i h start in
+        let inside = after_perhaps i h start in
         let rest = right a b (perhaps_started start) (perhaps_started step ++ started body) w in
         both _ _ _ _ (perhaps_same h start (left a b (perhaps_started start) (perhaps_started step ++ started body) w))
         (ap (joined (of.of_optional i value inside test))
-        (both _ _ _ _ (perhaps_same inside step (left a b (perhaps_started step) (started body) rest)) (tally_same (behind_perhaps i inside step) body (right a b (perhaps_started step) (started body) rest))))
+        (both _ _ _ _ (perhaps_same inside step (left a b (perhaps_started step) (started body) rest)) (tally_same (after_perhaps i inside step) body (right a b (perhaps_started step) (started body) rest))))
     tally_same h (Pause at) w = refl
     tally_same h (Par at bs) w = both _ _ _ _ (ap (λ n. of.calling (cond (Rattle.std.proofs.Common.nat_lt 1 n) worth 0)) (naming_same bs w)) (branches_same h bs w)
     tally_same h (Abort at weak immediate test body) w = ap (joined (of.of_term i value h test)) (all_same h body w)
@@ -80,7 +80,7 @@ module _ (i : ℕ) (value : ℕ → ℕ) (worth : ℕ) (a b : ℕ → Tally) whe
 
     all_same : (h : Bool) (s : Statements) → Agree a b (all_started s) → of.all_tally i value worth a h s ≡ of.all_tally i value worth b h s
     all_same h no_statements w = refl
-    all_same h (more_statements x rest) w = both _ _ _ _ (tally_same h x (left a b (started x) (all_started rest) w)) (all_same (behind i h x) rest (right a b (started x) (all_started rest) w))
+    all_same h (more_statements x rest) w = both _ _ _ _ (tally_same h x (left a b (started x) (all_started rest) w)) (all_same (after i h x) rest (right a b (started x) (all_started rest) w))
 
     perhaps_same : (h : Bool) (s : Perhaps) → Agree a b (perhaps_started s) → of.perhaps_tally i value worth a h s ≡ of.perhaps_tally i value worth b h s
     perhaps_same h absent w = refl

@@ -17,7 +17,7 @@ use Rattle.text_kernel.specs.Kernels.{filter_in}
 use Rattle.text_kernel.proofs.NamedVariables.{in_append}
 use Rattle.text_kernel.proofs.Forks.{at, blank_made}
 use Rattle.text_sizes.proofs.Heights.{made_most}
-use Rattle.text_chains.specs.Tallies.{hides, hides_locals, hides_params, behind, behind_perhaps}
+use Rattle.text_chains.specs.Tallies.{hides, hides_locals, hides_params, after, after_perhaps}
 
 -- ---- lists
 
@@ -198,7 +198,7 @@ module _ (i : ℕ) where
   pub seen_params : (ps : List Name) (slot : ℕ) → seen (params_at slot ps) ≡ hides_params i false ps
   seen_params ps slot = params_found ps slot None false refl
 
-  pub seen_behind : (text : Text) (s : List Slot) (slot : ℕ) (a : Statement) (h : Bool) → seen s ≡ h → seen (scope_after text s slot a) ≡ behind i h a
+  pub seen_behind : (text : Text) (s : List Slot) (slot : ℕ) (a : Statement) (h : Bool) → seen s ≡ h → seen (scope_after text s slot a) ≡ after i h a
   seen_behind text s slot (Declare at locals) h e = seen_locals s slot locals h e
   seen_behind text s slot (Nothing at) h e = e
   seen_behind text s slot (Group at body) h e = e
@@ -212,6 +212,6 @@ module _ (i : ℕ) where
   seen_behind text s slot (Abort at weak immediate test body) h e = e
   seen_behind text s slot (Return at value) h e = e
 
-  pub seen_perhaps : (text : Text) (s : List Slot) (slot : ℕ) (a : Perhaps) (h : Bool) → seen s ≡ h → seen (scope_after_perhaps text s slot a) ≡ behind_perhaps i h a
+  pub seen_perhaps : (text : Text) (s : List Slot) (slot : ℕ) (a : Perhaps) (h : Bool) → seen s ≡ h → seen (scope_after_perhaps text s slot a) ≡ after_perhaps i h a
   seen_perhaps text s slot absent h e = e
   seen_perhaps text s slot (present a) h e = seen_behind text s slot a h e

@@ -31,7 +31,7 @@ use Rattle.text_sizes.proofs.Heights.{made_most}
 use Rattle.text_chains.proofs.Parts.{greatest_append, sequence_calls, ends_calls, ends_pars, crossed, or_none, in_again, in_swap, most_again, most_swap, folds, folds_append, folds_swap, thread_measure, SitsIn, sits_left, sits_right, filtered, made_append, in_behind, most_behind, folds_behind, seen, seen_locals, seen_params, seen_behind, seen_perhaps}
 use Rattle.text_chains.specs.declared.tally.Tally.{Tally}
 use Rattle.text_chains.specs.Tallies as of
-use Rattle.text_chains.specs.Tallies.{plus, nothing, naming, calling, taking, joined, whole, started, names, hides, hides_locals, hides_params, behind, behind_perhaps}
+use Rattle.text_chains.specs.Tallies.{plus, nothing, naming, calling, taking, joined, whole, started, names, hides, hides_locals, hides_params, after, after_perhaps}
 
 -- ---- what stands for a name
 
@@ -437,8 +437,8 @@ module _
           let j0 = lower_perhaps text called t scope i0.next step in
           let inner = scope_after_perhaps text scope i0.next.slot step in
           let l0 = lower_statement text called t inner j0.next body in
-          let hidden = behind_perhaps i h start in
-          let deeper = behind_perhaps i hidden step in
+          let hidden = after_perhaps i h start in
+          let deeper = after_perhaps i hidden step in
           let w1 = seen_perhaps i text s n.slot start h w in
           let w2 = seen_perhaps i text scope i0.next.slot step hidden w1 in
           let z1 = sits_right k count n.thread i0.next.thread i0.made (j0.made ++ l0.made) (perhaps_thread t s n start) z in
@@ -481,7 +481,7 @@ module _
           let scope = scope_after text s n.slot a in
           let m = lower_list text called t scope l.next rest in
           two _ _ _ _ _ _ l.made m.made n.slot l.next.slot m.next.slot _ _ (told t s n h a w (sits_left k count n.thread l.made m.made z))
-          (list_told t scope l.next (behind i h a) rest (seen_behind i text s n.slot a h w) (sits_right k count n.thread l.next.thread l.made m.made (one_thread t s n a) z))
+          (list_told t scope l.next (after i h a) rest (seen_behind i text s n.slot a h w) (sits_right k count n.thread l.next.thread l.made m.made (one_thread t s n a) z))
 
       perhaps_told : (t : ℕ) (s : List Slot) (n : NextNumbers) (h : Bool) (a : Perhaps) → seen i s ≡ h → SitsIn k count n.thread (lower_perhaps text called t s n a).made →
           let l = lower_perhaps text called t s n a in Tells (vars_of l.stmt) (stmt_calls l.stmt) (pars_of l.stmt) l.made n.slot l.next.slot (of.perhaps_tally i value worth known h a)

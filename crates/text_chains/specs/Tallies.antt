@@ -54,13 +54,13 @@ module _ (variable : ℕ) where
   hides_params hidden [] = hidden
   hides_params hidden (p ∷ rest) = hides_params (hides hidden p.id) rest
 
-  abbrev pub behind : Bool → Statement → Bool
-  behind hidden (Declare at locals) = hides_locals hidden locals
-  behind hidden _ = hidden
+  abbrev pub after : Bool → Statement → Bool
+  after hidden (Declare at locals) = hides_locals hidden locals
+  after hidden _ = hidden
 
-  abbrev pub behind_perhaps : Bool → Perhaps → Bool
-  behind_perhaps hidden absent = hidden
-  behind_perhaps hidden (present a) = behind hidden a
+  abbrev pub after_perhaps : Bool → Perhaps → Bool
+  after_perhaps hidden absent = hidden
+  after_perhaps hidden (present a) = after hidden a
 
   -- with the words of each int function, by its name
   module _ (value : ℕ → ℕ) where
@@ -118,8 +118,8 @@ module _ (variable : ℕ) where
         tally hidden (If at test a b) = joined (of_term hidden test) (joined (tally hidden a) (perhaps_tally hidden b))
         tally hidden (While at test bound body) = joined (of_term hidden test) (tally hidden body)
         tally hidden (For at start test step bound body) =
-            let inside = behind_perhaps hidden start in
-            joined (perhaps_tally hidden start) (joined (of_optional inside test) (joined (perhaps_tally inside step) (tally (behind_perhaps inside step) body)))
+            let inside = after_perhaps hidden start in
+            joined (perhaps_tally hidden start) (joined (of_optional inside test) (joined (perhaps_tally inside step) (tally (after_perhaps inside step) body)))
         tally hidden (Pause at) = nothing
         tally hidden (Par at bs) = joined (calling (folded (count_naming bs))) (branches_tally hidden bs)
         tally hidden (Abort at weak immediate test body) = joined (of_term hidden test) (all_tally hidden body)
@@ -127,7 +127,7 @@ module _ (variable : ℕ) where
 
         pub all_tally : Bool → Statements → Tally
         all_tally hidden no_statements = nothing
-        all_tally hidden (more_statements a rest) = joined (tally hidden a) (all_tally (behind hidden a) rest)
+        all_tally hidden (more_statements a rest) = joined (tally hidden a) (all_tally (after hidden a) rest)
 
         pub perhaps_tally : Bool → Perhaps → Tally
         perhaps_tally hidden absent = nothing

@@ -21,8 +21,8 @@ struct Spread {
 }
 
 /// Whether the variable is hidden after a statement.
-fn behind(w: &Weights<'_>, hidden: bool, s: &Stmt) -> bool
-    ensures { result ≡ of.behind w.now.variable hidden (plain.statement s.now) }
+fn after(w: &Weights<'_>, hidden: bool, s: &Stmt) -> bool
+    ensures { result ≡ of.after w.now.variable hidden (plain.statement s.now) }
 {
     match &s.what {
         StmtKind::Declare { locals } => hides_locals(w, hidden, locals.as_slice()),
@@ -30,12 +30,12 @@ fn behind(w: &Weights<'_>, hidden: bool, s: &Stmt) -> bool
     }
 }
 
-fn behind_optional(w: &Weights<'_>, hidden: bool, s: &Option<Box<Stmt>>) -> bool
-    ensures { result ≡ of.behind_perhaps w.now.variable hidden (perhaps_of s.now) }
+fn after_optional(w: &Weights<'_>, hidden: bool, s: &Option<Box<Stmt>>) -> bool
+    ensures { result ≡ of.after_perhaps w.now.variable hidden (perhaps_of s.now) }
 {
     match s {
         None => hidden,
-        Some(there) => behind(w, hidden, there),
+        Some(there) => after(w, hidden, there),
     }
 }
 
@@ -79,8 +79,8 @@ fn statement(w: &Weights<'_>, table: &[Tally], hidden: bool, s: &Stmt) -> Tally
             body,
             ..
         } => {
-            let inside = behind_optional(w, hidden, start);
-            let body = statement(w, table, behind_optional(w, inside, step), body);
+            let inside = after_optional(w, hidden, start);
+            let body = statement(w, table, after_optional(w, inside, step), body);
             let turn = joined(optional(w, table, inside, step), body);
             let turned = joined(optional_term(w, inside, test), turn);
             joined(optional(w, table, hidden, start), turned)
@@ -118,7 +118,7 @@ pub fn all(w: &Weights<'_>, table: &[Tally], hidden: bool, list: &[Stmt]) -> Tal
     let mut now_hidden = hidden;
     for s in list {
         total = joined(total, statement(w, table, now_hidden, s));
-        now_hidden = behind(w, now_hidden, s);
+        now_hidden = after(w, now_hidden, s);
     }
     total
 }
