@@ -3,7 +3,7 @@ use Rattle.std.proofs.Common.{◌≡◌, ℕ, ◌+◌, ◌*◌, ◌≤◌, Bool,
 use Rattle.std.specs.List.{fold}
 use Rattle.std.proofs.lemmas.Bool.Decides.{nat_tests}
 use Rattle.forec_tree.specs.Lexis.{is_digit, goes_on, digit_of, is_digit_in, value_in, Each, IsNumber, decimal, octal, hexadecimal}
-use Rattle.forec_lexer.specs.Reading.{value_from, number_of, behind_zero}
+use Rattle.forec_lexer.specs.Reading.{value_from, number_of, after_zero}
 use Rattle.forec_lexer.specs.Reading as reading
 use Rattle.forec_lexer.proofs.Runs.{each_by}
 
@@ -98,7 +98,7 @@ hex_read b x (d ∷ ds) v z m h =
       small = r.small (omega arith);
     }
 
-behind_read : (b : ℕ) (ds : List ℕ) (v : ℕ) → b ≡ 48 → behind_zero ds ≡ Some v → Denoted (b ∷ ds) v
+behind_read : (b : ℕ) (ds : List ℕ) (v : ℕ) → b ≡ 48 → after_zero ds ≡ Some v → Denoted (b ∷ ds) v
 behind_read b [] v z h = octal_read b [] v z h
 behind_read b (x ∷ ds) v z h = by (x == 120 || x == 88) refl h
   where
@@ -110,17 +110,17 @@ behind_read b (x ∷ ds) v z h = by (x == 120 || x == 88) refl h
 pub number_sound : (b : ℕ) (bs : List ℕ) (v : ℕ) → is_digit b ≡ true → number_of (b ∷ bs) ≡ Some v → Denoted (b ∷ bs) v
 number_sound b bs v d h = by (b == 48) refl h
   where
-    by : (t : Bool) → (b == 48) ≡ t → cond t (behind_zero bs) (value_from 10 0 (b ∷ bs)) ≡ Some v → Denoted (b ∷ bs) v
+    by : (t : Bool) → (b == 48) ≡ t → cond t (after_zero bs) (value_from 10 0 (b ∷ bs)) ≡ Some v → Denoted (b ∷ bs) v
     by true e k = behind_read b bs v (grind (arith, nat_tests)) k
     by false e k =
         let r = value_sound 10 0 (b ∷ bs) v k in
         record { number = decimal b bs refl (grind (arith, nat_tests)) (grind (arith, nat_tests)) r.digits.1 r.is; small = r.small (omega arith) }
 
-octal_behind : (ds : List ℕ) → Each (is_digit_in 8) ds → behind_zero ds ≡ value_from 8 0 ds
+octal_behind : (ds : List ℕ) → Each (is_digit_in 8) ds → after_zero ds ≡ value_from 8 0 ds
 octal_behind [] h = refl
 octal_behind (x ∷ ds) h = let e = octal_no_hex x h.0 in rw e
 
-hex_behind : (x d : ℕ) (ds : List ℕ) → (x ≡ 120) ⊎ (x ≡ 88) → behind_zero (x ∷ d ∷ ds) ≡ value_from 16 0 (d ∷ ds)
+hex_behind : (x d : ℕ) (ds : List ℕ) → (x ≡ 120) ⊎ (x ≡ 88) → after_zero (x ∷ d ∷ ds) ≡ value_from 16 0 (d ∷ ds)
 hex_behind x d ds (inl e) = rw e
 hex_behind x d ds (inr e) = rw e
 
@@ -130,7 +130,7 @@ number_complete bytes v (decimal d ds e lo hi h is) s =
     let k : v ≡ total 10 0 (d ∷ ds) = is ∙ ap (value_in 10) e in
     ap number_of e ∙ by k (d == 48) refl ∙ ap some_of (sym k)
   where
-    by : v ≡ total 10 0 (d ∷ ds) → (t : Bool) → (d == 48) ≡ t → cond t (behind_zero ds) (value_from 10 0 (d ∷ ds)) ≡ Some (total 10 0 (d ∷ ds))
+    by : v ≡ total 10 0 (d ∷ ds) → (t : Bool) → (d == 48) ≡ t → cond t (after_zero ds) (value_from 10 0 (d ∷ ds)) ≡ Some (total 10 0 (d ∷ ds))
     by k true f = absurd (grind (arith, nat_tests))
     by k false f = value_complete 10 (λ n. omega arith) 0 (d ∷ ds) (decimal_digit d lo hi, h) (omega (arith, k, s))
 number_complete bytes v (octal ds e h is) s =

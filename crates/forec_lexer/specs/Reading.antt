@@ -63,13 +63,13 @@ abbrev pub hexadecimal : List ℕ → Option ℕ
 hexadecimal [] = None
 hexadecimal (d ∷ ds) = value_from 16 0 (d ∷ ds)
 
-abbrev pub behind_zero : List ℕ → Option ℕ
-behind_zero [] = value_from 8 0 []
-behind_zero (x ∷ ds) = if x == 120 || x == 88 then hexadecimal ds else value_from 8 0 (x ∷ ds)
+abbrev pub after_zero : List ℕ → Option ℕ
+after_zero [] = value_from 8 0 []
+after_zero (x ∷ ds) = if x == 120 || x == 88 then hexadecimal ds else value_from 8 0 (x ∷ ds)
 
 abbrev pub number_of : List ℕ → Option ℕ
 number_of [] = None
-number_of (d ∷ ds) = if d == 48 then behind_zero ds else value_from 10 0 (d ∷ ds)
+number_of (d ∷ ds) = if d == 48 then after_zero ds else value_from 10 0 (d ∷ ds)
 
 -- ---- comments
 

@@ -46,8 +46,8 @@ fn hexadecimal(digits: &[u8]) -> Option<u32>
 }
 
 /// The value of a number whose first digit is 0, by what stands after it.
-fn behind_zero(digits: &[u8]) -> Option<u32>
-    ensures { result ≡ reading.behind_zero digits.now }
+fn after_zero(digits: &[u8]) -> Option<u32>
+    ensures { result ≡ reading.after_zero digits.now }
 {
     if let Some((first, digits)) = digits.split_first()
         && (*first == b'x' || *first == b'X')
@@ -63,7 +63,7 @@ pub fn number_of(run: &[u8]) -> Option<u32>
 {
     let (first, digits) = run.split_first()?;
     if *first == b'0' {
-        return behind_zero(digits);
+        return after_zero(digits);
     }
     value_in(10, run)
 }
