@@ -18,7 +18,7 @@ use Rattle.expr_parser.specs.declared.meaning.Behind.TheVariants as follow
 use Rattle.expr_parser.specs.declared.fault.Fault.{Fault}
 use Rattle.expr_parser.specs.declared.fault.Fault.TheVariants.{Deep}
 use Rattle.expr_parser.specs.Input.{Input, input, Parser, Outcome, and_then, ◌>>=◌, pure, kind_ahead}
-use Rattle.expr_parser.specs.Meaning.{start_of, infix_of, behind_of, binds, is_fixed}
+use Rattle.expr_parser.specs.Meaning.{start_of, infix_of, after_of, binds, is_fixed}
 use Rattle.expr_parser.specs.Reading as reading
 use Rattle.expr_parser.specs.Reading.{ahead, expr, climb, prefix, operation, close}
 use Rattle.expr_parser.proofs.Spans.{tokens_append, longer, first, first-is}
@@ -31,7 +31,7 @@ use Rattle.expr_parser.proofs.ExpressionSound.{sound, a_value, a_bracketed, an_i
 pub record EndsLevel (m : ℕ) (k : Option TokenKind) : Type 0 where
   pub tight : binds (infix_of k) ≤ m
   pub right : m ≤ 1 → binds (infix_of k) ≡ 0
-  pub alone : behind_of k ≡ follow.Nothing
+  pub alone : after_of k ≡ follow.Nothing
 
 pub halts : (m : ℕ) (k : Option TokenKind) → ends k ≡ true → EndsLevel m k
 halts m k h = let e = ends_ahead k h in record { tight = omega (arith, e); right = λ _. e; alone = ends_behind k h }
@@ -271,7 +271,7 @@ module _ (limit : ℕ) where
       prefix_arrives d n' _ refl p
 
   named_ok : (d v id : ℕ) (t : Token) (x : Term) (ls : List Spelt) (rest : List Token) → IsName id t
-      → Reading limit (λ i. reading.named_by limit (expr limit d) (behind_of (kind_ahead i.rest)) (sp.name_at id t.place) i) v x v ls (kind_ahead rest)
+      → Reading limit (λ i. reading.named_by limit (expr limit d) (after_of (kind_ahead i.rest)) (sp.name_at id t.place) i) v x v ls (kind_ahead rest)
       → Follows limit x v (at t v ∷ ls) rest (prefix limit (expr limit d) (input (t ∷ (tokens ls ++ rest)) v))
   unfolding prefix
   named_ok d v id t x ls rest h r =
@@ -282,7 +282,7 @@ module _ (limit : ℕ) where
   c_read : (n v id : ℕ) (t : Token) → IsName id t → Completes n (plain.Read t.place (name_at id t.place)) v (at t v ∷ []) v
   c_read n v id t h d n' rest deep pos le stops =
       prefix_arrives d n' _ refl (named_ok d v id t (plain.Read t.place (name_at id t.place)) [] rest h (reading (λ after e.
-      let k : behind_of (kind_ahead after) ≡ follow.Nothing = ap behind_of e ∙ stops.alone in rw k comes)))
+      let k : after_of (kind_ahead after) ≡ follow.Nothing = ap after_of e ∙ stops.alone in rw k comes)))
 
   abbrev IndexReads : Term → ℕ → List Spelt → Type 0
   IndexReads x v ls = (d : ℕ) (k : Option TokenKind) → limit ≤ d + v → Reading limit (reading.indexed limit (expr limit d)) v x v ls k
@@ -335,7 +335,7 @@ module _ (limit : ℕ) where
   c_element n v id t index ls h c f d n' rest deep pos le stops =
       let whole = plain.Element t.place (name_at id t.place) index in
       prefix_arrives d n' _ refl (named_ok d v id t whole ls rest h (reading (λ after e.
-      let k : behind_of (kind_ahead (tokens ls ++ after)) ≡ follow.Index = ap behind_of (first-is ls after ∙ f (kind_ahead after)) in
+      let k : after_of (kind_ahead (tokens ls ++ after)) ≡ follow.Index = ap after_of (first-is ls after ∙ f (kind_ahead after)) in
       let r = (map_to (λ x. plain.Element t.place (name_at id t.place) x) (indexed_by limit (expr limit d) (sound limit d))).complete v v whole ls after (mapped (c d (kind_ahead after) deep)) in
       rw k r)))
 
@@ -344,7 +344,7 @@ module _ (limit : ℕ) where
   c_call n v id t args ls h c f d n' rest deep pos le stops =
       let whole = plain.Call t.place (name_at id t.place) (listed args) in
       prefix_arrives d n' _ refl (named_ok d v id t whole ls rest h (reading (λ after e.
-      let k : behind_of (kind_ahead (tokens ls ++ after)) ≡ follow.Arguments = ap behind_of (first-is ls after ∙ f (kind_ahead after)) in
+      let k : after_of (kind_ahead (tokens ls ++ after)) ≡ follow.Arguments = ap after_of (first-is ls after ∙ f (kind_ahead after)) in
       let r = (map_to (λ xs. plain.Call t.place (name_at id t.place) (listed xs)) (passed_by limit (expr limit d) (sound limit d))).complete v v whole ls after (mapped (c d (kind_ahead after) deep)) in
       rw k r)))
 
@@ -373,7 +373,7 @@ module _ (limit : ℕ) where
   c_binary n v w x t a b ls rs op top ca ht cb grows d n' rest deep pos le stops =
       let tail = tokens rs ++ rest in
       let k : infix_of (Some t.kind) ≡ inf.Joins op = rw ht (mark_infix op) in
-      let q : behind_of (Some t.kind) ≡ follow.Nothing = rw ht (mark_behind op) in
+      let q : after_of (Some t.kind) ≡ follow.Nothing = rw ht (mark_behind op) in
       let same : binds (infix_of (Some t.kind)) ≡ level_of op = ap binds k in
       let two = level_bounds op in
       let halt : EndsLevel (level_of op) (Some t.kind) = record { tight = omega arith; right = λ h. absurd (omega (arith, two.0)); alone = q } in
@@ -393,7 +393,7 @@ module _ (limit : ℕ) where
       let last = tokens rs ++ rest in
       let tail = tokens (ms ++ (at colon x ∷ rs)) ++ rest in
       let k : binds (infix_of (Some t.kind)) ≡ 1 = rw ht in
-      let q : behind_of (Some t.kind) ≡ follow.Nothing = rw ht in
+      let q : after_of (Some t.kind) ≡ follow.Nothing = rw ht in
       let e1 : ends (Some colon.kind) ≡ true = rw hc in
       let halt : EndsLevel 2 (Some t.kind) = record { tight = omega arith; right = λ h. absurd (omega arith); alone = q } in
       let none : binds (infix_of (kind_ahead rest)) ≡ 0 = stops.right (omega arith) in

@@ -22,7 +22,7 @@ use Rattle.expr_parser.specs.declared.meaning.Infix.TheVariants as inf
 use Rattle.expr_parser.specs.declared.meaning.Behind.{Behind}
 use Rattle.expr_parser.specs.declared.meaning.Behind.TheVariants as follow
 use Rattle.expr_parser.specs.Input.{Input, Parser, and_then, kind_ahead, raise}
-use Rattle.expr_parser.specs.Meaning.{start_of, infix_of, behind_of, binds}
+use Rattle.expr_parser.specs.Meaning.{start_of, infix_of, after_of, binds}
 use Rattle.expr_parser.specs.Reading as reading
 use Rattle.expr_parser.specs.Reading.{infix_at, ahead, number, expr, climb, prefix, prefix_by, named_by, operation, operation_by}
 use Rattle.expr_parser.proofs.Spans.{first, step, ok_of, ok_pair, Raised, raised}
@@ -220,9 +220,9 @@ module _ (limit : ℕ) where
     pub bracketed_by : Exact limit (reading.bracketed limit ex) (Part Any Brackets) (Reading limit (reading.bracketed limit ex))
     bracketed_by = by_reading a_bracketed.sound
 
-    pub a_named : Exact limit (reading.named limit ex) (At 12) (Bind (Part Any NameIs) (λ n. Reading limit (λ i. named_by limit ex (behind_of (kind_ahead i.rest)) n i)))
+    pub a_named : Exact limit (reading.named limit ex) (At 12) (Bind (Part Any NameIs) (λ n. Reading limit (λ i. named_by limit ex (after_of (kind_ahead i.rest)) n i)))
     unfolding reading.named
-    a_named = convert (λ v w x ls k q. named_of q) (λ v w x ls k q. q) (bind (a_name limit) (λ n. by_reading (λ i j x small h. behind_by n (behind_of (kind_ahead i.rest)) i j x small h)))
+    a_named = convert (λ v w x ls k q. named_of q) (λ v w x ls k q. q) (bind (a_name limit) (λ n. by_reading (λ i j x small h. behind_by n (after_of (kind_ahead i.rest)) i j x small h)))
 
     prefix_of : (s : Start) (i j : Input) (x : Term) → Begins (kind_ahead i.rest) s → i.level ≤ limit → prefix_by limit ex s i ≡ Ok (x, j) → Read limit (At 12) x i j
     prefix_of beg.Literal i j x b small h = read_as ((map_to (λ n. plain.Num n.place n.value) (a_number limit)).sound i j x small h) (λ ls e q. literal_of q)

@@ -11,7 +11,7 @@ use Rattle.expr_parser.specs.declared.meaning.Infix.TheVariants as inf
 use Rattle.expr_parser.specs.declared.meaning.Behind.{Behind}
 use Rattle.expr_parser.specs.declared.meaning.Behind.TheVariants as follow
 use Rattle.expr_parser.specs.Input.{Parser}
-use Rattle.expr_parser.specs.Meaning.{start_of, infix_of, behind_of, binds}
+use Rattle.expr_parser.specs.Meaning.{start_of, infix_of, after_of, binds}
 use Rattle.expr_parser.specs.Reading as reading
 use Rattle.expr_parser.specs.Reading.{named_by, prefix_by, operation_by, climb, expr}
 use Rattle.expr_parser.proofs.Steady.{too_deep, deep, Limits, less_deep, Steady, Loops, bind, scope, done, refused, by_kind, either, raised, closed, enclosing, loosely, exhausted, named, numbered, looping, listing}
@@ -49,7 +49,7 @@ module _ {E : Type 0} (k l : ℕ) (le : Limits E k l) (p q : ℕ → Parser Term
 
   named_steady : Steady E 1 (reading.named k p) (reading.named l q)
   unfolding reading.named
-  named_steady = bind named (λ n. by_kind (λ c. named_by k p (behind_of c) n) (λ c. named_by l q (behind_of c) n) (λ c. named_by_steady (behind_of c) n))
+  named_steady = bind named (λ n. by_kind (λ c. named_by k p (after_of c) n) (λ c. named_by l q (after_of c) n) (λ c. named_by_steady (after_of c) n))
 
   prefix_by_steady : (s : Start) → Steady E 1 (prefix_by k p s) (prefix_by l q s)
   prefix_by_steady beg.Literal = bind numbered (λ n. done _)

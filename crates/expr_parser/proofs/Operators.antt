@@ -16,7 +16,7 @@ use Rattle.expr_parser.specs.declared.meaning.Start.TheVariants as beg
 use Rattle.expr_parser.specs.declared.meaning.Infix.{Infix}
 use Rattle.expr_parser.specs.declared.meaning.Infix.TheVariants as inf
 use Rattle.expr_parser.specs.declared.meaning.Behind.TheVariants as follow
-use Rattle.expr_parser.specs.Meaning.{start_of, infix_of, behind_of, binds, is_fixed}
+use Rattle.expr_parser.specs.Meaning.{start_of, infix_of, after_of, binds, is_fixed}
 pub use Rattle.expr_parser.specs.Meaning.{ends}
 
 -- ---- backwards
@@ -91,7 +91,7 @@ mark_infix (oper.Computes bin.Mul) = refl
 mark_infix (oper.Computes bin.Div) = refl
 mark_infix (oper.Computes bin.Rem) = refl
 
-pub mark_behind : (op : Operator) → behind_of (Some (kind.Mark (mark_of op))) ≡ follow.Nothing
+pub mark_behind : (op : Operator) → after_of (Some (kind.Mark (mark_of op))) ≡ follow.Nothing
 mark_behind oper.Or = refl
 mark_behind oper.And = refl
 mark_behind (oper.Computes bin.BitOr) = refl
@@ -150,7 +150,7 @@ ends_ahead (Some (kind.Mark mark.Semicolon)) h = refl
 ends_ahead (Some (kind.Mark mark.Colon)) h = refl
 ends_ahead _ h = absurd (cc)
 
-pub ends_behind : (k : Option TokenKind) → ends k ≡ true → behind_of k ≡ follow.Nothing
+pub ends_behind : (k : Option TokenKind) → ends k ≡ true → after_of k ≡ follow.Nothing
 ends_behind (Some (kind.Mark mark.RightRound)) h = refl
 ends_behind (Some (kind.Mark mark.RightSquare)) h = refl
 ends_behind (Some (kind.Mark mark.RightCurly)) h = refl

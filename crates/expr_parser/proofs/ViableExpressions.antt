@@ -21,7 +21,7 @@ use Rattle.expr_parser.specs.declared.meaning.Infix.TheVariants as inf
 use Rattle.expr_parser.specs.declared.meaning.Behind.{Behind}
 use Rattle.expr_parser.specs.declared.meaning.Behind.TheVariants as follow
 use Rattle.expr_parser.specs.Input.{Input, Parser, and_then, kind_ahead, raise}
-use Rattle.expr_parser.specs.Meaning.{start_of, infix_of, behind_of, binds}
+use Rattle.expr_parser.specs.Meaning.{start_of, infix_of, after_of, binds}
 use Rattle.expr_parser.specs.Reading as reading
 use Rattle.expr_parser.specs.Reading.{infix_at, ahead, expr, climb, prefix, prefix_by, named_by, operation, operation_by}
 use Rattle.expr_parser.proofs.Spans.{first, ok_of}
@@ -174,8 +174,8 @@ module _ (limit : ℕ) where
 
       -- ---- operands
 
-      behind_at : {k : Option TokenKind} (n : Name) → Viable limit low (λ i. named_by limit ex (behind_of (kind_ahead i.rest)) n i) (Behind_name n) k k
-      behind_at {k} n = record { refused = λ i e deep small h. of (behind_of (kind_ahead i.rest)) i e deep small h; least = λ v. record { value = plain.Read n.place n; last = v; tokens = []; spells = by_nothing; begins = refl } }
+      behind_at : {k : Option TokenKind} (n : Name) → Viable limit low (λ i. named_by limit ex (after_of (kind_ahead i.rest)) n i) (Behind_name n) k k
+      behind_at {k} n = record { refused = λ i e deep small h. of (after_of (kind_ahead i.rest)) i e deep small h; least = λ v. record { value = plain.Read n.place n; last = v; tokens = []; spells = by_nothing; begins = refl } }
         where
           of : (f : Behind) (i : Input) (e : Fault) → low ≤ i.level → i.level ≤ limit → named_by limit ex f n i ≡ Err e → Refused limit (Behind_name n) k i e
           of follow.Index i e deep small h =

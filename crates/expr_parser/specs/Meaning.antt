@@ -135,10 +135,10 @@ infix_of (Some (kind.Mark mark.Percent)) = inf.Joins (oper.Computes bin.Rem)
 infix_of (Some (kind.Mark mark.Question)) = inf.Question
 infix_of _ = inf.Nothing
 
-abbrev pub behind_of : Option TokenKind → Behind
-behind_of (Some (kind.Mark mark.LeftSquare)) = follow.Index
-behind_of (Some (kind.Mark mark.LeftRound)) = follow.Arguments
-behind_of _ = follow.Nothing
+abbrev pub after_of : Option TokenKind → Behind
+after_of (Some (kind.Mark mark.LeftSquare)) = follow.Index
+after_of (Some (kind.Mark mark.LeftRound)) = follow.Arguments
+after_of _ = follow.Nothing
 
 abbrev pub binds : Infix → ℕ
 binds (inf.Joins op) = spelling.level_of op

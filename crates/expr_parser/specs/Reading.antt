@@ -17,7 +17,7 @@ use Rattle.expr_parser.specs.declared.meaning.Infix.TheVariants as inf
 use Rattle.expr_parser.specs.declared.meaning.Behind.{Behind}
 use Rattle.expr_parser.specs.declared.meaning.Behind.TheVariants as follow
 use Rattle.expr_parser.specs.Input.{Input, Parser, ◌>>=◌, ◌>>◌, pure, refuse, scoped, kind_ahead, take, raise}
-use Rattle.expr_parser.specs.Meaning.{name_of, number_of, start_of, infix_of, behind_of, binds, is_fixed}
+use Rattle.expr_parser.specs.Meaning.{name_of, number_of, start_of, infix_of, after_of, binds, is_fixed}
 
 -- whether the next token is this one
 abbrev pub next_is : Fixed → Input → Bool
@@ -104,7 +104,7 @@ module _ (limit : ℕ) (expr : ℕ → Parser Term) where
   unfoldable pub named : Parser Term
   named = do
     n ← name
-    (λ i. named_by (behind_of (kind_ahead i.rest)) n i)
+    (λ i. named_by (after_of (kind_ahead i.rest)) n i)
 
   abbrev pub prefix_by : Start → Parser Term
   prefix_by beg.Literal = do

@@ -8,7 +8,7 @@ ghost use Rattle.expr_parser.specs.Reading as spec;
 
 use crate::fault::Fault;
 use crate::fixed::Fixed;
-use crate::meaning::{Behind, Infix, Start, behind_of, binds, infix_of, level_of, start_of};
+use crate::meaning::{Behind, Infix, Start, after_of, binds, infix_of, level_of, start_of};
 use crate::nodes;
 use crate::tokens::Tokens;
 use forec_tree::Expr;
@@ -123,7 +123,7 @@ fn named(alloc: Global, tokens: &mut Tokens<'_>, depth: usize) -> Result<Box<Exp
     ensures stands { IfErr result (λ e. StandsAt e tokens.new) }
 {
     let name = tokens.name()?;
-    match behind_of(tokens.kind()) {
+    match after_of(tokens.kind()) {
         Behind::Index => {
             let index = indexed(alloc, tokens, depth)?;
             Ok(nodes::boxed(alloc, nodes::element(name, index))?)

@@ -123,7 +123,7 @@ pub fn infix_of(kind: Option<TokenKind>) -> Infix
 }
 
 fn behind_mark(mark: Mark) -> Behind
-    ensures { result ≡ spec.behind_of (Some (TokenKind.Mark mark)) }
+    ensures { result ≡ spec.after_of (Some (TokenKind.Mark mark)) }
 {
     match mark {
         Mark::LeftSquare => Behind::Index,
@@ -133,8 +133,8 @@ fn behind_mark(mark: Mark) -> Behind
 }
 
 /// What the token begins after a name.
-pub fn behind_of(kind: Option<TokenKind>) -> Behind
-    ensures { result ≡ spec.behind_of kind }
+pub fn after_of(kind: Option<TokenKind>) -> Behind
+    ensures { result ≡ spec.after_of kind }
 {
     match kind {
         Some(TokenKind::Mark { mark }) => behind_mark(mark),
