@@ -99,7 +99,7 @@ module _ (n : ℕ) where
   of_simple : {v : ℕ} {x : Statement} {ls : List Spelt} → Simple x v ls → AreLow ls → AreBelow (statement_names x)
   of_simple (st.sets {target = target} t {value = e} {ts = ts} s is r) h = assigned target e (of_target s (front ts _ h)) (of_whole r (behind ts _ h).1)
   of_simple (st.updates {target = target} t {value = e} {ts = ts} op s is r) h = assigned target e (of_target s (front ts _ h)) (of_whole r (behind ts _ h).1)
-  of_simple (st.steps_behind {target = target} t {ts = ts} op s is) h = assigned target (Num t.place (pos 1)) (of_target s (front ts _ h)) tt
+  of_simple (st.steps_after {target = target} t {ts = ts} op s is) h = assigned target (Num t.place (pos 1)) (of_target s (front ts _ h)) tt
   of_simple (st.steps_ahead {target = target} {t = t} op is s) h = assigned target (Num t.place (pos 1)) (of_target s h.1) tt
   of_simple (st.invokes id is s) h = (h.0 id is, of_passed s h.1)
 

@@ -11,7 +11,7 @@ use Rattle.forec_tree.specs.Terms as plain
 use Rattle.forec_tree.specs.Terms.{Term, Written, Statement}
 use Rattle.forec_tree.specs.Spelling.{Spelt, at, IsMark, IsName, name_at, listed, Whole, Brackets, Indexes, Passes, Arguments}
 use Rattle.forec_tree.specs.Parts.{op_at, updates_by, steps_by, written_at}
-use Rattle.forec_tree.specs.SpelledStatements.{IsUpdate, IsStep, Separated, last_part, next_part, Targets, scalar, indexed, Simple, sets, updates, steps_behind, steps_ahead, invokes}
+use Rattle.forec_tree.specs.SpelledStatements.{IsUpdate, IsStep, Separated, last_part, next_part, Targets, scalar, indexed, Simple, sets, updates, steps_after, steps_ahead, invokes}
 use Rattle.expr_parser.specs.declared.fixed.Fixed.TheVariants as fixed
 use Rattle.forec_parser.specs.declared.meaning.Change.{Change}
 use Rattle.forec_parser.specs.declared.meaning.Change.TheVariants as change
@@ -258,10 +258,10 @@ module _ (limit : ℕ) where
   named_of (both (part (name_is id h) c) (on e (mapped (part s d)))) = part (invokes id h s) tt
   named_of (both (part (name_is id h) c) (off e (both (part no_index d) (part (by_set m s) f)))) = part (sets _ (scalar id h) m s) tt
   named_of (both (part (name_is id h) c) (off e (both (part no_index d) (part (by_update op m s) f)))) = part (updates _ op (scalar id h) m s) tt
-  named_of (both (part (name_is id h) c) (off e (both (part no_index d) (part (by_step op m) f)))) = part (steps_behind _ op (scalar id h) m) tt
+  named_of (both (part (name_is id h) c) (off e (both (part no_index d) (part (by_step op m) f)))) = part (steps_after _ op (scalar id h) m) tt
   named_of (both (part (name_is id h) c) (off e (both (part (some_index r) d) (part (by_set m s) f)))) = part (sets _ (indexed id h r) m s) tt
   named_of (both (part (name_is id h) c) (off e (both (part (some_index r) d) (part (by_update op m s) f)))) = part (updates _ op (indexed id h r) m s) tt
-  named_of (both (part (name_is id h) c) (off e (both (part (some_index r) d) (part (by_step op m) f)))) = part (steps_behind _ op (indexed id h r) m) tt
+  named_of (both (part (name_is id h) c) (off e (both (part (some_index r) d) (part (by_step op m) f)))) = part (steps_after _ op (indexed id h r) m) tt
 
   abbrev pub stepped_to : OpAt → Written → Statement
   stepped_to op target = plain.Assign op.place target (Some op) (plain.Num op.place (pos 1))
@@ -311,8 +311,8 @@ module _ (limit : ℕ) where
   simple_reads (sets t (indexed id h r) m s) small e = index_changed id h r (rw m) (set_reads m s small e)
   simple_reads (updates t op (scalar id h) m s) small e = scalar_changed id h (update_round t.kind op m) (update_square t.kind op m) (update_changed op m s small e)
   simple_reads (updates t op (indexed id h r) m s) small e = index_changed id h r (update_square t.kind op m) (update_changed op m s small e)
-  simple_reads (steps_behind t op (scalar id h) m) small e = scalar_changed id h (step_round t.kind op m) (step_square t.kind op m) (step_changed op m)
-  simple_reads (steps_behind t op (indexed id h r) m) small e = index_changed id h r (step_square t.kind op m) (step_changed op m)
+  simple_reads (steps_after t op (scalar id h) m) small e = scalar_changed id h (step_round t.kind op m) (step_square t.kind op m) (step_changed op m)
+  simple_reads (steps_after t op (indexed id h r) m) small e = index_changed id h r (step_square t.kind op m) (step_changed op m)
   simple_reads {k = k} (steps_ahead {t = t} op h s) small n = reading (λ rest e.
       let c : act_of (Some t.kind) ≡ act.Steps = step_acts t.kind op h in
       rw c (read_at (reads_by a_stepped (both (step_reads (op_is op h)) (mapped (target_reads s (ends_square k n))))) rest e))
@@ -329,6 +329,6 @@ module _ (limit : ℕ) where
   pub simple_first : {v : ℕ} {x : Statement} {ls : List Spelt} → Simple x v ls → ActsFirst ls
   simple_first (sets t s m e) = target_first s _
   simple_first (updates t op s m e) = target_first s _
-  simple_first (steps_behind t op s m) = target_first s _
+  simple_first (steps_after t op s m) = target_first s _
   simple_first (steps_ahead {t = t} op h s) = step_first t.kind op h
   simple_first (invokes id h s) = rw h

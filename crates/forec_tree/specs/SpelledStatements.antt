@@ -39,7 +39,7 @@ pub data Simple : Statement → ℕ → List Spelt → Type 0 where
   updates : {v : ℕ} {target : Written} (t : Token) {value : Term} {ts ls : List Spelt} (op : Binary) → Targets target v ts → IsUpdate op t → Whole value v ls
       → Simple (plain.Assign target.name.place target (Some (op_at op t.place)) value) v (ts ++ (at t v ∷ ls))
   -- `x++` and `x--`; the number 1 stands at the mark
-  steps_behind : {v : ℕ} {target : Written} (t : Token) {ts : List Spelt} (op : Binary) → Targets target v ts → IsStep op t
+  steps_after : {v : ℕ} {target : Written} (t : Token) {ts : List Spelt} (op : Binary) → Targets target v ts → IsStep op t
       → Simple (plain.Assign target.name.place target (Some (op_at op t.place)) (plain.Num t.place (pos 1))) v (ts ++ (at t v ∷ []))
   -- `++x` and `--x`
   steps_ahead : {v : ℕ} {target : Written} {t : Token} {ts : List Spelt} (op : Binary) → IsStep op t → Targets target v ts

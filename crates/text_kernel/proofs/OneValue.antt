@@ -5,7 +5,7 @@ use Rattle.forec_tree.specs.declared.token.Token.{Token}
 use Rattle.forec_tree.specs.Terms.{Terms, no_terms, more_terms, Declared, Statement, Declare, Nothing, Group, Assign, Invoke, If, While, For, Pause, Par, Abort, Return, Statements, no_statements, more_statements, Perhaps, absent, present, Branches, no_branches, by_call, by_group, Text, PlainItem, PlainGlobal, PlainFunction, IsGlobal, IsFunction}
 use Rattle.forec_tree.specs.Spelling.{Spelt}
 use Rattle.forec_tree.specs.Parts.{in_order, Launch, launched_before, launched, Head}
-use Rattle.forec_tree.specs.SpelledStatements.{Separated, last_part, next_part, Simple, sets, updates, steps_behind, steps_ahead, invokes, Declares, bare, valued, array, valued_array, LoopStarts, no_start, simple_start, declared_start, Steps, no_step, some_step, HeadParts, head_parts, Heads, heads, Says, acts, group, declares, if_alone, if_else, loops, counts, pauses, forks, aborts, gives_back, Block, block, Lists, no_more, and_more, Forks, forked, Starting, bare_call, call, blocked, Launches, last_branch, next_branch}
+use Rattle.forec_tree.specs.SpelledStatements.{Separated, last_part, next_part, Simple, sets, updates, steps_after, steps_ahead, invokes, Declares, bare, valued, array, valued_array, LoopStarts, no_start, simple_start, declared_start, Steps, no_step, some_step, HeadParts, head_parts, Heads, heads, Says, acts, group, declares, if_alone, if_else, loops, counts, pauses, forks, aborts, gives_back, Block, block, Lists, no_more, and_more, Forks, forked, Starting, bare_call, call, blocked, Launches, last_branch, next_branch}
 use Rattle.forec_tree.specs.SpelledStatements as says
 use Rattle.forec_tree.specs.SpelledPrograms.{Introduces, constants, inputs, outputs, globals, shares, function, Programs, no_items, more_items, IsSpelled}
 use Rattle.forec_tree.specs.Faults.{Member, here, later}
@@ -59,7 +59,7 @@ ScalarsHaveOneValue text = (f : PlainFunction) → Member (IsFunction f) text �
 simple_one : {x : Statement} {v : ℕ} {ls : List Spelt} → Simple x v ls → OneEach x
 simple_one (sets t a m w) = tt
 simple_one (updates t op a m w) = tt
-simple_one (steps_behind t op a m) = tt
+simple_one (steps_after t op a m) = tt
 simple_one (steps_ahead op m a) = tt
 simple_one (invokes id n p) = tt
 
