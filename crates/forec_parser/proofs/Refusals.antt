@@ -56,10 +56,10 @@ joined_front a t front behind e = tokens_join front behind ∙ ap (λ z. z ++ to
 -- No program of any level begins with the tokens up to the refused one.
 pub no_front : (k : ℕ) (a x : List Token) (t : Token) → items k (input (a ++ (t ∷ x)) 0) ≡ Err (Syntax (suc (length x))) → IsFront (a ++ (t ∷ [])) → ⊥
 no_front k a x t e f =
-    let all : List Spelt = f.front ++ f.behind in
-    let behind : List Token = tokens f.behind in
+    let all : List Spelt = f.front ++ f.after in
+    let behind : List Token = tokens f.after in
     let b = bounded all in
-    let same : tokens all ≡ a ++ (t ∷ behind) = joined_front a t f.front f.behind f.are in
+    let same : tokens all ≡ a ++ (t ∷ behind) = joined_front a t f.front f.after f.are in
     let s : IsSpelled (k + b.limit) f.program (a ++ (t ∷ behind)) = record { spelt = all; spells = f.spells; are = same; within = within_more b.limit (k + b.limit) all (omega arith) b.within } in
     let r : items (k + b.limit) (input (a ++ (t ∷ behind)) 0) ≡ Ok (f.program, input [] 0) = read_back (k + b.limit) f.program (a ++ (t ∷ behind)) s in
     let n : items (k + b.limit) (input (a ++ (t ∷ behind)) 0) ≡ Err (Syntax (suc (length behind))) = stays_refused k (k + b.limit) (omega arith) a (t ∷ x) (t ∷ behind) same_token e in
@@ -79,19 +79,19 @@ pub no_front_within : (k : ℕ) (a x : List Token) (t : Token) → items k (inpu
 no_front_within k a x t e f = by (items k (input (tokens all) 0)) refl (follows k f.program all f.spells)
   where
     all : List Spelt
-    all = f.front ++ f.behind
+    all = f.front ++ f.after
 
     behind : List Token
-    behind = tokens f.behind
+    behind = tokens f.after
 
     fails : items k (input (tokens all) 0) ≡ Err (Deep (suc (length behind)))
     fails =
         let P : List Token → Type 0 = λ z. items k (input z 0) ≡ Err (Deep (suc (length behind))) in
-        subst P (sym (joined_front a t f.front f.behind f.are)) (stays_deep k a (t ∷ x) (t ∷ behind) same_token e)
+        subst P (sym (joined_front a t f.front f.after f.are)) (stays_deep k a (t ∷ x) (t ∷ behind) same_token e)
 
     by : (o : Outcome Text) → items k (input (tokens all) 0) ≡ o → Follows k f.program 0 all [] o → ⊥
     by o e comes = let both = sym e ∙ fails in cc
     by o e (too_high {l} u) =
         let both = sym e ∙ fails in
         let same : l ≡ suc (length behind) = cc in
-        above_behind f.front f.behind u f.within (omega (arith, same, ap length (append-nil behind)))
+        above_behind f.front f.after u f.within (omega (arith, same, ap length (append-nil behind)))

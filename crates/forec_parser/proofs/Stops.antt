@@ -49,17 +49,17 @@ take_one (s ∷ a) x t = ap (λ z. s ∷ z) (take_one a x t)
 
 -- ---- fronts of fronts
 
-split_spells : {program : Text} (n : ℕ) (front behind : List Spelt) → Programs program 0 (front ++ behind) → Programs program 0 (take n front ++ (drop n front ++ behind))
-split_spells {program} n front behind s =
+split_spells : {program : Text} (n : ℕ) (front after : List Spelt) → Programs program 0 (front ++ after) → Programs program 0 (take n front ++ (drop n front ++ after))
+split_spells {program} n front after s =
     let P : List Spelt → Type 0 = λ z. Programs program 0 z in
-    subst P (ap (λ z. z ++ behind) (sym (take-append-drop n front)) ∙ append_assoc (take n front) (drop n front) behind) s
+    subst P (ap (λ z. z ++ after) (sym (take-append-drop n front)) ∙ append_assoc (take n front) (drop n front) after) s
 
 before_are : (n m : ℕ) (ts : List Token) (front : List Spelt) → n ≤ m → tokens front ≡ take m ts → tokens (take n front) ≡ take n ts
 before_are n m ts front le e = tokens_take n front ∙ ap (take n) e ∙ take_take n m ts le
 
 front_before : (n m : ℕ) (ts : List Token) → n ≤ m → IsFront (take m ts) → IsFront (take n ts)
 front_before n m ts le f =
-    record { program = f.program; front = take n f.front; behind = drop n f.front ++ f.behind; spells = split_spells n f.front f.behind f.spells; are = before_are n m ts f.front le f.are }
+    record { program = f.program; front = take n f.front; after = drop n f.front ++ f.after; spells = split_spells n f.front f.after f.spells; are = before_are n m ts f.front le f.are }
 
 within_before : (limit n : ℕ) (ls : List Spelt) → IsWithin limit ls → IsWithin limit (take n ls)
 within_before limit n ls w = let P : List Spelt → Type 0 = λ z. IsWithin limit z in within_front limit (take n ls) (drop n ls) (subst P (sym (take-append-drop n ls)) w)
@@ -68,15 +68,15 @@ front_within_before : (limit n m : ℕ) (ts : List Token) → n ≤ m → IsFron
 front_within_before limit n m ts le f = record {
   program = f.program;
   front = take n f.front;
-  behind = drop n f.front ++ f.behind;
-  spells = split_spells n f.front f.behind f.spells;
+  after = drop n f.front ++ f.after;
+  spells = split_spells n f.front f.after f.spells;
   are = before_are n m ts f.front le f.are;
   within = within_before limit n f.front f.within;
 }
 
 -- the tokens before one that opens a level above the limit
 above_before : (limit m : ℕ) (ts : List Token) → m < length ts → OpensAbove limit (take (suc m) ts) → IsFrontWithin limit (take m ts)
-above_before limit m ts lt o = record { program = o.program; front = o.front; behind = at o.token (limit + 1) ∷ o.behind; spells = o.spells; are = same; within = o.within }
+above_before limit m ts lt o = record { program = o.program; front = o.front; after = at o.token (limit + 1) ∷ o.after; spells = o.spells; are = same; within = o.within }
   where
     counted : (ts : List Token) (m : ℕ) → m < length ts → length (take (suc m) ts) ≡ suc m
     counted [] m lt = absurd (omega arith)
@@ -97,18 +97,18 @@ above_is_front limit ts o =
     record {
       program = o.program;
       front = o.front ++ (at o.token (limit + 1) ∷ []);
-      behind = o.behind;
-      spells = subst P (sym (append_assoc o.front (at o.token (limit + 1) ∷ []) o.behind)) o.spells;
+      after = o.after;
+      spells = subst P (sym (append_assoc o.front (at o.token (limit + 1) ∷ []) o.after)) o.spells;
       are = tokens_join o.front (at o.token (limit + 1) ∷ []) ∙ o.are;
     }
 
 within_is_front : (limit : ℕ) (ts : List Token) → IsFrontWithin limit ts → IsFront ts
-within_is_front limit ts f = record { program = f.program; front = f.front; behind = f.behind; spells = f.spells; are = f.are }
+within_is_front limit ts f = record { program = f.program; front = f.front; after = f.after; spells = f.spells; are = f.are }
 
 spelled_front : (limit : ℕ) (program : Text) (ts : List Token) → IsSpelled limit program ts → IsFrontWithin limit (take (length ts) ts)
 spelled_front limit program ts s =
     let P : List Spelt → Type 0 = λ z. Programs program 0 z in
-    record { program = program; front = s.spelt; behind = []; spells = subst P (sym (append-nil s.spelt)) s.spells; are = s.are ∙ sym (take_all ts); within = s.within }
+    record { program = program; front = s.spelt; after = []; spells = subst P (sym (append-nil s.spelt)) s.spells; are = s.are ∙ sym (take_all ts); within = s.within }
 
 -- ---- one cause, at one token
 

@@ -93,7 +93,7 @@ module _ (limit : ℕ) where
         rest = rest;
         are = are;
         left_are = refl;
-        front = record { program = s.value; front = spelt; behind = s.behind; spells = subst R (append-nil spelt) (programs_of s.spells); are = refl; within = within };
+        front = record { program = s.value; front = spelt; after = s.behind; spells = subst R (append-nil spelt) (programs_of s.spells); are = refl; within = within };
       }
   fronts ts e spelt opened rest are within (above {t = t} {rest = behind}) s =
       let R : List Spelt → Type 0 = λ z. Programs s.value 0 z in
@@ -103,7 +103,7 @@ module _ (limit : ℕ) where
         rest = behind;
         are = are;
         left_are = refl;
-        opens = record { program = s.value; front = spelt; token = t; behind = s.behind; spells = subst R (append_assoc spelt (at t (limit + 1) ∷ []) s.behind) (programs_of s.spells); are = refl; within = within };
+        opens = record { program = s.value; front = spelt; token = t; after = s.behind; spells = subst R (append_assoc spelt (at t (limit + 1) ∷ []) s.behind) (programs_of s.spells); are = refl; within = within };
       }
 
   -- Where the tokens are refused, those before are the front of a program.

@@ -9,16 +9,16 @@ use Rattle.forec_tree.specs.SpelledPrograms.{Programs, IsSpelled}
 pub record IsFront (ts : List Token) : Type 0 where
   pub program : Text
   pub front : List Spelt
-  pub behind : List Spelt
-  pub spells : Programs program 0 (front ++ behind)
+  pub after : List Spelt
+  pub spells : Programs program 0 (front ++ after)
   pub are : tokens front ≡ ts
 
 -- The same, and none of these tokens opens a level above the limit.
 pub record IsFrontWithin (limit : ℕ) (ts : List Token) : Type 0 where
   pub program : Text
   pub front : List Spelt
-  pub behind : List Spelt
-  pub spells : Programs program 0 (front ++ behind)
+  pub after : List Spelt
+  pub spells : Programs program 0 (front ++ after)
   pub are : tokens front ≡ ts
   pub within : IsWithin limit front
 
@@ -27,15 +27,15 @@ pub record OpensAbove (limit : ℕ) (ts : List Token) : Type 0 where
   pub program : Text
   pub front : List Spelt
   pub token : Token
-  pub behind : List Spelt
-  pub spells : Programs program 0 (front ++ (at token (limit + 1) ∷ behind))
+  pub after : List Spelt
+  pub spells : Programs program 0 (front ++ (at token (limit + 1) ∷ after))
   pub are : tokens front ++ (token ∷ []) ≡ ts
   pub within : IsWithin limit front
 
 -- ---- where a text is refused; tokens are counted from 0
 
 -- At this token the text stops to be a program: those before it are a front within the limit, and those up to it are
--- a front of no program of any level. Behind the last token: no program of any level has all of them.
+-- a front of no program of any level. After the last token: no program of any level has all of them.
 pub record StopsAt (limit : ℕ) (ts : List Token) (n : ℕ) : Type 0 where
   pub among : n ≤ length ts
   pub front : IsFrontWithin limit (take n ts)
