@@ -3,8 +3,8 @@ use Rattle.std.proofs.Common.{◌≡◌, ◌≢◌, ℕ, List, [], ◌∷◌, �
 use Rattle.atomic_table.specs.Table.{Me, rest}
 use Rattle.atomic_table.specs.Seated.{TableId}
 use Rattle.atomic_table.specs.declared.shared.Seat.{Seat}
-use Rattle.copy_slots.specs.declared.view.Place.{Place}
-use Rattle.copy_slots.specs.declared.view.Place.TheVariants.{Fresh, Held, Out}
+use Rattle.copy_slots.specs.declared.view.PacketAt.{PacketAt}
+use Rattle.copy_slots.specs.declared.view.PacketAt.TheVariants.{Fresh, Held, Out}
 use Rattle.copy_slots.specs.declared.view.Sender.{Sender}
 use Rattle.copy_slots.specs.declared.view.Taker.{Taker}
 use Rattle.copy_slots.specs.declared.view.Role.{Role}
@@ -14,7 +14,7 @@ use Rattle.copy_slots.specs.Mail.{posed, spent}
 use Rattle.copy_slots.specs.Places.{hand_in, hand_if, parent_hand, child_hand, hand, Sits, Watches}
 
 module _ {Q : Type 0} where
-  abbrev place_of : Role Q → Place
+  abbrev place_of : Role Q → PacketAt
   place_of (Mailbox k (Some x) c) = x.place
   place_of r = Fresh
 
@@ -54,22 +54,22 @@ module _ {W P Q : Type 0} where
 
 module _ {P Q : Type 0} where
   pub hand_got : (k : ℕ) (x x' : Sender Q) (c : Option (Taker Q)) → x.place ≡ Out → x'.place ≡ Held → (k, None) ∷ hand (Some x) c k ≡ hand {P = P} (Some x') c k
-  hand_got k x x' c is is' = ap (λ (z : Place). (k, None) ∷ (hand_in {P = P} z k ++ child_hand c k)) is ∙ ap (λ (z : Place). hand_in {P = P} z k ++ child_hand c k) (sym is')
+  hand_got k x x' c is is' = ap (λ (z : PacketAt). (k, None) ∷ (hand_in {P = P} z k ++ child_hand c k)) is ∙ ap (λ (z : PacketAt). hand_in {P = P} z k ++ child_hand c k) (sym is')
 
   pub hand_opened : (k : ℕ) (x x' : Sender Q) (c : Option (Taker Q)) → x.place ≡ Fresh → x'.place ≡ Held → (k, None) ∷ hand (Some x) c k ≡ hand {P = P} (Some x') c k
-  hand_opened k x x' c is is' = ap (λ (z : Place). (k, None) ∷ (hand_in {P = P} z k ++ child_hand c k)) is ∙ ap (λ (z : Place). hand_in {P = P} z k ++ child_hand c k) (sym is')
+  hand_opened k x x' c is is' = ap (λ (z : PacketAt). (k, None) ∷ (hand_in {P = P} z k ++ child_hand c k)) is ∙ ap (λ (z : PacketAt). hand_in {P = P} z k ++ child_hand c k) (sym is')
 
   -- the slot of k is the one that was taken last
   pub hand_held : (k : ℕ) (x : Sender Q) (c : Option (Taker Q)) → x.place ≡ Held → hand {P = P} (Some x) c k ≡ (k, None) ∷ child_hand c k
-  hand_held k x c is = ap (λ (z : Place). hand_in {P = P} z k ++ child_hand c k) is
+  hand_held k x c is = ap (λ (z : PacketAt). hand_in {P = P} z k ++ child_hand c k) is
 
   pub hand_sent : (k : ℕ) (x : Sender Q) (c : Option (Taker Q)) → x.place ≡ Out → hand {P = P} (Some x) c k ≡ child_hand c k
-  hand_sent k x c is = ap (λ (z : Place). hand_in {P = P} z k ++ child_hand c k) is
+  hand_sent k x c is = ap (λ (z : PacketAt). hand_in {P = P} z k ++ child_hand c k) is
 
   pub hand_taken : (k : ℕ) (b : Option (Sender Q)) (y : Taker Q) → y.holds ≡ true → hand {P = P} b (Some y) k ≡ (k, None) ∷ parent_hand b k
   hand_taken k b y is = ap (λ (z : Bool). parent_hand {P = P} b k ++ hand_if {P = P} z k) is ∙ turned b
     where
-      placed : (p : Place) → hand_in {P = P} p k ++ (k, None) ∷ [] ≡ (k, None) ∷ hand_in p k
+      placed : (p : PacketAt) → hand_in {P = P} p k ++ (k, None) ∷ [] ≡ (k, None) ∷ hand_in p k
       placed Fresh = refl
       placed Held = refl
       placed Out = refl
@@ -81,7 +81,7 @@ module _ {P Q : Type 0} where
   pub hand_free : (k : ℕ) (b : Option (Sender Q)) (y : Taker Q) → y.holds ≡ false → hand {P = P} b (Some y) k ≡ parent_hand b k
   hand_free k b y is = ap (λ (z : Bool). parent_hand {P = P} b k ++ hand_if {P = P} z k) is ∙ turned b
     where
-      placed : (p : Place) → hand_in {P = P} p k ++ [] ≡ hand_in p k
+      placed : (p : PacketAt) → hand_in {P = P} p k ++ [] ≡ hand_in p k
       placed Fresh = refl
       placed Held = refl
       placed Out = refl

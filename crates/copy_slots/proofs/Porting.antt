@@ -1,6 +1,6 @@
 -- What a change of one end leaves at each mailbox.
 use Rattle.std.proofs.Common.{◌≡◌, ◌≢◌, ◌<◌, slice_get, ℕ, suc, zero, List, [], ◌∷◌, ◌++◌, length, set, refl, ap, sym, ◌∙◌, subst, Option, Some, None, Bool, arith}
-use Rattle.copy_slots.specs.declared.view.Place.{Place}
+use Rattle.copy_slots.specs.declared.view.PacketAt.{PacketAt}
 use Rattle.copy_slots.specs.declared.view.Sender.{Sender}
 use Rattle.copy_slots.specs.declared.view.Taker.{Taker}
 use Rattle.std.specs.Option.{MatchOption, IfSome}
@@ -45,14 +45,14 @@ module _ {Q : Type 0} where
   parent_on_child (e ∷ es) (suc k) zero f = refl
   parent_on_child (e ∷ es) (suc k) (suc j) f = parent_on_child es k j f
 
-  pub parent_moves : (es : List (Ends Q)) (k : ℕ) (f : Sender Q → Sender Q) (p p' : Place) → IsParent (parent_at es k) p → ((x : Sender Q) → x.place ≡ p → (f x).place ≡ p') → IsParent (parent_at (on_parent es k f) k) p'
+  pub parent_moves : (es : List (Ends Q)) (k : ℕ) (f : Sender Q → Sender Q) (p p' : PacketAt) → IsParent (parent_at es k) p → ((x : Sender Q) → x.place ≡ p → (f x).place ≡ p') → IsParent (parent_at (on_parent es k f) k) p'
   parent_moves es k f p p' is moves = subst (λ (z : Option (Sender Q)). IsParent z p') (sym (parent_here es k f)) (go (parent_at es k) is)
     where
       go : (o : Option (Sender Q)) → IsParent o p → IsParent (on_sender f o) p'
       go None h = h
       go (Some x) h = moves x h
 
-  pub parent_stays : (es : List (Ends Q)) (k j : ℕ) (f : Sender Q → Sender Q) (p : Place) → j ≢ k → IsParent (parent_at es j) p → IsParent (parent_at (on_parent es k f) j) p
+  pub parent_stays : (es : List (Ends Q)) (k j : ℕ) (f : Sender Q → Sender Q) (p : PacketAt) → j ≢ k → IsParent (parent_at es j) p → IsParent (parent_at (on_parent es k f) j) p
   parent_stays es k j f p n is = subst (λ (z : Option (Sender Q)). IsParent z p) (sym (parent_else es k j f n)) is
 
   pub sent_stays : (es : List (Ends Q)) (k : ℕ) (f : Sender Q → Sender Q) → ((x : Sender Q) → (f x).sent ≡ x.sent) → sent_by (parent_at (on_parent es k f) k) ≡ sent_by (parent_at es k)

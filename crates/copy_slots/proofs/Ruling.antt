@@ -3,8 +3,8 @@ use Rattle.std.proofs.Common.{◌≡◌, slice_index, ℕ, ◌+◌, ◌<◌, Lis
 use mathlib.Core.Option.{none, some}
 use mathlib.Core.Option as maybe
 use lib.ListN.{get_elem?}
-use Rattle.copy_slots.specs.declared.view.Place.{Place}
-use Rattle.copy_slots.specs.declared.view.Place.TheVariants.{Fresh, Held, Out}
+use Rattle.copy_slots.specs.declared.view.PacketAt.{PacketAt}
+use Rattle.copy_slots.specs.declared.view.PacketAt.TheVariants.{Fresh, Held, Out}
 use Rattle.copy_slots.specs.declared.view.Sender.{Sender}
 use Rattle.copy_slots.specs.declared.view.Taker.{Taker}
 use Rattle.copy_slots.specs.declared.view.Role.{Role}
@@ -40,7 +40,7 @@ none_there l e = ap length e
 
 -- ---- where a packet is, as its two ends know it
 
-place_at : Stage → Place
+place_at : Stage → PacketAt
 place_at fresh = Fresh
 place_at with_parent = Held
 place_at at_child = Out
@@ -51,7 +51,7 @@ holds_at : Stage → Bool
 holds_at with_child = true
 holds_at _ = false
 
-place_is : (p : Place) (g : Stage) → IsPlaced p g → p ≡ place_at g
+place_is : (p : PacketAt) (g : Stage) → IsPlaced p g → p ≡ place_at g
 unfolding place_at
 place_is Fresh g h = ap place_at (sym h)
 place_is Held g h = ap place_at (sym h)

@@ -5,13 +5,13 @@ use Rattle.atomic_table.specs.Table.{Me}
 use Rattle.atomic_table.specs.Seated.{TableId}
 use Rattle.atomic_table.specs.declared.shared.Seat.{Seat}
 use Rattle.copy_slots.specs.declared.view.View.{View}
-use Rattle.copy_slots.specs.declared.view.Place.{Place}
+use Rattle.copy_slots.specs.declared.view.PacketAt.{PacketAt}
 use Rattle.copy_slots.specs.declared.view.Sender.{Sender}
 use Rattle.copy_slots.specs.declared.view.Taker.{Taker}
 use Rattle.copy_slots.specs.declared.view.Role.{Role}
 use Rattle.copy_slots.specs.declared.view.Role.TheVariants.{Idle, Keeper, Mailbox}
 use Rattle.copy_slots.specs.Mail.{role_checked, role_stopped, new_sender, new_taker}
-use Rattle.copy_slots.specs.Fresh.{AllFresh, fresh_ends, new_state}
+use Rattle.copy_slots.specs.Fresh.{AllFresh, AllSit, fresh_ends, new_state}
 use Rattle.copy_slots.specs.declared.both.BothEnds.{BothEnds}
 use Rattle.copy_slots.specs.Places.{Sits, Watches}
 use Rattle.copy_slots.specs.Ports.{PortState, local_state, Ends, parent_at, child_at, on_parent, on_child, IsParent, IsChild, ends_of, sender_in, taker_in, root_of, after_check, stop_word, after_stop}
@@ -31,7 +31,7 @@ module _ {A Q : Type 0} (f : A → Role Q) where
   abbrev pub ends_in : List A → List (Ends Q)
   ends_in l = map ends_of (map f l)
 
-  pub parent_inside : (l : List A) (k : ℕ) (p : Place) → IsParent (parent_at (ends_in l) k) p → k < length l
+  pub parent_inside : (l : List A) (k : ℕ) (p : PacketAt) → IsParent (parent_at (ends_in l) k) p → k < length l
   parent_inside [] k p h = absurd h
   parent_inside (a ∷ l) zero p h = omega arith
   parent_inside (a ∷ l) (suc k) p h = let t = parent_inside l k p h in omega arith
@@ -66,10 +66,7 @@ module _ {A Q : Type 0} (f : A → Role Q) where
   child_moved (h ∷ l) (suc k) j a b y g p e is is' = ap (λ t. ends_of (f h) ∷ t) (child_moved l k j a b y g p e is is')
 
 module _ {W P Q : Type 0} (z : TableId) (work : W) (blanks : List Q) where
-  abbrev pub AllSit : List (BothEnds W P Q) → Type 0
-  AllSit l = (j : ℕ) (s : BothEnds W P Q) → slice_get l j ≡ Some s → Sits z work blanks j (Some (sender_in s.seat.me.0.role)) (Some (taker_in s.seat.me.0.role)) s.seat
-
-  pub resits : (l : List (BothEnds W P Q)) (k : ℕ) (b : BothEnds W P Q) (x : Sender Q) (y : Taker Q) → AllSit l → Sits z work blanks k (Some x) (Some y) b.seat → AllSit (set l k b)
+  pub resits : (l : List (BothEnds W P Q)) (k : ℕ) (b : BothEnds W P Q) (x : Sender Q) (y : Taker Q) → AllSit z work blanks l → Sits z work blanks k (Some x) (Some y) b.seat → AllSit z work blanks (set l k b)
   resits l k b x y all h j s e = ⊎_elim
       (λ (t : (j ≡ k) × (b ≡ s)). let role = role_is z work blanks k (Some x) (Some y) b.seat h in
       subst (λ (q : ℕ × BothEnds W P Q). Sits z work blanks q.0 (Some (sender_in q.1.seat.me.0.role)) (Some (taker_in q.1.seat.me.0.role)) q.1.seat) (λ i. (sym t.0 i, t.1 i))

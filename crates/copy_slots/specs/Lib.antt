@@ -3,3 +3,4 @@ pub mod Mail
 pub mod Places
 pub mod Ports
 pub mod Rule
+pub mod Steps

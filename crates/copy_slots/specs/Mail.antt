@@ -4,8 +4,8 @@ use mathlib.Core.Option.{some, none}
 use mathlib.Core.Option as maybe
 use lib.ListN.{get_elem?}
 use Rattle.atomic_table.specs.Table.{State, Me, Step}
-use Rattle.copy_slots.specs.declared.view.Place.{Place}
-use Rattle.copy_slots.specs.declared.view.Place.TheVariants.{Fresh, Held, Out}
+use Rattle.copy_slots.specs.declared.view.PacketAt.{PacketAt}
+use Rattle.copy_slots.specs.declared.view.PacketAt.TheVariants.{Fresh, Held, Out}
 use Rattle.copy_slots.specs.declared.view.Sender.{Sender}
 use Rattle.copy_slots.specs.declared.view.Taker.{Taker}
 use Rattle.copy_slots.specs.declared.view.Role.{Role}
@@ -56,7 +56,7 @@ IsOut with_child = Unit {0}
 IsOut at_parent = Unit {0}
 IsOut _ = ⊥
 
-abbrev pub IsPlaced : Place → Stage → Type 0
+abbrev pub IsPlaced : PacketAt → Stage → Type 0
 IsPlaced Fresh g = g ≡ fresh
 IsPlaced Held g = g ≡ with_parent
 IsPlaced Out g = IsOut g

@@ -2,8 +2,8 @@
 use Rattle.std.specs.Prelude.{◌≡◌, ℕ, ◌+◌, List, [], ◌∷◌, ◌++◌, Option, Some, None, Bool, true, false}
 use Rattle.atomic_table.specs.Seated.{TableId}
 use Rattle.atomic_table.specs.declared.shared.Seat.{Seat}
-use Rattle.copy_slots.specs.declared.view.Place.{Place}
-use Rattle.copy_slots.specs.declared.view.Place.TheVariants.{Held}
+use Rattle.copy_slots.specs.declared.view.PacketAt.{PacketAt}
+use Rattle.copy_slots.specs.declared.view.PacketAt.TheVariants.{Held}
 use Rattle.copy_slots.specs.declared.view.Sender.{Sender}
 use Rattle.copy_slots.specs.declared.view.Taker.{Taker}
 use Rattle.copy_slots.specs.declared.view.Role.{Role}
@@ -15,7 +15,7 @@ abbrev pub IsBoard : TableId → ℕ → Type 0
 IsBoard z n = (z.words ≡ n + 1) × (z.slots ≡ n)
 
 module _ {P : Type 0} where
-  abbrev pub hand_in : Place → ℕ → List (ℕ × Option P)
+  abbrev pub hand_in : PacketAt → ℕ → List (ℕ × Option P)
   hand_in Held k = (k, None) ∷ []
   hand_in _ k = []
 

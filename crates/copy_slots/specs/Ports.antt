@@ -1,7 +1,7 @@
 -- What a port means to its callers.
-use Rattle.std.specs.Prelude.{◌≡◌, ℕ, suc, zero, List, [], ◌∷◌, ◌++◌, map, Option, Some, None, Bool, true, false}
+use Rattle.std.specs.Prelude.{◌≡◌, ◌≢◌, ℕ, suc, zero, List, [], ◌∷◌, ◌++◌, map, Option, Some, None, Bool, true, false}
 use Rattle.atomic_table.specs.Seated.{TableId}
-use Rattle.copy_slots.specs.declared.view.Place.{Place}
+use Rattle.copy_slots.specs.declared.view.PacketAt.{PacketAt}
 use Rattle.copy_slots.specs.declared.view.Sender.{Sender}
 use Rattle.copy_slots.specs.declared.view.Taker.{Taker}
 use Rattle.copy_slots.specs.declared.view.Role.{Role}
@@ -88,7 +88,7 @@ module _ {Q : Type 0} where
   words_of_child None = []
   words_of_child (Some y) = y.looked
 
-  abbrev pub IsParent : Option (Sender Q) → Place → Type 0
+  abbrev pub IsParent : Option (Sender Q) → PacketAt → Type 0
   IsParent None p = ⊥
   IsParent (Some x) p = x.place ≡ p
 
@@ -164,8 +164,12 @@ module _ {W Q : Type 0} where
   abbrev pub turn : PortState W Q → ℕ → ℕ
   turn s k = turn_of (parent_at s.ends k) (child_at s.ends k)
 
+  -- it was the child's turn, and it took the last job
+  abbrev pub TookLast : PortState W Q → PortState W Q → ℕ → Type 0
+  TookLast old new k = (turn old k ≢ 0) × (taken new k ≡ sent new k)
+
   -- the parent's end of k is there, and its packet is in this place
-  abbrev pub ParentIs : PortState W Q → ℕ → Place → Type 0
+  abbrev pub ParentIs : PortState W Q → ℕ → PacketAt → Type 0
   ParentIs s k p = IsParent (parent_at s.ends k) p
 
   -- the child's end of k is there, with its packet in hand or without

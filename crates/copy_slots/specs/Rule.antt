@@ -5,13 +5,13 @@ use mathlib.Core.Option.{some, none}
 use mathlib.Core.Option as maybe
 use lib.ListN.{get_elem?}
 use Rattle.atomic_table.specs.Table.{State}
-use Rattle.copy_slots.specs.declared.view.Place.TheVariants.{Fresh, Held}
+use Rattle.copy_slots.specs.declared.view.PacketAt.TheVariants.{Fresh, Held}
 use Rattle.copy_slots.specs.declared.view.Sender.{Sender}
 use Rattle.copy_slots.specs.declared.view.Taker.{Taker}
 use Rattle.copy_slots.specs.declared.view.Role.{Role}
 use Rattle.copy_slots.specs.declared.view.Role.TheVariants.{Idle, Keeper, Mailbox}
 use Rattle.copy_slots.specs.declared.view.View.{View}
-use Rattle.copy_slots.specs.Mail.{End, root, Has, IsEnd, new_sender, new_taker, spent}
+use Rattle.copy_slots.specs.Mail.{End, root, Has, IsEnd, Kept, new_sender, new_taker, spent}
 use Rattle.copy_slots.specs.Ports.{stored_of}
 
 -- a packet lies in the slot, or it is in a hand
@@ -104,3 +104,7 @@ module _ {W P Q : Type 0} (plain : P → Q) (asks : W → ℕ → List Q → Typ
     -- the stop word is 1 only where the seat with the root's mark says that it was stored
     pub stop_word : slice_index s.words (length blanks) < 2
     pub stop : slice_index s.words (length blanks) ≡ 1 → (j : ℕ) (h : HasEnd s root j) → stored_of h.view.role ≡ true
+
+-- whatever the mailboxes carry, a state that meets the rule has each of these parts
+abbrev pub AreRuled : {W P Q : Type 0} → (P → Q) → (W → ℕ → List Q → Type 0) → (W → ℕ → List Q → Q → Type 0) → Type 0
+AreRuled {W} {P} {Q} plain asks answers = (work : W) (blanks : List Q) (s : State (Option P) (View W Q)) → Kept plain asks answers work blanks s → Between plain asks answers work blanks s

@@ -1,10 +1,6 @@
 //! What the rule of a table of mailboxes says.
 
-ghost use Rattle.std.specs.Prelude.{List, Option};
-ghost use Rattle.atomic_table.specs.Table.{State};
-ghost use Rattle.copy_slots.specs.declared.view.View.{View};
-ghost use Rattle.copy_slots.specs.Mail.{Kept};
-ghost use Rattle.copy_slots.specs.Rule.{Between};
+ghost use Rattle.copy_slots.specs.Rule.{AreRuled};
 
 use crate::work::Work;
 
@@ -12,5 +8,5 @@ use crate::work::Work;
 /// by the words, the slots and the views of the seats: where a packet is and which of the lists in the two
 /// views it ends, that replies answer jobs, and that each end stands in one seat.
 pub fn mailboxes_are_ruled<W: Work>()
-    ensures { (work : W) (blanks : List W.Plain) (s : State (Option W.Packet) (View W W.Plain)) → Kept W.plain W.asks W.answers work blanks s → Between W.plain W.asks W.answers work blanks s }
+    ensures { AreRuled W.plain W.asks W.answers }
 {}

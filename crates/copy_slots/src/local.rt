@@ -1,11 +1,8 @@
 //! A port with all ends, for one thread.
-ghost use Rattle.std.specs.Prelude.{◌≡◌, ◌≢◌, ℕ, ◌+◌, ◌<◌, ◌^◌, [], ◌∷◌, ◌++◌, length, slice_get, Option, Some, None, IfSome, true, false, Bool, List, map};
-ghost use Rattle.copy_slots.specs.declared.view.Sender.{Sender};
-ghost use Rattle.copy_slots.specs.declared.view.Taker.{Taker};
-ghost use Rattle.copy_slots.specs.declared.view.Role.TheVariants.{Keeper};
-ghost use Rattle.copy_slots.specs.declared.both.BothEnds.{BothEnds};
-ghost use Rattle.copy_slots.specs.Places.{IsBoard, Sits, Watches};
-ghost use Rattle.copy_slots.specs.Ports.{root_of, sender_in, taker_in};
+ghost use Rattle.std.specs.Prelude.{◌≡◌, ◌<◌, ◌^◌, length, true};
+ghost use Rattle.copy_slots.specs.Fresh.{AllSit};
+ghost use Rattle.copy_slots.specs.Places.{IsBoard, Watches};
+ghost use Rattle.copy_slots.specs.Ports.{root_of};
 
 use crate::both::BothEnds;
 use crate::make::{Board, deal_all, new_table};
@@ -23,7 +20,7 @@ pub struct LocalPort<W: Work> {
     seats: Vec<BothEnds<W>>,
     ghost sized: { (length seats.items < 2 ^ 32) × IsBoard board.shared.table_id (length seats.items) },
     ghost root: { Watches board.shared.table_id board.shared.key.work.value watch.me.0.blanks watch.me.0.role watch × (root_of watch.me.0.role ≡ true) },
-    ghost both: { (k : ℕ) (s : BothEnds W W.Packet W.Plain) → slice_get seats.items k ≡ Some s → Sits board.shared.table_id board.shared.key.work.value watch.me.0.blanks k (Some (sender_in s.seat.me.0.role)) (Some (taker_in s.seat.me.0.role)) s.seat },
+    ghost both: { AllSit board.shared.table_id board.shared.key.work.value watch.me.0.blanks seats.items },
 }
 
 impl<W: Work> Port<W> for LocalPort<W> {

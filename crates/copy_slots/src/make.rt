@@ -1,9 +1,10 @@
 //! How a table of mailboxes is made.
-ghost use Rattle.std.specs.Prelude.{◌≡◌, ℕ, ◌+◌, ◌<◌, ◌^◌, [], ◌∷◌, ◌++◌, length, slice_get, replicate, Option, Some, None, IfOk, true, false, Bool, List, map};
-ghost use Rattle.copy_slots.specs.Mail.{plain_list, new_sender, new_taker};
+ghost use Rattle.std.specs.Prelude.{◌≡◌, ℕ, ◌+◌, ◌<◌, ◌^◌, [], length, replicate, Some, IfOk, false, map};
+ghost use Rattle.copy_slots.specs.Mail.{plain_list};
 ghost use Rattle.copy_slots.specs.declared.view.Role.TheVariants.{Keeper};
-ghost use Rattle.copy_slots.specs.Places.{IsBoard, Sits, Watches};
+ghost use Rattle.copy_slots.specs.Places.{IsBoard, Watches};
 ghost use Rattle.copy_slots.specs.Fresh.{AllFresh};
+ghost use Rattle.copy_slots.specs.Steps.{CanDeal, CanDealAll, HandsOut, HandsOutAll, IsFreshSeat};
 
 use crate::both::BothEnds;
 use crate::rule::{Deals, MailRule, Setup};
@@ -47,7 +48,9 @@ pub fn new_table<W: Work>(
     blanks: Vec<W::Packet>,
 ) -> Result<(Board<W>, MailSeat<W>), OutOfMemory>
     requires { length blanks.items < 2 ^ 16 }
-    ensures { IfOk result (λ t. IsBoard t.0.shared.table_id (length blanks.items) × (t.0.shared.key.work.value ≡ work.now) × Watches t.0.shared.table_id work.now (plain_list W.plain blanks.items) (Keeper 0 false []) t.1) }
+    ensures board { IfOk result (λ t. IsBoard t.0.shared.table_id (length blanks.items)) }
+    ensures work { IfOk result (λ t. t.0.shared.key.work.value ≡ work.now) }
+    ensures keeper { IfOk result (λ t. Watches t.0.shared.table_id work.now (plain_list W.plain blanks.items) (Keeper 0 false []) t.1) }
 {
     let about = Setup {
         work: Snapshot::of(work),
@@ -64,8 +67,8 @@ pub fn new_table<W: Work>(
 /// A seat with both ends of the keeper's next mailbox.
 pub fn deal_one<W: Work>(top: &MailTable<W>, keeper: &mut MailSeat<W>, from: usize) -> MailSeat<W>
     requires board { (n : ℕ) × IsBoard top.now.table_id n }
-    requires keeper { (bs : List W.Plain) × (from < length bs) × Watches top.now.table_id top.now.key.work.value bs (Keeper from false []) keeper.old }
-    ensures { (bs : List W.Plain) → Watches top.now.table_id top.now.key.work.value bs (Keeper from false []) keeper.old → Watches top.now.table_id top.now.key.work.value bs (Keeper (from + 1) false []) keeper.new × Sits top.now.table_id top.now.key.work.value bs from (Some new_sender) (Some new_taker) result }
+    requires keeper { CanDeal top.now from keeper.old }
+    ensures { HandsOut top.now from (from + 1) keeper.old keeper.new (λ bs. IsFreshSeat top.now bs from result) }
 {
     top.split_seat::<Deals<W>>(keeper)
 }
@@ -78,8 +81,9 @@ pub(crate) fn deal_all<W: Work>(
     count: usize,
 ) -> Result<Vec<BothEnds<W>>, OutOfMemory>
     requires board { (n : ℕ) × IsBoard top.now.table_id n }
-    requires keeper { (bs : List W.Plain) × (count ≡ length bs) × Watches top.now.table_id top.now.key.work.value bs (Keeper 0 false []) keeper.old }
-    ensures { IfOk result (λ v. (length v.items ≡ count) × ((bs : List W.Plain) → count ≡ length bs → Watches top.now.table_id top.now.key.work.value bs (Keeper 0 false []) keeper.old → Watches top.now.table_id top.now.key.work.value bs (Keeper count false []) keeper.new × AllFresh top.now.table_id top.now.key.work.value bs v.items)) }
+    requires keeper { CanDealAll top.now count keeper.old }
+    ensures count { IfOk result (λ v. length v.items ≡ count) }
+    ensures fresh { IfOk result (λ v. HandsOutAll top.now count keeper.old keeper.new (λ bs. AllFresh top.now.table_id top.now.key.work.value bs v.items)) }
 {
     let mut seats = Vec::new(alloc);
     for from in 0..count {

@@ -1,7 +1,7 @@
 //! Ports.
 
 ghost use Rattle.std.specs.Prelude.{◌≡◌, ◌≢◌, ℕ, ◌++◌, ◌∷◌, []};
-ghost use Rattle.copy_slots.specs.declared.view.Place.TheVariants.{Fresh, Held, Out};
+ghost use Rattle.copy_slots.specs.declared.view.PacketAt.TheVariants.{Fresh, Held, Out};
 ghost use Rattle.copy_slots.specs.Ports.{PortState, ParentIs, ChildIs, sent};
 
 use crate::work::Work;
@@ -12,8 +12,8 @@ use crate::work::Work;
 /// Each call changes only what its equation on `state` says. No call waits or takes memory.
 pub trait Port<W: Work> {
     ghost use Rattle.std.specs.Prelude.{◌≡◌, ◌≢◌, ℕ, ◌++◌, ◌∷◌, [], Some, None, true, false, IfSome, MatchOption, MatchBool, slice_get};
-    ghost use Rattle.copy_slots.specs.declared.view.Place.TheVariants.{Fresh, Held, Out};
-    ghost use Rattle.copy_slots.specs.Ports.{PortState, ParentIs, ChildIs, sent, taken, turn, after_first, after_offer, after_collect, after_take, after_answer, after_stop, after_check, in_plain};
+    ghost use Rattle.copy_slots.specs.declared.view.PacketAt.TheVariants.{Fresh, Held, Out};
+    ghost use Rattle.copy_slots.specs.Ports.{PortState, ParentIs, ChildIs, sent, taken, turn, TookLast, after_first, after_offer, after_collect, after_take, after_answer, after_stop, after_check, in_plain};
 
     /// The ends with what went through them, and what the port saw of the stop word.
     ghost state: { Self → PortState W W.Plain };
@@ -42,7 +42,7 @@ pub trait Port<W: Work> {
         requires { ChildIs (state self.old) k false }
         ensures state { state self.new ≡ after_take k (in_plain W.plain result) (state self.old) }
         ensures job { IfSome result (λ r. W.asks (state self.old).work k (taken (state self.new) k)) }
-        ensures turn { (state self.old).tells ≡ true → MatchOption result (turn (state self.old) k ≡ 0) (λ _. (turn (state self.old) k ≢ 0) × (taken (state self.new) k ≡ sent (state self.new) k)) };
+        ensures turn { (state self.old).tells ≡ true → MatchOption result (turn (state self.old) k ≡ 0) (λ _. TookLast (state self.old) (state self.new) k) };
 
     /// Sends a reply: the packet leaves the child's hand, and it is the parent's turn.
     fn answer(&mut self, k: u32, packet: W::Packet)

@@ -91,11 +91,11 @@ impl<W: Work> Play<Option<W::Packet>, View<W, W::Plain>> for Checks<W> {
 }
 
 /// The root's core stores the stop word.
-pub struct Stops<W> {
+pub struct StoresStop<W> {
     work: PhantomData<W>,
 }
 
-impl<W: Work> Play<Option<W::Packet>, View<W, W::Plain>> for Stops<W> {
+impl<W: Work> Play<Option<W::Packet>, View<W, W::Plain>> for StoresStop<W> {
     ghost use Rattle.copy_slots.specs.Mail.{stops};
 
     ghost then = { stops };

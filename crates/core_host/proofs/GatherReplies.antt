@@ -15,7 +15,7 @@ use Rattle.core_host.specs.declared.seat.Seat.{Seat}
 use Rattle.core_host.specs.Posts.{Mail, IsBranchOf, AreReplies, replies_to}
 use Rattle.core_host.specs.Changes.{Extends, Awaits}
 use Rattle.core_host.specs.Keeping.{State, code_in, IsSeated, LacksPacket, HasHeard, HaveHeard}
-use Rattle.core_host.specs.Moving.{Moves, HasGot, HasLooked}
+use Rattle.core_host.specs.Moving.{MovesPacket, HasGot, HasLooked}
 use Rattle.core_host.specs.Waiting.{jobs_out, IsOut, HasTold, IsFor, IsGathering, HasReplies}
 use Rattle.core_host.specs.Serving.{MovesBranches}
 use Rattle.core_host.proofs.Mails.{by_equal, extends_one, extends_same, some_once}
@@ -24,7 +24,7 @@ use Rattle.core_host.proofs.Loading.{get_then, length_then}
 use Rattle.core_host.proofs.Send.{at_map}
 use Rattle.core_host.proofs.RunChildren.{pairs_more}
 use Rattle.core_host.proofs.OneMoreExchange.{changed, changed_is, lacks_keeps, told_back, answers}
-use Rattle.core_host.proofs.SendJobs.{Place, branches_same, branches_then, branches_seated, branch_moves}
+use Rattle.core_host.proofs.SendJobs.{JobBetween, branches_same, branches_then, branches_seated, branch_moves}
 
 -- ---- places in the list of jobs
 
@@ -35,7 +35,7 @@ drop_next (y ∷ []) zero x e = ap (λ z. z ∷ []) (some_once y x e)
 drop_next (y ∷ z ∷ l) zero x e = ap (λ v. v ∷ z ∷ l) (some_once y x e)
 drop_next (y ∷ l) (suc k) x e = drop_next l k x e
 
-pub out_dropped : (b : ℕ) (ws : List Written) (k : ℕ) → IsOut b (drop k ws) → Place b ws k (length ws)
+pub out_dropped : (b : ℕ) (ws : List Written) (k : ℕ) → IsOut b (drop k ws) → JobBetween b ws k (length ws)
 out_dropped b [] zero h = absurd h
 out_dropped b [] (suc k) h = absurd h
 out_dropped b (w ∷ ws) zero h =
@@ -50,7 +50,7 @@ out_dropped b (w ∷ ws) (suc k) h =
 
 -- ---- a state with the same code
 
-module _ (s : State) (mail : Mail) (seats : List Seat) (hands : List (Option Packet)) (h : Thread) (m : ℕ) (mine : IsBranchOf (code_in s).shape h.number m) (moves : Moves m s (changed s mail seats hands)) where
+module _ (s : State) (mail : Mail) (seats : List Seat) (hands : List (Option Packet)) (h : Thread) (m : ℕ) (mine : IsBranchOf (code_in s).shape h.number m) (moves : MovesPacket m s (changed s mail seats hands)) where
   abbrev s' : State
   s' = changed s mail seats hands
 
@@ -160,7 +160,7 @@ module _ (s : State) (mail : Mail) (seats : List Seat) (hands : List (Option Pac
       pub waits_on : IsGathering s' h pairs
       waits_on = record { forked = w.forked; replies = rs; gathered = record { within = w.gathered.within; heard = kept; told = told_same } }
 
-same_moves : (s : State) (m : ℕ) → Moves m s s
+same_moves : (s : State) (m : ℕ) → MovesPacket m s s
 same_moves s m = record {
   code = refl;
   places = refl;
@@ -251,12 +251,12 @@ module _ (a b : State) (h : Thread) (k number : ℕ) (seated : IsSeated a) (move
       full : (p : Packet) → Some (Some p) ≡ Some None → ⊥
       full p e = cc
 
-  module _ (s1 : State) (moves : Moves m b s1) where
+  module _ (s1 : State) (moves : MovesPacket m b s1) where
     path : changed b s1.mail s1.seats s1.hands ≡ s1
     path = changed_is b s1 moves.code moves.places
 
-    moves' : Moves m b (changed b s1.mail s1.seats s1.hands)
-    moves' = subst (Moves m b) (sym path) moves
+    moves' : MovesPacket m b (changed b s1.mail s1.seats s1.hands)
+    moves' = subst (MovesPacket m b) (sym path) moves
 
     moved : (Extends (sent b.mail m) (sent s1.mail m)) × (Extends (got b.mail m) (got s1.mail m)) → MovesBranches h.number a s1
     moved grown = branches_then h.number a b s1 moves_b (branch_moves h.number m b s1 mine_b moves grown)
@@ -299,7 +299,7 @@ module _ (a b : State) (h : Thread) (k number : ℕ) (seated : IsSeated a) (move
 -- ---- one branch more
 
 -- beside some pairs it was at the fork to begin with
-pub got_more : (a b s1 : State) (h : Thread) (k number : ℕ) → IsSeated a → HasGotFirst a b h k → slice_get h.branches.numbers k ≡ Some number → (pairs : List Answered) × IsGathering a h pairs → Moves (number - 1) b s1 →
+pub got_more : (a b s1 : State) (h : Thread) (k number : ℕ) → IsSeated a → HasGotFirst a b h k → slice_get h.branches.numbers k ≡ Some number → (pairs : List Answered) × IsGathering a h pairs → MovesPacket (number - 1) b s1 →
     ((p : Packet) → slice_get b.hands (number - 1) ≡ Some (Some p) → s1 ≡ b) → (slice_get b.hands (number - 1) ≡ Some None → HasGot b s1 (number - 1)) → HasGotFirst a s1 h (k + 1)
 got_more a b s1 h k number seated done at it moves before there = record {
   within = let lt = slice_get_within h.branches.numbers k number at in omega (arith, lt);

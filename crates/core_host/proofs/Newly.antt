@@ -13,7 +13,7 @@ use Rattle.combine_tree.specs.declared.packet.PacketKind.TheVariants as kind
 use Rattle.combine_tree.specs.Plain.{plain_packet}
 use Rattle.core_machine.specs.declared.thread.Thread.{Thread}
 use Rattle.core_machine.specs.Held.{IsResting, StandsFor}
-use Rattle.copy_slots.specs.declared.view.Place.TheVariants.{Fresh}
+use Rattle.copy_slots.specs.declared.view.PacketAt.TheVariants.{Fresh}
 use Rattle.copy_slots.specs.declared.view.Sender.{Sender}
 use Rattle.copy_slots.specs.declared.view.Taker.{Taker}
 use Rattle.copy_slots.specs.Ports.{Ends, parent_at, child_at, sent_by, got_by, taken_by, answered_by, IsParent, IsChild, sent, got}

@@ -8,14 +8,14 @@ use Rattle.thread_code.specs.Plain.{PlainCode}
 use Rattle.thread_code.specs.Alone.{CodeAlone}
 use Rattle.combine_tree.specs.declared.packet.Packet.{Packet}
 use Rattle.combine_tree.specs.Plain.{plain_packet}
-use Rattle.copy_slots.specs.declared.view.Place.TheVariants.{Out}
+use Rattle.copy_slots.specs.declared.view.PacketAt.TheVariants.{Out}
 use Rattle.copy_slots.specs.declared.view.Sender.{Sender}
 use Rattle.copy_slots.specs.Ports.{parent_at, sent_by, got_by, IsParent, sent, got}
 use Rattle.core_host.specs.declared.seat.Seat.{Seat}
 use Rattle.core_host.specs.Posts.{Mail, IsBranchOf, AreReplies, replies_to}
 use Rattle.core_host.specs.Done.{AreAbove, Posts}
 use Rattle.core_host.specs.Keeping.{State, code_in, HasPacket, LacksPacket}
-use Rattle.core_host.specs.Moving.{Moves, HasSent, HasGot}
+use Rattle.core_host.specs.Moving.{MovesPacket, HasSent, HasGot}
 use Rattle.core_host.specs.Waiting.{jobs_out, IsOut, HasTold}
 use Rattle.core_host.proofs.Mails.{by_equal}
 use Rattle.core_host.proofs.Keep.{packet_keeps}
@@ -78,7 +78,7 @@ lacks_keeps k a b parent hand l = record { out = subst (λ (o : Option (Sender P
 
 -- ---- one job more, or one reply more
 
-module _ (s : State) (mail : Mail) (seats : List Seat) (hands : List (Option Packet)) (t m : ℕ) (mine : IsBranchOf (code_in s).shape t m) (moves : Moves m s (changed s mail seats hands)) where
+module _ (s : State) (mail : Mail) (seats : List Seat) (hands : List (Option Packet)) (t m : ℕ) (mine : IsBranchOf (code_in s).shape t m) (moves : MovesPacket m s (changed s mail seats hands)) where
   abbrev c : PlainCode
   c = code_in s
 

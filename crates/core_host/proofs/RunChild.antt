@@ -17,7 +17,7 @@ use Rattle.combine_tree.specs.Plain.{plain_kind, plain_packet}
 use Rattle.core_machine.specs.declared.thread.Thread.{Thread}
 use Rattle.core_machine.specs.Held.{Loaded, StandsFor, CanBegin, HasPaused, HasReply, Gives}
 use Rattle.core_machine.specs.Replies.{Replies_by}
-use Rattle.copy_slots.specs.declared.view.Place.TheVariants.{Out}
+use Rattle.copy_slots.specs.declared.view.PacketAt.TheVariants.{Out}
 use Rattle.copy_slots.specs.declared.view.Sender.{Sender}
 use Rattle.copy_slots.specs.declared.view.Taker.{Taker}
 use Rattle.copy_slots.specs.Mail.{taker_took, taker_answered}

@@ -12,7 +12,7 @@ use Rattle.copy_slots.specs.Ports.{sent_by, sent, got}
 use Rattle.core_host.specs.Posts.{IsBranchOf}
 use Rattle.core_host.specs.Changes.{Extends}
 use Rattle.core_host.specs.Keeping.{State, code_in, IsSeated, HasPacket, LacksPacket, MayAsk, IsJobFor, AtFork, CanSend}
-use Rattle.core_host.specs.Moving.{Moves, HasSent}
+use Rattle.core_host.specs.Moving.{MovesPacket, HasSent}
 use Rattle.core_host.specs.Waiting.{IsOut, HasTold}
 use Rattle.core_host.specs.Serving.{MovesBranches}
 use Rattle.core_host.proofs.Mails.{alike_then, extends_one, extends_same}
@@ -57,7 +57,7 @@ pub branches_seated : (t : ℕ) (a b : State) → MovesBranches t a b → IsSeat
 branches_seated t a b h seated = seated_by a b h.code h.places h.alike (ap length h.seats) h.hand_count seated
 
 -- one of them
-pub branch_moves : (t m : ℕ) (a b : State) → IsBranchOf (code_in a).shape t m → (moves : Moves m a b) → Extends (sent a.mail m) (sent b.mail m) × Extends (got a.mail m) (got b.mail m) → MovesBranches t a b
+pub branch_moves : (t m : ℕ) (a b : State) → IsBranchOf (code_in a).shape t m → (moves : MovesPacket m a b) → Extends (sent a.mail m) (sent b.mail m) × Extends (got a.mail m) (got b.mail m) → MovesBranches t a b
 branch_moves t m a b mine moves grown =
     let other = λ (j : ℕ) (n : IsBranchOf (code_in a).shape t j → ⊥) (e : j ≡ m). n (subst (IsBranchOf (code_in a).shape t) (sym e) mine) in
     record {
@@ -74,7 +74,7 @@ branch_moves t m a b mine moves grown =
 
 -- ---- places in the list of jobs
 
-pub record Place (b : ℕ) (ws : List Written) (from to : ℕ) : Type 0 where
+pub record JobBetween (b : ℕ) (ws : List Written) (from to : ℕ) : Type 0 where
   pub index : ℕ
   pub job : Written
   pub low : from ≤ index
@@ -82,7 +82,7 @@ pub record Place (b : ℕ) (ws : List Written) (from to : ℕ) : Type 0 where
   pub at : slice_get ws index ≡ Some job
   pub is : job.branch ≡ b
 
-pub out_taken : (b : ℕ) (ws : List Written) (k : ℕ) → IsOut b (take k ws) → Place b ws 0 k
+pub out_taken : (b : ℕ) (ws : List Written) (k : ℕ) → IsOut b (take k ws) → JobBetween b ws 0 k
 out_taken b [] zero h = absurd h
 out_taken b [] (suc k) h = absurd h
 out_taken b (w ∷ ws) zero h = absurd h
@@ -175,7 +175,7 @@ module _ (a b : State) (h : Thread) (k number : ℕ) (seated : IsSeated a) (fork
   pub its_packet : HasPacket b m
   its_packet = (done.told some.0 some.1).has m inside_m mine_b not_yet
 
-  module _ (s1 : State) (moves : Moves m b s1) (lacks : LacksPacket s1 m) (sent_now : (w : Written) → slice_get (jobs_at (code_in b) h) k ≡ Some w → HasSent b s1 m w.job) where
+  module _ (s1 : State) (moves : MovesPacket m b s1) (lacks : LacksPacket s1 m) (sent_now : (w : Written) → slice_get (jobs_at (code_in b) h) k ≡ Some w → HasSent b s1 m w.job) where
     sent1 : HasSent b s1 m job.0.job
     sent1 = sent_now job.0 (subst (λ x. slice_get (jobs_at (plain_code x) h) k ≡ Some job.0) (sym done.moves.code) job.1)
 
@@ -183,7 +183,7 @@ module _ (a b : State) (h : Thread) (k number : ℕ) (seated : IsSeated a) (fork
     told1 pairs before =
         let path = changed_is b s1 moves.code moves.places in
         let old = done.told pairs before in
-        let new = told_one b s1.mail s1.seats s1.hands h.number m mine_b (subst (Moves m b) (sym path) moves) pairs (take k ws) old job.0.job (subst (λ x. HasSent b x m job.0.job) (sym path) sent1)
+        let new = told_one b s1.mail s1.seats s1.hands h.number m mine_b (subst (MovesPacket m b) (sym path) moves) pairs (take k ws) old job.0.job (subst (λ x. HasSent b x m job.0.job) (sym path) sent1)
         (subst (λ x. LacksPacket x m) (sym path) lacks) in
         let named : take k ws ++ record { branch = suc m; job = job.0.job } ∷ [] ≡ take (k + 1) ws =
         ap (λ n. take k ws ++ record { branch = n; job = job.0.job } ∷ []) (sym is_suc ∙ sym job.2) ∙ take_next ws k job.0 job.1 in

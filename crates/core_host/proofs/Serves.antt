@@ -7,7 +7,7 @@ use Rattle.forec_kernel.specs.Packets.{PlainPacket}
 use Rattle.forec_kernel.specs.Shapes.{PlainShape}
 use Rattle.thread_code.specs.Plain.{plain_code}
 use Rattle.combine_tree.specs.declared.packet.Packet.{Packet}
-use Rattle.copy_slots.specs.declared.view.Place.TheVariants.{Fresh, Held}
+use Rattle.copy_slots.specs.declared.view.PacketAt.TheVariants.{Fresh, Held}
 use Rattle.copy_slots.specs.declared.view.Sender.{Sender}
 use Rattle.copy_slots.specs.declared.view.Taker.{Taker}
 use Rattle.copy_slots.specs.Ports.{parent_at, child_at, sent_by, answered_by, words_of_parent, words_of_child, turn_of, IsChild, ChildIs, taken, answered, turn, looked_by_child, looked_by_parent}

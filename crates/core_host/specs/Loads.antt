@@ -10,7 +10,7 @@ use Rattle.core_machine.specs.declared.thread.Thread.{Thread}
 use Rattle.core_machine.specs.Held.{Loaded, IsResting, StandsFor}
 use Rattle.core_host.specs.declared.seat.Seat.{Seat}
 use Rattle.thread_code.specs.Valid.{of_shape}
-use Rattle.copy_slots.specs.declared.view.Place.TheVariants.{Fresh}
+use Rattle.copy_slots.specs.declared.view.PacketAt.TheVariants.{Fresh}
 use Rattle.copy_slots.specs.declared.view.Sender.{Sender}
 use Rattle.copy_slots.specs.declared.view.Taker.{Taker}
 use Rattle.copy_slots.specs.Ports.{parent_at, child_at}

@@ -5,14 +5,14 @@ use Rattle.forec_kernel.specs.Packed.{IsJob}
 use Rattle.forec_kernel.specs.Engine.{Job}
 use Rattle.combine_tree.specs.declared.packet.Packet.{Packet}
 use Rattle.combine_tree.specs.Plain.{plain_packet}
-use Rattle.copy_slots.specs.declared.view.Place.TheVariants.{Held}
+use Rattle.copy_slots.specs.declared.view.PacketAt.TheVariants.{Held}
 use Rattle.copy_slots.specs.Ports.{sent, got, looked_by_parent, parent_at, child_at, ParentIs}
 use Rattle.core_host.specs.Asking.{Replies}
 use Rattle.core_host.specs.Changes.{Extends}
 use Rattle.core_host.specs.Keeping.{State, code_in, Alike, LacksPacket}
 
 -- all but the parent's end and hand of mailbox k stays
-pub record Moves (k : ℕ) (a b : State) : Type 0 where
+pub record MovesPacket (k : ℕ) (a b : State) : Type 0 where
   pub code : b.code ≡ a.code
   pub places : b.places ≡ a.places
   pub seats : b.seats ≡ a.seats

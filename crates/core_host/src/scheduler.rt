@@ -6,7 +6,7 @@ ghost use Rattle.forec_kernel.specs.Packed.{HasRoom, IsJob};
 ghost use Rattle.thread_code.specs.Plain.{plain_code};
 ghost use Rattle.thread_code.specs.Valid.{of_shape};
 ghost use Rattle.combine_tree.specs.Plain.{plain_packet};
-ghost use Rattle.copy_slots.specs.declared.view.Place.TheVariants.{Held};
+ghost use Rattle.copy_slots.specs.declared.view.PacketAt.TheVariants.{Held};
 ghost use Rattle.copy_slots.specs.Ports.{sent, got, turn, ParentIs};
 ghost use Rattle.core_machine.specs.Held.{Loaded, StandsFor, CanBegin, CanRun, HasReply, HasSettled, HasJoined};
 ghost use Rattle.core_machine.specs.Forks.{jobs_at, with_replies};
@@ -15,7 +15,7 @@ ghost use Rattle.core_machine.specs.Replies.{Replies_by};
 ghost use Rattle.core_host.specs.Changes.{Grown};
 ghost use Rattle.core_host.specs.Done.{Posts, HasDone, InJob};
 ghost use Rattle.core_host.specs.Keeping.{State, code_in, IsSeated, IsFitted, Sits, QuietAbove, HasPacket, LacksPacket, CanSend, IsCalled, IsBack, Leaves, AtFork, HaveHeard};
-ghost use Rattle.core_host.specs.Moving.{Moves, HasSent, HasGot, HasLooked};
+ghost use Rattle.core_host.specs.Moving.{MovesPacket, HasSent, HasGot, HasLooked};
 
 use crate::boxed::Boxed;
 use crate::seat::Seat;
@@ -57,7 +57,7 @@ impl<'c, P: Port<ForecWork> + Drop> Scheduler<'c, P> {
         requires inside { mailbox < length self.old.mail.ends }
         requires seated { IsSeated self.old }
         requires has { HasPacket self.old mailbox }
-        ensures moves { Moves mailbox self.old self.new }
+        ensures moves { MovesPacket mailbox self.old self.new }
         ensures held { ParentIs self.new.mail mailbox Held }
         ensures empty { slice_get self.new.hands mailbox ≡ Some None }
         ensures room { HasRoom (of_shape (code_in self.old).shape) (suc mailbox) (plain_packet result) }
@@ -75,7 +75,7 @@ impl<'c, P: Port<ForecWork> + Drop> Scheduler<'c, P> {
         requires seated { IsSeated self.old }
         requires job { CanSend self.old thread.now k mailbox }
         requires has { HasPacket self.old mailbox }
-        ensures moves { Moves mailbox self.old self.new }
+        ensures moves { MovesPacket mailbox self.old self.new }
         ensures lacks { LacksPacket self.new mailbox }
         ensures sent { (w : Written) → slice_get (jobs_at (code_in self.old) thread.now) k ≡ Some w → HasSent self.old self.new mailbox w.job }
     {
@@ -89,7 +89,7 @@ impl<'c, P: Port<ForecWork> + Drop> Scheduler<'c, P> {
         requires inside { mailbox < length self.old.mail.ends }
         requires seated { IsSeated self.old }
         requires lacks { LacksPacket self.old mailbox }
-        ensures moves { Moves mailbox self.old self.new }
+        ensures moves { MovesPacket mailbox self.old self.new }
         ensures there { result ≡ true → HasGot self.old self.new mailbox }
         ensures awaited { result ≡ false → HasLooked self.old self.new mailbox }
         ensures turn { self.old.mail.tells ≡ true → result ≡ false → turn self.old.mail mailbox ≢ 0 }

@@ -12,7 +12,7 @@ ghost use Rattle.core_machine.specs.Forks.{jobs_at};
 ghost use Rattle.core_host.specs.Asking.{Asks, Replies};
 ghost use Rattle.core_host.specs.Changes.{HasWorked, Awaits, IsIdle};
 ghost use Rattle.core_host.specs.Keeping.{code_in, IsSeated, HasPacket, LacksPacket, AtFork, Quiet};
-ghost use Rattle.core_host.specs.Moving.{Moves, HasGot, HasLooked};
+ghost use Rattle.core_host.specs.Moving.{MovesPacket, HasGot, HasLooked};
 ghost use Rattle.core_host.specs.Waiting.{HasTold, IsGathering, HasReplies, IsWorking, IsAtRest, WaitsAt, IsBetween};
 ghost use Rattle.core_host.specs.Serving.{MovesBranches, Touches, OnlyLooks, HasMissed, AllMissed, KeepsServing};
 
@@ -101,7 +101,7 @@ impl<'c, P: Port<ForecWork> + Drop> Scheduler<'c, P> {
         requires inside { mailbox < length self.old.mail.ends }
         requires seated { IsSeated self.old }
         requires lacks { slice_get self.old.hands mailbox ≡ Some None → LacksPacket self.old mailbox }
-        ensures moves { Moves mailbox self.old self.new }
+        ensures moves { MovesPacket mailbox self.old self.new }
         ensures before { (p : PlainPacketState) → slice_get self.old.hands mailbox ≡ Some (Some p) → (result ≡ true) × (self.new ≡ self.old) }
         ensures there { result ≡ true → slice_get self.old.hands mailbox ≡ Some None → HasGot self.old self.new mailbox }
         ensures awaited { result ≡ false → HasLooked self.old self.new mailbox }

@@ -18,10 +18,10 @@ use Rattle.copy_slots.proofs.Placing.{role_is}
 use Rattle.copy_slots.proofs.Seating.{rewatches, snoc_cases}
 use Rattle.slot_board.specs.declared.seats.EndSeats.{EndSeats}
 use Rattle.slot_board.specs.declared.seats.CoreSeats.{CoreSeats}
-use Rattle.slot_board.specs.Slots.{PairSits, sender_of, taker_of, pair_ends, is_watch}
+use Rattle.slot_board.specs.Slots.{PairSits, AllPairs, sender_of, taker_of, pair_ends, is_watch}
 use Rattle.slot_board.specs.Splits.{pick}
 use Rattle.slot_board.specs.Dealt.{ends_of_core, core_state, IsNew, AllNew, taken_by_core, left_by_core, IsCut, FitsCore, AllFit, seats_state, Waits, spare_role}
-use Rattle.slot_board.proofs.Pairing.{AllPairs, both_of}
+use Rattle.slot_board.proofs.Pairing.{both_of}
 
 same_core : (a b : ℕ) → (a == b) ≡ true → a ≡ b
 same_core a b e = grind (arith, nat_tests)

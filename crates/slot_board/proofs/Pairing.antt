@@ -2,7 +2,7 @@
 use Rattle.std.proofs.Common.{◌≡◌, ℕ, suc, zero, ◌<◌, List, [], ◌∷◌, length, map, set, sym, refl, ap, ◌∙◌, subst, ⊎_elim, arith, Option, Some, None, Bool, true, slice_get}
 use Rattle.atomic_table.specs.Seated.{TableId}
 use Rattle.atomic_table.specs.declared.shared.Seat.{Seat}
-use Rattle.copy_slots.specs.declared.view.Place.{Place}
+use Rattle.copy_slots.specs.declared.view.PacketAt.{PacketAt}
 use Rattle.copy_slots.specs.declared.view.Sender.{Sender}
 use Rattle.copy_slots.specs.declared.view.Taker.{Taker}
 use Rattle.copy_slots.specs.declared.view.Role.{Role}
@@ -12,7 +12,7 @@ use Rattle.slot_board.specs.declared.seats.EndSeats.{EndSeats}
 use Rattle.copy_slots.specs.Mail.{role_checked, role_stopped}
 use Rattle.copy_slots.specs.Places.{Sits}
 use Rattle.copy_slots.specs.Ports.{Ends, PortState, parent_at, child_at, on_sender, on_taker, on_parent, on_child, IsParent, IsChild, sender_in, taker_in, root_of, stop_word, after_check, after_stop}
-use Rattle.slot_board.specs.Slots.{PairSits, sender_of, taker_of, pair_ends, slot_state, is_watch}
+use Rattle.slot_board.specs.Slots.{PairSits, AllPairs, sender_of, taker_of, pair_ends, slot_state, is_watch}
 use Rattle.copy_slots.proofs.Placing.{role_is}
 use Rattle.copy_slots.proofs.Seating.{set_cases}
 
@@ -20,7 +20,7 @@ module _ {A B Q : Type 0} (f : A → B) (h : B → Ends Q) where
   abbrev pub all_ends : List A → List (Ends Q)
   all_ends l = map h (map f l)
 
-  pub parent_inside : (l : List A) (k : ℕ) (p : Place) → IsParent (parent_at (all_ends l) k) p → k < length l
+  pub parent_inside : (l : List A) (k : ℕ) (p : PacketAt) → IsParent (parent_at (all_ends l) k) p → k < length l
   parent_inside [] k p e = absurd e
   parent_inside (a ∷ l) zero p e = omega arith
   parent_inside (a ∷ l) (suc k) p e = let t = parent_inside l k p e in omega arith
@@ -55,10 +55,7 @@ module _ {W P Q : Type 0} where
   both_of b = (b.parent, b.child)
 
 module _ {W P Q : Type 0} (z : TableId) (work : W) (blanks : List Q) where
-  abbrev pub AllPairs : List (EndSeats W P Q) → Type 0
-  AllPairs l = (j : ℕ) (s : EndSeats W P Q) → slice_get l j ≡ Some s → PairSits z work blanks j s.parent s.child
-
-  pub repairs : (l : List (EndSeats W P Q)) (k : ℕ) (b : EndSeats W P Q) → AllPairs l → PairSits z work blanks k b.parent b.child → AllPairs (set l k b)
+  pub repairs : (l : List (EndSeats W P Q)) (k : ℕ) (b : EndSeats W P Q) → AllPairs z work blanks l → PairSits z work blanks k b.parent b.child → AllPairs z work blanks (set l k b)
   repairs l k b all h j s e = ⊎_elim (λ (t : (j ≡ k) × (b ≡ s)). subst (λ (q : ℕ × EndSeats W P Q). PairSits z work blanks q.0 q.1.parent q.1.child) (λ i. (sym t.0 i, t.1 i)) h)
       (λ t. all j s t) (set_cases l k j b s e)
 

@@ -11,10 +11,10 @@ use Rattle.copy_slots.specs.declared.view.View.{View}
 use Rattle.copy_slots.specs.Places.{IsBoard}
 use Rattle.copy_slots.specs.Ports.{Ends, PortState, root_of, stored_of, stops_of}
 use Rattle.slot_board.specs.declared.seats.EndSeats.{EndSeats}
-use Rattle.slot_board.specs.Slots.{PairSits, sender_of, taker_of, pair_ends, slot_state, is_watch}
+use Rattle.slot_board.specs.Slots.{PairSits, AllPairs, sender_of, taker_of, pair_ends, slot_state, is_watch}
 use Rattle.slot_board.specs.Splits.{pick, role_joined}
 use Rattle.slot_board.specs.Joined.{or_else, joined_ends, joined_state, both_seats, AreJoined}
-use Rattle.slot_board.proofs.Pairing.{AllPairs, both_of}
+use Rattle.slot_board.proofs.Pairing.{both_of}
 use Rattle.slot_board.proofs.Cutting.{get_there, get_set, get_set_else}
 
 some_is : {A : Type 0} (a b : A) → Some a ≡ Some b → a ≡ b

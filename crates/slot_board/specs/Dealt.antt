@@ -1,7 +1,9 @@
 -- How the ends of all mailboxes are dealt to the cores.
-use Rattle.std.specs.Prelude.{◌≡◌, ℕ, zero, suc, ◌<◌, ◌≤◌, ◌^◌, ◌==◌, List, [], ◌∷◌, ◌++◌, length, map, slice_get, Option, Some, None, true, false}
+use Rattle.std.specs.Prelude.{◌≡◌, ℕ, zero, suc, ◌<◌, ◌≤◌, ◌^◌, ◌==◌, List, [], ◌∷◌, ◌++◌, length, map, slice_get, Option, Some, None, false}
 use Rattle.atomic_table.specs.Seated.{TableId}
 use Rattle.atomic_table.specs.declared.shared.Seat.{Seat}
+use Rattle.atomic_table.specs.declared.shared.Shared.{Shared}
+use Rattle.copy_slots.specs.declared.rule.Setup.{Setup}
 use Rattle.copy_slots.specs.declared.view.Role.{Role}
 use Rattle.copy_slots.specs.declared.view.Role.TheVariants.{Idle, Keeper}
 use Rattle.copy_slots.specs.declared.view.View.{View}
@@ -10,7 +12,7 @@ use Rattle.copy_slots.specs.Places.{IsBoard, Sits, Watches}
 use Rattle.copy_slots.specs.Ports.{Ends, PortState}
 use Rattle.slot_board.specs.declared.seats.EndSeats.{EndSeats}
 use Rattle.slot_board.specs.declared.seats.CoreSeats.{CoreSeats}
-use Rattle.slot_board.specs.Slots.{PairSits, sender_of, taker_of, slot_state, is_watch}
+use Rattle.slot_board.specs.Slots.{AllPairs, IsWatchSeat, sender_of, taker_of, port_state}
 use Rattle.slot_board.specs.Splits.{pick}
 
 -- ---- what each core gets
@@ -56,20 +58,20 @@ module _ {W P Q : Type 0} where
   -- the seats of a core belong to the table
   pub record FitsCore (z : TableId) (work : W) (h : CoreSeats W P Q) : Type 0 where
     pub sized : (length h.seats.items < 2 ^ 32) × IsBoard z (length h.seats.items)
-    pub watches : Watches z work h.watch.me.0.blanks h.watch.me.0.role h.watch × (is_watch h.watch.me.0.role ≡ true)
-    pub pairs : (k : ℕ) (s : EndSeats W P Q) → slice_get h.seats.items k ≡ Some s → PairSits z work h.watch.me.0.blanks k s.parent s.child
+    pub watches : IsWatchSeat z work h.watch
+    pub pairs : AllPairs z work h.watch.me.0.blanks h.seats.items
 
   abbrev pub AllFit : TableId → W → List (CoreSeats W P Q) → Type 0
   AllFit z work l = (c : ℕ) (h : CoreSeats W P Q) → slice_get l c ≡ Some h → FitsCore z work h
 
   -- the port that these seats make
   abbrev pub seats_state : TableId → W → CoreSeats W P Q → PortState W Q
-  seats_state z work h = slot_state z work h.watch.me.0.blanks (map (λ b. (b.parent, b.child)) h.seats.items) h.watch.me.0.role
+  seats_state z work h = port_state z work h.watch h.seats.items
 
   -- what is left for the cores from this one on
   pub record Waits (z : TableId) (work : W) (blanks : List Q) (core : ℕ) (ends : List (ℕ × ℕ)) (all : List (EndSeats W P Q)) : Type 0 where
     pub long : length all ≡ length ends
-    pub sits : (k : ℕ) (p : EndSeats W P Q) → slice_get all k ≡ Some p → PairSits z work blanks k p.parent p.child
+    pub sits : AllPairs z work blanks all
     pub parent : (k : ℕ) (e : ℕ × ℕ) (p : EndSeats W P Q) → slice_get ends k ≡ Some e → slice_get all k ≡ Some p → core ≤ e.0 → sender_of p.parent ≡ Some new_sender
     pub child : (k : ℕ) (e : ℕ × ℕ) (p : EndSeats W P Q) → slice_get ends k ≡ Some e → slice_get all k ≡ Some p → core ≤ e.1 → taker_of p.child ≡ Some new_taker
 
@@ -77,3 +79,13 @@ module _ {W P Q : Type 0} where
 abbrev pub spare_role : {Q : Type 0} → ℕ → ℕ → ℕ → Role Q
 spare_role root n zero = Keeper n false []
 spare_role root n (suc core) = pick (core == root) (Idle []) (spare_role root n core)
+
+module _ {W P Q M : Type 0} (top : Shared (Option P) (View W Q) (Setup W P Q) M) where
+  -- no core has its seats yet: the root's mark is in one seat, and both ends of each mailbox in others
+  abbrev pub CanDealCores : List (ℕ × ℕ) → Seat (Option P) (View W Q) → List (EndSeats W P Q) → Type 0
+  CanDealCores ends spare all = (bs : List Q) × Watches top.table_id top.key.work.value bs (Keeper (length ends) false []) spare × Waits top.table_id top.key.work.value bs 0 ends all
+
+  -- these are the seats of the cores, and make their ports
+  abbrev pub DealsCores : List (ℕ × ℕ) → ℕ → ℕ → Seat (Option P) (View W Q) → List (EndSeats W P Q) → List (CoreSeats W P Q) → Type 0
+  DealsCores ends root cores spare all hands = (bs : List Q) → Watches top.table_id top.key.work.value bs (Keeper (length ends) false []) spare → Waits top.table_id top.key.work.value bs 0 ends all
+      → AllFit top.table_id top.key.work.value hands × (map (seats_state top.table_id top.key.work.value) hands ≡ new_ports top.table_id top.key.work.value bs ends root cores)

@@ -1,9 +1,15 @@
 -- How a seat's view is cut in two, and how two are made one.
-use Rattle.std.specs.Prelude.{[], ◌++◌, None, Bool, true, false}
+use Rattle.std.specs.Prelude.{◌≡◌, ℕ, List, [], ◌++◌, Option, Some, None, Bool, true, false}
+use Rattle.atomic_table.specs.declared.shared.Seat.{Seat}
+use Rattle.atomic_table.specs.declared.shared.Shared.{Shared}
+use Rattle.copy_slots.specs.declared.rule.Setup.{Setup}
 use Rattle.copy_slots.specs.declared.view.Role.{Role}
 use Rattle.copy_slots.specs.declared.view.Role.TheVariants.{Idle, Keeper, Mailbox}
 use Rattle.copy_slots.specs.declared.view.View.{View}
-use Rattle.copy_slots.specs.Mail.{posed}
+use Rattle.copy_slots.specs.Mail.{new_sender, new_taker, posed}
+use Rattle.copy_slots.specs.Places.{Sits, Watches}
+use Rattle.copy_slots.specs.Steps.{IsFreshSeat}
+use Rattle.slot_board.specs.Slots.{is_watch}
 
 abbrev pub pick : {A : Type 0} → Bool → A → A → A
 pick true a b = a
@@ -38,3 +44,28 @@ module _ {W Q : Type 0} where
 
   abbrev pub joined : View W Q → View W Q → View W Q
   joined v w = posed v (role_joined v.role w.role)
+
+module _ {W P Q M : Type 0} (top : Shared (Option P) (View W Q) (Setup W P Q) M) where
+  -- the seat has both ends of a mailbox, and nothing was done there
+  abbrev pub HasBothFresh : Seat (Option P) (View W Q) → Type 0
+  HasBothFresh s = (bs : List Q) × (k : ℕ) × IsFreshSeat top bs k s
+
+  -- of such a seat, one keeps the parent's end and another gets the child's
+  abbrev pub PartsEnds : Seat (Option P) (View W Q) → Seat (Option P) (View W Q) → Seat (Option P) (View W Q) → Type 0
+  PartsEnds old parent child = (bs : List Q) (k : ℕ) → IsFreshSeat top bs k old
+      → Sits top.table_id top.key.work.value bs k (Some new_sender) None parent × Sits top.table_id top.key.work.value bs k None (Some new_taker) child
+
+  -- of a seat that looks at the stop word, one is left and another comes of it; for the root's core that gets all
+  abbrev pub PartsWatch : Bool → Seat (Option P) (View W Q) → Seat (Option P) (View W Q) → Seat (Option P) (View W Q) → Type 0
+  PartsWatch is_root old left next = (bs : List Q) (role : Role Q) → Watches top.table_id top.key.work.value bs role old
+      → Watches top.table_id top.key.work.value bs (pick is_root (Idle []) role) left × Watches top.table_id top.key.work.value bs (pick is_root role (Idle [])) next
+
+  -- both seats look at the stop word
+  abbrev pub CanMerge : Seat (Option P) (View W Q) → Seat (Option P) (View W Q) → Type 0
+  CanMerge s t = (bs : List Q) × (role : Role Q) × (more : Role Q) × (is_watch role ≡ true) × (is_watch more ≡ true)
+      × Watches top.table_id top.key.work.value bs role s × Watches top.table_id top.key.work.value bs more t
+
+  -- one seat comes of both
+  abbrev pub MergesWatches : Seat (Option P) (View W Q) → Seat (Option P) (View W Q) → Seat (Option P) (View W Q) → Type 0
+  MergesWatches s t both = (bs : List Q) (role more : Role Q) → Watches top.table_id top.key.work.value bs role s → Watches top.table_id top.key.work.value bs more t
+      → Watches top.table_id top.key.work.value bs (role_joined role more) both

@@ -60,7 +60,8 @@ impl<W: Work> SlotBoard<W> {
     ) -> Result<SlotBoard<W>, OutOfMemory>
         requires { (length blanks.items < 2 ^ 16) × (length ends.now ≡ length blanks.items) }
         ensures whole { IfOk result (λ b. ⟦<SlotBoard<W> as GivesPorts<W>>⟧.is_whole b) }
-        ensures ports { IfOk result (λ b. ⟦<SlotBoard<W> as GivesPorts<W>>⟧.ports b ≡ new_ports (⟦<SlotBoard<W> as GivesPorts<W>>⟧.board b) work (map W.plain blanks.items) ends.now root cores) }
+        ensures ports { IfOk result (λ b. ⟦<SlotBoard<W> as GivesPorts<W>>⟧.ports b
+            ≡ new_ports (⟦<SlotBoard<W> as GivesPorts<W>>⟧.board b) work (map W.plain blanks.items) ends.now root cores) }
     {
         let (board, mut keeper) = new_table(alloc, &work, blanks)?;
         let mut all = deal_mailboxes(alloc, &board.shared, &mut keeper, ends.len())?;

@@ -1,8 +1,8 @@
 //! How the ends of all mailboxes are dealt to the cores.
-ghost use Rattle.std.specs.Prelude.{◌≡◌, ℕ, ◌+◌, ◌<◌, ◌^◌, [], ◌∷◌, length, map, Option, Some, None, IfOk, true, false, Bool, List};
-ghost use Rattle.copy_slots.specs.declared.view.Role.TheVariants.{Keeper};
-ghost use Rattle.copy_slots.specs.Places.{IsBoard, Watches};
-ghost use Rattle.slot_board.specs.Dealt.{AllFit, AllNew, IsCut, IsNew, Waits, left_by_core, new_ports, seats_state, spare_role, taken_by_core};
+ghost use Rattle.std.specs.Prelude.{◌≡◌, ℕ, ◌+◌, ◌<◌, ◌^◌, length, None, IfOk};
+ghost use Rattle.copy_slots.specs.Places.{IsBoard};
+ghost use Rattle.copy_slots.specs.Steps.{CanDeal, CanDealAll, HandsOut, HandsOutAll};
+ghost use Rattle.slot_board.specs.Dealt.{AllNew, CanDealCores, DealsCores, IsCut, IsNew, left_by_core, taken_by_core};
 ghost use Rattle.slot_board.specs.Splits.{pick};
 
 use crate::seats::{CoreSeats, EndSeats};
@@ -17,8 +17,8 @@ use std::collections::VecDeque;
 /// Both ends of the keeper's next mailbox, each in a seat of its own.
 fn deal_mailbox<W: Work>(top: &MailTable<W>, keeper: &mut MailSeat<W>, from: usize) -> EndSeats<W>
     requires board { (n : ℕ) × IsBoard top.now.table_id n }
-    requires keeper { (bs : List W.Plain) × (from < length bs) × Watches top.now.table_id top.now.key.work.value bs (Keeper from false []) keeper.old }
-    ensures { (bs : List W.Plain) → Watches top.now.table_id top.now.key.work.value bs (Keeper from false []) keeper.old → Watches top.now.table_id top.now.key.work.value bs (Keeper (from + 1) false []) keeper.new × IsNew top.now.table_id top.now.key.work.value bs from result.parent result.child }
+    requires keeper { CanDeal top.now from keeper.old }
+    ensures { HandsOut top.now from (from + 1) keeper.old keeper.new (λ bs. IsNew top.now.table_id top.now.key.work.value bs from result.parent result.child) }
 {
     let mut parent = deal_one(top, keeper, from);
     let child = part(top, &mut parent);
@@ -36,8 +36,9 @@ pub(crate) fn deal_mailboxes<W: Work>(
     count: usize,
 ) -> Result<Vec<EndSeats<W>>, OutOfMemory>
     requires board { (n : ℕ) × IsBoard top.now.table_id n }
-    requires keeper { (bs : List W.Plain) × (count ≡ length bs) × Watches top.now.table_id top.now.key.work.value bs (Keeper 0 false []) keeper.old }
-    ensures { IfOk result (λ v. (length v.items ≡ count) × ((bs : List W.Plain) → count ≡ length bs → Watches top.now.table_id top.now.key.work.value bs (Keeper 0 false []) keeper.old → Watches top.now.table_id top.now.key.work.value bs (Keeper count false []) keeper.new × AllNew top.now.table_id top.now.key.work.value bs v.items)) }
+    requires keeper { CanDealAll top.now count keeper.old }
+    ensures count { IfOk result (λ v. length v.items ≡ count) }
+    ensures fresh { IfOk result (λ v. HandsOutAll top.now count keeper.old keeper.new (λ bs. AllNew top.now.table_id top.now.key.work.value bs v.items)) }
 {
     let mut all = Vec::new(alloc);
     for from in 0..count {
@@ -95,8 +96,8 @@ pub(crate) fn deal_cores<W: Work>(
     root: u32,
 ) -> Result<VecDeque<CoreSeats<W>>, OutOfMemory>
     requires board { (length ends.now < 2 ^ 32) × IsBoard top.now.table_id (length ends.now) }
-    requires seats { (bs : List W.Plain) × Watches top.now.table_id top.now.key.work.value bs (Keeper (length ends.now) false []) spare.old × Waits top.now.table_id top.now.key.work.value bs 0 ends.now all.old.items }
-    ensures { IfOk result (λ v. (bs : List W.Plain) → Watches top.now.table_id top.now.key.work.value bs (Keeper (length ends.now) false []) spare.old → Waits top.now.table_id top.now.key.work.value bs 0 ends.now all.old.items → AllFit top.now.table_id top.now.key.work.value v.items × (map (seats_state top.now.table_id top.now.key.work.value) v.items ≡ new_ports top.now.table_id top.now.key.work.value bs ends.now root cores)) }
+    requires seats { CanDealCores top.now ends.now spare.old all.old.items }
+    ensures { IfOk result (λ v. DealsCores top.now ends.now root cores spare.old all.old.items v.items) }
 {
     let mut hands = VecDeque::new(alloc);
     for core in 0..cores {

@@ -1,8 +1,7 @@
 //! The port of one core.
-ghost use Rattle.std.specs.Prelude.{◌≡◌, ◌≢◌, ℕ, ◌+◌, ◌<◌, ◌^◌, [], ◌∷◌, ◌++◌, length, slice_get, Option, Some, None, IfSome, true, false, Bool, List, map};
-ghost use Rattle.slot_board.specs.declared.seats.EndSeats.{EndSeats};
-ghost use Rattle.copy_slots.specs.Places.{IsBoard, Sits, Watches};
-ghost use Rattle.slot_board.specs.Slots.{PairSits, is_watch};
+ghost use Rattle.std.specs.Prelude.{◌≡◌, ◌<◌, ◌^◌, length};
+ghost use Rattle.copy_slots.specs.Places.{IsBoard};
+ghost use Rattle.slot_board.specs.Slots.{AllPairs, IsWatchSeat};
 
 use crate::joining::join_seats;
 use crate::seats::EndSeats;
@@ -19,14 +18,14 @@ pub struct SlotPort<'b, W: Work> {
     pub(crate) watch: MailSeat<W>,
     pub(crate) seats: Vec<EndSeats<W>>,
     ghost sized: { (length seats.items < 2 ^ 32) × IsBoard top.now.shared.table_id (length seats.items) },
-    ghost watches: { Watches top.now.shared.table_id top.now.shared.key.work.value watch.me.0.blanks watch.me.0.role watch × (is_watch watch.me.0.role ≡ true) },
-    ghost pairs: { (k : ℕ) (s : EndSeats W W.Packet W.Plain) → slice_get seats.items k ≡ Some s → PairSits top.now.shared.table_id top.now.shared.key.work.value watch.me.0.blanks k s.parent s.child },
+    ghost watches: { IsWatchSeat top.now.shared.table_id top.now.shared.key.work.value watch },
+    ghost pairs: { AllPairs top.now.shared.table_id top.now.shared.key.work.value watch.me.0.blanks seats.items },
 }
 
 impl<'b, W: Work> Port<W> for SlotPort<'b, W> {
-    ghost use Rattle.slot_board.specs.Slots.{slot_state};
+    ghost use Rattle.slot_board.specs.Slots.{port_state};
 
-    ghost state = { λ s. slot_state s.top.now.shared.table_id s.top.now.shared.key.work.value s.watch.me.0.blanks (map (λ b. (b.parent, b.child)) s.seats.items) s.watch.me.0.role };
+    ghost state = { λ s. port_state s.top.now.shared.table_id s.top.now.shared.key.work.value s.watch s.seats.items };
 
     fn first(&mut self, k: u32) -> W::Packet {
         let Some(seat) = &mut self.seats[k as usize].parent else {
@@ -82,7 +81,8 @@ impl<'b, W: Work> SlotPort<'b, W> {
     /// One port with the ends of both. It is the port of the root's core where one of them is.
     pub fn join(self, other: SlotPort<'b, W>) -> SlotPort<'b, W>
         requires { IsOneBoard (⟦<SlotPort<'b, W> as Port<W>>⟧.state self) (⟦<SlotPort<'b, W> as Port<W>>⟧.state other) }
-        ensures { ⟦<SlotPort<'b, W> as Port<W>>⟧.state result ≡ joined_state (⟦<SlotPort<'b, W> as Port<W>>⟧.state self.entry) (⟦<SlotPort<'b, W> as Port<W>>⟧.state other.entry) }
+        ensures { ⟦<SlotPort<'b, W> as Port<W>>⟧.state result
+            ≡ joined_state (⟦<SlotPort<'b, W> as Port<W>>⟧.state self.entry) (⟦<SlotPort<'b, W> as Port<W>>⟧.state other.entry) }
     {
         let SlotPort {
             top,

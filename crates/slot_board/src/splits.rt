@@ -1,11 +1,8 @@
 //! How seats are split off, before the first call of a port, and joined.
-ghost use Rattle.std.specs.Prelude.{◌≡◌, ℕ, [], List, Option, Some, None, Bool, true, false};
-ghost use Rattle.copy_slots.specs.declared.view.Role.{Role};
-ghost use Rattle.copy_slots.specs.declared.view.Role.TheVariants.{Idle};
-ghost use Rattle.copy_slots.specs.Mail.{new_sender, new_taker};
-ghost use Rattle.copy_slots.specs.Places.{IsBoard, Sits, Watches};
-ghost use Rattle.slot_board.specs.Slots.{is_watch};
-ghost use Rattle.slot_board.specs.Splits.{pick, role_joined};
+ghost use Rattle.std.specs.Prelude.{◌≡◌, ℕ};
+ghost use Rattle.copy_slots.specs.Places.{IsBoard};
+ghost use Rattle.copy_slots.specs.Steps.{LooksAtStop};
+ghost use Rattle.slot_board.specs.Splits.{HasBothFresh, PartsEnds, PartsWatch, CanMerge, MergesWatches};
 
 use atomic_table::{Join, Split};
 use copy_slots::Work;
@@ -57,8 +54,8 @@ impl<W: Work> Join<View<W, W::Plain>> for Merges<W> {
 /// The child's end of a mailbox of which nothing was done, off the seat that has both ends.
 pub(crate) fn part<W: Work>(top: &MailTable<W>, seat: &mut MailSeat<W>) -> MailSeat<W>
     requires board { (n : ℕ) × IsBoard top.now.table_id n }
-    requires seat { (bs : List W.Plain) × (k : ℕ) × Sits top.now.table_id top.now.key.work.value bs k (Some new_sender) (Some new_taker) seat.old }
-    ensures { (bs : List W.Plain) (k : ℕ) → Sits top.now.table_id top.now.key.work.value bs k (Some new_sender) (Some new_taker) seat.old → Sits top.now.table_id top.now.key.work.value bs k (Some new_sender) None seat.new × Sits top.now.table_id top.now.key.work.value bs k None (Some new_taker) result }
+    requires seat { HasBothFresh top.now seat.old }
+    ensures { PartsEnds top.now seat.old seat.new result }
 {
     top.split_seat::<Parts<W>>(seat)
 }
@@ -70,8 +67,8 @@ pub(crate) fn next_watch<W: Work>(
     is_root: bool,
 ) -> MailSeat<W>
     requires board { (n : ℕ) × IsBoard top.now.table_id n }
-    requires spare { (bs : List W.Plain) × (role : Role W.Plain) × Watches top.now.table_id top.now.key.work.value bs role spare.old }
-    ensures { (bs : List W.Plain) (role : Role W.Plain) → Watches top.now.table_id top.now.key.work.value bs role spare.old → Watches top.now.table_id top.now.key.work.value bs (pick is_root (Idle []) role) spare.new × Watches top.now.table_id top.now.key.work.value bs (pick is_root role (Idle [])) result }
+    requires spare { LooksAtStop top.now spare.old }
+    ensures { PartsWatch top.now is_root spare.old spare.new result }
 {
     let mut next = top.split_seat::<Idles<W>>(spare);
     if is_root {
@@ -83,8 +80,8 @@ pub(crate) fn next_watch<W: Work>(
 /// What one seat at the stop word has, into another one.
 pub(crate) fn merge<W: Work>(top: &MailTable<W>, seat: &mut MailSeat<W>, other: MailSeat<W>)
     requires board { (n : ℕ) × IsBoard top.now.table_id n }
-    requires seats { (bs : List W.Plain) × (role : Role W.Plain) × (more : Role W.Plain) × (is_watch role ≡ true) × (is_watch more ≡ true) × Watches top.now.table_id top.now.key.work.value bs role seat.old × Watches top.now.table_id top.now.key.work.value bs more other }
-    ensures { (bs : List W.Plain) (role more : Role W.Plain) → Watches top.now.table_id top.now.key.work.value bs role seat.old → Watches top.now.table_id top.now.key.work.value bs more other → Watches top.now.table_id top.now.key.work.value bs (role_joined role more) seat.new }
+    requires seats { CanMerge top.now seat.old other }
+    ensures { MergesWatches top.now seat.old other seat.new }
 {
     top.join_seat::<Merges<W>>(seat, other);
 }

@@ -3,7 +3,7 @@ use Rattle.std.proofs.Common.{◌≡◌, ◌+◌, ◌*◌, ◌/◌, ◌%◌, ℕ
 use Rattle.std.specs.List.{sum}
 use Rattle.std.proofs.lemmas.List.Sums.{sum_by_push}
 use Rattle.std.proofs.Math.Nat.{div-add-mod, mul-add-mod_self_left}
-use Rattle.copy_slots.specs.declared.view.Place.{Place}
+use Rattle.copy_slots.specs.declared.view.PacketAt.{PacketAt}
 use Rattle.copy_slots.specs.declared.view.Sender.{Sender}
 use Rattle.copy_slots.specs.declared.view.Taker.{Taker}
 use Rattle.copy_slots.specs.Ports.{Ends, PortState, child_at, on_parent, on_child, taken_by, on_taker, IsChild, ParentIs, ChildIs}
@@ -25,7 +25,7 @@ module _ {W Q : Type 0} where
   root_kept s t es e = ap (λ (r : PortState W Q). r.root) e
 
   -- the parent's end changes, or the child's
-  pub parent_after : (s t : PortState W Q) (f : Sender Q → Sender Q) (p p' : Place) → t ≡ (record s { ends = on_parent s.ends 0 f }) → ParentIs s 0 p → ((x : Sender Q) → x.place ≡ p → (f x).place ≡ p') → ParentIs t 0 p'
+  pub parent_after : (s t : PortState W Q) (f : Sender Q → Sender Q) (p p' : PacketAt) → t ≡ (record s { ends = on_parent s.ends 0 f }) → ParentIs s 0 p → ((x : Sender Q) → x.place ≡ p → (f x).place ≡ p') → ParentIs t 0 p'
   parent_after s t f p p' e is moves = subst (λ (r : PortState W Q). ParentIs r 0 p') (sym e) (parent_moves s.ends 0 f p p' is moves)
 
   pub child_after : (s t : PortState W Q) (f : Taker Q → Taker Q) (b b' : Bool) → t ≡ (record s { ends = on_child s.ends 0 f }) → ChildIs s 0 b → ((y : Taker Q) → y.holds ≡ b → (f y).holds ≡ b') → ChildIs t 0 b'

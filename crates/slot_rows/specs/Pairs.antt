@@ -1,6 +1,6 @@
 -- The two ports of a board of one mailbox.
 use Rattle.std.specs.Prelude.{◌≡◌, [], true, false}
-use Rattle.copy_slots.specs.declared.view.Place.TheVariants.{Fresh}
+use Rattle.copy_slots.specs.declared.view.PacketAt.TheVariants.{Fresh}
 use Rattle.copy_slots.specs.Ports.{PortState, ParentIs, ChildIs, taken}
 use Rattle.slot_board.specs.Joined.{IsOneBoard}
 

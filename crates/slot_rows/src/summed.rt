@@ -1,6 +1,6 @@
 //! Two threads: one sends jobs, each after the reply to the one before, and the other answers with their sums.
 ghost use Rattle.std.specs.Prelude.{◌≡◌, ◌%◌, ◌^◌, sum, false};
-ghost use Rattle.copy_slots.specs.declared.view.Place.TheVariants.{Held};
+ghost use Rattle.copy_slots.specs.declared.view.PacketAt.TheVariants.{Held};
 ghost use Rattle.copy_slots.specs.Ports.{ChildIs, ParentIs, taken};
 ghost use Rattle.slot_board.specs.Joined.{IsOneBoard};
 ghost use Rattle.slot_rows.specs.Pairs.{ArePair, IsAnswerer, IsAsker};

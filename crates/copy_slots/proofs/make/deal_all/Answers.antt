@@ -32,4 +32,7 @@ loop-from-preserved g c = let b : BothEnds g.row.W.Denot g.row.W-Packet.Denot g.
 
 pub returns : goal.returns
 returns g c = let i = c.loop-from.invariant in let t = c.loop-from-test.false in let all : c.loop-from.from ≡ c.args.count = omega arith in
-    (i.long ∙ all, λ bs n h. let k = i.kept bs n h in (subst (λ m. Watches c.args.top.now.table_id c.args.top.now.key.work.value bs (Keeper m false []) c.loop-from.keeper) all k.0, k.1))
+    record {
+      count = i.long ∙ all;
+      fresh = λ bs n h. let k = i.kept bs n h in (subst (λ m. Watches c.args.top.now.table_id c.args.top.now.key.work.value bs (Keeper m false []) c.loop-from.keeper) all k.0, k.1);
+    }

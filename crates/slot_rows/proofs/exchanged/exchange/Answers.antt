@@ -1,5 +1,5 @@
 use Rattle.std.proofs.Common.{refl, Some, None, true, false}
-use Rattle.copy_slots.specs.declared.view.Place.TheVariants.{Fresh, Held, Out}
+use Rattle.copy_slots.specs.declared.view.PacketAt.TheVariants.{Fresh, Held, Out}
 use Rattle.copy_slots.specs.Mail.{sender_opened, sender_sent}
 use Rattle.copy_slots.specs.Ports.{sender_seen, taker_seen}
 use Rattle.slot_rows.proofs.Asking.{parent_after, child_after}

@@ -1,5 +1,5 @@
 use Rattle.std.proofs.Common.{refl, ◌∙◌, Some, None}
-use Rattle.copy_slots.specs.declared.view.Place.TheVariants.{Held, Out}
+use Rattle.copy_slots.specs.declared.view.PacketAt.TheVariants.{Held, Out}
 use Rattle.copy_slots.specs.Mail.{sender_sent}
 use Rattle.copy_slots.specs.Ports.{on_parent, sender_seen}
 use Rattle.slot_rows.proofs.Asking.{one_board_then, root_kept, same_board, parent_after}

@@ -1,5 +1,5 @@
 use Rattle.std.proofs.Common.{◌≡◌}
-use Rattle.copy_slots.specs.declared.view.Place.TheVariants.{Out}
+use Rattle.copy_slots.specs.declared.view.PacketAt.TheVariants.{Out}
 use Rattle.copy_slots.specs.Ports.{ParentIs}
 use Rattle.slot_board.specs.Joined.{IsOneBoard}
 use Rattle.slot_rows.proofs.summed.ask.Given as goal

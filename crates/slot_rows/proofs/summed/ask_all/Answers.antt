@@ -1,5 +1,5 @@
 use Rattle.std.proofs.Common.{refl, ◌∙◌}
-use Rattle.copy_slots.specs.declared.view.Place.TheVariants.{Fresh, Held}
+use Rattle.copy_slots.specs.declared.view.PacketAt.TheVariants.{Fresh, Held}
 use Rattle.copy_slots.specs.Mail.{sender_opened}
 use Rattle.copy_slots.specs.Ports.{on_parent}
 use Rattle.slot_rows.proofs.Asking.{parent_after, root_kept, same_board}

@@ -1,5 +1,5 @@
 use Rattle.std.proofs.Common.{arith, ◌≡◌, ◌<◌, ◌^◌, length, Some, sym, ◌∙◌, subst, length-set}
-use Rattle.copy_slots.specs.declared.view.Place.TheVariants.{Out}
+use Rattle.copy_slots.specs.declared.view.PacketAt.TheVariants.{Out}
 use Rattle.copy_slots.specs.declared.both.BothEnds.{BothEnds}
 use Rattle.copy_slots.specs.Places.{IsBoard}
 use Rattle.copy_slots.specs.Ports.{IsParent, sender_in, taker_in, sender_seen, sent_by, turn_of}

@@ -1,5 +1,5 @@
 use Rattle.std.proofs.Common.{arith, ◌<◌, ◌^◌, ◌++◌, ◌∷◌, [], length, Some, sym, subst, length-set}
-use Rattle.copy_slots.specs.declared.view.Place.TheVariants.{Held}
+use Rattle.copy_slots.specs.declared.view.PacketAt.TheVariants.{Held}
 use Rattle.copy_slots.specs.declared.both.BothEnds.{BothEnds}
 use Rattle.copy_slots.specs.Mail.{sender_sent}
 use Rattle.copy_slots.specs.Places.{IsBoard}

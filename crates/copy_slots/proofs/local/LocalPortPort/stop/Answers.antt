@@ -1,7 +1,8 @@
 use Rattle.std.proofs.Common.{map, sym, ap, ◌∙◌, subst}
 use Rattle.copy_slots.specs.Mail.{role_stopped}
 use Rattle.copy_slots.specs.Ports.{root_of, local_state}
-use Rattle.copy_slots.proofs.Seating.{root_stopped, stopped_state, rewatches, AllSit}
+use Rattle.copy_slots.specs.Fresh.{AllSit}
+use Rattle.copy_slots.proofs.Seating.{root_stopped, stopped_state, rewatches}
 use Rattle.copy_slots.proofs.local.LocalPortPort.stop.Goals as goal
 
 pub invariant_of-self-2 : goal.invariant_of-self-2

@@ -2,7 +2,8 @@ use Rattle.std.proofs.Common.{map, sym, ap, ◌∙◌, subst}
 use Rattle.copy_slots.specs.Mail.{role_checked}
 use Rattle.copy_slots.specs.Ports.{root_of, stored_of, local_state, stop_word}
 use Rattle.copy_slots.specs.Places.{Watches}
-use Rattle.copy_slots.proofs.Seating.{root_checked, keeper_is, checked_state, rewatches, AllSit}
+use Rattle.copy_slots.specs.Fresh.{AllSit}
+use Rattle.copy_slots.proofs.Seating.{root_checked, keeper_is, checked_state, rewatches}
 use Rattle.copy_slots.proofs.local.LocalPortPort.stopped.Goals as goal
 
 pub invariant_of-self-2 : goal.invariant_of-self-2

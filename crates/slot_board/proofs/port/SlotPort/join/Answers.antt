@@ -1,10 +1,9 @@
 use Rattle.std.proofs.Common.{◌<◌, ◌^◌, List, length, sym, ap, ◌∙◌, subst}
 use Rattle.atomic_table.specs.Seated.{TableId}
 use Rattle.copy_slots.specs.Places.{IsBoard, Watches}
-use Rattle.slot_board.specs.Slots.{is_watch}
+use Rattle.slot_board.specs.Slots.{AllPairs, is_watch}
 use Rattle.slot_board.specs.Splits.{role_joined}
 use Rattle.copy_slots.proofs.Seating.{rewatches}
-use Rattle.slot_board.proofs.Pairing.{AllPairs}
 use Rattle.slot_board.proofs.Uniting.{one_table, as_many, join_says, joined_sits, state_joined}
 use Rattle.slot_board.proofs.port.SlotPort.join.Goals as goal
 

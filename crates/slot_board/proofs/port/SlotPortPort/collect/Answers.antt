@@ -1,6 +1,6 @@
 use Rattle.std.proofs.Common.{arith, ◌<◌, ◌^◌, length, Some, None, sym, ap, ◌∙◌, subst, length-set}
 use Rattle.std.proofs.lemmas.Option.{IfSome_then}
-use Rattle.copy_slots.specs.declared.view.Place.TheVariants.{Out}
+use Rattle.copy_slots.specs.declared.view.PacketAt.TheVariants.{Out}
 use Rattle.slot_board.specs.declared.seats.EndSeats.{EndSeats}
 use Rattle.copy_slots.specs.Places.{IsBoard}
 use Rattle.copy_slots.specs.Ports.{IsParent, sender_in, sender_seen, in_plain, sent_by}

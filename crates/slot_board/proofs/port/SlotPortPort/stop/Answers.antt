@@ -1,9 +1,9 @@
 use Rattle.std.proofs.Common.{map, sym, ap, ◌∙◌, subst}
 use Rattle.copy_slots.specs.Mail.{role_stopped}
 use Rattle.copy_slots.specs.Places.{Watches}
-use Rattle.slot_board.specs.Slots.{slot_state, is_watch}
+use Rattle.slot_board.specs.Slots.{AllPairs, slot_state, is_watch}
 use Rattle.copy_slots.proofs.Seating.{rewatches}
-use Rattle.slot_board.proofs.Pairing.{AllPairs, both_of, watch_stopped, stopped_state, root_kept}
+use Rattle.slot_board.proofs.Pairing.{both_of, watch_stopped, stopped_state, root_kept}
 use Rattle.slot_board.proofs.port.SlotPortPort.stop.Goals as goal
 
 pub stop-requires-clause-seat : goal.stop-requires-clause-seat

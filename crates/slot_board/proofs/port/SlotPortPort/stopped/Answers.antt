@@ -2,9 +2,9 @@ use Rattle.std.proofs.Common.{map, sym, ap, ◌∙◌, subst}
 use Rattle.copy_slots.specs.Mail.{role_checked}
 use Rattle.copy_slots.specs.Places.{Watches}
 use Rattle.copy_slots.specs.Ports.{stored_of, stop_word}
-use Rattle.slot_board.specs.Slots.{slot_state, is_watch}
+use Rattle.slot_board.specs.Slots.{AllPairs, slot_state, is_watch}
 use Rattle.copy_slots.proofs.Seating.{rewatches}
-use Rattle.slot_board.proofs.Pairing.{AllPairs, both_of, watch_checked, checked_state, root_kept}
+use Rattle.slot_board.proofs.Pairing.{both_of, watch_checked, checked_state, root_kept}
 use Rattle.slot_board.proofs.port.SlotPortPort.stopped.Goals as goal
 
 pub invariant_of-self : goal.invariant_of-self
