@@ -19,7 +19,7 @@ use Rattle.core_machine.specs.declared.thread.Thread.{Thread}
 use Rattle.core_machine.specs.declared.thread.Phase.TheVariants as phase
 use Rattle.core_machine.specs.Forks.{branch_at, with_replies}
 use Rattle.core_machine.specs.Held.{machine_in, machine_of, branch_of, Placed, Joins, Joins_by, Loaded, HasSettled, HasJoined, Exceeds, Stands_in, Stands_at, Stands_by, Waits_at, StandsFor, never, since, settling, joining}
-use Rattle.core_machine.specs.Merging.{merging_with, Joining_on, Comes_by, Combined, Starts, Prepared, Ends, Ends_by, Steps_on}
+use Rattle.core_machine.specs.Merging.{merging_with, Joining_on, Comes_by, Combined, StartsJoins, Prepared, Ends, Ends_by, Steps_on}
 use Rattle.core_machine.proofs.Asking.{waits, view_is, units_is}
 use Rattle.core_machine.proofs.Back.{not_over}
 use Rattle.thread_state.proofs.Lists.{drop_next, drop_past}
@@ -41,7 +41,7 @@ pub record Has_come (c : PlainCode) (h h1 : Thread) (rs : List Reply) (ys : List
   pub same : at_fork before job (forks ++ rs ∷ []) ≡ ys
 
 module _ (c : PlainCode) (h : Thread) (l : Loaded c h) where
-  module _ (at : HasSettled h (length h.branches.numbers)) (h1 : Thread) (s : Starts c h h1) where
+  module _ (at : HasSettled h (length h.branches.numbers)) (h1 : Thread) (s : StartsJoins c h h1) where
     abbrev w0 : Waits_at c l.needs h at.before
     w0 = waits c h l at
 

@@ -19,7 +19,7 @@ use Rattle.core_machine.specs.declared.branches.Verdict.TheVariants as verdict
 use Rattle.core_machine.specs.declared.thread.Thread.{Thread}
 use Rattle.core_machine.specs.declared.thread.Phase.TheVariants as phase
 use Rattle.core_machine.specs.Held.{IsNarrow, Loaded, Placed, Joins, Joins_by, Combines, FoldsFit, some_use, total_in, totals_in, Exceeds}
-use Rattle.core_machine.specs.Merging.{merging_with, calling, with_units, Joining_on, Fails_by, Fails, Valued, Comes_by, Combined}
+use Rattle.core_machine.specs.Merging.{merging_with, calling, with_units, Joining_on, FoldFails_by, FoldFails, Valued, Comes_by, Combined}
 use Rattle.thread_steps.proofs.Advance.{run_add}
 use Rattle.thread_state.proofs.Indexed.{equal_of, differs_of, place_within, found_at}
 use Rattle.core_machine.proofs.Seeds.{place_is}
@@ -325,7 +325,7 @@ module _ (c : PlainCode) (h : Thread) (l : Loaded c h) (joining : h.phase ≡ ph
     }
 
     -- or it fails
-    fails_one : (h' : Thread) → h'.number ≡ h.number → (f : ℕ) → x.combine ≡ Some f → (rest : List BranchCopy) (w : Verdict) → Fails_by c h' (calling c called f n right (Folds_to v (merge rest (totals M)))) w → Comes_by c h' (merging_with c h (share ∷ rest)) rest w
+    fails_one : (h' : Thread) → h'.number ≡ h.number → (f : ℕ) → x.combine ≡ Some f → (rest : List BranchCopy) (w : Verdict) → FoldFails_by c h' (calling c called f n right (Folds_to v (merge rest (totals M)))) w → Comes_by c h' (merging_with c h (share ∷ rest)) rest w
     fails_one h' t f e rest verdict.Combine k = absurd k
     fails_one h' t f e rest (verdict.Trap place trap) k =
         let s = subst (λ t. step c t (merging_with c h (share ∷ rest)) ≡ calling c called f n right (Folds_to v (merge rest (totals M)))) (sym t) (calls f e rest) in
@@ -334,7 +334,7 @@ module _ (c : PlainCode) (h : Thread) (l : Loaded c h) (joining : h.phase ≡ ph
         let s = subst (λ t. step c t (merging_with c h (share ∷ rest)) ≡ calling c called f n right (Folds_to v (merge rest (totals M)))) (sym t) (calls f e rest) in
         (1 + k.0, subst (Exceeds h'.allowance) (sym (run_add (step c h'.number) 1 k.0 (merging_with c h (share ∷ rest)) ∙ ap (run_for (step c h'.number) k.0) s)) k.1)
 
-    pub fails_offer : (h' : Thread) (f : ℕ) → x.combine ≡ Some f → Fails c called h' (calling c called f n right) → Combined c h h' (share ∷ [])
+    pub fails_offer : (h' : Thread) (f : ℕ) → x.combine ≡ Some f → FoldFails c called h' (calling c called f n right) → Combined c h h' (share ∷ [])
     fails_offer h' f e k = record {
       on = record { loaded = k.on.loaded; phase = k.on.phase; number = k.on.number; allowance = k.on.allowance; numbers = k.on.numbers; joined = k.on.joined };
       runs = λ rest. fails_one h' k.on.number f e rest h'.branches.verdict (k.runs (Folds_to v (merge rest (totals M))));

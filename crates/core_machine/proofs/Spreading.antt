@@ -10,7 +10,7 @@ use Rattle.thread_code.specs.declared.instruction.Instruction.TheVariants as ins
 use Rattle.thread_code.specs.Plain.{PlainBlock, PlainCode}
 use Rattle.thread_code.specs.Valid.{IsValidCode}
 use Rattle.thread_code.specs.Alone.{block_of}
-use Rattle.thread_steps.specs.BlockRun.{no_block, block_for, Next, depth_after, Comes, first, next}
+use Rattle.thread_steps.specs.BlockRun.{no_block, block_for, IsSuccessor, depth_after, Comes, first, next}
 use Rattle.thread_steps.proofs.Steps.{comes_leads}
 use Rattle.core_machine.specs.declared.depths.TheConstants.{UNKNOWN}
 use Rattle.core_machine.specs.Depths.{goes_on, target, IsSoundIn, HoldsDepths, IsFollowed, AreFollowed, unknown_in, Finds, IsSpread, IsMost, IsGreatest}
@@ -21,7 +21,7 @@ use Rattle.core_machine.specs.Room.{function_block, AreShort}
 either_way : (p to q : ℕ) → (q ≡ p + 1) ⊎ (q ≡ to) → ((true ≡ true) × (q ≡ p + 1)) ⊎ (Some to ≡ Some q)
 either_way p to q h = ⊎_elim (λ e. inl (refl, e)) (λ e. inr (ap Some (sym e))) h
 
-pub next_split : (p : ℕ) (i : Instruction) (q : ℕ) → Next p i q → ((goes_on i ≡ true) × (q ≡ p + 1)) ⊎ (target i ≡ Some q)
+pub next_split : (p : ℕ) (i : Instruction) (q : ℕ) → IsSuccessor p i q → ((goes_on i ≡ true) × (q ≡ p + 1)) ⊎ (target i ≡ Some q)
 next_split p (instruction.Push n) q h = inl (refl, h)
 next_split p (instruction.Quiet n) q h = inl (refl, h)
 next_split p (instruction.Load x) q h = inl (refl, h)
@@ -51,7 +51,7 @@ next_split p instruction.End q h = absurd h
 next_split p (instruction.Call f) q h = inl (refl, h)
 next_split p instruction.Return q h = absurd h
 
-pub next_on : (p : ℕ) (i : Instruction) → goes_on i ≡ true → Next p i (p + 1)
+pub next_on : (p : ℕ) (i : Instruction) → goes_on i ≡ true → IsSuccessor p i (p + 1)
 next_on p (instruction.Push n) h = refl
 next_on p (instruction.Quiet n) h = refl
 next_on p (instruction.Load x) h = refl
@@ -84,7 +84,7 @@ next_on p instruction.Return h = cc
 that_one : (to q : ℕ) → Some to ≡ Some q → q ≡ to
 that_one to q h = cc
 
-pub next_to : (p : ℕ) (i : Instruction) (q : ℕ) → target i ≡ Some q → Next p i q
+pub next_to : (p : ℕ) (i : Instruction) (q : ℕ) → target i ≡ Some q → IsSuccessor p i q
 next_to p (instruction.Push n) q h = cc
 next_to p (instruction.Quiet n) q h = cc
 next_to p (instruction.Load x) q h = cc
@@ -134,7 +134,7 @@ module _ (c : PlainCode) (b : PlainBlock) (sound : IsSoundIn c b) where
   has_first = comes_within 0 0 first
 
   module _ (ds : List ℕ) (holds : HoldsDepths c b ds) where
-    pub next_within : (p : ℕ) (i : Instruction) (q : ℕ) → get_or ds p 0 ≢ UNKNOWN → slice_get b.steps p ≡ Some i → Next p i q → q < length ds
+    pub next_within : (p : ℕ) (i : Instruction) (q : ℕ) → get_or ds p 0 ≢ UNKNOWN → slice_get b.steps p ≡ Some i → IsSuccessor p i q → q < length ds
     next_within p i q known is n =
         let here = holds.each p (omega (arith, holds.long, slice_get_within b.steps p i is)) known in
         omega (arith, holds.long, comes_within q (depth_after c (get_or ds p 0) i) (next p (get_or ds p 0) i q here is n))
@@ -240,7 +240,7 @@ spread_both At Bt d ds ds' ds'' a b lt h g = record {
     same true e f = cc
     same false e f = f
 
-module _ (c : PlainCode) (b : PlainBlock) (ds : List ℕ) (p : ℕ) (i : Instruction) (is : slice_get b.steps p ≡ Some i) (d : ℕ) (ds' : List ℕ) (r : Bool) (spread : IsSpread (Next p i) d ds ds' r) where
+module _ (c : PlainCode) (b : PlainBlock) (ds : List ℕ) (p : ℕ) (i : Instruction) (is : slice_get b.steps p ≡ Some i) (d : ℕ) (ds' : List ℕ) (r : Bool) (spread : IsSpread (IsSuccessor p i) d ds ds' r) where
   pub holds_spread : HoldsDepths c b ds → get_or ds p 0 ≢ UNKNOWN → d ≡ depth_after c (get_or ds p 0) i → HoldsDepths c b ds'
   holds_spread holds known behind = record {
     long = spread.long ∙ holds.long;
@@ -259,7 +259,7 @@ module _ (c : PlainCode) (b : PlainBlock) (ds : List ℕ) (p : ℕ) (i : Instruc
   pub followed_spread : r ≡ false → IsFollowed b ds' p
   followed_spread e i' q known is' n =
       let same : i' ≡ i = one i' (sym is' ∙ is) in
-      λ f. spread.none e q (subst (λ x. Next p x q) same n) (ap (λ l. get_or l q 0) (sym (kept r e spread.finds)) ∙ f)
+      λ f. spread.none e q (subst (λ x. IsSuccessor p x q) same n) (ap (λ l. get_or l q 0) (sym (kept r e spread.finds)) ∙ f)
     where
       one : (x : Instruction) → Some x ≡ Some i → x ≡ i
       one x h = cc

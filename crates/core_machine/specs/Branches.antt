@@ -68,13 +68,13 @@ abbrev pub verdict_of : List Reply → Verdict
 verdict_of rs = cond (some_reply_over rs) verdict.Over (trap_of rs)
 
 -- a sum; or, where it is more than any allowance, another number that is
-abbrev pub Counts : ℕ → ℕ → Type 0
-Counts n sum = (n ≡ sum) ⊎ ((2 ^ 62 < n) × (2 ^ 62 < sum))
+abbrev pub CountsAs : ℕ → ℕ → Type 0
+CountsAs n sum = (n ≡ sum) ⊎ ((2 ^ 62 < n) × (2 ^ 62 < sum))
 
 -- these are the replies so far
 pub record Says (g : Gathered) (rs : List Reply) : Type 0 where
   pub ended : g.ended ≡ map is_ended rs
-  pub units : Counts g.units (all_units rs)
+  pub units : CountsAs g.units (all_units rs)
   pub verdict : g.verdict ≡ verdict_of rs
 
 -- one more reply was settled

@@ -4,7 +4,7 @@ use Rattle.thread_code.specs.declared.instruction.Instruction.{Instruction}
 use Rattle.thread_code.specs.declared.instruction.Instruction.TheVariants as instruction
 use Rattle.thread_code.specs.Plain.{PlainBlock, PlainCode}
 use Rattle.thread_code.specs.Valid.{IsSound}
-use Rattle.thread_steps.specs.BlockRun.{Next, Comes, IsDeep}
+use Rattle.thread_steps.specs.BlockRun.{IsSuccessor, Comes, IsDeep}
 use Rattle.core_machine.specs.declared.depths.TheConstants.{UNKNOWN}
 
 -- ---- where an instruction leads
@@ -87,7 +87,7 @@ pub record HoldsDepths (c : PlainCode) (b : PlainBlock) (depths : List ℕ) : Ty
 -- where the depth at an address is known, it is where a run goes on from there
 abbrev pub IsFollowed : PlainBlock → List ℕ → ℕ → Type 0
 IsFollowed b depths p =
-    (i : Instruction) (q : ℕ) → get_or depths p 0 ≢ UNKNOWN → slice_get b.steps p ≡ Some i → Next p i q → get_or depths q 0 ≢ UNKNOWN
+    (i : Instruction) (q : ℕ) → get_or depths p 0 ≢ UNKNOWN → slice_get b.steps p ≡ Some i → IsSuccessor p i q → get_or depths q 0 ≢ UNKNOWN
 
 abbrev pub AreFollowed : PlainBlock → List ℕ → ℕ → Type 0
 AreFollowed b depths n = (p : ℕ) → p < n → IsFollowed b depths p

@@ -121,7 +121,8 @@ fn frame_needs(alloc: Global, code: &CodeParts, pars: &Pars) -> Result<Vec<u64>,
     requires valid { IsValidCode (plain_code code.now) }
     requires pars { HavePars (plain_code code.now).shape pars.now }
     ensures long { IfOk result (λ own. length own.items ≡ length (plain_code code.now).functions) }
-    ensures each { IfOk result (λ own. (f : ℕ) → f < length (plain_code code.now).functions → IsFrame (plain_code code.now) (function_block (plain_code code.now) f) (get_or own.items f 0)) }
+    ensures each { IfOk result (λ own. (f : ℕ) → f < length (plain_code code.now).functions
+        → IsFrame (plain_code code.now) (function_block (plain_code code.now) f) (get_or own.items f 0)) }
 {
     let mut own = Vec::new(alloc);
     for function in 0..code.functions.len() {
