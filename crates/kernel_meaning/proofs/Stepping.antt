@@ -15,23 +15,23 @@ use Rattle.running_texts.specs.declared.meter.Halt.TheVariants.{Trapped, Over, O
 use Rattle.running_texts.specs.Metered.{IsMetered, number, value_units}
 use Rattle.running_texts.proofs.Metering.{tested_gives}
 use Rattle.running_texts.proofs.Tests.{AfterTest}
-use Rattle.running_threads.specs.declared.frames.Next.{Next}
+use Rattle.running_threads.specs.declared.frames.NextText.{NextText}
 use Rattle.running_threads.specs.Moves.{next_text}
 use Rattle.kernel_meaning.specs.declared.moving.Step.{Step}
 use Rattle.kernel_meaning.specs.declared.moving.Step.TheVariants as step
-use Rattle.kernel_meaning.specs.Moving.{Site, leads, IsMoved, lists}
+use Rattle.kernel_meaning.specs.Moving.{Origin, leads, IsMoved, lists}
 
-module _ (s : Site) where
+module _ (s : Origin) where
   -- a step of these units, whatever they are
-  pub went : (old new u : ℕ) (next : Next) → new + u ≡ old → IsMoved s old new (Ok (step.Goes next)) (Moves (next_text next) s.words s.copies u)
+  pub went : (old new u : ℕ) (next : NextText) → new + u ≡ old → IsMoved s old new (Ok (step.Becomes next)) (Moves (next_text next) s.words s.copies u)
   went old new u next e = record { by = record { units = u; is = refl; left = e } }
 
-  pub step_tested : (old mid : ℕ) (n : ℤ) (v : Value) (go : ℤ → Move) (next : Next) →
-      AfterTest old mid (Ok n) v → go n ≡ Moves (next_text next) s.words s.copies 1 → IsMoved s old mid (Ok (step.Goes next)) (move_with v go)
+  pub step_tested : (old mid : ℕ) (n : ℤ) (v : Value) (go : ℤ → Move) (next : NextText) →
+      AfterTest old mid (Ok n) v → go n ≡ Moves (next_text next) s.words s.copies 1 → IsMoved s old mid (Ok (step.Becomes next)) (move_with v go)
   step_tested old mid n v go next t e =
       let given = tested_gives old mid n v t in
       let l = given.left in
-      subst (λ m. IsMoved s old mid (Ok (step.Goes next)) m) (sym (ap (λ x. move_with x go) given.is ∙ ap (more_move given.units) e))
+      subst (λ m. IsMoved s old mid (Ok (step.Becomes next)) m) (sym (ap (λ x. move_with x go) given.is ∙ ap (more_move given.units) e))
       (went old mid (given.units + 1) next (omega arith))
 
   pub step_trapped : (old mid : ℕ) (n : ℤ) (v : Value) (go : ℤ → Move) (place : Place) (trap : Trap) →
@@ -66,29 +66,29 @@ module _ (s : Site) where
 -- ---- an operand before the one that decides
 
 -- where a move is neither done nor halted, units may be added to it
-abbrev pub Goes : Move → Type 0
-Goes Finished = ⊥
-Goes Halts = ⊥
-Goes (Moves R words copies u) = Unit {0}
-Goes (Traps place trap u) = Unit {0}
+abbrev pub HasUnits : Move → Type 0
+HasUnits Finished = ⊥
+HasUnits Halts = ⊥
+HasUnits (Moves R words copies u) = Unit {0}
+HasUnits (Traps place trap u) = Unit {0}
 
-pub more_goes : (u : ℕ) (m : Move) → Goes m → Goes (more_move u m)
-more_goes u Finished g = g
-more_goes u Halts g = g
-more_goes u (Moves R words copies w) g = tt
-more_goes u (Traps place trap w) g = tt
+pub more_has_units : (u : ℕ) (m : Move) → HasUnits m → HasUnits (more_move u m)
+more_has_units u Finished g = g
+more_has_units u Halts g = g
+more_has_units u (Moves R words copies w) g = tt
+more_has_units u (Traps place trap w) g = tt
 
-pub with_goes : (v : Value) (go : ℤ → Move) → ((x : ℤ) → Goes (go x)) → Goes (move_with v go)
-with_goes (Gives n u) go h = more_goes u (go n) (h n)
-with_goes (Stops place trap u) go h = tt
+pub with_has_units : (v : Value) (go : ℤ → Move) → ((x : ℤ) → HasUnits (go x)) → HasUnits (move_with v go)
+with_has_units (Gives n u) go h = more_has_units u (go n) (h n)
+with_has_units (Stops place trap u) go h = tt
 
-units_add : (u : ℕ) (m : Move) → Goes m → units_of (more_move u m) ≡ u + units_of m
+units_add : (u : ℕ) (m : Move) → HasUnits m → units_of (more_move u m) ≡ u + units_of m
 units_add u Finished g = absurd g
 units_add u Halts g = absurd g
 units_add u (Moves R words copies w) g = refl
 units_add u (Traps place trap w) g = refl
 
-more_leads : (s : Site) (a : Step) (u w : ℕ) → Goes (leads s a w) → more_move u (leads s a w) ≡ leads s a (u + w)
+more_leads : (s : Origin) (a : Step) (u w : ℕ) → HasUnits (leads s a w) → more_move u (leads s a w) ≡ leads s a (u + w)
 more_leads s step.Finishes u w g = absurd g
 more_leads s step.Halts u w g = absurd g
 more_leads s (step.Sets (spot.Local slot) n) u w g = refl
@@ -96,16 +96,16 @@ more_leads s (step.Sets (spot.Variable v) n) u w g = refl
 more_leads s (step.SetsAt at n) u w g = refl
 more_leads s (step.Clears slot n) u w g = refl
 more_leads s (step.Joins copies) u w g = refl
-more_leads s (step.Goes next) u w g = refl
+more_leads s (step.Becomes next) u w g = refl
 
-pub more_moved : (s : Site) (old mid new u : ℕ) (r : Result Step Halt) (m : Move) → mid + u ≡ old → Goes m → IsMoved s mid new r m → IsMoved s old new r (more_move u m)
+pub more_moved : (s : Origin) (old mid new u : ℕ) (r : Result Step Halt) (m : Move) → mid + u ≡ old → HasUnits m → IsMoved s mid new r m → IsMoved s old new r (more_move u m)
 more_moved s old mid new u (Ok a) m e g h =
     let l = h.by.left in
     let add = units_add u m g in
     record {
       by = record {
         units = u + h.by.units;
-        is = ap (more_move u) h.by.is ∙ more_leads s a u h.by.units (subst Goes h.by.is g);
+        is = ap (more_move u) h.by.is ∙ more_leads s a u h.by.units (subst HasUnits h.by.is g);
         left = omega arith;
       };
     }
@@ -114,43 +114,43 @@ more_moved s old mid new u (Err (Trapped place trap)) m e g h =
 more_moved s old mid new u (Err Over) m e g h = let l = h.by in record { by = omega (arith, units_add u m g) }
 more_moved s old mid new u (Err OutOfMemory) m e g h = record { by = tt }
 
-pub operand_ok : (s : Site) (old mid new : ℕ) (x : ℤ) (r : Result Step Halt) (v : Value) (go : ℤ → Move) →
-    IsMetered number old mid (Ok x) v → Goes (go x) → IsMoved s mid new r (go x) → IsMoved s old new r (move_with v go)
+pub operand_ok : (s : Origin) (old mid new : ℕ) (x : ℤ) (r : Result Step Halt) (v : Value) (go : ℤ → Move) →
+    IsMetered number old mid (Ok x) v → HasUnits (go x) → IsMoved s mid new r (go x) → IsMoved s old new r (move_with v go)
 operand_ok s old mid new x r v go m g n =
     subst (λ w. IsMoved s old new r w) (ap (λ w. move_with w go) (sym m.by.is)) (more_moved s old mid new m.by.units r (go x) m.by.left g n)
 
-units_least : (v : Value) (go : ℤ → Move) → ((x : ℤ) → Goes (go x)) → value_units v ≤ units_of (move_with v go)
+units_least : (v : Value) (go : ℤ → Move) → ((x : ℤ) → HasUnits (go x)) → value_units v ≤ units_of (move_with v go)
 units_least (Gives n u) go g = at (go n) (g n)
   where
-    at : (m : Move) → Goes m → u ≤ units_of (more_move u m)
+    at : (m : Move) → HasUnits m → u ≤ units_of (more_move u m)
     at Finished g = absurd g
     at Halts g = absurd g
     at (Moves R words copies w) g = omega arith
     at (Traps place trap w) g = omega arith
 units_least (Stops place trap u) go g = omega arith
 
-pub operand_err : (s : Site) (old new : ℕ) (h : Halt) (v : Value) (go : ℤ → Move) → ((x : ℤ) → Goes (go x)) →
+pub operand_err : (s : Origin) (old new : ℕ) (h : Halt) (v : Value) (go : ℤ → Move) → ((x : ℤ) → HasUnits (go x)) →
     IsMetered number old new (Err h) v → IsMoved s old new (Err h) (move_with v go)
 operand_err s old new (Trapped place trap) v go g m =
     record { by = record { units = m.by.units; is = ap (λ w. move_with w go) m.by.is; left = m.by.left } }
 operand_err s old new Over v go g m = let l = m.by in record { by = omega (arith, units_least v go g) }
 operand_err s old new OutOfMemory v go g m = record { by = tt }
 
-pub assigned_at_goes : (words : List ℤ) (copies : List VarCopy) (slot : ℕ) (i : Option ℕ) (x : ℤ) (place : Place) → Goes (assigned_at words copies slot i x place)
-assigned_at_goes words copies slot (Some i) x place = tt
-assigned_at_goes words copies slot None x place = tt
+pub assigned_at_has_units : (words : List ℤ) (copies : List VarCopy) (slot : ℕ) (i : Option ℕ) (x : ℤ) (place : Place) → HasUnits (assigned_at words copies slot i x place)
+assigned_at_has_units words copies slot (Some i) x place = tt
+assigned_at_has_units words copies slot None x place = tt
 
 -- ---- forks
 
-pub fork_ok : (s : Site) (old mid new : ℕ) (o : Owner) (bs : List Branch) (ls : Vec (Vec ℤ Global) Global) (next : Next) (a : Arguments) →
+pub fork_ok : (s : Origin) (old mid new : ℕ) (o : Owner) (bs : List Branch) (ls : Vec (Vec ℤ Global) Global) (next : NextText) (a : Arguments) →
     IsMetered lists old mid (Ok ls) a → new + 1 ≡ mid → next_text next ≡ plain.Fork (started o s.copies bs (map (λ w. w.items) ls.items)) →
-    IsMoved s old new (Ok (step.Goes next)) (forked o s.words s.copies bs a)
+    IsMoved s old new (Ok (step.Becomes next)) (forked o s.words s.copies bs a)
 fork_ok s old mid new o bs ls next a m e same =
     let left : new + (m.by.units + 1) ≡ old = let l = m.by.left in omega arith in
-    subst (λ x. IsMoved s old new (Ok (step.Goes next)) (forked o s.words s.copies bs x)) (sym m.by.is)
-    (subst (λ R. IsMoved s old new (Ok (step.Goes next)) (Moves R s.words s.copies (m.by.units + 1))) same (went s old new (m.by.units + 1) next left))
+    subst (λ x. IsMoved s old new (Ok (step.Becomes next)) (forked o s.words s.copies bs x)) (sym m.by.is)
+    (subst (λ R. IsMoved s old new (Ok (step.Becomes next)) (Moves R s.words s.copies (m.by.units + 1))) same (went s old new (m.by.units + 1) next left))
 
-pub fork_over : (s : Site) (old mid new : ℕ) (h : Halt) (o : Owner) (bs : List Branch) (ls : Vec (Vec ℤ Global) Global) (a : Arguments) →
+pub fork_over : (s : Origin) (old mid new : ℕ) (h : Halt) (o : Owner) (bs : List Branch) (ls : Vec (Vec ℤ Global) Global) (a : Arguments) →
     IsMetered lists old mid (Ok ls) a → (h ≡ Over) × (mid < 1) → IsMoved s old new (Err h) (forked o s.words s.copies bs a)
 fork_over s old mid new h o bs ls a m e =
     let l = m.by.left in
@@ -158,7 +158,7 @@ fork_over s old mid new h o bs ls a m e =
     let whole : units_of (forked o s.words s.copies bs a) ≡ m.by.units + 1 = ap (λ x. units_of (forked o s.words s.copies bs x)) m.by.is in
     subst (λ k. IsMoved s old new (Err k) (forked o s.words s.copies bs a)) (sym e.0) (record { by = omega arith })
 
-pub fork_err : (s : Site) (old new : ℕ) (h : Halt) (o : Owner) (bs : List Branch) (a : Arguments) →
+pub fork_err : (s : Origin) (old new : ℕ) (h : Halt) (o : Owner) (bs : List Branch) (a : Arguments) →
     IsMetered lists old new (Err h) a → IsMoved s old new (Err h) (forked o s.words s.copies bs a)
 fork_err s old new (Trapped place trap) o bs a m =
     record { by = record { units = m.by.units; is = ap (forked o s.words s.copies bs) m.by.is; left = m.by.left } }
@@ -171,15 +171,15 @@ fork_err s old new OutOfMemory o bs a m = record { by = tt }
 
 -- ---- steps that cost nothing
 
-pub finishes : (s : Site) (left : ℕ) → IsMoved s left left (Ok step.Finishes) Finished
+pub finishes : (s : Origin) (left : ℕ) → IsMoved s left left (Ok step.Finishes) Finished
 finishes s left = record { by = record { units = 0; is = refl; left = omega arith } }
 
-pub halts : (s : Site) (left : ℕ) → IsMoved s left left (Ok step.Halts) Halts
+pub halts : (s : Origin) (left : ℕ) → IsMoved s left left (Ok step.Halts) Halts
 halts s left = record { by = record { units = 0; is = refl; left = omega arith } }
 
 -- ---- assignments
 
-pub assigned_ok : (k : PlainKernel) (s : Site) (to : Spot) (n : ℤ) (old mid new : ℕ) (v : Value) → IsMetered number old mid (Ok n) v → new + 1 ≡ mid →
+pub assigned_ok : (k : PlainKernel) (s : Origin) (to : Spot) (n : ℤ) (old mid new : ℕ) (v : Value) → IsMetered number old mid (Ok n) v → new + 1 ≡ mid →
     IsMoved s old new (Ok (step.Sets to n)) (move_with v (λ x. assigned (record { kernel = k; uses = s.uses }) s.words s.copies to x))
 assigned_ok k s (spot.Local slot) n old mid new v m e =
     let is = ap (λ y. move_with y (λ x. assigned (record { kernel = k; uses = s.uses }) s.words s.copies (spot.Local slot) x)) m.by.is in

@@ -18,7 +18,7 @@ use Rattle.running_threads.specs.Moves.{framed_move, plugged_move}
 use Rattle.running_threads.proofs.Plugs.{move_plugged, plugged_goes, plugged_traps}
 use Rattle.kernel_meaning.specs.declared.moving.Step.{Step}
 use Rattle.kernel_meaning.specs.declared.moving.Step.TheVariants as step
-use Rattle.kernel_meaning.specs.Moving.{Site, leads, IsMoved, IsThread, after_move, AreStepped, IsForked, place_or_first, place_behind, first_is_here}
+use Rattle.kernel_meaning.specs.Moving.{Origin, leads, IsMoved, IsThread, after_move, AreStepped, IsForked, place_or_first, place_behind, first_is_here}
 
 -- ---- units
 
@@ -46,7 +46,7 @@ plugged_units (f ∷ fs) w c m = framed_units f w c (plugged_move fs w c m) ∙ 
 
 -- ---- a thread after a step of its focus
 
-pub after_ok : {A : Type 0} (s : Site) (a : Step) (old new : ℕ) (m : Move) (t now : Thread) (fs : List Frame) (x : A) → IsMoved s old new (Ok a) m →
+pub after_ok : {A : Type 0} (s : Origin) (a : Step) (old new : ℕ) (m : Move) (t now : Thread) (fs : List Frame) (x : A) → IsMoved s old new (Ok a) m →
     ((u : ℕ) → now ≡ thread_after t (plugged_move fs s.words s.copies (leads s a u))) →
     IsThread old new now (Ok x) (after_move t (plugged_move fs s.words s.copies m))
 after_ok s a old new m t now fs x h e =
@@ -59,7 +59,7 @@ pub after_goes : (t now : Thread) (fs : List Frame) (w w' : List ℤ) (c c' : Li
     now ≡ record t { text = plugged fs R; words = w'; copies = c' } → now ≡ thread_after t (plugged_move fs w c (Moves R w' c' u))
 after_goes t now fs w w' c c' R u e = e ∙ ap (thread_after t) (sym (plugged_goes fs w w' c c' R u))
 
-pub after_trap : {A : Type 0} (s : Site) (old new : ℕ) (m : Move) (t now : Thread) (fs : List Frame) (x : A) (place : Place) (trap : Trap) →
+pub after_trap : {A : Type 0} (s : Origin) (old new : ℕ) (m : Move) (t now : Thread) (fs : List Frame) (x : A) (place : Place) (trap : Trap) →
     IsMoved s old new (Err (Trapped place trap)) m → now ≡ record t { status = plain.Trapped place trap } →
     IsThread old new now (Ok x) (after_move t (plugged_move fs s.words s.copies m))
 after_trap s old new m t now fs x place trap h e =
@@ -75,7 +75,7 @@ after_trap s old new m t now fs x place trap h e =
       );
     }
 
-pub after_err : {A : Type 0} (s : Site) (old new : ℕ) (h : Halt) (m : Move) (t now : Thread) (fs : List Frame) →
+pub after_err : {A : Type 0} (s : Origin) (old new : ℕ) (h : Halt) (m : Move) (t now : Thread) (fs : List Frame) →
     ((place : Place) (trap : Trap) → h ≡ Trapped place trap → ⊥) → IsMoved s old new (Err h) m →
     IsThread {A = A} old new now (Err h) (after_move t (plugged_move fs s.words s.copies m))
 after_err s old new (Trapped place trap) m t now fs out h = absurd (out place trap refl)
@@ -194,7 +194,7 @@ fork_joins k path uses w c cs none =
     ] in
     ap branch none
 
-pub after_write : {A : Type 0} (s : Site) (a : Step) (old new : ℕ) (m : Move) (t now : Thread) (fs : List Frame) (w' : List ℤ) (c' : List VarCopy) (R : Text) (x : A) →
+pub after_write : {A : Type 0} (s : Origin) (a : Step) (old new : ℕ) (m : Move) (t now : Thread) (fs : List Frame) (w' : List ℤ) (c' : List VarCopy) (R : Text) (x : A) →
     IsMoved s old new (Ok a) m → ((u : ℕ) → leads s a u ≡ Moves R w' c' u) → now ≡ record t { text = plugged fs R; words = w'; copies = c' } →
     IsThread old new now (Ok x) (after_move t (plugged_move fs s.words s.copies m))
 after_write s a old new m t now fs w' c' R x h e same =

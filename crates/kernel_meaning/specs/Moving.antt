@@ -6,28 +6,35 @@ use Rattle.std.specs.declared.result.Result.{Result}
 use Rattle.std.specs.declared.result.Result.TheVariants.{Ok, Err}
 use Rattle.forec_kernel.specs.declared.terms.Spot.TheVariants as spot
 use Rattle.forec_kernel.specs.declared.shape.VarCopy.{VarCopy}
-use Rattle.forec_kernel.specs.Values.{cleared}
-use Rattle.forec_kernel.specs.Texts.{Text, Done, Run, Then, Turning, Resting, Fork, Held, Watch, Last, Thread, Threads, no_threads, child, first_running, is_running, some_running, all_over, ended_are_gone, put_copy}
+use Rattle.forec_kernel.specs.declared.shape.KernelParts.{KernelParts}
+use Rattle.forec_kernel.specs.Shapes.{plain_kernel}
+use Rattle.forec_kernel.specs.Terms.{Expr, Stmt}
+use Rattle.forec_kernel.specs.Values.{Value, cleared}
+use Rattle.forec_kernel.specs.Texts.{Text, Loop, Done, Run, Then, Turning, Resting, Fork, Held, Watch, Last, Thread, Threads, no_threads, child, first_running, is_running, some_running, all_over, first_trap, ended_are_gone, put_copy}
 use Rattle.forec_kernel.specs.Steps as plain
-use Rattle.forec_kernel.specs.Steps.{Move, Moves, Traps, units_of, thread_after, Arguments, Ready, Refused, Stepped}
+use Rattle.forec_kernel.specs.Steps.{Path, Move, Moves, Traps, units_of, move_with, thread_after, Owner, evaluated, statement_move, loop_move, joined, text_move, Arguments, Ready, Refused, Stepped}
 use Rattle.forec_kernel.specs.Ticks.{Going}
 use Rattle.forec_kernel.specs.Combining.{Cost, Costs, Fails}
 use Rattle.running_texts.specs.declared.meter.Halt.{Halt}
 use Rattle.running_texts.specs.declared.meter.Halt.TheVariants.{Trapped, Over, OutOfMemory}
-use Rattle.running_texts.specs.Metered.{Paid, Kind}
+use Rattle.running_texts.specs.declared.evaluation.ThreadValues.{ThreadValues}
+use Rattle.running_texts.specs.Metered.{Paid, Kind, IsMetered, number}
 use Rattle.running_threads.specs.Moves.{next_text}
 use Rattle.kernel_meaning.specs.declared.moving.Step.{Step}
-use Rattle.kernel_meaning.specs.declared.moving.Step.TheVariants.{Finishes, Halts, Sets, SetsAt, Clears, Joins, Goes}
+use Rattle.kernel_meaning.specs.declared.moving.Step.TheVariants.{Finishes, Halts, Sets, SetsAt, Clears, Joins, Becomes}
 
--- what a step of a focus sees: the variables that the thread uses, its words and copies, and the focus
-pub record Site : Type 0 where
+-- what a step of a focus starts from: the variables that the thread uses, its words and copies, and the focus
+pub record Origin : Type 0 where
   pub uses : List ℕ
   pub words : List ℤ
   pub copies : List VarCopy
   pub text : Text
 
-abbrev pub site : List ℕ → List ℤ → List VarCopy → Text → Site
-site uses words copies R = record { uses = uses; words = words; copies = copies; text = R }
+abbrev pub origin : List ℕ → List ℤ → List VarCopy → Text → Origin
+origin uses words copies R = record { uses = uses; words = words; copies = copies; text = R }
+
+abbrev pub origin_in : ThreadValues → Text → Origin
+origin_in v R = origin v.uses.now v.words.now v.copies.now R
 
 -- what is left of a fork whose copies are combined
 abbrev pub rested : Text → Text
@@ -35,7 +42,7 @@ rested (Fork cs) = cond (all_over cs) Done (Held (ended_are_gone cs))
 rested R = R
 
 -- a step, at so many units
-abbrev pub leads : Site → Step → ℕ → Move
+abbrev pub leads : Origin → Step → ℕ → Move
 leads s Finishes u = plain.Finished
 leads s Halts u = plain.Halts
 leads s (Sets (spot.Local slot) n) u = Moves Done (slice_set s.words slot n) s.copies u
@@ -43,22 +50,55 @@ leads s (Sets (spot.Variable v) n) u = Moves Done s.words (put_copy s.uses s.cop
 leads s (SetsAt at n) u = Moves Done (slice_set s.words at n) s.copies u
 leads s (Clears slot n) u = Moves Done (cleared s.words slot n) s.copies u
 leads s (Joins copies) u = Moves (rested s.text) s.words copies.items u
-leads s (Goes next) u = Moves (next_text next) s.words s.copies u
+leads s (Becomes next) u = Moves (next_text next) s.words s.copies u
 
-pub record Led (s : Site) (old new : ℕ) (a : Step) (m : Move) : Type 0 where
+pub record Led (s : Origin) (old new : ℕ) (a : Step) (m : Move) : Type 0 where
   pub units : ℕ
   pub is : m ≡ leads s a units
   pub left : new + units_of m ≡ old
 
-abbrev pub MovedBy : Site → ℕ → ℕ → Result Step Halt → Move → Type 0
+abbrev pub MovedBy : Origin → ℕ → ℕ → Result Step Halt → Move → Type 0
 MovedBy s old new (Ok a) m = Led s old new a m
 MovedBy s old new (Err (Trapped place trap)) m = Paid old new m (Traps place trap)
 MovedBy s old new (Err Over) m = old < units_of m
 MovedBy s old new (Err OutOfMemory) m = Unit {0}
 
 -- What a step under an allowance answers: the step or the trap, with its units paid; or Over exactly where the units exceed the allowance.
-pub record IsMoved (s : Site) (old new : ℕ) (result : Result Step Halt) (m : Move) : Type 0 where
+pub record IsMoved (s : Origin) (old new : ℕ) (result : Result Step Halt) (m : Move) : Type 0 where
   pub by : MovedBy s old new result m
+
+-- ---- steps of a thread with these values
+
+abbrev pub owner_in : KernelParts → ThreadValues → Owner
+owner_in k v = record { kernel = plain_kernel k; uses = v.uses.now }
+
+abbrev pub value_in : KernelParts → ThreadValues → Expr → Value
+value_in k v e = evaluated (owner_in k v) v.words.now v.copies.now e
+
+-- a statement's step, whatever text the statement is
+abbrev pub StatementMoved : KernelParts → ThreadValues → Stmt → ℕ → ℕ → Result Step Halt → Type 0
+StatementMoved k v s old new result =
+    (R : Text) → IsMoved (origin_in v R) old new result (statement_move (owner_in k v) v.words.now v.copies.now s)
+
+-- the step of a loop in progress
+abbrev pub LoopMoved : KernelParts → ThreadValues → Loop → ℕ → ℕ → Result Step Halt → Type 0
+LoopMoved k v loop old new result =
+    (R : Text) → IsMoved (origin_in v R) old new result (loop_move (owner_in k v) v.words.now v.copies.now loop)
+
+-- the step of a fork none of whose children is running
+abbrev pub ForkMoved : KernelParts → ThreadValues → Threads → ℕ → ℕ → Result Step Halt → Type 0
+ForkMoved k v cs old new result =
+    IsMoved (origin_in v (Fork cs)) old new result (joined (owner_in k v) v.words.now v.copies.now cs (first_trap cs))
+
+-- the step of a focus, along every path
+abbrev pub FocusMoved : KernelParts → ThreadValues → Text → ℕ → ℕ → Result Step Halt → Type 0
+FocusMoved k v R old new result =
+    (path : Path) → IsMoved (origin_in v R) old new result (text_move (plain_kernel k) path v.uses.now v.words.now v.copies.now R)
+
+-- the step after a part: what is done with the part's number, under what the part left of the allowance
+abbrev pub IsMoveAfter : Result ℤ Halt → ℕ → ℕ → Result Step Halt → (Origin → ℤ → Move) → Type 0
+IsMoveAfter part mid new result go =
+    (s : Origin) (old : ℕ) (v : Value) → IsMetered number old mid part v → IsMoved s old new result (move_with v (go s))
 
 -- ---- the arguments of the branches of a `par`
 

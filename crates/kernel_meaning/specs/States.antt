@@ -1,25 +1,38 @@
 -- States between ticks, and thread 0 within one.
-use Rattle.std.specs.Prelude.{ℕ, ◌+◌, ◌<◌, ◌≡◌, Bool, true, false, Option, Some, None, List, []}
+use Rattle.std.specs.Prelude.{ℕ, ℤ, ◌+◌, ◌<◌, ◌≡◌, Bool, true, false, Option, Some, None, List, []}
 use Rattle.std.specs.declared.result.Result.{Result}
 use Rattle.std.specs.declared.result.Result.TheVariants.{Ok, Err}
-use Rattle.forec_kernel.specs.Shapes.{PlainKernel}
+use Rattle.forec_kernel.specs.declared.shape.KernelParts.{KernelParts}
+use Rattle.forec_kernel.specs.Shapes.{PlainKernel, plain_kernel}
 use Rattle.forec_kernel.specs.Texts as plain
 use Rattle.forec_kernel.specs.Texts.{uses_of}
-use Rattle.forec_kernel.specs.Steps.{Path, thread_move}
+use Rattle.forec_kernel.specs.Steps.{Path, Move, thread_after, thread_move}
 use Rattle.forec_kernel.specs.Ticks as ticks
-use Rattle.forec_kernel.specs.Ticks.{Going, steps_along, outcome_of, values_of}
+use Rattle.forec_kernel.specs.Ticks.{Going, steps_along, outcome_of, values_of, tick}
 use Rattle.forec_kernel.specs.declared.shape.Outcome.{Outcome}
 use Rattle.forec_kernel.specs.declared.shape.Outcome.TheVariants as outcome
 use Rattle.running_texts.specs.declared.meter.Halt.{Halt}
 use Rattle.running_texts.specs.declared.meter.Halt.TheVariants.{Trapped, Over, OutOfMemory}
 use Rattle.running_threads.specs.declared.threads.Thread.{Thread}
 use Rattle.running_threads.specs.Views.{plain_thread, standing, focused}
-use Rattle.kernel_meaning.specs.Moving.{Site, site, IsThread, after_move}
+use Rattle.running_threads.specs.Moves.{plugged_move}
+use Rattle.kernel_meaning.specs.declared.moving.Step.{Step}
+use Rattle.kernel_meaning.specs.Moving.{Origin, origin, IsMoved, IsThread, after_move}
 use Rattle.kernel_meaning.specs.declared.ticks.State.{State}
 
 -- what a step of a thread's focus sees
-abbrev pub site_of : List ℕ → Thread → Site
-site_of uses t = site uses t.words.items t.copies.items (focused t.focus)
+abbrev pub origin_of : List ℕ → Thread → Origin
+origin_of uses t = origin uses t.words.items t.copies.items (focused t.focus)
+
+-- a thread after a step of its focus
+abbrev pub after_focus : Thread → Move → plain.Thread
+after_focus t m = thread_after (plain_thread t) (plugged_move t.frames.items t.words.items t.copies.items m)
+
+-- what a thread comes to, and what is answered, where a step of its focus has come to this
+abbrev pub TakesStep : {A : Type 0} → List ℕ → Thread → Thread → Result Step Halt → Result A Halt → Type 0
+TakesStep uses t now step result =
+    (old new : ℕ) (m : Move) → IsMoved (origin_of uses t) old new step m →
+    IsThread old new (plain_thread now) result (after_move (plain_thread t) (plugged_move t.frames.items t.words.items t.copies.items m))
 
 abbrev pub main_state : Option Thread → ticks.State
 main_state None = ticks.Fresh
@@ -28,6 +41,10 @@ main_state (Some t) = ticks.After_tick (plain_thread t)
 -- the plain value of a state
 abbrev pub plain_state : State → ticks.State
 plain_state s = main_state s.main
+
+-- the tick of a kernel from a state
+abbrev pub tick_of_state : KernelParts → ℕ → State → List ℤ → ticks.Tick
+tick_of_state k budget s row = tick (plain_kernel k) budget (plain_state s) row
 
 -- a tick whose outputs are told
 abbrev pub is_told : Outcome → Bool

@@ -7,13 +7,15 @@ use Rattle.forec_base.specs.declared.Place.{Place}
 use Rattle.forec_base.specs.declared.Trap.{Trap}
 use Rattle.forec_kernel.specs.declared.shape.VarCopy.{VarCopy}
 use Rattle.forec_kernel.specs.Plain.{expr}
-use Rattle.forec_kernel.specs.Shapes.{PlainKernel}
+use Rattle.forec_kernel.specs.declared.shape.KernelParts.{KernelParts}
+use Rattle.forec_kernel.specs.Shapes.{PlainKernel, plain_kernel}
 use Rattle.forec_kernel.specs.Values.{Value, Gives, Stops}
 use Rattle.forec_kernel.specs.Texts as plain
 use Rattle.forec_kernel.specs.Steps.{Woken, Wakes, Stays, waking_units, woken, text_if, status_of, evaluated, Stepped}
 use Rattle.forec_kernel.specs.Ticks.{Going}
 use Rattle.running_texts.specs.declared.meter.Halt.{Halt}
 use Rattle.running_texts.specs.declared.meter.Halt.TheVariants.{Trapped, Over, OutOfMemory}
+use Rattle.running_texts.specs.declared.evaluation.ThreadValues.{ThreadValues}
 use Rattle.running_texts.specs.Metered.{Paid, Kind}
 use Rattle.running_threads.specs.declared.threads.Frame.{Frame}
 use Rattle.running_threads.specs.declared.threads.Frame.TheVariants as frame
@@ -59,6 +61,9 @@ fate k uses w c (frame.Watch weak e ∷ fs) =
     more_fate 1 (fate_on (frame.Watch weak e) weak n (fate k uses w c fs)))
 fate k uses w c (frame.Last ∷ fs) = Reaches reach.Last (frame.Last ∷ fs) 0
 
+abbrev pub fate_in_thread : KernelParts → ThreadValues → List Frame → Fate
+fate_in_thread k v fs = fate (plain_kernel k) v.uses.now v.words.now v.copies.now fs
+
 pub record ReachedTo (f : Fate) (before after : List Frame) (old new : ℕ) (to : Reach) : Type 0 where
   pub frames : List Frame
   pub units : ℕ
@@ -79,6 +84,10 @@ pub record Reached (f : Fate) (before after : List Frame) (old new : ℕ) (resul
 
 abbrev pub waking : Kind Focus Woken
 waking = record { gives = λ F u. Wakes (focused F) u; stops = Stays; units = waking_units }
+
+-- a thread that runs on, with another text and other copies
+abbrev pub awake : plain.Thread → plain.Text → List VarCopy → plain.Thread
+awake t R copies = record t { text = R; copies = copies; status = plain.Running }
 
 -- a thread that wakes with these copies
 abbrev pub woken_thread : PlainKernel → List ℕ → plain.Thread → List VarCopy → Going

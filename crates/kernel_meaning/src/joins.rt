@@ -1,19 +1,18 @@
 //! The step of a fork whose children have all stopped.
 
-ghost use Rattle.std.specs.Prelude.{◌≡◌, ◌<◌, ◌+◌, ℕ, ℤ, IfOk, ◌||◌, unwrap_or};
+ghost use Rattle.std.specs.Prelude.{◌≡◌, ◌<◌, ◌+◌, ℕ, ℤ, IfOk};
 ghost use Rattle.forec_kernel.specs.Shapes.{plain_kernel};
-ghost use Rattle.forec_kernel.specs.Texts as plain;
-ghost use Rattle.forec_kernel.specs.Texts.{first_trap};
-ghost use Rattle.forec_kernel.specs.Steps.{joined};
 ghost use Rattle.forec_kernel.specs.Combining.{joined_copies, join_cost, shares, some_marked};
 ghost use Rattle.running_texts.specs.Metered.{IsMetered};
-ghost use Rattle.running_texts.specs.Folding.{all_folds, folded_copies, folding};
+ghost use Rattle.running_texts.specs.Folding.{all_folds, folded_copies, folded_copy, folding};
 ghost use Rattle.running_threads.specs.Views.{threads};
-ghost use Rattle.kernel_meaning.specs.Moving.{IsMoved, AreJoined, site};
+ghost use Rattle.kernel_meaning.specs.Moving.{AreJoined, ForkMoved};
 
 use crate::moving::Step;
 use forec_kernel::{KernelParts, VarCopy};
-use running_texts::{Fold, Halt, begin_folds, copy_in, fold_branch, has, thread_uses};
+use running_texts::{
+    Fold, Halt, ThreadValues, begin_folds, copy_in, fold_branch, has, thread_uses,
+};
 use running_threads::{Children, leftmost_trap, ran};
 use std::alloc::{AllocError, Global};
 
@@ -70,7 +69,7 @@ fn end_fold(
     copy: VarCopy,
     fold: Fold,
 ) -> VarCopy
-    ensures { result ≡ record { value = unwrap_or fold.total copy.value; modified = copy.modified || some_marked (shares (plain_kernel kernel.now) variable 0 (threads children.now)) } }
+    ensures { result ≡ folded_copy (plain_kernel kernel.now) (threads children.now) variable copy fold }
 {
     let marked = some_mark(kernel, variable, children);
     VarCopy {
@@ -126,20 +125,19 @@ fn join_copies(
 pub(crate) fn join_step<'k>(
     alloc: Global,
     kernel: &KernelParts,
-    uses: &[u32],
-    words: &[i32],
-    copies: &[VarCopy],
+    values: &ThreadValues<'_>,
     children: &Children<'_>,
     left: &mut u64,
 ) -> Result<Step<'k>, Halt>
-    ensures { IsMoved (site uses.now words.now copies.now (plain.Fork (threads children.now))) left.old left.new result
-        (joined (record { kernel = plain_kernel kernel.now; uses = uses.now }) words.now copies.now (threads children.now) (first_trap (threads children.now))) }
+    ensures { ForkMoved kernel.now values.now (threads children.now) left.old left.new result }
 {
     match leftmost_trap(children) {
         Some((place, trap)) => Err(Halt::Trapped { place, trap }),
-        None => match join_copies(alloc, kernel, uses, copies, children, left) {
-            Ok(copies) => Ok(Step::Joins { copies }),
-            Err(halt) => Err(halt),
-        },
+        None => {
+            match join_copies(alloc, kernel, values.uses, values.copies, children, left) {
+                Ok(copies) => Ok(Step::Joins { copies }),
+                Err(halt) => Err(halt),
+            }
+        }
     }
 }

@@ -5,7 +5,7 @@ ghost use Rattle.forec_kernel.specs.Texts as plain;
 ghost use Rattle.forec_kernel.specs.Texts.{put_copy};
 
 use forec_kernel::{Spot, VarCopy};
-use running_threads::Next;
+use running_threads::NextText;
 
 /// What a step of a focus comes to: nothing is left of it; or it waits; or a number goes to a word or to a
 /// copy, zeros go to words, or the parent's copies are combined; or another text takes its place.
@@ -17,7 +17,7 @@ pub enum Step<'k> {
     SetsAt { slot: usize, value: i32 },
     Clears { slot: u32, length: u32 },
     Joins { copies: Vec<VarCopy> },
-    Goes { next: Next<'k> },
+    Becomes { next: NextText<'k> },
 }
 
 /// Where a variable stands among those that a thread uses.

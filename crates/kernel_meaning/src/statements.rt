@@ -1,73 +1,66 @@
 //! One step of a statement, and of a loop in progress.
 
-ghost use Rattle.std.specs.Prelude.{◌≡◌, ◌<◌, ◌+◌, ℕ, ℤ, IfOk, map, true, Some};
+ghost use Rattle.std.specs.Prelude.{◌≡◌, ◌<◌, ◌+◌, ℕ, ℤ, map, Some};
 ghost use Rattle.forec_kernel.specs.Shapes.{PlainKernel, plain_kernel};
 ghost use Rattle.forec_kernel.specs.Plain.{expr, exprs, stmt, branch};
 ghost use Rattle.forec_kernel.specs.Terms as terms;
 ghost use Rattle.forec_kernel.specs.Texts as plain;
-ghost use Rattle.forec_kernel.specs.Values.{Value, vals, setting, index_in, cleared};
-ghost use Rattle.forec_kernel.specs.Steps.{Moves, evaluated, arguments, statement_move, loop_move, move_with, assigned, assigned_at};
-ghost use Rattle.running_texts.specs.Metered.{IsMetered, number, numbers, sight};
+ghost use Rattle.forec_kernel.specs.Values.{vals, setting, index_in, cleared};
+ghost use Rattle.forec_kernel.specs.Steps.{Moves, arguments, entered, assigned, assigned_at};
+ghost use Rattle.running_texts.specs.Metered.{IsMetered, number, numbers, sight_of};
 ghost use Rattle.running_threads.specs.Views.{looping};
-ghost use Rattle.kernel_meaning.specs.Moving.{IsMoved, Site, site, lists};
+ghost use Rattle.kernel_meaning.specs.Moving.{IsMoved, IsMoveAfter, LoopMoved, StatementMoved, Origin, lists, value_in};
 
 use crate::forks::start_children;
 use crate::moving::Step;
 use forec_base::{Place, Trap};
-use forec_kernel::{Expression, KernelParts, Launch, Spot, Statement, VarCopy};
-use running_texts::{Halt, evaluate, evaluate_all, index_within, pay, tested};
-use running_threads::{Next, Turn};
+use forec_kernel::{Expression, KernelParts, Launch, Spot, Statement};
+use running_texts::{Halt, ThreadValues, evaluate, evaluate_all, index_within, pay, tested};
+use running_threads::{NextText, Turn};
 use std::alloc::Global;
 
 /// The value of an expression in a thread.
 pub(crate) fn number_of(
     alloc: Global,
     kernel: &KernelParts,
-    uses: &[u32],
-    words: &[i32],
-    copies: &[VarCopy],
+    values: &ThreadValues<'_>,
     e: &Expression,
     left: &mut u64,
 ) -> Result<i32, Halt>
-    ensures { IsMetered number left.old left.new result
-        (evaluated (record { kernel = plain_kernel kernel.now; uses = uses.now }) words.now copies.now (expr e.now)) }
+    ensures { IsMetered number left.old left.new result (value_in kernel.now values.now (expr e.now)) }
 {
     let deep = kernel.functions.as_slice().len();
-    evaluate(alloc, kernel, deep, words, uses, copies, e, left)
+    evaluate(alloc, kernel, deep, values, e, left)
 }
 
 fn numbers_of(
     alloc: Global,
     kernel: &KernelParts,
-    uses: &[u32],
-    words: &[i32],
-    copies: &[VarCopy],
+    values: &ThreadValues<'_>,
     list: &[Expression],
     left: &mut u64,
 ) -> Result<Vec<i32>, Halt>
     ensures { IsMetered numbers left.old left.new result
-        (vals (setting (plain_kernel kernel.now)) (sight words.now uses.now copies.now) (exprs list.now)) }
+        (vals (setting (plain_kernel kernel.now)) (sight_of values.now) (exprs list.now)) }
 {
     let deep = kernel.functions.as_slice().len();
-    evaluate_all(alloc, kernel, deep, words, uses, copies, list, left)
+    evaluate_all(alloc, kernel, deep, values, list, left)
 }
 
 /// The arguments of all branches, in order.
 fn arguments_of(
     alloc: Global,
     kernel: &KernelParts,
-    uses: &[u32],
-    words: &[i32],
-    copies: &[VarCopy],
+    values: &ThreadValues<'_>,
     branches: &[Launch],
     left: &mut u64,
 ) -> Result<Vec<Vec<i32>>, Halt>
     ensures { IsMetered lists left.old left.new result
-        (arguments (setting (plain_kernel kernel.now)) (sight words.now uses.now copies.now) (map branch branches.now)) }
+        (arguments (setting (plain_kernel kernel.now)) (sight_of values.now) (map branch branches.now)) }
 {
     let mut all = Vec::new(alloc);
     for launch in branches {
-        match numbers_of(alloc, kernel, uses, words, copies, &launch.args, left) {
+        match numbers_of(alloc, kernel, values, &launch.args, left) {
             Ok(list) => {
                 if all.push(list).is_err() {
                     return Err(Halt::OutOfMemory);
@@ -95,24 +88,23 @@ fn with_left<'k>(turn: Turn<'k>, left: u32) -> Turn<'k>
 pub(crate) fn loop_step<'k>(
     alloc: Global,
     kernel: &'k KernelParts,
-    uses: &[u32],
-    words: &[i32],
-    copies: &[VarCopy],
+    values: &ThreadValues<'_>,
     turn: Turn<'k>,
     left: &mut u64,
 ) -> Result<Step<'k>, Halt>
-    ensures { (R : plain.Text) → IsMoved (site uses.now words.now copies.now R) left.old left.new result
-        (loop_move (record { kernel = plain_kernel kernel.now; uses = uses.now }) words.now copies.now (looping turn.entry)) }
+    ensures { LoopMoved kernel.now values.now (looping turn.entry) left.old left.new result }
 {
-    let test = number_of(alloc, kernel, uses, words, copies, turn.test, left);
+    let test = number_of(alloc, kernel, values, turn.test, left);
     match tested(test, left) {
         Ok(n) => {
             if n == 0 {
-                return Ok(Step::Goes { next: Next::Done });
+                return Ok(Step::Becomes {
+                    next: NextText::Done,
+                });
             }
             match turn.left {
-                None => Ok(Step::Goes {
-                    next: Next::Enters { turn },
+                None => Ok(Step::Becomes {
+                    next: NextText::Enters { turn },
                 }),
                 Some(turns) => {
                     if turns == 0 {
@@ -122,8 +114,8 @@ pub(crate) fn loop_step<'k>(
                         });
                     }
                     let turn = with_left(turn, turns - 1);
-                    Ok(Step::Goes {
-                        next: Next::Enters { turn },
+                    Ok(Step::Becomes {
+                        next: NextText::Enters { turn },
                     })
                 }
             }
@@ -132,36 +124,32 @@ pub(crate) fn loop_step<'k>(
     }
 }
 
-/// An abort that is tested at its start.
-fn enter_step<'k>(
-    alloc: Global,
-    kernel: &'k KernelParts,
-    uses: &[u32],
-    words: &[i32],
-    copies: &[VarCopy],
+/// An abort that is tested at its start, after the evaluation of its test.
+fn after_enter<'k>(
     weak: bool,
     test: &'k Expression,
     body: &'k Statement,
+    part: Result<i32, Halt>,
     left: &mut u64,
 ) -> Result<Step<'k>, Halt>
-    ensures { (R : plain.Text) → IsMoved (site uses.now words.now copies.now R) left.old left.new result
-        (statement_move (record { kernel = plain_kernel kernel.now; uses = uses.now }) words.now copies.now
-        (terms.Enter weak true (expr test.now) (stmt body.now))) }
+    ensures { IsMoveAfter part left.old left.new result
+        (λ s n. Moves (entered weak (expr test.now) (stmt body.now) n) s.words s.copies 1) }
 {
-    let part = number_of(alloc, kernel, uses, words, copies, test, left);
     match tested(part, left) {
         Ok(n) => {
             if n == 0 {
-                return Ok(Step::Goes {
-                    next: Next::Watches { weak, test, body },
+                return Ok(Step::Becomes {
+                    next: NextText::Watches { weak, test, body },
                 });
             }
             if weak {
-                return Ok(Step::Goes {
-                    next: Next::Lasts { body },
+                return Ok(Step::Becomes {
+                    next: NextText::Lasts { body },
                 });
             }
-            Ok(Step::Goes { next: Next::Done })
+            Ok(Step::Becomes {
+                next: NextText::Done,
+            })
         }
         Err(halt) => Err(halt),
     }
@@ -170,22 +158,25 @@ fn enter_step<'k>(
 fn par_step<'k>(
     alloc: Global,
     kernel: &'k KernelParts,
-    uses: &[u32],
-    words: &[i32],
-    copies: &[VarCopy],
+    values: &ThreadValues<'_>,
     branches: &[Launch],
     left: &mut u64,
 ) -> Result<Step<'k>, Halt>
-    ensures { (R : plain.Text) → IsMoved (site uses.now words.now copies.now R) left.old left.new result
-        (statement_move (record { kernel = plain_kernel kernel.now; uses = uses.now }) words.now copies.now
-        (terms.Par (map branch branches.now))) }
+    ensures { StatementMoved kernel.now values.now (terms.Par (map branch branches.now)) left.old left.new result }
 {
-    match arguments_of(alloc, kernel, uses, words, copies, branches, left) {
+    match arguments_of(alloc, kernel, values, branches, left) {
         Ok(arguments) => match pay(1, left) {
             Ok(()) => {
-                let children = start_children(alloc, kernel, uses, copies, branches, &arguments)?;
-                Ok(Step::Goes {
-                    next: Next::Forks { children },
+                let children = start_children(
+                    alloc,
+                    kernel,
+                    values.uses,
+                    values.copies,
+                    branches,
+                    &arguments,
+                )?;
+                Ok(Step::Becomes {
+                    next: NextText::Forks { children },
                 })
             }
             Err(halt) => Err(halt),
@@ -196,8 +187,8 @@ fn par_step<'k>(
 
 /// A number goes to a word or a copy, for one unit.
 fn after_assign<'k>(to: Spot, part: Result<i32, Halt>, left: &mut u64) -> Result<Step<'k>, Halt>
-    ensures { (k : PlainKernel) (s : Site) (old : ℕ) (v : Value) → IsMetered number old left.old part v →
-        IsMoved s old left.new result (move_with v (λ n. assigned (record { kernel = k; uses = s.uses }) s.words s.copies to n)) }
+    ensures { (k : PlainKernel) → IsMoveAfter part left.old left.new result
+        (λ s n. assigned (record { kernel = k; uses = s.uses }) s.words s.copies to n) }
 {
     match part {
         Ok(n) => match pay(1, left) {
@@ -216,8 +207,8 @@ fn after_assign_at<'k>(
     part: Result<i32, Halt>,
     left: &mut u64,
 ) -> Result<Step<'k>, Halt>
-    ensures { (s : Site) (old : ℕ) (v : Value) → IsMetered number old left.old part v →
-        IsMoved s old left.new result (move_with v (λ x. assigned_at s.words s.copies slot (index_in length index) x place)) }
+    ensures { IsMoveAfter part left.old left.new result
+        (λ s x. assigned_at s.words s.copies slot (index_in length index) x place) }
 {
     match part {
         Ok(n) => match pay(1, left) {
@@ -238,7 +229,7 @@ fn after_assign_at<'k>(
 }
 
 fn clear_step<'k>(slot: u32, length: u32, left: &mut u64) -> Result<Step<'k>, Halt>
-    ensures { (s : Site) → IsMoved s left.old left.new result (Moves plain.Done (cleared s.words slot length) s.copies length) }
+    ensures { (s : Origin) → IsMoved s left.old left.new result (Moves plain.Done (cleared s.words slot length) s.copies length) }
 {
     match pay(u64::from(length), left) {
         Ok(()) => Ok(Step::Clears { slot, length }),
@@ -250,19 +241,16 @@ fn clear_step<'k>(slot: u32, length: u32, left: &mut u64) -> Result<Step<'k>, Ha
 pub(crate) fn statement_step<'k>(
     alloc: Global,
     kernel: &'k KernelParts,
-    uses: &[u32],
-    words: &[i32],
-    copies: &[VarCopy],
+    values: &ThreadValues<'_>,
     s: &'k Statement,
     left: &mut u64,
 ) -> Result<Step<'k>, Halt>
-    ensures { (R : plain.Text) → IsMoved (site uses.now words.now copies.now R) left.old left.new result
-        (statement_move (record { kernel = plain_kernel kernel.now; uses = uses.now }) words.now copies.now (stmt s.now)) }
+    ensures { StatementMoved kernel.now values.now (stmt s.now) left.old left.new result }
 {
     match s {
         Statement::Nop | Statement::Return { .. } => Ok(Step::Finishes),
         Statement::Set { to, value } => {
-            let part = number_of(alloc, kernel, uses, words, copies, value, left);
+            let part = number_of(alloc, kernel, values, value, left);
             after_assign(*to, part, left)
         }
         Statement::SetAt {
@@ -271,28 +259,28 @@ pub(crate) fn statement_step<'k>(
             index,
             value,
             place,
-        } => match number_of(alloc, kernel, uses, words, copies, index, left) {
+        } => match number_of(alloc, kernel, values, index, left) {
             Ok(at) => {
-                let part = number_of(alloc, kernel, uses, words, copies, value, left);
+                let part = number_of(alloc, kernel, values, value, left);
                 after_assign_at(*slot, *length, at, *place, part, left)
             }
             Err(halt) => Err(halt),
         },
         Statement::Clear { slot, length } => clear_step(*slot, *length, left),
-        Statement::Sequence { list } => Ok(Step::Goes {
-            next: Next::DoesAll { list },
+        Statement::Sequence { list } => Ok(Step::Becomes {
+            next: NextText::DoesAll { list },
         }),
         Statement::If { test, yes, no } => {
-            let test = number_of(alloc, kernel, uses, words, copies, test, left);
+            let test = number_of(alloc, kernel, values, test, left);
             match tested(test, left) {
                 Ok(n) => {
                     if n == 0 {
-                        return Ok(Step::Goes {
-                            next: Next::Does { statement: no },
+                        return Ok(Step::Becomes {
+                            next: NextText::Does { statement: no },
                         });
                     }
-                    Ok(Step::Goes {
-                        next: Next::Does { statement: yes },
+                    Ok(Step::Becomes {
+                        next: NextText::Does { statement: yes },
                     })
                 }
                 Err(halt) => Err(halt),
@@ -303,8 +291,8 @@ pub(crate) fn statement_step<'k>(
             bound,
             body,
             place,
-        } => Ok(Step::Goes {
-            next: Next::Turns {
+        } => Ok(Step::Becomes {
+            next: NextText::Turns {
                 turn: Turn {
                     test,
                     bound: *bound,
@@ -315,12 +303,12 @@ pub(crate) fn statement_step<'k>(
             },
         }),
         Statement::Pause => match pay(1, left) {
-            Ok(()) => Ok(Step::Goes { next: Next::Rests }),
+            Ok(()) => Ok(Step::Becomes {
+                next: NextText::Rests,
+            }),
             Err(halt) => Err(halt),
         },
-        Statement::Par { branches } => {
-            par_step(alloc, kernel, uses, words, copies, branches, left)
-        }
+        Statement::Par { branches } => par_step(alloc, kernel, values, branches, left),
         Statement::Enter {
             weak,
             immediate,
@@ -328,10 +316,11 @@ pub(crate) fn statement_step<'k>(
             body,
         } => {
             if *immediate {
-                return enter_step(alloc, kernel, uses, words, copies, *weak, test, body, left);
+                let part = number_of(alloc, kernel, values, test, left);
+                return after_enter(*weak, test, body, part, left);
             }
-            Ok(Step::Goes {
-                next: Next::Watches {
+            Ok(Step::Becomes {
+                next: NextText::Watches {
                     weak: *weak,
                     test,
                     body,

@@ -3,18 +3,18 @@
 ghost use Rattle.std.specs.Prelude.{◌≡◌, ◌<◌, ◌+◌, ℕ, ℤ, IfOk, List, Err, true, false};
 ghost use Rattle.forec_kernel.specs.Shapes.{plain_kernel};
 ghost use Rattle.forec_kernel.specs.Texts as plain;
-ghost use Rattle.forec_kernel.specs.Steps.{Path, Move, Finished, Halts, place_at, path_below, text_move, child_move, thread_move, thread_after};
+ghost use Rattle.forec_kernel.specs.Steps.{Finished, Halts, place_at, path_below, text_move, child_move, thread_move};
 ghost use Rattle.running_threads.specs.Views.{threads, focused, standing, plain_thread};
-ghost use Rattle.running_threads.specs.Moves.{plugged_move};
-ghost use Rattle.kernel_meaning.specs.Moving.{IsMoved, site, leads, rested, AreStepped, IsForked, IsThread, after_move, place_or_first, first_is_here, place_behind, running_below};
-ghost use Rattle.kernel_meaning.specs.States.{site_of};
+ghost use Rattle.kernel_meaning.specs.Moving.{FocusMoved, leads, rested, AreStepped, IsForked, IsThread, after_move};
+ghost use Rattle.kernel_meaning.specs.Moving.{place_or_first, first_is_here, place_behind, running_below};
+ghost use Rattle.kernel_meaning.specs.States.{origin_of, after_focus, TakesStep};
 ghost use Rattle.kernel_meaning.specs.declared.moving.Step.TheVariants.{Sets};
 
 use crate::joins::join_step;
 use crate::moving::{Step, set_copy};
 use crate::statements::{loop_step, statement_step};
 use forec_kernel::{KernelParts, Spot, VarCopy};
-use running_texts::{Halt, clear_words, set_word, thread_uses};
+use running_texts::{Halt, ThreadValues, clear_words, set_word, thread_uses};
 use running_threads::{
     Children, Focus, Status, Thread, all_done, go_on, leave_last, resume, retire, runs, runs_there,
     some_run,
@@ -36,31 +36,26 @@ fn runs_below(focus: &Focus<'_>) -> bool
 fn focus_step<'k>(
     alloc: Global,
     kernel: &'k KernelParts,
-    uses: &[u32],
-    words: &[i32],
-    copies: &[VarCopy],
+    values: &ThreadValues<'_>,
     focus: &Focus<'k>,
     left: &mut u64,
 ) -> Result<Step<'k>, Halt>
     requires { running_below (focused focus.now) ≡ false }
-    ensures { (path : Path) → IsMoved (site uses.now words.now copies.now (focused focus.now)) left.old left.new result
-        (text_move (plain_kernel kernel.now) path uses.now words.now copies.now (focused focus.now)) }
+    ensures { FocusMoved kernel.now values.now (focused focus.now) left.old left.new result }
 {
     match focus {
         Focus::Done => Ok(Step::Finishes),
-        Focus::Run { statement } => {
-            statement_step(alloc, kernel, uses, words, copies, statement, left)
-        }
-        Focus::Turning { turn } => loop_step(alloc, kernel, uses, words, copies, *turn, left),
+        Focus::Run { statement } => statement_step(alloc, kernel, values, statement, left),
+        Focus::Turning { turn } => loop_step(alloc, kernel, values, *turn, left),
         Focus::Resting => Ok(Step::Halts),
         Focus::Held { .. } => Ok(Step::Halts),
-        Focus::Fork { children } => join_step(alloc, kernel, uses, words, copies, children, left),
+        Focus::Fork { children } => join_step(alloc, kernel, values, children, left),
     }
 }
 
 /// A thread whose focus has nothing left to do: what follows it, or the thread's end.
 fn finish(t: &mut Thread<'_>) -> Result<(), AllocError>
-    ensures { IfOk result (λ _. plain_thread t.new ≡ thread_after (plain_thread t.old) (plugged_move t.old.frames.items t.old.words.items t.old.copies.items Finished)) }
+    ensures { IfOk result (λ _. plain_thread t.new ≡ after_focus t.old Finished) }
 {
     match resume(&mut t.frames)? {
         Some(focus) => t.focus = focus,
@@ -71,7 +66,7 @@ fn finish(t: &mut Thread<'_>) -> Result<(), AllocError>
 
 /// A thread whose focus halts: it leaves the last piece of a weak abort, or the thread is paused.
 fn halt(t: &mut Thread<'_>)
-    ensures { plain_thread t.new ≡ thread_after (plain_thread t.old) (plugged_move t.old.frames.items t.old.words.items t.old.copies.items Halts) }
+    ensures { plain_thread t.new ≡ after_focus t.old Halts }
 {
     if leave_last(&mut t.frames) {
         t.focus = Focus::Done;
@@ -97,7 +92,7 @@ fn rest(focus: &mut Focus<'_>)
 
 /// A number goes to a word, or marked to a copy.
 fn set(uses: &[u32], t: &mut Thread<'_>, to: Spot, value: i32)
-    ensures { (u : ℕ) → plain_thread t.new ≡ thread_after (plain_thread t.old) (plugged_move t.old.frames.items t.old.words.items t.old.copies.items (leads (site_of uses.now t.old) (Sets to value) u)) }
+    ensures { (u : ℕ) → plain_thread t.new ≡ after_focus t.old (leads (origin_of uses.now t.old) (Sets to value) u) }
 {
     match to {
         Spot::Local { slot } => {
@@ -117,8 +112,7 @@ fn set(uses: &[u32], t: &mut Thread<'_>, to: Spot, value: i32)
 
 /// A thread whose focus stops: it traps, or the step isn't taken.
 fn stop(t: &mut Thread<'_>, halt: Halt) -> Result<(), Halt>
-    ensures { (uses : List ℕ) (old new : ℕ) (m : Move) → IsMoved (site_of uses t.old) old new (Err halt) m →
-        IsThread old new (plain_thread t.new) result (after_move (plain_thread t.old) (plugged_move t.old.frames.items t.old.words.items t.old.copies.items m)) }
+    ensures { (uses : List ℕ) → TakesStep uses t.old t.new (Err halt) result }
 {
     match halt {
         Halt::Trapped { place, trap } => {
@@ -137,8 +131,7 @@ fn after_step<'k>(
     t: &mut Thread<'k>,
     step: Result<Step<'k>, Halt>,
 ) -> Result<(), Halt>
-    ensures { (old new : ℕ) (m : Move) → IsMoved (site_of uses.now t.old) old new step.entry m →
-        IsThread old new (plain_thread t.new) result (after_move (plain_thread t.old) (plugged_move t.old.frames.items t.old.words.items t.old.copies.items m)) }
+    ensures { TakesStep uses.now t.old t.new step.entry result }
 {
     match step {
         Ok(Step::Finishes) => Ok(finish(t)?),
@@ -165,7 +158,7 @@ fn after_step<'k>(
             rest(&mut t.focus);
             Ok(())
         }
-        Ok(Step::Goes { next }) => {
+        Ok(Step::Becomes { next }) => {
             t.focus = go_on(alloc, &mut t.frames, next)?;
             Ok(())
         }
@@ -242,7 +235,12 @@ pub(crate) fn thread_step<'k>(
         return fork_step(alloc, kernel, path, &mut t.focus, left);
     }
     let uses = thread_uses(kernel, t.number);
-    let step = focus_step(alloc, kernel, uses, &t.words, &t.copies, &t.focus, left);
+    let values = ThreadValues {
+        words: &t.words,
+        uses,
+        copies: &t.copies,
+    };
+    let step = focus_step(alloc, kernel, &values, &t.focus, left);
     after_step(alloc, uses, t, step)
 }
 

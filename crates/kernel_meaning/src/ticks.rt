@@ -5,10 +5,10 @@ ghost use Rattle.forec_kernel.specs.Shapes.{PlainKernel, plain_kernel};
 ghost use Rattle.forec_kernel.specs.Texts.{uses_of, is_running, text_of, body_of, words_of, Running};
 ghost use Rattle.forec_kernel.specs.Values.{fresh_words};
 ghost use Rattle.forec_kernel.specs.Ticks as ticks;
-ghost use Rattle.forec_kernel.specs.Ticks.{begin, start_copies, unmarked, with_row, values_of, outcome_of, tick};
+ghost use Rattle.forec_kernel.specs.Ticks.{begin, start_copies, unmarked, with_row, values_of, outcome_of};
 ghost use Rattle.running_threads.specs.Views.{plain_thread, standing};
 ghost use Rattle.kernel_meaning.specs.Waking.{WokenTo};
-ghost use Rattle.kernel_meaning.specs.States.{plain_state, Advances, GoesOn, told, is_told};
+ghost use Rattle.kernel_meaning.specs.States.{plain_state, Advances, GoesOn, tick_of_state, told, is_told};
 
 use crate::forks::start_body;
 use crate::moving::set_copy;
@@ -237,7 +237,7 @@ fn tick_of<'k>(
     order: &[u32],
     budget: u64,
 ) -> Result<Option<Thread<'k>>, OutOfMemory>
-    ensures { IfOk result (λ o. tick (plain_kernel kernel.now) budget (plain_state state.now) row.now ≡ told (plain_kernel kernel.now) (plain_state state.now) o) }
+    ensures { IfOk result (λ o. tick_of_state kernel.now budget state.now row.now ≡ told (plain_kernel kernel.now) (plain_state state.now) o) }
 {
     let mut left = budget;
     match begin_tick(alloc, kernel, state, row, &mut left) {
@@ -316,9 +316,9 @@ pub fn rewrite_tick<'k>(
     outputs: &mut [i32],
 ) -> Result<(Outcome, State<'k>), OutOfMemory>
     requires { length outputs.old ≡ length kernel.now.shape.outputs.items }
-    ensures outcome { IfOk result (λ p. p.0 ≡ (tick (plain_kernel kernel.now) budget (plain_state state.now) row.now).outcome) }
-    ensures state { IfOk result (λ p. plain_state p.1 ≡ (tick (plain_kernel kernel.now) budget (plain_state state.now) row.now).state) }
-    ensures outputs { IfOk result (λ p. outputs.new ≡ cond (is_told p.0) (tick (plain_kernel kernel.now) budget (plain_state state.now) row.now).outputs outputs.old) }
+    ensures outcome { IfOk result (λ p. p.0 ≡ (tick_of_state kernel.now budget state.now row.now).outcome) }
+    ensures state { IfOk result (λ p. plain_state p.1 ≡ (tick_of_state kernel.now budget state.now row.now).state) }
+    ensures outputs { IfOk result (λ p. outputs.new ≡ cond (is_told p.0) (tick_of_state kernel.now budget state.now row.now).outputs outputs.old) }
     ensures err { OnErr result (outputs.new ≡ outputs.old) }
 {
     let parts = kernel.parts();

@@ -4,13 +4,13 @@ ghost use Rattle.std.specs.Prelude.{◌≡◌, ◌<◌, ◌+◌, ℕ, ℤ, List,
 ghost use Rattle.forec_kernel.specs.Shapes.{plain_kernel};
 ghost use Rattle.forec_kernel.specs.Steps.{woken, woken_children};
 ghost use Rattle.running_texts.specs.Metered.{IsMetered};
-ghost use Rattle.forec_kernel.specs.Texts.{child_of, Running};
+ghost use Rattle.forec_kernel.specs.Texts.{child_of};
 ghost use Rattle.running_threads.specs.Views.{threads, focused, plugged, plain_thread, standing};
-ghost use Rattle.kernel_meaning.specs.Waking.{Reached, fate, waking, WokenTo, woken_thread, AreWoken};
+ghost use Rattle.kernel_meaning.specs.Waking.{Reached, fate_in_thread, waking, WokenTo, awake, woken_thread, AreWoken};
 
 use crate::statements::number_of;
 use forec_kernel::{KernelParts, VarCopy};
-use running_texts::{Halt, copies_below, tested, thread_uses};
+use running_texts::{Halt, ThreadValues, copies_below, tested, thread_uses};
 use running_threads::{
     Children, Focus, Frame, Status, Thread, Turn, duplicate_focus, duplicate_thread, ran,
 };
@@ -51,33 +51,27 @@ fn push_all<'k>(after: &mut Vec<Frame<'k>>, frames: &[Frame<'k>]) -> Result<(), 
 fn wake_frames<'k>(
     alloc: Global,
     kernel: &'k KernelParts,
-    uses: &[u32],
-    words: &[i32],
-    copies: &[VarCopy],
+    values: &ThreadValues<'_>,
     frames: &[Frame<'k>],
     after: &mut Vec<Frame<'k>>,
     left: &mut u64,
 ) -> Result<Reach, Halt>
-    ensures { Reached (fate (plain_kernel kernel.now) uses.now words.now copies.now frames.now) after.old.items after.new.items left.old left.new result }
+    ensures { Reached (fate_in_thread kernel.now values.now frames.now) after.old.items after.new.items left.old left.new result }
 {
     match frames {
         [] => Ok(Reach::Focus),
         [first, rest @ ..] => match first {
             Frame::Watch { weak, test } => {
-                let part = number_of(alloc, kernel, uses, words, copies, test, left);
+                let part = number_of(alloc, kernel, values, test, left);
                 match tested(part, left) {
                     Ok(n) => {
                         if n == 0 {
                             after.push(*first)?;
-                            return wake_frames(
-                                alloc, kernel, uses, words, copies, rest, after, left,
-                            );
+                            return wake_frames(alloc, kernel, values, rest, after, left);
                         }
                         if *weak {
                             after.push(Frame::Last)?;
-                            return wake_frames(
-                                alloc, kernel, uses, words, copies, rest, after, left,
-                            );
+                            return wake_frames(alloc, kernel, values, rest, after, left);
                         }
                         Ok(Reach::Out)
                     }
@@ -90,12 +84,12 @@ fn wake_frames<'k>(
             }
             Frame::Rest { .. } => {
                 after.push(*first)?;
-                wake_frames(alloc, kernel, uses, words, copies, rest, after, left)
+                wake_frames(alloc, kernel, values, rest, after, left)
             }
             Frame::Again { turn } => {
                 let turn = refilled(turn);
                 after.push(Frame::Again { turn })?;
-                wake_frames(alloc, kernel, uses, words, copies, rest, after, left)
+                wake_frames(alloc, kernel, values, rest, after, left)
             }
         },
     }
@@ -109,7 +103,7 @@ fn with_text<'k>(
     focus: Focus<'k>,
     copies: Vec<VarCopy>,
 ) -> Result<Thread<'k>, AllocError>
-    ensures { IfOk result (λ x. plain_thread x ≡ record (plain_thread t.now) { text = plugged frames.entry.items (focused focus.entry); copies = copies.items; status = Running }) }
+    ensures { IfOk result (λ x. plain_thread x ≡ awake (plain_thread t.now) (plugged frames.entry.items (focused focus.entry)) copies.items) }
 {
     let words = Vec::from_slice(alloc, &t.words)?;
     Ok(Thread {
@@ -150,16 +144,12 @@ pub(crate) fn wake_thread<'k>(
     ensures { WokenTo left.old left.new result (woken_thread (plain_kernel kernel.now) uses.now (plain_thread t.now) copies.items) }
 {
     let mut frames = Vec::new(alloc);
-    match wake_frames(
-        alloc,
-        kernel,
+    let values = ThreadValues {
+        words: &t.words,
         uses,
-        &t.words,
-        &copies,
-        &t.frames,
-        &mut frames,
-        left,
-    ) {
+        copies: &copies,
+    };
+    match wake_frames(alloc, kernel, &values, &t.frames, &mut frames, left) {
         Ok(Reach::Focus) => match wake_focus(alloc, kernel, uses, &copies, &t.focus, left) {
             Ok(focus) => Ok(with_text(alloc, t, frames, focus, copies)?),
             Err(halt) => Err(halt),

@@ -113,7 +113,7 @@ flow_more u (Returns n w) = refl
 flow_more u (Breaks place trap w) = refl
 
 flow_gives : (u w : ℕ) (y : Ran) → more_flow u (flowing.gives y w) ≡ flowing.gives y (u + w)
-flow_gives u w (ran.Goes words) = refl
+flow_gives u w (ran.Continues words) = refl
 flow_gives u w (ran.Returns n) = refl
 
 pub adds_flow : Adds flowing more_flow

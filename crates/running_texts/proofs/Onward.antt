@@ -158,7 +158,7 @@ then_least (Returns n u) go = omega arith
 then_least (Breaks place trap u) go = omega arith
 
 pub flow_goes : (old mid new : ℕ) (whole f : Flow) (go : List ℤ → Flow) (w : Vec ℤ Global) → FlowSoFar old mid whole (flow_then f go) →
-    IsMetered flowing mid new (Ok (ran.Goes w)) f → FlowSoFar old new whole (go w.items)
+    IsMetered flowing mid new (Ok (ran.Continues w)) f → FlowSoFar old new whole (go w.items)
 flow_goes old mid new whole f go w s m =
     flow_more old mid new m.by.units whole (go w.items) (flow_then f go) s (ap (λ x. flow_then x go) m.by.is) m.by.left
 
@@ -211,13 +211,13 @@ module _ (test : List ℤ → Value) (body : List ℤ → Flow) (place : Place) 
       pick false = let e = adds_flow.units 1 (flow_then (body words) (λ w. turns m test body place w)) in omega arith
 
   pub turns_end : (old mid new m : ℕ) (whole : Flow) (n : ℤ) (words : Vec ℤ Global) → FlowSoFar old mid whole (turns m test body place words.items) →
-      AfterTest mid new (Ok n) (test words.items) → n ≡ pos 0 → IsMetered flowing old new (Ok (ran.Goes words)) whole
+      AfterTest mid new (Ok n) (test words.items) → n ≡ pos 0 → IsMetered flowing old new (Ok (ran.Continues words)) whole
   turns_end old mid new m whole n words s t e =
-      let here : IsMetered flowing new new (Ok (ran.Goes words)) (Goes words.items 0) =
+      let here : IsMetered flowing new new (Ok (ran.Continues words)) (Goes words.items 0) =
       record { by = record { units = 0; is = refl; left = omega arith } } in
-      flow_ends old mid new whole (flow_with (test words.items) (turn_rest m words.items)) (Ok (ran.Goes words))
+      flow_ends old mid new whole (flow_with (test words.items) (turn_rest m words.items)) (Ok (ran.Continues words))
       (flow_same old mid whole _ _ s (turns_are m words.items))
-      (test_ok flowing flow_with more_flow binds_flow adds_flow mid new new n (Ok (ran.Goes words)) (test words.items) (turn_rest m words.items)
+      (test_ok flowing flow_with more_flow binds_flow adds_flow mid new new n (Ok (ran.Continues words)) (test words.items) (turn_rest m words.items)
       (Goes words.items 0) t (rest_zero m words.items n e) here)
 
   pub turns_trap : (old mid new m : ℕ) (whole : Flow) (n : ℤ) (words : List ℤ) → FlowSoFar old mid whole (turns m test body place words) →

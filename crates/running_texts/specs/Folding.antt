@@ -74,13 +74,17 @@ first_folds [] copies = []
 first_folds (v ∷ uses) [] = []
 first_folds (v ∷ uses) (c ∷ copies) = record { variable = v; base = c.value; total = None } ∷ first_folds uses copies
 
+-- the parent's copy of a variable after the last branch
+abbrev pub folded_copy : PlainKernel → Threads → ℕ → VarCopy → Fold → VarCopy
+folded_copy k cs v c e = record { value = unwrap_or e.total c.value; modified = c.modified || some_marked (shares k v 0 cs) }
+
 -- the parent's copies after the last branch
 abbrev pub folded_copies : PlainKernel → Threads → List ℕ → List VarCopy → List Fold → List VarCopy
 folded_copies k cs [] copies es = copies
 folded_copies k cs (v ∷ uses) [] es = []
 folded_copies k cs (v ∷ uses) (c ∷ copies) [] = c ∷ copies
 folded_copies k cs (v ∷ uses) (c ∷ copies) (e ∷ es) =
-    record { value = unwrap_or e.total c.value; modified = c.modified || some_marked (shares k v 0 cs) } ∷ folded_copies k cs uses copies es
+    folded_copy k cs v c e ∷ folded_copies k cs uses copies es
 
 -- ---- under an allowance
 

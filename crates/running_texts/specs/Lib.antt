@@ -1,2 +1,3 @@
 pub mod Metered
+pub mod Starting
 pub mod Folding

@@ -6,9 +6,11 @@ use Rattle.std.specs.declared.vec.Vec.{Vec}
 use Rattle.std.specs.declared.alloc.Global.{Global}
 use Rattle.forec_base.specs.declared.Place.{Place}
 use Rattle.forec_base.specs.declared.Trap.{Trap}
-use Rattle.forec_kernel.specs.declared.shape.VarCopy.{VarCopy}
 use Rattle.forec_kernel.specs.Shapes.{PlainKernel}
-use Rattle.forec_kernel.specs.Values.{Value, Gives, Stops, Values, AllGive, OneStops, Flow, Goes, Returns, Breaks, Setting, Sight, call_within}
+use Rattle.forec_kernel.specs.Plain.{expr, stmt}
+use Rattle.forec_kernel.specs.Values.{Value, Gives, Stops, Values, AllGive, OneStops, Flow, Goes, Returns, Breaks, Setting, Sight, value_then, flow_with, val, flow, turns, words_alone, call_within}
+use Rattle.running_texts.specs.declared.evaluation.ThreadValues.{ThreadValues}
+use Rattle.running_texts.specs.declared.evaluation.BoundedLoop.{BoundedLoop}
 use Rattle.running_texts.specs.declared.meter.Halt.{Halt}
 use Rattle.running_texts.specs.declared.meter.Halt.TheVariants.{Trapped, Over, OutOfMemory}
 use Rattle.running_texts.specs.declared.functions.Ran.{Ran}
@@ -58,16 +60,34 @@ flow_units (Returns n u) = u
 flow_units (Breaks place trap u) = u
 
 abbrev pub run_gives : Ran → ℕ → Flow
-run_gives (ran.Goes words) u = Goes words.items u
+run_gives (ran.Continues words) u = Goes words.items u
 run_gives (ran.Returns n) u = Returns n u
 
 abbrev pub flowing : Kind Ran Flow
 flowing = record { gives = run_gives; stops = Breaks; units = flow_units }
+
+-- ---- what follows a number
+
+-- the number after a part: what is done with the part's number, under what the part left of the allowance
+abbrev pub IsNumberAfter : Result ℤ Halt → ℕ → ℕ → Result ℤ Halt → (ℤ → Value) → Type 0
+IsNumberAfter part mid new result go =
+    (old : ℕ) (v : Value) → IsMetered number old mid part v → IsMetered number old new result (value_then v go)
+
+-- the same of a statement of an int function
+abbrev pub IsFlowAfter : Result ℤ Halt → ℕ → ℕ → Result Ran Halt → (ℤ → Flow) → Type 0
+IsFlowAfter part mid new result go =
+    (old : ℕ) (v : Value) → IsMetered number old mid part v → IsMetered flowing old new result (flow_with v go)
 
 -- ---- what an evaluation sees
 
 abbrev pub setting_within : PlainKernel → ℕ → Setting
 setting_within k deep = record { tables = k.shape.tables; call = call_within k deep }
 
-abbrev pub sight : List ℤ → List ℕ → List VarCopy → Sight
-sight words uses copies = record { words = words; uses = uses; copies = copies }
+abbrev pub sight_of : ThreadValues → Sight
+sight_of v = record { words = v.words.now; uses = v.uses.now; copies = v.copies.now }
+
+-- a loop of an int function, with its words
+abbrev pub bounded_flow : PlainKernel → ℕ → BoundedLoop → List ℤ → Flow
+bounded_flow k deep l words =
+    let s = setting_within k deep in
+    turns l.bound (λ w. val s (words_alone w) (expr l.test.now)) (flow s (stmt l.body.now)) l.place words

@@ -3,11 +3,12 @@
 ghost use Rattle.std.specs.Prelude.{◌≡◌, ◌<◌, ◌+◌, ℕ, ℤ};
 ghost use Rattle.forec_kernel.specs.Plain.{expr, exprs, stmt, stmts};
 ghost use Rattle.forec_kernel.specs.Shapes.{plain_kernel};
-ghost use Rattle.forec_kernel.specs.Values.{val, vals, flow, flows, turns, call_within, words_alone};
-ghost use Rattle.running_texts.specs.Metered.{IsMetered, number, numbers, flowing, setting_within, sight};
+ghost use Rattle.forec_kernel.specs.Values.{val, vals, flow, flows, call_within, words_alone};
+ghost use Rattle.running_texts.specs.Metered.{IsMetered, number, numbers, flowing, setting_within, sight_of, bounded_flow};
 
 use crate::functions::{
-    Ran, after_set, after_set_at, as_return, as_value, clear, function_word_count, words_from,
+    Element, Ran, after_set, after_set_at, as_return, as_value, clear, function_word_count,
+    words_from,
 };
 use crate::meter::{Halt, give, pay, tested};
 use crate::operators::{
@@ -18,44 +19,73 @@ use forec_base::{Place, Trap};
 use forec_kernel::{Expression, KernelParts, Statement, VarCopy};
 use std::alloc::Global;
 
+/// What an expression reads: the words of its thread or int function, and the thread's copies of the
+/// variables that it uses.
+#[derive(Clone, Copy)]
+pub struct ThreadValues<'a> {
+    pub words: &'a [i32],
+    pub uses: &'a [u32],
+    pub copies: &'a [VarCopy],
+}
+
+/// The words of an int function, which reads nothing else.
+fn only_words(words: &[i32]) -> ThreadValues<'_>
+    ensures { sight_of result ≡ words_alone words.now }
+{
+    ThreadValues {
+        words,
+        uses: &[],
+        copies: &[],
+    }
+}
+
+/// A loop whose turns are bounded.
+#[derive(Clone, Copy)]
+struct BoundedLoop<'k> {
+    test: &'k Expression,
+    bound: u32,
+    body: &'k Statement,
+    place: Place,
+}
+
 /// The number of an expression, by rewriting under the allowance.
 #[cycle(evaluation)]
 pub fn evaluate(
     alloc: Global,
     kernel: &KernelParts,
     deep: usize,
-    words: &[i32],
-    uses: &[u32],
-    copies: &[VarCopy],
+    values: &ThreadValues<'_>,
     e: &Expression,
     left: &mut u64,
 ) -> Result<i32, Halt>
     ensures { IsMetered number left.old left.new result
-        (val (setting_within (plain_kernel kernel.now) deep) (sight words.now uses.now copies.now) (expr e.now)) }
+        (val (setting_within (plain_kernel kernel.now) deep) (sight_of values.now) (expr e.now)) }
 {
     match e {
         Expression::Number { value } => give(*value, left),
-        Expression::Local { slot } => give(word_at(words, *slot as usize), left),
-        Expression::Variable { variable } => give(copy_value(uses, copies, *variable), left),
+        Expression::Local { slot } => give(word_at(values.words, *slot as usize), left),
+        Expression::Variable { variable } => {
+            give(copy_value(values.uses, values.copies, *variable), left)
+        },
         Expression::LocalAt {
             slot,
             length,
             index,
             place,
         } => {
-            let part = evaluate(alloc, kernel, deep, words, uses, copies, index, left);
-            after_word_index(words, *slot, *length, *place, part, left)
+            let part = evaluate(alloc, kernel, deep, values, index, left);
+            after_word_index(values.words, *slot, *length, *place, part, left)
         }
         Expression::TableAt {
             table,
             index,
             place,
         } => {
-            let part = evaluate(alloc, kernel, deep, words, uses, copies, index, left);
+            let part = evaluate(alloc, kernel, deep, values, index, left);
             after_table_index(table_at(&kernel.shape.tables, *table), *place, part, left)
         }
         Expression::Unary { op, of } => {
-            let part = evaluate(alloc, kernel, deep, words, uses, copies, of, left);
+            let part = evaluate(alloc, kernel, deep, values, of, left);
             after_unary(*op, part, left)
         }
         Expression::Binary {
@@ -63,53 +93,53 @@ pub fn evaluate(
             left: first,
             right,
             place,
-        } => match evaluate(alloc, kernel, deep, words, uses, copies, first, left) {
+        } => match evaluate(alloc, kernel, deep, values, first, left) {
             Ok(a) => {
-                let part = evaluate(alloc, kernel, deep, words, uses, copies, right, left);
+                let part = evaluate(alloc, kernel, deep, values, right, left);
                 after_binary(*op, a, part, *place, left)
             }
             Err(halt) => Err(halt),
         },
         Expression::And { left: first, right } => {
-            let test = evaluate(alloc, kernel, deep, words, uses, copies, first, left);
+            let test = evaluate(alloc, kernel, deep, values, first, left);
             match tested(test, left) {
                 Ok(n) => {
                     if n == 0 {
                         return Ok(0);
                     }
-                    let part = evaluate(alloc, kernel, deep, words, uses, copies, right, left);
+                    let part = evaluate(alloc, kernel, deep, values, right, left);
                     as_truth(part)
                 }
                 Err(halt) => Err(halt),
             }
         }
         Expression::Or { left: first, right } => {
-            let test = evaluate(alloc, kernel, deep, words, uses, copies, first, left);
+            let test = evaluate(alloc, kernel, deep, values, first, left);
             match tested(test, left) {
                 Ok(n) => {
                     if n != 0 {
                         return Ok(1);
                     }
-                    let part = evaluate(alloc, kernel, deep, words, uses, copies, right, left);
+                    let part = evaluate(alloc, kernel, deep, values, right, left);
                     as_truth(part)
                 }
                 Err(halt) => Err(halt),
             }
         }
         Expression::Choose { test, yes, no } => {
-            let test = evaluate(alloc, kernel, deep, words, uses, copies, test, left);
+            let test = evaluate(alloc, kernel, deep, values, test, left);
             match tested(test, left) {
                 Ok(n) => {
                     if n == 0 {
-                        return evaluate(alloc, kernel, deep, words, uses, copies, no, left);
+                        return evaluate(alloc, kernel, deep, values, no, left);
                     }
-                    evaluate(alloc, kernel, deep, words, uses, copies, yes, left)
+                    evaluate(alloc, kernel, deep, values, yes, left)
                 }
                 Err(halt) => Err(halt),
             }
         }
         Expression::Call { function, args } => {
-            match evaluate_all(alloc, kernel, deep, words, uses, copies, args, left) {
+            match evaluate_all(alloc, kernel, deep, values, args, left) {
                 Ok(numbers) => match pay(1, left) {
                     Ok(()) => call_function(alloc, kernel, deep, *function, &numbers, left),
                     Err(halt) => Err(halt),
@@ -126,18 +156,16 @@ pub fn evaluate_all(
     alloc: Global,
     kernel: &KernelParts,
     deep: usize,
-    words: &[i32],
-    uses: &[u32],
-    copies: &[VarCopy],
+    values: &ThreadValues<'_>,
     list: &[Expression],
     left: &mut u64,
 ) -> Result<Vec<i32>, Halt>
     ensures { IsMetered numbers left.old left.new result
-        (vals (setting_within (plain_kernel kernel.now) deep) (sight words.now uses.now copies.now) (exprs list.now)) }
+        (vals (setting_within (plain_kernel kernel.now) deep) (sight_of values.now) (exprs list.now)) }
 {
     let mut numbers = Vec::new(alloc);
     for e in list {
-        match evaluate(alloc, kernel, deep, words, uses, copies, e, left) {
+        match evaluate(alloc, kernel, deep, values, e, left) {
             Ok(n) => {
                 if numbers.push(n).is_err() {
                     return Err(Halt::OutOfMemory);
@@ -191,7 +219,7 @@ fn run(
 {
     match s {
         Statement::Set { to, value } => {
-            let part = evaluate(alloc, kernel, deep, &words, &[], &[], value, left);
+            let part = evaluate(alloc, kernel, deep, &only_words(&words), value, left);
             after_set(words, *to, part, left)
         }
         Statement::SetAt {
@@ -200,17 +228,23 @@ fn run(
             index,
             value,
             place,
-        } => match evaluate(alloc, kernel, deep, &words, &[], &[], index, left) {
+        } => match evaluate(alloc, kernel, deep, &only_words(&words), index, left) {
             Ok(at) => {
-                let part = evaluate(alloc, kernel, deep, &words, &[], &[], value, left);
-                after_set_at(words, *slot, *length, at, *place, part, left)
+                let part = evaluate(alloc, kernel, deep, &only_words(&words), value, left);
+                let element = Element {
+                    slot: *slot,
+                    length: *length,
+                    index: at,
+                    place: *place,
+                };
+                after_set_at(words, element, part, left)
             }
             Err(halt) => Err(halt),
         },
         Statement::Clear { slot, length } => clear(words, *slot, *length, left),
         Statement::Sequence { list } => run_all(alloc, kernel, deep, words, list, left),
         Statement::If { test, yes, no } => {
-            let test = evaluate(alloc, kernel, deep, &words, &[], &[], test, left);
+            let test = evaluate(alloc, kernel, deep, &only_words(&words), test, left);
             match tested(test, left) {
                 Ok(n) => {
                     if n == 0 {
@@ -227,14 +261,22 @@ fn run(
             body,
             place,
         } => match bound {
-            Some(turns) => run_turns(alloc, kernel, deep, words, *turns, test, body, *place, left),
-            None => Ok(Ran::Goes(words)),
+            Some(turns) => {
+                let bounded = BoundedLoop {
+                    test,
+                    bound: *turns,
+                    body,
+                    place: *place,
+                };
+                run_turns(alloc, kernel, deep, words, &bounded, left)
+            }
+            None => Ok(Ran::Continues(words)),
         },
         Statement::Return { value } => {
-            let part = evaluate(alloc, kernel, deep, &words, &[], &[], value, left);
+            let part = evaluate(alloc, kernel, deep, &only_words(&words), value, left);
             as_return(part)
         }
-        _ => Ok(Ran::Goes(words)),
+        _ => Ok(Ran::Continues(words)),
     }
 }
 
@@ -251,12 +293,12 @@ fn run_all(
 {
     for s in list {
         match run(alloc, kernel, deep, words, s, left) {
-            Ok(Ran::Goes(next)) => words = next,
+            Ok(Ran::Continues(next)) => words = next,
             Ok(Ran::Returns(n)) => return Ok(Ran::Returns(n)),
             Err(halt) => return Err(halt),
         }
     }
-    Ok(Ran::Goes(words))
+    Ok(Ran::Continues(words))
 }
 
 /// A loop with so many turns left.
@@ -266,33 +308,28 @@ fn run_turns(
     kernel: &KernelParts,
     deep: usize,
     mut words: Vec<i32>,
-    bound: u32,
-    test: &Expression,
-    body: &Statement,
-    place: Place,
+    bounded: &BoundedLoop<'_>,
     left: &mut u64,
 ) -> Result<Ran, Halt>
-    ensures { IsMetered flowing left.old left.new result
-        (turns bound (λ w. val (setting_within (plain_kernel kernel.now) deep) (words_alone w) (expr test.now))
-        (flow (setting_within (plain_kernel kernel.now) deep) (stmt body.now)) place words.items) }
+    ensures { IsMetered flowing left.old left.new result (bounded_flow (plain_kernel kernel.now) deep bounded.now words.items) }
 {
-    let mut turns_left = bound;
+    let mut turns_left = bounded.bound;
     'turns: loop {
-        let part = evaluate(alloc, kernel, deep, &words, &[], &[], test, left);
+        let part = evaluate(alloc, kernel, deep, &only_words(&words), bounded.test, left);
         match tested(part, left) {
             Ok(n) => {
                 if n == 0 {
-                    return Ok(Ran::Goes(words));
+                    return Ok(Ran::Continues(words));
                 }
                 if turns_left == 0 {
                     return Err(Halt::Trapped {
-                        place,
+                        place: bounded.place,
                         trap: Trap::Turns,
                     });
                 }
                 turns_left -= 1;
-                match run(alloc, kernel, deep, words, body, left) {
-                    Ok(Ran::Goes(next)) => words = next,
+                match run(alloc, kernel, deep, words, bounded.body, left) {
+                    Ok(Ran::Continues(next)) => words = next,
                     Ok(Ran::Returns(n)) => return Ok(Ran::Returns(n)),
                     Err(halt) => return Err(halt),
                 }

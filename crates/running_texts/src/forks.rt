@@ -1,9 +1,9 @@
 //! What a kernel says of a thread, and what a thread starts with.
 
-ghost use Rattle.std.specs.Prelude.{◌≡◌, ◌<◌, ◌+◌, ℕ, ℤ, IfOk, map, length, take};
+ghost use Rattle.std.specs.Prelude.{◌≡◌, ◌<◌, ◌+◌, ℕ, ℤ, IfOk, map, length};
 ghost use Rattle.forec_kernel.specs.Shapes.{plain_kernel};
 ghost use Rattle.forec_kernel.specs.Texts.{handed_down, uses_of, words_of, params_of};
-ghost use Rattle.forec_kernel.specs.Values.{fresh_words};
+ghost use Rattle.running_texts.specs.Starting.{first_words};
 
 use crate::functions::words_from;
 use crate::operators::copy_value;
@@ -71,7 +71,7 @@ pub fn started_words(
     thread: u32,
     args: &[i32],
 ) -> Result<Vec<i32>, AllocError>
-    ensures { IfOk result (λ v. v.items ≡ fresh_words (take (params_of (plain_kernel kernel.now) thread) args.now) (words_of (plain_kernel kernel.now) thread)) }
+    ensures { IfOk result (λ v. v.items ≡ first_words (plain_kernel kernel.now) thread args.now) }
 {
     let count = args.len().min(thread_params(kernel, thread) as usize);
     words_from(alloc, &args[..count], thread_words(kernel, thread))

@@ -2,8 +2,8 @@
 
 ghost use Rattle.std.specs.Prelude.{◌≡◌, ◌<◌, ◌+◌, ℕ, ℤ, IfOk, slice_set, vec_len};
 ghost use Rattle.forec_base.specs.Numbers.{is_zero};
-ghost use Rattle.forec_kernel.specs.Values.{Value, Flow, Goes, Returns, cleared, index_in, flow_with, stored, stored_at, returned, fresh_words, function_words};
-ghost use Rattle.running_texts.specs.Metered.{IsMetered, number, flowing};
+ghost use Rattle.forec_kernel.specs.Values.{Flow, Goes, Returns, cleared, index_in, stored, stored_at, returned, fresh_words, function_words};
+ghost use Rattle.running_texts.specs.Metered.{IsMetered, IsFlowAfter, number, flowing};
 
 use crate::meter::{Halt, pay};
 use crate::operators::index_within;
@@ -11,10 +11,20 @@ use forec_base::{Place, Trap};
 use forec_kernel::{FunctionShape, Spot};
 use std::alloc::{AllocError, Global};
 
+/// An element of an array of words: the array's first slot and its length, the index, and the place of a
+/// trap where the index is out of range.
+#[derive(Clone, Copy)]
+pub(crate) struct Element {
+    pub slot: u32,
+    pub length: u32,
+    pub index: i32,
+    pub place: Place,
+}
+
 /// What a statement of an int function came to.
 #[derive(Drop)]
 pub enum Ran {
-    Goes(Vec<i32>),
+    Continues(Vec<i32>),
     Returns(i32),
 }
 
@@ -63,8 +73,7 @@ pub(crate) fn after_set(
     part: Result<i32, Halt>,
     left: &mut u64,
 ) -> Result<Ran, Halt>
-    ensures { (old : ℕ) (v : Value) → IsMetered number old left.old part v →
-        IsMetered flowing old left.new result (flow_with v (λ n. stored words.items to n)) }
+    ensures { IsFlowAfter part left.old left.new result (λ n. stored words.items to n) }
 {
     match part {
         Ok(n) => match pay(1, left) {
@@ -72,7 +81,7 @@ pub(crate) fn after_set(
                 if let Spot::Local { slot } = to {
                     set_word(&mut words, slot as usize, n);
                 }
-                Ok(Ran::Goes(words))
+                Ok(Ran::Continues(words))
             }
             Err(halt) => Err(halt),
         },
@@ -82,25 +91,22 @@ pub(crate) fn after_set(
 
 pub(crate) fn after_set_at(
     mut words: Vec<i32>,
-    slot: u32,
-    length: u32,
-    index: i32,
-    place: Place,
+    element: Element,
     part: Result<i32, Halt>,
     left: &mut u64,
 ) -> Result<Ran, Halt>
-    ensures { (old : ℕ) (v : Value) → IsMetered number old left.old part v →
-        IsMetered flowing old left.new result (flow_with v (λ x. stored_at words.items slot (index_in length index) x place)) }
+    ensures { IsFlowAfter part left.old left.new result
+        (λ x. stored_at words.items element.slot (index_in element.length element.index) x element.place) }
 {
     match part {
         Ok(n) => match pay(1, left) {
-            Ok(()) => match index_within(length as usize, index) {
+            Ok(()) => match index_within(element.length as usize, element.index) {
                 Some(at) => {
-                    set_word(&mut words, slot as usize + at, n);
-                    Ok(Ran::Goes(words))
+                    set_word(&mut words, element.slot as usize + at, n);
+                    Ok(Ran::Continues(words))
                 }
                 None => Err(Halt::Trapped {
-                    place,
+                    place: element.place,
                     trap: Trap::Index,
                 }),
             },
@@ -121,14 +127,14 @@ pub(crate) fn clear(
     match pay(u64::from(length), left) {
         Ok(()) => {
             clear_words(&mut words, slot, length);
-            Ok(Ran::Goes(words))
+            Ok(Ran::Continues(words))
         }
         Err(halt) => Err(halt),
     }
 }
 
 pub(crate) fn as_return(part: Result<i32, Halt>) -> Result<Ran, Halt>
-    ensures { (old new : ℕ) (v : Value) → IsMetered number old new part v → IsMetered flowing old new result (flow_with v (λ n. Returns n 0)) }
+    ensures { (left : ℕ) → IsFlowAfter part left left result (λ n. Returns n 0) }
 {
     match part {
         Ok(n) => Ok(Ran::Returns(n)),
@@ -141,7 +147,7 @@ pub(crate) fn as_value(part: Result<Ran, Halt>) -> Result<i32, Halt>
     ensures { (old new : ℕ) (f : Flow) → IsMetered flowing old new part f → IsMetered number old new result (returned f) }
 {
     match part {
-        Ok(Ran::Goes(_)) => Ok(0),
+        Ok(Ran::Continues(_)) => Ok(0),
         Ok(Ran::Returns(n)) => Ok(n),
         Err(halt) => Err(halt),
     }

@@ -9,7 +9,7 @@ mod functions;
 mod meter;
 mod operators;
 
-pub use evaluation::{evaluate, evaluate_all};
+pub use evaluation::{ThreadValues, evaluate, evaluate_all};
 pub use folds::{Fold, begin_folds, fold_branch, has};
 pub use forks::{copies_below, started_words, thread_uses, thread_words};
 pub use functions::{clear_words, set_word, words_from};

@@ -1,8 +1,8 @@
 //! Units are taken from an allowance.
 
 ghost use Rattle.std.specs.Prelude.{◌≡◌, ◌<◌, ◌+◌, OnOk, IfErr, ℕ};
-ghost use Rattle.forec_kernel.specs.Values.{Value, Gives, value_then};
-ghost use Rattle.running_texts.specs.Metered.{IsMetered, number};
+ghost use Rattle.forec_kernel.specs.Values.{Gives};
+ghost use Rattle.running_texts.specs.Metered.{IsMetered, IsNumberAfter, number};
 
 use forec_base::{Place, Trap};
 use std::alloc::{AllocError, AllocFailed};
@@ -60,7 +60,7 @@ pub(crate) fn give(n: i32, left: &mut u64) -> Result<i32, Halt>
 
 /// A unit for going on after a test.
 pub fn tested(part: Result<i32, Halt>, left: &mut u64) -> Result<i32, Halt>
-    ensures { (old : ℕ) (v : Value) → IsMetered number old left.old part v → IsMetered number old left.new result (value_then v (λ x. Gives x 1)) }
+    ensures { IsNumberAfter part left.old left.new result (λ x. Gives x 1) }
 {
     match part {
         Ok(n) => give(n, left),

@@ -2,8 +2,8 @@
 
 ghost use Rattle.std.specs.Prelude.{◌≡◌, ◌<◌, ◌+◌, ◌^◌, ℕ, ℤ, map, length, [], pos, get_or, not};
 ghost use Rattle.forec_base.specs.Numbers.{unary_of, binary_of, truth, is_zero};
-ghost use Rattle.forec_kernel.specs.Values.{Value, word, copy_of, index_in, at_index, Gives, Stops, value_then, divided};
-ghost use Rattle.running_texts.specs.Metered.{IsMetered, number};
+ghost use Rattle.forec_kernel.specs.Values.{word, copy_of, index_in, at_index, Gives, Stops, divided};
+ghost use Rattle.running_texts.specs.Metered.{IsMetered, IsNumberAfter, number};
 
 use crate::meter::{Halt, give};
 use forec_base::{Binary, Place, Trap, Unary, binary, unary};
@@ -62,7 +62,7 @@ pub fn index_within(n: usize, index: i32) -> Option<usize>
 
 /// The operator's unit and value, after the evaluation of its part.
 pub(crate) fn after_unary(op: Unary, part: Result<i32, Halt>, left: &mut u64) -> Result<i32, Halt>
-    ensures { (old : ℕ) (v : Value) → IsMetered number old left.old part v → IsMetered number old left.new result (value_then v (λ x. Gives (unary_of op x) 1)) }
+    ensures { IsNumberAfter part left.old left.new result (λ x. Gives (unary_of op x) 1) }
 {
     match part {
         Ok(a) => give(unary(op, a), left),
@@ -101,7 +101,7 @@ pub(crate) fn after_binary(
     place: Option<Place>,
     left: &mut u64,
 ) -> Result<i32, Halt>
-    ensures { (old : ℕ) (v : Value) → IsMetered number old left.old part v → IsMetered number old left.new result (value_then v (λ y. divided (binary_of op a y) place)) }
+    ensures { IsNumberAfter part left.old left.new result (λ y. divided (binary_of op a y) place) }
 {
     match part {
         Ok(b) => divide(binary(op, a, b), place, left),
@@ -118,8 +118,7 @@ pub(crate) fn after_word_index(
     part: Result<i32, Halt>,
     left: &mut u64,
 ) -> Result<i32, Halt>
-    ensures { (old : ℕ) (v : Value) → IsMetered number old left.old part v →
-        IsMetered number old left.new result (value_then v (λ k. at_index (index_in length k) (λ j. word words.now (slot + j)) place)) }
+    ensures { IsNumberAfter part left.old left.new result (λ k. at_index (index_in length k) (λ j. word words.now (slot + j)) place) }
 {
     match part {
         Ok(k) => match index_within(length as usize, k) {
@@ -137,8 +136,8 @@ pub(crate) fn after_table_index(
     part: Result<i32, Halt>,
     left: &mut u64,
 ) -> Result<i32, Halt>
-    ensures { (old : ℕ) (v : Value) → IsMetered number old left.old part v →
-        IsMetered number old left.new result (value_then v (λ k. at_index (index_in (length table.now) k) (λ j. word table.now j) place)) }
+    ensures { IsNumberAfter part left.old left.new result
+        (λ k. at_index (index_in (length table.now) k) (λ j. word table.now j) place) }
 {
     match part {
         Ok(k) => match index_within(table.len(), k) {
@@ -151,7 +150,7 @@ pub(crate) fn after_table_index(
 
 /// 1 for a number other than 0.
 pub(crate) fn as_truth(part: Result<i32, Halt>) -> Result<i32, Halt>
-    ensures { (old new : ℕ) (v : Value) → IsMetered number old new part v → IsMetered number old new result (value_then v (λ y. Gives (truth (not (is_zero y))) 0)) }
+    ensures { (left : ℕ) → IsNumberAfter part left left result (λ y. Gives (truth (not (is_zero y))) 0) }
 {
     match part {
         Ok(0) => Ok(0),

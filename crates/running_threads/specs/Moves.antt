@@ -4,12 +4,12 @@ use Rattle.forec_kernel.specs.declared.shape.VarCopy.{VarCopy}
 use Rattle.forec_kernel.specs.Plain.{expr, stmt, stmts}
 use Rattle.forec_kernel.specs.Texts as plain
 use Rattle.forec_kernel.specs.Texts.{text_of, texts_of, Threads, no_threads, child, ended_is_gone}
-use Rattle.forec_kernel.specs.Steps.{Move, Finished, Moves, move_before, move_watched, move_last}
+use Rattle.forec_kernel.specs.Steps.{Move, Finished, Halts, Moves, move_before, move_watched, move_last}
 use Rattle.running_threads.specs.declared.threads.Frame.{Frame}
 use Rattle.running_threads.specs.declared.threads.Frame.TheVariants as frame
 use Rattle.running_threads.specs.declared.threads.Focus.{Focus}
-use Rattle.running_threads.specs.declared.frames.Next.{Next}
-use Rattle.running_threads.specs.declared.frames.Next.TheVariants as next
+use Rattle.running_threads.specs.declared.frames.NextText.{NextText}
+use Rattle.running_threads.specs.declared.frames.NextText.TheVariants as next
 use Rattle.running_threads.specs.Views.{looping, plugged, focused, threads}
 
 -- a step of a text, seen from outside its frame
@@ -24,6 +24,14 @@ abbrev pub plugged_move : List Frame → List ℤ → List VarCopy → Move → 
 plugged_move [] w c m = m
 plugged_move (f ∷ fs) w c m = framed_move f w c (plugged_move fs w c m)
 
+-- a text that halts leaves the last piece of a weak abort: its frames, before and after
+abbrev pub LeavesLast : List Frame → List Frame → Type 0
+LeavesLast old new = (w : List ℤ) (c : List VarCopy) → plugged_move old w c Halts ≡ Moves (plugged new plain.Done) w c 0
+
+-- a text that halts inside these frames is in no last piece
+abbrev pub HasNoLast : List Frame → Type 0
+HasNoLast frames = (w : List ℤ) (c : List VarCopy) → plugged_move frames w c Halts ≡ Halts
+
 -- the text after a text that has nothing left to do: the innermost frame is left, if there is one
 abbrev pub ResumesAs : List Frame → List Frame → Option Focus → Type 0
 ResumesAs old new None = (old ≡ []) × (new ≡ [])
@@ -34,7 +42,7 @@ pub record Resumes (old new : List Frame) (result : Option Focus) : Type 0 where
   pub by : ResumesAs old new result
 
 -- what takes the place of a focus
-abbrev pub next_text : Next → plain.Text
+abbrev pub next_text : NextText → plain.Text
 next_text next.Done = plain.Done
 next_text next.Rests = plain.Resting
 next_text (next.Does s) = text_of (stmt s.now)

@@ -7,7 +7,7 @@ ghost use Rattle.forec_kernel.specs.Texts as plain;
 ghost use Rattle.forec_kernel.specs.Texts.{text_of, texts_of};
 ghost use Rattle.forec_kernel.specs.Steps.{Moves, Halts};
 ghost use Rattle.running_threads.specs.Views.{plugged, focused, framed};
-ghost use Rattle.running_threads.specs.Moves.{framed_move, plugged_move, Resumes, next_text};
+ghost use Rattle.running_threads.specs.Moves.{framed_move, LeavesLast, HasNoLast, Resumes, next_text};
 
 use crate::threads::{Children, Focus, Frame, Turn};
 use forec_kernel::{Expression, Statement};
@@ -79,8 +79,8 @@ fn is_last(frame: &Frame<'_>) -> bool
 
 /// Where the innermost last piece of a weak abort stands.
 fn innermost_last(frames: &[Frame<'_>]) -> Option<usize>
-    ensures some { IfSome result (λ i. (w : List ℤ) (c : List VarCopy) → plugged_move frames.now w c Halts ≡ Moves (plugged (take i frames.now) plain.Done) w c 0) }
-    ensures none { IfNone result ((w : List ℤ) (c : List VarCopy) → plugged_move frames.now w c Halts ≡ Halts) }
+    ensures some { IfSome result (λ i. LeavesLast frames.now (take i frames.now)) }
+    ensures none { IfNone result (HasNoLast frames.now) }
 {
     let mut at = frames.len();
     while at > 0 {
@@ -94,8 +94,8 @@ fn innermost_last(frames: &[Frame<'_>]) -> Option<usize>
 
 /// Leaves the innermost last piece of a weak abort where a text halts: whether there is one.
 pub fn leave_last(frames: &mut Vec<Frame<'_>>) -> bool
-    ensures left { result ≡ true → (w : List ℤ) (c : List VarCopy) → plugged_move frames.old.items w c Halts ≡ Moves (plugged frames.new.items plain.Done) w c 0 }
-    ensures none { result ≡ false → (w : List ℤ) (c : List VarCopy) → plugged_move frames.old.items w c Halts ≡ Halts }
+    ensures left { result ≡ true → LeavesLast frames.old.items frames.new.items }
+    ensures none { result ≡ false → HasNoLast frames.old.items }
     ensures same { result ≡ false → frames.new ≡ frames.old }
 {
     match innermost_last(frames) {
@@ -109,7 +109,7 @@ pub fn leave_last(frames: &mut Vec<Frame<'_>>) -> bool
 
 /// What takes the place of a focus after a step.
 #[derive(Drop)]
-pub enum Next<'k> {
+pub enum NextText<'k> {
     /// Nothing is left of it.
     Done,
     /// A pause that was reached.
@@ -162,20 +162,24 @@ fn start_in<'k>(
 pub fn go_on<'k>(
     alloc: Global,
     frames: &mut Vec<Frame<'k>>,
-    next: Next<'k>,
+    next: NextText<'k>,
 ) -> Result<Focus<'k>, AllocError>
     ensures { IfOk result (λ x. plugged frames.new.items (focused x) ≡ plugged frames.old.items (next_text next.entry)) }
 {
     match next {
-        Next::Done => Ok(Focus::Done),
-        Next::Rests => Ok(Focus::Resting),
-        Next::Does { statement } => start(frames, statement),
-        Next::DoesAll { list } => start_list(frames, list),
-        Next::Turns { turn } => Ok(Focus::Turning { turn }),
-        Next::Enters { turn } => start_in(frames, Frame::Again { turn }, turn.body),
-        Next::Watches { weak, test, body } => start_in(frames, Frame::Watch { weak, test }, body),
-        Next::Lasts { body } => start_in(frames, Frame::Last, body),
-        Next::Forks { children } => {
+        NextText::Done => Ok(Focus::Done),
+        NextText::Rests => Ok(Focus::Resting),
+        NextText::Does { statement } => start(frames, statement),
+        NextText::DoesAll { list } => start_list(frames, list),
+        NextText::Turns { turn } => Ok(Focus::Turning { turn }),
+        NextText::Enters { turn } => start_in(frames, Frame::Again { turn }, turn.body),
+        NextText::Watches { weak, test, body } => start_in(
+            frames,
+            Frame::Watch { weak, test },
+            body,
+        ),
+        NextText::Lasts { body } => start_in(frames, Frame::Last, body),
+        NextText::Forks { children } => {
             let children = Box::new(alloc, children)?;
             Ok(Focus::Fork { children })
         }

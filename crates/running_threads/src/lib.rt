@@ -10,5 +10,5 @@ pub use children::{
     all_done, duplicate_focus, duplicate_thread, leftmost_trap, ran, retire, runs, runs_there,
     some_run,
 };
-pub use frames::{Next, go_on, leave_last, resume, start, start_list};
+pub use frames::{NextText, go_on, leave_last, resume, start, start_list};
 pub use threads::{Children, Focus, Frame, Status, Thread, Turn};

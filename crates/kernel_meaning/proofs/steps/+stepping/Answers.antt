@@ -3,7 +3,7 @@ use Rattle.forec_kernel.specs.Shapes.{plain_kernel}
 use Rattle.forec_kernel.specs.Texts.{uses_of}
 use Rattle.forec_kernel.specs.Steps.{text_move}
 use Rattle.running_threads.specs.Views.{focused, plain_thread}
-use Rattle.kernel_meaning.specs.Moving.{site, IsForked, IsMoved}
+use Rattle.kernel_meaning.specs.Moving.{origin, IsForked, IsMoved}
 use Rattle.kernel_meaning.proofs.Threads.{forked_step, quiet_step}
 use Rattle.kernel_meaning.proofs.steps.+stepping.Goals as goal
 

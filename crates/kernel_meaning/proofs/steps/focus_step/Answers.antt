@@ -25,5 +25,5 @@ pub returns-in-Fork : goal.returns-in-Fork
 returns-in-Fork c = λ path.
     let same : c.deref.result.now ≡ c.in-Fork.children.value = c.deref.ensures in
     let none : some_running (threads c.in-Fork.children.value) ≡ false = rw c.in-Fork.is at c.requires in
-    rw (c.in-Fork.is, fork_joins (plain_kernel c.args.kernel.now) path c.args.uses.now c.args.words.now c.args.copies.now (threads c.in-Fork.children.value) none)
+    rw (c.in-Fork.is, fork_joins (plain_kernel c.args.kernel.now) path c.args.values.now.uses.now c.args.values.now.words.now c.args.values.now.copies.now (threads c.in-Fork.children.value) none)
     (rw same at c.join_step.ensures)

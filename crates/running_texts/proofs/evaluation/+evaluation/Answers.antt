@@ -5,7 +5,7 @@ use Rattle.running_texts.proofs.Words.{called, body_of_call}
 use Rattle.forec_kernel.specs.Plain.{expr, stmt}
 use Rattle.forec_kernel.proofs.VecTerms.{expr-call, stmt-sequence}
 use Rattle.forec_kernel.specs.Values.{value_then, more_units, function_words, fresh_words, val, vals, flow, words_alone, flow_with, more_flow}
-use Rattle.running_texts.specs.Metered.{number, flowing, setting_within, sight}
+use Rattle.running_texts.specs.Metered.{number, flowing, setting_within, sight_of}
 use Rattle.running_texts.proofs.Falls.{expression_within, statement_within, call_falls, call_depth, sequence_depth}
 use Rattle.running_texts.proofs.Tests.{zero_of, nonzero_of, and_zero, and_some, and_err, or_some, or_zero, or_err, choose_no, choose_yes, choose_err, call_ok, call_over, call_err, if_no, if_yes, if_err}
 use Rattle.running_texts.proofs.Metering.{then_ok, then_err, binds_value, adds_number, binds_flow, adds_flow}
@@ -64,7 +64,7 @@ pub evaluate-returns-in-Ok-tested : goal.evaluate-returns-in-Ok-tested
 evaluate-returns-in-Ok-tested t c =
     let second : c.deref-in-Ok-tested.result.now ≡ c.in-And.right.value = c.deref-in-Ok-tested.ensures in
     rw (c.in-And.is, ← c.deref-in-And.ensures)
-    (and_some _ _ _ _ _ _ _ _ (ap (λ x. val (setting_within (plain_kernel c.args.kernel.now) c.args.deep) (sight c.args.words.now c.args.uses.now c.args.copies.now) (expr x)) second)
+    (and_some _ _ _ _ _ _ _ _ (ap (λ x. val (setting_within (plain_kernel c.args.kernel.now) c.args.deep) (sight_of c.args.values.now) (expr x)) second)
     (c.in-Ok-tested.ensures _ _ c.evaluate-test.ensures) (nonzero_of _ c.if-n-eq0.false)
     (c.as_truth.ensures _ _ _ c.evaluate-part-in-Ok-tested.ensures))
 
@@ -81,7 +81,7 @@ evaluate-returns-in-Ok-tested-2 t c =
     let fits : SFits w32 c.in-Ok-tested-2.n = search rules in
     let second : c.deref-in-Ok-tested-2.result.now ≡ c.in-Or.right.value = c.deref-in-Ok-tested-2.ensures in
     rw (c.in-Or.is, ← c.deref-in-Or.ensures)
-    (or_zero _ _ _ _ _ _ _ _ (ap (λ x. val (setting_within (plain_kernel c.args.kernel.now) c.args.deep) (sight c.args.words.now c.args.uses.now c.args.copies.now) (expr x)) second)
+    (or_zero _ _ _ _ _ _ _ _ (ap (λ x. val (setting_within (plain_kernel c.args.kernel.now) c.args.deep) (sight_of c.args.values.now) (expr x)) second)
     (c.in-Ok-tested-2.ensures _ _ c.evaluate-test-in-Or.ensures) (zero_of _ fits c.if-n-ne0.false)
     (c.as_truth-in-Ok-tested-2.ensures _ _ _ c.evaluate-part-in-Ok-tested-2.ensures))
 
@@ -93,14 +93,14 @@ evaluate-returns-then-n-eq0-2 t c =
     let fits : SFits w32 c.in-Ok-tested-3.n = search rules in
     let side : c.deref-then-n-eq0-2.result.now ≡ c.in-Choose.no.value = c.deref-then-n-eq0-2.ensures in
     rw (c.in-Choose.is, ← c.deref-in-Choose.ensures)
-    (choose_no _ _ _ _ _ _ _ _ _ (ap (λ x. val (setting_within (plain_kernel c.args.kernel.now) c.args.deep) (sight c.args.words.now c.args.uses.now c.args.copies.now) (expr x)) side)
+    (choose_no _ _ _ _ _ _ _ _ _ (ap (λ x. val (setting_within (plain_kernel c.args.kernel.now) c.args.deep) (sight_of c.args.values.now) (expr x)) side)
     (c.in-Ok-tested-3.ensures _ _ c.evaluate-test-in-Choose.ensures) (zero_of _ fits c.if-n-eq0-2.true) c.evaluate-then-n-eq0-2.ensures)
 
 pub evaluate-returns-in-Ok-tested-3 : goal.evaluate-returns-in-Ok-tested-3
 evaluate-returns-in-Ok-tested-3 t c =
     let side : c.deref-in-Ok-tested-3.result.now ≡ c.in-Choose.yes.value = c.deref-in-Ok-tested-3.ensures in
     rw (c.in-Choose.is, ← c.deref-in-Choose.ensures)
-    (choose_yes _ _ _ _ _ _ _ _ _ (ap (λ x. val (setting_within (plain_kernel c.args.kernel.now) c.args.deep) (sight c.args.words.now c.args.uses.now c.args.copies.now) (expr x)) side)
+    (choose_yes _ _ _ _ _ _ _ _ _ (ap (λ x. val (setting_within (plain_kernel c.args.kernel.now) c.args.deep) (sight_of c.args.values.now) (expr x)) side)
     (c.in-Ok-tested-3.ensures _ _ c.evaluate-test-in-Choose.ensures) (nonzero_of _ c.if-n-eq0-2.false) c.evaluate-in-Ok-tested-3.ensures)
 
 pub evaluate-returns-in-Choose : goal.evaluate-returns-in-Choose
@@ -131,7 +131,7 @@ pub evaluate_all-returns-in-Err : goal.evaluate_all-returns-in-Err
 evaluate_all-returns-in-Err t c =
     numbers_stop _ _ _ _ _ _ _ _
     (numbers_same _ _ _ _ _ _ c.loop-e.invariant
-    (ap (vals (setting_within (plain_kernel c.args.kernel.now) c.args.deep) (sight c.args.words.now c.args.uses.now c.args.copies.now)) (exprs_next c.args.list.now c.loop-e.e-index c.e-item.result c.loop-e-test.true c.e-item.is)))
+    (ap (vals (setting_within (plain_kernel c.args.kernel.now) c.args.deep) (sight_of c.args.values.now)) (exprs_next c.args.list.now c.loop-e.e-index c.e-item.result c.loop-e-test.true c.e-item.is)))
     c.in-Err.ensures
 
 pub evaluate_all-loop-e-preserved : goal.evaluate_all-loop-e-preserved
@@ -141,7 +141,7 @@ evaluate_all-loop-e-preserved t c =
     let ok : is_ok c.push.result ≡ true = c.is_err.ensures.negation ∙ ap not c.if-is_err.false in simp to_z-of_z at (rw ok at c.push.ensures.items) in
     numbers_more _ _ _ _ _ _ _ _ _
     (numbers_same _ _ _ _ _ _ c.loop-e.invariant
-    (ap (vals (setting_within (plain_kernel c.args.kernel.now) c.args.deep) (sight c.args.words.now c.args.uses.now c.args.copies.now)) (exprs_next c.args.list.now c.loop-e.e-index c.e-item.result c.loop-e-test.true c.e-item.is)))
+    (ap (vals (setting_within (plain_kernel c.args.kernel.now) c.args.deep) (sight_of c.args.values.now)) (exprs_next c.args.list.now c.loop-e.e-index c.e-item.result c.loop-e-test.true c.e-item.is)))
     c.in-Ok.ensures pushed
 
 pub run-run_all-requires : goal.run-run_all-requires
@@ -156,24 +156,24 @@ run-returns-then-n-eq0 t c =
     let side : c.deref-then-n-eq0.result.now ≡ c.in-If.no.value = c.deref-then-n-eq0.ensures in
     rw c.in-If.is
     (if_no _ _ _ _ _ _ _ _ _ (ap (λ x. flow (setting_within (plain_kernel c.args.kernel.now) c.args.deep) (stmt x) c.args.words.items) side)
-    (c.in-Ok-tested.ensures _ _ (rw c.deref-in-If.ensures.value at c.evaluate-test.ensures)) (zero_of _ fits c.if-n-eq0.true) c.run.ensures)
+    (c.in-Ok-tested.ensures _ _ (rw (c.only_words-in-If.ensures, c.deref-in-If.ensures.value) at c.evaluate-test.ensures)) (zero_of _ fits c.if-n-eq0.true) c.run.ensures)
 
 pub run-returns-in-Set : goal.run-returns-in-Set
 run-returns-in-Set t c =
-    rw c.in-Set.is (c.after_set.ensures _ _ (rw c.deref.ensures.value at c.evaluate-part.ensures))
+    rw c.in-Set.is (c.after_set.ensures _ _ (rw (c.only_words.ensures, c.deref.ensures.value) at c.evaluate-part.ensures))
 
 pub run-returns-in-Ok : goal.run-returns-in-Ok
 run-returns-in-Ok t c =
     let fits : SFits w32 c.in-Ok.at = search rules in
-    let part = rw c.deref-in-Ok.ensures.value at c.evaluate-part-in-Ok.ensures in
+    let part = rw (c.only_words-in-Ok.ensures, c.deref-in-Ok.ensures.value) at c.evaluate-part-in-Ok.ensures in
     let rest = simp to_z-of_z at (c.after_set_at.ensures _ _ part) in
     rw c.in-SetAt.is
-    (then_ok number flowing (λ x. x) flow_with more_flow binds_flow adds_flow _ _ _ _ _ _ _ (rw c.deref-in-SetAt.ensures.value at c.in-Ok.ensures) rest)
+    (then_ok number flowing (λ x. x) flow_with more_flow binds_flow adds_flow _ _ _ _ _ _ _ (rw (c.only_words-in-SetAt.ensures, c.deref-in-SetAt.ensures.value) at c.in-Ok.ensures) rest)
 
 pub run-returns-in-Err : goal.run-returns-in-Err
 run-returns-in-Err t c =
     rw c.in-SetAt.is
-    (then_err number flowing (λ x. x) flow_with more_flow binds_flow _ _ _ _ _ (rw c.deref-in-SetAt.ensures.value at c.in-Err.ensures))
+    (then_err number flowing (λ x. x) flow_with more_flow binds_flow _ _ _ _ _ (rw (c.only_words-in-SetAt.ensures, c.deref-in-SetAt.ensures.value) at c.in-Err.ensures))
 
 pub run-returns-in-Sequence : goal.run-returns-in-Sequence
 run-returns-in-Sequence t c =
@@ -184,11 +184,11 @@ run-returns-else-n-eq0 t c =
     let side : c.deref-in-Ok-tested.result.now ≡ c.in-If.yes.value = c.deref-in-Ok-tested.ensures in
     rw c.in-If.is
     (if_yes _ _ _ _ _ _ _ _ _ (ap (λ x. flow (setting_within (plain_kernel c.args.kernel.now) c.args.deep) (stmt x) c.args.words.items) side)
-    (c.in-Ok-tested.ensures _ _ (rw c.deref-in-If.ensures.value at c.evaluate-test.ensures)) (nonzero_of _ c.if-n-eq0.false) c.run-in-Ok-tested.ensures)
+    (c.in-Ok-tested.ensures _ _ (rw (c.only_words-in-If.ensures, c.deref-in-If.ensures.value) at c.evaluate-test.ensures)) (nonzero_of _ c.if-n-eq0.false) c.run-in-Ok-tested.ensures)
 
 pub run-returns-in-Err-tested : goal.run-returns-in-Err-tested
 run-returns-in-Err-tested t c =
-    rw c.in-If.is (if_err _ _ _ _ _ _ (c.in-Err-tested.ensures _ _ (rw c.deref-in-If.ensures.value at c.evaluate-test.ensures)))
+    rw c.in-If.is (if_err _ _ _ _ _ _ (c.in-Err-tested.ensures _ _ (rw (c.only_words-in-If.ensures, c.deref-in-If.ensures.value) at c.evaluate-test.ensures)))
 
 pub run-returns-in-Some : goal.run-returns-in-Some
 run-returns-in-Some t c =
@@ -197,7 +197,7 @@ run-returns-in-Some t c =
 
 pub run-returns-in-Return : goal.run-returns-in-Return
 run-returns-in-Return t c =
-    rw c.in-Return.is (c.as_return.ensures _ _ _ (rw c.deref-in-Return.ensures.value at c.evaluate-part-in-Return.ensures))
+    rw c.in-Return.is (c.as_return.ensures _ _ _ (rw (c.only_words-in-Return.ensures, c.deref-in-Return.ensures.value) at c.evaluate-part-in-Return.ensures))
 
 pub run_all-run-requires : goal.run_all-run-requires
 run_all-run-requires t c =
@@ -222,36 +222,36 @@ pub run_all-loop-s-preserved : goal.run_all-loop-s-preserved
 run_all-loop-s-preserved t c =
     flow_goes _ _ _ _ _ _ _
     (flow_same _ _ _ _ _ c.loop-s.invariant (flows_next (setting_within (plain_kernel c.args.kernel.now) c.args.deep) c.args.list.now c.loop-s.s-index c.s-item.result c.loop-s.words.items c.loop-s-test.true c.s-item.is))
-    (rw c.in-Ok-Goes.field-0-is at c.in-Ok-Goes.ensures)
+    (rw c.in-Ok-Continues.field-0-is at c.in-Ok-Continues.ensures)
 
 pub run_turns-returns-then-n-eq0 : goal.run_turns-returns-then-n-eq0
 run_turns-returns-then-n-eq0 t c =
     let fits : SFits w32 c.in-Ok.n = search rules in
-    turns_end (λ w. val (setting_within (plain_kernel c.args.kernel.now) c.args.deep) (words_alone w) (expr c.args.test.now)) (flow (setting_within (plain_kernel c.args.kernel.now) c.args.deep) (stmt c.args.body.now)) c.args.place _ _ _ _ _ _ _ c.turns.invariant (c.in-Ok.ensures _ _ (rw c.deref.ensures.value at c.evaluate-part.ensures)) (zero_of _ fits c.if-n-eq0.true)
+    turns_end (λ w. val (setting_within (plain_kernel c.args.kernel.now) c.args.deep) (words_alone w) (expr c.args.bounded.now.test.now)) (flow (setting_within (plain_kernel c.args.kernel.now) c.args.deep) (stmt c.args.bounded.now.body.now)) c.args.bounded.now.place _ _ _ _ _ _ _ c.turns.invariant (c.in-Ok.ensures _ _ (rw (c.only_words.ensures, c.deref.ensures.value) at c.evaluate-part.ensures)) (zero_of _ fits c.if-n-eq0.true)
 
 pub run_turns-returns-then-turns_left-eq0 : goal.run_turns-returns-then-turns_left-eq0
 run_turns-returns-then-turns_left-eq0 t c =
-    turns_trap (λ w. val (setting_within (plain_kernel c.args.kernel.now) c.args.deep) (words_alone w) (expr c.args.test.now)) (flow (setting_within (plain_kernel c.args.kernel.now) c.args.deep) (stmt c.args.body.now)) c.args.place _ _ _ _ _ _ _ c.turns.invariant (c.in-Ok.ensures _ _ (rw c.deref.ensures.value at c.evaluate-part.ensures)) (nonzero_of _ c.if-n-eq0.false) c.if-turns_left-eq0.true
+    turns_trap (λ w. val (setting_within (plain_kernel c.args.kernel.now) c.args.deep) (words_alone w) (expr c.args.bounded.now.test.now)) (flow (setting_within (plain_kernel c.args.kernel.now) c.args.deep) (stmt c.args.bounded.now.body.now)) c.args.bounded.now.place _ _ _ _ _ _ _ c.turns.invariant (c.in-Ok.ensures _ _ (rw (c.only_words.ensures, c.deref.ensures.value) at c.evaluate-part.ensures)) (nonzero_of _ c.if-n-eq0.false) c.if-turns_left-eq0.true
 
 pub run_turns-turns-preserved : goal.run_turns-turns-preserved
 run_turns-turns-preserved t c =
     flow_goes _ _ _ _ _ _ _
-    (turns_turn (λ w. val (setting_within (plain_kernel c.args.kernel.now) c.args.deep) (words_alone w) (expr c.args.test.now)) (flow (setting_within (plain_kernel c.args.kernel.now) c.args.deep) (stmt c.args.body.now)) c.args.place _ _ _ _ _ _ _ c.turns.invariant (c.in-Ok.ensures _ _ (rw c.deref.ensures.value at c.evaluate-part.ensures)) (nonzero_of _ c.if-n-eq0.false) (omega arith))
-    (rw c.in-Ok-Goes.field-0-is at c.in-Ok-Goes.ensures)
+    (turns_turn (λ w. val (setting_within (plain_kernel c.args.kernel.now) c.args.deep) (words_alone w) (expr c.args.bounded.now.test.now)) (flow (setting_within (plain_kernel c.args.kernel.now) c.args.deep) (stmt c.args.bounded.now.body.now)) c.args.bounded.now.place _ _ _ _ _ _ _ c.turns.invariant (c.in-Ok.ensures _ _ (rw (c.only_words.ensures, c.deref.ensures.value) at c.evaluate-part.ensures)) (nonzero_of _ c.if-n-eq0.false) (omega arith))
+    (rw c.in-Ok-Continues.field-0-is at c.in-Ok-Continues.ensures)
 
 pub run_turns-returns-in-Ok-Returns : goal.run_turns-returns-in-Ok-Returns
 run_turns-returns-in-Ok-Returns t c =
     let fits : SFits w32 c.in-Ok-Returns.n = search rules in
     simp to_z-of_z (flow_returns _ _ _ _ _ _ _
-    (turns_turn (λ w. val (setting_within (plain_kernel c.args.kernel.now) c.args.deep) (words_alone w) (expr c.args.test.now)) (flow (setting_within (plain_kernel c.args.kernel.now) c.args.deep) (stmt c.args.body.now)) c.args.place _ _ _ _ _ _ _ c.turns.invariant (c.in-Ok.ensures _ _ (rw c.deref.ensures.value at c.evaluate-part.ensures)) (nonzero_of _ c.if-n-eq0.false) (omega arith))
+    (turns_turn (λ w. val (setting_within (plain_kernel c.args.kernel.now) c.args.deep) (words_alone w) (expr c.args.bounded.now.test.now)) (flow (setting_within (plain_kernel c.args.kernel.now) c.args.deep) (stmt c.args.bounded.now.body.now)) c.args.bounded.now.place _ _ _ _ _ _ _ c.turns.invariant (c.in-Ok.ensures _ _ (rw (c.only_words.ensures, c.deref.ensures.value) at c.evaluate-part.ensures)) (nonzero_of _ c.if-n-eq0.false) (omega arith))
     (rw c.in-Ok-Returns.field-0-is at c.in-Ok-Returns.ensures))
 
 pub run_turns-returns-in-Err-run : goal.run_turns-returns-in-Err-run
 run_turns-returns-in-Err-run t c =
     flow_stops _ _ _ _ _ _ _
-    (turns_turn (λ w. val (setting_within (plain_kernel c.args.kernel.now) c.args.deep) (words_alone w) (expr c.args.test.now)) (flow (setting_within (plain_kernel c.args.kernel.now) c.args.deep) (stmt c.args.body.now)) c.args.place _ _ _ _ _ _ _ c.turns.invariant (c.in-Ok.ensures _ _ (rw c.deref.ensures.value at c.evaluate-part.ensures)) (nonzero_of _ c.if-n-eq0.false) (omega arith))
+    (turns_turn (λ w. val (setting_within (plain_kernel c.args.kernel.now) c.args.deep) (words_alone w) (expr c.args.bounded.now.test.now)) (flow (setting_within (plain_kernel c.args.kernel.now) c.args.deep) (stmt c.args.bounded.now.body.now)) c.args.bounded.now.place _ _ _ _ _ _ _ c.turns.invariant (c.in-Ok.ensures _ _ (rw (c.only_words.ensures, c.deref.ensures.value) at c.evaluate-part.ensures)) (nonzero_of _ c.if-n-eq0.false) (omega arith))
     c.in-Err-run.ensures
 
 pub run_turns-returns-in-Err : goal.run_turns-returns-in-Err
 run_turns-returns-in-Err t c =
-    turns_err (λ w. val (setting_within (plain_kernel c.args.kernel.now) c.args.deep) (words_alone w) (expr c.args.test.now)) (flow (setting_within (plain_kernel c.args.kernel.now) c.args.deep) (stmt c.args.body.now)) c.args.place _ _ _ _ _ _ _ c.turns.invariant (c.in-Err.ensures _ _ (rw c.deref.ensures.value at c.evaluate-part.ensures))
+    turns_err (λ w. val (setting_within (plain_kernel c.args.kernel.now) c.args.deep) (words_alone w) (expr c.args.bounded.now.test.now)) (flow (setting_within (plain_kernel c.args.kernel.now) c.args.deep) (stmt c.args.bounded.now.body.now)) c.args.bounded.now.place _ _ _ _ _ _ _ c.turns.invariant (c.in-Err.ensures _ _ (rw (c.only_words.ensures, c.deref.ensures.value) at c.evaluate-part.ensures))

@@ -1,9 +1,9 @@
 use Rattle.std.proofs.Common.{◌+◌, ◌*◌, max, drop}
 use Rattle.forec_kernel.specs.Plain.{expr, exprs, stmt, stmts}
 use Rattle.forec_kernel.specs.Shapes.{plain_kernel}
-use Rattle.forec_kernel.specs.Values.{val, vals, flow, flows, turns, words_alone}
+use Rattle.forec_kernel.specs.Values.{vals, flows}
 use Rattle.forec_kernel.specs.WellFormed.{expr_depth, exprs_depth, stmt_depth, stmts_depth}
-use Rattle.running_texts.specs.Metered.{setting_within, sight}
+use Rattle.running_texts.specs.Metered.{setting_within, sight_of, bounded_flow}
 use Rattle.running_texts.proofs.Falls.{below_calls}
 use Rattle.running_texts.proofs.Onward.{NumbersSoFar, FlowSoFar}
 use Rattle.running_texts.proofs.evaluation.+evaluation.Given as goal
@@ -24,13 +24,13 @@ abbrev pub decreases-run_all : goal.decreases-run_all
 decreases-run_all l = below_calls l.kernel.now l.deep + 2 * stmts_depth (stmts l.list.now) + 1
 
 abbrev pub decreases-run_turns : goal.decreases-run_turns
-decreases-run_turns l = below_calls l.kernel.now l.deep + 2 * max (expr_depth (expr l.test.now)) (stmt_depth (stmt l.body.now)) + 1
+decreases-run_turns l = below_calls l.kernel.now l.deep + 2 * max (expr_depth (expr l.bounded.now.test.now)) (stmt_depth (stmt l.bounded.now.body.now)) + 1
 
 abbrev pub invariant-evaluate_all-loop-e : goal.invariant-evaluate_all-loop-e
 invariant-evaluate_all-loop-e l =
     NumbersSoFar l.initial.left l.left l.numbers.items
-    (vals (setting_within (plain_kernel l.kernel) l.deep) (sight l.words l.uses l.copies) (exprs l.list))
-    (vals (setting_within (plain_kernel l.kernel) l.deep) (sight l.words l.uses l.copies) (exprs (drop l.e-index l.list)))
+    (vals (setting_within (plain_kernel l.kernel) l.deep) (sight_of l.values) (exprs l.list))
+    (vals (setting_within (plain_kernel l.kernel) l.deep) (sight_of l.values) (exprs (drop l.e-index l.list)))
 
 abbrev pub invariant-run_all-loop-s : goal.invariant-run_all-loop-s
 invariant-run_all-loop-s l =
@@ -41,10 +41,8 @@ invariant-run_all-loop-s l =
 abbrev pub invariant-run_turns-turns : goal.invariant-run_turns-turns
 invariant-run_turns-turns l =
     FlowSoFar l.initial.left l.left
-    (turns l.bound (λ w. val (setting_within (plain_kernel l.kernel) l.deep) (words_alone w) (expr l.test))
-    (flow (setting_within (plain_kernel l.kernel) l.deep) (stmt l.body)) l.place l.initial.words.items)
-    (turns l.turns_left (λ w. val (setting_within (plain_kernel l.kernel) l.deep) (words_alone w) (expr l.test))
-    (flow (setting_within (plain_kernel l.kernel) l.deep) (stmt l.body)) l.place l.words.items)
+    (bounded_flow (plain_kernel l.kernel) l.deep l.bounded l.initial.words.items)
+    (bounded_flow (plain_kernel l.kernel) l.deep (record l.bounded { bound = l.turns_left }) l.words.items)
 
 abbrev pub decreases-run_turns-turns : goal.decreases-run_turns-turns
 decreases-run_turns-turns l = l.turns_left

@@ -1,4 +1,4 @@
-use Rattle.std.proofs.Common.{◌≡◌, ◌∙◌, refl, ap, sym}
+use Rattle.std.proofs.Common.{◌∙◌, refl, ap, sym}
 use Rattle.forec_kernel.specs.Plain.{stmts}
 use Rattle.forec_kernel.specs.Texts as plain
 use Rattle.forec_kernel.specs.Texts.{texts_of}
