@@ -1,5 +1,5 @@
 -- Sizes that are counted are the lengths of the code.
-use Rattle.std.proofs.Common.{◌≡◌, ℕ, ◌+◌, List, [], ◌∷◌, ◌++◌, length, Option, Some, None, Bool, true, false, refl, ap, ◌∙◌, append_assoc, length-append, Result, Ok, Err, OnOk, arith}
+use Rattle.std.proofs.Common.{◌≡◌, ℕ, ◌+◌, List, [], ◌∷◌, ◌++◌, length, Option, Some, None, Bool, true, false, refl, ap, ◌∙◌, append_assoc, length-append, arith}
 use Rattle.std.specs.Prelude.{slice_set}
 use Rattle.std.proofs.Math.Seq.{set-append_seam}
 use mir.Val.{bool_byte}
@@ -21,10 +21,6 @@ put_size old pushed all rest n x h e f =
 pub one_byte : (b : Bool) → bool_byte b ≡ one_if b
 one_byte true = refl
 one_byte false = refl
-
-pub ok_anyway : {T E P : Type 0} (r : Result T E) → P → OnOk r P
-ok_anyway (Ok x) h = h
-ok_anyway (Err e) h = tt
 
 mutual
   pub expression_is : (p : ℕ) (e : Expr) → length (expression_code p e) ≡ expression_length e

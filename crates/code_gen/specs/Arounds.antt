@@ -2,7 +2,7 @@
 use Rattle.std.specs.Prelude.{Option, Some, None, List, [], ◌∷◌}
 use Rattle.forec_kernel.specs.Plain.{expr}
 use Rattle.thread_code.specs.declared.instruction.Instruction.{Instruction}
-use Rattle.code_gen.specs.declared.statements.Around.{Around, Outside, InLoop', InAbort'}
+use Rattle.code_gen.specs.declared.around.Around.{Around, Outside, InLoop', InAbort'}
 use Rattle.code_gen.specs.Statements as plain
 
 abbrev pub plain_around : Around → plain.Around

@@ -1,7 +1,7 @@
 -- The code of a kernel: a block for each thread and each int function.
 use Rattle.std.specs.Prelude.{ℕ, suc, ◌+◌, max, Bool, true, false, pos, Option, Some, None, List, [], ◌∷◌, ◌++◌}
 use Rattle.forec_kernel.specs.Terms.{Stmt, Nop, Set, SetAt, Clear, Seq, If, While, Pause, Par, Enter, Return, Stmts, no_stmts, more_stmts}
-use Rattle.forec_kernel.specs.Shapes.{PlainKernel}
+use Rattle.forec_kernel.specs.Shapes.{PlainThread, PlainKernel}
 use Rattle.forec_kernel.specs.Values.{function_words}
 use Rattle.forec_kernel.specs.Texts.{words_of, params_of}
 use Rattle.forec_kernel.specs.WellFormed.{function_params}
@@ -61,6 +61,16 @@ abbrev pub body_block : List Instruction → ℕ → ℕ → ℕ → ℕ → Pla
 body_block steps params words counters flags = record { steps = steps; params = params; words = words; counters = counters; flags = flags }
 
 -- a thread's body, and an end
+abbrev pub thread_body : List PlainThread → (params words : ℕ) → Stmt → PlainBlock
+thread_body ts params words body =
+    body_block (statement_code ts Outside 0 body ++ instruction.End ∷ []) params words (counters_in body) (flags_in body)
+
+-- A function's body. (It returns on each path; the jumps past its last statement lead to a return of their own.)
+abbrev pub function_body : List PlainThread → (params words : ℕ) → Stmt → PlainBlock
+function_body ts params words body =
+    body_block (statement_code ts Outside 0 body ++ instruction.Quiet (pos 0) ∷ instruction.Return ∷ []) params words (counters_in body) 0
+
+-- the block of thread t of a kernel
 abbrev pub thread_block : PlainKernel → ℕ → Stmt → PlainBlock
 thread_block k t body =
     record {
@@ -71,7 +81,7 @@ thread_block k t body =
       flags = flags_in body;
     }
 
--- A function's body. (It returns on each path; the jumps past its last statement lead to a return of their own.)
+-- the block of function f of a kernel
 abbrev pub function_block : PlainKernel → ℕ → Stmt → PlainBlock
 function_block k f body =
     record {

@@ -57,10 +57,9 @@ abbrev mutual
   statements_length c w no_stmts = 0
   statements_length c w (more_stmts s rest) = statement_length c w s + statements_length c w rest
 
--- an abort whose test has so many instructions
-abbrev pub abort_length : (checks prologue : ℕ) → Bool → Bool → (test : ℕ) → Stmt → ℕ
-abort_length c w weak immediate test body =
-    entry_length weak immediate test + statement_length (c + one_if weak) (w + (test + 1)) body
+-- the body of an abort whose test has so many instructions
+abbrev pub abort_length : (checks prologue : ℕ) → Bool → (test : ℕ) → Stmt → ℕ
+abort_length c w weak test body = statement_length (c + one_if weak) (w + (test + 1)) body
 
 -- how many instructions the bodies of aborts have, in the order of the text
 abbrev mutual

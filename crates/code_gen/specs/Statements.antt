@@ -110,6 +110,10 @@ enter_code false false flag x test = []
 enter_code true false flag x test = instruction.Flag flag false ∷ []
 enter_code weak true flag x test = test ++ guard weak flag x ∷ []
 
+-- the start of an abort at p
+abbrev pub entry_code : Bool → Bool → ℕ → ℕ → ℕ → Expr → List Instruction
+entry_code weak immediate flag x p e = enter_code weak immediate flag x (expression_code p e)
+
 -- the number of a par: its branches have it
 abbrev pub par_in : List PlainThread → ℕ → Option ℕ
 par_in [] t = None

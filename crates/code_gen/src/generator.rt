@@ -1,17 +1,17 @@
 //! From a kernel to its code.
 
-ghost use Rattle.std.specs.Prelude.{◌≡◌, ◌≤◌, pos, ◌+◌, ◌++◌, ◌∷◌, [], length, map, take, drop, OnOk, IfOk};
+ghost use Rattle.std.specs.Prelude.{◌≡◌, ◌≤◌, ◌+◌, length, map, take, drop, OnOk, IfOk};
 ghost use Rattle.forec_kernel.specs.Plain.{stmt, stmts};
 ghost use Rattle.forec_kernel.specs.Shapes.{plain_kernel, plain_shape, plain_thread};
 ghost use Rattle.thread_code.specs.Plain.{plain_block, plain_code};
 ghost use Rattle.thread_code.specs.Alone.{Stands};
 ghost use Rattle.code_gen.specs.Statements.{Outside, statement_code};
-ghost use Rattle.thread_code.specs.declared.instruction.Instruction.TheVariants.{End, Quiet, Return};
-ghost use Rattle.code_gen.specs.Blocks.{body_block, thread_block, function_block, blocks_from, counters_in, counters_of, flags_in, flags_of};
+ghost use Rattle.code_gen.specs.Blocks.{thread_body, function_body, thread_block, function_block, blocks_from, counters_in, counters_of, flags_in, flags_of};
 
+use crate::around::{Around, Surroundings};
 use crate::shapes::copy_shape;
 use crate::sizes::statement_size;
-use crate::statements::{Around, emit_statement};
+use crate::statements::Emitter;
 use crate::writing::{MOST_INSTRUCTIONS, put};
 use forec_base::OutOfMemory;
 use forec_kernel::{FunctionShape, Kernel, KernelParts, Statement, ThreadShape};
@@ -34,16 +34,16 @@ fn body_steps(
     let size = own.checked_add(2).ok_or(OutOfMemory)?;
     *room = room.checked_sub(size).ok_or(OutOfMemory)?;
     sizes.reverse();
-    let mut steps = Vec::with_capacity(alloc, size as usize)?;
-    emit_statement(
-        &mut steps,
-        body,
-        &Around::Outside,
-        0,
-        0,
+    let steps = Vec::with_capacity(alloc, size as usize)?;
+    let mut emitter = Emitter { steps, sizes };
+    let surroundings = Surroundings {
+        around: &Around::Outside,
+        counters: 0,
+        flags: 0,
         threads,
-        &mut sizes,
-    )?;
+    };
+    emitter.emit_statement(body, &surroundings)?;
+    let Emitter { steps, .. } = emitter;
     Ok(steps)
 }
 
@@ -136,7 +136,7 @@ fn block_of_thread(
     threads: &[ThreadShape],
     room: &mut u32,
 ) -> Result<Block, OutOfMemory>
-    ensures { IfOk result (λ b. plain_block b ≡ body_block (statement_code (map plain_thread threads.now) Outside 0 (stmt body.now) ++ End ∷ []) shape.now.params shape.now.words (counters_in (stmt body.now)) (flags_in (stmt body.now))) }
+    ensures { IfOk result (λ b. plain_block b ≡ thread_body (map plain_thread threads.now) shape.now.params shape.now.words (stmt body.now)) }
 {
     let mut steps = body_steps(alloc, body, threads, room)?;
     put(&mut steps, Instruction::End)?;
@@ -156,7 +156,7 @@ fn block_of_function(
     threads: &[ThreadShape],
     room: &mut u32,
 ) -> Result<Block, OutOfMemory>
-    ensures { IfOk result (λ b. plain_block b ≡ body_block (statement_code (map plain_thread threads.now) Outside 0 (stmt body.now) ++ Quiet (pos 0) ∷ Return ∷ []) shape.now.params shape.now.words (counters_in (stmt body.now)) 0) }
+    ensures { IfOk result (λ b. plain_block b ≡ function_body (map plain_thread threads.now) shape.now.params shape.now.words (stmt body.now)) }
 {
     let mut steps = body_steps(alloc, body, threads, room)?;
     put(&mut steps, Instruction::Quiet { value: 0 })?;

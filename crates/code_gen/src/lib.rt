@@ -6,6 +6,7 @@
 //! loops anew.
 #![tactic(auto)]
 
+mod around;
 mod expressions;
 mod generator;
 mod shapes;

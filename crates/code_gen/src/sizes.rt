@@ -4,7 +4,7 @@
 
 ghost use Rattle.std.specs.Prelude.{◌≡◌, ◌+◌, ◌++◌, map, OnOk, IfOk};
 ghost use Rattle.forec_kernel.specs.Plain.{expr, exprs, stmt, stmts, branch};
-ghost use Rattle.code_gen.specs.Sizes.{expression_length, expressions_length, arguments_length, abort_length, statement_length, statements_length, abort_bodies, aborts_in, aborts_of};
+ghost use Rattle.code_gen.specs.Sizes.{expression_length, expressions_length, arguments_length, entry_length, abort_length, statement_length, statements_length, abort_bodies, aborts_in, aborts_of};
 
 use forec_base::OutOfMemory;
 use forec_kernel::{Expression, Launch, Statement};
@@ -79,6 +79,17 @@ fn arguments_size(branches: &[Launch]) -> Result<u32, OutOfMemory>
     Ok(sum)
 }
 
+/// The start of an abort whose test has so many instructions.
+fn entry_size(weak: bool, immediate: bool, tested: u32) -> Result<u32, OutOfMemory>
+    ensures { IfOk result (λ n. n ≡ entry_length weak immediate tested) }
+{
+    if immediate {
+        add(tested, 1)
+    } else {
+        Ok(weak as u32)
+    }
+}
+
 /// The number of instructions of a statement, with so many of them before each of its pauses (`checks`)
 /// and after it (`prologue`). The sizes of the bodies of its aborts are put after `sizes`, in the order
 /// of the text.
@@ -145,23 +156,24 @@ pub fn statement_size(
             body,
         } => {
             let tested = expression_size(test)?;
-            abort_size(sizes, *weak, *immediate, tested, body, checks, prologue)
+            let inside = abort_size(sizes, *weak, tested, body, checks, prologue)?;
+            let entry = entry_size(*weak, *immediate, tested)?;
+            add(entry, inside)
         }
     }
 }
 
-/// An abort whose test has so many instructions.
+/// The body of an abort whose test has so many instructions.
 #[cycle(statement)]
 fn abort_size(
     sizes: &mut Vec<u32>,
     weak: bool,
-    immediate: bool,
     tested: u32,
     body: &Statement,
     checks: u32,
     prologue: u32,
 ) -> Result<u32, OutOfMemory>
-    ensures size { IfOk result (λ n. n ≡ abort_length checks prologue weak immediate tested (stmt body.now)) }
+    ensures size { IfOk result (λ n. n ≡ abort_length checks prologue weak tested (stmt body.now)) }
     ensures bodies { OnOk result (sizes.new.items ≡ sizes.old.items ++ abort_bodies checks prologue weak tested (stmt body.now)) }
 {
     let guarded = add(tested, 1)?;
@@ -172,8 +184,7 @@ fn abort_size(
     sizes.push(0)?;
     let inside = statement_size(sizes, body, before, behind)?;
     sizes[number] = inside;
-    let entry = if immediate { guarded } else { flag };
-    add(entry, inside)
+    Ok(inside)
 }
 
 #[cycle(statement)]

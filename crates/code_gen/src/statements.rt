@@ -4,32 +4,16 @@ ghost use Rattle.std.specs.Prelude.{◌≡◌, ◌+◌, [], ◌∷◌, ◌++◌,
 ghost use Rattle.forec_kernel.specs.Plain.{expr, exprs, stmt, stmts, branch};
 ghost use Rattle.forec_kernel.specs.Shapes.{plain_thread};
 ghost use Rattle.forec_kernel.specs.Terms.{While, Enter};
-ghost use Rattle.code_gen.specs.Expressions.{expression_code};
-ghost use Rattle.code_gen.specs.Statements.{loops, weaks, checks, prologue, wait_code, pause_code, fork_code, set_code, loop_code, enter_code, par_number, arguments_code, statement_code, statements_code};
+ghost use Rattle.code_gen.specs.Statements.{loops, weaks, checks, prologue, wait_code, pause_code, fork_code, set_code, entry_code, par_number, arguments_code};
 ghost use Rattle.code_gen.specs.Arounds.{plain_around, perhaps};
+ghost use Rattle.code_gen.specs.Surroundings.{code_within, codes_within, loop_within};
 
+use crate::around::{Around, Surroundings};
 use crate::expressions::{emit_expression, emit_expressions};
 use crate::writing::{address, put};
 use forec_base::{OutOfMemory, Place};
 use forec_kernel::{Expression, Launch, Spot, Statement, ThreadShape};
 use thread_code::Instruction;
-
-/// What stands round a statement, the innermost first: loops with a bound, and aborts, each with the
-/// address after it.
-#[derive(Drop)]
-pub enum Around<'a> {
-    Outside,
-    InLoop {
-        bound: u32,
-        outer: &'a Around<'a>,
-    },
-    InAbort {
-        weak: bool,
-        test: &'a Expression,
-        exit: u32,
-        outer: &'a Around<'a>,
-    },
-}
 
 fn setting(to: Spot) -> Instruction
     ensures { result ≡ set_code to }
@@ -128,34 +112,31 @@ fn emit_prologue(
 /// address at which a wake goes on.
 fn emit_wait(
     steps: &mut Vec<Instruction>,
-    around: &Around<'_>,
-    counters: u32,
-    flags: u32,
+    surroundings: &Surroundings<'_>,
 ) -> Result<u32, OutOfMemory>
-    requires counters { counters ≡ loops (plain_around around.now) }
-    requires flags { flags ≡ weaks (plain_around around.now) }
-    ensures code { OnOk result (steps.new.items ≡ steps.old.items ++ wait_code (length steps.old.items) (plain_around around.now)) }
-    ensures at { IfOk result (λ w. w ≡ length steps.old.items + length (checks (plain_around around.now)) + 1) }
+    ensures code { OnOk result (steps.new.items ≡ steps.old.items ++ wait_code (length steps.old.items) (plain_around surroundings.now.around.now)) }
+    ensures at { IfOk result (λ w. w ≡ length steps.old.items + length (checks (plain_around surroundings.now.around.now)) + 1) }
 {
-    emit_checks(steps, around, flags)?;
+    emit_checks(steps, surroundings.around, surroundings.flags)?;
     let wake = address(steps)? + 1;
     put(steps, Instruction::Pause { to: wake })?;
-    emit_prologue(steps, around, counters, flags)?;
+    emit_prologue(
+        steps,
+        surroundings.around,
+        surroundings.counters,
+        surroundings.flags,
+    )?;
     Ok(wake)
 }
 
 fn emit_pause(
     steps: &mut Vec<Instruction>,
-    around: &Around<'_>,
-    counters: u32,
-    flags: u32,
+    surroundings: &Surroundings<'_>,
 ) -> Result<(), OutOfMemory>
-    requires counters { counters ≡ loops (plain_around around.now) }
-    requires flags { flags ≡ weaks (plain_around around.now) }
-    ensures { OnOk result (steps.new.items ≡ steps.old.items ++ pause_code (length steps.old.items) (plain_around around.now)) }
+    ensures { OnOk result (steps.new.items ≡ steps.old.items ++ pause_code (length steps.old.items) (plain_around surroundings.now.around.now)) }
 {
     put(steps, Instruction::Unit { count: 1 })?;
-    emit_wait(steps, around, counters, flags)?;
+    emit_wait(steps, surroundings)?;
     Ok(())
 }
 
@@ -164,24 +145,20 @@ fn emit_pause(
 fn emit_fork(
     steps: &mut Vec<Instruction>,
     par: u32,
-    around: &Around<'_>,
-    counters: u32,
-    flags: u32,
+    surroundings: &Surroundings<'_>,
 ) -> Result<(), OutOfMemory>
-    requires counters { counters ≡ loops (plain_around around.now) }
-    requires flags { flags ≡ weaks (plain_around around.now) }
-    ensures { OnOk result (steps.new.items ≡ steps.old.items ++ fork_code par (length steps.old.items) (plain_around around.now)) }
+    ensures { OnOk result (steps.new.items ≡ steps.old.items ++ fork_code par (length steps.old.items) (plain_around surroundings.now.around.now)) }
 {
     let fork = address(steps)?;
     put(steps, Instruction::Fork { par, to: fork + 2 })?;
     let first = steps.len();
     put(steps, Instruction::Jump { to: 0 })?;
-    let wake = emit_wait(steps, around, counters, flags)?;
+    let wake = emit_wait(steps, surroundings)?;
     let again = address(steps)?;
     put(steps, Instruction::Again { par, to: again + 2 })?;
     let second = steps.len();
     put(steps, Instruction::Jump { to: 0 })?;
-    emit_checks(steps, around, flags)?;
+    emit_checks(steps, surroundings.around, surroundings.flags)?;
     put(steps, Instruction::Pause { to: wake })?;
     let end = address(steps)?;
     steps[first] = Instruction::Jump { to: end };
@@ -222,7 +199,7 @@ fn emit_entry(
     flag: u32,
     body: u32,
 ) -> Result<u32, OutOfMemory>
-    ensures { IfOk result (λ exit. steps.new.items ≡ steps.old.items ++ enter_code weak immediate flag exit (expression_code (length steps.old.items) (expr test.now))) }
+    ensures { IfOk result (λ exit. steps.new.items ≡ steps.old.items ++ entry_code weak immediate flag exit (length steps.old.items) (expr test.now)) }
 {
     if immediate {
         emit_expression(steps, test)?;
@@ -243,230 +220,201 @@ fn emit_entry(
     Ok(exit)
 }
 
-/// A loop from its test on.
-#[cycle(statement)]
-fn emit_loop(
-    steps: &mut Vec<Instruction>,
-    body: &Statement,
-    test: &Expression,
-    turn: Option<Instruction>,
-    around: &Around<'_>,
-    counters: u32,
-    flags: u32,
-    threads: &[ThreadShape],
-    sizes: &mut Vec<u32>,
-) -> Result<(), OutOfMemory>
-    requires counters { counters ≡ loops (plain_around around.now) }
-    requires flags { flags ≡ weaks (plain_around around.now) }
-    ensures { OnOk result (steps.new.items ≡ steps.old.items ++ loop_code (length steps.old.items) (expression_code (length steps.old.items) (expr test.now)) (perhaps turn) (λ b. statement_code (map plain_thread threads.now) (plain_around around.now) b (stmt body.now))) }
-{
-    let head = address(steps)?;
-    emit_expression(steps, test)?;
-    let skip = steps.len();
-    put(steps, Instruction::Zero { to: 0 })?;
-    put_perhaps(steps, turn)?;
-    emit_statement(steps, body, around, counters, flags, threads, sizes)?;
-    put(steps, Instruction::Jump { to: head })?;
-    let end = address(steps)?;
-    steps[skip] = Instruction::Zero { to: end };
-    Ok(())
+/// The instructions of a body, as they are written, and the sizes of the bodies of the aborts that come: the next one
+/// last.
+#[derive(Drop)]
+pub struct Emitter {
+    pub steps: Vec<Instruction>,
+    pub sizes: Vec<u32>,
 }
 
-/// A loop with its bound, if it has one.
-#[cycle(statement)]
-fn emit_while(
-    steps: &mut Vec<Instruction>,
-    body: &Statement,
-    test: &Expression,
-    bound: Option<u32>,
-    place: Place,
-    around: &Around<'_>,
-    counters: u32,
-    flags: u32,
-    threads: &[ThreadShape],
-    sizes: &mut Vec<u32>,
-) -> Result<(), OutOfMemory>
-    requires counters { counters ≡ loops (plain_around around.now) }
-    requires flags { flags ≡ weaks (plain_around around.now) }
-    ensures { OnOk result (steps.new.items ≡ steps.old.items ++ statement_code (map plain_thread threads.now) (plain_around around.now) (length steps.old.items) (While (expr test.now) bound (stmt body.now) place)) }
-{
-    let Some(turns) = bound else {
-        return emit_loop(
-            steps, body, test, None, around, counters, flags, threads, sizes,
-        );
-    };
-    let more = counters.checked_add(1).ok_or(OutOfMemory)?;
-    put(
-        steps,
-        Instruction::Fill {
-            counter: counters,
-            turns,
-        },
-    )?;
-    let inner = Around::InLoop {
-        bound: turns,
-        outer: &*around,
-    };
-    let turn = Instruction::Turn {
-        counter: counters,
-        place,
-    };
-    emit_loop(
-        steps,
-        body,
-        test,
-        Some(turn),
-        &inner,
-        more,
-        flags,
-        threads,
-        sizes,
-    )
-}
-
-/// An abort. How long its body is was counted beforehand, and is compared with what was written.
-#[cycle(statement)]
-fn emit_abort(
-    steps: &mut Vec<Instruction>,
-    body: &Statement,
-    weak: bool,
-    immediate: bool,
-    test: &Expression,
-    around: &Around<'_>,
-    counters: u32,
-    flags: u32,
-    threads: &[ThreadShape],
-    sizes: &mut Vec<u32>,
-) -> Result<(), OutOfMemory>
-    requires counters { counters ≡ loops (plain_around around.now) }
-    requires flags { flags ≡ weaks (plain_around around.now) }
-    ensures { OnOk result (steps.new.items ≡ steps.old.items ++ statement_code (map plain_thread threads.now) (plain_around around.now) (length steps.old.items) (Enter weak immediate (expr test.now) (stmt body.now))) }
-{
-    let size = sizes.pop().ok_or(OutOfMemory)?;
-    let exit = emit_entry(steps, weak, immediate, test, flags, size)?;
-    let more = flags.checked_add(weak as u32).ok_or(OutOfMemory)?;
-    let inner = Around::InAbort {
-        weak,
-        test,
-        exit,
-        outer: &*around,
-    };
-    emit_statement(steps, body, &inner, counters, more, threads, sizes)?;
-    let end = address(steps)?;
-    if end == exit {
+impl Emitter {
+    /// A loop from its test on.
+    #[cycle(statement)]
+    fn emit_loop(
+        &mut self,
+        body: &Statement,
+        test: &Expression,
+        turn: Option<Instruction>,
+        surroundings: &Surroundings<'_>,
+    ) -> Result<(), OutOfMemory>
+        ensures { OnOk result (self.new.steps.items ≡ self.old.steps.items
+            ++ loop_within surroundings.now (length self.old.steps.items) (expr test.now) (perhaps turn) (stmt body.now)) }
+    {
+        let head = address(&self.steps)?;
+        emit_expression(&mut self.steps, test)?;
+        let skip = self.steps.len();
+        put(&mut self.steps, Instruction::Zero { to: 0 })?;
+        put_perhaps(&mut self.steps, turn)?;
+        self.emit_statement(body, surroundings)?;
+        put(&mut self.steps, Instruction::Jump { to: head })?;
+        let end = address(&self.steps)?;
+        self.steps[skip] = Instruction::Zero { to: end };
         Ok(())
-    } else {
-        Err(OutOfMemory)
     }
-}
 
-/// Writes a statement's code. `counters` and `flags` are how many loops with a bound and weak aborts stand
-/// round it; `sizes` has the sizes of the bodies of the aborts from here on, the next one last.
-#[cycle(statement)]
-pub fn emit_statement(
-    steps: &mut Vec<Instruction>,
-    statement: &Statement,
-    around: &Around<'_>,
-    counters: u32,
-    flags: u32,
-    threads: &[ThreadShape],
-    sizes: &mut Vec<u32>,
-) -> Result<(), OutOfMemory>
-    requires counters { counters ≡ loops (plain_around around.now) }
-    requires flags { flags ≡ weaks (plain_around around.now) }
-    ensures { OnOk result (steps.new.items ≡ steps.old.items ++ statement_code (map plain_thread threads.now) (plain_around around.now) (length steps.old.items) (stmt statement.now)) }
-{
-    match statement {
-        Statement::Nop => Ok(()),
-        Statement::Set { to, value } => {
-            emit_expression(steps, value)?;
-            put(steps, setting(*to))
-        }
-        Statement::SetAt {
-            slot,
-            length,
-            index,
-            value,
-            place,
-        } => {
-            emit_expression(steps, index)?;
-            emit_expression(steps, value)?;
-            let element = Instruction::StoreAt {
-                slot: *slot,
-                length: *length,
-                place: *place,
-            };
-            put(steps, element)
-        }
-        Statement::Clear { slot, length } => {
-            let clear = Instruction::Clear {
-                slot: *slot,
-                length: *length,
-            };
-            put(steps, clear)
-        }
-        Statement::Sequence { list } => emit_list(
-            steps, list, around, counters, flags, threads, sizes,
-        ),
-        Statement::If { test, yes, no } => {
-            emit_expression(steps, test)?;
-            let skip = steps.len();
-            put(steps, Instruction::Zero { to: 0 })?;
-            emit_statement(steps, yes, around, counters, flags, threads, sizes)?;
-            let leave = steps.len();
-            put(steps, Instruction::Jump { to: 0 })?;
-            let other = address(steps)?;
-            emit_statement(steps, no, around, counters, flags, threads, sizes)?;
-            let end = address(steps)?;
-            steps[skip] = Instruction::Zero { to: other };
-            steps[leave] = Instruction::Jump { to: end };
-            Ok(())
-        }
-        Statement::While {
-            test,
-            bound,
-            body,
-            place,
-        } => emit_while(
-            steps, body, test, *bound, *place, around, counters, flags, threads, sizes,
-        ),
-        Statement::Pause => emit_pause(steps, around, counters, flags),
-        Statement::Par { branches } => {
-            emit_arguments(steps, branches)?;
-            let par = number_of(threads, branches);
-            emit_fork(steps, par, around, counters, flags)
-        }
-        Statement::Enter {
+    /// A loop with its bound, if it has one.
+    #[cycle(statement)]
+    fn emit_while(
+        &mut self,
+        body: &Statement,
+        test: &Expression,
+        bound: Option<u32>,
+        place: Place,
+        surroundings: &Surroundings<'_>,
+    ) -> Result<(), OutOfMemory>
+        ensures { OnOk result (self.new.steps.items ≡ self.old.steps.items
+            ++ code_within surroundings.now (length self.old.steps.items) (While (expr test.now) bound (stmt body.now) place)) }
+    {
+        let Some(turns) = bound else {
+            return self.emit_loop(body, test, None, surroundings);
+        };
+        let counter = surroundings.counters;
+        let more = counter.checked_add(1).ok_or(OutOfMemory)?;
+        put(&mut self.steps, Instruction::Fill { counter, turns })?;
+        let inner = Around::InLoop {
+            bound: turns,
+            outer: surroundings.around,
+        };
+        let inside = Surroundings {
+            around: &inner,
+            counters: more,
+            flags: surroundings.flags,
+            threads: surroundings.threads,
+        };
+        let turn = Instruction::Turn { counter, place };
+        self.emit_loop(body, test, Some(turn), &inside)
+    }
+
+    /// An abort. How long its body is was counted beforehand, and is compared with what was written.
+    #[cycle(statement)]
+    fn emit_abort(
+        &mut self,
+        body: &Statement,
+        weak: bool,
+        immediate: bool,
+        test: &Expression,
+        surroundings: &Surroundings<'_>,
+    ) -> Result<(), OutOfMemory>
+        ensures { OnOk result (self.new.steps.items ≡ self.old.steps.items
+            ++ code_within surroundings.now (length self.old.steps.items) (Enter weak immediate (expr test.now) (stmt body.now))) }
+    {
+        let size = self.sizes.pop().ok_or(OutOfMemory)?;
+        let flags = surroundings.flags;
+        let exit = emit_entry(&mut self.steps, weak, immediate, test, flags, size)?;
+        let more = flags.checked_add(weak as u32).ok_or(OutOfMemory)?;
+        let inner = Around::InAbort {
             weak,
-            immediate,
             test,
-            body,
-        } => emit_abort(
-            steps, body, *weak, *immediate, test, around, counters, flags, threads, sizes,
-        ),
-        Statement::Return { value } => {
-            emit_expression(steps, value)?;
-            put(steps, Instruction::Return)
+            exit,
+            outer: surroundings.around,
+        };
+        let inside = Surroundings {
+            around: &inner,
+            counters: surroundings.counters,
+            flags: more,
+            threads: surroundings.threads,
+        };
+        self.emit_statement(body, &inside)?;
+        let end = address(&self.steps)?;
+        if end == exit {
+            Ok(())
+        } else {
+            Err(OutOfMemory)
         }
     }
-}
 
-#[cycle(statement)]
-fn emit_list(
-    steps: &mut Vec<Instruction>,
-    list: &[Statement],
-    around: &Around<'_>,
-    counters: u32,
-    flags: u32,
-    threads: &[ThreadShape],
-    sizes: &mut Vec<u32>,
-) -> Result<(), OutOfMemory>
-    requires counters { counters ≡ loops (plain_around around.now) }
-    requires flags { flags ≡ weaks (plain_around around.now) }
-    ensures { OnOk result (steps.new.items ≡ steps.old.items ++ statements_code (map plain_thread threads.now) (plain_around around.now) (length steps.old.items) (stmts list.now)) }
-{
-    for statement in list {
-        emit_statement(steps, statement, around, counters, flags, threads, sizes)?;
+    /// Writes a statement's code.
+    #[cycle(statement)]
+    pub fn emit_statement(
+        &mut self,
+        statement: &Statement,
+        surroundings: &Surroundings<'_>,
+    ) -> Result<(), OutOfMemory>
+        ensures { OnOk result (self.new.steps.items ≡ self.old.steps.items
+            ++ code_within surroundings.now (length self.old.steps.items) (stmt statement.now)) }
+    {
+        match statement {
+            Statement::Nop => Ok(()),
+            Statement::Set { to, value } => {
+                emit_expression(&mut self.steps, value)?;
+                put(&mut self.steps, setting(*to))
+            }
+            Statement::SetAt {
+                slot,
+                length,
+                index,
+                value,
+                place,
+            } => {
+                emit_expression(&mut self.steps, index)?;
+                emit_expression(&mut self.steps, value)?;
+                let element = Instruction::StoreAt {
+                    slot: *slot,
+                    length: *length,
+                    place: *place,
+                };
+                put(&mut self.steps, element)
+            }
+            Statement::Clear { slot, length } => {
+                let clear = Instruction::Clear {
+                    slot: *slot,
+                    length: *length,
+                };
+                put(&mut self.steps, clear)
+            }
+            Statement::Sequence { list } => self.emit_list(list, surroundings),
+            Statement::If { test, yes, no } => {
+                emit_expression(&mut self.steps, test)?;
+                let skip = self.steps.len();
+                put(&mut self.steps, Instruction::Zero { to: 0 })?;
+                self.emit_statement(yes, surroundings)?;
+                let leave = self.steps.len();
+                put(&mut self.steps, Instruction::Jump { to: 0 })?;
+                let other = address(&self.steps)?;
+                self.emit_statement(no, surroundings)?;
+                let end = address(&self.steps)?;
+                self.steps[skip] = Instruction::Zero { to: other };
+                self.steps[leave] = Instruction::Jump { to: end };
+                Ok(())
+            }
+            Statement::While {
+                test,
+                bound,
+                body,
+                place,
+            } => self.emit_while(body, test, *bound, *place, surroundings),
+            Statement::Pause => emit_pause(&mut self.steps, surroundings),
+            Statement::Par { branches } => {
+                emit_arguments(&mut self.steps, branches)?;
+                let par = number_of(surroundings.threads, branches);
+                emit_fork(&mut self.steps, par, surroundings)
+            }
+            Statement::Enter {
+                weak,
+                immediate,
+                test,
+                body,
+            } => self.emit_abort(body, *weak, *immediate, test, surroundings),
+            Statement::Return { value } => {
+                emit_expression(&mut self.steps, value)?;
+                put(&mut self.steps, Instruction::Return)
+            }
+        }
     }
-    Ok(())
+
+    #[cycle(statement)]
+    fn emit_list(
+        &mut self,
+        list: &[Statement],
+        surroundings: &Surroundings<'_>,
+    ) -> Result<(), OutOfMemory>
+        ensures { OnOk result (self.new.steps.items ≡ self.old.steps.items
+            ++ codes_within surroundings.now (length self.old.steps.items) (stmts list.now)) }
+    {
+        for statement in list {
+            self.emit_statement(statement, surroundings)?;
+        }
+        Ok(())
+    }
 }

@@ -36,9 +36,14 @@ void main(void) { par(work(i), { s = t[i]; }); }
 ";
 
 /// A thread's parent, its `par`, how many of its words are parameters, and its words.
-type Counts = (Option<u32>, Option<u32>, u32, u32);
+type ThreadNumbers = (Option<u32>, Option<u32>, u32, u32);
 
-fn is_thread(thread: &ThreadShape, counts: Counts, uses: &[u32], name: Option<&[u8]>) -> bool {
+fn is_thread(
+    thread: &ThreadShape,
+    counts: ThreadNumbers,
+    uses: &[u32],
+    name: Option<&[u8]>,
+) -> bool {
     (thread.parent, thread.par, thread.params, thread.words) == counts
         && thread.uses.as_slice() == uses
         && thread.name.as_deref() == name

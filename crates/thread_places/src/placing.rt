@@ -1,11 +1,10 @@
 //! Placements of a kernel's threads.
 
-ghost use Rattle.std.specs.Prelude.{◌≡◌, ◌≤◌, ◌⊎◌, None, Some, length, IfOk, IfErr};
+ghost use Rattle.std.specs.Prelude.{◌≡◌, ◌≤◌, None, length, IfOk, IfErr};
 ghost use Rattle.forec_base.specs.declared.limits.TheConstants.{MAX_CORES};
 ghost use Rattle.forec_kernel.specs.Shapes.{plain_kernel};
 ghost use Rattle.command_words.specs.Requests.{plain_placing};
-ghost use Rattle.core_alloc.specs.declared.fault.PlaceFault.TheVariants as fault;
-ghost use Rattle.thread_places.specs.Placed.{IsPlacement, refusal_of};
+ghost use Rattle.thread_places.specs.Placed.{IsPlacement, RefusedFor, refusal_of};
 
 use crate::weighing::weights;
 use command_words::Placing;
@@ -23,7 +22,7 @@ pub fn place(alloc: Global, kernel: &Kernel, placing: Placing<'_>) -> Result<Pla
     requires few { placing.cores ≤ MAX_CORES }
     ensures placement { IfOk result (λ p. IsPlacement (plain_kernel kernel.now) (plain_placing placing.entry) p) }
     ensures taken { IfOk result (λ _. refusal_of (length (plain_kernel kernel.now).threads) (plain_placing placing.entry) ≡ None) }
-    ensures refused { IfErr result (λ e. (e ≡ fault.OutOfMemory) ⊎ (refusal_of (length (plain_kernel kernel.now).threads) (plain_placing placing.entry) ≡ Some e)) }
+    ensures refused { IfErr result (RefusedFor (plain_kernel kernel.now) (plain_placing placing.entry)) }
 {
     match placing.list {
         Some(list) => {

@@ -1,11 +1,16 @@
 -- What stands in the first line of a trace, and in a row.
-use Rattle.std.proofs.Common.{◌≡◌, ℕ, ℤ, ◌+◌, ◌<◌, ◌≤◌, true, false, List, [], ◌∷◌, ◌++◌, Some, None, Ok, Err, length, take, drop, refl, sym, ap, ◌∙◌}
+use Rattle.std.proofs.Common.{◌≡◌, ℕ, ℤ, ◌+◌, ◌<◌, ◌≤◌, Bool, true, false, Option, List, [], ◌∷◌, ◌++◌, Some, None, Ok, Err, length, take, drop, refl, sym, ap, ◌∙◌}
 use Rattle.std.proofs.lemmas.Bool.{lt-ltb, le-ltb}
 use Rattle.std.proofs.lemmas.List.{take_at}
 use Rattle.trace_rows.specs.declared.fault.RowFault.{RowFault}
 use Rattle.trace_rows.specs.declared.fault.RowFault.TheVariants as fault
+use Rattle.trace_rows.specs.Held.{Finds}
+use Rattle.trace_rows.specs.Lines.{lines_of}
+use Rattle.trace_rows.specs.Reader.{Came}
+use Rattle.trace_rows.specs.Steps.{TakesHeader, NoHeader}
 use Rattle.trace_rows.specs.Words.{words_of}
 use Rattle.trace_rows.specs.Trace.{Row, most_bytes, names_each, places_of, header_at, rows_of_lines, stop, behind, rows_from, numbers_in, arranged, row_at, onto}
+use Rattle.trace_rows.proofs.Told.{told_map, long_told, LongLine}
 
 -- ---- headers
 
@@ -27,6 +32,18 @@ no_header inputs line f all lines e bad limit = ap (rows_of_lines inputs limit) 
 pub some_header : (inputs : List (List ℕ)) (line : List ℕ) (places : List ℕ) (all lines : List (List ℕ)) → all ≡ line ∷ lines → header_at inputs line ≡ Ok places →
     (limit : ℕ) → rows_of_lines inputs limit all ≡ rows_from limit places 1 lines
 some_header inputs line places all lines e good limit = ap (rows_of_lines inputs limit) e ∙ ap (λ r. behind r (λ places. rows_from limit places 1 lines)) good
+
+-- why no header was taken, where no first line was found
+pub header_fault : (inputs : List (List ℕ)) (places w bytes : List ℕ) (was is : Bool) (a b : Option (List ℕ)) (f : RowFault) → Came w bytes a b → (is ≡ false → was ≡ false) → Finds bytes is (Err f) →
+    TakesHeader inputs places w bytes was is a b (Err f)
+header_fault inputs places w bytes was is a b fault.Bad came stays finds = absurd finds
+header_fault inputs places w bytes was is a b fault.Long came stays long =
+    told_map a b (LongLine w) (λ x y. NoHeader inputs fault.Long (lines_of (w ++ x)))
+    (long_told w bytes a b came long)
+    (λ x y l. no_header inputs l.0 fault.Long (lines_of (w ++ x)) l.1 l.2 (header_long inputs l.0 l.3))
+header_fault inputs places w bytes was is a b fault.Many came stays finds = absurd finds
+header_fault inputs places w bytes was is a b fault.ReadFault came stays finds = record { came = came; none = finds.0; was = stays finds.1; is = finds.1 }
+header_fault inputs places w bytes was is a b fault.OutOfMemory came stays finds = absurd finds
 
 -- a buffer that was written whole
 pub written : {A : Type 0} (new old : List A) (n : ℕ) → n ≡ length new → take n (new ++ drop (length new) old) ≡ new

@@ -96,8 +96,8 @@ NextSays old new row (Err fault.Many) before now = ahead old before ≡ stop (So
 NextSays old new row (Err fault.ReadFault) before now = Unit {0}
 NextSays old new row (Err fault.OutOfMemory) before now = ⊥
 
--- a row more was given, or nothing is given any more
-abbrev pub Goes : Reader → Reader → Row → Row → Result Next RowFault → Type 0
-Goes old new row_old row_new (Ok next.Row) = (old.given < old.limit) × (new.given ≡ old.given + 1) × (new.live ≡ true)
-Goes old new row_old row_new (Ok next.End) = (row_new ≡ row_old) × (new.live ≡ false)
-Goes old new row_old row_new (Err f) = (row_new ≡ row_old) × (new.live ≡ false)
+-- what a call that asks for the next row leaves: a row more was given, or nothing is given any more
+abbrev pub NextLeaves : Reader → Reader → Row → Row → Result Next RowFault → Type 0
+NextLeaves old new row_old row_new (Ok next.Row) = (old.given < old.limit) × (new.given ≡ old.given + 1) × (new.live ≡ true)
+NextLeaves old new row_old row_new (Ok next.End) = (row_new ≡ row_old) × (new.live ≡ false)
+NextLeaves old new row_old row_new (Err f) = (row_new ≡ row_old) × (new.live ≡ false)

@@ -4,10 +4,12 @@ use Rattle.trace_rows.specs.declared.fault.Next.{Next}
 use Rattle.trace_rows.specs.declared.fault.Next.TheVariants as next
 use Rattle.trace_rows.specs.declared.fault.RowFault.{RowFault}
 use Rattle.trace_rows.specs.declared.fault.RowFault.TheVariants as fault
+use Rattle.trace_rows.specs.declared.lines.Lines.{Lines}
 use Rattle.trace_rows.specs.Calls.{IfTold}
+use Rattle.trace_rows.specs.Held.{held}
 use Rattle.trace_rows.specs.Lines.{lines_of}
 use Rattle.trace_rows.specs.Reader.{HasLine, Takes, Waits, first_line}
-use Rattle.trace_rows.specs.Reads.{TakesHead}
+use Rattle.trace_rows.specs.Reads.{TakesHead, Reading}
 use Rattle.trace_rows.specs.Trace.{most_bytes, header_at, rows_of_lines, stop}
 
 -- these lines have no header, whatever the most rows
@@ -27,6 +29,16 @@ TakesHeader inputs places held_old held_new was is left_old left_new (Err f) = I
 abbrev pub HeaderTook : List (List ℕ) → List ℕ → List ℕ → Bool → Result (Unit {0}) RowFault → List ℕ → Type 0
 HeaderTook inputs places held ended (Ok u) bytes = TakesHead inputs places bytes held ended
 HeaderTook inputs places held ended (Err f) bytes = Unit {0}
+
+-- what the call says, of a reader of lines
+abbrev pub LinesTakeHeader : List (List ℕ) → List ℕ → Lines → Lines → Option (List ℕ) → Option (List ℕ) → Result (Unit {0}) RowFault → Type 0
+LinesTakeHeader inputs places old new left_old left_new r =
+    TakesHeader inputs places (held old) (held new) old.ended new.ended left_old left_new r
+
+-- what it reads, of a reader of lines
+abbrev pub LinesReadHeader : {S : Type 0} → (S → Option (List ℕ)) → (S → ℕ) → (S → Bool) → List (List ℕ) → List ℕ → Lines → Lines → S → S → Result (Unit {0}) RowFault → Type 0
+LinesReadHeader left faults down inputs places old new source_old source_new r =
+    Reading left faults down (held old) old.ended source_old source_new (HeaderTook inputs places (held new) new.ended r)
 
 -- what a call says that looks for the line after so many rows, of at most `limit`: it is there, or nothing more is, or what is in its place
 abbrev pub FindsNext : ℕ → ℕ → List ℕ → Bool → Result Next RowFault → Type 0

@@ -9,7 +9,6 @@
 
 mod buffer;
 mod fault;
-mod found;
 mod header;
 mod lines;
 mod numbers;

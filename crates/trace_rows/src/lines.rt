@@ -1,8 +1,8 @@
 //! Lines out of a source that gives its bytes in pieces of any size.
-ghost use Rattle.std.specs.Prelude.{◌≡◌, ◌≢◌, ◌+◌, ◌*◌, ◌<◌, ◌≤◌, ◌++◌, true, false, List, ℕ, [], length, slice_range, IfOk, IsTrue, OnOk, OnErr, IfSome, IfNone, Ok, ◌↔◌, ◌⊎◌};
+ghost use Rattle.std.specs.Prelude.{◌≡◌, ◌≢◌, ◌+◌, ◌*◌, ◌<◌, ◌≤◌, ◌++◌, true, false, List, ℕ, [], length, slice_range, IfOk, IsTrue, OnOk, OnErr, IfSome, IfNone, Err, ◌↔◌, ◌⊎◌};
 ghost use Rattle.std.specs.List.{position_or_len, after_first};
 ghost use Rattle.std.specs.Io.KnownBytes.{IsAtEnd};
-ghost use Rattle.forec_base.specs.Outside.{HasCause};
+ghost use Rattle.forec_base.specs.Outside.{HasCause, Fell};
 ghost use Rattle.trace_rows.specs.Calls.{Faults};
 ghost use Rattle.trace_rows.specs.Lines.{is_newline};
 ghost use Rattle.trace_rows.specs.Reader.{first_line, HasLine, Came};
@@ -10,7 +10,7 @@ ghost use Rattle.trace_rows.specs.Reads.{Gathers, IsRead};
 ghost use Rattle.trace_rows.specs.declared.lines.TheConstants.{ROOM};
 
 use crate::buffer::{fill, line_end, move_to_front};
-use crate::found::Found;
+use crate::fault::{Next, RowFault};
 use forec_base::{Failed, MAX_LINE_BYTES, OutOfMemory, Source};
 use std::alloc::Global;
 
@@ -100,27 +100,31 @@ impl Lines {
     }
 
     /// What the bytes that are held tell of the first line, if no further ones are needed.
-    fn found(&self) -> Option<Found>
-        ensures some { IfSome result (λ f. Finds (held self.now) self.now.ended (Ok f)) }
+    fn found(&self) -> Option<Result<Next, RowFault>>
+        ensures some { IfSome result (λ f. Finds (held self.now) self.now.ended f) }
+        ensures told { IfSome result (λ f. f ≢ Err RowFault.ReadFault) }
         ensures none { IfNone result ((HasLine (held self.now) → ⊥) × (self.now.ended ≡ false) × (length (held self.now) ≤ 8192)) }
     {
         if self.stop - self.at > MAX_LINE_BYTES {
-            return Some(Found::Long);
+            return Some(Err(RowFault::Long));
         }
         if self.stop < self.end {
-            return Some(Found::Line);
+            return Some(Ok(Next::Row));
         }
         if !self.ended {
             return None;
         }
         if self.at == self.end {
-            return Some(Found::End);
+            return Some(Ok(Next::End));
         }
-        Some(Found::Line)
+        Some(Ok(Next::Row))
     }
 
     /// Finds the first line of what is held and comes, and takes nothing. No read is made where a whole line is held.
-    pub fn find<S: Source>(&mut self, source: &mut S) -> Result<Found, Failed>
+    ///
+    /// Errors: `Long` where it has more than 8,192 bytes, though it may not have come whole; `ReadFault` only where the
+    /// source failed and no whole line had come.
+    pub fn find<S: Source>(&mut self, source: &mut S) -> Result<Next, RowFault>
         requires { self.old.ended ≡ true → IsAtEnd (S.left source.old) }
         ensures came { Came (held self.old) (held self.new) (S.left source.old) (S.left source.new) }
         ensures reads { Gathers S.left S.faults S.down (held self.old) self.old.ended (held self.new) source.old source.new }
@@ -129,14 +133,15 @@ impl Lines {
         ensures stays { self.new.ended ≡ false → self.old.ended ≡ false }
         ensures asks { HasLine (held self.old) → source.new ≡ source.old }
         ensures closed { self.old.ended ≡ true → source.new ≡ source.old }
-        ensures cause { Faults (S.faults source.old) (S.faults source.new) (S.down source.new) result }
+        ensures later { S.faults source.old ≤ S.faults source.new }
+        ensures fault { result ≡ Err RowFault.ReadFault → Fell (S.faults source.old) (S.faults source.new) (S.down source.new) }
     {
         'pieces: loop {
             if let Some(found) = self.found() {
-                return Ok(found);
+                return found;
             }
-            if let Err(failed) = self.refill(source) {
-                return Err(failed);
+            if let Err(_) = self.refill(source) {
+                return Err(RowFault::ReadFault);
             }
         }
     }

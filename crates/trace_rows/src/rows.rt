@@ -3,7 +3,7 @@ ghost use Rattle.std.specs.Prelude.{◌≡◌, ◌≢◌, ◌≤◌, ◌↔◌, 
 ghost use Rattle.std.specs.Io.KnownBytes.{IsAtEnd};
 ghost use Rattle.forec_base.specs.Outside.{Fell};
 ghost use Rattle.trace_rows.specs.Calls.{IfTold};
-ghost use Rattle.trace_rows.specs.Reader.{HasLine, StartTakes, StartSays, NextTakes, NextSays, Goes};
+ghost use Rattle.trace_rows.specs.Reader.{HasLine, StartTakes, StartSays, NextTakes, NextSays, NextLeaves};
 ghost use Rattle.trace_rows.specs.Reads.{Reading, StartTook, NextTook};
 
 use crate::fault::{Next, RowFault};
@@ -107,7 +107,7 @@ impl Rows {
         ensures trace { IfTold (S.left source.old) (S.left source.new) (NextSays self.old self.new row.new result) }
         ensures bytes { NextTakes self.old self.new row.new (S.left source.old) (S.left source.new) result }
         ensures reads { Reading S.left S.faults S.down self.old.held self.old.ended source.old source.new (NextTook self.old self.new row.new result) }
-        ensures goes { Goes self.old self.new row.old row.new result }
+        ensures goes { NextLeaves self.old self.new row.old row.new result }
         ensures same { (self.new.places ≡ self.old.places) × (self.new.limit ≡ self.old.limit) }
         ensures ended { self.new.ended ≡ true → IsAtEnd (S.left source.new) }
         ensures stays { self.new.ended ≡ false → self.old.ended ≡ false }

@@ -4,11 +4,10 @@ ghost use Rattle.std.specs.Io.KnownBytes.{IsAtEnd};
 ghost use Rattle.forec_base.specs.Outside.{Fell};
 ghost use Rattle.trace_rows.specs.Held.{held};
 ghost use Rattle.trace_rows.specs.Reader.{Came, HasLine};
-ghost use Rattle.trace_rows.specs.Reads.{Gathers, Reading};
-ghost use Rattle.trace_rows.specs.Steps.{TakesHeader, HeaderTook, FindsNext};
+ghost use Rattle.trace_rows.specs.Reads.{Gathers};
+ghost use Rattle.trace_rows.specs.Steps.{LinesTakeHeader, LinesReadHeader, FindsNext};
 
 use crate::fault::{Next, RowFault};
-use crate::found::Found;
 use crate::header::read_header;
 use crate::lines::Lines;
 use forec_base::{Labels, Source};
@@ -22,18 +21,17 @@ pub fn take_header<S: Source>(
 ) -> Result<(), RowFault>
     requires places { length places.old.items ≡ length inputs.now }
     requires ended { lines.old.ended ≡ true → IsAtEnd (S.left source.old) }
-    ensures header { TakesHeader inputs.now places.new.items (held lines.old) (held lines.new) lines.old.ended lines.new.ended (S.left source.old) (S.left source.new) result }
-    ensures reads { Reading S.left S.faults S.down (held lines.old) lines.old.ended source.old source.new (HeaderTook inputs.now places.new.items (held lines.new) lines.new.ended result) }
+    ensures header { LinesTakeHeader inputs.now places.new.items lines.old lines.new (S.left source.old) (S.left source.new) result }
+    ensures reads { LinesReadHeader S.left S.faults S.down inputs.now places.new.items lines.old lines.new source.old source.new result }
     ensures places { length places.new.items ≡ length places.old.items }
     ensures ended { lines.new.ended ≡ true → IsAtEnd (S.left source.new) }
     ensures later { S.faults source.old ≤ S.faults source.new }
     ensures fault { result ≡ Err RowFault.ReadFault → Fell (S.faults source.old) (S.faults source.new) (S.down source.new) }
 {
     match lines.find(source) {
-        Err(_) => return Err(RowFault::ReadFault),
-        Ok(Found::End) => return Err(RowFault::Bad),
-        Ok(Found::Long) => return Err(RowFault::Long),
-        Ok(Found::Line) => {}
+        Err(fault) => return Err(fault),
+        Ok(Next::End) => return Err(RowFault::Bad),
+        Ok(Next::Row) => {}
     }
     if !read_header(lines.line(), inputs, places) {
         return Err(RowFault::Bad);
@@ -67,10 +65,5 @@ pub fn find_next<S: Source>(
             Ok(false) => Ok(Next::End),
         };
     }
-    match lines.find(source) {
-        Err(_) => Err(RowFault::ReadFault),
-        Ok(Found::End) => Ok(Next::End),
-        Ok(Found::Long) => Err(RowFault::Long),
-        Ok(Found::Line) => Ok(Next::Row),
-    }
+    lines.find(source)
 }

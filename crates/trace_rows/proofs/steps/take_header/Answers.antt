@@ -6,8 +6,8 @@ use Rattle.trace_rows.specs.Held.{held}
 use Rattle.trace_rows.specs.Reader.{Takes}
 use Rattle.trace_rows.specs.Steps.{NoHeader}
 use Rattle.trace_rows.specs.Trace.{most_bytes, header_at, rows_of_lines}
-use Rattle.trace_rows.proofs.Told.{told_map, end_told, long_told, LongLine, LineOf, line_told, takes_first}
-use Rattle.trace_rows.proofs.Heads.{header_long, header_bad, header_good, no_header, written}
+use Rattle.trace_rows.proofs.Told.{told_map, end_told, LineOf, line_told, takes_first}
+use Rattle.trace_rows.proofs.Heads.{header_bad, header_good, header_fault, no_header, written}
 use Rattle.trace_rows.proofs.steps.take_header.Goals as goal
 
 pub returns-in-Ok-End-clause-header : goal.returns-in-Ok-End-clause-header
@@ -19,14 +19,11 @@ returns-in-Ok-End-clause-header g c =
     (end_told w (held c.find.new.self) (left c.args.source.now) (left c.find.new.source) c.find.ensures.came f.0 (c.find.ensures.ended f.1))
     (λ x y e limit. ap (rows_of_lines c.args.inputs.now limit) e)
 
-pub returns-in-Ok-Long-clause-header : goal.returns-in-Ok-Long-clause-header
-returns-in-Ok-Long-clause-header g c =
+pub returns-in-Err-clause-header : goal.returns-in-Err-clause-header
+returns-in-Err-clause-header g c =
     let left = g.S.Source.left in
-    let w : List ℕ = held c.args.lines.now in
-    let f = rw c.in-Ok-Long.field-0-is at c.in-Ok-Long.ensures.finds in
-    told_map (left c.args.source.now) (left c.find.new.source) (LongLine w) (λ x y. NoHeader c.args.inputs.now fault.Long (lines_of (w ++ x)))
-    (long_told w (held c.find.new.self) (left c.args.source.now) (left c.find.new.source) c.find.ensures.came f)
-    (λ x y l. no_header c.args.inputs.now l.0 fault.Long (lines_of (w ++ x)) l.1 l.2 (header_long c.args.inputs.now l.0 l.3))
+    header_fault c.args.inputs.now c.args.places.now.items (held c.args.lines.now) (held c.find.new.self) c.args.lines.now.ended c.find.new.self.ended (left c.args.source.now) (left c.find.new.source) c.in-Err.fault c.find.ensures.came c.find.ensures.stays
+    c.in-Err.ensures.finds
 
 pub returns-then-not-read_header-clause-header : goal.returns-then-not-read_header-clause-header
 returns-then-not-read_header-clause-header g c =
@@ -34,7 +31,7 @@ returns-then-not-read_header-clause-header g c =
     let w : List ℕ = held c.args.lines.now in
     let bytes : List ℕ = held c.find.new.self in
     let line : List ℕ = c.line.result.now in
-    let f = rw c.in-Ok-Line.field-0-is at c.in-Ok-Line.ensures.finds in
+    let f = rw c.in-Ok-Row.field-0-is at c.in-Ok-Row.ensures.finds in
     let takes : Takes line w (after_first is_newline bytes) c.find.new.self.ended (left c.args.source.now) (left c.find.new.source) =
     takes_first line w (after_first is_newline bytes) bytes c.find.new.self.ended (left c.args.source.now) (left c.find.new.source) c.find.ensures.came f.1 f.2 c.line.ensures refl in
     let short : length line ≤ most_bytes = subst (λ (l : List ℕ). length l ≤ most_bytes) (sym c.line.ensures) f.0 in
@@ -49,7 +46,7 @@ returns-clause-header g c =
     let w : List ℕ = held c.args.lines.now in
     let bytes : List ℕ = held c.find.new.self in
     let line : List ℕ = c.line.result.now in
-    let f = rw c.in-Ok-Line.field-0-is at c.in-Ok-Line.ensures.finds in
+    let f = rw c.in-Ok-Row.field-0-is at c.in-Ok-Row.ensures.finds in
     let short : length line ≤ most_bytes = subst (λ (l : List ℕ). length l ≤ most_bytes) (sym c.line.ensures) f.0 in
     let same : c.args.places.now.len ≡ length c.read_header.new.places = omega (arith, c.read_header.auto.places, c.deref_mut.ensures.len) in
     let yes = c.if-not-read_header.ensures in (
@@ -63,7 +60,7 @@ pub returns-clause-reads : goal.returns-clause-reads
 returns-clause-reads g c =
     let bytes : List ℕ = held c.find.new.self in
     let line : List ℕ = c.line.result.now in
-    let f = rw c.in-Ok-Line.field-0-is at c.in-Ok-Line.ensures.finds in
+    let f = rw c.in-Ok-Row.field-0-is at c.in-Ok-Row.ensures.finds in
     let short : length line ≤ most_bytes = subst (λ (l : List ℕ). length l ≤ most_bytes) (sym c.line.ensures) f.0 in
     let same : c.args.places.now.len ≡ length c.read_header.new.places = omega (arith, c.read_header.auto.places, c.deref_mut.ensures.len) in
     let yes = c.if-not-read_header.ensures in
