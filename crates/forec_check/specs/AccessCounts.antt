@@ -6,6 +6,7 @@ use Rattle.forec_tree.specs.Pauses.{within}
 use Rattle.forec_tree.specs.Rules.{fault_if, is_plain}
 use Rattle.forec_tree.specs.Faults.{is_in, Reaches}
 use Rattle.forec_tree.specs.declared.fault.Fault.{Fault}
+use Rattle.forec_tree.specs.declared.rule.TheConstants as rule
 use Rattle.loop_check.specs.Known.{is_function}
 use Rattle.forec_check.specs.Table.{Settles}
 use Rattle.forec_check.specs.Walk.{effects_of}
@@ -73,7 +74,7 @@ value_of text g = within no_access (capped_step text g) (length text)
 
 -- the faults of plain globals that two instances name
 abbrev pub access_fault : Text → List (List ℕ) → PlainItem → List Fault
-access_fault text names (IsGlobal g) = fault_if (is_plain g.kind && nat_lt 1 (namings text names g.name.id)) g.name.place 10
+access_fault text names (IsGlobal g) = fault_if (is_plain g.kind && nat_lt 1 (namings text names g.name.id)) g.name.place rule.PLAIN_IN_TWO_THREADS
 access_fault text names (IsFunction f) = []
 
 abbrev pub access_faults : Text → List (List ℕ) → List PlainItem → List Fault

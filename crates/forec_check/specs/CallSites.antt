@@ -80,6 +80,10 @@ pub record Rests (t : SiteMaps) (e : Effect) (site : CallSites) (before after : 
   pub holds : Holds t e site before
   pub next : after ≡ inside_after e site before
 
+-- the same of the tables and the instances as they are kept
+abbrev pub RestsAround : SiteTables → Effect → CallSites → InstanceStack → InstanceStack → Type 0
+RestsAround tables e site before after = Rests (tables_of tables) e site (instances_around before) (instances_around after)
+
 -- The tables hold what the effects from number n on of the body of f tell, and each block in it ends.
 abbrev pub Settled : SiteMaps → ℕ → ℕ → InstanceView → List Effect → Type 0
 Settled t f n r [] = r.round ≡ []
@@ -93,6 +97,10 @@ outermost t f = record { here = t.texts f; round = [] }
 
 abbrev pub body_settled : Text → SiteMaps → ℕ → Type 0
 body_settled text t f = Settled t f 1 (outermost t f) (effects_in text (find_function f text))
+
+-- the tables hold what the body of a function tells, where it is called
+abbrev pub SettlesCalled : Text → SiteTables → ℕ → Type 0
+SettlesCalled text tables f = (tables_of tables).calls f ≢ sites.None → body_settled text (tables_of tables) f
 
 -- where a program starts
 abbrev pub start_site : ℕ → CallSites

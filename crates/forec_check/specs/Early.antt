@@ -1,9 +1,13 @@
 -- The rules that ask for no thread, with the chains of calls.
 use Rattle.std.specs.Prelude.{◌≡◌, ◌⊎◌, ℕ, Bool, true, Option, Some, None, List, [], ◌∷◌}
 use Rattle.forec_tree.specs.declared.fault.Fault.{Fault}
+use Rattle.forec_tree.specs.declared.rule.TheConstants as rule
 use Rattle.forec_tree.specs.Terms.{Text, PlainFunction, PlainItem, IsFunction}
 use Rattle.forec_tree.specs.Scopes.{find_item}
 use Rattle.forec_tree.specs.Faults.{Member, Reaches, IsLeast, is_before, text_faults, called_in, in_function}
+use Rattle.loop_check.specs.declared.table.Calls.{Calls}
+use Rattle.loop_check.specs.Graph.{callees}
+use Rattle.loop_check.specs.Known.{Read}
 use Rattle.forec_check.specs.declared.walk.effects.Effect.{Effect}
 use Rattle.forec_check.specs.declared.walk.effects.Effect.TheVariants as effect
 
@@ -19,6 +23,10 @@ effect_calls (effect.Closes ∷ rest) = effect_calls rest
 
 abbrev pub calls_in : Text → PlainFunction → List ℕ
 calls_in text f = called_in (in_function text f)
+
+-- the calls as they are kept: all functions of a text, and those that each calls or starts
+abbrev pub KnowsCalls : Text → Calls → Type 0
+KnowsCalls text calls = Read (calls_in text) text calls.functions.items (callees calls.lists.items)
 
 -- a fault is less than the one kept, if any
 abbrev pub improves : Option Fault → Fault → Bool
@@ -36,7 +44,7 @@ pub record RecursiveIn (text : Text) (xs : List PlainItem) (fault : Fault) : Typ
   pub stands : Member (IsFunction function) xs
   pub first : find_item function.name.id text ≡ Some (IsFunction function)
   pub reaches : Reaches text function.name.id function.name.id
-  pub is : fault ≡ record { place = function.name.place; rule = 6 }
+  pub is : fault ≡ record { place = function.name.place; rule = rule.CALLS_ITSELF }
 
 abbrev pub EarlyTo : Text → List (List ℕ) → List PlainItem → Fault → Type 0
 EarlyTo text names xs f = Member f (text_faults text names) ⊎ RecursiveIn text xs f

@@ -1,12 +1,18 @@
 -- The items of a program, one after the other.
-use Rattle.std.specs.Prelude.{ℕ, suc, ◌+◌, ◌<◌, Bool, ◌||◌, ◌&&◌, nat_le, nat_lt, not, length, List, [], ◌∷◌, ◌++◌, take}
+use Rattle.std.specs.Prelude.{ℕ, suc, ◌+◌, ◌<◌, ◌≡◌, Bool, Option, ◌||◌, ◌&&◌, nat_le, nat_lt, not, length, List, [], ◌∷◌, ◌++◌, take}
 use Rattle.forec_base.specs.declared.limits.TheConstants.{MAX_INPUTS, MAX_OUTPUTS, MAX_PARAMS, MAX_FUNCTIONS}
 use Rattle.forec_tree.specs.declared.tree.GlobalKind.{GlobalKind}
+use Rattle.forec_tree.specs.declared.tree.Global.{Global}
+use Rattle.forec_tree.specs.declared.tree.Function.{Function}
+use Rattle.forec_tree.specs.declared.tree.Item.{Item}
+use Rattle.forec_tree.specs.Plain as plain
 use Rattle.forec_tree.specs.Terms.{Text, PlainItem, IsGlobal, IsFunction, PlainFunction}
 use Rattle.forec_tree.specs.Rules.{is_input, is_output, is_long, fault_if, some_returns}
-use Rattle.forec_tree.specs.Faults.{Before, in_function, item_named, one_if}
+use Rattle.forec_tree.specs.Faults.{Before, none_before, in_function, item_named, one_if, global_faults, function_faults, item_faults, items_faults}
 use Rattle.forec_tree.specs.declared.fault.Fault.{Fault}
+use Rattle.forec_tree.specs.declared.rule.TheConstants as rule
 use Rattle.forec_tree.specs.Findings.{Finding}
+use Rattle.forec_check.specs.Least.{least_from}
 use Rattle.forec_check.specs.declared.walk.item_counts.ItemCounts.{ItemCounts}
 
 -- what stands before the item of this place
@@ -24,11 +30,28 @@ in_item text (IsFunction f) = in_function text f
 -- the faults of a function but those in its parameters and body
 abbrev pub head_faults : Text → List (List ℕ) → Before → PlainFunction → List Fault
 head_faults text names b f =
-    fault_if (item_named f.name.id b.items) f.name.place 2
-    ++ (fault_if (is_long names f.name.id) f.name.place 21
-    ++ (fault_if (nat_lt MAX_PARAMS (length f.params)) f.name.place 23
-    ++ (fault_if (nat_le MAX_FUNCTIONS b.functions) f.name.place 24
-    ++ fault_if (f.gives && not (some_returns f.body)) f.name.place 15)))
+    fault_if (item_named f.name.id b.items) f.name.place rule.NAME_TWICE
+    ++ (fault_if (is_long names f.name.id) f.name.place rule.LONG_NAME
+    ++ (fault_if (nat_lt MAX_PARAMS (length f.params)) f.name.place rule.TOO_MANY_PARAMS
+    ++ (fault_if (nat_le MAX_FUNCTIONS b.functions) f.name.place rule.TOO_MANY_FUNCTIONS
+    ++ fault_if (f.gives && not (some_returns f.body)) f.name.place rule.INT_WITHOUT_VALUE)))
+
+-- ---- from the least fault before to that after: of a global, the head of a function, a function, an item, all items
+
+abbrev pub JudgesGlobal : Text → List (List ℕ) → ℕ → ItemCounts → Global → Option Fault → Option Fault → Type 0
+JudgesGlobal text names at c g old new = new ≡ least_from old (global_faults text names (before_of text at c) (plain.plain_global g))
+
+abbrev pub JudgesHead : Text → List (List ℕ) → ℕ → ItemCounts → Function → Option Fault → Option Fault → Type 0
+JudgesHead text names at c f old new = new ≡ least_from old (head_faults text names (before_of text at c) (plain.plain_function f))
+
+abbrev pub JudgesFunction : Text → List (List ℕ) → ℕ → ItemCounts → Function → Option Fault → Option Fault → Type 0
+JudgesFunction text names at c f old new = new ≡ least_from old (function_faults text names (before_of text at c) (plain.plain_function f))
+
+abbrev pub JudgesItem : Text → List (List ℕ) → ℕ → ItemCounts → Item → Option Fault → Option Fault → Type 0
+JudgesItem text names at c i old new = new ≡ least_from old (item_faults text names (before_of text at c) (plain.plain_item i))
+
+abbrev pub JudgesItems : Text → List (List ℕ) → Option Fault → Option Fault → Type 0
+JudgesItems text names old new = new ≡ least_from old (items_faults text names none_before text)
 
 abbrev pub counts_after : ItemCounts → PlainItem → ItemCounts
 counts_after c (IsGlobal g) = record { inputs = c.inputs + one_if (is_input g.kind); outputs = c.outputs + one_if (is_output g.kind); functions = c.functions }

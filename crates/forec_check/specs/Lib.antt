@@ -3,6 +3,7 @@ pub mod AccessScan
 pub mod Declarations
 pub mod Views
 pub mod Walk
+pub mod Walks
 pub mod Items
 pub mod Early
 pub mod Loops

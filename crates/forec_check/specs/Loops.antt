@@ -1,12 +1,13 @@
 -- The loops that may run for ever.
 use Rattle.std.specs.Prelude.{List, [], ◌∷◌, ◌++◌}
 use Rattle.forec_tree.specs.declared.fault.Fault.{Fault}
+use Rattle.forec_tree.specs.declared.rule.TheConstants as rule
 use Rattle.forec_tree.specs.Terms.{Text, PlainItem, IsGlobal, IsFunction, Statement, Declare, Nothing, Group, Assign, Invoke, If, While, For, Pause, Par, Abort, Return, Statements, no_statements, more_statements, Perhaps, absent, present, Branches, no_branches, by_call, by_group}
 use Rattle.forec_tree.specs.Rules.{fault_if, endless, loop_place}
 
 abbrev pub loops_faults : Text → List Statement → List Fault
 loops_faults text [] = []
-loops_faults text (l ∷ rest) = fault_if (endless text l) (loop_place l) 20 ++ loops_faults text rest
+loops_faults text (l ∷ rest) = fault_if (endless text l) (loop_place l) rule.ENDLESS_LOOP ++ loops_faults text rest
 
 -- the loops of a statement, each after those in its body
 abbrev mutual

@@ -7,6 +7,7 @@ use Rattle.forec_tree.specs.Rules.{Judging}
 use Rattle.forec_tree.specs.Terms.{Text}
 use Rattle.loop_check.specs.Views.{text_of}
 use Rattle.forec_check.specs.declared.walk.context.Context.{Context}
+use Rattle.forec_check.specs.declared.symbols.Symbols.{Symbols}
 use Rattle.forec_check.specs.declared.scopes.scope.Scope.{Scope}
 use Rattle.forec_check.specs.Declarations.{seen}
 
@@ -19,6 +20,13 @@ judging_in c = judging c.names.now c.gives
 
 abbrev pub text_in : Context → Text
 text_in c = text_of c.index.now
+
+-- the program whose names these are, and their texts
+abbrev pub program_text : Symbols → Text
+program_text s = text_of s.index.now
+
+abbrev pub program_names : Symbols → List (List ℕ)
+program_names s = s.names.now
 
 -- the entries from `base` to `start` are those of the scopes outside
 abbrev pub scope_of : Scope → scopes.Scope

@@ -14,6 +14,7 @@ ghost use Rattle.forec_check.specs.Instances.{count_at, capped_below, count_of};
 
 pub mod access_count;
 pub mod accesses;
+pub mod bodies;
 pub mod call_sites;
 pub mod propagate;
 pub mod single;

@@ -9,6 +9,7 @@ mod instances;
 mod rules;
 mod scopes;
 mod sizes;
+mod symbols;
 mod walk;
 
 pub use check_fault::CheckFault;

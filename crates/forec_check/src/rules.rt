@@ -19,10 +19,9 @@ ghost use Rattle.forec_tree.specs.Plain as plain;
 ghost use Rattle.forec_tree.specs.Faults.{IsEarly, IsFault, start_name};
 ghost use Rattle.forec_check.specs.Least.{least_from};
 ghost use Rattle.loop_check.specs.Views.{text_of};
-ghost use Rattle.loop_check.specs.Graph.{callees};
-ghost use Rattle.loop_check.specs.Known.{Read};
+ghost use Rattle.forec_check.specs.Views.{program_text, program_names};
 ghost use Rattle.forec_check.specs.Walk.{item_effects, effects_lists};
-ghost use Rattle.forec_check.specs.Early.{Kept, calls_in};
+ghost use Rattle.forec_check.specs.Early.{Kept, KnowsCalls};
 ghost use Rattle.forec_check.specs.Loops.{all_loops, loops_faults};
 ghost use Rattle.forec_check.specs.AccessCounts.{access_faults, Orders};
 
@@ -35,10 +34,12 @@ pub mod recursion;
 pub mod start;
 pub mod uses;
 
+use crate::instances::bodies::Bodies;
 use crate::rules::loops::judge_loops;
 use crate::rules::plain_globals::judge_plain_globals;
 use crate::rules::recursion::{call_graph, judge_recursion};
 use crate::rules::start::start_name;
+use crate::symbols::Symbols;
 use crate::walk::effects::Effect;
 use crate::walk::{ProgramNotes, walk_program};
 use forec_base::{Labels, OutOfMemory};
@@ -48,22 +49,26 @@ use std::alloc::Global;
 
 fn judge_accesses(
     alloc: Global,
-    index: &Index<'_>,
-    names: &Labels,
+    symbols: &Symbols<'_, '_>,
     items: &[Item],
     bodies: &[Vec<Effect>],
     order: &[u32],
     least: &mut Option<Fault>,
 ) -> Result<(), OutOfMemory>
-    requires items { map plain.plain_item items.now ≡ text_of index.now }
-    requires bodies { effects_lists bodies.now ≡ map (item_effects (text_of index.now)) (text_of index.now) }
-    requires order { Orders (text_of index.now) order.now }
-    ensures { OnOk result (least.new ≡ least_from least.old (access_faults (text_of index.now) names.now (text_of index.now))) }
+    requires items { map plain.plain_item items.now ≡ program_text symbols.now }
+    requires bodies { effects_lists bodies.now ≡ map (item_effects (program_text symbols.now)) (program_text symbols.now) }
+    requires order { Orders (program_text symbols.now) order.now }
+    ensures { OnOk result (least.new ≡ least_from least.old (access_faults (program_text symbols.now) (program_names symbols.now) (program_text symbols.now))) }
 {
-    match start_name(names, items) {
+    match start_name(symbols.names, items) {
         None => Ok(()),
         Some(first) => {
-            judge_plain_globals(alloc, index, names, items, bodies, order, first, least)?;
+            let bodies = Bodies {
+                effects: bodies,
+                order,
+                first,
+            };
+            judge_plain_globals(alloc, symbols, items, &bodies, least)?;
             Ok(())
         }
     }
@@ -81,16 +86,16 @@ fn least_late(
     requires items { map plain.plain_item items.now ≡ text_of index.now }
     requires early { Kept None (IsEarly (text_of index.now) names.now) }
     requires bodies { effects_lists program_notes.now.bodies.items ≡ map (item_effects (text_of index.now)) (text_of index.now) }
-    requires read { Read (calls_in (text_of index.now)) (text_of index.now) calls.now.functions.items (callees calls.now.lists.items) }
+    requires read { KnowsCalls (text_of index.now) calls.now }
     ensures { IfOk result (λ least. least ≡ least_from None (access_faults (text_of index.now) names.now (text_of index.now)
         ++ loops_faults (text_of index.now) (all_loops (text_of index.now)))) }
 {
+    let symbols = Symbols { index, names };
     let mut least = None;
     let order = order(alloc, &calls.functions, &calls.lists)?;
     judge_accesses(
         alloc,
-        index,
-        names,
+        &symbols,
         items,
         &program_notes.bodies,
         &order,

@@ -8,7 +8,8 @@ ghost use Rattle.forec_tree.specs.Faults as faults;
 ghost use Rattle.forec_check.specs.Least.{least_from};
 ghost use Rattle.loop_check.specs.Views.{text_of};
 ghost use Rattle.forec_check.specs.Walk.{effects_of, item_effects, effects_lists};
-ghost use Rattle.forec_check.specs.Items.{before_of, in_item, counts_after, CountsBelow};
+ghost use Rattle.forec_check.specs.Items.{in_item, counts_after, CountsBelow, JudgesFunction, JudgesItem, JudgesItems};
+ghost use Rattle.forec_check.specs.Views.{program_text, program_names};
 
 pub mod context;
 pub mod effects;
@@ -20,6 +21,7 @@ pub mod statements;
 use crate::rules::items::{is_input, is_output, judge_global, judge_head};
 use crate::rules::start::judge_start;
 use crate::scopes::scope::Scope;
+use crate::symbols::Symbols;
 use crate::walk::effects::{Effect, Notes};
 use crate::walk::functions::body;
 use crate::walk::item_counts::ItemCounts;
@@ -61,8 +63,7 @@ fn after(counts: ItemCounts, item: &Item) -> ItemCounts
 }
 
 fn walk_function(
-    index: &Index<'_>,
-    names: &Labels,
+    symbols: &Symbols<'_, '_>,
     at: usize,
     counts: ItemCounts,
     f: &Function,
@@ -70,17 +71,23 @@ fn walk_function(
     notes: &mut Notes,
 ) -> Result<(), OutOfMemory>
     requires { notes.old.effects.items ≡ [] }
-    ensures least { OnOk result (notes.new.least ≡ least_from notes.old.least (faults.function_faults (text_of index.now) names.now (before_of (text_of index.now) at counts) (plain.plain_function f.now))) }
-    ensures effects { OnOk result (notes.new.effects.items ≡ effects_of (faults.in_function (text_of index.now) (plain.plain_function f.now))) }
+    ensures least { OnOk result (JudgesFunction (program_text symbols.now) (program_names symbols.now) at counts f.now notes.old.least notes.new.least) }
+    ensures effects { OnOk result (notes.new.effects.items ≡ effects_of (faults.in_function (program_text symbols.now) (plain.plain_function f.now))) }
 {
-    judge_head(index, names, at, counts, f, &mut notes.least);
-    body(index, names, scope, f, notes)?;
+    judge_head(
+        symbols.index,
+        symbols.names,
+        at,
+        counts,
+        f,
+        &mut notes.least,
+    );
+    body(symbols.index, symbols.names, scope, f, notes)?;
     Ok(())
 }
 
 fn walk_item(
-    index: &Index<'_>,
-    names: &Labels,
+    symbols: &Symbols<'_, '_>,
     at: usize,
     counts: ItemCounts,
     item: &Item,
@@ -88,16 +95,23 @@ fn walk_item(
     notes: &mut Notes,
 ) -> Result<(), OutOfMemory>
     requires { notes.old.effects.items ≡ [] }
-    ensures least { OnOk result (notes.new.least ≡ least_from notes.old.least (faults.item_faults (text_of index.now) names.now (before_of (text_of index.now) at counts) (plain.plain_item item.now))) }
-    ensures effects { OnOk result (notes.new.effects.items ≡ effects_of (in_item (text_of index.now) (plain.plain_item item.now))) }
+    ensures least { OnOk result (JudgesItem (program_text symbols.now) (program_names symbols.now) at counts item.now notes.old.least notes.new.least) }
+    ensures effects { OnOk result (notes.new.effects.items ≡ effects_of (in_item (program_text symbols.now) (plain.plain_item item.now))) }
 {
     match item {
         Item::Global { global } => {
-            judge_global(index, names, at, counts, global, &mut notes.least);
+            judge_global(
+                symbols.index,
+                symbols.names,
+                at,
+                counts,
+                global,
+                &mut notes.least,
+            );
             Ok(())
         }
         Item::Function { function } => {
-            walk_function(index, names, at, counts, function, scope, notes)?;
+            walk_function(symbols, at, counts, function, scope, notes)?;
             Ok(())
         }
     }
@@ -113,9 +127,10 @@ fn walk_items(
     requires items { map plain.plain_item items.now ≡ text_of index.now }
     requires none { program_notes.old.notes.effects.items ≡ [] }
     requires bodies { program_notes.old.bodies.items ≡ [] }
-    ensures least { OnOk result (program_notes.new.notes.least ≡ least_from program_notes.old.notes.least (faults.items_faults (text_of index.now) names.now faults.none_before (text_of index.now))) }
+    ensures least { OnOk result (JudgesItems (text_of index.now) names.now program_notes.old.notes.least program_notes.new.notes.least) }
     ensures bodies { OnOk result (effects_lists program_notes.new.bodies.items ≡ map (item_effects (text_of index.now)) (text_of index.now)) }
 {
+    let symbols = Symbols { index, names };
     let mut scope = Scope::new(alloc);
     let mut counts = ItemCounts {
         inputs: 0,
@@ -124,8 +139,7 @@ fn walk_items(
     };
     for (at, item) in items.iter().enumerate() {
         walk_item(
-            index,
-            names,
+            &symbols,
             at,
             counts,
             item,

@@ -6,7 +6,7 @@ ghost use Rattle.loop_check.specs.Views.{text_of};
 ghost use Rattle.forec_check.specs.Walk.{item_effects, effects_lists};
 ghost use Rattle.forec_check.specs.AccessCounts.{effects_in};
 ghost use Rattle.forec_check.specs.CallSites as plain;
-ghost use Rattle.forec_check.specs.CallSites.{tables_of, instances_around, outermost, SameTables, Settled, Rests, body_settled, AllSettled};
+ghost use Rattle.forec_check.specs.CallSites.{tables_of, outermost, SameTables, Settled, RestsAround, SettlesCalled, AllSettled};
 
 use crate::instances::call_sites::{CallSite, CallSites, at, join};
 use crate::walk::effects::Effect;
@@ -63,7 +63,7 @@ fn propagate_effect(
     tables: &mut SiteTables,
 ) -> Result<bool, OutOfMemory>
     ensures same { IfOk result (λ moved. moved ≡ false → SameTables tables.old tables.new) }
-    ensures rests { IfOk result (λ moved. moved ≡ false → Rests (tables_of tables.old) effect site (instances_around around.old) (instances_around around.new)) }
+    ensures rests { IfOk result (λ moved. moved ≡ false → RestsAround tables.old effect site around.old around.new) }
 {
     match effect {
         Effect::Accesses { id } => {
@@ -156,7 +156,7 @@ fn propagate_function(
 ) -> Result<bool, OutOfMemory>
     requires { effects_lists bodies.now ≡ map (item_effects (text_of index.now)) (text_of index.now) }
     ensures same { IfOk result (λ moved. moved ≡ false → SameTables tables.old tables.new) }
-    ensures settled { IfOk result (λ moved. moved ≡ false → (tables_of tables.old).calls f ≢ plain.none → body_settled (text_of index.now) (tables_of tables.old) f) }
+    ensures settled { IfOk result (λ moved. moved ≡ false → SettlesCalled (text_of index.now) tables.old f) }
 {
     if is_none(at(&tables.calls, f)) {
         return Ok(false);

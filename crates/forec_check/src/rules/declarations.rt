@@ -4,11 +4,12 @@ ghost use Rattle.std.specs.Prelude.{◌≡◌, [], ◌∷◌, map, pos};
 ghost use Rattle.forec_tree.specs.Rules as rules;
 ghost use Rattle.forec_tree.specs.Findings.{Declares, in_bound};
 ghost use Rattle.forec_check.specs.Least.{judged, least_from};
-ghost use Rattle.forec_check.specs.Views.{judging};
+ghost use Rattle.forec_check.specs.Views.{judging_in};
 
 use crate::rules::least::keep_fault;
+use crate::walk::context::Context;
 use forec_base::{Labels, MAX_ARRAY_LENGTH, MAX_NAME_BYTES, MAX_TURNS, Place};
-use forec_tree::{Fault, Name, Number};
+use forec_tree::{Fault, Name, Number, rule};
 
 pub fn is_long(names: &Labels, id: u32) -> bool
     ensures { result ≡ rules.is_long (names.now) id }
@@ -36,7 +37,7 @@ pub fn judge_length(length: Option<Number>, least: &mut Option<Fault>)
 {
     match length {
         None => {}
-        Some(n) => keep_fault(least, outside_length(n), n.place, 17),
+        Some(n) => keep_fault(least, outside_length(n), n.place, rule::ARRAY_LENGTH),
     }
 }
 
@@ -51,28 +52,37 @@ pub fn too_many(length: Option<Number>, values: usize) -> bool
 
 /// The faults of one declaration.
 pub fn judge_declared(
-    names: &Labels,
-    gives: bool,
+    context: &Context<'_, '_>,
     name: Name,
     again: bool,
     length: Option<Number>,
     values: usize,
     least: &mut Option<Fault>,
 )
-    ensures { least.new ≡ judged (judging names.now gives) (Declares name again length values ∷ []) least.old }
+    ensures { least.new ≡ judged (judging_in context.now) (Declares name again length values ∷ []) least.old }
 {
-    keep_fault(least, again, name.place, 2);
+    keep_fault(least, again, name.place, rule::NAME_TWICE);
     judge_length(length, least);
-    keep_fault(least, too_many(length, values), name.place, 18);
-    keep_fault(least, is_long(names, name.id), name.place, 21);
+    keep_fault(
+        least,
+        too_many(length, values),
+        name.place,
+        rule::TOO_MANY_VALUES,
+    );
+    keep_fault(
+        least,
+        is_long(context.names, name.id),
+        name.place,
+        rule::LONG_NAME,
+    );
 }
 
 /// The faults of a bound.
-pub fn judge_bound(names: &Labels, gives: bool, bound: Option<Number>, least: &mut Option<Fault>)
-    ensures { least.new ≡ judged (judging names.now gives) (in_bound bound) least.old }
+pub fn judge_bound(context: &Context<'_, '_>, bound: Option<Number>, least: &mut Option<Fault>)
+    ensures { least.new ≡ judged (judging_in context.now) (in_bound bound) least.old }
 {
     match bound {
         None => {}
-        Some(n) => keep_fault(least, outside_bound(n), n.place, 19),
+        Some(n) => keep_fault(least, outside_bound(n), n.place, rule::LOOP_BOUND),
     }
 }

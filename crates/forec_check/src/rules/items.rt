@@ -6,13 +6,13 @@ ghost use Rattle.forec_tree.specs.Rules as rules;
 ghost use Rattle.forec_tree.specs.Faults as faults;
 ghost use Rattle.forec_check.specs.Least.{least_from};
 ghost use Rattle.loop_check.specs.Views.{text_of};
-ghost use Rattle.forec_check.specs.Items.{before_of, is_extra, head_faults};
+ghost use Rattle.forec_check.specs.Items.{is_extra, JudgesGlobal, JudgesHead};
 
 use crate::rules::declarations::{is_long, judge_length, too_many};
 use crate::rules::least::keep_fault;
 use crate::walk::item_counts::ItemCounts;
 use forec_base::{Labels, MAX_FUNCTIONS, MAX_INPUTS, MAX_OUTPUTS, MAX_PARAMS};
-use forec_tree::{Combine, Fault, Function, Global, GlobalKind, Item, Stmt, StmtKind};
+use forec_tree::{Combine, Fault, Function, Global, GlobalKind, Item, Stmt, StmtKind, rule};
 use loop_check::Index;
 
 #[cycle(returns)]
@@ -68,13 +68,13 @@ fn judge_combine(index: &Index<'_>, combine: Option<Combine>, least: &mut Option
     match combine {
         None => {}
         Some(c) => match index.find(c.with.id) {
-            None => keep_fault(least, true, c.with.place, 1),
-            Some(Item::Global { .. }) => keep_fault(least, true, c.with.place, 16),
+            None => keep_fault(least, true, c.with.place, rule::NAME_UNDECLARED),
+            Some(Item::Global { .. }) => keep_fault(least, true, c.with.place, rule::COMBINE_FORM),
             Some(Item::Function { function }) => keep_fault(
                 least,
                 !combines(function),
                 c.with.place,
-                16,
+                rule::COMBINE_FORM,
             ),
         },
     }
@@ -118,14 +118,34 @@ pub fn judge_global(
     g: &Global,
     least: &mut Option<Fault>,
 )
-    ensures { least.new ≡ least_from least.old (faults.global_faults (text_of index.now) names.now (before_of (text_of index.now) at counts) (plain.plain_global g.now)) }
+    ensures { JudgesGlobal (text_of index.now) names.now at counts g.now least.old least.new }
 {
-    keep_fault(least, index.named_before(g.name.id, at), g.name.place, 2);
+    keep_fault(
+        least,
+        index.named_before(g.name.id, at),
+        g.name.place,
+        rule::NAME_TWICE,
+    );
     judge_length(g.length, least);
-    keep_fault(least, too_many(g.length, g.values.len()), g.name.place, 18);
-    keep_fault(least, is_long(names, g.name.id), g.name.place, 21);
+    keep_fault(
+        least,
+        too_many(g.length, g.values.len()),
+        g.name.place,
+        rule::TOO_MANY_VALUES,
+    );
+    keep_fault(
+        least,
+        is_long(names, g.name.id),
+        g.name.place,
+        rule::LONG_NAME,
+    );
     judge_combine(index, g.combine, least);
-    keep_fault(least, extra(counts, g.kind), g.name.place, 22);
+    keep_fault(
+        least,
+        extra(counts, g.kind),
+        g.name.place,
+        rule::TOO_MANY_INPUTS_OR_OUTPUTS,
+    );
 }
 
 /// The faults of a function but those in its parameters and body.
@@ -137,11 +157,31 @@ pub fn judge_head(
     f: &Function,
     least: &mut Option<Fault>,
 )
-    ensures { least.new ≡ least_from least.old (head_faults (text_of index.now) names.now (before_of (text_of index.now) at counts) (plain.plain_function f.now)) }
+    ensures { JudgesHead (text_of index.now) names.now at counts f.now least.old least.new }
 {
-    keep_fault(least, index.named_before(f.name.id, at), f.name.place, 2);
-    keep_fault(least, is_long(names, f.name.id), f.name.place, 21);
-    keep_fault(least, MAX_PARAMS < f.params.len(), f.name.place, 23);
-    keep_fault(least, MAX_FUNCTIONS <= counts.functions, f.name.place, 24);
-    keep_fault(least, may_end(f), f.name.place, 15);
+    keep_fault(
+        least,
+        index.named_before(f.name.id, at),
+        f.name.place,
+        rule::NAME_TWICE,
+    );
+    keep_fault(
+        least,
+        is_long(names, f.name.id),
+        f.name.place,
+        rule::LONG_NAME,
+    );
+    keep_fault(
+        least,
+        MAX_PARAMS < f.params.len(),
+        f.name.place,
+        rule::TOO_MANY_PARAMS,
+    );
+    keep_fault(
+        least,
+        MAX_FUNCTIONS <= counts.functions,
+        f.name.place,
+        rule::TOO_MANY_FUNCTIONS,
+    );
+    keep_fault(least, may_end(f), f.name.place, rule::INT_WITHOUT_VALUE);
 }

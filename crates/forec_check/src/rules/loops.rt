@@ -10,7 +10,7 @@ ghost use Rattle.loop_check.specs.Judges.{judge_text};
 ghost use Rattle.forec_check.specs.Loops.{loops_in, loops_in_perhaps, loops_in_all, loops_in_branches, all_loops, loops_faults};
 
 use crate::rules::least::keep_fault;
-use forec_tree::{Branch, Fault, Item, Number, Stmt, StmtKind};
+use forec_tree::{Branch, Fault, Item, Number, Stmt, StmtKind, rule};
 use loop_check::{Pauses, always, at_least_one, is_nonzero};
 
 fn is_endless(bound: Option<Number>, turns: Option<u32>, pausing: bool) -> bool
@@ -46,7 +46,12 @@ fn judge_statement(pauses: &Pauses<'_>, s: &Stmt, least: &mut Option<Fault>) -> 
         StmtKind::While { test, bound, body } => {
             let inside = judge_statement(pauses, body, least);
             let turns = pauses.turns(s);
-            keep_fault(least, is_endless(*bound, turns, inside), s.place, 20);
+            keep_fault(
+                least,
+                is_endless(*bound, turns, inside),
+                s.place,
+                rule::ENDLESS_LOOP,
+            );
             is_nonzero(test) && inside
         }
         StmtKind::For {
@@ -60,7 +65,12 @@ fn judge_statement(pauses: &Pauses<'_>, s: &Stmt, least: &mut Option<Fault>) -> 
             let _ = judge_optional_statement(pauses, step, least);
             let inside = judge_statement(pauses, body, least);
             let turns = pauses.turns(s);
-            keep_fault(least, is_endless(*bound, turns, inside), s.place, 20);
+            keep_fault(
+                least,
+                is_endless(*bound, turns, inside),
+                s.place,
+                rule::ENDLESS_LOOP,
+            );
             let runs = always(test) || at_least_one(turns);
             runs && inside
         }

@@ -5,18 +5,18 @@ ghost use Rattle.forec_tree.specs.Plain as plain;
 ghost use Rattle.forec_tree.specs.Rules as rules;
 ghost use Rattle.forec_tree.specs.Faults.{start_name};
 ghost use Rattle.forec_check.specs.Least.{least_from};
-ghost use Rattle.loop_check.specs.Views.{text_of};
+ghost use Rattle.forec_check.specs.Views.{program_text, program_names};
 ghost use Rattle.forec_check.specs.Walk.{item_effects, effects_lists};
 ghost use Rattle.forec_check.specs.AccessCounts.{access_fault, access_faults, Orders};
 ghost use Rattle.forec_check.specs.SingleAccess.{TellsSingle};
 
 use crate::instances::accesses::two_access;
+use crate::instances::bodies::Bodies;
 use crate::instances::single::{SingleAccess, single_access};
 use crate::rules::least::{is_less, keep_fault};
-use crate::walk::effects::Effect;
-use forec_base::{Labels, OutOfMemory};
-use forec_tree::{Fault, GlobalKind, Item};
-use loop_check::Index;
+use crate::symbols::Symbols;
+use forec_base::OutOfMemory;
+use forec_tree::{Fault, GlobalKind, Item, rule};
 use std::alloc::Global;
 
 fn is_plain(kind: GlobalKind) -> bool
@@ -30,20 +30,17 @@ fn is_plain(kind: GlobalKind) -> bool
 
 fn judge_plain_global(
     alloc: Global,
-    index: &Index<'_>,
-    names: &Labels,
-    bodies: &[Vec<Effect>],
-    order: &[u32],
-    first: u32,
+    symbols: &Symbols<'_, '_>,
+    bodies: &Bodies<'_>,
     single: &SingleAccess,
     item: &Item,
     least: &mut Option<Fault>,
 ) -> Result<(), OutOfMemory>
-    requires bodies { effects_lists bodies.now ≡ map (item_effects (text_of index.now)) (text_of index.now) }
-    requires order { Orders (text_of index.now) order.now }
-    requires first { start_name names.now (text_of index.now) ≡ Some first }
-    requires single { TellsSingle (text_of index.now) first single.now }
-    ensures { OnOk result (least.new ≡ least_from least.old (access_fault (text_of index.now) names.now (plain.plain_item item.now))) }
+    requires bodies { effects_lists bodies.now.effects.now ≡ map (item_effects (program_text symbols.now)) (program_text symbols.now) }
+    requires order { Orders (program_text symbols.now) bodies.now.order.now }
+    requires first { start_name (program_names symbols.now) (program_text symbols.now) ≡ Some bodies.now.first }
+    requires single { TellsSingle (program_text symbols.now) bodies.now.first single.now }
+    ensures { OnOk result (least.new ≡ least_from least.old (access_fault (program_text symbols.now) (program_names symbols.now) (plain.plain_item item.now))) }
 {
     match item {
         Item::Function { .. } => Ok(()),
@@ -54,11 +51,18 @@ fn judge_plain_global(
             if single.is_single(global.name.id) {
                 return Ok(());
             }
-            if !is_less(least, global.name.place, 10) {
+            if !is_less(least, global.name.place, rule::PLAIN_IN_TWO_THREADS) {
                 return Ok(());
             }
-            let two = two_access(alloc, index, bodies, order, global.name.id, first)?;
-            keep_fault(least, two, global.name.place, 10);
+            let two = two_access(
+                alloc,
+                symbols.index,
+                bodies.effects,
+                bodies.order,
+                global.name.id,
+                bodies.first,
+            )?;
+            keep_fault(least, two, global.name.place, rule::PLAIN_IN_TWO_THREADS);
             Ok(())
         }
     }
@@ -70,25 +74,26 @@ fn judge_plain_global(
 /// each effect is looked at a few times.
 pub fn judge_plain_globals(
     alloc: Global,
-    index: &Index<'_>,
-    names: &Labels,
+    symbols: &Symbols<'_, '_>,
     items: &[Item],
-    bodies: &[Vec<Effect>],
-    order: &[u32],
-    first: u32,
+    bodies: &Bodies<'_>,
     least: &mut Option<Fault>,
 ) -> Result<(), OutOfMemory>
-    requires items { map plain.plain_item items.now ≡ text_of index.now }
-    requires bodies { effects_lists bodies.now ≡ map (item_effects (text_of index.now)) (text_of index.now) }
-    requires order { Orders (text_of index.now) order.now }
-    requires first { start_name names.now (text_of index.now) ≡ Some first }
-    ensures { OnOk result (least.new ≡ least_from least.old (access_faults (text_of index.now) names.now (text_of index.now))) }
+    requires items { map plain.plain_item items.now ≡ program_text symbols.now }
+    requires bodies { effects_lists bodies.now.effects.now ≡ map (item_effects (program_text symbols.now)) (program_text symbols.now) }
+    requires order { Orders (program_text symbols.now) bodies.now.order.now }
+    requires first { start_name (program_names symbols.now) (program_text symbols.now) ≡ Some bodies.now.first }
+    ensures { OnOk result (least.new ≡ least_from least.old (access_faults (program_text symbols.now) (program_names symbols.now) (program_text symbols.now))) }
 {
-    let single = single_access(alloc, index, bodies, order, first)?;
+    let single = single_access(
+        alloc,
+        symbols.index,
+        bodies.effects,
+        bodies.order,
+        bodies.first,
+    )?;
     for item in items {
-        judge_plain_global(
-            alloc, index, names, bodies, order, first, &single, item, least,
-        )?;
+        judge_plain_global(alloc, symbols, bodies, &single, item, least)?;
     }
     Ok(())
 }

@@ -5,14 +5,15 @@ ghost use Rattle.forec_tree.specs.Plain as plain;
 ghost use Rattle.forec_tree.specs.Faults.{Leads, Member, IsEarly, text_faults};
 ghost use Rattle.loop_check.specs.Views.{text_of};
 ghost use Rattle.loop_check.specs.Graph.{callees};
-ghost use Rattle.loop_check.specs.Known.{Read};
+ghost use Rattle.forec_check.specs.Views.{program_text, program_names};
 ghost use Rattle.forec_check.specs.Walk.{item_effects, effects_lists};
-ghost use Rattle.forec_check.specs.Early.{effect_calls, calls_in, Kept, EarlyTo};
+ghost use Rattle.forec_check.specs.Early.{effect_calls, Kept, EarlyTo, KnowsCalls};
 
 use crate::rules::least::{is_less, keep_fault};
+use crate::symbols::Symbols;
 use crate::walk::effects::Effect;
 use forec_base::{Labels, OutOfMemory};
-use forec_tree::{Fault, Item};
+use forec_tree::{Fault, Item, rule};
 use loop_check::{Calls, Index, acyclic, add_function, is_waiting, reaches_itself};
 use std::alloc::Global;
 
@@ -38,7 +39,7 @@ pub fn call_graph(
 ) -> Result<Calls, OutOfMemory>
     requires items { map plain.plain_item items.now ≡ text_of index.now }
     requires bodies { effects_lists bodies.now ≡ map (item_effects (text_of index.now)) (text_of index.now) }
-    ensures { IfOk result (λ calls. Read (calls_in (text_of index.now)) (text_of index.now) calls.functions.items (callees calls.lists.items)) }
+    ensures { IfOk result (λ calls. KnowsCalls (text_of index.now) calls) }
 {
     let mut calls = Calls {
         functions: Vec::new(alloc),
@@ -51,37 +52,42 @@ pub fn call_graph(
     Ok(calls)
 }
 
+/// The calls of all functions, and for each function whether it is certain not to reach itself.
+#[derive(Clone, Copy)]
+struct KnownCalls<'a> {
+    calls: &'a Calls,
+    free: &'a [bool],
+}
+
 fn judge_recursive(
     alloc: Global,
-    index: &Index<'_>,
-    names: &Labels,
+    symbols: &Symbols<'_, '_>,
     at: usize,
     item: &Item,
-    calls: &Calls,
-    free: &[bool],
+    known: &KnownCalls<'_>,
     least: &mut Option<Fault>,
 ) -> Result<(), OutOfMemory>
-    requires item { slice_get (text_of index.now) at ≡ Some (plain.plain_item item.now) }
-    requires read { Read (calls_in (text_of index.now)) (text_of index.now) calls.now.functions.items (callees calls.now.lists.items) }
-    requires free { (g : ℕ) → slice_index_or free.now g false ≡ true → Leads (callees calls.now.lists.items) g g → ⊥ }
-    requires kept { Kept least.old (EarlyTo (text_of index.now) names.now (take at (text_of index.now))) }
-    ensures { OnOk result (Kept least.new (EarlyTo (text_of index.now) names.now (take (at + 1) (text_of index.now)))) }
+    requires item { slice_get (program_text symbols.now) at ≡ Some (plain.plain_item item.now) }
+    requires read { KnowsCalls (program_text symbols.now) known.now.calls.now }
+    requires free { (g : ℕ) → slice_index_or known.now.free.now g false ≡ true → Leads (callees known.now.calls.now.lists.items) g g → ⊥ }
+    requires kept { Kept least.old (EarlyTo (program_text symbols.now) (program_names symbols.now) (take at (program_text symbols.now))) }
+    ensures { OnOk result (Kept least.new (EarlyTo (program_text symbols.now) (program_names symbols.now) (take (at + 1) (program_text symbols.now)))) }
 {
     match item {
         Item::Global { .. } => Ok(()),
         Item::Function { function } => {
             let id = function.name.id;
-            if index.named_before(id, at) {
+            if symbols.index.named_before(id, at) {
                 return Ok(());
             }
-            if is_waiting(free, id) {
+            if is_waiting(known.free, id) {
                 return Ok(());
             }
-            if !is_less(least, function.name.place, 6) {
+            if !is_less(least, function.name.place, rule::CALLS_ITSELF) {
                 return Ok(());
             }
-            let reaches = reaches_itself(alloc, &calls.functions, &calls.lists, id)?;
-            keep_fault(least, reaches, function.name.place, 6);
+            let reaches = reaches_itself(alloc, &known.calls.functions, &known.calls.lists, id)?;
+            keep_fault(least, reaches, function.name.place, rule::CALLS_ITSELF);
             Ok(())
         }
     }
@@ -100,13 +106,18 @@ pub fn judge_recursion(
     least: &mut Option<Fault>,
 ) -> Result<(), OutOfMemory>
     requires items { map plain.plain_item items.now ≡ text_of index.now }
-    requires read { Read (calls_in (text_of index.now)) (text_of index.now) calls.now.functions.items (callees calls.now.lists.items) }
+    requires read { KnowsCalls (text_of index.now) calls.now }
     requires kept { Kept least.old (λ f. Member f (text_faults (text_of index.now) names.now)) }
     ensures { OnOk result (Kept least.new (IsEarly (text_of index.now) names.now)) }
 {
     let free = acyclic(alloc, &calls.functions, &calls.lists)?;
+    let symbols = Symbols { index, names };
+    let known = KnownCalls {
+        calls,
+        free: free.as_slice(),
+    };
     for (at, item) in items.iter().enumerate() {
-        judge_recursive(alloc, index, names, at, item, calls, &free, least)?;
+        judge_recursive(alloc, &symbols, at, item, &known, least)?;
     }
     Ok(())
 }

@@ -10,7 +10,7 @@ ghost use Rattle.forec_check.specs.Least.{least_from};
 use crate::rules::least::keep_fault;
 use crate::rules::uses::is_main;
 use forec_base::{Labels, Place};
-use forec_tree::{Fault, Item};
+use forec_tree::{Fault, Item, rule};
 use loop_check::item_name;
 
 fn is_start(names: &Labels, item: &Item) -> bool
@@ -68,5 +68,5 @@ pub fn judge_start(names: &Labels, items: &[Item], least: &mut Option<Fault>)
     ensures { least.new ≡ least_from least.old (faults.main_faults (map plain.plain_item items.now) names.now) }
 {
     let absent = is_absent(start_name(names, items));
-    keep_fault(least, absent, main_place(names, items), 3);
+    keep_fault(least, absent, main_place(names, items), rule::NO_MAIN);
 }

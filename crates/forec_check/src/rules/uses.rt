@@ -4,11 +4,12 @@ ghost use Rattle.std.specs.Prelude.{◌≡◌, [], ◌∷◌, map, ◌&&◌};
 ghost use Rattle.forec_tree.specs.Rules as rules;
 ghost use Rattle.forec_tree.specs.Findings.{Use};
 ghost use Rattle.forec_check.specs.Least.{judged};
-ghost use Rattle.forec_check.specs.Views.{judging};
+ghost use Rattle.forec_check.specs.Views.{judging_in};
 
 use crate::rules::least::keep_fault;
+use crate::walk::context::Context;
 use forec_base::{Labels, Place};
-use forec_tree::{Fault, GlobalKind, How, Meaning, Name};
+use forec_tree::{Fault, GlobalKind, How, Meaning, Name, rule};
 
 fn fits_use(how: How, means: Meaning) -> bool
     ensures { result ≡ rules.fits_use how means }
@@ -163,26 +164,50 @@ fn runs_void_inside(gives: bool, how: How, means: Meaning) -> bool
 
 /// The faults of one use.
 pub fn judge_use(
-    names: &Labels,
-    gives: bool,
+    context: &Context<'_, '_>,
     how: How,
     name: Name,
     means: Meaning,
     least: &mut Option<Fault>,
 )
-    ensures { least.new ≡ judged (judging names.now gives) (Use how name means ∷ []) least.old }
+    ensures { least.new ≡ judged (judging_in context.now) (Use how name means ∷ []) least.old }
 {
-    keep_fault(least, is_unknown(means), name.place, 1);
-    keep_fault(least, !fits_use(how, means), name.place, 4);
-    keep_fault(least, miscounts(arguments(how), means), name.place, 5);
+    keep_fault(least, is_unknown(means), name.place, rule::NAME_UNDECLARED);
+    keep_fault(least, !fits_use(how, means), name.place, rule::WRONG_KIND);
     keep_fault(
         least,
-        enters_main(names, arguments(how), means, name),
+        miscounts(arguments(how), means),
         name.place,
-        7,
+        rule::WRONG_ARGUMENTS,
     );
-    keep_fault(least, writes_input(how, means), name.place, 8);
-    keep_fault(least, writes_constant(how, means), name.place, 9);
-    keep_fault(least, names_changing(gives, means), name.place, 11);
-    keep_fault(least, runs_void_inside(gives, how, means), name.place, 13);
+    keep_fault(
+        least,
+        enters_main(context.names, arguments(how), means, name),
+        name.place,
+        rule::MAIN_CALLED,
+    );
+    keep_fault(
+        least,
+        writes_input(how, means),
+        name.place,
+        rule::INPUT_ASSIGNED,
+    );
+    keep_fault(
+        least,
+        writes_constant(how, means),
+        name.place,
+        rule::CONSTANT_ASSIGNED,
+    );
+    keep_fault(
+        least,
+        names_changing(context.gives, means),
+        name.place,
+        rule::INT_NAMES_GLOBAL,
+    );
+    keep_fault(
+        least,
+        runs_void_inside(context.gives, how, means),
+        name.place,
+        rule::INT_CALLS_VOID,
+    );
 }

@@ -1,10 +1,9 @@
 //! The walk over an expression and the names that it uses.
 
-ghost use Rattle.std.specs.Prelude.{◌≡◌, [], ◌∷◌, OnOk};
-ghost use Rattle.forec_tree.specs.Plain as plain;
-ghost use Rattle.forec_tree.specs.Findings.{use_at, in_term, in_terms};
-ghost use Rattle.forec_check.specs.Views.{judging_in, text_in, scope_of};
-ghost use Rattle.forec_check.specs.Walk.{notes_of, walked, effect_of};
+ghost use Rattle.std.specs.Prelude.{◌≡◌, OnOk};
+ghost use Rattle.forec_check.specs.Views.{scope_of};
+ghost use Rattle.forec_check.specs.Walk.{effect_of};
+ghost use Rattle.forec_check.specs.Walks.{WalksUse, WalksExpression};
 
 use crate::rules::uses::judge_use;
 use crate::scopes::meaning;
@@ -38,10 +37,10 @@ impl Context<'_, '_> {
         name: Name,
         notes: &mut Notes,
     ) -> Result<(), OutOfMemory>
-        ensures { OnOk result (notes_of notes.new ≡ walked (judging_in self.now) (use_at (text_in self.now) (scope_of scope.now) how name ∷ []) (notes_of notes.old)) }
+        ensures { OnOk result (WalksUse self.now (scope_of scope.now) how name notes.old notes.new) }
     {
         let means = meaning(self.index, scope, name.id);
-        judge_use(self.names, self.gives, how, name, means, &mut notes.least);
+        judge_use(self, how, name, means, &mut notes.least);
         if let Some(effect) = effect(how, name.id, means) {
             notes.effects.push(effect)?;
         }
@@ -50,7 +49,7 @@ impl Context<'_, '_> {
 
     /// The faults of an expression.
     pub fn expression(&self, scope: &Scope, e: &Expr, notes: &mut Notes) -> Result<(), OutOfMemory>
-        ensures { OnOk result (notes_of notes.new ≡ walked (judging_in self.now) (in_term (text_in self.now) (scope_of scope.now) (plain.term e.now)) (notes_of notes.old)) }
+        ensures { OnOk result (WalksExpression self.now (scope_of scope.now) e.now notes.old notes.new) }
     {
         match &e.what {
             ExprKind::Number { .. } => Ok(()),

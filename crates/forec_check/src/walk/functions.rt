@@ -1,13 +1,10 @@
 //! The walk over a function: its parameters, then its body.
 
 ghost use Rattle.std.specs.Prelude.{◌≡◌, OnOk};
-ghost use Rattle.forec_tree.specs.Plain as plain;
 ghost use Rattle.forec_tree.specs.Scopes.{with_params};
-ghost use Rattle.forec_tree.specs.Findings.{in_params};
-ghost use Rattle.forec_tree.specs.Faults as faults;
 ghost use Rattle.loop_check.specs.Views.{text_of};
-ghost use Rattle.forec_check.specs.Views.{judging, judging_in, text_in, scope_of, ExtendsScope, SameScope};
-ghost use Rattle.forec_check.specs.Walk.{notes_of, walked};
+ghost use Rattle.forec_check.specs.Views.{scope_of, ExtendsScope, SameScope};
+ghost use Rattle.forec_check.specs.Walks.{WalksParameters, WalksFunction};
 
 use crate::rules::declarations::judge_declared;
 use crate::scopes::scope::Scope;
@@ -24,21 +21,13 @@ impl Context<'_, '_> {
         all: &[Name],
         notes: &mut Notes,
     ) -> Result<(), OutOfMemory>
-        ensures notes { OnOk result (notes_of notes.new ≡ walked (judging_in self.now) (in_params (text_in self.now) (scope_of scope.old) all.now) (notes_of notes.old)) }
+        ensures notes { OnOk result (WalksParameters self.now (scope_of scope.old) all.now notes.old notes.new) }
         ensures scope { OnOk result (scope_of scope.new ≡ with_params (scope_of scope.old) all.now) }
         ensures frame { OnOk result (ExtendsScope scope.old scope.new) }
     {
         for name in all {
             let again = scope.is_here(name.id);
-            judge_declared(
-                self.names,
-                self.gives,
-                *name,
-                again,
-                None,
-                0,
-                &mut notes.least,
-            );
+            judge_declared(self, *name, again, None, 0, &mut notes.least);
             scope.declare(name.id, false)?;
         }
         Ok(())
@@ -53,7 +42,7 @@ pub fn body(
     f: &Function,
     notes: &mut Notes,
 ) -> Result<(), OutOfMemory>
-    ensures notes { OnOk result (notes_of notes.new ≡ walked (judging names.now f.now.gives) (faults.in_function (text_of index.now) (plain.plain_function f.now)) (notes_of notes.old)) }
+    ensures notes { OnOk result (WalksFunction (text_of index.now) names.now f.now notes.old notes.new) }
     ensures same { OnOk result (SameScope scope.old scope.new) }
 {
     let context = Context {

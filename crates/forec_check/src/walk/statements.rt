@@ -1,13 +1,14 @@
 //! The walk over a statement; with rule 12, an int function takes time, and rule 14, a void function returns a value.
 
-ghost use Rattle.std.specs.Prelude.{◌≡◌, [], ◌∷◌, ◌++◌, map, OnOk};
+ghost use Rattle.std.specs.Prelude.{◌≡◌, [], ◌∷◌, map, OnOk};
 ghost use Rattle.forec_tree.specs.Plain as plain;
 ghost use Rattle.forec_tree.specs.Plain.{perhaps_of};
 ghost use Rattle.forec_tree.specs.Scopes.{after, after_perhaps, with_locals, with_name, is_array};
-ghost use Rattle.forec_tree.specs.Findings.{in_terms, in_target, in_local, in_locals, in_statement, in_statements, in_optional, in_perhaps, in_branches, in_bound, Synchronous, Gives, Opens, Closes};
+ghost use Rattle.forec_tree.specs.Findings.{in_bound, Synchronous, Gives, Opens, Closes};
 ghost use Rattle.forec_tree.specs.Scopes as scopes;
-ghost use Rattle.forec_check.specs.Views.{judging_in, text_in, scope_of, ExtendsScope, SameScope};
+ghost use Rattle.forec_check.specs.Views.{judging_in, scope_of, ExtendsScope, SameScope};
 ghost use Rattle.forec_check.specs.Walk.{notes_of, walked};
+ghost use Rattle.forec_check.specs.Walks.{WalksExpressions, WalksOptionalExpression, WalksTarget, WalksLocal, WalksLocals, WalksStatement, WalksOptionalStatement, WalksStatements, WalksBranches};
 
 use crate::rules::declarations::{judge_bound, judge_declared};
 use crate::rules::least::keep_fault;
@@ -15,7 +16,7 @@ use crate::scopes::scope::Scope;
 use crate::walk::context::Context;
 use crate::walk::effects::{Effect, Notes};
 use forec_base::{OutOfMemory, Place};
-use forec_tree::{Branch, Expr, How, Local, Number, Stmt, StmtKind, Target};
+use forec_tree::{Branch, Expr, How, Local, Number, Stmt, StmtKind, Target, rule};
 
 impl Context<'_, '_> {
     fn expressions(
@@ -24,7 +25,7 @@ impl Context<'_, '_> {
         list: &[Expr],
         notes: &mut Notes,
     ) -> Result<(), OutOfMemory>
-        ensures { OnOk result (notes_of notes.new ≡ walked (judging_in self.now) (in_terms (text_in self.now) (scope_of scope.now) (plain.terms list.now)) (notes_of notes.old)) }
+        ensures { OnOk result (WalksExpressions self.now (scope_of scope.now) list.now notes.old notes.new) }
     {
         for e in list {
             self.expression(scope, e, notes)?;
@@ -38,7 +39,7 @@ impl Context<'_, '_> {
         e: &Option<Expr>,
         notes: &mut Notes,
     ) -> Result<(), OutOfMemory>
-        ensures { OnOk result (notes_of notes.new ≡ walked (judging_in self.now) (in_optional (text_in self.now) (scope_of scope.now) (plain.optional_term e.now)) (notes_of notes.old)) }
+        ensures { OnOk result (WalksOptionalExpression self.now (scope_of scope.now) e.now notes.old notes.new) }
     {
         match e {
             None => Ok(()),
@@ -50,7 +51,7 @@ impl Context<'_, '_> {
     }
 
     fn target(&self, scope: &Scope, to: &Target, notes: &mut Notes) -> Result<(), OutOfMemory>
-        ensures { OnOk result (notes_of notes.new ≡ walked (judging_in self.now) (in_target (text_in self.now) (scope_of scope.now) (plain.written to.now)) (notes_of notes.old)) }
+        ensures { OnOk result (WalksTarget self.now (scope_of scope.now) to.now notes.old notes.new) }
     {
         match &to.index {
             None => {
@@ -68,19 +69,24 @@ impl Context<'_, '_> {
     fn judge_synchronous(&self, place: Place, notes: &mut Notes)
         ensures { notes_of notes.new ≡ walked (judging_in self.now) (Synchronous place ∷ []) (notes_of notes.old) }
     {
-        keep_fault(&mut notes.least, self.gives, place, 12);
+        keep_fault(&mut notes.least, self.gives, place, rule::INT_TAKES_TIME);
     }
 
     fn judge_return(&self, place: Place, notes: &mut Notes)
         ensures { notes_of notes.new ≡ walked (judging_in self.now) (Gives place ∷ []) (notes_of notes.old) }
     {
-        keep_fault(&mut notes.least, !self.gives, place, 14);
+        keep_fault(
+            &mut notes.least,
+            !self.gives,
+            place,
+            rule::VOID_RETURNS_VALUE,
+        );
     }
 
     fn bound(&self, bound: Option<Number>, notes: &mut Notes)
         ensures { notes_of notes.new ≡ walked (judging_in self.now) (in_bound bound) (notes_of notes.old) }
     {
-        judge_bound(self.names, self.gives, bound, &mut notes.least);
+        judge_bound(self, bound, &mut notes.least);
     }
 
     fn open_branch(&self, notes: &mut Notes) -> Result<(), OutOfMemory>
@@ -98,14 +104,13 @@ impl Context<'_, '_> {
     }
 
     fn local(&self, scope: &mut Scope, l: &Local, notes: &mut Notes) -> Result<(), OutOfMemory>
-        ensures notes { OnOk result (notes_of notes.new ≡ walked (judging_in self.now) (in_local (text_in self.now) (scope_of scope.old) (plain.declared l.now)) (notes_of notes.old)) }
+        ensures notes { OnOk result (WalksLocal self.now (scope_of scope.old) l.now notes.old notes.new) }
         ensures scope { OnOk result (scope_of scope.new ≡ with_name (scope_of scope.old) l.now.name.id (is_array l.now.length)) }
         ensures frame { OnOk result (ExtendsScope scope.old scope.new) }
     {
         let again = scope.is_here(l.name.id);
         judge_declared(
-            self.names,
-            self.gives,
+            self,
             l.name,
             again,
             l.length,
@@ -123,7 +128,7 @@ impl Context<'_, '_> {
         list: &[Local],
         notes: &mut Notes,
     ) -> Result<(), OutOfMemory>
-        ensures notes { OnOk result (notes_of notes.new ≡ walked (judging_in self.now) (in_locals (text_in self.now) (scope_of scope.old) (map plain.declared list.now)) (notes_of notes.old)) }
+        ensures notes { OnOk result (WalksLocals self.now (scope_of scope.old) list.now notes.old notes.new) }
         ensures scope { OnOk result (scope_of scope.new ≡ with_locals (scope_of scope.old) (map plain.declared list.now)) }
         ensures frame { OnOk result (ExtendsScope scope.old scope.new) }
     {
@@ -135,7 +140,7 @@ impl Context<'_, '_> {
 
     #[cycle(statement)]
     fn statement(&self, scope: &mut Scope, s: &Stmt, notes: &mut Notes) -> Result<(), OutOfMemory>
-        ensures notes { OnOk result (notes_of notes.new ≡ walked (judging_in self.now) (in_statement (text_in self.now) (scope_of scope.old) (plain.statement s.now)) (notes_of notes.old)) }
+        ensures notes { OnOk result (WalksStatement self.now (scope_of scope.old) s.now notes.old notes.new) }
         ensures scope { OnOk result (scope_of scope.new ≡ after (scope_of scope.old) (plain.statement s.now)) }
         ensures frame { OnOk result (ExtendsScope scope.old scope.new) }
     {
@@ -221,7 +226,7 @@ impl Context<'_, '_> {
         s: &Option<Box<Stmt>>,
         notes: &mut Notes,
     ) -> Result<(), OutOfMemory>
-        ensures notes { OnOk result (notes_of notes.new ≡ walked (judging_in self.now) (in_perhaps (text_in self.now) (scope_of scope.old) (perhaps_of s.now)) (notes_of notes.old)) }
+        ensures notes { OnOk result (WalksOptionalStatement self.now (scope_of scope.old) s.now notes.old notes.new) }
         ensures scope { OnOk result (scope_of scope.new ≡ after_perhaps (scope_of scope.old) (perhaps_of s.now)) }
         ensures frame { OnOk result (ExtendsScope scope.old scope.new) }
     {
@@ -242,7 +247,7 @@ impl Context<'_, '_> {
         s: &Option<Box<Stmt>>,
         notes: &mut Notes,
     ) -> Result<(), OutOfMemory>
-        ensures notes { OnOk result (notes_of notes.new ≡ walked (judging_in self.now) (in_perhaps (text_in self.now) (scopes.entered (scope_of scope.old)) (perhaps_of s.now)) (notes_of notes.old)) }
+        ensures notes { OnOk result (WalksOptionalStatement self.now (scopes.entered (scope_of scope.old)) s.now notes.old notes.new) }
         ensures same { OnOk result (SameScope scope.old scope.new) }
     {
         match s {
@@ -262,7 +267,7 @@ impl Context<'_, '_> {
         s: &Stmt,
         notes: &mut Notes,
     ) -> Result<(), OutOfMemory>
-        ensures notes { OnOk result (notes_of notes.new ≡ walked (judging_in self.now) (in_statement (text_in self.now) (scopes.entered (scope_of scope.old)) (plain.statement s.now)) (notes_of notes.old)) }
+        ensures notes { OnOk result (WalksStatement self.now (scopes.entered (scope_of scope.old)) s.now notes.old notes.new) }
         ensures same { OnOk result (SameScope scope.old scope.new) }
     {
         let outer = scope.enter();
@@ -279,7 +284,7 @@ impl Context<'_, '_> {
         body: &[Stmt],
         notes: &mut Notes,
     ) -> Result<(), OutOfMemory>
-        ensures notes { OnOk result (notes_of notes.new ≡ walked (judging_in self.now) (in_statements (text_in self.now) (scope_of scope.old) (plain.statements body.now)) (notes_of notes.old)) }
+        ensures notes { OnOk result (WalksStatements self.now (scope_of scope.old) body.now notes.old notes.new) }
         ensures frame { OnOk result (ExtendsScope scope.old scope.new) }
     {
         for s in body {
@@ -291,7 +296,7 @@ impl Context<'_, '_> {
     /// Statements in a scope of their own.
     #[cycle(statement)]
     fn block(&self, scope: &mut Scope, body: &[Stmt], notes: &mut Notes) -> Result<(), OutOfMemory>
-        ensures notes { OnOk result (notes_of notes.new ≡ walked (judging_in self.now) (in_statements (text_in self.now) (scopes.entered (scope_of scope.old)) (plain.statements body.now)) (notes_of notes.old)) }
+        ensures notes { OnOk result (WalksStatements self.now (scopes.entered (scope_of scope.old)) body.now notes.old notes.new) }
         ensures same { OnOk result (SameScope scope.old scope.new) }
     {
         let outer = scope.enter();
@@ -308,7 +313,7 @@ impl Context<'_, '_> {
         body: &[Stmt],
         notes: &mut Notes,
     ) -> Result<(), OutOfMemory>
-        ensures notes { OnOk result (notes_of notes.new ≡ walked (judging_in self.now) (in_statements (text_in self.now) scopes.no_scope (plain.statements body.now)) (notes_of notes.old)) }
+        ensures notes { OnOk result (WalksStatements self.now scopes.no_scope body.now notes.old notes.new) }
         ensures same { OnOk result (SameScope scope.old scope.new) }
     {
         let outer = scope.hide();
@@ -319,7 +324,7 @@ impl Context<'_, '_> {
 
     #[cycle(statement)]
     fn branch(&self, scope: &mut Scope, one: &Branch, notes: &mut Notes) -> Result<(), OutOfMemory>
-        ensures notes { OnOk result (notes_of notes.new ≡ walked (judging_in self.now) (in_branches (text_in self.now) (scope_of scope.old) (plain.branches (one.now ∷ []))) (notes_of notes.old)) }
+        ensures notes { OnOk result (WalksBranches self.now (scope_of scope.old) (one.now ∷ []) notes.old notes.new) }
         ensures same { OnOk result (SameScope scope.old scope.new) }
     {
         match one {
@@ -344,7 +349,7 @@ impl Context<'_, '_> {
         all: &[Branch],
         notes: &mut Notes,
     ) -> Result<(), OutOfMemory>
-        ensures notes { OnOk result (notes_of notes.new ≡ walked (judging_in self.now) (in_branches (text_in self.now) (scope_of scope.old) (plain.branches all.now)) (notes_of notes.old)) }
+        ensures notes { OnOk result (WalksBranches self.now (scope_of scope.old) all.now notes.old notes.new) }
         ensures same { OnOk result (SameScope scope.old scope.new) }
     {
         for one in all {

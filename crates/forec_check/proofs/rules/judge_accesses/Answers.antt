@@ -6,5 +6,5 @@ use Rattle.forec_check.proofs.rules.judge_accesses.Goals as goal
 
 pub returns-in-None : goal.returns-in-None
 returns-in-None c =
-    let text = text_of c.args.index.now in
-    plains_none text c.args.names.now text c.args.least.now (ap (start_name c.args.names.now) (sym c.requires.items) ∙ sym c.start_name.ensures ∙ c.in-None.is)
+    let text = text_of c.args.symbols.now.index.now in
+    plains_none text c.args.symbols.now.names.now text c.args.least.now (ap (start_name c.args.symbols.now.names.now) (sym c.requires.items) ∙ sym c.start_name.ensures ∙ c.in-None.is)

@@ -7,5 +7,5 @@ use Rattle.forec_check.proofs.rules.plain_globals.judge_plain_globals.Given as g
 
 abbrev pub invariant-loop-item : goal.invariant-loop-item
 invariant-loop-item l =
-    least_from l.least (access_faults (text_of l.index) l.names (map plain.plain_item (drop l.item-index l.items)))
-    ≡ least_from l.fn.least (access_faults (text_of l.index) l.names (text_of l.index))
+    least_from l.least (access_faults (text_of l.symbols.index.now) l.symbols.names.now (map plain.plain_item (drop l.item-index l.items)))
+    ≡ least_from l.fn.least (access_faults (text_of l.symbols.index.now) l.symbols.names.now (text_of l.symbols.index.now))

@@ -11,28 +11,28 @@ use Rattle.forec_check.proofs.rules.recursion.judge_recursive.Goals as goal
 
 pub returns-in-Global : goal.returns-in-Global
 returns-in-Global c =
-    let text = text_of c.args.index.now in
+    let text = text_of c.args.symbols.now.index.now in
     let x = plain_item c.args.item.now in
-    nothing_new text c.args.names.now c.args.at x c.requires.item c.args.least.now
+    nothing_new text c.args.symbols.now.names.now c.args.at x c.requires.item c.args.least.now
     (λ f k e. absurd (let q : IsFunction k.function ≡ IsGlobal (plain_global c.in-Global.global) = e ∙ ap plain_item c.in-Global.is in cc)) c.requires.kept
 
 pub returns-then-named_before : goal.returns-then-named_before
 returns-then-named_before c =
-    let text = text_of c.args.index.now in
+    let text = text_of c.args.symbols.now.index.now in
     let x = plain_item c.args.item.now in
     let is : x ≡ IsFunction (plain_function c.in-Function.function) = ap plain_item c.in-Function.is in
     let named : item_named (name_of x).id (take c.args.at text) ≡ true =
     ap (λ i. item_named (name_of i).id (take c.args.at text)) is ∙ sym c.named_before.ensures ∙ c.if-named_before.true in
-    nothing_new text c.args.names.now c.args.at x c.requires.item c.args.least.now (named_old text c.args.names.now c.args.at x c.requires.item named) c.requires.kept
+    nothing_new text c.args.symbols.now.names.now c.args.at x c.requires.item c.args.least.now (named_old text c.args.symbols.now.names.now c.args.at x c.requires.item named) c.requires.kept
 
 pub returns-then-is_waiting : goal.returns-then-is_waiting
 returns-then-is_waiting c =
-    let text = text_of c.args.index.now in
+    let text = text_of c.args.symbols.now.index.now in
     let x = plain_item c.args.item.now in
-    let functions = c.args.calls.now.functions.items in
-    let calls = callees c.args.calls.now.lists.items in
+    let functions = c.args.known.now.calls.now.functions.items in
+    let calls = callees c.args.known.now.calls.now.lists.items in
     let is : x ≡ IsFunction (plain_function c.in-Function.function) = ap plain_item c.in-Function.is in
-    nothing_new text c.args.names.now c.args.at x c.requires.item c.args.least.now
+    nothing_new text c.args.symbols.now.names.now c.args.at x c.requires.item c.args.least.now
     (λ f k e.
     let same : k.function ≡ plain_function c.in-Function.function = (let q : IsFunction k.function ≡ IsFunction (plain_function c.in-Function.function) = e ∙ is in cc) in
     let leads : Leads (calls_of text) c.in-Function.function.name.id c.in-Function.function.name.id = subst (λ (h : PlainFunction). Leads (calls_of text) h.name.id h.name.id) same k.reaches in
@@ -41,24 +41,24 @@ returns-then-is_waiting c =
 
 pub returns-in_ok-reaches-in-Function : goal.returns-in_ok-reaches-in-Function
 returns-in_ok-reaches-in-Function c =
-    let text = text_of c.args.index.now in
+    let text = text_of c.args.symbols.now.index.now in
     let x = plain_item c.args.item.now in
     let f = plain_function c.in-Function.function in
-    let functions = c.args.calls.now.functions.items in
-    let calls = callees c.args.calls.now.lists.items in
+    let functions = c.args.known.now.calls.now.functions.items in
+    let calls = callees c.args.known.now.calls.now.lists.items in
     let is : x ≡ IsFunction f = ap plain_item c.in-Function.is in
     let named : item_named (name_of x).id (take c.args.at text) ≡ false =
     ap (λ i. item_named (name_of i).id (take c.args.at text)) is ∙ sym c.named_before.ensures ∙ c.if-named_before.false in
     let same = λ (l : Leads (callees c.deref-in-Function.result.now) f.name.id f.name.id). subst (λ l. Leads (callees l) f.name.id f.name.id) c.deref-in-Function.ensures.value l in
     let back = λ (l : Leads calls f.name.id f.name.id). subst (λ l. Leads (callees l) f.name.id f.name.id) (sym c.deref-in-Function.ensures.value) l in
-    one_more text c.args.names.now c.args.at x c.requires.item c.args.least.now c.keep_fault.new.least f c.in_ok-reaches-in-Function.reaches is named
+    one_more text c.args.symbols.now.names.now c.args.at x c.requires.item c.args.least.now c.keep_fault.new.least f c.in_ok-reaches-in-Function.reaches is named
     (λ e. leads_same calls (calls_of text) (graph_is text functions calls c.requires.read) (same (c.in_ok-reaches-in-Function.ensures.reaches e)))
     (λ l. c.in_ok-reaches-in-Function.ensures.found (back (leads_same (calls_of text) calls (λ g. sym (graph_is text functions calls c.requires.read g)) l)))
     c.keep_fault.ensures c.requires.kept
 
 pub returns-then-not-is_less : goal.returns-then-not-is_less
 returns-then-not-is_less c =
-    let text = text_of c.args.index.now in
+    let text = text_of c.args.symbols.now.index.now in
     let x = plain_item c.args.item.now in
-    no_less text c.args.names.now c.args.at x c.requires.item c.args.least.now (plain_function c.in-Function.function) (ap plain_item c.in-Function.is)
+    no_less text c.args.symbols.now.names.now c.args.at x c.requires.item c.args.least.now (plain_function c.in-Function.function) (ap plain_item c.in-Function.is)
     (sym c.is_less.ensures ∙ c.if-not-is_less.true) c.requires.kept
