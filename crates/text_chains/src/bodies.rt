@@ -1,13 +1,12 @@
 //! What statements bring.
 
-ghost use Rattle.std.specs.Prelude.{◌≡◌, ◌≤◌, ◌+◌, ℕ};
+ghost use Rattle.std.specs.Prelude.{◌≡◌, ◌≤◌, ℕ};
 ghost use Rattle.forec_tree.specs.Plain as plain;
 ghost use Rattle.forec_tree.specs.Plain.{perhaps_of};
-ghost use Rattle.forec_tree.specs.Terms as plain_tree;
 ghost use Rattle.text_chains.specs.declared.tally.Tally.{Tally};
 ghost use Rattle.text_chains.specs.Tallies as of;
 ghost use Rattle.text_chains.specs.Tallies.{tally_at};
-ghost use Rattle.text_chains.specs.Views.{value_by};
+ghost use Rattle.text_chains.specs.Views.{value_by, AddsTally, AddsNaming};
 
 use crate::tally::{Tally, Weights, calling, joined, known_of, nothing, started};
 use crate::terms::{hides_locals, locals, optional_term, sets, target, term, terms};
@@ -126,10 +125,8 @@ pub fn all(w: &Weights<'_>, table: &[Tally], hidden: bool, list: &[Stmt]) -> Tal
 /// A branch of a `par`, and the arguments that its thread gets.
 #[cycle(statement)]
 fn branch(w: &Weights<'_>, table: &[Tally], hidden: bool, b: &Branch) -> Spread
-    ensures tally { (rest : plain_tree.Branches) → of.joined result.tally (of.branches_tally w.now.variable (value_by w.now) w.now.worth (tally_at table.now) hidden rest)
-        ≡ of.branches_tally w.now.variable (value_by w.now) w.now.worth (tally_at table.now) hidden (plain.branch_with b.now rest) }
-    ensures naming { (rest : plain_tree.Branches) → result.naming + of.count_naming w.now.variable (value_by w.now) w.now.worth (tally_at table.now) rest
-        ≡ of.count_naming w.now.variable (value_by w.now) w.now.worth (tally_at table.now) (plain.branch_with b.now rest) }
+    ensures tally { AddsTally w.now table.now hidden b.now result.tally }
+    ensures naming { AddsNaming w.now table.now b.now result.naming }
     ensures one { result.naming ≤ 1 }
 {
     match b {

@@ -13,7 +13,7 @@ ghost use Rattle.text_kernel.specs.Items.{globals_of};
 ghost use Rattle.text_kernel.specs.Kernels.{kernel_of, main_id, variable_items};
 ghost use Rattle.text_chains.specs.Tallies as of;
 ghost use Rattle.text_chains.specs.Peaks as peaks;
-ghost use Rattle.text_chains.specs.Views.{value_by, Settled};
+ghost use Rattle.text_chains.specs.Views.{value_by, Settled, HasTallies};
 
 use crate::bodies::all;
 use crate::tally::{Tally, Weights, known_of, nothing, started, value};
@@ -51,7 +51,7 @@ fn put(table: &mut Vec<Tally>, id: u32, known: Tally) -> Result<(), OutOfMemory>
 /// What each function brings, each after those that it calls or starts.
 fn table_of(alloc: Global, w: &Weights<'_>, order: &[u32]) -> Result<Vec<Tally>, OutOfMemory>
     requires { Settled (text_of w.now.globals.now.index) order.now }
-    ensures { IfOk result (λ table. (id : ℕ) → of.tally_at table.items id ≡ of.tally_value w.now.variable (value_by w.now) w.now.worth (text_of w.now.globals.now.index) id) }
+    ensures { IfOk result (λ table. HasTallies w.now table.items) }
 {
     let mut table = Vec::new(alloc);
     for f in order {

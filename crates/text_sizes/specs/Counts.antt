@@ -1,6 +1,8 @@
 -- How many terms the lowering of a text has, counted on the text: its own, and those of the threads below.
-use Rattle.std.specs.Prelude.{ℕ, zero, suc, ◌+◌, Option, Some, None, List, [], ◌∷◌, length}
+use Rattle.std.specs.Prelude.{ℕ, zero, suc, ◌+◌, ◌-◌, ◌^◌, ◌≡◌, min, Option, Some, None, List, [], ◌∷◌, length}
+use Rattle.forec_tree.specs.declared.tree.Expr.{Expr}
 use Rattle.forec_tree.specs.declared.tree.OpAt.{OpAt}
+use Rattle.forec_tree.specs.Plain as plain
 use Rattle.forec_tree.specs.Terms.{Term, Num, Read, Element, Un, Bin, And, Or, Choose, Call, Terms, no_terms, more_terms, count_terms, Declared, Statement, Declare, Nothing, Group, Assign, Invoke, If, While, For, Pause, Par, Abort, Return, Statements, no_statements, more_statements, Perhaps, absent, present, Branches, no_branches, by_call, by_group, Text, PlainFunction}
 use Rattle.forec_tree.specs.Pauses.{find_function}
 use Rattle.text_kernel.specs.Bindings.{slots_of}
@@ -55,6 +57,10 @@ assign_count (Some i) op value = 1 + term_count i + operated_count op (1 + term_
 abbrev pub sets_count : Terms → ℕ
 sets_count no_terms = 0
 sets_count (more_terms e rest) = (1 + term_count e) + sets_count rest
+
+-- the terms of a call that is put in place, whose body has so many, up to the greatest number of 64 bits
+abbrev pub IsCallTerms : List Expr → ℕ → ℕ → Type 0
+IsCallTerms args body n = n ≡ min (sequence_count (suc (count_terms (plain.terms args))) (sets_count (plain.terms args) + body)) (2 ^ 64 - 1)
 
 abbrev pub optional_count : Option Term → ℕ
 optional_count None = 1

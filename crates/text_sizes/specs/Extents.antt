@@ -1,5 +1,7 @@
 -- How many terms functions have that are put in place, and the threads below them.
-use Rattle.std.specs.Prelude.{ℕ, ◌+◌, ◌-◌, ◌^◌, min, Option, Some, None, List, [], ◌∷◌, length, slice_index_or}
+use Rattle.std.specs.Prelude.{ℕ, ◌+◌, ◌-◌, ◌^◌, ◌≡◌, min, Option, Some, None, List, [], ◌∷◌, length, slice_index_or}
+use Rattle.forec_tree.specs.declared.tree.Stmt.{Stmt}
+use Rattle.forec_tree.specs.Plain as plain
 use Rattle.forec_tree.specs.Terms.{Text, PlainFunction}
 use Rattle.forec_tree.specs.Pauses.{within, find_function}
 use Rattle.text_sizes.specs.declared.extents.Extent.{Extent}
@@ -17,6 +19,11 @@ own_at table id = (extent_at table id).own
 
 abbrev pub under_at : List Extent → ℕ → ℕ
 under_at table id = (extent_at table id).under
+
+-- the terms of statements as one, up to the greatest number of 64 bits
+abbrev pub IsBlockTerms : List Extent → List Stmt → ℕ → Type 0
+IsBlockTerms table body n =
+    n ≡ min (sequence_count (statement_count (plain.statements body)) (own_all (own_at table) (plain.statements body))) (2 ^ 64 - 1)
 
 -- with how a count is kept
 abbrev pub extent_by : (ℕ → ℕ) → (ℕ → Extent) → Option PlainFunction → Extent

@@ -9,7 +9,7 @@ ghost use Rattle.forec_tree.specs.Plain.{perhaps_of};
 ghost use Rattle.loop_check.specs.Views.{text_of};
 ghost use Rattle.forec_check.specs.Table.{put_at, Settles};
 ghost use Rattle.text_sizes.specs.Counts as counts;
-ghost use Rattle.text_sizes.specs.Extents.{nothing, extent_at, own_at, under_at, extent_step, capped, extent_value, counts_of};
+ghost use Rattle.text_sizes.specs.Extents.{nothing, extent_at, own_at, under_at, extent_step, capped, extent_value, counts_of, IsBlockTerms};
 ghost use Rattle.text_kernel.specs.Items.{functions_of};
 ghost use Rattle.text_kernel.specs.Kernels.{kernel_of, int_functions, main_id};
 ghost use Rattle.text_kernel.specs.Limits.{amount};
@@ -127,7 +127,7 @@ fn all_own(table: &[Extent], list: &[Stmt]) -> u64
 /// The terms of statements as one.
 #[cycle(own)]
 fn block(table: &[Extent], list: &[Stmt]) -> u64
-    ensures { result ≡ min (counts.sequence_count (counts.statement_count (plain.statements list.now)) (counts.own_all (own_at table.now) (plain.statements list.now))) (2 ^ 64 - 1) }
+    ensures { IsBlockTerms table.now list.now result }
 {
     sequence(list.len(), all_own(table, list))
 }

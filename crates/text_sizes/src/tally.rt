@@ -1,8 +1,7 @@
 //! How many terms the translation of expressions and declarations has, up to the greatest `u64`.
 
-ghost use Rattle.std.specs.Prelude.{◌≡◌, ◌+◌, ◌-◌, ◌^◌, suc, min, map};
+ghost use Rattle.std.specs.Prelude.{◌≡◌, ◌+◌, ◌-◌, ◌^◌, min, map};
 ghost use Rattle.forec_tree.specs.Plain as plain;
-ghost use Rattle.forec_tree.specs.Terms as tree;
 ghost use Rattle.text_sizes.specs.Counts as counts;
 
 use forec_tree::{Branch, Expr, ExprKind, Local, OpAt, Target};
@@ -138,7 +137,7 @@ pub fn assign_terms(target: &Target, op: Option<OpAt>, value: &Expr) -> u64
 
 /// The terms of a call that is put in place: the arguments are set one by one before the body.
 pub fn call_terms(args: &[Expr], body: u64) -> u64
-    ensures { result ≡ min (counts.sequence_count (suc (tree.count_terms (plain.terms args.now))) (counts.sets_count (plain.terms args.now) + body)) (2 ^ 64 - 1) }
+    ensures { counts.IsCallTerms args.now body result }
 {
     sequence(args.len() + 1, add(sets(args), body))
 }

@@ -1,15 +1,13 @@
 //! The widest and the deepest of the threads below text, up to the greatest `u64`.
 
-ghost use Rattle.std.specs.Prelude.{◌≡◌, ◌-◌, ◌^◌, ℕ, min, IfOk, OnOk};
-ghost use Rattle.forec_tree.specs.Plain as plain;
+ghost use Rattle.std.specs.Prelude.{◌≡◌, ℕ, IfOk, OnOk};
 ghost use Rattle.forec_tree.specs.Faults.{Leads};
 ghost use Rattle.forec_tree.specs.Pauses.{starts};
-ghost use Rattle.forec_tree.specs.Plain.{perhaps_of};
 ghost use Rattle.loop_check.specs.Views.{text_of};
 ghost use Rattle.forec_check.specs.Table.{put_at, Settles};
-ghost use Rattle.text_sizes.specs.Counts as counts;
 ghost use Rattle.text_sizes.specs.Extents.{capped};
 ghost use Rattle.text_sizes.specs.Spans as of;
+ghost use Rattle.text_sizes.specs.Spans.{IsWidest, IsWidestOfOptional, IsWidestOfAll, IsWidestOfBranches, IsDeepest, IsDeepestOfOptional, IsDeepestOfAll, IsDeepestOfBranches};
 
 use crate::span::{Span, all_slots, arguments, block_levels, no_span, span_of};
 use crate::tally::add;
@@ -21,7 +19,7 @@ use std::alloc::Global;
 /// The words of the widest thread below a statement.
 #[cycle(widest)]
 fn widest(table: &[Span], s: &Stmt) -> u64
-    ensures { result ≡ min (of.most (of.words_by (of.slots_at table.now)) (counts.slots_all (of.slots_at table.now)) (of.widest_at table.now) (plain.statement s.now)) (2 ^ 64 - 1) }
+    ensures { IsWidest table.now s.now result }
 {
     match &s.what {
         StmtKind::Group { body } => all_widest(table, body.as_slice()),
@@ -49,7 +47,7 @@ fn widest(table: &[Span], s: &Stmt) -> u64
 
 #[cycle(widest)]
 fn optional_widest(table: &[Span], s: &Option<Box<Stmt>>) -> u64
-    ensures { result ≡ min (of.most_perhaps (of.words_by (of.slots_at table.now)) (counts.slots_all (of.slots_at table.now)) (of.widest_at table.now) (perhaps_of s.now)) (2 ^ 64 - 1) }
+    ensures { IsWidestOfOptional table.now s.now result }
 {
     match s {
         None => 0,
@@ -59,7 +57,7 @@ fn optional_widest(table: &[Span], s: &Option<Box<Stmt>>) -> u64
 
 #[cycle(widest)]
 fn all_widest(table: &[Span], list: &[Stmt]) -> u64
-    ensures { result ≡ min (of.most_all (of.words_by (of.slots_at table.now)) (counts.slots_all (of.slots_at table.now)) (of.widest_at table.now) (plain.statements list.now)) (2 ^ 64 - 1) }
+    ensures { IsWidestOfAll table.now list.now result }
 {
     let mut most = 0u64;
     for s in list {
@@ -70,7 +68,7 @@ fn all_widest(table: &[Span], list: &[Stmt]) -> u64
 
 #[cycle(widest)]
 fn branches_widest(table: &[Span], list: &[Branch]) -> u64
-    ensures { result ≡ min (of.most_branches (of.words_by (of.slots_at table.now)) (counts.slots_all (of.slots_at table.now)) (of.widest_at table.now) (plain.branches list.now)) (2 ^ 64 - 1) }
+    ensures { IsWidestOfBranches table.now list.now result }
 {
     let mut most = 0u64;
     for branch in list {
@@ -93,7 +91,7 @@ fn branches_widest(table: &[Span], list: &[Branch]) -> u64
 /// How many statements stand in one another in the deepest thread below a statement.
 #[cycle(deepest)]
 fn deepest(table: &[Span], s: &Stmt) -> u64
-    ensures { result ≡ min (of.most (of.levels_by (of.levels_at table.now)) (of.block_levels (of.levels_at table.now)) (of.deepest_at table.now) (plain.statement s.now)) (2 ^ 64 - 1) }
+    ensures { IsDeepest table.now s.now result }
 {
     match &s.what {
         StmtKind::Group { body } => all_deepest(table, body.as_slice()),
@@ -121,7 +119,7 @@ fn deepest(table: &[Span], s: &Stmt) -> u64
 
 #[cycle(deepest)]
 fn optional_deepest(table: &[Span], s: &Option<Box<Stmt>>) -> u64
-    ensures { result ≡ min (of.most_perhaps (of.levels_by (of.levels_at table.now)) (of.block_levels (of.levels_at table.now)) (of.deepest_at table.now) (perhaps_of s.now)) (2 ^ 64 - 1) }
+    ensures { IsDeepestOfOptional table.now s.now result }
 {
     match s {
         None => 0,
@@ -131,7 +129,7 @@ fn optional_deepest(table: &[Span], s: &Option<Box<Stmt>>) -> u64
 
 #[cycle(deepest)]
 fn all_deepest(table: &[Span], list: &[Stmt]) -> u64
-    ensures { result ≡ min (of.most_all (of.levels_by (of.levels_at table.now)) (of.block_levels (of.levels_at table.now)) (of.deepest_at table.now) (plain.statements list.now)) (2 ^ 64 - 1) }
+    ensures { IsDeepestOfAll table.now list.now result }
 {
     let mut most = 0u64;
     for s in list {
@@ -142,7 +140,7 @@ fn all_deepest(table: &[Span], list: &[Stmt]) -> u64
 
 #[cycle(deepest)]
 fn branches_deepest(table: &[Span], list: &[Branch]) -> u64
-    ensures { result ≡ min (of.most_branches (of.levels_by (of.levels_at table.now)) (of.block_levels (of.levels_at table.now)) (of.deepest_at table.now) (plain.branches list.now)) (2 ^ 64 - 1) }
+    ensures { IsDeepestOfBranches table.now list.now result }
 {
     let mut most = 0u64;
     for branch in list {
