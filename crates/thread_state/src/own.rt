@@ -2,14 +2,11 @@
 //! branches of each par.
 
 ghost use Rattle.std.specs.Prelude.{◌≡◌, ◌<◌, ◌≤◌, length, get_or, true, false, cond, IfOk};
-ghost use Rattle.forec_kernel.specs.Shapes.{plain_shape};
-ghost use Rattle.thread_code.specs.Valid.{FineShape};
-ghost use Rattle.thread_state.specs.Pars.{HavePars};
 ghost use Rattle.thread_state.specs.Kept.{Kept, AreIndexed, place_in, no_copy, with_copy, with_copy_at, with_flag, with_live_at, without_branches, begun, with_copies, HavePlaces, handed_by};
 
 use crate::pars::Pars;
 use forec_base::OutOfMemory;
-use forec_kernel::{Shape, VarCopy};
+use forec_kernel::VarCopy;
 use std::alloc::Global;
 use std::marker::Model;
 
@@ -61,19 +58,24 @@ fn note(start: u32, live: bool) -> u32
 }
 
 impl Own {
-    /// A copy for each of these variables, so many flags, a note for each thread of a shape, and the
-    /// branches of its pars.
+    /// A copy for each of these variables, so many flags, a note for each of so many threads, and the
+    /// branches of these pars.
     ///
     /// # Errors
     ///
     /// Want of memory.
-    pub fn new(alloc: Global, uses: &[u32], flags: u32, shape: &Shape) -> Result<Own, OutOfMemory>
-        requires { FineShape (plain_shape shape.now) }
+    pub fn new(
+        alloc: Global,
+        uses: &[u32],
+        flags: u32,
+        threads: usize,
+        pars: Pars,
+    ) -> Result<Own, OutOfMemory>
         ensures copies { IfOk result (λ k. length k.copies ≡ length uses.now) }
         ensures places { IfOk result (λ k. AreIndexed uses.now k.places) }
         ensures flags { IfOk result (λ k. length k.flags ≡ flags) }
-        ensures live { IfOk result (λ k. length k.live ≡ length (plain_shape shape.now).threads) }
-        ensures pars { IfOk result (λ k. HavePars (plain_shape shape.now) k.pars) }
+        ensures live { IfOk result (λ k. length k.live ≡ threads) }
+        ensures pars { IfOk result (λ k. k.pars ≡ pars) }
     {
         let unset = VarCopy {
             value: 0,
@@ -83,9 +85,9 @@ impl Own {
             copies: vec![in alloc; unset; uses.len()]?,
             places: places_of(alloc, uses)?,
             flags: vec![in alloc; false; flags as usize]?,
-            live: vec![in alloc; 0; shape.threads.len()]?,
+            live: vec![in alloc; 0; threads]?,
             start: 1,
-            pars: Pars::new(alloc, shape)?,
+            pars,
         })
     }
 

@@ -9,6 +9,7 @@ use forec_base::OutOfMemory;
 use forec_kernel::Shape;
 use std::alloc::Global;
 use std::marker::Model;
+use std::sync::Arc;
 
 /// What stands after a thread in its par.
 #[derive(Clone, Copy)]
@@ -21,12 +22,12 @@ pub struct Sibling {
 
 /// The first branch of each par, and for each thread what stands after it in its par.
 #[derive(Drop)]
-pub struct Pars {
+struct Table {
     firsts: Vec<Option<u32>>,
     siblings: Vec<Sibling>,
 }
 
-impl Model for Pars {
+impl Model for Table {
     ghost use Rattle.thread_state.specs.Pars.{Links, links_of};
 
     ghost Value = { Links };
@@ -34,13 +35,13 @@ impl Model for Pars {
     ghost view = { λ p. links_of p.firsts.items p.siblings.items };
 }
 
-impl Pars {
+impl Table {
     /// The pars of a shape.
     ///
     /// # Errors
     ///
     /// Want of memory.
-    pub fn new(alloc: Global, shape: &Shape) -> Result<Pars, OutOfMemory>
+    fn new(alloc: Global, shape: &Shape) -> Result<Table, OutOfMemory>
         requires { FineShape (plain_shape shape.now) }
         ensures { IfOk result (λ p. HavePars (plain_shape shape.now) p) }
     {
@@ -49,7 +50,7 @@ impl Pars {
             arguments: 0,
         };
         let count = shape.threads.len();
-        let mut pars = Pars {
+        let mut pars = Table {
             firsts: vec![in alloc; None; count]?,
             siblings: vec![in alloc; none; count]?,
         };
@@ -82,7 +83,7 @@ impl Pars {
     }
 
     /// How many arguments a branch and all after it in its par have together; 0 where there is none.
-    pub fn arguments_from(&self, branch: Option<u32>) -> u32
+    fn arguments_from(&self, branch: Option<u32>) -> u32
         requires { IfSome branch (λ b. b < length self.now.siblings) }
         ensures { result ≡ arguments_from self.now.siblings branch }
     {
@@ -93,7 +94,7 @@ impl Pars {
     }
 
     /// The first branch of a par.
-    pub fn first(&self, par: u32) -> Option<u32>
+    fn first(&self, par: u32) -> Option<u32>
         ensures { result ≡ first_of self.now par }
     {
         match self.firsts.get(par as usize) {
@@ -103,10 +104,78 @@ impl Pars {
     }
 
     /// The next branch after one of a par.
-    pub fn next(&self, branch: u32) -> Option<u32>
+    fn next(&self, branch: u32) -> Option<u32>
         requires { branch < length self.now.siblings }
         ensures { result ≡ (sibling_at self.now.siblings branch).next }
     {
         self.siblings[branch as usize].next
+    }
+}
+
+/// The pars of a code, in one table that all its threads share.
+#[derive(Drop)]
+pub struct Pars {
+    table: Arc<Table>,
+}
+
+impl Model for Pars {
+    ghost use Rattle.std.specs.Arc.{arc_value};
+    ghost use Rattle.thread_state.specs.Pars.{Links};
+
+    ghost Value = { Links };
+
+    ghost view = { λ p. arc_value p.table };
+}
+
+impl Pars {
+    /// The pars of a shape.
+    ///
+    /// # Errors
+    ///
+    /// Want of memory.
+    pub fn new(alloc: Global, shape: &Shape) -> Result<Pars, OutOfMemory>
+        requires { FineShape (plain_shape shape.now) }
+        ensures { IfOk result (λ p. HavePars (plain_shape shape.now) p) }
+    {
+        let table = Table::new(alloc, shape)?;
+        Ok(Pars {
+            table: Arc::new(alloc, table)?,
+        })
+    }
+
+    /// The same table once more, for another thread.
+    ///
+    /// # Errors
+    ///
+    /// More threads than can be counted.
+    pub fn shared(&self) -> Result<Pars, OutOfMemory>
+        ensures { IfOk result (λ p. p ≡ self.now) }
+    {
+        Ok(Pars {
+            table: Arc::try_clone(&self.table)?,
+        })
+    }
+
+    /// How many arguments a branch and all after it in its par have together; 0 where there is none.
+    pub fn arguments_from(&self, branch: Option<u32>) -> u32
+        requires { IfSome branch (λ b. b < length self.now.siblings) }
+        ensures { result ≡ arguments_from self.now.siblings branch }
+    {
+        self.table.arguments_from(branch)
+    }
+
+    /// The first branch of a par.
+    pub fn first(&self, par: u32) -> Option<u32>
+        ensures { result ≡ first_of self.now par }
+    {
+        self.table.first(par)
+    }
+
+    /// The next branch after one of a par.
+    pub fn next(&self, branch: u32) -> Option<u32>
+        requires { branch < length self.now.siblings }
+        ensures { result ≡ (sibling_at self.now.siblings branch).next }
+    {
+        self.table.next(branch)
     }
 }

@@ -8,7 +8,7 @@ use Rattle.thread_state.proofs.Shapes.{read_params}
 use Rattle.thread_state.proofs.Shapes.{few_branches}
 use Rattle.thread_state.proofs.Links.{LinkedFrom, linked_root, linked_branch, par_below, lead_small, lead_within, lead_arguments}
 use Rattle.thread_state.proofs.Living.{read_plain}
-use Rattle.thread_state.proofs.pars.Pars.new.Goals as goal
+use Rattle.thread_state.proofs.pars.Table.new.Goals as goal
 
 pub put_first-requires-clause-par : goal.put_first-requires-clause-par
 put_first-requires-clause-par c =

@@ -1,7 +1,7 @@
 use Rattle.std.proofs.Common.{◌≤◌, length}
 use Rattle.forec_kernel.specs.Shapes.{plain_shape}
 use Rattle.thread_state.proofs.Links.{LinkedFrom}
-use Rattle.thread_state.proofs.pars.Pars.new.Given as goal
+use Rattle.thread_state.proofs.pars.Table.new.Given as goal
 
 abbrev pub invariant-loop-thread : goal.invariant-loop-thread
 invariant-loop-thread l = record {
