@@ -13,6 +13,7 @@ pub mod Seeds
 pub mod Folds
 pub mod FoldRuns
 pub mod FoldLoop
+pub mod AtOnce
 pub mod Offering
 pub mod Combining
 pub mod Back

@@ -6,6 +6,7 @@ mod depths;
 mod fork;
 mod laws;
 mod merging;
+mod operators;
 mod room;
 mod thread;
 
