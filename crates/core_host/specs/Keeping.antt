@@ -3,7 +3,7 @@ use Rattle.std.specs.Prelude.{ℕ, suc, ◌≡◌, ◌<◌, ◌≤◌, true, fal
 use Rattle.forec_base.specs.declared.limits.TheConstants.{MAX_THREADS}
 use Rattle.forec_kernel.specs.Packets.{IsPaused, PlainPacket}
 use Rattle.forec_kernel.specs.Packed.{HasRoom, AreJobs, IsReply, PacketAnswers}
-use Rattle.forec_kernel.specs.Engine.{Job, Start, Wake, Reply, Written}
+use Rattle.forec_kernel.specs.Engine.{Job, Start, Wake, Reply, Written, Exchange}
 use Rattle.thread_code.specs.declared.instruction.CodeParts.{CodeParts}
 use Rattle.thread_code.specs.Plain.{PlainCode, plain_code}
 use Rattle.thread_code.specs.Valid.{of_shape, IsValidCode}
@@ -11,8 +11,8 @@ use Rattle.thread_code.specs.Alone.{CodeAlone}
 use Rattle.combine_tree.specs.declared.packet.Packet.{Packet}
 use Rattle.combine_tree.specs.Plain.{plain_packet}
 use Rattle.core_machine.specs.declared.thread.Thread.{Thread}
-use Rattle.core_machine.specs.Held.{Loaded, IsResting, HasPaused, HasSettled}
-use Rattle.core_machine.specs.Forks.{jobs_at}
+use Rattle.core_machine.specs.Held.{Loaded, IsResting, HasPaused, HasSettled, StandsFor}
+use Rattle.core_machine.specs.Forks.{jobs_at, with_replies}
 use Rattle.copy_slots.specs.declared.view.PacketAt.TheVariants.{Fresh, Held, Out}
 use Rattle.copy_slots.specs.Ports.{sent, taken, answered, parent_at, child_at, ParentIs, ChildIs}
 use Rattle.core_host.specs.declared.seat.Seat.{Seat}
@@ -180,3 +180,11 @@ pub record HasHeard (s : State) (branch : ℕ) (r : Reply) : Type 0 where
 pub record HaveHeard (s : State) (branches : List ℕ) (rs : List Reply) : Type 0 where
   pub count : length rs ≡ length branches
   pub each : (i b : ℕ) (r : Reply) → slice_get branches i ≡ Some b → slice_get rs i ≡ Some r → HasHeard s b r
+
+-- where the thread stood for exchanges with no replies in the last, it stands for them with those that were heard
+abbrev pub SettlesReplies : State → Thread → Thread → Type 0
+SettlesReplies s h h1 = (rs : List Reply) (xs : List Exchange) → HaveHeard s h.branches.numbers rs → StandsFor (code_in s) h (with_replies xs []) → StandsFor (code_in s) h1 (with_replies xs rs)
+
+-- where it stood for them with these, it still does
+abbrev pub JoinsReplies : State → Thread → Thread → Type 0
+JoinsReplies s h h1 = (rs : List Reply) (xs : List Exchange) → HaveHeard s h.branches.numbers rs → StandsFor (code_in s) h (with_replies xs rs) → StandsFor (code_in s) h1 (with_replies xs rs)

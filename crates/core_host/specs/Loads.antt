@@ -6,6 +6,8 @@ use Rattle.forec_kernel.specs.Combining.{contains}
 use Rattle.forec_kernel.specs.WellFormed.{distinct}
 use Rattle.thread_code.specs.declared.instruction.CodeParts.{CodeParts}
 use Rattle.thread_code.specs.Plain.{PlainCode, plain_code}
+use Rattle.combine_tree.specs.declared.packet.Packet.{Packet}
+use Rattle.combine_tree.specs.Plain.{plain_packet}
 use Rattle.core_machine.specs.declared.thread.Thread.{Thread}
 use Rattle.core_machine.specs.Held.{Loaded, IsResting, StandsFor}
 use Rattle.core_host.specs.declared.seat.Seat.{Seat}
@@ -77,6 +79,14 @@ pub record IsNewSeat (c : PlainCode) (t : ℕ) (is_here : Bool) (s : Seat) : Typ
   pub job : s.job ≡ None
   pub here : is_here ≡ true → IsLoaded c t s
   pub else : is_here ≡ false → s.thread ≡ None
+
+-- each thread has such a seat
+abbrev pub AreNewSeats : PlainCode → List ℕ → List ℕ → List Seat → Type 0
+AreNewSeats c places cores seats = (t : ℕ) (core : ℕ) (s : Seat) → slice_get places t ≡ Some core → slice_get seats t ≡ Some s → IsNewSeat c t (contains_core core cores) s
+
+-- each of these packets has the lengths of the thread that its mailbox is of
+abbrev pub HaveRooms : PlainCode → List Packet → Type 0
+HaveRooms c packets = (k : ℕ) (p : Packet) → slice_get packets k ≡ Some p → HasRoom (of_shape c.shape) (suc k) (plain_packet p)
 
 -- these are the mailboxes of the threads on these cores
 pub record AreOwn (places cores own : List ℕ) : Type 0 where

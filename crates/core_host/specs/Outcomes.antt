@@ -1,6 +1,7 @@
 -- How a tick ended, by the reply of its thread.
 use Rattle.std.specs.Prelude.{◌≡◌, ℤ, List, length}
 use Rattle.forec_kernel.specs.declared.shape.Outcome.{Outcome}
+use Rattle.forec_kernel.specs.declared.shape.VarCopy.{VarCopy}
 use Rattle.forec_kernel.specs.declared.shape.Outcome.TheVariants as outcome
 use Rattle.forec_kernel.specs.Engine.{Job, Reply, WasPaused, WasEnded, WasTrapped, WasOver, Answers}
 use Rattle.forec_kernel.specs.Shapes.{PlainShape}
@@ -38,10 +39,14 @@ outcome_in kind.Ended = outcome.Ended
 outcome_in (kind.Trapped place trap) = outcome.Trapped place trap
 outcome_in _ = outcome.Over
 
+-- the values of the outputs, by the copies of thread 0
+abbrev pub outputs_in : PlainShape → List VarCopy → List ℤ
+outputs_in s copies = values_of (uses_in s.threads 0) copies s.outputs
+
 -- a reply of thread 0 tells this outcome, and these outputs where there are any
 abbrev pub ComesTo : PlainShape → Reply → Outcome → List ℤ → Type 0
-ComesTo s (WasPaused copies u) o outputs = (o ≡ outcome.Paused) × (outputs ≡ values_of (uses_in s.threads 0) copies s.outputs)
-ComesTo s (WasEnded copies u) o outputs = (o ≡ outcome.Ended) × (outputs ≡ values_of (uses_in s.threads 0) copies s.outputs)
+ComesTo s (WasPaused copies u) o outputs = (o ≡ outcome.Paused) × (outputs ≡ outputs_in s copies)
+ComesTo s (WasEnded copies u) o outputs = (o ≡ outcome.Ended) × (outputs ≡ outputs_in s copies)
 ComesTo s (WasTrapped place trap u) o outputs = o ≡ outcome.Trapped place trap
 ComesTo s WasOver o outputs = o ≡ outcome.Over
 

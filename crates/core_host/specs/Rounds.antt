@@ -1,7 +1,7 @@
 -- How a host goes round its mailboxes.
 use Rattle.std.specs.Prelude.{ℕ, ◌≡◌, ◌<◌, ◌≤◌, List, Some, length, slice_get}
 use Rattle.core_host.specs.declared.round.Round.{Round}
-use Rattle.core_host.specs.Changes.{HasProgressed, IsIdle}
+use Rattle.core_host.specs.Changes.{HasWorked, HasProgressed, IsIdle}
 use Rattle.core_host.specs.Hung.{KeepsRope}
 use Rattle.core_host.specs.Keeping.{State, code_in}
 use Rattle.core_host.specs.Waiting.{IsBetween}
@@ -27,3 +27,10 @@ pub record SomeWorked (own : List ℕ) (a b : State) : Type 0 where
 -- each of their threads was seen to have nothing to do
 abbrev pub AllIdle : List ℕ → State → State → Type 0
 AllIdle own a b = (i k : ℕ) → slice_get own i ≡ Some k → IsIdle (code_in a).shape a.mail b.mail k
+
+-- of the one at this place: there was something to do for its thread, and it was done, or it was seen to have nothing to do
+abbrev pub WorkedAt : List ℕ → ℕ → State → State → Type 0
+WorkedAt own i a b = (k : ℕ) → slice_get own i ≡ Some k → HasWorked (code_in a).shape a.mail b.mail k
+
+abbrev pub IsIdleAt : List ℕ → ℕ → State → State → Type 0
+IsIdleAt own i a b = (k : ℕ) → slice_get own i ≡ Some k → IsIdle (code_in a).shape a.mail b.mail k

@@ -39,6 +39,10 @@ pub record HasTold (s : State) (t : ℕ) (pairs : List Answered) (out : List Wri
   pub lacks : (k : ℕ) → IsBranchOf (code_in s).shape t k → IsOut (suc k) out → LacksPacket s k
   pub has : (k : ℕ) → k < length s.mail.ends → IsBranchOf (code_in s).shape t k → (IsOut (suc k) out → ⊥) → HasPacket s k
 
+-- the branches of the thread's fork were told their jobs there
+abbrev pub TellsAll : State → State → Thread → Type 0
+TellsAll a b h = (pairs : List Answered) → HasTold a h.number pairs [] → HasTold b h.number pairs (jobs_at (code_in a) h)
+
 -- ---- a thread at a fork
 
 -- number b is a branch of thread t

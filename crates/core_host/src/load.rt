@@ -1,12 +1,11 @@
 //! What a host is made of.
 
-ghost use Rattle.std.specs.Prelude.{◌≡◌, ◌<◌, ◌≤◌, ◌+◌, ◌++◌, ◌∷◌, [], ℕ, suc, cond, All, IfOk, OnOk, Some, None, Option, length, slice_get, replicate, true};
+ghost use Rattle.std.specs.Prelude.{◌≡◌, ◌<◌, ◌≤◌, ◌+◌, ◌++◌, ◌∷◌, [], ℕ, cond, IfOk, OnOk, Some, None, Option, length, slice_get, true};
 ghost use Rattle.forec_base.specs.declared.limits.TheConstants.{MAX_THREADS};
 ghost use Rattle.thread_code.specs.Plain.{plain_code};
 ghost use Rattle.combine_tree.specs.declared.packet.Packet.{Packet as PlainPacketState};
 ghost use Rattle.core_machine.specs.Room.{AreNeeds};
-ghost use Rattle.core_host.specs.declared.seat.Seat.{Seat as SeatState};
-ghost use Rattle.core_host.specs.Loads.{ArePlaced, AreOwn, IsNewSeat, contains_core};
+ghost use Rattle.core_host.specs.Loads.{AreNewSeats, ArePlaced, AreOwn, IsNewSeat, contains_core};
 
 use crate::boxed::Boxed;
 use crate::seat::Seat;
@@ -75,7 +74,7 @@ pub fn seats_of(
     requires count { length places.now ≡ length (plain_code code.now).threads }
     requires few { length places.now ≤ MAX_THREADS }
     ensures count { IfOk result (λ seats. length seats.items ≡ length places.now) }
-    ensures each { IfOk result (λ seats. (t : ℕ) (core : ℕ) (s : SeatState) → slice_get places.now t ≡ Some core → slice_get seats.items t ≡ Some s → IsNewSeat (plain_code code.now) t (contains_core core cores.now) s) }
+    ensures each { IfOk result (λ seats. AreNewSeats (plain_code code.now) places.now cores.now seats.items) }
 {
     let needs = Needs::new(alloc, code)?;
     let mut seats = Vec::new(alloc);

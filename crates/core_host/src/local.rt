@@ -1,13 +1,9 @@
 //! The mailboxes of a whole code in one port.
-ghost use Rattle.std.specs.Prelude.{◌≡◌, ◌<◌, ◌^◌, ℕ, suc, List, All, IsTrue, IfOk, Some, length, slice_get, true};
-ghost use Rattle.forec_kernel.specs.Packed.{HasRoom};
+ghost use Rattle.std.specs.Prelude.{◌≡◌, ◌<◌, ◌^◌, ℕ, suc, List, All, IsTrue, IfOk, length, true};
 ghost use Rattle.forec_kernel.specs.WellFormed.{distinct};
 ghost use Rattle.thread_code.specs.Plain.{plain_code};
-ghost use Rattle.thread_code.specs.Valid.{of_shape};
-ghost use Rattle.combine_tree.specs.declared.packet.Packet.{Packet as PacketState};
-ghost use Rattle.combine_tree.specs.Plain.{plain_packet};
 ghost use Rattle.core_alloc.specs.Places.{Places};
-ghost use Rattle.core_host.specs.Loads.{CanLoad, AreAll};
+ghost use Rattle.core_host.specs.Loads.{CanLoad, AreAll, HaveRooms};
 
 use crate::boxed::Boxed;
 use crate::work::ForecWork;
@@ -25,7 +21,7 @@ use thread_code::Code;
 pub fn blanks(alloc: Global, code: &Code) -> Result<Vec<Boxed<Packet>>, OutOfMemory>
     ensures count { IfOk result (λ packets. suc (length packets.items) ≡ length (plain_code code.now).threads) }
     ensures few { IfOk result (λ packets. length packets.items < 2 ^ 16) }
-    ensures each { IfOk result (λ packets. (k : ℕ) (p : PacketState) → slice_get packets.items k ≡ Some p → HasRoom (of_shape (plain_code code.now).shape) (suc k) (plain_packet p)) }
+    ensures each { IfOk result (λ packets. HaveRooms (plain_code code.now) packets.items) }
 {
     let threads = &code.shape().threads;
     let mut packets = Vec::new(alloc);

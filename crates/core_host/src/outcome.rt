@@ -3,12 +3,11 @@
 ghost use Rattle.std.specs.Prelude.{◌≡◌, IsTrue, length};
 ghost use Rattle.forec_kernel.specs.Packed.{HasRoom};
 ghost use Rattle.forec_kernel.specs.Shapes.{plain_shape};
-ghost use Rattle.forec_kernel.specs.Texts.{uses_in};
 ghost use Rattle.forec_kernel.specs.Ticks.{values_of};
 ghost use Rattle.forec_kernel.specs.WellFormed.{all_below, count_up};
 ghost use Rattle.combine_tree.specs.Plain.{plain_packet};
 ghost use Rattle.thread_code.specs.Valid.{FineShape, of_shape};
-ghost use Rattle.core_host.specs.Outcomes.{IsReplied, outcome_in, HasOutputs, LacksOutputs};
+ghost use Rattle.core_host.specs.Outcomes.{IsReplied, outcome_in, outputs_in, HasOutputs, LacksOutputs};
 
 use combine_tree::{Packet, PacketKind};
 use forec_kernel::{Outcome, Shape, VarCopy};
@@ -30,7 +29,7 @@ pub fn write_outcome(packet: &Packet, shape: &Shape, outputs: &mut [i32]) -> Out
     requires replied { IsReplied packet.now.kind }
     requires outputs { length outputs.old ≡ length (plain_shape shape.now).outputs }
     ensures outcome { result ≡ outcome_in packet.now.kind }
-    ensures outputs { HasOutputs result → outputs.new ≡ values_of (uses_in (plain_shape shape.now).threads 0) packet.now.copies.items (plain_shape shape.now).outputs }
+    ensures outputs { HasOutputs result → outputs.new ≡ outputs_in (plain_shape shape.now) packet.now.copies.items }
     ensures stay { LacksOutputs result → outputs.new ≡ outputs.old }
 {
     match packet.kind {

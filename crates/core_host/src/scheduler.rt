@@ -1,20 +1,19 @@
 //! Threads at work, one after the other.
-ghost use Rattle.std.specs.Prelude.{◌≡◌, ◌≢◌, ◌≤◌, ◌<◌, ◌+◌, ◌++◌, ◌∷◌, [], ℕ, suc, List, Some, None, length, slice_get, true, false};
+ghost use Rattle.std.specs.Prelude.{◌≡◌, ◌≢◌, ◌≤◌, ◌<◌, ◌+◌, ◌++◌, suc, List, Some, None, length, slice_get, true, false};
 ghost use Rattle.forec_base.specs.declared.limits.TheConstants.{MAX_BUDGET, MAX_THREADS};
-ghost use Rattle.forec_kernel.specs.Engine.{Job, Reply, Written, Answered, Exchange, pair_up};
+ghost use Rattle.forec_kernel.specs.Engine.{Job, Reply, Written, Answered, pair_up};
 ghost use Rattle.forec_kernel.specs.Packed.{HasRoom, IsJob};
-ghost use Rattle.thread_code.specs.Plain.{plain_code};
 ghost use Rattle.thread_code.specs.Valid.{of_shape};
 ghost use Rattle.combine_tree.specs.Plain.{plain_packet};
 ghost use Rattle.copy_slots.specs.declared.view.PacketAt.TheVariants.{Held};
 ghost use Rattle.copy_slots.specs.Ports.{sent, got, turn, ParentIs};
-ghost use Rattle.core_machine.specs.Held.{Loaded, StandsFor, CanBegin, CanRun, HasReply, HasSettled, HasJoined};
-ghost use Rattle.core_machine.specs.Forks.{jobs_at, with_replies};
+ghost use Rattle.core_machine.specs.Held.{Loaded, CanBegin, CanRun, HasReply, HasSettled, HasJoined};
+ghost use Rattle.core_machine.specs.Forks.{jobs_at};
 ghost use Rattle.core_machine.specs.declared.thread.Thread.{Thread as PlainThread};
 ghost use Rattle.core_machine.specs.Replies.{Replies_by};
 ghost use Rattle.core_host.specs.Changes.{Grown};
-ghost use Rattle.core_host.specs.Done.{Posts, HasDone, InJob};
-ghost use Rattle.core_host.specs.Keeping.{State, code_in, IsSeated, IsFitted, Sits, QuietAbove, HasPacket, LacksPacket, CanSend, IsCalled, IsBack, Leaves, AtFork, HaveHeard};
+ghost use Rattle.core_host.specs.Done.{Posts};
+ghost use Rattle.core_host.specs.Keeping.{State, code_in, IsSeated, IsFitted, Sits, QuietAbove, HasPacket, LacksPacket, CanSend, IsCalled, IsBack, Leaves, AtFork, HaveHeard, SettlesReplies, JoinsReplies};
 ghost use Rattle.core_host.specs.Moving.{MovesPacket, HasSent, HasGot, HasLooked};
 
 use crate::boxed::Boxed;
@@ -48,8 +47,8 @@ impl<'c, P: Port<ForecWork> + Drop> Model for Scheduler<'c, P> {
 }
 
 impl<'c, P: Port<ForecWork> + Drop> Scheduler<'c, P> {
-    ghost use Rattle.core_host.specs.Ending.{HasReplied};
-    ghost use Rattle.core_host.specs.Following.{HasFollowed};
+    ghost use Rattle.core_host.specs.Ending.{HasRepliedTo};
+    ghost use Rattle.core_host.specs.Following.{HasFollowed, StaysInJob};
     ghost use Rattle.core_host.specs.Rests.{RootRests};
 
     /// The packet of a mailbox, out of its parent's hand or its slot.
@@ -71,6 +70,7 @@ impl<'c, P: Port<ForecWork> + Drop> Scheduler<'c, P> {
     }
 
     /// Sends its job to the k-th branch of the thread's fork.
+    #[inline(always)]
     pub(crate) fn send(&mut self, thread: &Thread, k: usize, mailbox: u32)
         requires seated { IsSeated self.old }
         requires job { CanSend self.old thread.now k mailbox }
@@ -168,7 +168,7 @@ impl<'c, P: Port<ForecWork> + Drop> Scheduler<'c, P> {
         ensures number { thread.new.number ≡ thread.old.number }
         ensures branches { thread.new.branches.numbers ≡ thread.old.branches.numbers }
         ensures order { HasJoined thread.new 0 }
-        ensures stands { (rs : List Reply) (xs : List Exchange) → HaveHeard self.now thread.old.branches.numbers rs → StandsFor (code_in self.now) thread.old (with_replies xs []) → StandsFor (code_in self.now) thread.new (with_replies xs rs) }
+        ensures stands { SettlesReplies self.now thread.old thread.new }
     {
         let mut k = 0;
         while let Some(branch) = thread.active(self.code, k) {
@@ -190,7 +190,7 @@ impl<'c, P: Port<ForecWork> + Drop> Scheduler<'c, P> {
         ensures loaded { Loaded (code_in self.now) thread.new }
         ensures number { thread.new.number ≡ thread.old.number }
         ensures running { CanRun thread.new }
-        ensures stands { (rs : List Reply) (xs : List Exchange) → HaveHeard self.now thread.old.branches.numbers rs → StandsFor (code_in self.now) thread.old (with_replies xs rs) → StandsFor (code_in self.now) thread.new (with_replies xs rs) }
+        ensures stands { JoinsReplies self.now thread.old thread.new }
     {
         let mut k = 0;
         while let Some(branch) = thread.active(self.code, k) {
@@ -215,7 +215,7 @@ impl<'c, P: Port<ForecWork> + Drop> Scheduler<'c, P> {
         ensures reply { HasReply thread.new }
         ensures above { QuietAbove self.new thread.old.number }
         ensures leaves { Leaves thread.old.number thread.old.number self.old self.new }
-        ensures done { (jobs : List Job) (job : Job) → InJob (code_in self.old) thread.old self.old.mail jobs job → InJob (code_in self.old) thread.new self.new.mail jobs job }
+        ensures done { StaysInJob self.old thread.old self.new thread.new }
     {
         let mut forks: u128 = 0;
         while let Event::Fork = thread.run(self.code) {
@@ -244,8 +244,7 @@ impl<'c, P: Port<ForecWork> + Drop> Scheduler<'c, P> {
         ensures grown { Grown self.old.mail self.new.mail }
         ensures room { HasRoom (of_shape (code_in self.old).shape) 0 (plain_packet packet.new) }
         ensures kind { (t : PlainThread) → Sits self.new 0 t → Replies_by t packet.new.kind }
-        ensures replied { (t u : PlainThread) (jobs : List Job) (job : Job) → Sits self.old 0 t → Sits self.new 0 u → HasDone (code_in self.old) t self.old.mail jobs
-            → IsJob (plain_packet packet.old) job → HasReplied self.new u (jobs ++ job ∷ []) (plain_packet packet.new) }
+        ensures replied { HasRepliedTo self.old self.new (plain_packet packet.old) (plain_packet packet.new) }
     {
         let Some(mut seated) = self.seats[0].thread.take() else {
             unreachable!()

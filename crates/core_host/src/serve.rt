@@ -8,12 +8,12 @@ ghost use Rattle.combine_tree.specs.declared.packet.Packet.{Packet as PlainPacke
 ghost use Rattle.combine_tree.specs.Plain.{plain_packet};
 ghost use Rattle.copy_slots.specs.Ports.{taken, turn, after_take, after_answer, after_stop, after_check, in_plain, ChildIs};
 ghost use Rattle.core_machine.specs.Held.{Loaded, CanRun};
-ghost use Rattle.core_machine.specs.Forks.{jobs_at};
 ghost use Rattle.core_host.specs.Asking.{Asks, Replies};
-ghost use Rattle.core_host.specs.Changes.{HasWorked, Awaits, IsIdle};
-ghost use Rattle.core_host.specs.Keeping.{code_in, IsSeated, HasPacket, LacksPacket, AtFork, Quiet};
+ghost use Rattle.core_host.specs.Changes.{HasWorked, Awaits};
+ghost use Rattle.core_host.specs.Keeping.{code_in, IsSeated, LacksPacket, AtFork, Quiet};
 ghost use Rattle.core_host.specs.Moving.{MovesPacket, HasGot, HasLooked};
-ghost use Rattle.core_host.specs.Waiting.{HasTold, IsGathering, HasReplies, IsWorking, IsAtRest, WaitsAt, IsBetween};
+ghost use Rattle.core_host.specs.Waiting.{HasTold, TellsAll, IsGathering, HasReplies, IsWorking, IsAtRest, WaitsAt, IsBetween};
+ghost use Rattle.core_host.specs.Rounds.{AllIdle, WorkedAt};
 ghost use Rattle.core_host.specs.Serving.{MovesBranches, Touches, OnlyLooks, HasMissed, AllMissed, KeepsServing};
 
 use crate::boxed::Boxed;
@@ -87,7 +87,7 @@ impl<'c, P: Port<ForecWork> + Drop> Scheduler<'c, P> {
         requires fork { AtFork self.old thread.now }
         requires told { (pairs : List Answered) × HasTold self.old thread.now.number pairs [] }
         ensures moves { MovesBranches thread.now.number self.old self.new }
-        ensures told { (pairs : List Answered) → HasTold self.old thread.now.number pairs [] → HasTold self.new thread.now.number pairs (jobs_at (code_in self.old) thread.now) }
+        ensures told { TellsAll self.old self.new thread.now }
     {
         let mut k = 0;
         while let Some(branch) = thread.active(self.code, k) {
@@ -264,9 +264,9 @@ impl<'c, P: Port<ForecWork> + Drop> Scheduler<'c, P> {
         requires each { (i k : ℕ) → slice_get mailboxes.now i ≡ Some k → (k < length self.old.mail.ends) × IsBetween self.old k }
         ensures keeps { KeepsServing self.old self.new }
         ensures place { IfSome result (λ i. i < length mailboxes.now) }
-        ensures worked { IfSome result (λ i. (k : ℕ) → slice_get mailboxes.now i ≡ Some k → HasWorked (code_in self.old).shape self.old.mail self.new.mail k) }
+        ensures worked { IfSome result (λ i. WorkedAt mailboxes.now i self.old self.new) }
         ensures missed { result ≡ None → AllMissed self.old self.new }
-        ensures idle { result ≡ None → (i k : ℕ) → slice_get mailboxes.now i ≡ Some k → IsIdle (code_in self.old).shape self.old.mail self.new.mail k }
+        ensures idle { result ≡ None → AllIdle mailboxes.now self.old self.new }
     {
         for i in 0..mailboxes.len() {
             if self.serve(gate, mailboxes[i]) {
@@ -289,8 +289,8 @@ impl<'c, P: Port<ForecWork> + Drop> Scheduler<'c, P> {
         requires each { (i k : ℕ) → slice_get mailboxes.now i ≡ Some k → (k < length self.old.mail.ends) × IsBetween self.old k }
         ensures keeps { KeepsServing self.old self.new }
         ensures place { IfSome result (λ i. i < length mailboxes.now) }
-        ensures worked { IfSome result (λ i. (k : ℕ) → slice_get mailboxes.now i ≡ Some k → HasWorked (code_in self.old).shape self.old.mail self.new.mail k) }
-        ensures idle { result ≡ None → (i k : ℕ) → slice_get mailboxes.now i ≡ Some k → IsIdle (code_in self.old).shape self.old.mail self.new.mail k }
+        ensures worked { IfSome result (λ i. WorkedAt mailboxes.now i self.old self.new) }
+        ensures idle { result ≡ None → AllIdle mailboxes.now self.old self.new }
     {
         let (before, after) = mailboxes.split_at(first);
         if let Some(i) = self.serve_first(gate, after) {

@@ -1,5 +1,5 @@
 //! A tick beside hosts that are served.
-ghost use Rattle.std.specs.Prelude.{◌≡◌, ◌≤◌, ◌<◌, ◌++◌, ◌∷◌, [], ℕ, List, Some, length, slice_get, true, false};
+ghost use Rattle.std.specs.Prelude.{◌≡◌, ◌≤◌, ◌<◌, ◌++◌, ◌∷◌, [], ℕ, List, Some, length, true, false};
 ghost use Rattle.forec_base.specs.declared.limits.TheConstants.{MAX_BUDGET};
 ghost use Rattle.forec_kernel.specs.Composed.{Turn, state_after};
 ghost use Rattle.forec_kernel.specs.Engine.{Job, Answered};
@@ -12,11 +12,9 @@ ghost use Rattle.thread_code.specs.Valid.{of_shape};
 ghost use Rattle.combine_tree.specs.Plain.{plain_packet};
 ghost use Rattle.core_machine.specs.declared.thread.Thread.{Thread as PlainThread};
 ghost use Rattle.core_machine.specs.Held.{Loaded, CanBegin, CanRun, HasReply};
-ghost use Rattle.core_machine.specs.Forks.{jobs_at};
 ghost use Rattle.core_machine.specs.Replies.{Replies_by};
-ghost use Rattle.core_host.specs.Changes.{Grown, IsIdle};
-ghost use Rattle.core_host.specs.Done.{HasDone};
-ghost use Rattle.core_host.specs.Ending.{HasReplied};
+ghost use Rattle.core_host.specs.Changes.{Grown};
+ghost use Rattle.core_host.specs.Ending.{HasRepliedTo};
 ghost use Rattle.core_host.specs.Hosted.{code_of, is_here, is_live};
 ghost use Rattle.core_host.specs.Hung.{KeepsRope};
 ghost use Rattle.core_host.specs.Jobs.{job_of};
@@ -25,10 +23,10 @@ ghost use Rattle.core_host.specs.OnJob.{IsOnJob, KeepsOthers};
 ghost use Rattle.core_host.specs.Outcomes.{HasOutputs, LacksOutputs, HasOutcome};
 ghost use Rattle.core_host.specs.Posts.{IsBranchOf};
 ghost use Rattle.core_host.specs.Rests.{RootRests};
-ghost use Rattle.core_host.specs.Rounds.{AllIdle, CanServe, IsSameRound, SomeWorked};
+ghost use Rattle.core_host.specs.Rounds.{AllIdle, CanServe, IsIdleAt, IsSameRound, SomeWorked};
 ghost use Rattle.core_host.specs.Runs.{HasJobs, HasRun};
 ghost use Rattle.core_host.specs.Serving.{AllMissed, MovesBranches, KeepsServing};
-ghost use Rattle.core_host.specs.Waiting.{HasChild, HasTold, IsBetween, IsGathering, HasReplies};
+ghost use Rattle.core_host.specs.Waiting.{HasChild, HasTold, TellsAll, IsBetween, IsGathering, HasReplies};
 
 use crate::hints::hint_branches;
 use crate::host::Host;
@@ -61,7 +59,7 @@ impl<'c, P: Port<ForecWork> + Drop> Scheduler<'c, P> {
         ensures round { IsSameRound round.old round.new }
         ensures worked { result ≡ true → SomeWorked round.old.own.items self.old self.new }
         ensures missed { result ≡ false → AllMissed self.old self.new }
-        ensures idle { result ≡ false → (k : ℕ) → slice_get round.old.own.items place ≡ Some k → IsIdle (code_in self.old).shape self.old.mail self.new.mail k }
+        ensures idle { result ≡ false → IsIdleAt round.old.own.items place self.old self.new }
     {
         let mailbox = round.own[place];
         if !self.serve(gate, mailbox) {
@@ -186,7 +184,7 @@ impl<'c, P: Port<ForecWork> + Drop> Scheduler<'c, P> {
         requires fork { AtFork self.old thread.now }
         requires told { (pairs : List Answered) × HasTold self.old thread.now.number pairs [] }
         ensures moves { MovesBranches thread.now.number self.old self.new }
-        ensures told { (pairs : List Answered) → HasTold self.old thread.now.number pairs [] → HasTold self.new thread.now.number pairs (jobs_at (code_in self.old) thread.now) }
+        ensures told { TellsAll self.old self.new thread.now }
         ensures own { round.new.own ≡ round.old.own }
         ensures next { round.new.next ≡ round.old.next }
         ensures rope { KeepsRope round.old.rope round.new.rope }
@@ -263,8 +261,7 @@ impl<'c, P: Port<ForecWork> + Drop> Scheduler<'c, P> {
         ensures grown { Grown self.old.mail self.new.mail }
         ensures room { HasRoom (of_shape (code_in self.old).shape) 0 (plain_packet packet.new) }
         ensures kind { (t : PlainThread) → Sits self.new 0 t → Replies_by t packet.new.kind }
-        ensures replied { (t u : PlainThread) (jobs : List Job) (job : Job) → Sits self.old 0 t → Sits self.new 0 u → HasDone (code_in self.old) t self.old.mail jobs
-            → IsJob (plain_packet packet.old) job → HasReplied self.new u (jobs ++ job ∷ []) (plain_packet packet.new) }
+        ensures replied { HasRepliedTo self.old self.new (plain_packet packet.old) (plain_packet packet.new) }
     {
         let Some(mut seated) = self.seats[0].thread.take() else {
             unreachable!()
