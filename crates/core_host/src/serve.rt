@@ -27,6 +27,7 @@ use forec_base::{Gate, Point};
 
 impl<'c, P: Port<ForecWork> + Drop> Scheduler<'c, P> {
     /// Takes what a seat holds, which is then empty.
+    #[inline(always)]
     fn take_thread(&mut self, number: u32) -> Seat
         requires { number < length self.old.seats }
         ensures seat { slice_get self.old.seats number ≡ Some result }
@@ -40,6 +41,7 @@ impl<'c, P: Port<ForecWork> + Drop> Scheduler<'c, P> {
     }
 
     /// Puts a thread back into its seat.
+    #[inline(always)]
     fn put_thread(&mut self, number: u32, seat: Seat)
         requires { number < length self.old.seats }
         ensures { self.new ≡ record self.old { seats = slice_set self.old.seats number seat } }
