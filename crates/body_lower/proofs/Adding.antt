@@ -17,16 +17,16 @@ use Rattle.loop_check.proofs.Indexed.{split}
 use Rattle.text_kernel.specs.Bindings.{params_at}
 use Rattle.text_kernel.specs.Lowering.{NextNumbers, Lowered, Started, from_slot, scope_after, scope_after_perhaps, par_after, body_in_place, lower_statement, lower_list, lower_perhaps, lower_branches}
 use Rattle.body_lower.specs.declared.added.Added.{Added}
-use Rattle.body_lower.specs.Additions.{nothing, Moves, StatementAdds, PerhapsAdds, ListAdds, BranchesAdd, BodyAdds, FunctionAdds, AllAdd, Joins, put_at}
+use Rattle.body_lower.specs.Additions.{nothing, Adds, StatementAdds, PerhapsAdds, ListAdds, BranchesAdd, BodyAdds, FunctionAdds, AllAdd, Joins, put_at}
 use Rattle.body_lower.specs.Landings.{called_within}
 use Rattle.body_lower.proofs.Statements.{drop_next}
 use Rattle.body_lower.proofs.Doing.{branch_first, par_some}
 use Rattle.body_lower.proofs.Going.{place_is}
 
-pub moves_then : (a b c : Added) (n m k : NextNumbers) → Joins a b c → Moves a n m → Moves b m k → Moves c n k
-moves_then a b c n m k j f g = record { thread = omega (arith, j.threads, f.thread, g.thread); par = omega (arith, j.pars, f.par, g.par) }
+pub adds_then : (a b c : Added) (n m k : NextNumbers) → Joins a b c → Adds a n m → Adds b m k → Adds c n k
+adds_then a b c n m k j f g = record { thread = omega (arith, j.threads, f.thread, g.thread); par = omega (arith, j.pars, f.par, g.par) }
 
-still : (n : NextNumbers) → Moves nothing n n
+still : (n : NextNumbers) → Adds nothing n n
 still n = record { thread = omega arith; par = omega arith }
 
 module _ (text : Text) where
@@ -59,7 +59,7 @@ module _ (text : Text) where
   pub if_adds : (at : Place) (test : Term) (x : Statement) (y : Perhaps) (a b c : Added) → StatementAdds text x a → PerhapsAdds text y b → Joins a b c → StatementAdds text (tree.If at test x y) c
   if_adds at test x y a b c f g j deep t s n h =
       let l = lower_statement text (called_within text deep) t s n x in
-      moves_then a b c n l.next _ j (f deep t s n (omega (arith, h, j.first))) (g deep t s l.next (omega (arith, h, j.second)))
+      adds_then a b c n l.next _ j (f deep t s n (omega (arith, h, j.first))) (g deep t s l.next (omega (arith, h, j.second)))
 
   pub for_adds : (at : Place) (start : Perhaps) (test : Option Term) (step : Perhaps) (bound : Option Number) (body : Statement) (a b c d e : Added) → PerhapsAdds text start a → PerhapsAdds text step b → StatementAdds text body c →
       Joins b c d → Joins a d e → StatementAdds text (tree.For at start test step bound body) e
@@ -69,8 +69,8 @@ module _ (text : Text) where
       let l = lower_perhaps text called t s n start in
       let m = lower_perhaps text called t within_ l.next step in
       let low : d.calls ≤ deep = omega (arith, h, j.second) in
-      moves_then a d e n l.next _ j (f deep t s n (omega (arith, h, j.first)))
-      (moves_then b c d l.next m.next _ i (g deep t within_ l.next (omega (arith, low, i.first))) (k deep t (scope_after_perhaps text within_ l.next.slot step) m.next (omega (arith, low, i.second))))
+      adds_then a d e n l.next _ j (f deep t s n (omega (arith, h, j.first)))
+      (adds_then b c d l.next m.next _ i (g deep t within_ l.next (omega (arith, low, i.first))) (k deep t (scope_after_perhaps text within_ l.next.slot step) m.next (omega (arith, low, i.second))))
 
   pub call_adds : (at : Place) (name : Name) (args : Terms) (a : Added) → FunctionAdds text name.id (Some a) → StatementAdds text (tree.Invoke at name args) a
   call_adds at name args a f deep t s n h =
@@ -91,7 +91,7 @@ module _ (text : Text) where
   list_more : (x : Statement) (rest : Statements) (a b c : Added) → StatementAdds text x a → ListAdds text rest b → Joins a b c → ListAdds text (more_statements x rest) c
   list_more x rest a b c f g j deep t s n h =
       let l = lower_statement text (called_within text deep) t s n x in
-      moves_then a b c n l.next _ j (f deep t s n (omega (arith, h, j.first))) (g deep t (scope_after text s n.slot x) l.next (omega (arith, h, j.second)))
+      adds_then a b c n l.next _ j (f deep t s n (omega (arith, h, j.first))) (g deep t (scope_after text s n.slot x) l.next (omega (arith, h, j.second)))
 
   -- ---- branches
 
@@ -103,8 +103,8 @@ module _ (text : Text) where
       let called = called_within text deep in
       let l = lower_branches text called t s p n (branch_with b no_branches) in
       let m = lower_branches text called t s p l.next rest in
-      subst (Moves d n) (ap (λ (x : Started). x.next) (sym (branch_first text called t s p n b rest)))
-      (moves_then a c d n l.next m.next j (f deep t p s n (omega (arith, h, j.first))) (g deep t p s l.next (omega (arith, h, j.second))))
+      subst (Adds d n) (ap (λ (x : Started). x.next) (sym (branch_first text called t s p n b rest)))
+      (adds_then a c d n l.next m.next j (f deep t p s n (omega (arith, h, j.first))) (g deep t p s l.next (omega (arith, h, j.second))))
 
   pub called_adds : (name : Name) (args : Terms) (one a c : Added) → one.threads ≡ 1 → one.pars ≡ 0 → FunctionAdds text name.id (Some a) → Joins one a c → BranchesAdd text (by_call name args no_branches) c
   called_adds name args one a c e z f j deep t p s n h =
@@ -156,7 +156,7 @@ joins_nothing total = record { threads = omega arith; pars = omega arith; first 
 
 module _ (text : Text) where
   pub list_starts : (whole : Statements) (total : Added) → total ≡ nothing → ListGoes text whole whole total
-  list_starts whole total e more all f j deep t s n h = moves_then total more all n n _ j (subst (λ x. Moves x n n) (sym e) (still n)) (f deep t s n (omega (arith, h, j.second)))
+  list_starts whole total e more all f j deep t s n h = adds_then total more all n n _ j (subst (λ x. Adds x n n) (sym e) (still n)) (f deep t s n (omega (arith, h, j.second)))
 
   pub list_goes : (items : List tree_stmt.Stmt) (i : ℕ) (x : tree_stmt.Stmt) (whole : Statements) (total a next : Added) → i < length items → get_or items i x ≡ x → StatementAdds text (statement x) a → Joins total a next →
       ListGoes text (statements (drop i items)) whole total → ListGoes text (statements (drop (i + 1) items)) whole next
@@ -170,7 +170,7 @@ module _ (text : Text) where
   list_ends items i whole total l w = w nothing total (subst (λ q. ListAdds text (statements q) nothing) (sym (drop_all i items l)) (list_none text)) (joins_nothing total)
 
   pub branches_start : (whole : Branches) (total : Added) → total ≡ nothing → BranchesGo text whole whole total
-  branches_start whole total e more all f j deep t p s n h = moves_then total more all n n _ j (subst (λ x. Moves x n n) (sym e) (still n)) (f deep t p s n (omega (arith, h, j.second)))
+  branches_start whole total e more all f j deep t p s n h = adds_then total more all n n _ j (subst (λ x. Adds x n n) (sym e) (still n)) (f deep t p s n (omega (arith, h, j.second)))
 
   pub branches_go : (items : List tree_branch.Branch) (i : ℕ) (x : tree_branch.Branch) (whole : Branches) (total a next : Added) → i < length items → get_or items i x ≡ x → BranchesAdd text (branch_with x no_branches) a →
       Joins total a next → BranchesGo text (branches (drop i items)) whole total → BranchesGo text (branches (drop (i + 1) items)) whole next
@@ -185,19 +185,19 @@ module _ (text : Text) where
 
   -- ---- functions
 
-  none_moves : (id deep first t : ℕ) (n : NextNumbers) → find_function id text ≡ None → Moves nothing n (called_within text deep id first t n).next
+  none_adds : (id deep first t : ℕ) (n : NextNumbers) → find_function id text ≡ None → Adds nothing n (called_within text deep id first t n).next
   unfolding within
-  none_moves id zero first t n e = still n
-  none_moves id (suc deep) first t n e = subst (Moves nothing n) (ap (λ (o : Option PlainFunction). (body_in_place text (called_within text deep) o first t n).next) (sym e)) (still n)
+  none_adds id zero first t n e = still n
+  none_adds id (suc deep) first t n e = subst (Adds nothing n) (ap (λ (o : Option PlainFunction). (body_in_place text (called_within text deep) o first t n).next) (sym e)) (still n)
 
   pub function_none : (id : ℕ) (a : Added) → a ≡ nothing → find_function id text ≡ None → FunctionAdds text id (Some a)
-  function_none id a z e = λ deep first t n h. subst (λ x. Moves x n (called_within text deep id first t n).next) (sym z) (none_moves id deep first t n e)
+  function_none id a z e = λ deep first t n h. subst (λ x. Adds x n (called_within text deep id first t n).next) (sym z) (none_adds id deep first t n e)
 
   pub body_adds : (f : PlainFunction) (a c : Added) → ListAdds text f.body a → c.threads ≡ a.threads → c.pars ≡ a.pars → c.calls ≡ a.calls + 1 → BodyAdds text f c
   body_adds f a c g x y z id e deep first t n h =
       let m = g (deep - 1) t (params_at first f.params) n (omega (arith, h, z)) in
-      let moved : Moves c n (lower_list text (called_within text (deep - 1)) t (params_at first f.params) n f.body).next = record { thread = omega (arith, m.thread, x); par = omega (arith, m.par, y) } in
-      subst (Moves c n)
+      let moved : Adds c n (lower_list text (called_within text (deep - 1)) t (params_at first f.params) n f.body).next = record { thread = omega (arith, m.thread, x); par = omega (arith, m.par, y) } in
+      subst (Adds c n)
       (ap (λ (l : Lowered). l.next) (sym (place_is text deep id first t n (λ q. absurd (omega (arith, q, h, z))) ∙ ap (λ (o : Option PlainFunction). body_in_place text (called_within text (deep - 1)) o first t n) e)))
       moved
 

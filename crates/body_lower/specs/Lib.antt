@@ -1,4 +1,6 @@
 pub mod Additions
+pub mod Assigned
+pub mod Heads
 pub mod Landings
 pub mod Numbering
 pub mod Trail

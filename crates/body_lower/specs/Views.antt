@@ -1,19 +1,25 @@
 -- What the types of the translation show.
-use Rattle.std.specs.Prelude.{◌≡◌, ℕ, Option, List, [], ◌∷◌, ◌++◌, map, length, drop, take}
+use Rattle.std.specs.Prelude.{◌≡◌, ◌-◌, ℕ, Option, Some, List, [], ◌∷◌, ◌++◌, map, length, drop, take}
+use Rattle.forec_base.specs.declared.Place.{Place}
+use Rattle.forec_kernel.specs.Terms as kernel
 use Rattle.forec_kernel.specs.Terms.{Stmt, Stmts, Exprs, Branch}
 use Rattle.forec_kernel.specs.Plain.{stmt}
-use Rattle.forec_tree.specs.Plain.{branch_with}
-use Rattle.forec_tree.specs.Terms.{Text, Statement, Statements, Perhaps, Branches, no_branches}
+use Rattle.forec_tree.specs.declared.tree.Expr.{Expr}
+use Rattle.forec_tree.specs.declared.tree.Stmt as rust
+use Rattle.forec_tree.specs.Plain.{term, optional_term, statement, branch_with}
+use Rattle.forec_tree.specs.Terms.{Text, Statement, If, Statements, Perhaps, Branches, no_branches, PlainFunction}
 use Rattle.loop_check.specs.Views.{text_of}
 use Rattle.loop_check.specs.Judges.{judge_text}
 use Rattle.body_lower.specs.declared.source.Source.{Source}
 use Rattle.body_lower.specs.declared.context.Context.{Context}
+use Rattle.body_lower.specs.declared.heads.AbortHead.{AbortHead}
 use Rattle.body_lower.specs.Additions.{AllAdd}
+use Rattle.body_lower.specs.Heads.{abort_at}
 use Rattle.body_lower.specs.Landings.{called_within, AllLand}
 use Rattle.body_lower.specs.declared.state.Pending.{Pending}
 use Rattle.body_lower.specs.declared.state.Thread.{Thread}
 use Rattle.body_lower.specs.declared.state.State.{State}
-use Rattle.text_kernel.specs.Lowering.{NextNumbers, Made, Lowered, Listed, Started, InPlace, as_one, lower_statement, lower_perhaps, lower_list, lower_branches}
+use Rattle.text_kernel.specs.Lowering.{NextNumbers, Made, Lowered, Listed, Started, InPlace, as_one, scope_after, scope_after_perhaps, optional_test, lower_statement, lower_perhaps, lower_list, lower_branches, body_in_place}
 use Rattle.text_kernel.specs.declared.names.Slot.{Slot}
 use Rattle.body_lower.specs.declared.scope.Scope.{Scope}
 
@@ -121,3 +127,46 @@ DoneAsOne c s a k old new =
 abbrev pub DoneBranches : Context → (par : ℕ) → Branches → List Branch → State → State → Type 0
 DoneBranches c par bs k old new =
     let text = text_of c.source.now.globals.index in DoesBranches text (lower_branches text (called_within text c.deep) c.owner (seen old.scope) par (next_of old) bs) k old new
+
+-- an `if` without its place, which the kernel doesn't keep
+abbrev pub DoneIf : Context → Expr → rust.Stmt → Perhaps → Stmt → State → State → Type 0
+DoneIf c test a b k old new = (at : Place) → Done c (If at (term test) (statement a) b) k old new
+
+-- an abort without its place
+abbrev pub DoneAbort : Context → AbortHead → List rust.Stmt → Stmt → State → State → Type 0
+DoneAbort c h body k old new = (at : Place) → Done c (abort_at at h body) k old new
+
+-- a statement to which so many calls come, which sees global names alone
+abbrev pub DoneLanded : Context → ℕ → Statement → Stmt → State → State → Type 0
+DoneLanded c calls a k old new =
+    let text = text_of c.source.now.globals.index in Does text (lower_statement text (called_within text (c.deep - calls)) c.owner [] (next_of old) a) k old new
+
+-- a function by its name, put in place with its parameters from a slot on
+abbrev pub DoneCall : Context → (id first : ℕ) → Stmt → State → State → Type 0
+DoneCall c id first k old new =
+    let text = text_of c.source.now.globals.index in Does text (called_within text c.deep id first c.owner (next_of old)) k old new
+
+-- the body of a function, put in place with its parameters from a slot on
+abbrev pub DoneFunction : Context → PlainFunction → (first : ℕ) → Stmt → State → State → Type 0
+DoneFunction c f first k old new =
+    let text = text_of c.source.now.globals.index in Does text (body_in_place text (called_within text c.deep) (Some f) first c.owner (next_of old)) k old new
+
+-- the locals that are seen after a statement
+abbrev pub SeenAfter : Context → Statement → State → State → Type 0
+SeenAfter c a old new = seen new.scope ≡ scope_after (text_of c.source.now.globals.index) (seen old.scope) old.slot a
+
+abbrev pub SeenAfterPerhaps : Context → Perhaps → State → State → Type 0
+SeenAfterPerhaps c a old new = seen new.scope ≡ scope_after_perhaps (text_of c.source.now.globals.index) (seen old.scope) old.slot a
+
+-- the test of a `for`; a missing one is the number 1
+abbrev pub IsTest : Context → State → Option Expr → kernel.Expr → Type 0
+IsTest c s test e = e ≡ optional_test (text_of c.source.now.globals.index) (seen s.scope) (optional_term test)
+
+-- A thread and the branches that are pending after it are what a branch becomes.
+abbrev pub IsMade : Text → Pending → Thread → State → Type 0
+IsMade text one t new = of_thread t ∷ threads_of text new ≡ map bare (made_of text one)
+
+-- the same by the numbers that a context and a state have
+abbrev pub IsMadeBy : Context → Pending → Branches → Thread → State → State → Type 0
+IsMadeBy c one bs t old new =
+    let text = text_of c.source.now.globals.index in of_thread t ∷ threads_of text new ≡ map bare (made_by text c.deep one.parent one.par c.owner old.par bs)

@@ -3,19 +3,23 @@
 ghost use Rattle.std.specs.Prelude.{◌≡◌, pos, map, length, IfOk, OnOk};
 ghost use Rattle.forec_kernel.specs.Terms.{Num};
 ghost use Rattle.forec_tree.specs.Plain as plain;
+ghost use Rattle.forec_tree.specs.Terms as tree;
 ghost use Rattle.forec_kernel.specs.Plain as kernel;
 ghost use Rattle.loop_check.specs.Views.{text_of};
 ghost use Rattle.text_kernel.specs.Bindings as bindings;
 ghost use Rattle.text_kernel.specs.Lowering as lowering;
-ghost use Rattle.body_lower.specs.Views.{seen, Kept};
+ghost use Rattle.body_lower.specs.Assigned.{IsAssigned, AreSet, AreDeclared};
+ghost use Rattle.body_lower.specs.Views.{seen, Kept, SeenAfter, Done};
 
+use crate::context::Context;
 use crate::globals::Globals;
 use crate::parts::{boxed_term, sequence, sum};
 use crate::scope::Scope;
+use crate::state::State;
 use crate::term::{lower_boxed, lower_term, place_if, stands};
 use forec_base::{OutOfMemory, Place};
 use forec_kernel::{Expression, Spot, Statement};
-use forec_tree::{Expr, Local, Name, Number, OpAt, Target};
+use forec_tree::{Expr, Local, Number, OpAt, Target};
 use std::alloc::Global;
 use text_kernel::{Slot, Stands, number_of, slots_of};
 
@@ -63,19 +67,52 @@ fn assign_to(
     Ok(Statement::Set { to: spot, value })
 }
 
-/// An element is assigned; `again` is its index once more, for the old value.
+/// An element that is assigned: its index, for where it is set; the same once more, for its old value; and
+/// the place of the name of its array.
+#[derive(Drop)]
+struct Element {
+    index: Box<Expression>,
+    again: Box<Expression>,
+    place: Place,
+}
+
+/// The element of an array, by the expression of its index.
+fn element_by(
+    alloc: Global,
+    globals: &Globals<'_>,
+    scope: &Scope,
+    at: &Expr,
+    place: Place,
+) -> Result<Element, OutOfMemory>
+    ensures index { IfOk result (λ e. kernel.expr e.index.value ≡ lowering.lower_term (text_of globals.now.index) (seen scope.now) (plain.term at.now)) }
+    ensures again { IfOk result (λ e. kernel.expr e.again.value ≡ kernel.expr e.index.value) }
+    ensures place { IfOk result (λ e. e.place ≡ place) }
+{
+    let index = lower_boxed(alloc, globals, scope, at)?;
+    let again = lower_boxed(alloc, globals, scope, at)?;
+    Ok(Element {
+        index,
+        again,
+        place,
+    })
+}
+
+/// An element of what a name stands for is assigned.
 fn assign_at(
     alloc: Global,
     to: Stands,
     op: Option<OpAt>,
-    index: Box<Expression>,
-    again: Box<Expression>,
+    element: Element,
     value: Box<Expression>,
-    place: Place,
 ) -> Result<Statement, OutOfMemory>
-    requires { kernel.expr again.value ≡ kernel.expr index.value }
-    ensures { IfOk result (λ k. kernel.stmt k ≡ lowering.assign_at to op (kernel.expr index.value) (kernel.expr value.value) place) }
+    requires { kernel.expr element.again.value ≡ kernel.expr element.index.value }
+    ensures { IfOk result (λ k. kernel.stmt k ≡ lowering.assign_at to op (kernel.expr element.index.value) (kernel.expr value.value) element.place) }
 {
+    let Element {
+        index,
+        again,
+        place,
+    } = element;
     let (slot, length) = match to {
         Stands::AtSlots { slot, size } => (slot, size),
         _ => (0, 0),
@@ -96,26 +133,6 @@ fn assign_at(
     })
 }
 
-/// An element of the array of a name is assigned, by the expression of its index.
-fn assign_element(
-    alloc: Global,
-    globals: &Globals<'_>,
-    scope: &Scope,
-    name: Name,
-    at: &Expr,
-    op: Option<OpAt>,
-    value: &Expr,
-) -> Result<Statement, OutOfMemory>
-    ensures { IfOk result (λ k. kernel.stmt k ≡ lowering.assign_at (lowering.stands (text_of globals.now.index) (seen scope.now) name.id) op
-        (lowering.lower_term (text_of globals.now.index) (seen scope.now) (plain.term at.now)) (lowering.lower_term (text_of globals.now.index) (seen scope.now) (plain.term value.now)) name.place) }
-{
-    let to = stands(globals, scope, name.id);
-    let value = lower_boxed(alloc, globals, scope, value)?;
-    let index = lower_boxed(alloc, globals, scope, at)?;
-    let again = lower_boxed(alloc, globals, scope, at)?;
-    assign_at(alloc, to, op, index, again, value, name.place)
-}
-
 /// An assignment.
 pub fn assign(
     alloc: Global,
@@ -125,16 +142,16 @@ pub fn assign(
     op: Option<OpAt>,
     value: &Expr,
 ) -> Result<Statement, OutOfMemory>
-    ensures { IfOk result (λ k. kernel.stmt k ≡ lowering.lower_target (text_of globals.now.index) (seen scope.now) (plain.written target.now) op
-        (lowering.lower_term (text_of globals.now.index) (seen scope.now) (plain.term value.now))) }
+    ensures { IfOk result (λ k. IsAssigned (text_of globals.now.index) (seen scope.now) target.now op value.now (kernel.stmt k)) }
 {
+    let to = stands(globals, scope, target.name.id);
+    let value = lower_boxed(alloc, globals, scope, value)?;
     match &target.index {
-        None => {
-            let to = stands(globals, scope, target.name.id);
-            let value = lower_boxed(alloc, globals, scope, value)?;
-            assign_to(alloc, to, op, value)
+        None => assign_to(alloc, to, op, value),
+        Some(at) => {
+            let element = element_by(alloc, globals, scope, at, target.name.place)?;
+            assign_at(alloc, to, op, element, value)
         }
-        Some(at) => assign_element(alloc, globals, scope, target.name, at, op, value),
     }
 }
 
@@ -148,29 +165,34 @@ fn element_number(at: usize) -> Result<Expression, OutOfMemory>
     }
 }
 
+/// An array of locals: its first slot, its length, and the place of its name.
+#[derive(Clone, Copy)]
+pub struct LocalArray {
+    pub slot: u32,
+    pub length: u32,
+    pub place: Place,
+}
+
 /// Sets the elements of an array from its initial values, after other statements.
 fn set_values(
     alloc: Global,
     globals: &Globals<'_>,
     scope: &Scope,
     list: &mut Vec<Statement>,
-    slot: u32,
-    length: u32,
+    array: LocalArray,
     values: &[Expr],
-    place: Place,
 ) -> Result<(), OutOfMemory>
-    ensures { OnOk result (kernel.stmts list.new.items
-        ≡ lowering.joined (kernel.stmts list.old.items) (lowering.array_values (text_of globals.now.index) (seen scope.now) slot length 0 (plain.terms values.now) place)) }
+    ensures { OnOk result (AreSet (text_of globals.now.index) (seen scope.now) array values.now list.old.items list.new.items) }
 {
     for (at, value) in values.iter().enumerate() {
         let value = lower_term(alloc, globals, scope, value)?;
         let index = element_number(at)?;
         list.push(Statement::SetAt {
-            slot,
-            length,
+            slot: array.slot,
+            length: array.length,
             index,
             value,
-            place,
+            place: array.place,
         })?;
     }
     Ok(())
@@ -192,16 +214,12 @@ fn lower_local(
             let length = number_of(n);
             let mut list = Vec::new(alloc);
             list.push(Statement::Clear { slot, length })?;
-            set_values(
-                alloc,
-                globals,
-                scope,
-                &mut list,
+            let array = LocalArray {
                 slot,
                 length,
-                values,
-                local.name.place,
-            )?;
+                place: local.name.place,
+            };
+            set_values(alloc, globals, scope, &mut list, array, values)?;
             Ok(sequence(list))
         }
         None => match values.first() {
@@ -227,14 +245,14 @@ fn size_of(length: Option<Number>) -> Option<u32>
 }
 
 /// The declarators of one declaration, which are declared from a slot on; it is moved after them.
-pub fn lower_locals(
+fn lower_locals(
     alloc: Global,
     globals: &Globals<'_>,
     scope: &mut Scope,
     slot: &mut u32,
     locals: &[Local],
 ) -> Result<Vec<Statement>, OutOfMemory>
-    ensures list { IfOk result (λ k. kernel.stmts k.items ≡ lowering.lower_locals (text_of globals.now.index) (seen scope.old) slot.old (map plain.declared locals.now)) }
+    ensures list { IfOk result (λ k. AreDeclared (text_of globals.now.index) (seen scope.old) slot.old locals.now k.items) }
     ensures slot { OnOk result (slot.new ≡ lowering.slots_after (text_of globals.now.index) slot.old (map plain.declared locals.now)) }
     ensures seen { OnOk result (seen scope.new ≡ bindings.with_locals (seen scope.old) slot.old (map plain.declared locals.now)) }
     ensures kept { OnOk result (Kept scope.old scope.new) }
@@ -250,6 +268,27 @@ pub fn lower_locals(
         *slot = sum(*slot, slots_of(local.length))?;
     }
     Ok(list)
+}
+
+/// A declaration.
+pub fn declare<'p>(
+    context: &Context<'_, 'p>,
+    place: Place,
+    state: &mut State<'p>,
+    locals: &[Local],
+) -> Result<Statement, OutOfMemory>
+    ensures does { IfOk result (λ k. Done context.now (tree.Declare place (map plain.declared locals.now)) (kernel.stmt k) state.old state.new) }
+    ensures seen { OnOk result (SeenAfter context.now (tree.Declare place (map plain.declared locals.now)) state.old state.new) }
+    ensures kept { OnOk result (Kept state.old.scope state.new.scope) }
+{
+    let list = lower_locals(
+        context.alloc,
+        &context.source.globals,
+        &mut state.scope,
+        &mut state.slot,
+        locals,
+    )?;
+    Ok(sequence(list))
 }
 
 /// The parameters of a function that is put in place, from a slot on, are set from the arguments.

@@ -4,19 +4,19 @@
 //! which there is only so much. Groups and functions of one statement add no level, so they are gone
 //! through in a loop; and the bodies of branches, which are threads of their own, are left for later.
 
-ghost use Rattle.std.specs.Prelude.{◌≡◌, ◌≤◌, ◌-◌, [], Some, map, IfOk, OnOk};
+ghost use Rattle.std.specs.Prelude.{◌≡◌, ◌≤◌, [], IfOk, OnOk};
 ghost use Rattle.forec_tree.specs.Plain as plain;
-ghost use Rattle.forec_tree.specs.Terms as tree;
-ghost use Rattle.forec_tree.specs.Turns.{inferred};
 ghost use Rattle.forec_tree.specs.Plain.{perhaps_of};
+ghost use Rattle.forec_tree.specs.Terms as tree;
 ghost use Rattle.forec_kernel.specs.Plain as kernel;
-ghost use Rattle.text_kernel.specs.Lowering as lowering;
-ghost use Rattle.body_lower.specs.Landings.{called_within};
-ghost use Rattle.body_lower.specs.Views.{OneText, context_text, seen, Kept, Same, next_of, Does, Done, DonePerhaps, DoneList, DoneAsOne};
+ghost use Rattle.body_lower.specs.Heads.{while_of, for_of, turns_of};
+ghost use Rattle.body_lower.specs.Views.{OneText, context_text, seen, Kept, Same, SeenAfter, SeenAfterPerhaps, Done, DonePerhaps, DoneList, DoneAsOne};
+ghost use Rattle.body_lower.specs.Views.{DoneIf, DoneAbort, DoneLanded, DoneCall, DoneFunction};
 
-use crate::assign::{assign, lower_locals, set_params};
-use crate::branches::branches;
+use crate::assign::{assign, declare, set_params};
+use crate::branches::par;
 use crate::context::Context;
+use crate::heads::{AbortHead, ForHead, WhileHead};
 use crate::landing::innermost;
 use crate::loops::{after_start, bound_of, optional_test, or_inferred, then_step};
 use crate::parts::{boxed, count, sequence, sum};
@@ -24,7 +24,7 @@ use crate::state::State;
 use crate::term::lower_term;
 use forec_base::{OutOfMemory, Place};
 use forec_kernel::Statement;
-use forec_tree::{Branch, Expr, Function, Local, Name, Number, Stmt, StmtKind};
+use forec_tree::{Expr, Function, Name, Stmt, StmtKind};
 
 /// How many levels of the kernel may stand in one another in a body. Past it there is no memory: each
 /// takes up to 5 KB of stack, so the caller has 64 MB of it.
@@ -40,7 +40,7 @@ pub fn statement<'p>(
 ) -> Result<Statement, OutOfMemory>
     requires { OneText context.now.source.now }
     ensures does { IfOk result (λ k. Done context.now (plain.statement s.now) (kernel.stmt k) state.old state.new) }
-    ensures seen { OnOk result (seen state.new.scope ≡ lowering.scope_after (context_text context.now) (seen state.old.scope) state.old.slot (plain.statement s.now)) }
+    ensures seen { OnOk result (SeenAfter context.now (plain.statement s.now) state.old state.new) }
     ensures kept { OnOk result (Kept state.old.scope state.new.scope) }
 {
     match &s.what {
@@ -99,13 +99,16 @@ fn by_kind<'p>(
             Ok(Statement::Return { value })
         }
         StmtKind::If { test, yes, no } => {
-            let place = s.place;
-            let k = if_statement(context, fuel, place, state, test, yes, no)?;
+            let k = if_statement(context, fuel, state, test, yes, no)?;
             Ok(k)
         }
         StmtKind::While { test, bound, body } => {
-            let place = s.place;
-            let k = while_statement(context, fuel, place, state, test, *bound, body)?;
+            let head = WhileHead {
+                place: s.place,
+                test,
+                bound: *bound,
+            };
+            let k = while_statement(context, fuel, state, head, body)?;
             Ok(k)
         }
         StmtKind::For {
@@ -116,9 +119,14 @@ fn by_kind<'p>(
             body,
         } => {
             let turns = or_inferred(bound_of(*bound), context.source.pauses.turns(s));
-            let k = for_statement(
-                context, fuel, s.place, state, turns, start, test, step, *bound, body,
-            )?;
+            let head = ForHead {
+                place: s.place,
+                start,
+                test,
+                step,
+                bound: *bound,
+            };
+            let k = for_statement(context, fuel, state, turns, head, body)?;
             Ok(k)
         }
         StmtKind::Call { name, args } => {
@@ -138,32 +146,15 @@ fn by_kind<'p>(
             body,
         } => {
             let body = body.as_slice();
-            let k = abort(context, fuel, s.place, state, *weak, *immediate, test, body)?;
+            let head = AbortHead {
+                weak: *weak,
+                immediate: *immediate,
+                test,
+            };
+            let k = abort(context, fuel, state, head, body)?;
             Ok(k)
         }
     }
-}
-
-/// A declaration.
-fn declare<'p>(
-    context: &Context<'_, 'p>,
-    place: Place,
-    state: &mut State<'p>,
-    locals: &[Local],
-) -> Result<Statement, OutOfMemory>
-    ensures does { IfOk result (λ k. Done context.now (tree.Declare place (map plain.declared locals.now)) (kernel.stmt k) state.old state.new) }
-    ensures seen { OnOk result (seen state.new.scope
-        ≡ lowering.scope_after (context_text context.now) (seen state.old.scope) state.old.slot (tree.Declare place (map plain.declared locals.now))) }
-    ensures kept { OnOk result (Kept state.old.scope state.new.scope) }
-{
-    let list = lower_locals(
-        context.alloc,
-        &context.source.globals,
-        &mut state.scope,
-        &mut state.slot,
-        locals,
-    )?;
-    Ok(sequence(list))
 }
 
 /// An `if`.
@@ -171,14 +162,13 @@ fn declare<'p>(
 fn if_statement<'p>(
     context: &Context<'_, 'p>,
     fuel: u32,
-    place: Place,
     state: &mut State<'p>,
     test: &Expr,
     yes: &'p Stmt,
     no: &'p Option<Box<Stmt>>,
 ) -> Result<Statement, OutOfMemory>
     requires { OneText context.now.source.now }
-    ensures does { IfOk result (λ k. Done context.now (tree.If place (plain.term test.now) (plain.statement yes.now) (perhaps_of no.now)) (kernel.stmt k) state.old state.new) }
+    ensures does { IfOk result (λ k. DoneIf context.now test.now yes.now (perhaps_of no.now) (kernel.stmt k) state.old state.new) }
     ensures same { OnOk result (Same state.old.scope state.new.scope) }
 {
     let yes = boxed_inner(context, fuel, state, yes)?;
@@ -192,24 +182,27 @@ fn if_statement<'p>(
 fn while_statement<'p>(
     context: &Context<'_, 'p>,
     fuel: u32,
-    place: Place,
     state: &mut State<'p>,
-    test: &Expr,
-    bound: Option<Number>,
+    head: WhileHead<'p>,
     body: &'p Stmt,
 ) -> Result<Statement, OutOfMemory>
     requires { OneText context.now.source.now }
-    ensures does { IfOk result (λ k. Done context.now (tree.While place (plain.term test.now) bound (plain.statement body.now)) (kernel.stmt k) state.old state.new) }
+    ensures does { IfOk result (λ k. Done context.now (while_of head.entry body.now) (kernel.stmt k) state.old state.new) }
     ensures same { OnOk result (Same state.old.scope state.new.scope) }
 {
     let body = boxed_inner(context, fuel, state, body)?;
-    let test = lower_term(context.alloc, &context.source.globals, &state.scope, test)?;
-    let bound = bound_of(bound);
+    let test = lower_term(
+        context.alloc,
+        &context.source.globals,
+        &state.scope,
+        head.test,
+    )?;
+    let bound = bound_of(head.bound);
     Ok(Statement::While {
         test,
         bound,
         body,
-        place,
+        place: head.place,
     })
 }
 
@@ -218,37 +211,31 @@ fn while_statement<'p>(
 fn for_statement<'p>(
     context: &Context<'_, 'p>,
     fuel: u32,
-    place: Place,
     state: &mut State<'p>,
     turns: Option<u32>,
-    start: &'p Option<Box<Stmt>>,
-    test: &Option<Expr>,
-    step: &'p Option<Box<Stmt>>,
-    bound: Option<Number>,
+    head: ForHead<'p>,
     body: &'p Stmt,
 ) -> Result<Statement, OutOfMemory>
     requires text { OneText context.now.source.now }
-    requires turns { turns ≡ lowering.or_inferred (lowering.bound_of bound) (inferred (context_text context.now)
-        (tree.For place (perhaps_of start.now) (plain.optional_term test.now) (perhaps_of step.now) bound (plain.statement body.now))) }
-    ensures does { IfOk result (λ k. Done context.now
-        (tree.For place (perhaps_of start.now) (plain.optional_term test.now) (perhaps_of step.now) bound (plain.statement body.now)) (kernel.stmt k) state.old state.new) }
+    requires turns { turns ≡ turns_of (context_text context.now) head body.now }
+    ensures does { IfOk result (λ k. Done context.now (for_of head.entry body.now) (kernel.stmt k) state.old state.new) }
     ensures same { OnOk result (Same state.old.scope state.new.scope) }
 {
     let len = state.scope.len();
-    let first = optional_statement(context, fuel, state, start)?;
-    let test = optional_test(context.alloc, context.source, state, test)?;
-    let next = optional_statement(context, fuel, state, step)?;
+    let first = optional_statement(context, fuel, state, head.start)?;
+    let test = optional_test(context, state, head.test)?;
+    let next = optional_statement(context, fuel, state, head.step)?;
     let body = boxed_inner(context, fuel, state, body)?;
     state.scope.forget(len);
-    let body = then_step(context.alloc, step, body, next)?;
+    let body = then_step(context.alloc, head.step, body, next)?;
     let turned = Statement::While {
         test: Box::into_inner(test),
         bound: turns,
         body,
-        place,
+        place: head.place,
     };
     let turned = boxed(context.alloc, turned)?;
-    let k = after_start(context.alloc, start, first, turned)?;
+    let k = after_start(context.alloc, head.start, first, turned)?;
     Ok(k)
 }
 
@@ -268,7 +255,7 @@ fn call<'p>(
 {
     let first = state.slot;
     let taken = count(args.len())?;
-    let behind = sum(first, taken)?;
+    let after = sum(first, taken)?;
     let mut list = set_params(
         context.alloc,
         &context.source.globals,
@@ -276,30 +263,10 @@ fn call<'p>(
         first,
         args,
     )?;
-    state.slot = behind;
+    state.slot = after;
     let body = in_place(context, fuel, first, state, name.id)?;
     list.push(body)?;
     Ok(sequence(list))
-}
-
-/// A `par`.
-fn par<'p>(
-    context: &Context<'_, 'p>,
-    place: Place,
-    state: &mut State<'p>,
-    all: &'p [Branch],
-) -> Result<Statement, OutOfMemory>
-    requires { OneText context.now.source.now }
-    ensures does { IfOk result (λ k. Done context.now (tree.Par place (plain.branches all.now)) (kernel.stmt k) state.old state.new) }
-    ensures same { OnOk result (Same state.old.scope state.new.scope) }
-{
-    if all.is_empty() {
-        return Ok(Statement::Nop);
-    }
-    let par = state.par;
-    state.par = sum(par, 1)?;
-    let branches = branches(context, par, state, all)?;
-    Ok(Statement::Par { branches })
 }
 
 /// An abort.
@@ -307,23 +274,25 @@ fn par<'p>(
 fn abort<'p>(
     context: &Context<'_, 'p>,
     fuel: u32,
-    place: Place,
     state: &mut State<'p>,
-    weak: bool,
-    immediate: bool,
-    test: &Expr,
+    head: AbortHead<'p>,
     body: &'p [Stmt],
 ) -> Result<Statement, OutOfMemory>
     requires { OneText context.now.source.now }
-    ensures does { IfOk result (λ k. Done context.now (tree.Abort place weak immediate (plain.term test.now) (plain.statements body.now)) (kernel.stmt k) state.old state.new) }
+    ensures does { IfOk result (λ k. DoneAbort context.now head.entry body.now (kernel.stmt k) state.old state.new) }
     ensures same { OnOk result (Same state.old.scope state.new.scope) }
 {
     let body = block(context, fuel, state, body)?;
     let body = boxed(context.alloc, body)?;
-    let test = lower_term(context.alloc, &context.source.globals, &state.scope, test)?;
+    let test = lower_term(
+        context.alloc,
+        &context.source.globals,
+        &state.scope,
+        head.test,
+    )?;
     Ok(Statement::Enter {
-        weak,
-        immediate,
+        weak: head.weak,
+        immediate: head.immediate,
         test,
         body,
     })
@@ -364,8 +333,7 @@ fn landed<'p>(
 ) -> Result<Statement, OutOfMemory>
     requires text { OneText context.now.source.now }
     requires calls { calls ≤ context.now.deep }
-    ensures does { IfOk result (λ k. Does (context_text context.now) (lowering.lower_statement (context_text context.now) (called_within (context_text context.now) (context.now.deep - calls))
-        context.now.owner [] (next_of state.old) (plain.statement s.now)) (kernel.stmt k) state.old state.new) }
+    ensures does { IfOk result (λ k. DoneLanded context.now calls (plain.statement s.now) (kernel.stmt k) state.old state.new) }
     ensures same { OnOk result (Same state.old.scope state.new.scope) }
 {
     let below = Context {
@@ -424,7 +392,7 @@ fn optional_statement<'p>(
 ) -> Result<Box<Statement>, OutOfMemory>
     requires { OneText context.now.source.now }
     ensures does { IfOk result (λ k. DonePerhaps context.now (perhaps_of s.now) (kernel.stmt k.value) state.old state.new) }
-    ensures seen { OnOk result (seen state.new.scope ≡ lowering.scope_after_perhaps (context_text context.now) (seen state.old.scope) state.old.slot (perhaps_of s.now)) }
+    ensures seen { OnOk result (SeenAfterPerhaps context.now (perhaps_of s.now) state.old state.new) }
     ensures kept { OnOk result (Kept state.old.scope state.new.scope) }
 {
     match s {
@@ -438,7 +406,7 @@ fn optional_statement<'p>(
 
 /// Statements in the scope that stands.
 #[cycle(body)]
-fn list<'p>(
+pub fn list<'p>(
     context: &Context<'_, 'p>,
     fuel: u32,
     state: &mut State<'p>,
@@ -488,7 +456,7 @@ pub fn in_place<'p>(
     id: u32,
 ) -> Result<Statement, OutOfMemory>
     requires { OneText context.now.source.now }
-    ensures does { IfOk result (λ k. Does (context_text context.now) (called_within (context_text context.now) context.now.deep id first context.now.owner (next_of state.old)) (kernel.stmt k) state.old state.new) }
+    ensures does { IfOk result (λ k. DoneCall context.now id first (kernel.stmt k) state.old state.new) }
     ensures same { OnOk result (Same state.old.scope state.new.scope) }
 {
     if context.deep == 0 {
@@ -523,8 +491,7 @@ pub fn in_function<'p>(
     function: &'p Function,
 ) -> Result<Statement, OutOfMemory>
     requires { OneText context.now.source.now }
-    ensures does { IfOk result (λ k. Does (context_text context.now) (lowering.body_in_place (context_text context.now) (called_within (context_text context.now) context.now.deep)
-        (Some (plain.plain_function function.now)) first context.now.owner (next_of state.old)) (kernel.stmt k) state.old state.new) }
+    ensures does { IfOk result (λ k. DoneFunction context.now (plain.plain_function function.now) first (kernel.stmt k) state.old state.new) }
     ensures same { OnOk result (Same state.old.scope state.new.scope) }
 {
     let base = state.scope.hide();
@@ -532,23 +499,6 @@ pub fn in_function<'p>(
         .scope
         .declare_params(first, function.params.as_slice())?;
     let body = function.body.as_slice();
-    let list = list(context, fuel, state, body)?;
-    state.scope.show(base);
-    Ok(sequence(list))
-}
-
-/// A block that is a branch: it sees global names alone.
-pub fn hidden<'p>(
-    context: &Context<'_, 'p>,
-    fuel: u32,
-    state: &mut State<'p>,
-    body: &'p [Stmt],
-) -> Result<Statement, OutOfMemory>
-    requires { OneText context.now.source.now }
-    ensures does { IfOk result (λ k. DoneAsOne context.now [] (plain.statements body.now) (kernel.stmt k) state.old state.new) }
-    ensures same { OnOk result (Same state.old.scope state.new.scope) }
-{
-    let base = state.scope.hide();
     let list = list(context, fuel, state, body)?;
     state.scope.show(base);
     Ok(sequence(list))

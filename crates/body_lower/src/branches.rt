@@ -1,16 +1,17 @@
-//! The branches of a `par`: each is a thread, whose body is translated later, by itself.
+//! A `par` and its branches: each is a thread, whose body is translated later, by itself.
 
 ghost use Rattle.std.specs.Prelude.{◌∷◌, [], map, IfOk, OnOk};
 ghost use Rattle.forec_tree.specs.Plain as plain;
+ghost use Rattle.forec_tree.specs.Terms as tree;
 ghost use Rattle.forec_kernel.specs.Plain as kernel;
-ghost use Rattle.body_lower.specs.Views.{OneText, context_text, seen, Same, DoneBranches, Launches};
+ghost use Rattle.body_lower.specs.Views.{OneText, context_text, seen, Same, Done, DoneBranches, Launches};
 
 use crate::context::Context;
 use crate::parts::sum;
 use crate::state::{Pending, State};
 use crate::term::lower_terms;
-use forec_base::OutOfMemory;
-use forec_kernel::{Expression, Launch};
+use forec_base::{OutOfMemory, Place};
+use forec_kernel::{Expression, Launch, Statement};
 use forec_tree::Branch;
 
 /// The arguments of a branch.
@@ -49,7 +50,7 @@ fn branch<'p>(
     }
     let number = state.thread;
     let first = state.par;
-    let behind = sum(number, added.threads)?;
+    let after = sum(number, added.threads)?;
     let next = sum(first, added.pars)?;
     state.pending.push(Pending {
         number,
@@ -59,7 +60,7 @@ fn branch<'p>(
         deep: context.deep,
         branch: one,
     })?;
-    state.thread = behind;
+    state.thread = after;
     state.par = next;
     let args = arguments(context, state, one)?;
     Ok(Launch {
@@ -69,7 +70,7 @@ fn branch<'p>(
 }
 
 /// The branches of a `par`.
-pub fn branches<'p>(
+fn branches<'p>(
     context: &Context<'_, 'p>,
     par: u32,
     state: &mut State<'p>,
@@ -85,4 +86,24 @@ pub fn branches<'p>(
         launches.push(launch)?;
     }
     Ok(launches)
+}
+
+/// A `par`.
+pub fn par<'p>(
+    context: &Context<'_, 'p>,
+    place: Place,
+    state: &mut State<'p>,
+    all: &'p [Branch],
+) -> Result<Statement, OutOfMemory>
+    requires { OneText context.now.source.now }
+    ensures does { IfOk result (λ k. Done context.now (tree.Par place (plain.branches all.now)) (kernel.stmt k) state.old state.new) }
+    ensures same { OnOk result (Same state.old.scope state.new.scope) }
+{
+    if all.is_empty() {
+        return Ok(Statement::Nop);
+    }
+    let par = state.par;
+    state.par = sum(par, 1)?;
+    let branches = branches(context, par, state, all)?;
+    Ok(Statement::Par { branches })
 }

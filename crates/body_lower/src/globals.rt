@@ -15,7 +15,7 @@ use text_kernel::Stands;
 
 /// How many variables, constant arrays and int functions stand before an item.
 #[derive(Clone, Copy)]
-pub struct Counts {
+pub struct ItemCounts {
     pub variables: u32,
     pub tables: u32,
     pub functions: u32,
@@ -25,8 +25,8 @@ pub struct Counts {
 #[derive(Drop)]
 pub struct Globals<'p> {
     pub index: Index<'p>,
-    before: Vec<Option<Counts>>,
-    pub total: Counts,
+    before: Vec<Option<ItemCounts>>,
+    pub total: ItemCounts,
     ghost right: { (id : ℕ) → numbering.given (slice_index_or before.items id None) total ≡ numbering.before_name id numbering.none (text_of index) },
 }
 
@@ -77,10 +77,10 @@ fn is_int_function(item: &Item) -> bool
 }
 
 /// The counts after an item.
-fn counted(counts: Counts, item: &Item) -> Result<Counts, OutOfMemory>
+fn counted(counts: ItemCounts, item: &Item) -> Result<ItemCounts, OutOfMemory>
     ensures { IfOk result (λ c. c ≡ numbering.counted counts (plain_item item.now)) }
 {
-    Ok(Counts {
+    Ok(ItemCounts {
         variables: one_more(counts.variables, is_variable(item))?,
         tables: one_more(counts.tables, is_table(item))?,
         functions: one_more(counts.functions, is_int_function(item))?,
@@ -88,7 +88,11 @@ fn counted(counts: Counts, item: &Item) -> Result<Counts, OutOfMemory>
 }
 
 /// Puts counts at a name that has none.
-fn note(before: &mut Vec<Option<Counts>>, id: u32, counts: Counts) -> Result<(), OutOfMemory>
+fn note(
+    before: &mut Vec<Option<ItemCounts>>,
+    id: u32,
+    counts: ItemCounts,
+) -> Result<(), OutOfMemory>
     ensures { OnOk result ((g : ℕ) → slice_index_or before.new.items g None ≡ numbering.noted id g counts (slice_index_or before.old.items g None)) }
 {
     let at = id as usize;
@@ -119,7 +123,7 @@ pub fn first_value(global: &Variable) -> i32
 }
 
 /// What a global stands for, with the counts before it.
-fn global_stands(counts: Counts, global: &Variable) -> Stands
+fn global_stands(counts: ItemCounts, global: &Variable) -> Stands
     ensures { result ≡ numbering.global_stands counts (plain_global global.now) }
 {
     if !is_constant(global.kind) {
@@ -148,7 +152,7 @@ impl<'p> Globals<'p> {
     {
         let index = Index::of(alloc, items)?;
         let mut before = Vec::new(alloc);
-        let mut total = Counts {
+        let mut total = ItemCounts {
             variables: 0,
             tables: 0,
             functions: 0,
@@ -164,7 +168,7 @@ impl<'p> Globals<'p> {
         })
     }
 
-    fn counts(&self, id: u32) -> Counts
+    fn counts(&self, id: u32) -> ItemCounts
         ensures { result ≡ numbering.before_name id numbering.none (text_of self.now.index) }
     {
         match self.before.get(id as usize) {

@@ -7,6 +7,7 @@ mod body;
 mod branches;
 mod context;
 mod globals;
+mod heads;
 mod landing;
 mod loops;
 mod parts;
@@ -19,7 +20,7 @@ mod trail;
 
 pub use body::{FUEL, in_function, in_place};
 pub use context::Context;
-pub use globals::{Counts, Globals, first_number, first_value, is_constant};
+pub use globals::{Globals, ItemCounts, first_number, first_value, is_constant};
 pub use parts::{count, sum};
 pub use scope::Scope;
 pub use source::Source;

@@ -4,12 +4,11 @@ ghost use Rattle.std.specs.Prelude.{◌≡◌, IfOk};
 ghost use Rattle.forec_tree.specs.Plain as plain;
 ghost use Rattle.forec_tree.specs.Plain.{perhaps_of};
 ghost use Rattle.forec_kernel.specs.Plain as kernel;
-ghost use Rattle.loop_check.specs.Views.{text_of};
 ghost use Rattle.text_kernel.specs.Lowering as lowering;
-ghost use Rattle.body_lower.specs.Views.{seen};
+ghost use Rattle.body_lower.specs.Views.{IsTest};
 
+use crate::context::Context;
 use crate::parts::{both, boxed, boxed_term};
-use crate::source::Source;
 use crate::state::State;
 use crate::term::lower_boxed;
 use forec_base::OutOfMemory;
@@ -40,16 +39,15 @@ pub fn or_inferred(bound: Option<u32>, inferred: Option<u32>) -> Option<u32>
 
 /// The test of a `for`, in a box; a missing one is the number 1.
 pub fn optional_test(
-    alloc: Global,
-    source: &Source<'_>,
+    context: &Context<'_, '_>,
     state: &State<'_>,
     test: &Option<Expr>,
 ) -> Result<Box<Expression>, OutOfMemory>
-    ensures { IfOk result (λ k. kernel.expr k.value ≡ lowering.optional_test (text_of source.now.globals.index) (seen state.now.scope) (plain.optional_term test.now)) }
+    ensures { IfOk result (λ k. IsTest context.now state.now test.now (kernel.expr k.value)) }
 {
     match test {
-        None => boxed_term(alloc, Expression::Number { value: 1 }),
-        Some(e) => lower_boxed(alloc, &source.globals, &state.scope, e),
+        None => boxed_term(context.alloc, Expression::Number { value: 1 }),
+        Some(e) => lower_boxed(context.alloc, &context.source.globals, &state.scope, e),
     }
 }
 

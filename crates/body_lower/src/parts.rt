@@ -1,6 +1,6 @@
 //! Small parts of statements.
 
-ghost use Rattle.std.specs.Prelude.{◌≡◌, ◌+◌, map, IfOk};
+ghost use Rattle.std.specs.Prelude.{◌≡◌, ◌≤◌, ◌+◌, ◌^◌, map, IfOk, OnErr};
 ghost use Rattle.forec_kernel.specs.Plain as kernel;
 ghost use Rattle.text_kernel.specs.Lowering as lowering;
 
@@ -34,7 +34,8 @@ pub fn boxed_term(alloc: Global, e: Expression) -> Result<Box<Expression>, OutOf
 ///
 /// Want of memory: past 32 bits there is none for so many.
 pub fn sum(a: u32, b: u32) -> Result<u32, OutOfMemory>
-    ensures { IfOk result (λ n. n ≡ a + b) }
+    ensures ok { IfOk result (λ n. n ≡ a + b) }
+    ensures refused { OnErr result (2 ^ 32 ≤ a + b) }
 {
     match a.checked_add(b) {
         None => Err(OutOfMemory),
@@ -75,7 +76,8 @@ pub fn both(
 ///
 /// Want of memory: past 32 bits there is none for so many.
 pub fn count(n: usize) -> Result<u32, OutOfMemory>
-    ensures { IfOk result (λ m. m ≡ n) }
+    ensures ok { IfOk result (λ m. m ≡ n) }
+    ensures refused { OnErr result (2 ^ 32 ≤ n) }
 {
     match u32::try_from(n) {
         Err(_) => Err(OutOfMemory),

@@ -1,6 +1,6 @@
 //! The locals that a statement sees.
 
-ghost use Rattle.std.specs.Prelude.{◌≡◌, ◌≤◌, ◌++◌, ◌∷◌, [], ℕ, map, length, drop, take, None, OnOk};
+ghost use Rattle.std.specs.Prelude.{◌≡◌, ◌≤◌, ◌++◌, ◌∷◌, [], ℕ, map, length, drop, take, None, OnOk, OnErr};
 ghost use Rattle.body_lower.specs.Trail.{id_of};
 ghost use Rattle.text_kernel.specs.Bindings as bindings;
 
@@ -17,16 +17,18 @@ pub struct Scope {
     trail: Trail,
     pub slots: Vec<Slot>,
     pub base: usize,
-    ghost same: { map id_of trail.steps.items ≡ map bindings.slot_id slots.items },
+    ghost same: { map id_of trail.links.items ≡ map bindings.slot_id slots.items },
     ghost within: { base ≤ length slots.items },
 }
 
 impl Scope {
-    ghost use Rattle.body_lower.specs.Views.{seen, Kept};
+    ghost use Rattle.body_lower.specs.Views.{seen, Kept, Same};
 
     /// No locals.
     pub fn new(alloc: Global) -> Scope
-        ensures { seen result ≡ [] }
+        ensures seen { seen result ≡ [] }
+        ensures slots { result.slots.items ≡ [] }
+        ensures base { result.base ≡ 0 }
     {
         Scope {
             trail: Trail::new(alloc),
@@ -58,6 +60,7 @@ impl Scope {
     pub fn declare(&mut self, slot: Slot) -> Result<(), OutOfMemory>
         ensures seen { OnOk result (seen self.new ≡ seen self.old ++ slot ∷ []) }
         ensures kept { OnOk result (Kept self.old self.new) }
+        ensures same { OnErr result (Same self.old self.new) }
     {
         self.slots.push(slot)?;
         if let Err(e) = self.trail.push(slot.id) {

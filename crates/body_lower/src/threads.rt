@@ -1,21 +1,23 @@
 //! The threads below thread 0: the body of each is translated by itself, in the order of their numbers.
 
-ghost use Rattle.std.specs.Prelude.{◌≡◌, ◌+◌, ◌∷◌, ◌++◌, [], map, length, IfOk, OnOk};
+ghost use Rattle.std.specs.Prelude.{◌≡◌, ◌+◌, ◌++◌, [], map, length, IfOk, OnOk};
 ghost use Rattle.forec_base.specs.declared.Place.{Place};
 ghost use Rattle.forec_tree.specs.Pauses as pauses;
 ghost use Rattle.forec_tree.specs.Plain as plain;
 ghost use Rattle.forec_tree.specs.Terms as tree;
 ghost use Rattle.forec_tree.specs.Terms.{Text};
+ghost use Rattle.forec_kernel.specs.Plain as kernel;
 ghost use Rattle.loop_check.specs.Views.{text_of};
 ghost use Rattle.text_kernel.specs.Lowering as lowering;
-ghost use Rattle.body_lower.specs.Views.{OneText, context_text, of_thread, bare, made_by, made_of, threads_in, threads_of, threads_on};
+ghost use Rattle.body_lower.specs.Views.{OneText, Same, DoneAsOne, of_thread, IsMade, IsMadeBy, threads_in, threads_of, threads_on};
 
-use crate::body::{FUEL, hidden, in_place};
+use crate::body::{FUEL, in_place, list};
 use crate::context::Context;
-use crate::parts::{count, sum};
+use crate::parts::{count, sequence, sum};
 use crate::source::Source;
 use crate::state::{Pending, State, Thread};
 use forec_base::OutOfMemory;
+use forec_kernel::Statement;
 use forec_tree::{Branch, Expr, Name, Stmt};
 use std::alloc::Global;
 
@@ -29,6 +31,23 @@ fn params_of(source: &Source<'_>, id: u32) -> Result<u32, OutOfMemory>
     }
 }
 
+/// A block that is a branch: it sees global names alone.
+fn hidden<'p>(
+    context: &Context<'_, 'p>,
+    fuel: u32,
+    state: &mut State<'p>,
+    body: &'p [Stmt],
+) -> Result<Statement, OutOfMemory>
+    requires { OneText context.now.source.now }
+    ensures does { IfOk result (λ k. DoneAsOne context.now [] (plain.statements body.now) (kernel.stmt k) state.old state.new) }
+    ensures same { OnOk result (Same state.old.scope state.new.scope) }
+{
+    let base = state.scope.hide();
+    let list = list(context, fuel, state, body)?;
+    state.scope.show(base);
+    Ok(sequence(list))
+}
+
 /// Translates a branch that calls a function.
 fn calling<'p>(
     context: &Context<'_, 'p>,
@@ -40,8 +59,7 @@ fn calling<'p>(
     requires text { OneText context.now.source.now }
     requires number { state.old.thread ≡ context.now.owner + 1 }
     requires none { state.old.pending.items ≡ [] }
-    ensures { IfOk result (λ t. of_thread t ∷ threads_of (context_text context.now) state.new
-        ≡ map bare (made_by (context_text context.now) context.now.deep one.entry.parent one.entry.par context.now.owner state.old.par (tree.by_call name (plain.terms args.now) tree.no_branches))) }
+    ensures { IfOk result (λ t. IsMadeBy context.now one.entry (tree.by_call name (plain.terms args.now) tree.no_branches) t state.old state.new) }
 {
     let params = params_of(context.source, name.id)?;
     let taken = count(args.len())?;
@@ -68,8 +86,8 @@ fn blocking<'p>(
     requires text { OneText context.now.source.now }
     requires number { state.old.thread ≡ context.now.owner + 1 }
     requires none { state.old.pending.items ≡ [] }
-    ensures { IfOk result (λ t. (place : Place) → of_thread t ∷ threads_of (context_text context.now) state.new
-        ≡ map bare (made_by (context_text context.now) context.now.deep one.entry.parent one.entry.par context.now.owner state.old.par (tree.by_group place (plain.statements body.now) tree.no_branches))) }
+    ensures { IfOk result (λ t. (place : Place) →
+        IsMadeBy context.now one.entry (tree.by_group place (plain.statements body.now) tree.no_branches) t state.old state.new) }
 {
     state.slot = 0;
     let body = hidden(context, FUEL, state, body)?;
@@ -93,10 +111,10 @@ fn translated<'p>(
 ) -> Result<Thread, OutOfMemory>
     requires text { OneText source.now }
     requires none { state.old.pending.items ≡ [] }
-    ensures { IfOk result (λ t. of_thread t ∷ threads_of (text_of source.now.globals.index) state.new ≡ map bare (made_of (text_of source.now.globals.index) one.entry)) }
+    ensures { IfOk result (λ t. IsMade (text_of source.now.globals.index) one.entry t state.new) }
 {
-    let behind = sum(one.number, 1)?;
-    state.thread = behind;
+    let after = sum(one.number, 1)?;
+    state.thread = after;
     state.par = one.first;
     let context = Context {
         alloc,

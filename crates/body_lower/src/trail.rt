@@ -9,7 +9,7 @@ use std::alloc::Global;
 /// A number of a trail, and where it stands last among those before it, counted from 1, or 0 where it
 /// doesn't.
 #[derive(Clone, Copy)]
-pub struct Step {
+pub struct Link {
     pub id: u32,
     pub before: usize,
 }
@@ -18,10 +18,10 @@ pub struct Step {
 /// time however many there are; the room is that of the greatest number.
 #[derive(Drop)]
 pub struct Trail {
-    pub steps: Vec<Step>,
+    pub links: Vec<Link>,
     latest: Vec<usize>,
-    ghost latest_right: { (id : ℕ) → slice_index_or latest.items id 0 ≡ last_of id steps.items },
-    ghost chained: { Chained steps.items },
+    ghost latest_right: { (id : ℕ) → slice_index_or latest.items id 0 ≡ last_of id links.items },
+    ghost chained: { Chained links.items },
 }
 
 /// Puts a place at a number of a table, which is lengthened as needed.
@@ -38,19 +38,19 @@ fn put(latest: &mut Vec<usize>, id: u32, place: usize) -> Result<(), OutOfMemory
 }
 
 impl Trail {
-    /// No steps.
+    /// No numbers.
     pub fn new(alloc: Global) -> Trail
-        ensures { result.steps.items ≡ [] }
+        ensures { result.links.items ≡ [] }
     {
         Trail {
-            steps: Vec::new(alloc),
+            links: Vec::new(alloc),
             latest: Vec::new(alloc),
         }
     }
 
     /// Where a number stands last, counted from 1, or 0 where it doesn't.
     pub fn last(&self, id: u32) -> usize
-        ensures { result ≡ last_of id self.now.steps.items }
+        ensures { result ≡ last_of id self.now.links.items }
     {
         match self.latest.get(id as usize) {
             None => 0,
@@ -60,14 +60,14 @@ impl Trail {
 
     /// Adds a number.
     pub fn push(&mut self, id: u32) -> Result<(), OutOfMemory>
-        ensures ok { OnOk result (self.new.steps.items ≡ pushed self.old.steps.items id) }
-        ensures err { OnErr result (self.new.steps.items ≡ self.old.steps.items) }
+        ensures ok { OnOk result (self.new.links.items ≡ pushed self.old.links.items id) }
+        ensures err { OnErr result (self.new.links.items ≡ self.old.links.items) }
     {
         let before = self.last(id);
-        let place = self.steps.len() + 1;
-        self.steps.push(Step { id, before })?;
+        let place = self.links.len() + 1;
+        self.links.push(Link { id, before })?;
         if let Err(e) = put(&mut self.latest, id, place) {
-            let _ = self.steps.pop();
+            let _ = self.links.pop();
             return Err(e);
         }
         Ok(())
@@ -75,23 +75,23 @@ impl Trail {
 
     /// Takes the last number away.
     fn pop(&mut self)
-        requires { 0 < length self.old.steps.items }
-        ensures { self.new.steps.items ≡ take (length self.old.steps.items - 1) self.old.steps.items }
+        requires { 0 < length self.old.links.items }
+        ensures { self.new.links.items ≡ take (length self.old.links.items - 1) self.old.links.items }
     {
-        if let Some(step) = self.steps.pop() {
-            let at = step.id as usize;
+        if let Some(link) = self.links.pop() {
+            let at = link.id as usize;
             if at < self.latest.len() {
-                self.latest[at] = step.before;
+                self.latest[at] = link.before;
             }
         }
     }
 
     /// Keeps the first so many numbers.
     pub fn truncate(&mut self, n: usize)
-        requires { n ≤ length self.old.steps.items }
-        ensures { self.new.steps.items ≡ take n self.old.steps.items }
+        requires { n ≤ length self.old.links.items }
+        ensures { self.new.links.items ≡ take n self.old.links.items }
     {
-        while self.steps.len() > n {
+        while self.links.len() > n {
             self.pop();
         }
     }

@@ -23,7 +23,7 @@ loop-local-preserved c =
     let s = seen c.loop-local.scope in
     let t = seen c.declare.new.self in
     let made : t ≡ s ++ local_slot at (declared d) ∷ [] = c.in_ok-declare.ensures.seen ∙ ap (λ n. s ++ slot_of d at n ∷ []) c.size_of.ensures in
-    let next : c.in_ok-slot.field-0 ≡ at + slots_of d.length = c.in_ok-slot.ensures ∙ ap (λ n. at + n) c.slots_of.ensures in
+    let next : c.in_ok-slot.field-0 ≡ at + slots_of d.length = c.in_ok-slot.ensures.ok ∙ ap (λ n. at + n) c.slots_of.ensures in
     record {
       list = locals_list text s t at c.in_ok-slot.field-0 d rest c.loop-local.list.items c.push.new.self.items c.in_ok-lower_local.field-0 _ items i e made next c.in_ok-lower_local.ensures c.in_ok-push.ensures.items c.loop-local.invariant.list;
       slot = locals_slot text at c.in_ok-slot.field-0 d rest items i _ e next c.loop-local.invariant.slot;

@@ -8,5 +8,5 @@ use Rattle.body_lower.proofs.assign.set_values.Given as goal
 
 abbrev pub invariant-loop-at : goal.invariant-loop-at
 invariant-loop-at l =
-    lowering.joined (kernel.stmts l.list.items) (lowering.array_values (text_of l.globals.index) (seen l.scope) l.slot l.length l.at (plain.terms (drop l.at l.values)) l.place)
-    ≡ lowering.joined (kernel.stmts l.fn.list.items) (lowering.array_values (text_of l.globals.index) (seen l.scope) l.slot l.length 0 (plain.terms l.values) l.place)
+    lowering.joined (kernel.stmts l.list.items) (lowering.array_values (text_of l.globals.index) (seen l.scope) l.array.slot l.array.length l.at (plain.terms (drop l.at l.values)) l.array.place)
+    ≡ lowering.joined (kernel.stmts l.fn.list.items) (lowering.array_values (text_of l.globals.index) (seen l.scope) l.array.slot l.array.length 0 (plain.terms l.values) l.array.place)

@@ -9,6 +9,7 @@ use Rattle.forec_kernel.specs.Plain.{stmt, stmts, expr}
 use Rattle.body_lower.specs.declared.state.State.{State}
 use Rattle.text_kernel.specs.Lowering.{NextNumbers, sequence, bound_of, or_inferred, after_start, lower_statement}
 use Rattle.text_kernel.specs.Bindings.{params_at}
+use Rattle.body_lower.specs.Heads.{for_of}
 use Rattle.body_lower.specs.Landings.{called_within}
 use Rattle.body_lower.specs.Views.{context_text, seen, next_of, Does, Done}
 use Rattle.body_lower.proofs.Statements.{kept_then}
@@ -64,7 +65,7 @@ by_kind-returns-in_ok-k-in-If-clause-does t c =
     let F = lower_statement text (called_within text c.args.context.now.deep) c.args.context.now.owner (seen c.args.state.now.scope) (next_of c.args.state.now) in
     does_as _ _ (stmt c.in_ok-k-in-If.k) c.args.state.now c.if_statement.new.state
     (ap (λ y. F (tree.If c.args.s.now.place (term c.in-If.test) (statement y) (perhaps_of c.in-If.no))) c.deref.ensures ∙ of_if F c.args.s.now c.in-If.test c.in-If.yes c.in-If.no c.in-If.is)
-    c.in_ok-k-in-If.ensures.does
+    (c.in_ok-k-in-If.ensures.does c.args.s.now.place)
 
 pub by_kind-returns-in_ok-k-in-For-clause-does : goal.by_kind-returns-in_ok-k-in-For-clause-does
 by_kind-returns-in_ok-k-in-For-clause-does t c =
@@ -88,7 +89,7 @@ by_kind-returns-in_ok-k-in-Abort-clause-does t c =
     does_as _ _ (stmt c.in_ok-k-in-Abort.k) c.args.state.now c.abort.new.state
     (of_abort (lower_statement text (called_within text c.args.context.now.deep) c.args.context.now.owner (seen c.args.state.now.scope) (next_of c.args.state.now)) c.args.s.now c.in-Abort.weak c.in-Abort.immediate c.in-Abort.test c.in-Abort.body
     c.as_slice-body-in-Abort.result.now c.in-Abort.is c.as_slice-body-in-Abort.ensures)
-    c.in_ok-k-in-Abort.ensures.does
+    (c.in_ok-k-in-Abort.ensures.does c.args.s.now.place)
 
 pub in_place-returns-then-context-eq0-clause-does : goal.in_place-returns-then-context-eq0-clause-does
 in_place-returns-then-context-eq0-clause-does t c =
@@ -107,10 +108,10 @@ pub call-returns-clause-does : goal.call-returns-clause-does
 call-returns-clause-does t c =
     let text = context_text c.args.context.now in
     let old = c.args.state.now in
-    let one : State = record old { slot = c.in_ok-behind.behind } in
+    let one : State = record old { slot = c.in_ok-after.after } in
     let at = λ (x : Rattle.std.proofs.Common.ℕ). let n : NextNumbers = record { slot = x; thread = (next_of old).thread; par = old.par } in n in
     call_does text (called_within text c.args.context.now.deep) c.args.context.now.owner (seen old.scope) (next_of old) c.args.place c.args.name (terms c.args.args.now) old one c.in_place.new.state (stmts c.in_ok-list.list.items)
-    (stmt c.in_ok-body.body) _ c.in_ok-list.ensures (ap at (c.in_ok-behind.ensures ∙ ap (λ n. old.slot + n) (c.in_ok-taken.ensures ∙ count_args c.args.args.now))) refl c.in_ok-body.ensures.does
+    (stmt c.in_ok-body.body) _ c.in_ok-list.ensures (ap at (c.in_ok-after.ensures.ok ∙ ap (λ n. old.slot + n) (c.in_ok-taken.ensures.ok ∙ count_args c.args.args.now))) refl c.in_ok-body.ensures.does
     (c.sequence.ensures ∙ ap sequence (ap stmts c.in_ok-push.ensures.items ∙ ends_pushed c.in_ok-list.list.items c.in_ok-body.body))
 
 pub if_statement-returns-clause-does : goal.if_statement-returns-clause-does
@@ -119,19 +120,21 @@ if_statement-returns-clause-does t c =
     let old = c.args.state.now in
     let one = c.boxed_inner.new.state in
     let two = c.optional_inner.new.state in
-    if_does text (called_within text c.args.context.now.deep) c.args.context.now.owner c.args.place (term c.args.test.now) (statement c.args.yes.now) (perhaps_of c.args.no.now) old one two (stmt c.in_ok-yes.yes.value)
+    λ at.
+    if_does text (called_within text c.args.context.now.deep) c.args.context.now.owner at (term c.args.test.now) (statement c.args.yes.now) (perhaps_of c.args.no.now) old one two (stmt c.in_ok-yes.yes.value)
     (stmt c.in_ok-no.no.value) (expr c.in_ok-test.test) c.in_ok-yes.ensures.same c.in_ok-no.ensures.same c.in_ok-yes.ensures.does c.in_ok-no.ensures.does c.in_ok-test.ensures
 
 pub while_statement-returns-clause-does : goal.while_statement-returns-clause-does
 while_statement-returns-clause-does t c =
     let text = context_text c.args.context.now in
-    while_does text (called_within text c.args.context.now.deep) c.args.context.now.owner c.args.place (term c.args.test.now) c.args.bound (statement c.args.body.now) c.args.state.now c.boxed_inner.new.state
+    while_does text (called_within text c.args.context.now.deep) c.args.context.now.owner c.args.head.place (term c.args.head.test.now) c.args.head.bound (statement c.args.body.now) c.args.state.now c.boxed_inner.new.state
     (stmt c.in_ok-body.body.value) (expr c.in_ok-test.test) c.bound_of-bound.result c.in_ok-body.ensures.same c.in_ok-body.ensures.does c.in_ok-test.ensures c.bound_of-bound.ensures
 
 pub abort-returns-clause-does : goal.abort-returns-clause-does
 abort-returns-clause-does t c =
     let text = context_text c.args.context.now in
-    abort_does text (called_within text c.args.context.now.deep) c.args.context.now.owner c.args.place c.args.weak c.args.immediate (term c.args.test.now) (statements c.args.body.now) c.args.state.now c.block.new.state
+    λ at.
+    abort_does text (called_within text c.args.context.now.deep) c.args.context.now.owner at c.args.head.weak c.args.head.immediate (term c.args.head.test.now) (statements c.args.body.now) c.args.state.now c.block.new.state
     (stmt c.in_ok-body-2.body.value) (expr c.in_ok-test.test) c.in_ok-body.ensures.same (does_boxed _ _ _ c.in_ok-body-2.ensures c.block.new.state c.in_ok-body.ensures.does) c.in_ok-test.ensures
 
 pub for_statement-returns-clause-does : goal.for_statement-returns-clause-does
@@ -142,19 +145,19 @@ for_statement-returns-clause-does t c =
     let two = c.optional_statement-2.new.state in
     let three = c.boxed_inner.new.state in
     let new : State = record three { scope = c.forget.new.self } in
-    let start = perhaps_of c.args.start.now in
-    let step = perhaps_of c.args.step.now in
+    let start = perhaps_of c.args.head.start.now in
+    let step = perhaps_of c.args.head.step.now in
     let first = stmt c.in_ok-first.first.value in
     let test = expr c.in_ok-test.test.value in
-    let whole = tree.For c.args.place start (optional_term c.args.test.now) step c.args.bound (statement c.args.body.now) in
-    for_does text (called_within text c.args.context.now.deep) c.args.context.now.owner (seen old.scope) (next_of old) c.args.place start (optional_term c.args.test.now) step c.args.bound (statement c.args.body.now) old one two three new
+    let whole = for_of c.args.head c.args.body.now in
+    for_does text (called_within text c.args.context.now.deep) c.args.context.now.owner (seen old.scope) (next_of old) c.args.head.place start (optional_term c.args.head.test.now) step c.args.head.bound (statement c.args.body.now) old one two three new
     (inferred text whole) test first (stmt c.in_ok-next.next.value) (stmt c.in_ok-body.body.value) (stmt c.in_ok-k.k) c.in_ok-first.ensures.does c.in_ok-first.ensures.seen c.in_ok-test.ensures c.in_ok-next.ensures.does
     c.in_ok-next.ensures.seen c.in_ok-body.ensures.does (record { next = refl; threads = refl }) refl
     (c.in_ok-k.ensures
     ∙ (ap (λ s. after_start start first (stmt s)) c.in_ok-turned.ensures
-    ∙ (ap (λ e. after_start start first (kernel.While (expr e) c.args.turns (stmt c.in_ok-body-2.body.value) c.args.place)) c.into_inner.ensures
-    ∙ (ap (λ b. after_start start first (kernel.While test b (stmt c.in_ok-body-2.body.value) c.args.place)) c.requires.turns
-    ∙ ap (λ b. after_start start first (kernel.While test (or_inferred (bound_of c.args.bound) (inferred text whole)) b c.args.place)) c.in_ok-body-2.ensures))))
+    ∙ (ap (λ e. after_start start first (kernel.While (expr e) c.args.turns (stmt c.in_ok-body-2.body.value) c.args.head.place)) c.into_inner.ensures
+    ∙ (ap (λ b. after_start start first (kernel.While test b (stmt c.in_ok-body-2.body.value) c.args.head.place)) c.requires.turns
+    ∙ ap (λ b. after_start start first (kernel.While test (or_inferred (bound_of c.args.head.bound) (inferred text whole)) b c.args.head.place)) c.in_ok-body-2.ensures))))
 
 pub for_statement-returns-clause-same : goal.for_statement-returns-clause-same
 for_statement-returns-clause-same t c =

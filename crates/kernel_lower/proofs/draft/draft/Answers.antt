@@ -26,7 +26,7 @@ returns c =
     let fs = functions_of c.in_ok-list-2.list.items in
     let ints : fs ≡ kernels.int_functions text names text = c.in_ok-list-2.ensures ∙ ap (kernels.int_functions text names) c.requires.items in
     let count : c.in_ok-number.number ≡ variable_count text names =
-    c.in_ok-number.ensures ∙ (c.len.ensures ∙ (c.in_ok-list.list.ok.0 ∙ (sym (length-map list (λ r. Rattle.forec_tree.specs.Plain.plain_global r.now)) ∙ ap (λ (l : Rattle.std.proofs.Common.List PlainGlobal). length l) are))) in
+    c.in_ok-number.ensures.ok ∙ (c.len.ensures ∙ (c.in_ok-list.list.ok.0 ∙ (sym (length-map list (λ r. Rattle.forec_tree.specs.Plain.plain_global r.now)) ∙ ap (λ (l : Rattle.std.proofs.Common.List PlainGlobal). length l) are))) in
     let e = c.in_ok-bodies.ensures in
     let b = c.in_ok-bodies.bodies in
     let threads : map plain_thread c.in_ok-threads.threads.shapes.items ≡ k.shape.threads =

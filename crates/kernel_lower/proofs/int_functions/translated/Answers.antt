@@ -12,7 +12,7 @@ pub returns-clause-body : goal.returns-clause-body
 returns-clause-body c =
     let old : State = record c.new-state.result { slot = c.in_ok-params.params } in
     let d =
-    translated (text_of c.args.source.now.globals.index) c.args.names.now (plain_function c.args.function.now) (stmt c.in_ok-body.body) old c.in_function.new.state (c.in_ok-params.ensures ∙ c.len.ensures) c.new-state.ensures.thread
+    translated (text_of c.args.source.now.globals.index) c.args.names.now (plain_function c.args.function.now) (stmt c.in_ok-body.body) old c.in_function.new.state (c.in_ok-params.ensures.ok ∙ c.len.ensures) c.new-state.ensures.thread
     c.new-state.ensures.par c.in_ok-body.ensures.does in
     d.is
 
@@ -21,6 +21,6 @@ returns-clause-shape c =
     let old : State = record c.new-state.result { slot = c.in_ok-params.params } in
     let made : ℕ → ℕ → FunctionShape = λ a b. record { params = a; words = b } in
     let d =
-    translated (text_of c.args.source.now.globals.index) c.args.names.now (plain_function c.args.function.now) (stmt c.in_ok-body.body) old c.in_function.new.state (c.in_ok-params.ensures ∙ c.len.ensures) c.new-state.ensures.thread
+    translated (text_of c.args.source.now.globals.index) c.args.names.now (plain_function c.args.function.now) (stmt c.in_ok-body.body) old c.in_function.new.state (c.in_ok-params.ensures.ok ∙ c.len.ensures) c.new-state.ensures.thread
     c.new-state.ensures.par c.in_ok-body.ensures.does in
-    ap (λ a. made a c.in_function.new.state.slot) (c.in_ok-params.ensures ∙ c.len.ensures) ∙ ap (λ (n : NextNumbers). made (length (plain_function c.args.function.now).params) n.slot) d.next
+    ap (λ a. made a c.in_function.new.state.slot) (c.in_ok-params.ensures.ok ∙ c.len.ensures) ∙ ap (λ (n : NextNumbers). made (length (plain_function c.args.function.now).params) n.slot) d.next

@@ -9,6 +9,6 @@ invariant_of-self c =
     let s = c.args.self.now in
     let n = s.base in
     record {
-      same = ap (map id_of) c.truncate.ensures ∙ (map_take n s.trail.steps.items s.slots.items s.same ∙ sym (ap (map slot_id) c.truncate-2.ensures.items));
+      same = ap (map id_of) c.truncate.ensures ∙ (map_take n s.trail.links.items s.slots.items s.same ∙ sym (ap (map slot_id) c.truncate-2.ensures.items));
       within = (let e = ap length c.truncate-2.ensures.items in let l = length-take n s.slots.items in let b = c.requires in omega (arith, e, l, b, s.within));
     }

@@ -1,14 +1,14 @@
 use Rattle.std.proofs.Common.{◌≡◌, ◌∙◌, ◌+◌, sym, ap, subst, ℕ, length, get_or, ◌++◌, ◌∷◌, [], arith}
-use Rattle.body_lower.specs.declared.trail.Step.{Step}
+use Rattle.body_lower.specs.declared.trail.Link.{Link}
 use Rattle.body_lower.specs.Trail.{last_of, Chained, pushed}
 use Rattle.body_lower.proofs.Trailed.{chained_push, latest_push}
 use Rattle.body_lower.proofs.trail.Trail.push.Goals as goal
 
 pub invariant_of-self-in_default : goal.invariant_of-self-in_default
 invariant_of-self-in_default c =
-    let es = c.args.self.now.steps.items in
+    let es = c.args.self.now.links.items in
     let id = c.args.id in
-    let entry = λ (n : ℕ). let e : Step = record { id = id; before = n } in e in
+    let entry = λ (n : ℕ). let e : Link = record { id = id; before = n } in e in
     let items : c.push.new.self.items ≡ pushed es id = c.in_ok-push.ensures.items ∙ ap (λ n. es ++ entry n ∷ []) c.last-before.ensures in
     let n = c.len-place.ensures in
     let place : c.len-place.result + 1 ≡ length es + 1 = omega (arith, n) in

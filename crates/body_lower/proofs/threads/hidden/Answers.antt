@@ -4,7 +4,7 @@ use Rattle.body_lower.specs.declared.state.State.{State}
 use Rattle.body_lower.specs.Landings.{called_within}
 use Rattle.body_lower.specs.Views.{context_text, seen, next_of}
 use Rattle.body_lower.proofs.Going.{as_one_does, same_list, shown_same}
-use Rattle.body_lower.proofs.body.hidden.Goals as goal
+use Rattle.body_lower.proofs.threads.hidden.Goals as goal
 
 pub returns-clause-does : goal.returns-clause-does
 returns-clause-does c =
