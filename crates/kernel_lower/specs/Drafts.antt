@@ -1,11 +1,12 @@
 -- Parts of the kernel of a program.
-use Rattle.std.specs.Prelude.{◌≡◌, ◌-◌, ℕ, suc, Bool, cond, Option, Some, None, List, [], ◌∷◌, ◌++◌, map, length, take, drop}
+use Rattle.std.specs.Prelude.{◌≡◌, ◌-◌, ℕ, suc, Bool, cond, Option, Some, None, List, [], ◌∷◌, ◌++◌, map, length, take, drop, slice_index_or}
 use Rattle.forec_tree.specs.Terms.{Text, PlainFunction}
 use Rattle.forec_tree.specs.Rules.{bytes_of}
 use Rattle.forec_kernel.specs.Terms.{Stmt, Nop}
 use Rattle.forec_kernel.specs.Plain.{stmt}
 use Rattle.forec_kernel.specs.Shapes.{PlainThread}
 use Rattle.forec_kernel.specs.WellFormed.{count_up}
+use Rattle.forec_kernel.specs.declared.terms.Statement.{Statement}
 use Rattle.forec_kernel.specs.declared.shape.FunctionShape.{FunctionShape}
 use Rattle.kernel_lower.specs.declared.expand.Bodies.{Bodies}
 use Rattle.body_lower.specs.declared.state.Thread.{Thread}
@@ -78,3 +79,11 @@ blank_bare = record { parent = 0; par = 0; name = None; params = 0; words = 0; b
 
 abbrev pub thread_body : Thread → Stmt
 thread_body t = stmt t.body
+
+-- the variables that the thread at a place and those below it name
+abbrev pub named_from : List Bare → ℕ → List ℕ
+named_from all i = named_at all i (slice_index_or all i blank_bare)
+
+-- the bodies of int functions
+abbrev pub AreBodies : Text → List (List ℕ) → List PlainFunction → List Statement → Type 0
+AreBodies text names fs bodies = map stmt bodies ≡ map (function_text text names) fs

@@ -8,7 +8,7 @@ ghost use Rattle.text_kernel.specs.Kernels as kernels;
 ghost use Rattle.text_kernel.specs.Lowering as lowering;
 ghost use Rattle.body_lower.specs.Views.{OneText};
 ghost use Rattle.text_kernel.specs.Items.{functions_of, IsInt};
-ghost use Rattle.kernel_lower.specs.Drafts.{function_shape, function_text};
+ghost use Rattle.kernel_lower.specs.Drafts.{AreBodies, function_shape, function_text};
 
 use body_lower::{Context, FUEL, Globals, Source, State, count, in_function};
 use forec_base::{Labels, OutOfMemory};
@@ -95,7 +95,7 @@ pub fn lowered_functions<'p>(
 ) -> Result<Functions, OutOfMemory>
     requires { OneText source.now }
     ensures shapes { IfOk result (λ l. l.shapes.items ≡ map (function_shape (text_of source.now.globals.index) names.now) (functions_of functions.now)) }
-    ensures bodies { IfOk result (λ l. map kernel.stmt l.bodies.items ≡ map (function_text (text_of source.now.globals.index) names.now) (functions_of functions.now)) }
+    ensures bodies { IfOk result (λ l. AreBodies (text_of source.now.globals.index) names.now (functions_of functions.now) l.bodies.items) }
 {
     let mut shapes = Vec::new(alloc);
     let mut bodies = Vec::new(alloc);

@@ -1,6 +1,6 @@
 //! The limits, in their order.
 
-ghost use Rattle.std.specs.Prelude.{◌≡◌, ◌≤◌, OnOk, IfErr};
+ghost use Rattle.std.specs.Prelude.{◌≡◌, ◌≢◌, ◌≤◌, OnOk, IfErr};
 ghost use Rattle.text_kernel.specs.Limits as limits;
 ghost use Rattle.text_kernel.specs.declared.limits.Quantity.{Quantity};
 ghost use Rattle.kernel_lower.specs.Refusals.{Passes, amount_in, First};
@@ -50,6 +50,7 @@ pub fn within(what: Quantity, count: u64) -> Result<(), LowerFault>
 pub fn judge(a: Amounts) -> Result<(), LowerFault>
     ensures ok { OnOk result ((q : Quantity) → amount_in a q ≤ limits.limit_of q) }
     ensures err { IfErr result (λ e. First (amount_in a) e) }
+    ensures counted { IfErr result (λ e. e ≢ LowerFault.OutOfMemory) }
 {
     within(Quantity::Threads, a.threads)?;
     within(Quantity::Words, a.words)?;

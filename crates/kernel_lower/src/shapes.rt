@@ -4,7 +4,7 @@ ghost use Rattle.std.specs.Prelude.{◌≡◌, ◌<◌, ◌-◌, ◌∷◌, min,
 ghost use Rattle.forec_kernel.specs.Shapes.{plain_thread, named};
 ghost use Rattle.forec_tree.specs.Rules.{bytes_of};
 ghost use Rattle.body_lower.specs.Views.{of_thread};
-ghost use Rattle.kernel_lower.specs.Drafts.{vars_bare, named_at, name_of, bare_shapes, main_shape, marked_from, blank_bare};
+ghost use Rattle.kernel_lower.specs.Drafts.{vars_bare, named_from, name_of, bare_shapes, main_shape, marked_from};
 ghost use Rattle.kernel_lower.specs.Marks.{MarksOf, row_uses, shape_uses, with_uses};
 
 use crate::expand::Bodies;
@@ -38,10 +38,10 @@ fn marks_of(alloc: Global, count: u32, threads: &[Thread]) -> Result<Vec<bool>, 
 
 /// The place after a thread and those below it in a list of so many threads, from the number of the
 /// thread after them.
-fn end_of(behind: u32, at: usize, count: usize) -> usize
-    ensures { result ≡ min (max (behind - 1) at) count }
+fn end_of(after: u32, at: usize, count: usize) -> usize
+    ensures { result ≡ min (max (after - 1) at) count }
 {
-    let last = behind as usize;
+    let last = after as usize;
     if last <= at {
         if at < count { at } else { count }
     } else if last - 1 < count {
@@ -59,7 +59,7 @@ fn marks_at(
     at: usize,
 ) -> Result<Vec<bool>, OutOfMemory>
     requires { at < length threads.now }
-    ensures { IfOk result (λ marks. MarksOf count (named_at (map of_thread threads.now) at (slice_index_or (map of_thread threads.now) at blank_bare)) marks.items) }
+    ensures { IfOk result (λ marks. MarksOf count (named_from (map of_thread threads.now) at) marks.items) }
 {
     let end = end_of(threads[at].behind, at, threads.len());
     let marks = marks_of(alloc, count, &threads[at..end])?;
