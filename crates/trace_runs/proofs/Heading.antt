@@ -14,8 +14,8 @@ use Rattle.trace_runs.specs.Ends.{IsOwn, Given, PrintedFor, Wanted}
 use Rattle.trace_runs.specs.KernelNames.{input_names}
 use Rattle.trace_rows.specs.Report.{row_line}
 use Rattle.trace_runs.specs.Report.{Report, Pace, most_rows, advance, report_from, trace_report, printed_for}
-use Rattle.trace_runs.specs.Progress.{NotStarted, Started, Led, report_rest}
-use Rattle.trace_rows.specs.declared.fault.RowFault.TheVariants as fault
+use Rattle.trace_runs.specs.Progress.{UnreadSays, Started, Led, report_rest}
+use Rattle.trace_runs.specs.declared.found.Unread.TheVariants as unread
 use Rattle.trace_runs.specs.declared.status.Status.{Status}
 use Rattle.trace_runs.specs.declared.status.Status.TheVariants as status
 use Rattle.trace_runs.proofs.Told.{told_both, told_map, told_some, told_some_both, some_map, appends_refl}
@@ -39,20 +39,11 @@ pub printed_rows : (k : PlainKernel) (b : ℕ) (line ps : List ℕ) (lines : Lis
 unfolding printed_for
 printed_rows k b line ps lines p h e = rw (h, e) refl
 
--- what stands there is no header
-pub no_header_there : (inputs : List (List ℕ)) (l l' : Option (List ℕ)) (f : RowFault) → f ≢ fault.ReadFault → f ≢ fault.OutOfMemory → NotStarted inputs l l' f →
-    IfTold l l' (λ x y. trace_of inputs most_rows x ≡ stop (Some f) 0)
-no_header_there inputs l l' fault.Bad read memory n = n
-no_header_there inputs l l' fault.Long read memory n = n
-no_header_there inputs l l' fault.Many read memory n = n
-no_header_there inputs l l' fault.ReadFault read memory n = absurd (read refl)
-no_header_there inputs l l' fault.OutOfMemory read memory n = absurd (memory refl)
-
-pub head_fault : (k : PlainKernel) (b : ℕ) (inputs : List (List ℕ)) (l l' : Option (List ℕ)) (f : RowFault) → inputs ≡ input_names k → IfTold l l' (λ x y. trace_of inputs most_rows x ≡ stop (Some f) 0) →
+pub head_fault : (k : PlainKernel) (b : ℕ) (inputs : List (List ℕ)) (l l' : Option (List ℕ)) (f : RowFault) → inputs ≡ input_names k → UnreadSays inputs l l' (unread.Stops f) →
     IfSome l (λ x. trace_report k b x ≡ record { bytes = row_line 0 f; status = status.Trace })
 head_fault k b inputs l l' f e n = told_some l l' (λ x y. trace_of inputs most_rows x ≡ stop (Some f) 0) _ n (λ x y h. trace_reads k b inputs x (stop (Some f) 0) e h)
 
-pub head_failed : (k : PlainKernel) (b : ℕ) (inputs : List (List ℕ)) (l l' h0 : Option (List ℕ)) → NotStarted inputs l l' fault.ReadFault → Wanted k b l l' h0 h0
+pub head_failed : (k : PlainKernel) (b : ℕ) (inputs : List (List ℕ)) (l l' h0 : Option (List ℕ)) → UnreadSays inputs l l' unread.Failed → Wanted k b l l' h0 h0
 head_failed k b inputs l l' h0 n = (
   [],
   appends_refl h0,

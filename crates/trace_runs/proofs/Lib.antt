@@ -4,7 +4,6 @@ pub mod Endings
 mod Fine
 mod Following
 mod Heading
-mod NextRows
 mod Numbered
 mod Picking
 mod Ranges

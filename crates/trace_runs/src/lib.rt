@@ -2,6 +2,7 @@
 #![tactic(auto)]
 
 mod beside;
+mod found;
 mod generated;
 mod hosting;
 mod image;
