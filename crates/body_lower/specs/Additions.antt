@@ -1,4 +1,4 @@
--- How many threads and `par`s a text adds, with those of the functions that are put in place.
+-- How many threads and `par`s a text adds, with those of the functions that are inlined.
 use Rattle.std.specs.Prelude.{◌≡◌, ◌≤◌, ℕ, ◌+◌, ◌==◌, cond, Option, Some, None, List, slice_index_or}
 use Rattle.forec_tree.specs.Terms.{Text, PlainFunction, Statement, Statements, Perhaps, Branches}
 use Rattle.forec_tree.specs.Pauses.{find_function}
@@ -15,7 +15,7 @@ pub record Adds (a : Added) (from to : NextNumbers) : Type 0 where
   pub thread : to.thread ≡ from.thread + a.threads
   pub par : to.par ≡ from.par + a.pars
 
--- A text adds as many wherever it stands, if so many calls may stand in one another.
+-- A text adds as many wherever it is, if so many calls may nest.
 abbrev pub StatementAdds : Text → Statement → Added → Type 0
 StatementAdds text s a = (deep t : ℕ) (scope : List Slot) (n : NextNumbers) → a.calls ≤ deep → Adds a n (lower_statement text (called_within text deep) t scope n s).next
 

@@ -22,7 +22,7 @@ inside _ = None
 abbrev pub SameKernel : Statement → Statement → Type 0
 SameKernel a b = (text : Text) (called : ℕ → InPlace) (t : ℕ) (s : List Slot) (n : NextNumbers) → lower_statement text called t s n a ≡ lower_statement text called t s n b
 
--- what is called as a statement is put in place, up to so many calls deep
+-- what is called as a statement is inlined, up to so many calls deep
 abbrev pub called_within : Text → ℕ → ℕ → InPlace
 called_within text deep = within nothing_in_place (in_place_step text) deep
 

@@ -141,12 +141,12 @@ abbrev pub DoneLanded : Context → ℕ → Statement → Stmt → State → Sta
 DoneLanded c calls a k old new =
     let text = text_of c.source.now.globals.index in Does text (lower_statement text (called_within text (c.deep - calls)) c.owner [] (next_of old) a) k old new
 
--- a function by its name, put in place with its parameters from a slot on
+-- a function by its name, inlined with its parameters from a slot on
 abbrev pub DoneCall : Context → (id first : ℕ) → Stmt → State → State → Type 0
 DoneCall c id first k old new =
     let text = text_of c.source.now.globals.index in Does text (called_within text c.deep id first c.owner (next_of old)) k old new
 
--- the body of a function, put in place with its parameters from a slot on
+-- the body of a function, inlined with its parameters from a slot on
 abbrev pub DoneFunction : Context → PlainFunction → (first : ℕ) → Stmt → State → State → Type 0
 DoneFunction c f first k old new =
     let text = text_of c.source.now.globals.index in Does text (body_in_place text (called_within text c.deep) (Some f) first c.owner (next_of old)) k old new

@@ -1,4 +1,4 @@
-//! How many threads and `par`s a text adds, with those of the functions that are put in place. Threads and
+//! How many threads and `par`s a text adds, with those of the functions that are inlined. Threads and
 //! `par`s are numbered in preorder: a branch takes as many numbers as its text adds.
 
 ghost use Rattle.std.specs.Prelude.{◌≡◌, ◌∷◌, [], ℕ, None, Some, slice_index_or, IfOk, OnOk};
@@ -17,7 +17,7 @@ use forec_tree::{Branch, Function, Stmt, StmtKind};
 use loop_check::{Index, find_function};
 use std::alloc::Global;
 
-/// How many threads and `par`s a text adds, where so many calls may stand in one another.
+/// How many threads and `par`s a text adds, where so many calls may nest.
 #[derive(Clone, Copy)]
 pub struct Added {
     pub threads: u32,

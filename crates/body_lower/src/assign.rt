@@ -291,7 +291,7 @@ pub fn declare<'p>(
     Ok(sequence(list))
 }
 
-/// The parameters of a function that is put in place, from a slot on, are set from the arguments.
+/// The parameters of a function that is inlined, from a slot on, are set from the arguments.
 pub fn set_params(
     alloc: Global,
     globals: &Globals<'_>,

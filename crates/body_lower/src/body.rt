@@ -1,6 +1,6 @@
-//! The body of a thread: its statements, with the functions that it calls as statements put in place.
+//! The body of a thread: its statements, with the functions that it calls as statements inlined.
 //!
-//! `fuel` is how many levels of the kernel may stand in one another: each takes a part of the stack, of
+//! `fuel` is how many levels of the kernel may nest: each takes a part of the stack, of
 //! which there is only so much. Groups and functions of one statement add no level, so they are gone
 //! through in a loop; and the bodies of branches, which are threads of their own, are left for later.
 
@@ -26,7 +26,7 @@ use forec_base::{OutOfMemory, Place};
 use forec_kernel::Statement;
 use forec_tree::{Expr, Function, Name, Stmt, StmtKind};
 
-/// How many levels of the kernel may stand in one another in a body. Past it there is no memory: each
+/// How many levels of the kernel may nest in a body. Past it there is no memory: each
 /// takes up to 5 KB of stack, so the caller has 64 MB of it.
 pub const FUEL: u32 = 8192;
 
@@ -442,11 +442,11 @@ fn block<'p>(
     Ok(sequence(list))
 }
 
-/// A void function by its name, put in place: the slots of its parameters begin at `first`.
+/// A void function by its name, inlined: the slots of its parameters begin at `first`.
 ///
 /// # Errors
 ///
-/// Want of memory, also where more than `fuel` levels of the kernel stand in one another.
+/// Want of memory, also where more than `fuel` levels of the kernel nest.
 #[cycle(body)]
 pub fn in_place<'p>(
     context: &Context<'_, 'p>,
@@ -481,7 +481,7 @@ pub fn in_place<'p>(
 ///
 /// # Errors
 ///
-/// Want of memory, also where more than `fuel` levels of the kernel stand in one another.
+/// Want of memory, also where more than `fuel` levels of the kernel nest.
 #[cycle(body)]
 pub fn in_function<'p>(
     context: &Context<'_, 'p>,

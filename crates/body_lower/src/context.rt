@@ -3,7 +3,7 @@
 use crate::source::Source;
 use std::alloc::Global;
 
-/// The program that is translated, how many calls may stand in one another, and the number of the thread
+/// The program that is translated, how many calls may nest, and the number of the thread
 /// whose text it becomes.
 #[derive(Clone, Copy)]
 pub struct Context<'a, 'p> {

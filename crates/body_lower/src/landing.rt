@@ -42,7 +42,7 @@ fn inside(s: &Stmt) -> Option<&Stmt>
     }
 }
 
-/// The statement in groups of one that stand in one another; itself where it is no such group.
+/// The statement in nested groups of one; itself where it is no such group.
 pub fn innermost(s: &Stmt) -> &Stmt
     ensures same { SameKernel (plain.statement s.now) (plain.statement result.now) }
     ensures last { landings.inside (plain.statement result.now) ≡ None }

@@ -20,7 +20,7 @@ pub struct Thread {
 }
 
 /// A branch whose body is still to be translated: the number of its thread, its parent, the `par` whose
-/// branch it is, the number of the first `par` in it, and how many calls may stand in one another there.
+/// branch it is, the number of the first `par` in it, and how many calls may nest there.
 #[derive(Clone, Copy)]
 pub struct Pending<'p> {
     pub number: u32,

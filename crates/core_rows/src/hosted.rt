@@ -154,7 +154,7 @@ fn run_tick(
     }
 }
 
-/// Runs ticks as long as they go as told: whether all of them did, and the host lives on where the last one paused.
+/// Runs ticks as long as they go as expected: whether all of them did, and the host lives on where the last one paused.
 fn goes_so(host: &mut Host<'_, LocalPort<ForecWork>>, code: &Code, ticks: &[Tick]) -> bool
     requires whole { IsWhole host.old }
     requires code { host.old.code ≡ code.now }
@@ -169,7 +169,7 @@ fn goes_so(host: &mut Host<'_, LocalPort<ForecWork>>, code: &Code, ticks: &[Tick
     host.live() == pauses
 }
 
-/// Runs a code on the cores of its threads: whether all of its ticks go as told.
+/// Runs a code on the cores of its threads: whether all of its ticks go as expected.
 fn runs_so(alloc: Global, code: &Code, places: &str, ticks: &[Tick]) -> Result<bool, Fail> {
     let threads = u32::try_from(code.parts().threads.len())?;
     let placement = given(alloc, places, threads, 3)?;

@@ -1,4 +1,4 @@
-//! A thread with three branches, whose replies are a table's: they are combined, or one of them is told.
+//! A thread with three branches, whose replies are a table's: they are combined, or one of them is reported.
 
 ghost use Rattle.std.specs.Prelude.{◌≡◌, ◌+◌, ◌<◌, length, true, IfOk};
 ghost use Rattle.forec_kernel.specs.Packed.{HasRoom};
@@ -272,7 +272,7 @@ fn copy_at(packet: &Packet, i: usize) -> (i32, bool) {
     }
 }
 
-/// What a packet tells. A reply that is over tells nothing else, that of a trap no copies.
+/// What a packet reports. A reply that is over reports nothing else, that of a trap no copies.
 fn row_of(packet: &Packet) -> Row {
     let copies = [copy_at(packet, 0), copy_at(packet, 1), copy_at(packet, 2)];
     match packet.kind {
@@ -329,7 +329,7 @@ const JOINS: [([Row; 3], Row); 5] = [
         (PacketKind::Ended, [(5, false), (2, false), (9, true)], 19),
     ),
     ([TEN, THREE, ZERO], (DIVIDE, NOTHING, 19)),
-    // what a branch tells is told, and nothing is combined
+    // what a branch reports is reported, and nothing is combined
     (
         [ENDED, (INDEX, NOTHING, 2), (TURNS, NOTHING, 2)],
         (INDEX, NOTHING, 7),

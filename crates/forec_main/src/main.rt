@@ -17,8 +17,8 @@ use std::sync::Wait;
 use std::thread::{self, Builder, Threads};
 use std::{env, io};
 
-/// The command runs in a thread with so many bytes of stack: the statements of a program stand in one another up to
-/// 4,096 deep, and each takes a few frames. Where no thread can be had it runs all the same.
+/// The command runs in a thread with so many bytes of stack: the statements of a program nest up to 4,096 deep,
+/// and each takes a few frames. Where no thread can be had it runs all the same.
 const STACK: usize = 67_108_864;
 
 /// The words after the program's own name. Where one of them isn't text they are none, which is no command.

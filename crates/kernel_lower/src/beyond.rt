@@ -30,8 +30,8 @@ use text_chains::most_words;
 use text_kernel::Quantity;
 use text_sizes::{span_of, spans};
 
-/// What the text tells of a program: the function that it starts with, its threads and terms, and how many
-/// statements at least stand in one another in some thread.
+/// What is counted on the text of a program: the function that it starts with, its threads and terms, and how many
+/// statements at least nest in some thread.
 #[derive(Clone, Copy)]
 pub struct Outlook {
     pub first: u32,
@@ -40,7 +40,7 @@ pub struct Outlook {
     pub levels: u64,
 }
 
-/// How many statements at least stand in one another in some thread of a program that starts with the
+/// How many statements at least nest in some thread of a program that starts with the
 /// function of a name and has so many threads. It is refused where a thread's own words pass their limit.
 pub fn foresee(
     alloc: Global,
@@ -89,7 +89,7 @@ fn chain_words(
     Ok(list)
 }
 
-/// The first limit that a program passes, where the text tells it. Nothing is put in place for it.
+/// The first limit that a program passes, found on its text. Nothing is inlined for it.
 pub fn beyond(
     alloc: Global,
     source: &Source<'_>,

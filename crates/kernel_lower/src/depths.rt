@@ -1,4 +1,4 @@
-//! How many statements and expressions stand in one another, up to the greatest `u64`.
+//! How many statements and expressions nest, up to the greatest `u64`.
 
 ghost use Rattle.std.specs.Prelude.{◌≡◌, ◌+◌, ◌-◌, ◌^◌, min, map};
 ghost use Rattle.forec_kernel.specs.Plain as kernel;

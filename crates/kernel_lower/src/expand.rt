@@ -1,4 +1,4 @@
-//! The threads of a program, with all functions that are called as statements put in place.
+//! The threads of a program, with all functions that are called as statements inlined.
 
 ghost use Rattle.std.specs.Prelude.{◌≡◌, length, IfOk};
 ghost use Rattle.loop_check.specs.Views.{text_of};

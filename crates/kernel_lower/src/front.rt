@@ -69,7 +69,7 @@ fn parts_of(
 }
 
 /// The kernel of a checked program, whose names are given. A program is refused exactly where a
-/// quantity passes its limit, and the first such quantity is told.
+/// quantity passes its limit, and the first such quantity is reported.
 pub fn lower(alloc: Global, checked: &Checked<'_>, names: &Labels) -> Result<Kernel, LowerFault>
     requires { names.now ≡ names_of checked.now }
     ensures kernel { IfOk result (λ k. plain_kernel k ≡ kernel_of (text_of checked.now) (names_of checked.now)) }

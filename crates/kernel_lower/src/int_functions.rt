@@ -58,7 +58,7 @@ struct IntFunction {
     body: Statement,
 }
 
-/// Translates an int function, in which nothing is put in place.
+/// Translates an int function, in which nothing is inlined.
 fn translated<'p>(
     alloc: Global,
     source: &Source<'p>,

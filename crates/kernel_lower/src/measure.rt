@@ -25,7 +25,7 @@ pub struct Draft {
     pub rows: Vec<Vec<bool>>,
 }
 
-/// Words, and how many statements and expressions stand in one another.
+/// Words, and how many statements and expressions nest.
 #[derive(Clone, Copy)]
 pub struct Peak {
     pub words: u64,

@@ -130,7 +130,7 @@ fn next_tick<'k>(
     Ok((outcome, outputs[0], Box::new(alloc, next)?))
 }
 
-/// Runs ticks, whose steps are taken in that order, as long as they go as told: whether all of them did.
+/// Runs ticks, whose steps are taken in that order, as long as they go as expected: whether all of them did.
 fn goes_so(alloc: Global, kernel: &Kernel, run: &Run, order: &[u32]) -> Result<bool, OutOfMemory> {
     let mut state = Box::new(alloc, State::first(alloc, kernel)?)?;
     for (input, ends, output) in run.ticks {

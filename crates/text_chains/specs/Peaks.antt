@@ -13,7 +13,7 @@ called_words value k t = words_of k t + greatest value (thread_calls k t)
 abbrev pub most_words : (ℕ → ℕ) → PlainKernel → ℕ
 most_words value k = greatest (called_words value k) (count_up 0 (length k.threads))
 
--- the same, told by a text that starts with the function of a name, for the combine function of one variable
+-- the same, counted on a text that starts with the function of a name, for the combine function of one variable
 abbrev pub peak_by : (variable : ℕ) → (ℕ → ℕ) → (worth : ℕ) → Text → ℕ → ℕ
 peak_by variable value worth text first = (started 0 (tally_value variable value worth text first)).peak
 

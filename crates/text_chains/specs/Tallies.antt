@@ -98,11 +98,11 @@ module _ (variable : ℕ) where
     abbrev pub of_target : Bool → Written → Tally
     of_target hidden t = elim t.index [ None ↦ naming (names hidden t.name.id) | Some i ↦ of_term hidden i ]
 
-    -- a call that is put in place sets its parameters
+    -- a call that is inlined sets its parameters
     abbrev pub of_sets : Bool → Terms → Tally
     of_sets hidden args = joined (taking (count_terms args)) (of_terms hidden args)
 
-    -- with the words of the variable's combine function, and what each function brings that is put in place
+    -- with the words of the variable's combine function, and what each function brings that is inlined
     module _ (worth : ℕ) (called : ℕ → Tally) where
       -- a `par` can call it where at least two branches name the variable
       abbrev pub folded : ℕ → ℕ

@@ -120,7 +120,7 @@ fn peaks_with(
 /// The most words of a thread of a program that breaks no rule and starts with the function of a name, with
 /// those along the chains of calls of the int functions that it can call, combine functions among them.
 /// `values` has the words along these chains, by the number of the int function where they begin, and
-/// `variables` all variables. Nothing is put in place for it.
+/// `variables` all variables. Nothing is inlined for it.
 pub fn most_words(
     alloc: Global,
     globals: &Globals<'_>,

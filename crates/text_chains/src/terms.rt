@@ -70,7 +70,7 @@ pub fn target(w: &Weights<'_>, hidden: bool, t: &Target) -> Tally
     }
 }
 
-/// The arguments of a call that is put in place: each is set to a word of its own.
+/// The arguments of a call that is inlined: each is set to a word of its own.
 pub fn sets(w: &Weights<'_>, hidden: bool, args: &[Expr]) -> Tally
     ensures { result ≡ of.of_sets w.now.variable (value_by w.now) hidden (plain.terms args.now) }
 {

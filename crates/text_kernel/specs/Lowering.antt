@@ -1,4 +1,4 @@
--- The kernel's terms of a tree. Void functions that are called as statements are put in place.
+-- The kernel's terms of a tree. Void functions that are called as statements are inlined.
 use Rattle.std.specs.Prelude.{ℕ, suc, ◌+◌, pos, cond, Option, Some, None, List, [], ◌∷◌, ◌++◌, length}
 use Rattle.forec_base.specs.declared.Place.{Place}
 use Rattle.forec_base.specs.declared.operators.Binary.{Binary}
@@ -251,7 +251,7 @@ module _ (text : Text) where
   scope_after_perhaps s slot absent = s
   scope_after_perhaps s slot (present a) = scope_after s slot a
 
-  -- the parameters of a function that is put in place are set from the arguments
+  -- the parameters of a function that is inlined are set from the arguments
   abbrev pub set_params : List Slot → ℕ → Terms → Stmts
   set_params s slot no_terms = no_stmts
   set_params s slot (more_terms e rest) = more_stmts (kernel.Set (spot.Local slot) (lower_term text s e)) (set_params s (suc slot) rest)
@@ -266,7 +266,7 @@ module _ (text : Text) where
     | Some i ↦ assign_at (stands text s t.name.id) op (lower_term text s i) value t.name.place
   ]
 
--- a call of a void function that is put in place, in a thread: the slots of its parameters, which the caller has taken, and what is free after them
+-- a call of a void function that is inlined, in a thread: the slots of its parameters, which the caller has taken, and what is free after them
 abbrev pub InPlace : Type 0
 InPlace = (first owner : ℕ) → NextNumbers → Lowered
 
@@ -352,6 +352,6 @@ in_place_step text called id = body_in_place text called (find_function id text)
 abbrev pub nothing_in_place : InPlace
 nothing_in_place first t n = lowered kernel.Nop n
 
--- a function by its name, put in place
+-- a function by its name, inlined
 abbrev pub in_place : Text → ℕ → InPlace
 in_place text = within nothing_in_place (in_place_step text) (length text)

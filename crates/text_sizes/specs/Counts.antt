@@ -53,12 +53,12 @@ abbrev pub assign_count : Option Term → Option OpAt → ℕ → ℕ
 assign_count None op value = 1 + operated_count op 1 value
 assign_count (Some i) op value = 1 + term_count i + operated_count op (1 + term_count i) value
 
--- the arguments of a call that is put in place are set one by one
+-- the arguments of a call that is inlined are set one by one
 abbrev pub sets_count : Terms → ℕ
 sets_count no_terms = 0
 sets_count (more_terms e rest) = (1 + term_count e) + sets_count rest
 
--- the terms of a call that is put in place, whose body has so many, up to the greatest number of 64 bits
+-- the terms of a call that is inlined, whose body has so many, up to the greatest number of 64 bits
 abbrev pub IsCallTerms : List Expr → ℕ → ℕ → Type 0
 IsCallTerms args body n = n ≡ min (sequence_count (suc (count_terms (plain.terms args))) (sets_count (plain.terms args) + body)) (2 ^ 64 - 1)
 
@@ -108,7 +108,7 @@ module _ (called : ℕ → ℕ) where
     own_step absent body = body
     own_step (present a) body = 1 + body + own a
 
--- ---- how many slots text takes, with what each function takes that is put in place, its parameters apart
+-- ---- how many slots text takes, with what each function takes that is inlined, its parameters apart
 
 abbrev pub locals_slots : List Declared → ℕ
 locals_slots [] = 0
@@ -169,7 +169,7 @@ module _ (called below : ℕ → ℕ) where
     under_branches (by_call name args rest) = (called name.id + below name.id) + under_branches rest
     under_branches (by_group at body rest) = (sequence_count (statement_count body) (own_all called body) + under_all body) + under_branches rest
 
--- what a function takes that is put in place, after its parameters
+-- what a function takes that is inlined, after its parameters
 abbrev pub body_slots : (ℕ → ℕ) → Option PlainFunction → ℕ
 body_slots called None = 0
 body_slots called (Some f) = slots_all called f.body

@@ -1,4 +1,4 @@
--- How many terms functions have that are put in place, and the threads below them.
+-- How many terms functions have that are inlined, and the threads below them.
 use Rattle.std.specs.Prelude.{ℕ, ◌+◌, ◌-◌, ◌^◌, ◌≡◌, min, Option, Some, None, List, [], ◌∷◌, length, slice_index_or}
 use Rattle.forec_tree.specs.declared.tree.Stmt.{Stmt}
 use Rattle.forec_tree.specs.Plain as plain
@@ -7,7 +7,7 @@ use Rattle.forec_tree.specs.Pauses.{within, find_function}
 use Rattle.text_sizes.specs.declared.extents.Extent.{Extent}
 use Rattle.text_sizes.specs.Counts.{sequence_count, statement_count, own_all, under_all}
 
--- what is put in place where there is no function
+-- what is inlined where there is no function
 abbrev pub nothing : Extent
 nothing = record { own = 1; under = 0 }
 
@@ -47,7 +47,7 @@ capped n = min n (2 ^ 64 - 1)
 unfoldable pub extent_value : Text → ℕ → Extent
 extent_value text = within nothing (extent_step capped text) (length text)
 
--- the terms of int functions, in which nothing is put in place
+-- the terms of int functions, in which nothing is inlined
 abbrev pub counts_of : List PlainFunction → ℕ
 counts_of [] = 0
 counts_of (f ∷ rest) = sequence_count (statement_count f.body) (own_all (own_at []) f.body) + counts_of rest

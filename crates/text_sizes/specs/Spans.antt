@@ -1,4 +1,4 @@
--- How many words threads take, and at least how many statements stand in one another, counted on the text.
+-- How many words threads take, and at least how many statements nest, counted on the text.
 use Rattle.std.specs.Prelude.{ℕ, zero, suc, ◌+◌, ◌-◌, ◌^◌, ◌≡◌, min, max, Option, Some, None, List, length, slice_index_or}
 use Rattle.std.specs.declared.boxed.Box.{Box}
 use Rattle.std.specs.declared.alloc.Global as alloc
@@ -17,7 +17,7 @@ sequence_levels zero most = most
 sequence_levels (suc zero) most = most
 sequence_levels (suc (suc n)) most = 1 + most
 
--- statements that stand in one another, with those of each function that is put in place; expressions are left out
+-- nested statements, with those of each function that is inlined; expressions are left out
 module _ (called : ℕ → ℕ) where
   abbrev mutual
     pub levels : Statement → ℕ
@@ -45,7 +45,7 @@ module _ (called : ℕ → ℕ) where
   abbrev pub block_levels : Statements → ℕ
   block_levels body = sequence_levels (statement_count body) (levels_all body)
 
--- the greatest measure of a thread below text, with that of a branch that calls a function with so many arguments, that of a block, and that below each function that is put in place
+-- the greatest measure of a thread below text, with that of a branch that calls a function with so many arguments, that of a block, and that below each function that is inlined
 module _ (by_name : ℕ → ℕ → ℕ) (by_body : Statements → ℕ) (below : ℕ → ℕ) where
   abbrev mutual
     pub most : Statement → ℕ
@@ -75,7 +75,7 @@ module _ (by_name : ℕ → ℕ → ℕ) (by_body : Statements → ℕ) (below :
     most_branches (by_call name args rest) = max (max (by_name name.id (count_terms args)) (below name.id)) (most_branches rest)
     most_branches (by_group at body rest) = max (max (by_body body) (most_all body)) (most_branches rest)
 
--- the words of the widest thread, and the statements that stand in one another in the deepest
+-- the words of the widest thread, and the nested statements in the deepest
 module _ (own : ℕ → ℕ) where
   abbrev pub words_by : ℕ → ℕ → ℕ
   words_by id args = args + own id
@@ -83,7 +83,7 @@ module _ (own : ℕ → ℕ) where
   abbrev pub levels_by : ℕ → ℕ → ℕ
   levels_by id args = own id
 
--- what is put in place where there is no function
+-- what is inlined where there is no function
 abbrev pub no_span : Span
 no_span = record { slots = 0; widest = 0; levels = 0; deepest = 0 }
 
@@ -115,7 +115,7 @@ IsWidestOfAll table list n = n ≡ min (most_all (words_by (slots_at table)) (sl
 abbrev pub IsWidestOfBranches : List Span → List Branch → ℕ → Type 0
 IsWidestOfBranches table list n = n ≡ min (most_branches (words_by (slots_at table)) (slots_all (slots_at table)) (widest_at table) (plain.branches list)) (2 ^ 64 - 1)
 
--- the statements that stand in one another in the deepest thread below, up to the greatest number of 64 bits: of a statement, an optional one, statements, branches
+-- the nested statements in the deepest thread below, up to the greatest number of 64 bits: of a statement, an optional one, statements, branches
 abbrev pub IsDeepest : List Span → Stmt → ℕ → Type 0
 IsDeepest table s n = n ≡ min (most (levels_by (levels_at table)) (block_levels (levels_at table)) (deepest_at table) (plain.statement s)) (2 ^ 64 - 1)
 

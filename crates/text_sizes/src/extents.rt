@@ -24,14 +24,14 @@ use forec_tree::{Branch, Expr, Function, Stmt, StmtKind};
 use loop_check::{Index, find_function, order, read_calls};
 use std::alloc::Global;
 
-/// The terms of a function that is put in place, and those of the threads below it.
+/// The terms of a function that is inlined, and those of the threads below it.
 #[derive(Clone, Copy)]
 pub struct Extent {
     pub own: u64,
     pub under: u64,
 }
 
-/// What is known of the function of a number; one that isn't known is put in place as `nop`.
+/// What is known of the function of a number; one that isn't known is inlined as `nop`.
 fn known_of(table: &[Extent], id: u32) -> Extent
     ensures own { result.own ≡ own_at table.now id }
     ensures under { result.under ≡ under_at table.now id }
@@ -250,7 +250,7 @@ pub fn extents(alloc: Global, index: &Index<'_>) -> Result<Vec<Extent>, OutOfMem
     Ok(table)
 }
 
-/// The terms of int functions, in which nothing is put in place.
+/// The terms of int functions, in which nothing is inlined.
 fn function_terms(functions: &[&Function]) -> u64
     ensures { result ≡ min (counts_of (functions_of functions.now)) (2 ^ 64 - 1) }
 {
@@ -262,7 +262,7 @@ fn function_terms(functions: &[&Function]) -> u64
 }
 
 /// The terms of the kernel of a program that starts with the function of a name and has these int
-/// functions. Nothing is put in place for it.
+/// functions. Nothing is inlined for it.
 pub fn program_terms(
     alloc: Global,
     index: &Index<'_>,

@@ -1,4 +1,4 @@
-//! How many words the threads of a program take, and at least how many statements stand in one another,
+//! How many words the threads of a program take, and at least how many statements nest,
 //! up to the greatest `u64`, without it being made: each function is looked at once, after those that it
 //! calls or starts.
 
@@ -13,8 +13,8 @@ use crate::tally::add;
 use forec_tree::{Expr, Local, Stmt, StmtKind};
 use text_kernel::slots_of;
 
-/// The words of a function that is put in place, after its parameters, and those of the widest thread
-/// below it; how many statements stand in one another in it, and in the deepest thread below it.
+/// The words of a function that is inlined, after its parameters, and those of the widest thread
+/// below it; how many statements nest in it, and in the deepest thread below it.
 #[derive(Clone, Copy)]
 pub struct Span {
     pub slots: u64,
@@ -23,7 +23,7 @@ pub struct Span {
     pub deepest: u64,
 }
 
-/// What is put in place where there is no function.
+/// What is inlined where there is no function.
 pub fn no_span() -> Span
     ensures { result ≡ of.no_span }
 {
@@ -35,7 +35,7 @@ pub fn no_span() -> Span
     }
 }
 
-/// What is known of the function of a number; one that isn't known is put in place as `nop`.
+/// What is known of the function of a number; one that isn't known is inlined as `nop`.
 pub fn span_of(table: &[Span], id: u32) -> Span
     ensures { result ≡ of.span_at table.now id }
 {
@@ -122,7 +122,7 @@ fn sequence_levels(len: usize, most: u64) -> u64
     add(1, most)
 }
 
-/// The levels of a call that is put in place: the arguments are set one by one before the body.
+/// The levels of a call that is inlined: the arguments are set one by one before the body.
 fn call_levels(args: &[Expr], body: u64) -> u64
     ensures { result ≡ min (of.sequence_levels (suc (tree.count_terms (plain.terms args.now))) body) (2 ^ 64 - 1) }
 {
@@ -132,7 +132,7 @@ fn call_levels(args: &[Expr], body: u64) -> u64
     add(1, body)
 }
 
-/// How many statements stand in one another.
+/// How many statements nest.
 #[cycle(levels)]
 fn levels(table: &[Span], s: &Stmt) -> u64
     ensures { result ≡ min (of.levels (of.levels_at table.now) (plain.statement s.now)) (2 ^ 64 - 1) }
@@ -183,7 +183,7 @@ fn all_levels(table: &[Span], list: &[Stmt]) -> u64
     most
 }
 
-/// How many statements stand in one another in statements as one.
+/// How many statements nest in statements as one.
 #[cycle(levels)]
 pub fn block_levels(table: &[Span], list: &[Stmt]) -> u64
     ensures { result ≡ min (of.block_levels (of.levels_at table.now) (plain.statements list.now)) (2 ^ 64 - 1) }

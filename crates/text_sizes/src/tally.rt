@@ -135,7 +135,7 @@ pub fn assign_terms(target: &Target, op: Option<OpAt>, value: &Expr) -> u64
     }
 }
 
-/// The terms of a call that is put in place: the arguments are set one by one before the body.
+/// The terms of a call that is inlined: the arguments are set one by one before the body.
 pub fn call_terms(args: &[Expr], body: u64) -> u64
     ensures { counts.IsCallTerms args.now body result }
 {

@@ -88,7 +88,7 @@ fn branches_widest(table: &[Span], list: &[Branch]) -> u64
     most
 }
 
-/// How many statements stand in one another in the deepest thread below a statement.
+/// How many statements nest in the deepest thread below a statement.
 #[cycle(deepest)]
 fn deepest(table: &[Span], s: &Stmt) -> u64
     ensures { IsDeepest table.now s.now result }

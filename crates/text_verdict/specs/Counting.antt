@@ -1,4 +1,4 @@
--- What `check` counts of a program, and the line that tells it.
+-- What `check` counts of a program, and the line that reports it.
 use Rattle.std.specs.Prelude.{ℕ, List, ◌++◌, codes, decimal}
 use Rattle.forec_tree.specs.Terms.{Text}
 use Rattle.forec_check.specs.Checked.{inputs_of, outputs_of}

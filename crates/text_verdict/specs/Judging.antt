@@ -72,7 +72,7 @@ pub data OnUnbroken (program : Text) (names : List (List ℕ)) : Verdict → Typ
   beyond : (what : Quantity) (count : ℕ) → IsLimit program names what count → OnUnbroken program names (Refuses (why.Limit what count))
   accepted : WithinLimits (kernel_of program names) → OnUnbroken program names (Accepts (counts_of program names) (kernel_of program names))
 
--- the verdict on a program: the least of its faults is told
+-- the verdict on a program: the least of its faults is reported
 pub data OnProgram (program : Text) (names : List (List ℕ)) : Verdict → Type 0 where
   broken : (place : Place) (rule : ℕ) → IsLeast (record { place = place; rule = rule }) (IsFault program names) → OnProgram program names (Refuses (why.Rule place rule))
   unbroken : {v : Verdict} → ((f : Fault) → IsFault program names f → ⊥) → OnUnbroken program names v → OnProgram program names v
@@ -118,7 +118,7 @@ parser_fault text tokens (parser.Syntax n) = fault.Refused (why.Syntax (place_of
 parser_fault text tokens (parser.Deep n) = fault.Refused (why.Deep (place_of text tokens n))
 parser_fault text tokens parser.OutOfMemory = fault.OutOfMemory
 
--- what is told of tokens that are refused, whatever their names
+-- what is reported of tokens that are refused, whatever their names
 abbrev pub Tells : List ℕ → List Token → JudgeFault → Type 0
 Tells text tokens (fault.Refused why) = (names : List (List ℕ)) → OnTokens text tokens names (Refuses why)
 Tells text tokens fault.OutOfMemory = Unit {0}
