@@ -1,5 +1,6 @@
 -- The branches of a thread's present fork, and what their replies say together.
 use Rattle.std.specs.Prelude.{ℕ, ◌≡◌, ◌<◌, ◌+◌, ◌-◌, ◌^◌, ◌⊎◌, ◌++◌, min, Bool, cond, List, [], ◌∷◌, length, map, take}
+use Rattle.forec_base.specs.declared.limits.TheConstants.{MAX_BUDGET}
 use Rattle.forec_kernel.specs.Packed.{IsReply}
 use Rattle.combine_tree.specs.declared.packet.Packet.{Packet}
 use Rattle.combine_tree.specs.Plain.{plain_packet}
@@ -69,7 +70,7 @@ verdict_of rs = cond (some_reply_over rs) verdict.Over (trap_of rs)
 
 -- a sum; or, where it is more than any allowance, another number that is
 abbrev pub CountsAs : ℕ → ℕ → Type 0
-CountsAs n sum = (n ≡ sum) ⊎ ((2 ^ 62 < n) × (2 ^ 62 < sum))
+CountsAs n sum = (n ≡ sum) ⊎ ((MAX_BUDGET < n) × (MAX_BUDGET < sum))
 
 -- these are the replies so far
 pub record Says (g : Gathered) (rs : List Reply) : Type 0 where

@@ -1,6 +1,6 @@
 use Rattle.std.proofs.Common.{subst}
 use Rattle.thread_code.specs.Plain.{plain_code}
-use Rattle.core_machine.specs.Held.{Left_by, Comes_to}
+use Rattle.core_machine.specs.Held.{Left_by}
 use Rattle.core_machine.proofs.Jobs.{tells_exactly, run_stands, run_left, can_run, over_exactly, trap_exactly}
 use Rattle.core_machine.proofs.Asking.{asks, branches_are}
 use Rattle.core_machine.proofs.thread.Thread.run.Goals as goal
@@ -18,7 +18,7 @@ returns-in_default c =
     let h' = c.run_on.new.self in
     let code = plain_code c.args.code.now in
     let running = can_run h h.phase c.requires.running c.in_default.not-Trapped c.in_default.not-Over in
-    let k = subst (λ p. Comes_to (plain_code p) h h' c.run_on.result) c.parts.ensures.same c.run_on.ensures in
+    let k = c.run_on.ensures in
     let left = run_left code h h' c.run_on.result k in
     record {
       loaded = k.moved.loaded;
