@@ -119,6 +119,10 @@ module _ {Q A : Type 0} where
     pub fit : ArePasses queues passes
     pub own : MayPop core passes
 
+  -- the same, and so many hints were pushed
+  abbrev pub FitsRope : Places → List (Slotted (Option ℕ) (Doing ℕ HintLog) Q A) → ℕ → List (Pass ℕ HintLog) → ℕ → Type 0
+  FitsRope placement queues core passes pushed = FitsCore placement queues core passes × (pushed ≡ capped (pushed_by (logs_of passes)))
+
   abbrev pub rope_state : Places → List (Slotted (Option ℕ) (Doing ℕ HintLog) Q A) → ℕ → List (Pass ℕ HintLog) → RopeState
   rope_state placement queues core passes = record { placement = placement; core = core; rooms = map ruled_capacity queues; logs = logs_of passes }
 
@@ -134,3 +138,11 @@ module _ {Q A : Type 0} where
     pub cores : length queues ≡ placement.cores
     pub rooms : map ruled_capacity queues ≡ rooms_of code placement
     pub placed : All (λ c. c < placement.cores) placement.places
+
+  -- on whatever placement these are the queues, the ropes of the first so many cores fit them
+  abbrev pub FitFirst : List (Slotted (Option ℕ) (Doing ℕ HintLog) Q A) → ℕ → List LooseRope → Type 0
+  FitFirst queues cores ropes = (code : CodeParts) (placement : Places) → AreQueues code placement queues → cores ≤ placement.cores → AllFit placement queues ropes
+
+  -- and they are new
+  abbrev pub AreNewFirst : List (Slotted (Option ℕ) (Doing ℕ HintLog) Q A) → ℕ → List LooseRope → Type 0
+  AreNewFirst queues cores ropes = (code : CodeParts) (placement : Places) → AreQueues code placement queues → states_of placement queues ropes ≡ new_ropes code placement cores

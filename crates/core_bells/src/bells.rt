@@ -1,9 +1,7 @@
 //! The bells of all cores.
-ghost use Rattle.std.specs.Prelude.{◌≡◌, ◌<◌, ◌≤◌, All, IfOk, List, length, map};
-ghost use Rattle.thread_code.specs.declared.instruction.CodeParts.{CodeParts};
+ghost use Rattle.std.specs.Prelude.{◌≡◌, ◌<◌, All, IfOk, List, length, map};
 ghost use Rattle.thread_code.specs.Plain.{plain_code};
-ghost use Rattle.core_alloc.specs.Places.{Places};
-ghost use Rattle.core_bells.specs.Ropes.{AllFit, AreFirsts, AreQueues, RopeState, new_ropes, states_of};
+ghost use Rattle.core_bells.specs.Ropes.{AreFirsts, AreNewFirst, FitFirst, RopeState, new_ropes};
 
 use crate::belfry::{Belfry, LooseRope};
 use crate::hints::{HintPass, HintQueue};
@@ -49,8 +47,8 @@ fn loosen(
     cores: u32,
 ) -> Result<(VecDeque<LooseRope>, Vec<Unparker>), OutOfMemory>
     requires { AreFirsts 0 queues.now firsts.old.items }
-    ensures fit { IfOk result (λ r. (code : CodeParts) (placement : Places) → AreQueues code placement queues.now → cores ≤ placement.cores → AllFit placement queues.now r.0.items) }
-    ensures states { IfOk result (λ r. (code : CodeParts) (placement : Places) → AreQueues code placement queues.now → states_of placement queues.now r.0.items ≡ new_ropes code placement cores) }
+    ensures fit { IfOk result (λ r. FitFirst queues.now cores r.0.items) }
+    ensures states { IfOk result (λ r. AreNewFirst queues.now cores r.0.items) }
 {
     let mut loose = VecDeque::new(alloc);
     let mut unparkers = Vec::new(alloc);

@@ -30,12 +30,11 @@ impl<'b> Model for Rope<'b> {
 
     ghost Value = { RopeState };
 
-    ghost use Rattle.std.specs.Prelude.{◌≡◌};
-    ghost use Rattle.core_bells.specs.Ropes.{FitsCore, capped, logs_of, placed_on, pushed_by, rope_state};
+    ghost use Rattle.core_bells.specs.Ropes.{FitsRope, placed_on, rope_state};
 
     ghost view = { λ r. rope_state (placed_on r.belfry.now.cores r.belfry.now.places.items) r.belfry.now.queues.items r.core r.passes.items };
 
-    ghost invariant = { λ r. FitsCore (placed_on r.belfry.now.cores r.belfry.now.places.items) r.belfry.now.queues.items r.core r.passes.items × (r.pushed ≡ capped (pushed_by (logs_of r.passes.items))) };
+    ghost invariant = { λ r. FitsRope (placed_on r.belfry.now.cores r.belfry.now.places.items) r.belfry.now.queues.items r.core r.passes.items r.pushed };
 }
 
 /// One more, where it is one.
