@@ -3,7 +3,7 @@ use Rattle.std.specs.Prelude.{ℕ, zero, suc, ◌≡◌, ◌+◌, ◌≤◌, ◌
 use Rattle.forec_kernel.specs.Combining.{contains}
 use Rattle.thread_code.specs.declared.instruction.CodeParts.{CodeParts}
 use Rattle.core_alloc.specs.Places.{Places}
-use Rattle.core_bells.specs.Ropes.{RopeState, new_rope}
+use Rattle.core_bells.specs.Ropes.{RopeState, new_rope, new_ropes}
 use Rattle.core_host.specs.Hosted.{Hosted, is_here, is_live}
 use Rattle.core_host.specs.Runs.{HasJobs, HasRun}
 
@@ -37,6 +37,10 @@ IsNewRope code placement core rope = IfSome rope (λ r. r ≡ new_rope code plac
 abbrev pub AreNewRopes : CodeParts → Places → ℕ → List RopeState → Type 0
 AreNewRopes code placement core ropes = (i : ℕ) (r : RopeState) → slice_get ropes i ≡ Some r → r ≡ new_rope code placement (core + i)
 
+-- where bells had the new ropes of all cores, these are new ropes of the first cores
+abbrev pub AreNewWhere : Places → List RopeState → List RopeState → Type 0
+AreNewWhere placement had ropes = (code : CodeParts) → had ≡ new_ropes code placement placement.cores → AreNewRopes code placement 0 ropes
+
 -- the host of the core of thread 0
 pub record IsRoot (c : CodeParts) (on : List ℕ) (h : Hosted) : Type 0 where
   pub code : h.code ≡ c
@@ -55,3 +59,7 @@ pub record AreMade (c : CodeParts) (on : List ℕ) (n : ℕ) (first : Option Hos
   pub root : MatchOption first (n ≤ root_core on) (λ h. IsLoaded c on (root_core on) h)
   pub others : (i : ℕ) (h : Hosted) → slice_get made i ≡ Some h → IsOther c on h
   pub cores : map (λ h. h.cores) made ≡ map (λ core. core ∷ []) (other_cores on n)
+
+-- to the hosts of the first n cores that of the next one was added, if it has threads
+abbrev pub MakesNext : CodeParts → List ℕ → ℕ → Option Hosted → Option Hosted → List Hosted → List Hosted → Type 0
+MakesNext c on n first_old first_new made_old made_new = AreMade c on n first_old made_old → AreMade c on (n + 1) first_new made_new

@@ -1,14 +1,13 @@
 //! The hosts of the cores.
 
-ghost use Rattle.std.specs.Prelude.{◌≡◌, ◌+◌, ◌∷◌, [], ℕ, Some, IfOk, OnOk, true, length, map, slice_get};
+ghost use Rattle.std.specs.Prelude.{◌≡◌, ◌∷◌, [], ℕ, Some, IfOk, OnOk, true, length, map, slice_get};
 ghost use Rattle.forec_kernel.specs.Combining.{contains};
-ghost use Rattle.thread_code.specs.declared.instruction.CodeParts.{CodeParts};
 ghost use Rattle.core_bells.specs.Ropes.{new_ropes};
 ghost use Rattle.core_host.specs.Hosted.{Hosted, is_here};
 ghost use Rattle.core_host.specs.Loads.{CanLoad};
 ghost use Rattle.core_host.specs.Runs.{HasJobs, HasRun};
 ghost use Rattle.board_hosts.specs.Boards.{ArePorts};
-ghost use Rattle.board_hosts.specs.CoreHosts.{AreMade, AreNewRopes, IsLoaded, IsNewRope, IsRoot, IsOther, other_cores};
+ghost use Rattle.board_hosts.specs.CoreHosts.{AreNewWhere, IsLoaded, IsNewRope, IsRoot, IsOther, MakesNext, other_cores};
 
 use copy_slots::Port;
 use core_alloc::Placement;
@@ -56,7 +55,7 @@ fn ropes_of<'c>(
     bells: &'c mut Bells,
 ) -> Result<Vec<Rope<'c>>, OutOfMemory>
     requires { ⟦<Bells as GivesRopes>⟧.is_whole bells.old }
-    ensures { IfOk result (λ r. (code : CodeParts) → ⟦<Bells as GivesRopes>⟧.ropes bells.old ≡ new_ropes code placement.now placement.now.cores → AreNewRopes code placement.now 0 r.items) }
+    ensures { IfOk result (λ r. AreNewWhere placement.now (⟦<Bells as GivesRopes>⟧.ropes bells.old) r.items) }
 {
     if has_one_core(placement) {
         return Ok(Vec::new(alloc));
@@ -106,7 +105,7 @@ fn make_next<'b, 'c>(
     requires root { slice_get placement.now.places 0 ≡ Some root_core }
     requires port { CanLoad code.now placement.now (core ∷ []) (⟦<SlotPort<'b, ForecWork> as Port<ForecWork>>⟧.state port) }
     requires rope { IsNewRope code.now placement.now core rope }
-    ensures { OnOk result (AreMade code.now placement.now.places core made.old.root made.old.others.items → AreMade code.now placement.now.places (core + 1) made.new.root made.new.others.items) }
+    ensures { OnOk result (MakesNext code.now placement.now.places core made.old.root made.new.root made.old.others.items made.new.others.items) }
 {
     if !has_threads(placement, core) {
         return Ok(());
