@@ -87,6 +87,10 @@ TellsTrace (Threads placing) trace = Unit {0}
 TellsTrace Code trace = Unit {0}
 TellsTrace (Explain b order) trace = (bytes : List ℕ) × (trace ≡ Some bytes)
 
+-- a text has a report for a command of which this is said, where the trace is told
+abbrev pub HasTextReport : PlainCommand → Option (List ℕ) → List ℕ → (Report → Type 0) → Type 0
+HasTextReport command trace text P = TellsTrace command trace → (r : Report) × TextReport text (AcceptedReport command trace) r × P r
+
 -- the text that the words name is told, and the trace where it is read
 abbrev pub Tells : List (List ℕ) → (List ℕ → Option (List ℕ)) → Option (List ℕ) → Type 0
 Tells words content trace =

@@ -231,7 +231,8 @@ pub fn answer_workload<K: Sink, G: Gate + Sync, R: Threads + Wait + Sync>(
     out: &mut K,
 ) -> Status
     requires { IsRunnable (plain_running running) }
-    ensures own { IsOwn result → Given (workload_report threads (plain_running running.entry) (plain_kernel kernel.now)) result (K.held out.old) (K.held out.new) }
+    ensures own { IsOwn result
+        → Given (workload_report threads (plain_running running.entry) (plain_kernel kernel.now)) result (K.held out.old) (K.held out.new) }
     ensures read { result ≢ Status.ReadFault }
     ensures write { result ≡ Status.WriteFault → Fell (K.faults out.old) (K.faults out.new) (K.down out.new)
         × AppendsFront (K.held out.old) (K.held out.new) (workload_report threads (plain_running running.entry) (plain_kernel kernel.now)).bytes }

@@ -5,9 +5,9 @@ ghost use Rattle.command_words.specs.Requests.{PlainCommand, PlainRunning, OnTex
 ghost use Rattle.command_words.specs.declared.fault.WordsFault.TheVariants as words_fault;
 ghost use Rattle.workload.specs.Text.{text_of};
 ghost use Rattle.trace_runs.specs.Calls.{AppendsFront};
-ghost use Rattle.forec_engine.specs.Commands.{usage, IsReport, TextReport, AcceptedReport, WorkloadReport, TellsTrace, Tells, IsInRange, IsRunnable, HasRanges};
+ghost use Rattle.forec_engine.specs.Commands.{usage, IsReport, WorkloadReport, HasTextReport, Tells, IsInRange, IsRunnable, HasRanges};
 ghost use Rattle.trace_runs.specs.Ends.{IsOwn, Given};
-ghost use Rattle.forec_engine.specs.Ends.{WantedByText, WantedByWords, ReadForText, ReadForWords, CommandIsMisplaced, AcceptedSo, IsMisuse, Rewrites, AskForRewriting, running_in};
+ghost use Rattle.forec_engine.specs.Ends.{WantedByText, WantedByWords, FailsWanted, ReadForText, ReadForWords, CommandIsMisplaced, AcceptedSo, IsMisuse, Rewrites, AskForRewriting, running_in};
 ghost use Rattle.text_verdict.specs.Judging.{Judged, Says};
 ghost use Rattle.forec_engine.specs.Placing.{IsMisplaced};
 ghost use Rattle.trace_runs.specs.Report.{Report};
@@ -44,22 +44,18 @@ fn run_text<S: Source, K: Sink, G: Gate + Sync, R: Threads + Wait + Sync>(
 ) -> Status
     requires short { length text.now ≤ MAX_TEXT_BYTES }
     requires ranges { IsInRange (plain_command command) }
-    ensures own { IsOwn result → TellsTrace (plain_command command.entry) (S.left trace.old) → (r : Report)
-        × TextReport text.now (AcceptedReport (plain_command command.entry) (S.left trace.old)) r
-        × Given r result (K.held out.old) (K.held out.new) }
+    ensures own { IsOwn result → HasTextReport (plain_command command.entry) (S.left trace.old) text.now
+        (λ r. Given r result (K.held out.old) (K.held out.new)) }
     ensures read { result ≡ Status.ReadFault → (running : PlainRunning) × (running_in (plain_command command.entry) ≡ Some running)
         × Fell (S.faults trace.old) (S.faults trace.new) (S.down trace.new)
         × WantedByText running text.now (S.left trace.old) (S.left trace.new) (K.held out.old) (K.held out.new) }
     ensures write { result ≡ Status.WriteFault → Fell (K.faults out.old) (K.faults out.new) (K.down out.new)
-        × (TellsTrace (plain_command command.entry) (S.left trace.old) → (r : Report)
-        × TextReport text.now (AcceptedReport (plain_command command.entry) (S.left trace.old)) r
-        × AppendsFront (K.held out.old) (K.held out.new) r.bytes) }
+        × HasTextReport (plain_command command.entry) (S.left trace.old) text.now (λ r. AppendsFront (K.held out.old) (K.held out.new) r.bytes) }
     ensures trace { (trace.new ≡ trace.old) ⊎ ((running : PlainRunning) × (running_in (plain_command command.entry) ≡ Some running)
         × ReadForText S.left S.faults S.down running text.now trace.old trace.new) }
     ensures memory { result ≡ Status.NoMemory → (K.held out.new ≡ K.held out.old)
-        ⊎ (Rewrites (plain_command command.entry) × (TellsTrace (plain_command command.entry) (S.left trace.old) → (r : Report)
-        × TextReport text.now (AcceptedReport (plain_command command.entry) (S.left trace.old)) r
-        × AppendsFront (K.held out.old) (K.held out.new) r.bytes)) }
+        ⊎ (Rewrites (plain_command command.entry)
+        × HasTextReport (plain_command command.entry) (S.left trace.old) text.now (λ r. AppendsFront (K.held out.old) (K.held out.new) r.bytes)) }
     ensures usage { result ≡ Status.Usage → AcceptedSo (CommandIsMisplaced (plain_command command.entry)) text.now }
 {
     let alloc = setting.alloc;
@@ -81,23 +77,20 @@ fn run_named<T: Texts, S: Source, K: Sink, G: Gate + Sync, R: Threads + Wait + S
 ) -> Status
     requires may { T.may texts.old name.now }
     requires ranges { IsInRange (plain_command command) }
-    ensures own { IsOwn result → (text : List ℕ) → T.content texts.old name.now ≡ Some text → TellsTrace (plain_command command.entry) (S.left trace.old)
-        → (r : Report) × TextReport text (AcceptedReport (plain_command command.entry) (S.left trace.old)) r
-        × Given r result (K.held out.old) (K.held out.new) }
+    ensures own { IsOwn result → (text : List ℕ) → T.content texts.old name.now ≡ Some text
+        → HasTextReport (plain_command command.entry) (S.left trace.old) text (λ r. Given r result (K.held out.old) (K.held out.new)) }
     ensures read { result ≡ Status.ReadFault →
         (Fell (T.faults texts.old) (T.faults texts.new) (T.down texts.new) × (K.held out.new ≡ K.held out.old))
-        ⊎ ((running : PlainRunning) × (running_in (plain_command command.entry) ≡ Some running) × Fell (S.faults trace.old) (S.faults trace.new) (S.down trace.new)
-        × IfSome (T.content texts.old name.now) (λ text. WantedByText running text (S.left trace.old) (S.left trace.new) (K.held out.old) (K.held out.new))) }
+        ⊎ ((running : PlainRunning) × (running_in (plain_command command.entry) ≡ Some running)
+        × FailsWanted S.left S.faults S.down running (T.content texts.old name.now) trace.old trace.new (K.held out.old) (K.held out.new)) }
     ensures write { result ≡ Status.WriteFault → Fell (K.faults out.old) (K.faults out.new) (K.down out.new)
-        × ((text : List ℕ) → T.content texts.old name.now ≡ Some text → TellsTrace (plain_command command.entry) (S.left trace.old)
-        → (r : Report) × TextReport text (AcceptedReport (plain_command command.entry) (S.left trace.old)) r
-        × AppendsFront (K.held out.old) (K.held out.new) r.bytes) }
+        × ((text : List ℕ) → T.content texts.old name.now ≡ Some text
+        → HasTextReport (plain_command command.entry) (S.left trace.old) text (λ r. AppendsFront (K.held out.old) (K.held out.new) r.bytes)) }
     ensures trace { (trace.new ≡ trace.old) ⊎ ((running : PlainRunning) × (running_in (plain_command command.entry) ≡ Some running)
         × IfSome (T.content texts.old name.now) (λ text. ReadForText S.left S.faults S.down running text trace.old trace.new)) }
     ensures memory { result ≡ Status.NoMemory → (K.held out.new ≡ K.held out.old)
-        ⊎ (Rewrites (plain_command command.entry) × ((text : List ℕ) → T.content texts.old name.now ≡ Some text → TellsTrace (plain_command command.entry) (S.left trace.old)
-        → (r : Report) × TextReport text (AcceptedReport (plain_command command.entry) (S.left trace.old)) r
-        × AppendsFront (K.held out.old) (K.held out.new) r.bytes)) }
+        ⊎ (Rewrites (plain_command command.entry) × ((text : List ℕ) → T.content texts.old name.now ≡ Some text
+        → HasTextReport (plain_command command.entry) (S.left trace.old) text (λ r. AppendsFront (K.held out.old) (K.held out.new) r.bytes))) }
     ensures usage { result ≡ Status.Usage → IfSome (T.content texts.old name.now) (AcceptedSo (CommandIsMisplaced (plain_command command.entry))) }
 {
     let alloc = setting.alloc;

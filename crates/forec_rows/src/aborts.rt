@@ -17,8 +17,8 @@ const WEAK_IMMEDIATE: &[u8] =
     b"input int r; output int o = 0; void main(void) { while (1) { weak abort { while (1) { o = o + 1; pause; } } when immediate (r); o = o + 100; pause; } }";
 
 /// A weak abort in a strong one.
-const NESTED: &[u8] =
-    b"input int q, p; output int o = 0; void main(void) { while (1) { abort { weak abort { while (1) { o = o + 1; pause; } } when (q); o = o + 10; pause; } when (p); o = o + 100; pause; } }";
+const NESTED: &[u8] = b"input int q, p; output int o = 0;
+void main(void) { while (1) { abort { weak abort { while (1) { o = o + 1; pause; } } when (q); o = o + 10; pause; } when (p); o = o + 100; pause; } }";
 
 /// The outer test traps before the inner one is made.
 const TRAPS: &[u8] = b"input int q, p;

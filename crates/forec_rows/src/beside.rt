@@ -2,7 +2,7 @@
 
 use crate::aborts::{DRIVE, DRIVEN, ROBOT};
 use crate::cores::{ADDED, ADDS};
-use crate::memory::{run_past, whole};
+use crate::memory::{Asked, run_past, whole};
 use forec_base::{Gate, Point};
 use forec_engine::Status;
 use std::alloc::Global;
@@ -102,15 +102,12 @@ fn meet(
         late: AtomicU32::new(0),
         misplaced: AtomicU32::new(0),
     };
-    let end = run_past(
-        rt,
-        alloc,
-        case.words,
-        case.text,
-        case.trace,
-        whole(alloc),
-        &gate,
-    )?;
+    let asked = Asked {
+        words: case.words,
+        text: case.text,
+        trace: case.trace,
+    };
+    let end = run_past(rt, alloc, asked, whole(alloc), &gate)?;
     assert_eq!(rt;
         (end.held.as_slice(), end.status),
         (case.report, Status::Done)

@@ -1,6 +1,6 @@
 //! Threads on several cores, lists of them, and workloads.
 
-use crate::memory::{shows, single, whole};
+use crate::memory::{Asked, shows, single, whole};
 use forec_engine::Status;
 use std::test::Fail;
 
@@ -58,7 +58,12 @@ fn runs_on_cores(rt: HostRuntime) -> Result<(), Fail> {
     let alloc = rt.alloc();
     for (words, want, status) in &RUNS {
         let streams = whole(alloc);
-        shows(&rt, alloc, words, ADDS, b"\n\n\n", streams, (want, *status))?;
+        let asked = Asked {
+            words,
+            text: ADDS,
+            trace: b"\n\n\n",
+        };
+        shows(&rt, alloc, asked, streams, (want, *status))?;
     }
     Ok(())
 }
@@ -99,17 +104,19 @@ fn lists_and_workloads(rt: HostRuntime) -> Result<(), Fail> {
     let alloc = rt.alloc();
     for (words, want, status) in &ASKS {
         let streams = single(alloc, 1, 0)?;
-        shows(&rt, alloc, words, ADDS, b"", streams, (want, *status))?;
+        let asked = Asked {
+            words,
+            text: ADDS,
+            trace: b"",
+        };
+        shows(&rt, alloc, asked, streams, (want, *status))?;
     }
     let alone = b"thread 0 parent - name main core 0 weight 7\nbound 14\n";
     let want = (alone.as_slice(), Status::Done);
-    shows(
-        &rt,
-        alloc,
-        &["threads", "P"],
-        COUNTER,
-        b"",
-        whole(alloc),
-        want,
-    )
+    let asked = Asked {
+        words: &["threads", "P"],
+        text: COUNTER,
+        trace: b"",
+    };
+    shows(&rt, alloc, asked, whole(alloc), want)
 }

@@ -1,6 +1,6 @@
 //! The gate that the top call is given is the one that its threads pass.
 
-use crate::memory::{run_past, whole};
+use crate::memory::{Asked, run_past, whole};
 use forec_base::{Gate, Point};
 use forec_engine::Status;
 use std::process::Abort;
@@ -62,15 +62,12 @@ fn each_job_passes_the_gate(rt: HostRuntime) -> Result<(), Fail> {
         second: Passes::none(),
         others: Passes::none(),
     };
-    let end = run_past(
-        &rt,
-        alloc,
-        &["run", "P"],
-        TWICE,
-        b"\n\n\n",
-        whole(alloc),
-        &gate,
-    )?;
+    let asked = Asked {
+        words: &["run", "P"],
+        text: TWICE,
+        trace: b"\n\n\n",
+    };
+    let end = run_past(&rt, alloc, asked, whole(alloc), &gate)?;
     let report = b"tick 1\ntick 2\nend 2\n".as_slice();
     assert_eq!(rt; (end.held.as_slice(), end.status), (report, Status::Done));
     assert_eq!(rt; gate.first.told(), (2, 2));

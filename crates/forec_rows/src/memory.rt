@@ -1,7 +1,5 @@
 //! The top call over stores in memory.
-ghost use Rattle.std.specs.Prelude.{ℕ, List};
-
-use forec_base::{Gate, MemSink, MemSource, MemTexts, NamedText, OpenGate, Sink, Source, Texts};
+use forec_base::{Gate, MemSink, MemSource, MemTexts, NamedText, OpenGate};
 use forec_engine::{Status, forec};
 use std::alloc::Global;
 use std::process::Abort;
@@ -45,23 +43,21 @@ pub fn single(alloc: Global, read: u64, write: u64) -> Result<Streams, Fail> {
     })
 }
 
-/// Does what words ask: the one place that makes the top call.
-pub fn ask<R: Threads + Wait + Sync, T: Texts, S: Source, K: Sink, G: Gate + Sync>(
-    rt: &R,
-    alloc: Global,
-    words: &[&str],
-    texts: &mut T,
-    trace: &mut S,
-    out: &mut K,
-    gate: &G,
-) -> Result<Status, Fail>
-    requires { (name : List ℕ) → T.may texts.old name }
-{
+/// Words with an allocator.
+pub fn owned(alloc: Global, words: &[&str]) -> Result<Vec<String>, Fail> {
     let mut owned = Vec::new(alloc);
     for word in words {
         owned.push(String::from_str(alloc, word)?)?;
     }
-    Ok(forec(rt, alloc, &owned, texts, trace, out, gate))
+    Ok(owned)
+}
+
+/// What is asked: words, the one text of the store, which is named `P`, and the trace.
+#[derive(Clone, Copy)]
+pub struct Asked<'a> {
+    pub words: &'a [&'a str],
+    pub text: &'a [u8],
+    pub trace: &'a [u8],
 }
 
 /// A store with one text, named `P`.
@@ -74,50 +70,46 @@ pub fn store(alloc: Global, text: &[u8]) -> Result<MemTexts, Fail> {
     Ok(MemTexts::new(files, Vec::new(alloc)))
 }
 
-/// Runs words over a store with one text, named `P`.
+/// Does what is asked.
 pub fn run(
     rt: &(impl Abort + Threads + Wait + Sync),
     alloc: Global,
-    words: &[&str],
-    text: &[u8],
-    trace: &[u8],
+    asked: Asked<'_>,
     streams: Streams,
 ) -> Result<Ended, Fail> {
-    run_past(rt, alloc, words, text, trace, streams, &OpenGate)
+    run_past(rt, alloc, asked, streams, &OpenGate)
 }
 
 /// The same, where each job passes a gate.
 pub fn run_past<G: Gate + Sync>(
     rt: &(impl Abort + Threads + Wait + Sync),
     alloc: Global,
-    words: &[&str],
-    text: &[u8],
-    trace: &[u8],
+    asked: Asked<'_>,
     streams: Streams,
     gate: &G,
 ) -> Result<Ended, Fail> {
     assert!(rt; streams.read > 0 && streams.write > 0);
-    let mut texts = store(alloc, text)?;
-    let mut source = MemSource::pieces(trace.to_vec(alloc)?, streams.read_fails, streams.read);
+    let words = owned(alloc, asked.words)?;
+    let mut texts = store(alloc, asked.text)?;
+    let trace = asked.trace.to_vec(alloc)?;
+    let mut source = MemSource::pieces(trace, streams.read_fails, streams.read);
     let mut sink = MemSink::pieces(alloc, 200_000, streams.write_fails, streams.write)?;
-    let status = ask(rt, alloc, words, &mut texts, &mut source, &mut sink, gate)?;
+    let status = forec(rt, alloc, &words, &mut texts, &mut source, &mut sink, gate);
     Ok(Ended {
         held: sink.bytes().to_vec(alloc)?,
         status,
     })
 }
 
-/// Runs words over a store with one text, named `P`: this is held in the end, and this is the status.
+/// Does what is asked: this is held in the end, and this is the status.
 pub fn shows(
     rt: &(impl Abort + Threads + Wait + Sync),
     alloc: Global,
-    words: &[&str],
-    text: &[u8],
-    trace: &[u8],
+    asked: Asked<'_>,
     streams: Streams,
     want: (&[u8], Status),
 ) -> Result<(), Fail> {
-    let end = run(rt, alloc, words, text, trace, streams)?;
+    let end = run(rt, alloc, asked, streams)?;
     assert_eq!(rt; (end.held.as_slice(), end.status), want);
     Ok(())
 }
@@ -133,15 +125,12 @@ pub fn prints_each(
 ) -> Result<(), Fail> {
     for (text, trace, want, status) in rows {
         for streams in [whole(alloc), single(alloc, 0, 0)?] {
-            shows(
-                rt,
-                alloc,
-                &["run", "P"],
+            let asked = Asked {
+                words: &["run", "P"],
                 text,
                 trace,
-                streams,
-                (want, *status),
-            )?;
+            };
+            shows(rt, alloc, asked, streams, (want, *status))?;
         }
     }
     Ok(())
@@ -154,13 +143,10 @@ pub fn counts(
     text: &[u8],
     want: (&[u8], Status),
 ) -> Result<(), Fail> {
-    shows(
-        rt,
-        alloc,
-        &["check", "P"],
+    let asked = Asked {
+        words: &["check", "P"],
         text,
-        b"",
-        single(alloc, 1, 0)?,
-        want,
-    )
+        trace: b"",
+    };
+    shows(rt, alloc, asked, single(alloc, 1, 0)?, want)
 }

@@ -1,8 +1,8 @@
 //! Programs of one thread, the words, and the sizes.
 
-use crate::memory::{Row, ask, counts, prints_each, run, shows, single, whole};
+use crate::memory::{Asked, Row, counts, owned, prints_each, run, shows, single, whole};
 use forec_base::{MemSink, OpenGate, SureSource, SureTexts};
-use forec_engine::Status;
+use forec_engine::{Status, forec};
 use std::test::Fail;
 
 /// One output, which a loop raises in each tick.
@@ -165,15 +165,12 @@ fn budgets(rt: HostRuntime) -> Result<(), Fail> {
     for (text, budget, want, status) in &BUDGETS {
         let words = ["run", "P", "--budget", budget];
         let streams = whole(alloc);
-        shows(
-            &rt,
-            alloc,
-            &words,
+        let asked = Asked {
+            words: &words,
             text,
-            b"\n\n\n",
-            streams,
-            (want, *status),
-        )?;
+            trace: b"\n\n\n",
+        };
+        shows(&rt, alloc, asked, streams, (want, *status))?;
     }
     Ok(())
 }
@@ -189,9 +186,19 @@ fn counts_and_lists(rt: HostRuntime) -> Result<(), Fail> {
     counts(&rt, alloc, endless, (refused, Status::Refused))?;
     let fails = single(alloc, 0, 4)?;
     let front = (b"ok ".as_slice(), Status::WriteFault);
-    shows(&rt, alloc, &["check", "P"], COUNTER, b"", fails, front)?;
+    let asked = Asked {
+        words: &["check", "P"],
+        text: COUNTER,
+        trace: b"",
+    };
+    shows(&rt, alloc, asked, fails, front)?;
     let fails = single(alloc, 1, 0)?;
-    let end = run(&rt, alloc, &["code", "P"], COUNTER, b"", fails)?;
+    let asked = Asked {
+        words: &["code", "P"],
+        text: COUNTER,
+        trace: b"",
+    };
+    let end = run(&rt, alloc, asked, fails)?;
     assert!(rt; end.held.starts_with(b"thread 0\n") && end.status == Status::Done);
     Ok(())
 }
@@ -220,19 +227,21 @@ fn words(rt: HostRuntime) -> Result<(), Fail> {
     let alloc = rt.alloc();
     let usage = (USAGE, Status::Usage);
     for words in &NO_COMMANDS {
-        shows(&rt, alloc, words, COUNTER, b"\n\n", whole(alloc), usage)?;
+        let asked = Asked {
+            words,
+            text: COUNTER,
+            trace: b"\n\n",
+        };
+        shows(&rt, alloc, asked, whole(alloc), usage)?;
     }
     let missing = (b"".as_slice(), Status::ReadFault);
     let streams = whole(alloc);
-    shows(
-        &rt,
-        alloc,
-        &["run", "Q"],
-        COUNTER,
-        b"\n\n",
-        streams,
-        missing,
-    )
+    let asked = Asked {
+        words: &["run", "Q"],
+        text: COUNTER,
+        trace: b"\n\n",
+    };
+    shows(&rt, alloc, asked, streams, missing)
 }
 
 /// A byte, how many of them a text has, and what is held in the end.
@@ -257,20 +266,22 @@ fn sizes(rt: HostRuntime) -> Result<(), Fail> {
     for (byte, count, want) in &TEXTS {
         let text = vec![in alloc; *byte; *count]?;
         let refused = (*want, Status::Refused);
-        shows(&rt, alloc, &words, &text, b"", whole(alloc), refused)?;
+        let asked = Asked {
+            words: &words,
+            text: &text,
+            trace: b"",
+        };
+        shows(&rt, alloc, asked, whole(alloc), refused)?;
     }
     for (count, want, status) in &HEADERS {
         let trace = vec![in alloc; b' '; *count]?;
         let streams = whole(alloc);
-        shows(
-            &rt,
-            alloc,
-            &words,
-            COUNTER,
-            &trace,
-            streams,
-            (want, *status),
-        )?;
+        let asked = Asked {
+            words: &words,
+            text: COUNTER,
+            trace: &trace,
+        };
+        shows(&rt, alloc, asked, streams, (want, *status))?;
     }
     Ok(())
 }
@@ -289,15 +300,12 @@ fn reads_no_further(rt: HostRuntime) -> Result<(), Fail> {
     for (text, budget, want, status) in &LAST {
         let words = ["run", "P", "--budget", budget];
         let streams = single(alloc, 3, 0)?;
-        shows(
-            &rt,
-            alloc,
-            &words,
+        let asked = Asked {
+            words: &words,
             text,
-            b"\n\n\n",
-            streams,
-            (want, *status),
-        )?;
+            trace: b"\n\n\n",
+        };
+        shows(&rt, alloc, asked, streams, (want, *status))?;
     }
     Ok(())
 }
@@ -310,9 +318,10 @@ fn sure_stores(rt: HostRuntime) -> Result<(), Fail> {
     let mut trace = SureSource::new(b"\n\n".to_vec(alloc)?);
     let mut out = MemSink::new(alloc, 100, Vec::new(alloc))?;
     let words = ["run", "any name"];
-    let status = ask(
+    let words = owned(alloc, &words)?;
+    let status = forec(
         &rt, alloc, &words, &mut texts, &mut trace, &mut out, &OpenGate,
-    )?;
+    );
     let report = b"tick 1 o=-2147483648\nend 1\n".as_slice();
     assert_eq!(rt; (out.bytes(), status), (report, Status::Done));
     Ok(())
@@ -323,7 +332,12 @@ fn sure_stores(rt: HostRuntime) -> Result<(), Fail> {
 fn many_ticks(rt: HostRuntime) -> Result<(), Fail> {
     let alloc = rt.alloc();
     let trace = vec![in alloc; 10u8; 10_001]?;
-    let end = run(&rt, alloc, &["run", "P"], COUNTER, &trace, whole(alloc))?;
+    let asked = Asked {
+        words: &["run", "P"],
+        text: COUNTER,
+        trace: &trace,
+    };
+    let end = run(&rt, alloc, asked, whole(alloc))?;
     assert_eq!(rt; (end.held.len(), end.status), (167_799, Status::Done));
     assert!(rt; end.held.ends_with(b"\ntick 10000 o=10000\nrows 10000\n"));
     Ok(())

@@ -1,6 +1,6 @@
 //! Streams that fail at one of their calls.
 
-use crate::memory::{Streams, shows, single, whole};
+use crate::memory::{Asked, Streams, shows, single, whole};
 use forec_engine::Status;
 use std::alloc::Global;
 use std::process::Abort;
@@ -147,6 +147,7 @@ fn one_read_fails(alloc: Global, size: usize, call: usize) -> Result<Streams, Fa
 fn each_read_fails(rt: HostRuntime) -> Result<(), Fail> {
     let alloc = rt.alloc();
     for (words, text, trace, report, status, to_end) in &CASES {
+        let asked = Asked { words, text, trace };
         for size in [1usize, 2, 5] {
             let reads = trace
                 .len()
@@ -156,10 +157,10 @@ fn each_read_fails(rt: HostRuntime) -> Result<(), Fail> {
                 let streams = one_read_fails(alloc, size, before.saturating_add(1))?;
                 let rows = rows_of(trace, before.saturating_mul(size));
                 let held = (front(report, rows), Status::ReadFault);
-                shows(&rt, alloc, words, text, trace, streams, held)?;
+                shows(&rt, alloc, asked, streams, held)?;
             }
             let streams = one_read_fails(alloc, size, reads.saturating_add(1))?;
-            shows(&rt, alloc, words, text, trace, streams, (report, *status))?;
+            shows(&rt, alloc, asked, streams, (report, *status))?;
         }
     }
     Ok(())
@@ -170,6 +171,7 @@ fn each_read_fails(rt: HostRuntime) -> Result<(), Fail> {
 fn each_write_fails(rt: HostRuntime) -> Result<(), Fail> {
     let alloc = rt.alloc();
     for (words, text, trace, report, status, _) in &CASES {
+        let asked = Asked { words, text, trace };
         for size in [1usize, 65536] {
             for written in 0..report.len() {
                 let streams = Streams {
@@ -177,10 +179,10 @@ fn each_write_fails(rt: HostRuntime) -> Result<(), Fail> {
                     ..single(alloc, 0, written as u64 + 1)?
                 };
                 let held = (&report[..written], Status::WriteFault);
-                shows(&rt, alloc, words, text, trace, streams, held)?;
+                shows(&rt, alloc, asked, streams, held)?;
             }
             let behind = single(alloc, 0, (report.len() as u64).saturating_add(1))?;
-            shows(&rt, alloc, words, text, trace, behind, (report, *status))?;
+            shows(&rt, alloc, asked, behind, (report, *status))?;
         }
     }
     Ok(())
@@ -199,7 +201,12 @@ fn a_read_and_a_write_fail(rt: HostRuntime) -> Result<(), Fail> {
     for (read, write, want, status) in &FAILS {
         let streams = single(alloc, *read, *write)?;
         let held = (*want, *status);
-        shows(&rt, alloc, &["run", "P"], COUNTER, b"\n\n\n", streams, held)?;
+        let asked = Asked {
+            words: &["run", "P"],
+            text: COUNTER,
+            trace: b"\n\n\n",
+        };
+        shows(&rt, alloc, asked, streams, held)?;
     }
     Ok(())
 }

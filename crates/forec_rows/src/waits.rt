@@ -1,8 +1,8 @@
 //! A source that gives the next row only once the line of each row before it has been taken.
 
-use crate::memory::{ask, store};
+use crate::memory::{owned, store};
 use forec_base::{Failed, MemSink, MemSource, OpenGate, Sink, Source};
-use forec_engine::Status;
+use forec_engine::{Status, forec};
 use std::process::Abort;
 use std::sync::atomic::{AtomicU32, Ordering};
 use std::test::Fail;
@@ -119,15 +119,16 @@ fn a_line_is_out_before_the_next_row(rt: HostRuntime) -> Result<(), Fail> {
                 down: false,
             };
             let mut texts = store(alloc, text)?;
-            let status = ask(
+            let words = owned(alloc, words)?;
+            let status = forec(
                 &rt,
                 alloc,
-                words,
+                &words,
                 &mut texts,
                 &mut source,
                 &mut sink,
                 &OpenGate,
-            )?;
+            );
             assert_eq!(rt; (sink.inner.bytes(), status), (*report, Status::Done));
         }
     }

@@ -1,12 +1,13 @@
 -- The header of a trace, and what follows.
-use Rattle.std.proofs.Common.{◌≡◌, ◌≢◌, ℕ, List, [], ◌∷◌, ◌++◌, Option, Some, Ok, refl, append_assoc, sym, ap, subst, ◌∙◌}
+use Rattle.std.proofs.Common.{◌≡◌, ◌≢◌, ℕ, true, List, [], ◌∷◌, ◌++◌, length, Option, Some, Result, Ok, Err, refl, append_assoc, sym, ap, subst, ◌∙◌}
 use Rattle.std.specs.Option.{IfSome}
+use Rattle.std.specs.Prelude.{IfOk, IfErr}
 use Rattle.std.specs.Io.KnownBytes.{Appends}
 use Rattle.forec_kernel.specs.Shapes.{PlainKernel}
 use Rattle.forec_kernel.specs.Ticks.{Fresh}
 use Rattle.trace_rows.specs.Calls.{IfTold}
 use Rattle.trace_rows.specs.Lines.{whole_lines}
-use Rattle.trace_rows.specs.Reader.{Reader, ahead}
+use Rattle.trace_rows.specs.Reader.{Reader, StartTakes, StartSays, ahead}
 use Rattle.trace_rows.specs.Trace.{Trace, header_at, stop, trace_of}
 use Rattle.trace_rows.specs.declared.fault.RowFault.{RowFault}
 use Rattle.trace_runs.specs.Calls.{AppendsFront}
@@ -14,8 +15,8 @@ use Rattle.trace_runs.specs.Ends.{IsOwn, Given, PrintedFor, Wanted}
 use Rattle.trace_runs.specs.KernelNames.{input_names}
 use Rattle.trace_rows.specs.Report.{row_line}
 use Rattle.trace_runs.specs.Report.{Report, Pace, most_rows, advance, report_from, trace_report, printed_for}
-use Rattle.trace_runs.specs.Progress.{UnreadSays, Started, Led, report_rest}
-use Rattle.trace_runs.specs.declared.found.Unread.TheVariants as unread
+use Rattle.trace_runs.specs.Progress.{NotStarted, Started, Led, report_rest}
+use Rattle.trace_rows.specs.declared.fault.RowFault.TheVariants as fault
 use Rattle.trace_runs.specs.declared.status.Status.{Status}
 use Rattle.trace_runs.specs.declared.status.Status.TheVariants as status
 use Rattle.trace_runs.proofs.Told.{told_both, told_map, told_some, told_some_both, some_map, appends_refl}
@@ -39,11 +40,43 @@ pub printed_rows : (k : PlainKernel) (b : ℕ) (line ps : List ℕ) (lines : Lis
 unfolding printed_for
 printed_rows k b line ps lines p h e = rw (h, e) refl
 
-pub head_fault : (k : PlainKernel) (b : ℕ) (inputs : List (List ℕ)) (l l' : Option (List ℕ)) (f : RowFault) → inputs ≡ input_names k → UnreadSays inputs l l' (unread.Stops f) →
+-- what was read is a header, or why there is none
+pub started : (inputs : List (List ℕ)) (l l' : Option (List ℕ)) (r : Result Reader RowFault) → IfTold l l' (StartSays inputs most_rows r) → StartTakes inputs l l' r →
+    IfOk r (λ x. (length x.places ≡ length inputs) × (x.limit ≡ most_rows) × (x.given ≡ 0) × (x.live ≡ true)) → IfOk r (Started inputs l l')
+started inputs l l' (Ok r) says takes rows = record {
+  header = takes.0;
+  is = takes.1;
+  takes = takes.2;
+  trace = says;
+  each = rows.0;
+  most = rows.1;
+  count = rows.2;
+  goes = rows.3;
+}
+started inputs l l' (Err f) says takes rows = tt
+
+pub not_started : (inputs : List (List ℕ)) (l l' : Option (List ℕ)) (r : Result Reader RowFault) → IfTold l l' (StartSays inputs most_rows r) → StartTakes inputs l l' r → IfErr r (NotStarted inputs l l')
+not_started inputs l l' (Ok r) says takes = tt
+not_started inputs l l' (Err fault.Bad) says takes = says
+not_started inputs l l' (Err fault.Long) says takes = says
+not_started inputs l l' (Err fault.Many) says takes = told_map l l' _ (λ x y. trace_of inputs most_rows x ≡ stop (Some fault.Many) 0) says (λ x y none. absurd none)
+not_started inputs l l' (Err fault.ReadFault) says takes = takes
+not_started inputs l l' (Err fault.OutOfMemory) says takes = tt
+
+-- what stands there is no header
+pub no_header_there : (inputs : List (List ℕ)) (l l' : Option (List ℕ)) (f : RowFault) → f ≢ fault.ReadFault → f ≢ fault.OutOfMemory → NotStarted inputs l l' f →
+    IfTold l l' (λ x y. trace_of inputs most_rows x ≡ stop (Some f) 0)
+no_header_there inputs l l' fault.Bad read memory n = n
+no_header_there inputs l l' fault.Long read memory n = n
+no_header_there inputs l l' fault.Many read memory n = n
+no_header_there inputs l l' fault.ReadFault read memory n = absurd (read refl)
+no_header_there inputs l l' fault.OutOfMemory read memory n = absurd (memory refl)
+
+pub head_fault : (k : PlainKernel) (b : ℕ) (inputs : List (List ℕ)) (l l' : Option (List ℕ)) (f : RowFault) → inputs ≡ input_names k → IfTold l l' (λ x y. trace_of inputs most_rows x ≡ stop (Some f) 0) →
     IfSome l (λ x. trace_report k b x ≡ record { bytes = row_line 0 f; status = status.Trace })
 head_fault k b inputs l l' f e n = told_some l l' (λ x y. trace_of inputs most_rows x ≡ stop (Some f) 0) _ n (λ x y h. trace_reads k b inputs x (stop (Some f) 0) e h)
 
-pub head_failed : (k : PlainKernel) (b : ℕ) (inputs : List (List ℕ)) (l l' h0 : Option (List ℕ)) → UnreadSays inputs l l' unread.Failed → Wanted k b l l' h0 h0
+pub head_failed : (k : PlainKernel) (b : ℕ) (inputs : List (List ℕ)) (l l' h0 : Option (List ℕ)) → NotStarted inputs l l' fault.ReadFault → Wanted k b l l' h0 h0
 head_failed k b inputs l l' h0 n = (
   [],
   appends_refl h0,

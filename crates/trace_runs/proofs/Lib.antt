@@ -4,6 +4,7 @@ pub mod Endings
 mod Fine
 mod Following
 mod Heading
+mod NextRows
 mod Numbered
 mod Picking
 mod Ranges

@@ -1,5 +1,5 @@
 -- A run, tick by tick.
-use Rattle.std.proofs.Common.{◌≡◌, ◌≢◌, ℕ, ◌+◌, ◌-◌, ◌≤◌, Bool, true, false, List, [], ◌∷◌, ◌++◌, Option, Some, None, Ok, refl, sym, ap, subst, ◌∙◌, arith, append_assoc, append-nil, ◌<◌, inl, inr, length, get_or, length-append}
+use Rattle.std.proofs.Common.{◌≡◌, ◌≢◌, ℕ, ◌+◌, ◌-◌, ◌≤◌, Bool, true, false, List, [], ◌∷◌, ◌++◌, Option, Some, None, Ok, Err, refl, sym, ap, subst, ◌∙◌, arith, append_assoc, append-nil, ◌<◌, inl, inr, length, get_or, length-append}
 use Rattle.std.specs.List.{position_or_len}
 use Rattle.std.proofs.lemmas.Bool.{cases_lt}
 use Rattle.std.proofs.lemmas.List.{get_or_append_left}
@@ -20,8 +20,9 @@ use Rattle.trace_runs.specs.Calls.{AppendsFront}
 use Rattle.trace_runs.specs.Ends.{IsOwn, Given}
 use Rattle.trace_runs.specs.Report.{Report, Pace, most_rows, tick_lines, lines_from, last_outcome, ending, behind_bytes, report_from, advance}
 use Rattle.trace_rows.specs.Report.{rows_line, row_line}
-use Rattle.trace_runs.specs.Progress.{Gave, FoundSays, Taken, Leads, Led, report_rest}
-use Rattle.trace_runs.specs.declared.found.Found.TheVariants as found
+use Rattle.trace_runs.specs.Progress.{Gave, GivesNext, Taken, Leads, Led, report_rest}
+use Rattle.trace_rows.specs.declared.fault.Next.TheVariants as next
+use Rattle.trace_rows.specs.declared.fault.RowFault.TheVariants as fault
 use Rattle.trace_runs.specs.declared.status.Status.{Status}
 use Rattle.trace_runs.specs.declared.status.Status.TheVariants as status
 use Rattle.trace_runs.proofs.Endings.{own_not}
@@ -155,7 +156,7 @@ at_any run F now l0 l h0 h unsent row r =
     told_some l0 l (Leads run.kernel run.budget run.first now p) _ r.told (λ x y led. (report_from run.kernel run.budget r.state row (ahead now y), led.report))
 
 pub at_end : (run : Run) (F : State → Type 0) (now new : Reader) (l0 l l' h0 h : Option (List ℕ)) (unsent : List ℕ) (row : ℕ) (values : Row) (r : Reached run F now l0 l h0 h unsent row) →
-    FoundSays now new l l' values found.End → IfSome l0 (Is run r.bytes (record { bytes = rows_line (row - 1); status = status.Done }))
+    GivesNext now new l l' values (Ok next.End) → IfSome l0 (Is run r.bytes (record { bytes = rows_line (row - 1); status = status.Done }))
 at_end run F now new l0 l l' h0 h unsent row values r n =
     let p : Pace = record { state = r.state; next = row; bytes = r.bytes } in
     let s : Report = record { bytes = rows_line (row - 1); status = status.Done } in
@@ -165,8 +166,16 @@ at_end run F now new l0 l l' h0 h unsent row values r n =
     ∙ ap (λ m. behind_bytes r.bytes (record { bytes = rows_line (m - 1); status = status.Done })) r.stands.number))
     (λ x y i. i)
 
+-- what stands next is no row
+pub stops_there : (now new : Reader) (l l' : Option (List ℕ)) (values : Row) (f : RowFault) → f ≢ fault.ReadFault → GivesNext now new l l' values (Err f) → IfTold l l' (λ x y. ahead now x ≡ stop (Some f) (now.given + 1))
+stops_there now new l l' values fault.Bad not n = n
+stops_there now new l l' values fault.Long not n = n
+stops_there now new l l' values fault.Many not n = n
+stops_there now new l l' values fault.ReadFault not n = absurd (not refl)
+stops_there now new l l' values fault.OutOfMemory not n = absurd n
+
 pub at_fault : (run : Run) (F : State → Type 0) (now new : Reader) (l0 l l' h0 h : Option (List ℕ)) (unsent : List ℕ) (row : ℕ) (values : Row) (f : RowFault) (r : Reached run F now l0 l h0 h unsent row) →
-    FoundSays now new l l' values (found.Stops f) → IfSome l0 (Is run r.bytes (record { bytes = row_line row f; status = status.Trace }))
+    IfTold l l' (λ x y. ahead now x ≡ stop (Some f) (now.given + 1)) → IfSome l0 (Is run r.bytes (record { bytes = row_line row f; status = status.Trace }))
 at_fault run F now new l0 l l' h0 h unsent row values f r n =
     let p : Pace = record { state = r.state; next = row; bytes = r.bytes } in
     let s : Report = record { bytes = row_line row f; status = status.Trace } in

@@ -1,10 +1,11 @@
 -- How a run ends.
-use Rattle.std.specs.Prelude.{◌≡◌, ℕ, Bool, List, ◌++◌, Option, Some, ⊤}
+use Rattle.std.specs.Prelude.{◌≡◌, ℕ, Bool, List, ◌++◌, Option, Some, IfSome, ⊤}
 use Rattle.std.specs.Io.KnownBytes.{Appends}
 use Rattle.forec_kernel.specs.Shapes.{PlainKernel}
 use Rattle.trace_rows.specs.Calls.{IfTold}
 use Rattle.trace_rows.specs.Lines.{whole_lines}
 use Rattle.trace_rows.specs.Reads.{Reads}
+use Rattle.trace_runs.specs.Calls.{AppendsFront}
 use Rattle.trace_runs.specs.Report.{Report, printed_for}
 use Rattle.trace_runs.specs.declared.status.Status.{Status}
 use Rattle.trace_runs.specs.declared.status.Status.TheVariants as status
@@ -25,6 +26,10 @@ IsOwn status.NoMemory = ⊥
 pub record Given (r : Report) (end : Status) (held_old held_new : Option (List ℕ)) : Type 0 where
   pub status : end ≡ r.status
   pub bytes : Appends held_old held_new r.bytes
+
+-- a front of the report was given, of the bytes that a source has left
+abbrev pub FrontOf : Option (List ℕ) → Option (List ℕ) → Option (List ℕ) → (List ℕ → Report) → Type 0
+FrontOf left held_old held_new report = IfSome left (λ x. AppendsFront held_old held_new (report x).bytes)
 
 -- these bytes are what the lines print that have come whole, none of which stops the program
 abbrev pub PrintedFor : PlainKernel → ℕ → List ℕ → List ℕ → List ℕ → Type 0

@@ -19,6 +19,11 @@ pub record HasRunRows {S : Type 0} (left : S → Option (List ℕ)) (faults : S 
   pub memory : end ≡ status.NoMemory → held_new ≡ held_old
   pub usage : end ≢ status.Usage
 
+-- the same, of the sink before and after it
+abbrev pub RunsRows : {S K : Type 0} → (S → Option (List ℕ)) → (S → ℕ) → (S → Bool) → (K → Option (List ℕ)) → (K → ℕ) → (K → Bool) → PlainKernel → ℕ → S → S → K → K → Status → Type 0
+RunsRows left faults down held lost is_down k budget old new out_old out_new end =
+    HasRunRows left faults down k budget old new (held out_old) (held out_new) (lost out_old) (lost out_new) (is_down out_new) end
+
 -- It ran a workload, whose report this is: what the sink held, and how many faults of the sink there were; whether the sink is down; the
 -- status.
 pub record HasRunWorkload (r : Report) (held_old held_new : Option (List ℕ)) (lost_old lost_new : ℕ) (is_down : Bool) (end : Status) : Type 0 where
@@ -27,3 +32,7 @@ pub record HasRunWorkload (r : Report) (held_old held_new : Option (List ℕ)) (
   pub write : end ≡ status.WriteFault → Fell lost_old lost_new is_down × AppendsFront held_old held_new r.bytes
   pub memory : end ≡ status.NoMemory → held_new ≡ held_old
   pub usage : end ≢ status.Usage
+
+-- the same, of the sink before and after it
+abbrev pub RunsWorkload : {K : Type 0} → (K → Option (List ℕ)) → (K → ℕ) → (K → Bool) → Report → K → K → Status → Type 0
+RunsWorkload held lost is_down r out_old out_new end = HasRunWorkload r (held out_old) (held out_new) (lost out_old) (lost out_new) (is_down out_new) end

@@ -6,7 +6,9 @@ pub mod Led
 pub mod Orders
 pub mod Progress
 pub mod Report
+pub mod Rewriting
 pub mod Sessions
 pub mod StatusNumbers
+pub mod Ticking
 pub mod WaitingRoom
 pub mod Workload

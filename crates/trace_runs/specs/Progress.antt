@@ -1,17 +1,17 @@
 -- How far a trace was taken.
-use Rattle.std.specs.Prelude.{◌≡◌, ℕ, ◌+◌, ◌<◌, false, true, List, [], ◌++◌, length, Option, Some, None, Result, Ok, Err}
+use Rattle.std.specs.Prelude.{◌≡◌, ℕ, ◌+◌, ◌<◌, Bool, false, true, List, [], ◌++◌, length, Option, Some, None, Result, Ok, Err}
 use Rattle.forec_kernel.specs.Shapes.{PlainKernel}
 use Rattle.forec_kernel.specs.Ticks.{Fresh}
 use Rattle.trace_rows.specs.Calls.{IfTold}
 use Rattle.trace_rows.specs.Lines.{whole_lines}
 use Rattle.trace_rows.specs.Reader.{Reader, Takes, Waits, ahead}
-use Rattle.trace_rows.specs.Reads.{TakesHead, TakesRow}
+use Rattle.trace_rows.specs.Reads.{Reading, NextTook}
 use Rattle.trace_rows.specs.Trace.{Row, header_at, row_at, stop, onto, trace_of}
 use Rattle.trace_runs.specs.Report.{Report, Pace, most_rows, report_from, behind_bytes, advance}
-use Rattle.trace_runs.specs.declared.found.Found.{Found}
-use Rattle.trace_runs.specs.declared.found.Found.TheVariants as found
-use Rattle.trace_runs.specs.declared.found.Unread.{Unread}
-use Rattle.trace_runs.specs.declared.found.Unread.TheVariants as unread
+use Rattle.trace_rows.specs.declared.fault.Next.{Next}
+use Rattle.trace_rows.specs.declared.fault.Next.TheVariants as next
+use Rattle.trace_rows.specs.declared.fault.RowFault.{RowFault}
+use Rattle.trace_rows.specs.declared.fault.RowFault.TheVariants as fault
 
 -- the next line was a row, and gave these values
 pub record Gave (old new : Reader) (left_old left_new : Option (List ℕ)) (row : Row) : Type 0 where
@@ -26,11 +26,12 @@ pub record Gave (old new : Reader) (left_old left_new : Option (List ℕ)) (row 
   pub columns : new.places ≡ old.places
 
 -- what a call that looks for the next row says; it fails only where no whole line was held or came
-abbrev pub FoundSays : Reader → Reader → Option (List ℕ) → Option (List ℕ) → Row → Found → Type 0
-FoundSays old new left_old left_new row found.Row = Gave old new left_old left_new row
-FoundSays old new left_old left_new row found.End = IfTold left_old left_new (λ x y. ahead old x ≡ stop None (old.given + 1))
-FoundSays old new left_old left_new row (found.Stops f) = IfTold left_old left_new (λ x y. ahead old x ≡ stop (Some f) (old.given + 1))
-FoundSays old new left_old left_new row found.Failed = Waits old.held new.held old.ended new.ended left_old left_new
+abbrev pub GivesNext : Reader → Reader → Option (List ℕ) → Option (List ℕ) → Row → Result Next RowFault → Type 0
+GivesNext old new left_old left_new row (Ok next.Row) = Gave old new left_old left_new row
+GivesNext old new left_old left_new row (Ok next.End) = IfTold left_old left_new (λ x y. ahead old x ≡ stop None (old.given + 1))
+GivesNext old new left_old left_new row (Err fault.ReadFault) = Waits old.held new.held old.ended new.ended left_old left_new
+GivesNext old new left_old left_new row (Err fault.OutOfMemory) = ⊥
+GivesNext old new left_old left_new row (Err f) = IfTold left_old left_new (λ x y. ahead old x ≡ stop (Some f) (old.given + 1))
 
 -- the header is read
 pub record Started (inputs : List (List ℕ)) (left_old left_new : Option (List ℕ)) (r : Reader) : Type 0 where
@@ -44,10 +45,10 @@ pub record Started (inputs : List (List ℕ)) (left_old left_new : Option (List 
   pub goes : r.live ≡ true
 
 -- why no row can be asked for; the source fails only where the first line has not come whole
-abbrev pub UnreadSays : List (List ℕ) → Option (List ℕ) → Option (List ℕ) → Unread → Type 0
-UnreadSays inputs left_old left_new (unread.Stops f) = IfTold left_old left_new (λ x y. trace_of inputs most_rows x ≡ stop (Some f) 0)
-UnreadSays inputs left_old left_new unread.Failed = (held : List ℕ) × Waits [] held false false left_old left_new
-UnreadSays inputs left_old left_new unread.OutOfMemory = Unit {0}
+abbrev pub NotStarted : List (List ℕ) → Option (List ℕ) → Option (List ℕ) → RowFault → Type 0
+NotStarted inputs left_old left_new fault.ReadFault = (held : List ℕ) × Waits [] held false false left_old left_new
+NotStarted inputs left_old left_new fault.OutOfMemory = Unit {0}
+NotStarted inputs left_old left_new f = IfTold left_old left_new (λ x y. trace_of inputs most_rows x ≡ stop (Some f) 0)
 
 -- the report of a kernel on the rows from where a reader stands
 unfoldable pub report_rest : PlainKernel → ℕ → Reader → List ℕ → Report
@@ -75,17 +76,9 @@ Led k budget first bytes left_old left_new =
 
 -- ---- reads
 
--- the row that was found, of the bytes that were held and came
-abbrev pub FoundTook : Reader → Reader → Row → Found → List ℕ → Type 0
-FoundTook old new row found.Row bytes = TakesRow old new row bytes
-FoundTook old new row found.End bytes = Unit {0}
-FoundTook old new row (found.Stops f) bytes = Unit {0}
-FoundTook old new row found.Failed bytes = Unit {0}
-
--- the header that was read, of the bytes that came
-abbrev pub StartedTook : List (List ℕ) → Result Reader Unread → List ℕ → Type 0
-StartedTook inputs (Ok r) bytes = TakesHead inputs r.places bytes r.held r.ended
-StartedTook inputs (Err e) bytes = Unit {0}
+-- what a call that looks for the next row reads, and the row that it takes
+abbrev pub ReadsNext : {S : Type 0} → (S → Option (List ℕ)) → (S → ℕ) → (S → Bool) → Reader → Reader → S → S → Row → Result Next RowFault → Type 0
+ReadsNext left faults down old new trace_old trace_new row result = Reading left faults down old.held old.ended trace_old trace_new (NextTook old new row result)
 
 -- the source has not told its end, and the lines that have come whole after a header are rows at which the program goes on
 abbrev pub GoesOnFrom : PlainKernel → ℕ → Reader → List ℕ → Type 0

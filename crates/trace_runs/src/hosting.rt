@@ -6,7 +6,7 @@ ghost use Rattle.thread_code.specs.Alone.{Stands};
 ghost use Rattle.thread_code.specs.Plain.{plain_code};
 ghost use Rattle.board_hosts.specs.Boards.{ArePorts};
 ghost use Rattle.core_bells.specs.Ropes.{new_ropes};
-ghost use Rattle.trace_runs.specs.Led.{HasRunRows, HasRunWorkload};
+ghost use Rattle.trace_runs.specs.Led.{RunsRows, RunsWorkload};
 ghost use Rattle.trace_runs.specs.Workload.{ticked_report};
 
 use crate::beside::lead_hosts;
@@ -29,6 +29,13 @@ use std::sync::Wait;
 use std::thread::Threads;
 use thread_code::Code;
 
+/// A kernel and its code.
+#[derive(Clone, Copy)]
+struct Compiled<'c> {
+    kernel: &'c Kernel,
+    code: &'c Code,
+}
+
 /// Leads by hosts of a code that stands for a kernel, over a board and bells that gave out nothing yet.
 ///
 /// # Errors
@@ -36,22 +43,22 @@ use thread_code::Code;
 /// Want of memory. Then nothing was done.
 fn lead_over<'b, 'c, J: Lead, G: Gate + Sync, R: Threads + Wait + Sync>(
     setting: &Setting<'_, G, R>,
-    kernel: &'c Kernel,
-    code: &'c Code,
+    compiled: Compiled<'c>,
     placement: &Placement,
     board: &'b mut SlotBoard<ForecWork>,
     bells: &'c mut Bells,
     job: &mut J,
 ) -> Result<Status, OutOfMemory>
-    requires stands { Stands (plain_code code.now) (plain_kernel kernel.now) }
+    requires stands { Stands (plain_code compiled.code.now) (plain_kernel compiled.kernel.now) }
     requires whole { ⟦<SlotBoard<ForecWork> as GivesPorts<ForecWork>>⟧.is_whole board.old }
-    requires ports { ArePorts code.now placement.now (⟦<SlotBoard<ForecWork> as GivesPorts<ForecWork>>⟧.ports board.old) }
+    requires ports { ArePorts compiled.code.now placement.now (⟦<SlotBoard<ForecWork> as GivesPorts<ForecWork>>⟧.ports board.old) }
     requires bells { ⟦<Bells as GivesRopes>⟧.is_whole bells.old }
-    requires ropes { ⟦<Bells as GivesRopes>⟧.ropes bells.old ≡ new_ropes code.now placement.now placement.now.cores }
-    requires can { J.can job.old (plain_kernel kernel.now) }
-    ensures ok { IfOk result (J.did job.old job.new (plain_kernel kernel.now)) }
+    requires ropes { ⟦<Bells as GivesRopes>⟧.ropes bells.old ≡ new_ropes compiled.code.now placement.now placement.now.cores }
+    requires can { J.can job.old (plain_kernel compiled.kernel.now) }
+    ensures ok { IfOk result (J.did job.old job.new (plain_kernel compiled.entry.kernel.now)) }
     ensures err { OnErr result (job.new ≡ job.old) }
 {
+    let Compiled { kernel, code } = compiled;
     let Hosts { root, others } = hosts_of(setting.alloc, code, placement, board, bells)?;
     lead_hosts(setting, kernel, root, others, job)
 }
@@ -75,9 +82,11 @@ fn lead_placed<J: Lead, G: Gate + Sync, R: Threads + Wait + Sync>(
     let code = generate(setting.alloc, kernel)?;
     let mut board = make_board(setting.alloc, kernel, &code, placement)?;
     let mut bells = make_bells(setting.alloc, kernel, &code, placement)?;
-    lead_over(
-        setting, kernel, &code, placement, &mut board, &mut bells, job,
-    )
+    let compiled = Compiled {
+        kernel,
+        code: &code,
+    };
+    lead_over(setting, compiled, placement, &mut board, &mut bells, job)
 }
 
 /// Runs a kernel over a trace by hosts, with the threads placed so. A tick may have so many units.
@@ -91,7 +100,7 @@ pub fn host_trace<S: Source, K: Sink, G: Gate + Sync, R: Threads + Wait + Sync>(
 ) -> Status
     requires placed { length placement.now.places ≡ length (plain_kernel kernel.now).threads }
     requires small { budget ≤ 2 ^ 62 }
-    ensures { HasRunRows S.left S.faults S.down (plain_kernel kernel.now) budget trace.old trace.new (K.held out.old) (K.held out.new) (K.faults out.old) (K.faults out.new) (K.down out.new) result }
+    ensures { RunsRows S.left S.faults S.down K.held K.faults K.down (plain_kernel kernel.now) budget trace.old trace.new out.old out.new result }
 {
     let alloc = setting.alloc;
     let Ok(mut session) = Session::new(alloc, kernel, budget) else {
@@ -120,7 +129,7 @@ pub fn host_workload<K: Sink, G: Gate + Sync, R: Threads + Wait + Sync>(
 ) -> Status
     requires placed { length placement.now.places ≡ length (plain_kernel kernel.now).threads }
     requires small { budget ≤ 2 ^ 62 }
-    ensures { HasRunWorkload (ticked_report threads (plain_kernel kernel.now) budget) (K.held out.old) (K.held out.new) (K.faults out.old) (K.faults out.new) (K.down out.new) result }
+    ensures { RunsWorkload K.held K.faults K.down (ticked_report threads (plain_kernel kernel.now) budget) out.old out.new result }
 {
     let Ok(mut session) = Session::new(setting.alloc, kernel, budget) else {
         return Status::NoMemory;

@@ -1,13 +1,12 @@
 //! The process image.
 
-ghost use Rattle.std.specs.Prelude.{◌≡◌, ◌≤◌, length, replicate, pos, true, false, IfOk, OnErr};
+ghost use Rattle.std.specs.Prelude.{◌≡◌, ◌≤◌, length, replicate, pos, true, false, IfOk, Ok, Err, OnErr};
 ghost use Rattle.std.specs.Io.KnownBytes.{IsAtEnd};
 ghost use Rattle.forec_base.specs.Outside.{Fell};
 ghost use Rattle.forec_base.specs.declared.limits.TheConstants.{MAX_BUDGET};
-ghost use Rattle.forec_kernel.specs.Ticks.{State, tick, goes_on};
-ghost use Rattle.core_host.specs.Outcomes.{HasOutputs};
+ghost use Rattle.forec_kernel.specs.Ticks.{goes_on};
+ghost use Rattle.trace_runs.specs.Ticking.{GivesOutcome, GivesOutputs, LeadsOn};
 
-use crate::found::Found;
 use crate::setting::Company;
 use crate::ticker::Ticker;
 use core_host::Serve;
@@ -26,8 +25,7 @@ pub struct Image {
 }
 
 impl Image {
-    ghost use Rattle.trace_runs.specs.Progress.{FoundSays, FoundTook};
-    ghost use Rattle.trace_rows.specs.Reads.{Reading};
+    ghost use Rattle.trace_runs.specs.Progress.{GivesNext, ReadsNext};
 
     /// So many inputs and outputs, all 0.
     pub fn new(alloc: Global, inputs: usize, outputs: usize) -> Result<Image, OutOfMemory>
@@ -40,28 +38,24 @@ impl Image {
     }
 
     /// Looks for the next row of the trace. Where there is one, the inputs get its values.
-    pub fn next_row<S: Source>(&mut self, rows: &mut Rows, trace: &mut S) -> Found
+    ///
+    /// # Errors
+    ///
+    /// What stands there is no row, or the source failed.
+    pub fn next_row<S: Source>(&mut self, rows: &mut Rows, trace: &mut S) -> Result<Next, RowFault>
         requires live { rows.old.live ≡ true }
         requires room { length (rows.old.places) ≡ length self.old.inputs.items }
         requires ended { rows.old.ended ≡ true → IsAtEnd (S.left trace.old) }
         ensures inputs { length self.new.inputs.items ≡ length self.old.inputs.items }
         ensures outputs { self.new.outputs ≡ self.old.outputs }
-        ensures next { FoundSays rows.old rows.new (S.left trace.old) (S.left trace.new) self.new.inputs.items result }
-        ensures trace { Reading S.left S.faults S.down rows.old.held rows.old.ended trace.old trace.new (FoundTook rows.old rows.new self.new.inputs.items result) }
-        ensures reads { result ≡ Found.Row → rows.new.live ≡ true }
+        ensures next { GivesNext rows.old rows.new (S.left trace.old) (S.left trace.new) self.new.inputs.items result }
+        ensures trace { ReadsNext S.left S.faults S.down rows.old rows.new trace.old trace.new self.new.inputs.items result }
+        ensures reads { result ≡ Ok Next.Row → rows.new.live ≡ true }
         ensures ended { rows.new.ended ≡ true → IsAtEnd (S.left trace.new) }
         ensures later { S.faults trace.old ≤ S.faults trace.new }
-        ensures fell { result ≡ Found.Failed → Fell (S.faults trace.old) (S.faults trace.new) (S.down trace.new) }
+        ensures fell { result ≡ Err RowFault.ReadFault → Fell (S.faults trace.old) (S.faults trace.new) (S.down trace.new) }
     {
-        match rows.next(trace, &mut self.inputs) {
-            Ok(Next::Row) => Found::Row,
-            Ok(Next::End) => Found::End,
-            Err(RowFault::ReadFault) => Found::Failed,
-            Err(RowFault::OutOfMemory) => unreachable!(),
-            Err(RowFault::Bad) => Found::Stops(RowFault::Bad),
-            Err(RowFault::Long) => Found::Stops(RowFault::Long),
-            Err(RowFault::Many) => Found::Stops(RowFault::Many),
-        }
+        rows.next(trace, &mut self.inputs)
     }
 
     /// Runs one tick over the inputs, which may have so many units. Where it pauses or ends the outputs get their values.
@@ -83,9 +77,9 @@ impl Image {
         ensures ready { T.ready ticker.new ≡ T.ready ticker.old }
         ensures inputs { self.new.inputs ≡ self.old.inputs }
         ensures room { length self.new.outputs.items ≡ length self.old.outputs.items }
-        ensures outcome { IfOk result (λ o. (s : State) → T.follows ticker.old s → o ≡ (tick (T.kernel ticker.old) budget s self.old.inputs.items).outcome) }
-        ensures outputs { IfOk result (λ o. (s : State) → T.follows ticker.old s → HasOutputs o → self.new.outputs.items ≡ (tick (T.kernel ticker.old) budget s self.old.inputs.items).outputs) }
-        ensures follows { IfOk result (λ o. (s : State) → T.follows ticker.old s → goes_on o ≡ true → T.follows ticker.new (tick (T.kernel ticker.old) budget s self.old.inputs.items).state) }
+        ensures outcome { IfOk result (GivesOutcome (T.follows ticker.old) (T.kernel ticker.old) budget self.old.inputs.items) }
+        ensures outputs { IfOk result (GivesOutputs (T.follows ticker.old) (T.kernel ticker.old) budget self.old.inputs.items self.new.outputs.items) }
+        ensures follows { IfOk result (LeadsOn (T.follows ticker.old) (T.follows ticker.new) (T.kernel ticker.old) budget self.old.inputs.items) }
         ensures live { IfOk result (λ o. T.live ticker.new ≡ goes_on o) }
         ensures memory { OnErr result (T.ready ticker.old ≡ false) }
     {

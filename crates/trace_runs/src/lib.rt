@@ -2,7 +2,6 @@
 #![tactic(auto)]
 
 mod beside;
-mod found;
 mod generated;
 mod hosting;
 mod image;

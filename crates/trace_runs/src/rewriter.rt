@@ -2,7 +2,7 @@
 
 ghost use Rattle.std.specs.Prelude.{◌≡◌, IfOk, true, length};
 ghost use Rattle.forec_kernel.specs.Shapes.{plain_kernel};
-ghost use Rattle.forec_kernel.specs.Ticks.{Fresh, tick, goes_on};
+ghost use Rattle.forec_kernel.specs.Ticks.{Fresh, goes_on};
 ghost use Rattle.core_host.specs.Outcomes.{HasOutputs};
 ghost use Rattle.kernel_meaning.specs.States.{plain_state};
 
@@ -28,6 +28,8 @@ pub struct Rewriter<'k> {
 }
 
 impl<'k> Rewriter<'k> {
+    ghost use Rattle.trace_runs.specs.Rewriting.{rewritten};
+
     /// Nothing has run. Each tick takes its steps in the order with a number.
     pub fn new(alloc: Global, kernel: &'k Kernel, number: u32) -> Result<Rewriter<'k>, OutOfMemory>
         ensures kernel { IfOk result (λ r. r.kernel.now ≡ kernel.now) }
@@ -59,9 +61,9 @@ impl<'k> Rewriter<'k> {
     ) -> Result<Outcome, OutOfMemory>
         requires { length outputs.old ≡ length (plain_kernel self.old.kernel.now).shape.outputs }
         ensures kernel { self.new.kernel.now ≡ self.old.kernel.now }
-        ensures outcome { IfOk result (λ o. o ≡ (tick (plain_kernel self.old.kernel.now) budget (plain_state self.old.state.value) row.now).outcome) }
-        ensures outputs { IfOk result (λ o. HasOutputs o → outputs.new ≡ (tick (plain_kernel self.old.kernel.now) budget (plain_state self.old.state.value) row.now).outputs) }
-        ensures state { IfOk result (λ o. plain_state self.new.state.value ≡ (tick (plain_kernel self.old.kernel.now) budget (plain_state self.old.state.value) row.now).state) }
+        ensures outcome { IfOk result (λ o. o ≡ (rewritten self.old budget row.now).outcome) }
+        ensures outputs { IfOk result (λ o. HasOutputs o → outputs.new ≡ (rewritten self.old budget row.now).outputs) }
+        ensures state { IfOk result (λ o. plain_state self.new.state.value ≡ (rewritten self.old budget row.now).state) }
         ensures live { IfOk result (λ o. self.new.live ≡ goes_on o) }
     {
         let (outcome, state) = rewrite_tick(

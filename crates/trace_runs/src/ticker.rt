@@ -3,8 +3,8 @@
 ghost use Rattle.std.specs.Prelude.{◌≡◌, ◌≤◌, Bool, true, false, length, IfOk, OnErr};
 ghost use Rattle.forec_base.specs.declared.limits.TheConstants.{MAX_BUDGET};
 ghost use Rattle.forec_kernel.specs.Shapes.{PlainKernel};
-ghost use Rattle.forec_kernel.specs.Ticks.{State, tick, goes_on};
-ghost use Rattle.core_host.specs.Outcomes.{HasOutputs};
+ghost use Rattle.forec_kernel.specs.Ticks.{State, goes_on};
+ghost use Rattle.trace_runs.specs.Ticking.{GivesOutcome, GivesOutputs, LeadsOn};
 
 use crate::setting::Company;
 use core_host::Serve;
@@ -45,9 +45,9 @@ pub trait Ticker {
         requires outputs { length outputs.old ≡ length (kernel self.old).shape.outputs }
         ensures kernel { kernel self.new ≡ kernel self.old }
         ensures ready { ready self.new ≡ ready self.old }
-        ensures outcome { IfOk result (λ o. (s : State) → follows self.old s → o ≡ (tick (kernel self.old) budget s row.now).outcome) }
-        ensures outputs { IfOk result (λ o. (s : State) → follows self.old s → HasOutputs o → outputs.new ≡ (tick (kernel self.old) budget s row.now).outputs) }
-        ensures follows { IfOk result (λ o. (s : State) → follows self.old s → goes_on o ≡ true → follows self.new (tick (kernel self.old) budget s row.now).state) }
+        ensures outcome { IfOk result (GivesOutcome (follows self.old) (kernel self.old) budget row.now) }
+        ensures outputs { IfOk result (GivesOutputs (follows self.old) (kernel self.old) budget row.now outputs.new) }
+        ensures follows { IfOk result (LeadsOn (follows self.old) (follows self.new) (kernel self.old) budget row.now) }
         ensures live { IfOk result (λ o. live self.new ≡ goes_on o) }
         ensures memory { OnErr result (ready self.old ≡ false) };
 }

@@ -22,13 +22,13 @@ pub struct TraceRun<'a, 'b, 'c, S, K> {
 
 impl<'a, 'b, 'c, S: Source, K: Sink> Lead for TraceRun<'a, 'b, 'c, S, K> {
     ghost use Rattle.std.specs.Prelude.{◌≡◌};
-    ghost use Rattle.trace_runs.specs.Led.{HasRunRows};
+    ghost use Rattle.trace_runs.specs.Led.{RunsRows};
     ghost use Rattle.trace_runs.specs.Sessions.{IsSessionOf};
 
     ghost can = { λ run k. IsSessionOf k run.session.now };
 
     ghost did = { λ old new k end. (new.trace.ghost_name ≡ old.trace.ghost_name) × (new.out.ghost_name ≡ old.out.ghost_name)
-        × HasRunRows S.left S.faults S.down k old.session.now.budget old.trace.now new.trace.now (K.held old.out.now) (K.held new.out.now) (K.faults old.out.now) (K.faults new.out.now) (K.down new.out.now) end };
+        × RunsRows S.left S.faults S.down K.held K.faults K.down k old.session.now.budget old.trace.now new.trace.now old.out.now new.out.now end };
 
     fn lead<T: Ticker, O: Serve, G: Gate, R: Wait>(
         &mut self,

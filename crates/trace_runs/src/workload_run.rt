@@ -59,14 +59,14 @@ fn run_and_tell<K: Sink, T: Ticker, O: Serve, G: Gate, R: Wait>(
 
 impl<'a, 'b, K: Sink> Lead for WorkloadRun<'a, 'b, K> {
     ghost use Rattle.std.specs.Prelude.{◌≡◌};
-    ghost use Rattle.trace_runs.specs.Led.{HasRunWorkload};
+    ghost use Rattle.trace_runs.specs.Led.{RunsWorkload};
     ghost use Rattle.trace_runs.specs.Sessions.{IsSessionOf};
     ghost use Rattle.trace_runs.specs.Workload.{ticked_report, zero_row};
 
     ghost can = { λ run k. IsSessionOf k run.session.now × (run.session.now.image.inputs.items ≡ zero_row k) };
 
     ghost did = { λ old new k end. (new.out.ghost_name ≡ old.out.ghost_name)
-        × HasRunWorkload (ticked_report old.threads k old.session.now.budget) (K.held old.out.now) (K.held new.out.now) (K.faults old.out.now) (K.faults new.out.now) (K.down new.out.now) end };
+        × RunsWorkload K.held K.faults K.down (ticked_report old.threads k old.session.now.budget) old.out.now new.out.now end };
 
     fn lead<T: Ticker, O: Serve, G: Gate, R: Wait>(
         &mut self,

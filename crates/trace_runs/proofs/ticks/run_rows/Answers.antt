@@ -5,15 +5,15 @@ use Rattle.trace_rows.specs.Report.{rows_line, row_line}
 use Rattle.trace_runs.specs.WaitingRoom.{Gains}
 use Rattle.trace_runs.specs.declared.status.Status.TheVariants as status
 use Rattle.trace_runs.proofs.Asking.{asked_start, asked_last, asked_more}
-use Rattle.trace_runs.proofs.Running.{Run, Reached, reached_start, reached_sent, reached_more, row_within, waited, at_end, at_fault, own_all, front_all, front_now, front_whole, not_read, not_write, stop_own, stop_front, failed, fell_since, stop_status}
+use Rattle.trace_runs.proofs.Running.{Run, Reached, reached_start, reached_sent, reached_more, row_within, waited, at_end, stops_there, at_fault, own_all, front_all, front_now, front_whole, not_read, not_write, stop_own, stop_front, failed, fell_since, stop_status}
 use Rattle.trace_runs.proofs.TickLines.{put_tick_lines}
 use Rattle.trace_runs.proofs.ticks.run_rows.Goals as goal
 
 pub ticks-init : goal.ticks-init
 ticks-init g c =
-    let run : Run = record { kernel = g.T.Ticker.kernel c.args.ticker.now; budget = c.args.budget; first = c.args.rows.now } in
+    let run : Run = record { kernel = g.T.Ticker.kernel c.args.ticker.now; budget = c.args.session.now.budget; first = c.args.rows.now } in
     record {
-      reached = reached_start run (g.T.Ticker.follows c.args.ticker.now) (g.S.Source.left c.args.trace.now) (g.K.Sink.held c.args.out.now) c.args.waiting.now.bytes.items c.requires.follows
+      reached = reached_start run (g.T.Ticker.follows c.args.ticker.now) (g.S.Source.left c.args.trace.now) (g.K.Sink.held c.args.out.now) c.args.session.now.waiting.bytes.items c.requires.follows
           (record { limit = c.requires.limit; places = refl; number = ap (λ n. n + 1) c.requires.number }) c.requires.none;
       asked = asked_start g.S.Source.left g.S.Source.faults g.S.Source.down run (g.T.Ticker.follows c.args.ticker.now) c.args.trace.now c.requires.follows;
       kernel = refl;
@@ -32,16 +32,16 @@ ticks-init g c =
 
 pub returns-in-Err-clause-write : goal.returns-in-Err-clause-write
 returns-in-Err-clause-write g c = λ _.
-    let run : Run = record { kernel = g.T.Ticker.kernel c.args.ticker.now; budget = c.args.budget; first = c.args.rows.now } in
+    let run : Run = record { kernel = g.T.Ticker.kernel c.args.ticker.now; budget = c.args.session.now.budget; first = c.args.rows.now } in
     let i = c.ticks.invariant in (
       fell_since _ (g.K.Sink.faults c.ticks.out) _ _ i.written c.in-Err.ensures.cause.failed,
       front_now run (g.T.Ticker.follows c.ticks.ticker) c.ticks.rows (g.S.Source.left c.args.trace.now) (g.S.Source.left c.ticks.trace) (g.K.Sink.held c.args.out.now) (g.K.Sink.held c.ticks.out) (g.K.Sink.held c.send_due.new.out)
-          c.ticks.waiting.bytes.items c.ticks.row i.reached c.in-Err.ensures.err,
+          c.ticks.session.waiting.bytes.items c.ticks.row i.reached c.in-Err.ensures.err,
     )
 
-pub returns-in-Failed-clause-read : goal.returns-in-Failed-clause-read
-returns-in-Failed-clause-read g c = λ _.
-    let run : Run = record { kernel = g.T.Ticker.kernel c.args.ticker.now; budget = c.args.budget; first = c.args.rows.now } in
+pub returns-in-ReadFault-clause-read : goal.returns-in-ReadFault-clause-read
+returns-in-ReadFault-clause-read g c = λ _.
+    let run : Run = record { kernel = g.T.Ticker.kernel c.args.ticker.now; budget = c.args.session.now.budget; first = c.args.rows.now } in
     let F : State → Type 0 = g.T.Ticker.follows c.ticks.ticker in
     let now = c.ticks.rows in
     let l0 = g.S.Source.left c.args.trace.now in
@@ -51,17 +51,17 @@ returns-in-Failed-clause-read g c = λ _.
     let unsent : List ℕ = c.send_due.new.waiting.bytes.items in
     let row = c.ticks.row in
     let i = c.ticks.invariant in
-    let r : Reached run F now l0 l h0 h unsent row = reached_sent run F now l0 l h0 (g.K.Sink.held c.ticks.out) h c.ticks.waiting.bytes.items unsent row i.reached c.in_default.ensures.ok in
+    let r : Reached run F now l0 l h0 h unsent row = reached_sent run F now l0 l h0 (g.K.Sink.held c.ticks.out) h c.ticks.session.waiting.bytes.items unsent row i.reached c.in_default.ensures.ok in
     let new = c.next_row.new.rows in
     let l' = g.S.Source.left c.next_row.new.trace in
     let values = c.next_row.new.self.inputs.items in (
-      fell_since _ (g.S.Source.faults c.ticks.trace) _ _ i.read (c.in-Failed.ensures.fell refl),
-      failed run F now new l0 l l' h0 h unsent row r c.in-Failed.ensures.next (c.in_default.ensures.all (waited now.held new.held now.ended new.ended l l' c.in-Failed.ensures.next)),
+      fell_since _ (g.S.Source.faults c.ticks.trace) _ _ i.read ((rw c.in-ReadFault.is at c.in-Err-next_row.ensures.fell) refl),
+      failed run F now new l0 l l' h0 h unsent row r (rw c.in-ReadFault.is at c.in-Err-next_row.ensures.next) (c.in_default.ensures.all (waited now.held new.held now.ended new.ended l l' (rw c.in-ReadFault.is at c.in-Err-next_row.ensures.next))),
     )
 
-pub returns-in-End-clause-own : goal.returns-in-End-clause-own
-returns-in-End-clause-own g c = λ own.
-    let run : Run = record { kernel = g.T.Ticker.kernel c.args.ticker.now; budget = c.args.budget; first = c.args.rows.now } in
+pub returns-in-Ok-End-clause-own : goal.returns-in-Ok-End-clause-own
+returns-in-Ok-End-clause-own g c = λ own.
+    let run : Run = record { kernel = g.T.Ticker.kernel c.args.ticker.now; budget = c.args.session.now.budget; first = c.args.rows.now } in
     let F : State → Type 0 = g.T.Ticker.follows c.ticks.ticker in
     let now = c.ticks.rows in
     let l0 = g.S.Source.left c.args.trace.now in
@@ -71,17 +71,17 @@ returns-in-End-clause-own g c = λ own.
     let unsent : List ℕ = c.send_due.new.waiting.bytes.items in
     let row = c.ticks.row in
     let i = c.ticks.invariant in
-    let r : Reached run F now l0 l h0 h unsent row = reached_sent run F now l0 l h0 (g.K.Sink.held c.ticks.out) h c.ticks.waiting.bytes.items unsent row i.reached c.in_default.ensures.ok in
+    let r : Reached run F now l0 l h0 h unsent row = reached_sent run F now l0 l h0 (g.K.Sink.held c.ticks.out) h c.ticks.session.waiting.bytes.items unsent row i.reached c.in_default.ensures.ok in
     let new = c.next_row.new.rows in
     let l' = g.S.Source.left c.next_row.new.trace in
     let values = c.next_row.new.self.inputs.items in
     let s : Report = record { bytes = rows_line (row - 1); status = status.Done } in
     own_all run F now l0 l h0 h (g.K.Sink.held c.finish.new.out) unsent c.put_rows.new.self.bytes.items row r s c.finish.result
-    (at_end run F now new l0 l l' h0 h unsent row values r c.in-End.ensures.next) c.put_rows.ensures.bytes_are c.finish.ensures.said c.finish.ensures.all own
+    (at_end run F now new l0 l l' h0 h unsent row values r (rw c.in-Ok-End.field-0-is at c.in-Ok-End.ensures.next)) c.put_rows.ensures.bytes_are c.finish.ensures.said c.finish.ensures.all own
 
-pub returns-in-End-clause-write : goal.returns-in-End-clause-write
-returns-in-End-clause-write g c = λ is.
-    let run : Run = record { kernel = g.T.Ticker.kernel c.args.ticker.now; budget = c.args.budget; first = c.args.rows.now } in
+pub returns-in-Ok-End-clause-write : goal.returns-in-Ok-End-clause-write
+returns-in-Ok-End-clause-write g c = λ is.
+    let run : Run = record { kernel = g.T.Ticker.kernel c.args.ticker.now; budget = c.args.session.now.budget; first = c.args.rows.now } in
     let F : State → Type 0 = g.T.Ticker.follows c.ticks.ticker in
     let now = c.ticks.rows in
     let l0 = g.S.Source.left c.args.trace.now in
@@ -91,19 +91,19 @@ returns-in-End-clause-write g c = λ is.
     let unsent : List ℕ = c.send_due.new.waiting.bytes.items in
     let row = c.ticks.row in
     let i = c.ticks.invariant in
-    let r : Reached run F now l0 l h0 h unsent row = reached_sent run F now l0 l h0 (g.K.Sink.held c.ticks.out) h c.ticks.waiting.bytes.items unsent row i.reached c.in_default.ensures.ok in
+    let r : Reached run F now l0 l h0 h unsent row = reached_sent run F now l0 l h0 (g.K.Sink.held c.ticks.out) h c.ticks.session.waiting.bytes.items unsent row i.reached c.in_default.ensures.ok in
     let new = c.next_row.new.rows in
     let l' = g.S.Source.left c.next_row.new.trace in
     let values = c.next_row.new.self.inputs.items in
     let s : Report = record { bytes = rows_line (row - 1); status = status.Done } in (
       fell_since _ (g.K.Sink.faults c.send_due.new.out) _ _ (omega (arith, i.written, c.in_default.ensures.cause.later)) (c.finish.ensures.fault is),
       front_all run F now l0 l h0 h (g.K.Sink.held c.finish.new.out) unsent c.put_rows.new.self.bytes.items row r s
-          (at_end run F now new l0 l l' h0 h unsent row values r c.in-End.ensures.next) c.put_rows.ensures.bytes_are (c.finish.ensures.front is),
+          (at_end run F now new l0 l l' h0 h unsent row values r (rw c.in-Ok-End.field-0-is at c.in-Ok-End.ensures.next)) c.put_rows.ensures.bytes_are (c.finish.ensures.front is),
     )
 
-pub returns-in-Stops-clause-own : goal.returns-in-Stops-clause-own
-returns-in-Stops-clause-own g c = λ own.
-    let run : Run = record { kernel = g.T.Ticker.kernel c.args.ticker.now; budget = c.args.budget; first = c.args.rows.now } in
+pub returns-in_default-fault-clause-own : goal.returns-in_default-fault-clause-own
+returns-in_default-fault-clause-own g c = λ own.
+    let run : Run = record { kernel = g.T.Ticker.kernel c.args.ticker.now; budget = c.args.session.now.budget; first = c.args.rows.now } in
     let F : State → Type 0 = g.T.Ticker.follows c.ticks.ticker in
     let now = c.ticks.rows in
     let l0 = g.S.Source.left c.args.trace.now in
@@ -113,17 +113,17 @@ returns-in-Stops-clause-own g c = λ own.
     let unsent : List ℕ = c.send_due.new.waiting.bytes.items in
     let row = c.ticks.row in
     let i = c.ticks.invariant in
-    let r : Reached run F now l0 l h0 h unsent row = reached_sent run F now l0 l h0 (g.K.Sink.held c.ticks.out) h c.ticks.waiting.bytes.items unsent row i.reached c.in_default.ensures.ok in
+    let r : Reached run F now l0 l h0 h unsent row = reached_sent run F now l0 l h0 (g.K.Sink.held c.ticks.out) h c.ticks.session.waiting.bytes.items unsent row i.reached c.in_default.ensures.ok in
     let new = c.next_row.new.rows in
     let l' = g.S.Source.left c.next_row.new.trace in
     let values = c.next_row.new.self.inputs.items in
-    let s : Report = record { bytes = row_line row c.in-Stops.fault; status = status.Trace } in
-    own_all run F now l0 l h0 h (g.K.Sink.held c.finish-in-Stops.new.out) unsent c.put_row.new.self.bytes.items row r s c.finish-in-Stops.result
-    (at_fault run F now new l0 l l' h0 h unsent row values c.in-Stops.fault r c.in-Stops.ensures.next) c.put_row.ensures.bytes_are c.finish-in-Stops.ensures.said c.finish-in-Stops.ensures.all own
+    let s : Report = record { bytes = row_line row c.in-Err-next_row.fault; status = status.Trace } in
+    own_all run F now l0 l h0 h (g.K.Sink.held c.finish-in_default-fault.new.out) unsent c.put_row.new.self.bytes.items row r s c.finish-in_default-fault.result
+    (at_fault run F now new l0 l l' h0 h unsent row values c.in-Err-next_row.fault r (stops_there now new l l' values c.in-Err-next_row.fault c.in_default-fault.not-ReadFault c.in-Err-next_row.ensures.next)) c.put_row.ensures.bytes_are c.finish-in_default-fault.ensures.said c.finish-in_default-fault.ensures.all own
 
-pub returns-in-Stops-clause-write : goal.returns-in-Stops-clause-write
-returns-in-Stops-clause-write g c = λ is.
-    let run : Run = record { kernel = g.T.Ticker.kernel c.args.ticker.now; budget = c.args.budget; first = c.args.rows.now } in
+pub returns-in_default-fault-clause-write : goal.returns-in_default-fault-clause-write
+returns-in_default-fault-clause-write g c = λ is.
+    let run : Run = record { kernel = g.T.Ticker.kernel c.args.ticker.now; budget = c.args.session.now.budget; first = c.args.rows.now } in
     let F : State → Type 0 = g.T.Ticker.follows c.ticks.ticker in
     let now = c.ticks.rows in
     let l0 = g.S.Source.left c.args.trace.now in
@@ -133,19 +133,19 @@ returns-in-Stops-clause-write g c = λ is.
     let unsent : List ℕ = c.send_due.new.waiting.bytes.items in
     let row = c.ticks.row in
     let i = c.ticks.invariant in
-    let r : Reached run F now l0 l h0 h unsent row = reached_sent run F now l0 l h0 (g.K.Sink.held c.ticks.out) h c.ticks.waiting.bytes.items unsent row i.reached c.in_default.ensures.ok in
+    let r : Reached run F now l0 l h0 h unsent row = reached_sent run F now l0 l h0 (g.K.Sink.held c.ticks.out) h c.ticks.session.waiting.bytes.items unsent row i.reached c.in_default.ensures.ok in
     let new = c.next_row.new.rows in
     let l' = g.S.Source.left c.next_row.new.trace in
     let values = c.next_row.new.self.inputs.items in
-    let s : Report = record { bytes = row_line row c.in-Stops.fault; status = status.Trace } in (
-      fell_since _ (g.K.Sink.faults c.send_due.new.out) _ _ (omega (arith, i.written, c.in_default.ensures.cause.later)) (c.finish-in-Stops.ensures.fault is),
-      front_all run F now l0 l h0 h (g.K.Sink.held c.finish-in-Stops.new.out) unsent c.put_row.new.self.bytes.items row r s
-          (at_fault run F now new l0 l l' h0 h unsent row values c.in-Stops.fault r c.in-Stops.ensures.next) c.put_row.ensures.bytes_are (c.finish-in-Stops.ensures.front is),
+    let s : Report = record { bytes = row_line row c.in-Err-next_row.fault; status = status.Trace } in (
+      fell_since _ (g.K.Sink.faults c.send_due.new.out) _ _ (omega (arith, i.written, c.in_default.ensures.cause.later)) (c.finish-in_default-fault.ensures.fault is),
+      front_all run F now l0 l h0 h (g.K.Sink.held c.finish-in_default-fault.new.out) unsent c.put_row.new.self.bytes.items row r s
+          (at_fault run F now new l0 l l' h0 h unsent row values c.in-Err-next_row.fault r (stops_there now new l l' values c.in-Err-next_row.fault c.in_default-fault.not-ReadFault c.in-Err-next_row.ensures.next)) c.put_row.ensures.bytes_are (c.finish-in_default-fault.ensures.front is),
     )
 
 pub ticks-preserved : goal.ticks-preserved
 ticks-preserved g c =
-    let run : Run = record { kernel = g.T.Ticker.kernel c.args.ticker.now; budget = c.args.budget; first = c.args.rows.now } in
+    let run : Run = record { kernel = g.T.Ticker.kernel c.args.ticker.now; budget = c.args.session.now.budget; first = c.args.rows.now } in
     let F : State → Type 0 = g.T.Ticker.follows c.ticks.ticker in
     let now = c.ticks.rows in
     let l0 = g.S.Source.left c.args.trace.now in
@@ -155,7 +155,7 @@ ticks-preserved g c =
     let unsent : List ℕ = c.send_due.new.waiting.bytes.items in
     let row = c.ticks.row in
     let i = c.ticks.invariant in
-    let r : Reached run F now l0 l h0 h unsent row = reached_sent run F now l0 l h0 (g.K.Sink.held c.ticks.out) h c.ticks.waiting.bytes.items unsent row i.reached c.in_default.ensures.ok in
+    let r : Reached run F now l0 l h0 h unsent row = reached_sent run F now l0 l h0 (g.K.Sink.held c.ticks.out) h c.ticks.session.waiting.bytes.items unsent row i.reached c.in_default.ensures.ok in
     let new = c.next_row.new.rows in
     let l' = g.S.Source.left c.next_row.new.trace in
     let values = c.next_row.new.self.inputs.items in
@@ -168,12 +168,12 @@ ticks-preserved g c =
     put_tick_lines run.kernel run.budget row t o c.send_due.new.waiting.names c.deref.result.now c.send_due.new.waiting c.put_outcome.new.self
     (c.send_due.ensures.names ∙ i.names ∙ c.requires.names) how
     (λ has. c.deref.ensures.value ∙ c.in-Ok.ensures.outputs r.state follows has ∙ ap (λ x. (tick x run.budget r.state values).outputs) k) c.put_outcome.ensures in
-    let gave = c.in-Row.ensures.next in
+    let gave = (rw c.in-Ok-Row.field-0-is at c.in-Ok-Row.ensures.next) in
     let a = i.asked in
     let after : g.T.Ticker.follows c.ticks.ticker a.pace.state = a.follows in
     let went : o ≡ (tick run.kernel run.budget a.pace.state values).outcome = c.in-Ok.ensures.outcome a.pace.state after ∙ ap (λ x. (tick x run.budget a.pace.state values).outcome) k in
     record {
-      asked = asked_more g.S.Source.left g.S.Source.faults g.S.Source.down run F (g.T.Ticker.follows c.tick.new.ticker) now new row c.args.trace.now c.ticks.trace c.next_row.new.trace values a r.stands c.in-Row.ensures.trace
+      asked = asked_more g.S.Source.left g.S.Source.faults g.S.Source.down run F (g.T.Ticker.follows c.tick.new.ticker) now new row c.args.trace.now c.ticks.trace c.next_row.new.trace values a r.stands (rw c.in-Ok-Row.field-0-is at c.in-Ok-Row.ensures.trace)
           gave.stays (ap goes_on (sym went ∙ c.in-Paused.is))
           (subst (λ x. g.T.Ticker.follows c.tick.new.ticker (tick x run.budget a.pace.state values).state) k (c.in-Ok.ensures.follows a.pace.state after (ap goes_on c.in-Paused.is)));
       reached = reached_more run F (g.T.Ticker.follows c.tick.new.ticker) now new l0 l l' h0 h unsent c.put_outcome.new.self.bytes.items row values r gave
@@ -184,7 +184,7 @@ ticks-preserved g c =
       inputs = ap (λ v. length v.items) c.tick.ensures.inputs ∙ c.next_row.ensures.inputs ∙ i.inputs;
       outputs = c.tick.ensures.room ∙ ap (λ v. length v.items) c.next_row.ensures.outputs ∙ i.outputs;
       live = c.in-Ok.ensures.live ∙ ap goes_on c.in-Paused.is;
-      reads = c.in-Row.ensures.reads refl;
+      reads = (rw c.in-Ok-Row.field-0-is at c.in-Ok-Row.ensures.reads) refl;
       low = omega arith;
       high = (let w = row_within run row now r.stands gave.within in omega (arith, w));
       names = put.names ∙ c.send_due.ensures.names ∙ i.names;
@@ -195,7 +195,7 @@ ticks-preserved g c =
 
 pub returns-in-Ended-clause-own : goal.returns-in-Ended-clause-own
 returns-in-Ended-clause-own g c = λ own.
-    let run : Run = record { kernel = g.T.Ticker.kernel c.args.ticker.now; budget = c.args.budget; first = c.args.rows.now } in
+    let run : Run = record { kernel = g.T.Ticker.kernel c.args.ticker.now; budget = c.args.session.now.budget; first = c.args.rows.now } in
     let F : State → Type 0 = g.T.Ticker.follows c.ticks.ticker in
     let now = c.ticks.rows in
     let l0 = g.S.Source.left c.args.trace.now in
@@ -205,7 +205,7 @@ returns-in-Ended-clause-own g c = λ own.
     let unsent : List ℕ = c.send_due.new.waiting.bytes.items in
     let row = c.ticks.row in
     let i = c.ticks.invariant in
-    let r : Reached run F now l0 l h0 h unsent row = reached_sent run F now l0 l h0 (g.K.Sink.held c.ticks.out) h c.ticks.waiting.bytes.items unsent row i.reached c.in_default.ensures.ok in
+    let r : Reached run F now l0 l h0 h unsent row = reached_sent run F now l0 l h0 (g.K.Sink.held c.ticks.out) h c.ticks.session.waiting.bytes.items unsent row i.reached c.in_default.ensures.ok in
     let new = c.next_row.new.rows in
     let l' = g.S.Source.left c.next_row.new.trace in
     let values = c.next_row.new.self.inputs.items in
@@ -218,12 +218,12 @@ returns-in-Ended-clause-own g c = λ own.
     put_tick_lines run.kernel run.budget row t o c.send_due.new.waiting.names c.deref.result.now c.send_due.new.waiting c.put_outcome.new.self
     (c.send_due.ensures.names ∙ i.names ∙ c.requires.names) how
     (λ has. c.deref.ensures.value ∙ c.in-Ok.ensures.outputs r.state follows has ∙ ap (λ x. (tick x run.budget r.state values).outputs) k) c.put_outcome.ensures in
-    stop_own run F now new l0 l l' h0 h (g.K.Sink.held c.finish-in-Ended.new.out) unsent c.put_outcome.new.self.bytes.items row values r c.in-Row.ensures.next o status.Done c.finish-in-Ended.result how
+    stop_own run F now new l0 l l' h0 h (g.K.Sink.held c.finish-in-Ended.new.out) unsent c.put_outcome.new.self.bytes.items row values r (rw c.in-Ok-Row.field-0-is at c.in-Ok-Row.ensures.next) o status.Done c.finish-in-Ended.result how
     (ap goes_on c.in-Ended.is) (ap stop_status c.in-Ended.is) put.bytes_are c.finish-in-Ended.ensures.said c.finish-in-Ended.ensures.all own
 
 pub returns-in-Ended-clause-write : goal.returns-in-Ended-clause-write
 returns-in-Ended-clause-write g c = λ is.
-    let run : Run = record { kernel = g.T.Ticker.kernel c.args.ticker.now; budget = c.args.budget; first = c.args.rows.now } in
+    let run : Run = record { kernel = g.T.Ticker.kernel c.args.ticker.now; budget = c.args.session.now.budget; first = c.args.rows.now } in
     let F : State → Type 0 = g.T.Ticker.follows c.ticks.ticker in
     let now = c.ticks.rows in
     let l0 = g.S.Source.left c.args.trace.now in
@@ -233,7 +233,7 @@ returns-in-Ended-clause-write g c = λ is.
     let unsent : List ℕ = c.send_due.new.waiting.bytes.items in
     let row = c.ticks.row in
     let i = c.ticks.invariant in
-    let r : Reached run F now l0 l h0 h unsent row = reached_sent run F now l0 l h0 (g.K.Sink.held c.ticks.out) h c.ticks.waiting.bytes.items unsent row i.reached c.in_default.ensures.ok in
+    let r : Reached run F now l0 l h0 h unsent row = reached_sent run F now l0 l h0 (g.K.Sink.held c.ticks.out) h c.ticks.session.waiting.bytes.items unsent row i.reached c.in_default.ensures.ok in
     let new = c.next_row.new.rows in
     let l' = g.S.Source.left c.next_row.new.trace in
     let values = c.next_row.new.self.inputs.items in
@@ -247,13 +247,13 @@ returns-in-Ended-clause-write g c = λ is.
     (c.send_due.ensures.names ∙ i.names ∙ c.requires.names) how
     (λ has. c.deref.ensures.value ∙ c.in-Ok.ensures.outputs r.state follows has ∙ ap (λ x. (tick x run.budget r.state values).outputs) k) c.put_outcome.ensures in (
       fell_since _ (g.K.Sink.faults c.send_due.new.out) _ _ (omega (arith, i.written, c.in_default.ensures.cause.later)) (c.finish-in-Ended.ensures.fault is),
-      stop_front run F now new l0 l l' h0 h (g.K.Sink.held c.finish-in-Ended.new.out) unsent c.put_outcome.new.self.bytes.items row values r c.in-Row.ensures.next o how
+      stop_front run F now new l0 l l' h0 h (g.K.Sink.held c.finish-in-Ended.new.out) unsent c.put_outcome.new.self.bytes.items row values r (rw c.in-Ok-Row.field-0-is at c.in-Ok-Row.ensures.next) o how
           (ap goes_on c.in-Ended.is) put.bytes_are (c.finish-in-Ended.ensures.front is),
     )
 
 pub returns-in-Trapped-clause-own : goal.returns-in-Trapped-clause-own
 returns-in-Trapped-clause-own g c = λ own.
-    let run : Run = record { kernel = g.T.Ticker.kernel c.args.ticker.now; budget = c.args.budget; first = c.args.rows.now } in
+    let run : Run = record { kernel = g.T.Ticker.kernel c.args.ticker.now; budget = c.args.session.now.budget; first = c.args.rows.now } in
     let F : State → Type 0 = g.T.Ticker.follows c.ticks.ticker in
     let now = c.ticks.rows in
     let l0 = g.S.Source.left c.args.trace.now in
@@ -263,7 +263,7 @@ returns-in-Trapped-clause-own g c = λ own.
     let unsent : List ℕ = c.send_due.new.waiting.bytes.items in
     let row = c.ticks.row in
     let i = c.ticks.invariant in
-    let r : Reached run F now l0 l h0 h unsent row = reached_sent run F now l0 l h0 (g.K.Sink.held c.ticks.out) h c.ticks.waiting.bytes.items unsent row i.reached c.in_default.ensures.ok in
+    let r : Reached run F now l0 l h0 h unsent row = reached_sent run F now l0 l h0 (g.K.Sink.held c.ticks.out) h c.ticks.session.waiting.bytes.items unsent row i.reached c.in_default.ensures.ok in
     let new = c.next_row.new.rows in
     let l' = g.S.Source.left c.next_row.new.trace in
     let values = c.next_row.new.self.inputs.items in
@@ -276,12 +276,12 @@ returns-in-Trapped-clause-own g c = λ own.
     put_tick_lines run.kernel run.budget row t o c.send_due.new.waiting.names c.deref.result.now c.send_due.new.waiting c.put_outcome.new.self
     (c.send_due.ensures.names ∙ i.names ∙ c.requires.names) how
     (λ has. c.deref.ensures.value ∙ c.in-Ok.ensures.outputs r.state follows has ∙ ap (λ x. (tick x run.budget r.state values).outputs) k) c.put_outcome.ensures in
-    stop_own run F now new l0 l l' h0 h (g.K.Sink.held c.finish-in-Trapped.new.out) unsent c.put_outcome.new.self.bytes.items row values r c.in-Row.ensures.next o status.Trapped c.finish-in-Trapped.result how
+    stop_own run F now new l0 l l' h0 h (g.K.Sink.held c.finish-in-Trapped.new.out) unsent c.put_outcome.new.self.bytes.items row values r (rw c.in-Ok-Row.field-0-is at c.in-Ok-Row.ensures.next) o status.Trapped c.finish-in-Trapped.result how
     (ap goes_on c.in-Trapped.is) (ap stop_status c.in-Trapped.is) put.bytes_are c.finish-in-Trapped.ensures.said c.finish-in-Trapped.ensures.all own
 
 pub returns-in-Trapped-clause-write : goal.returns-in-Trapped-clause-write
 returns-in-Trapped-clause-write g c = λ is.
-    let run : Run = record { kernel = g.T.Ticker.kernel c.args.ticker.now; budget = c.args.budget; first = c.args.rows.now } in
+    let run : Run = record { kernel = g.T.Ticker.kernel c.args.ticker.now; budget = c.args.session.now.budget; first = c.args.rows.now } in
     let F : State → Type 0 = g.T.Ticker.follows c.ticks.ticker in
     let now = c.ticks.rows in
     let l0 = g.S.Source.left c.args.trace.now in
@@ -291,7 +291,7 @@ returns-in-Trapped-clause-write g c = λ is.
     let unsent : List ℕ = c.send_due.new.waiting.bytes.items in
     let row = c.ticks.row in
     let i = c.ticks.invariant in
-    let r : Reached run F now l0 l h0 h unsent row = reached_sent run F now l0 l h0 (g.K.Sink.held c.ticks.out) h c.ticks.waiting.bytes.items unsent row i.reached c.in_default.ensures.ok in
+    let r : Reached run F now l0 l h0 h unsent row = reached_sent run F now l0 l h0 (g.K.Sink.held c.ticks.out) h c.ticks.session.waiting.bytes.items unsent row i.reached c.in_default.ensures.ok in
     let new = c.next_row.new.rows in
     let l' = g.S.Source.left c.next_row.new.trace in
     let values = c.next_row.new.self.inputs.items in
@@ -305,13 +305,13 @@ returns-in-Trapped-clause-write g c = λ is.
     (c.send_due.ensures.names ∙ i.names ∙ c.requires.names) how
     (λ has. c.deref.ensures.value ∙ c.in-Ok.ensures.outputs r.state follows has ∙ ap (λ x. (tick x run.budget r.state values).outputs) k) c.put_outcome.ensures in (
       fell_since _ (g.K.Sink.faults c.send_due.new.out) _ _ (omega (arith, i.written, c.in_default.ensures.cause.later)) (c.finish-in-Trapped.ensures.fault is),
-      stop_front run F now new l0 l l' h0 h (g.K.Sink.held c.finish-in-Trapped.new.out) unsent c.put_outcome.new.self.bytes.items row values r c.in-Row.ensures.next o how
+      stop_front run F now new l0 l l' h0 h (g.K.Sink.held c.finish-in-Trapped.new.out) unsent c.put_outcome.new.self.bytes.items row values r (rw c.in-Ok-Row.field-0-is at c.in-Ok-Row.ensures.next) o how
           (ap goes_on c.in-Trapped.is) put.bytes_are (c.finish-in-Trapped.ensures.front is),
     )
 
 pub returns-in-Over-clause-own : goal.returns-in-Over-clause-own
 returns-in-Over-clause-own g c = λ own.
-    let run : Run = record { kernel = g.T.Ticker.kernel c.args.ticker.now; budget = c.args.budget; first = c.args.rows.now } in
+    let run : Run = record { kernel = g.T.Ticker.kernel c.args.ticker.now; budget = c.args.session.now.budget; first = c.args.rows.now } in
     let F : State → Type 0 = g.T.Ticker.follows c.ticks.ticker in
     let now = c.ticks.rows in
     let l0 = g.S.Source.left c.args.trace.now in
@@ -321,7 +321,7 @@ returns-in-Over-clause-own g c = λ own.
     let unsent : List ℕ = c.send_due.new.waiting.bytes.items in
     let row = c.ticks.row in
     let i = c.ticks.invariant in
-    let r : Reached run F now l0 l h0 h unsent row = reached_sent run F now l0 l h0 (g.K.Sink.held c.ticks.out) h c.ticks.waiting.bytes.items unsent row i.reached c.in_default.ensures.ok in
+    let r : Reached run F now l0 l h0 h unsent row = reached_sent run F now l0 l h0 (g.K.Sink.held c.ticks.out) h c.ticks.session.waiting.bytes.items unsent row i.reached c.in_default.ensures.ok in
     let new = c.next_row.new.rows in
     let l' = g.S.Source.left c.next_row.new.trace in
     let values = c.next_row.new.self.inputs.items in
@@ -334,12 +334,12 @@ returns-in-Over-clause-own g c = λ own.
     put_tick_lines run.kernel run.budget row t o c.send_due.new.waiting.names c.deref.result.now c.send_due.new.waiting c.put_outcome.new.self
     (c.send_due.ensures.names ∙ i.names ∙ c.requires.names) how
     (λ has. c.deref.ensures.value ∙ c.in-Ok.ensures.outputs r.state follows has ∙ ap (λ x. (tick x run.budget r.state values).outputs) k) c.put_outcome.ensures in
-    stop_own run F now new l0 l l' h0 h (g.K.Sink.held c.finish-in-Over.new.out) unsent c.put_outcome.new.self.bytes.items row values r c.in-Row.ensures.next o status.Over c.finish-in-Over.result how
+    stop_own run F now new l0 l l' h0 h (g.K.Sink.held c.finish-in-Over.new.out) unsent c.put_outcome.new.self.bytes.items row values r (rw c.in-Ok-Row.field-0-is at c.in-Ok-Row.ensures.next) o status.Over c.finish-in-Over.result how
     (ap goes_on c.in-Over.is) (ap stop_status c.in-Over.is) put.bytes_are c.finish-in-Over.ensures.said c.finish-in-Over.ensures.all own
 
 pub returns-in-Over-clause-write : goal.returns-in-Over-clause-write
 returns-in-Over-clause-write g c = λ is.
-    let run : Run = record { kernel = g.T.Ticker.kernel c.args.ticker.now; budget = c.args.budget; first = c.args.rows.now } in
+    let run : Run = record { kernel = g.T.Ticker.kernel c.args.ticker.now; budget = c.args.session.now.budget; first = c.args.rows.now } in
     let F : State → Type 0 = g.T.Ticker.follows c.ticks.ticker in
     let now = c.ticks.rows in
     let l0 = g.S.Source.left c.args.trace.now in
@@ -349,7 +349,7 @@ returns-in-Over-clause-write g c = λ is.
     let unsent : List ℕ = c.send_due.new.waiting.bytes.items in
     let row = c.ticks.row in
     let i = c.ticks.invariant in
-    let r : Reached run F now l0 l h0 h unsent row = reached_sent run F now l0 l h0 (g.K.Sink.held c.ticks.out) h c.ticks.waiting.bytes.items unsent row i.reached c.in_default.ensures.ok in
+    let r : Reached run F now l0 l h0 h unsent row = reached_sent run F now l0 l h0 (g.K.Sink.held c.ticks.out) h c.ticks.session.waiting.bytes.items unsent row i.reached c.in_default.ensures.ok in
     let new = c.next_row.new.rows in
     let l' = g.S.Source.left c.next_row.new.trace in
     let values = c.next_row.new.self.inputs.items in
@@ -363,7 +363,7 @@ returns-in-Over-clause-write g c = λ is.
     (c.send_due.ensures.names ∙ i.names ∙ c.requires.names) how
     (λ has. c.deref.ensures.value ∙ c.in-Ok.ensures.outputs r.state follows has ∙ ap (λ x. (tick x run.budget r.state values).outputs) k) c.put_outcome.ensures in (
       fell_since _ (g.K.Sink.faults c.send_due.new.out) _ _ (omega (arith, i.written, c.in_default.ensures.cause.later)) (c.finish-in-Over.ensures.fault is),
-      stop_front run F now new l0 l l' h0 h (g.K.Sink.held c.finish-in-Over.new.out) unsent c.put_outcome.new.self.bytes.items row values r c.in-Row.ensures.next o how
+      stop_front run F now new l0 l l' h0 h (g.K.Sink.held c.finish-in-Over.new.out) unsent c.put_outcome.new.self.bytes.items row values r (rw c.in-Ok-Row.field-0-is at c.in-Ok-Row.ensures.next) o how
           (ap goes_on c.in-Over.is) put.bytes_are (c.finish-in-Over.ensures.front is),
     )
 
@@ -371,7 +371,7 @@ returns-in-Over-clause-write g c = λ is.
 
 pub returns-in_default-tick-clause-write : goal.returns-in_default-tick-clause-write
 returns-in_default-tick-clause-write g c = λ is.
-    let run : Run = record { kernel = g.T.Ticker.kernel c.args.ticker.now; budget = c.args.budget; first = c.args.rows.now } in
+    let run : Run = record { kernel = g.T.Ticker.kernel c.args.ticker.now; budget = c.args.session.now.budget; first = c.args.rows.now } in
     let F : State → Type 0 = g.T.Ticker.follows c.ticks.ticker in
     let now = c.ticks.rows in
     let l0 = g.S.Source.left c.args.trace.now in
@@ -381,7 +381,7 @@ returns-in_default-tick-clause-write g c = λ is.
     let unsent : List ℕ = c.send_due.new.waiting.bytes.items in
     let row = c.ticks.row in
     let i = c.ticks.invariant in
-    let r : Reached run F now l0 l h0 h unsent row = reached_sent run F now l0 l h0 (g.K.Sink.held c.ticks.out) h c.ticks.waiting.bytes.items unsent row i.reached c.in_default.ensures.ok in
+    let r : Reached run F now l0 l h0 h unsent row = reached_sent run F now l0 l h0 (g.K.Sink.held c.ticks.out) h c.ticks.session.waiting.bytes.items unsent row i.reached c.in_default.ensures.ok in
     let end = c.finish-in_default-tick in (
       fell_since _ (g.K.Sink.faults c.send_due.new.out) _ _ (omega (arith, i.written, c.in_default.ensures.cause.later)) (end.ensures.fault is),
       front_now run F now l0 l h0 h (g.K.Sink.held end.new.out) unsent row r (end.ensures.front is),
@@ -389,7 +389,7 @@ returns-in_default-tick-clause-write g c = λ is.
 
 pub returns-in_default-tick-clause-memory : goal.returns-in_default-tick-clause-memory
 returns-in_default-tick-clause-memory g c = λ is.
-    let run : Run = record { kernel = g.T.Ticker.kernel c.args.ticker.now; budget = c.args.budget; first = c.args.rows.now } in
+    let run : Run = record { kernel = g.T.Ticker.kernel c.args.ticker.now; budget = c.args.session.now.budget; first = c.args.rows.now } in
     let F : State → Type 0 = g.T.Ticker.follows c.ticks.ticker in
     let now = c.ticks.rows in
     let l0 = g.S.Source.left c.args.trace.now in
@@ -399,7 +399,7 @@ returns-in_default-tick-clause-memory g c = λ is.
     let unsent : List ℕ = c.send_due.new.waiting.bytes.items in
     let row = c.ticks.row in
     let i = c.ticks.invariant in
-    let r : Reached run F now l0 l h0 h unsent row = reached_sent run F now l0 l h0 (g.K.Sink.held c.ticks.out) h c.ticks.waiting.bytes.items unsent row i.reached c.in_default.ensures.ok in
+    let r : Reached run F now l0 l h0 h unsent row = reached_sent run F now l0 l h0 (g.K.Sink.held c.ticks.out) h c.ticks.session.waiting.bytes.items unsent row i.reached c.in_default.ensures.ok in
     let end = c.finish-in_default-tick in (
       sym i.ready ∙ c.in_default-tick.ensures.memory,
       front_now run F now l0 l h0 h (g.K.Sink.held end.new.out) unsent row r (front_whole h (g.K.Sink.held end.new.out) unsent (end.ensures.all (not_write end.result is))),
@@ -415,38 +415,38 @@ returns-in-Trapped-clause-read g c = λ is. absurd (not_read c.finish-in-Trapped
 
 pub returns-in_default-tick-clause-trace : goal.returns-in_default-tick-clause-trace
 returns-in_default-tick-clause-trace g c =
-    let run : Run = record { kernel = g.T.Ticker.kernel c.args.ticker.now; budget = c.args.budget; first = c.args.rows.now } in
+    let run : Run = record { kernel = g.T.Ticker.kernel c.args.ticker.now; budget = c.args.session.now.budget; first = c.args.rows.now } in
     asked_last g.S.Source.left g.S.Source.faults g.S.Source.down run (g.T.Ticker.follows c.ticks.ticker) c.ticks.rows c.ticks.row c.args.trace.now c.ticks.trace c.next_row.new.trace _ c.ticks.invariant.asked c.next_row.ensures.trace
 
 pub returns-in-Err-clause-trace : goal.returns-in-Err-clause-trace
 returns-in-Err-clause-trace g c = (c.ticks.invariant.asked.given, c.ticks.invariant.asked.reads)
 
-pub returns-in-Failed-clause-trace : goal.returns-in-Failed-clause-trace
-returns-in-Failed-clause-trace g c =
-    let run : Run = record { kernel = g.T.Ticker.kernel c.args.ticker.now; budget = c.args.budget; first = c.args.rows.now } in
+pub returns-in-ReadFault-clause-trace : goal.returns-in-ReadFault-clause-trace
+returns-in-ReadFault-clause-trace g c =
+    let run : Run = record { kernel = g.T.Ticker.kernel c.args.ticker.now; budget = c.args.session.now.budget; first = c.args.rows.now } in
     asked_last g.S.Source.left g.S.Source.faults g.S.Source.down run (g.T.Ticker.follows c.ticks.ticker) c.ticks.rows c.ticks.row c.args.trace.now c.ticks.trace c.next_row.new.trace _ c.ticks.invariant.asked c.next_row.ensures.trace
 
-pub returns-in-End-clause-trace : goal.returns-in-End-clause-trace
-returns-in-End-clause-trace g c =
-    let run : Run = record { kernel = g.T.Ticker.kernel c.args.ticker.now; budget = c.args.budget; first = c.args.rows.now } in
+pub returns-in-Ok-End-clause-trace : goal.returns-in-Ok-End-clause-trace
+returns-in-Ok-End-clause-trace g c =
+    let run : Run = record { kernel = g.T.Ticker.kernel c.args.ticker.now; budget = c.args.session.now.budget; first = c.args.rows.now } in
     asked_last g.S.Source.left g.S.Source.faults g.S.Source.down run (g.T.Ticker.follows c.ticks.ticker) c.ticks.rows c.ticks.row c.args.trace.now c.ticks.trace c.next_row.new.trace _ c.ticks.invariant.asked c.next_row.ensures.trace
 
-pub returns-in-Stops-clause-trace : goal.returns-in-Stops-clause-trace
-returns-in-Stops-clause-trace g c =
-    let run : Run = record { kernel = g.T.Ticker.kernel c.args.ticker.now; budget = c.args.budget; first = c.args.rows.now } in
+pub returns-in_default-fault-clause-trace : goal.returns-in_default-fault-clause-trace
+returns-in_default-fault-clause-trace g c =
+    let run : Run = record { kernel = g.T.Ticker.kernel c.args.ticker.now; budget = c.args.session.now.budget; first = c.args.rows.now } in
     asked_last g.S.Source.left g.S.Source.faults g.S.Source.down run (g.T.Ticker.follows c.ticks.ticker) c.ticks.rows c.ticks.row c.args.trace.now c.ticks.trace c.next_row.new.trace _ c.ticks.invariant.asked c.next_row.ensures.trace
 
 pub returns-in-Ended-clause-trace : goal.returns-in-Ended-clause-trace
 returns-in-Ended-clause-trace g c =
-    let run : Run = record { kernel = g.T.Ticker.kernel c.args.ticker.now; budget = c.args.budget; first = c.args.rows.now } in
+    let run : Run = record { kernel = g.T.Ticker.kernel c.args.ticker.now; budget = c.args.session.now.budget; first = c.args.rows.now } in
     asked_last g.S.Source.left g.S.Source.faults g.S.Source.down run (g.T.Ticker.follows c.ticks.ticker) c.ticks.rows c.ticks.row c.args.trace.now c.ticks.trace c.next_row.new.trace _ c.ticks.invariant.asked c.next_row.ensures.trace
 
 pub returns-in-Trapped-clause-trace : goal.returns-in-Trapped-clause-trace
 returns-in-Trapped-clause-trace g c =
-    let run : Run = record { kernel = g.T.Ticker.kernel c.args.ticker.now; budget = c.args.budget; first = c.args.rows.now } in
+    let run : Run = record { kernel = g.T.Ticker.kernel c.args.ticker.now; budget = c.args.session.now.budget; first = c.args.rows.now } in
     asked_last g.S.Source.left g.S.Source.faults g.S.Source.down run (g.T.Ticker.follows c.ticks.ticker) c.ticks.rows c.ticks.row c.args.trace.now c.ticks.trace c.next_row.new.trace _ c.ticks.invariant.asked c.next_row.ensures.trace
 
 pub returns-in-Over-clause-trace : goal.returns-in-Over-clause-trace
 returns-in-Over-clause-trace g c =
-    let run : Run = record { kernel = g.T.Ticker.kernel c.args.ticker.now; budget = c.args.budget; first = c.args.rows.now } in
+    let run : Run = record { kernel = g.T.Ticker.kernel c.args.ticker.now; budget = c.args.session.now.budget; first = c.args.rows.now } in
     asked_last g.S.Source.left g.S.Source.faults g.S.Source.down run (g.T.Ticker.follows c.ticks.ticker) c.ticks.rows c.ticks.row c.args.trace.now c.ticks.trace c.next_row.new.trace _ c.ticks.invariant.asked c.next_row.ensures.trace

@@ -12,17 +12,17 @@ invariant-ticks g l =
     let kernel = g.T.Ticker.kernel l.fn.ticker in
     record {
       reached : Reached (record { kernel = kernel; budget = l.budget; first = l.fn.rows })
-          (g.T.Ticker.follows l.ticker) l.rows (left l.fn.trace) (left l.trace) (held l.fn.out) (held l.out) l.waiting.bytes.items l.row;
+          (g.T.Ticker.follows l.ticker) l.rows (left l.fn.trace) (left l.trace) (held l.fn.out) (held l.out) l.session.waiting.bytes.items l.row;
       asked : Asked left g.S.Source.faults g.S.Source.down (record { kernel = kernel; budget = l.budget; first = l.fn.rows }) (g.T.Ticker.follows l.ticker) l.rows l.row l.fn.trace l.trace;
       kernel : g.T.Ticker.kernel l.ticker ≡ kernel;
       ready : g.T.Ticker.ready l.ticker ≡ g.T.Ticker.ready l.fn.ticker;
-      inputs : length l.image.inputs.items ≡ length l.fn.image.inputs.items;
-      outputs : length l.image.outputs.items ≡ length l.fn.image.outputs.items;
+      inputs : length l.session.image.inputs.items ≡ length l.fn.session.image.inputs.items;
+      outputs : length l.session.image.outputs.items ≡ length l.fn.session.image.outputs.items;
       live : g.T.Ticker.live l.ticker ≡ true;
       reads : l.rows.live ≡ true;
       low : 1 ≤ l.row;
       high : l.row ≤ MAX_ROWS + 1;
-      names : l.waiting.names ≡ l.fn.waiting.names;
+      names : l.session.waiting.names ≡ l.fn.session.waiting.names;
       ended : l.rows.ended ≡ true → IsAtEnd (left l.trace);
       read : g.S.Source.faults l.fn.trace ≤ g.S.Source.faults l.trace;
       written : g.K.Sink.faults l.fn.out ≤ g.K.Sink.faults l.out;
