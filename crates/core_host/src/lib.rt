@@ -2,6 +2,7 @@
 #![tactic(auto)]
 
 mod boxed;
+mod descend;
 mod hints;
 mod host;
 mod job;

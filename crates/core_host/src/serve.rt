@@ -25,6 +25,15 @@ use copy_slots::Port;
 use core_machine::{Event, Thread};
 use forec_base::{Gate, Point};
 
+/// A thread at work on a job, out of its seat.
+#[derive(Drop)]
+pub(crate) struct Active {
+    pub mailbox: u32,
+    pub thread: Boxed<Thread>,
+    /// The packet of its job.
+    pub packet: Boxed<Packet>,
+}
+
 impl<'c, P: Port<ForecWork> + Drop> Scheduler<'c, P> {
     /// Takes what a seat holds, which is then empty.
     #[inline(always)]
@@ -133,46 +142,29 @@ impl<'c, P: Port<ForecWork> + Drop> Scheduler<'c, P> {
         true
     }
 
-    /// Runs a thread to its next event. Where that is a fork, its branches are told their jobs, and else
-    /// the thread has answered its own.
-    fn advance<G: Gate>(
-        &mut self,
-        gate: &G,
-        mailbox: u32,
-        thread: Boxed<Thread>,
-        packet: Boxed<Packet>,
-    )
-        requires inside { mailbox < length self.old.mail.ends }
-        requires seated { IsSeated self.old }
-        requires number { thread.number ≡ suc mailbox }
-        requires loaded { Loaded (code_in self.old) thread }
-        requires running { CanRun thread }
-        requires working { IsWorking self.old thread }
-        requires room { HasRoom (of_shape (code_in self.old).shape) (suc mailbox) (plain_packet packet) }
-        ensures touches { Touches mailbox self.old self.new }
-        ensures between { IsBetween self.new mailbox }
-        ensures worked { HasWorked (code_in self.old).shape self.old.mail self.new.mail mailbox }
+    /// Puts a thread that waits at a fork into its seat, with the packet of its job.
+    pub(crate) fn hold(&mut self, active: Active)
     {
+        let Active { mailbox, thread, packet } = active;
+        self.put_thread(
+            mailbox + 1,
+            Seat {
+                thread: Some(thread),
+                job: Some(packet),
+            },
+        );
+    }
+
+    /// Sends the reply of a thread that has it, and puts the thread into its seat.
+    pub(crate) fn finish_job<G: Gate>(&mut self, gate: &G, active: Active)
+    {
+        let Active { mailbox, thread, mut packet } = active;
         let number = mailbox + 1;
-        let mut seated = thread;
-        let mut packet = packet;
-        let thread: &mut Thread = &mut seated;
-        if let Event::Fork = thread.run(self.code) {
-            self.send_jobs(thread);
-            self.put_thread(
-                number,
-                Seat {
-                    thread: Some(seated),
-                    job: Some(packet),
-                },
-            );
-            return;
-        }
         thread.reply(self.code, &mut packet);
         self.put_thread(
             number,
             Seat {
-                thread: Some(seated),
+                thread: Some(thread),
                 job: None,
             },
         );
@@ -180,83 +172,73 @@ impl<'c, P: Port<ForecWork> + Drop> Scheduler<'c, P> {
         gate.pass(self.places[number as usize], number, Point::Answered);
     }
 
-    /// Takes the job of a thread that rests, and runs the thread to its next event. Whether there was a job.
-    fn begin<G: Gate>(&mut self, gate: &G, mailbox: u32) -> bool
-        requires inside { mailbox < length self.old.mail.ends }
-        requires seated { IsSeated self.old }
-        requires rests { IsAtRest self.old mailbox }
-        ensures touches { Touches mailbox self.old self.new }
-        ensures between { IsBetween self.new mailbox }
-        ensures worked { result ≡ true → HasWorked (code_in self.old).shape self.old.mail self.new.mail mailbox }
-        ensures nothing { result ≡ false → HasMissed mailbox self.old self.new }
-        ensures looks { result ≡ false → OnlyLooks mailbox self.old self.new }
-        ensures turn { self.old.mail.tells ≡ true → result ≡ true → turn self.old.mail mailbox ≢ 0 }
+    /// Takes the job of a thread that rests, which begins it.
+    fn take_job<G: Gate>(&mut self, gate: &G, mailbox: u32) -> Option<Active>
     {
         let number = mailbox + 1;
-        let Some(packet) = self.take(mailbox) else {
-            return false;
-        };
+        let packet = self.take(mailbox)?;
         gate.pass(self.places[number as usize], number, Point::Begun);
         let Seat { thread, .. } = self.take_thread(number);
-        let Some(mut seated) = thread else {
+        let Some(mut thread) = thread else {
             unreachable!()
         };
-        let thread: &mut Thread = &mut seated;
-        thread.begin(self.code, &packet);
-        self.advance(gate, mailbox, seated, packet);
-        true
+        let begun: &mut Thread = &mut thread;
+        begun.begin(self.code, &packet);
+        Some(Active { mailbox, thread, packet })
     }
 
-    /// Goes on with a thread that waits at a fork, where its branches have all replied. Whether they have.
-    fn resume<G: Gate>(&mut self, gate: &G, mailbox: u32) -> bool
-        requires inside { mailbox < length self.old.mail.ends }
-        requires seated { IsSeated self.old }
-        requires waits { WaitsAt self.old mailbox }
-        ensures touches { Touches mailbox self.old self.new }
-        ensures between { IsBetween self.new mailbox }
-        ensures worked { result ≡ true → HasWorked (code_in self.old).shape self.old.mail self.new.mail mailbox }
-        ensures nothing { result ≡ false → HasMissed mailbox self.old self.new }
+    /// Takes a thread that waits at a fork out of its seat, where its branches have all replied, and joins them.
+    fn take_replies(&mut self, mailbox: u32) -> Option<Active>
     {
         let number = mailbox + 1;
         let Seat { thread, job } = self.take_thread(number);
-        let Some(mut seated) = thread else {
+        let Some(mut thread) = thread else {
             unreachable!()
         };
         let Some(packet) = job else { unreachable!() };
-        let thread: &mut Thread = &mut seated;
-        if !self.gather_replies(thread) {
-            self.put_thread(
-                number,
-                Seat {
-                    thread: Some(seated),
-                    job: Some(packet),
-                },
-            );
-            return false;
+        let waiting: &mut Thread = &mut thread;
+        if !self.gather_replies(waiting) {
+            self.hold(Active { mailbox, thread, packet });
+            return None;
         }
-        self.settle(thread);
-        self.join(thread);
-        self.advance(gate, mailbox, seated, packet);
-        true
+        self.settle(waiting);
+        self.join(waiting);
+        Some(Active { mailbox, thread, packet })
+    }
+
+    /// Takes the job of a thread that rests, or the replies for one that waits at a fork. The thread can then run.
+    pub(crate) fn take_up<G: Gate>(&mut self, gate: &G, mailbox: u32) -> Option<Active>
+    {
+        if self.seats[mailbox as usize + 1].job.is_some() {
+            self.take_replies(mailbox)
+        } else {
+            self.take_job(gate, mailbox)
+        }
+    }
+
+    /// Runs a thread to its next event. Where that is a fork, its branches are told their jobs, and else
+    /// the thread has answered its own.
+    fn advance<G: Gate>(&mut self, gate: &G, mut active: Active)
+    {
+        let thread: &mut Thread = &mut active.thread;
+        if let Event::Fork = thread.run(self.code) {
+            self.send_jobs(thread);
+            self.hold(active);
+        } else {
+            self.finish_job(gate, active);
+        }
     }
 
     /// Takes one job of this mailbox, or goes on with its thread where that waits at a fork and its branches
     /// have all replied, and runs the thread to its next event. Whether it did.
     pub(crate) fn serve<G: Gate>(&mut self, gate: &G, mailbox: u32) -> bool
-        requires inside { mailbox < length self.old.mail.ends }
-        requires seated { IsSeated self.old }
-        requires between { IsBetween self.old mailbox }
-        ensures touches { Touches mailbox self.old self.new }
-        ensures between { IsBetween self.new mailbox }
-        ensures worked { result ≡ true → HasWorked (code_in self.old).shape self.old.mail self.new.mail mailbox }
-        ensures nothing { result ≡ false → HasMissed mailbox self.old self.new }
-        ensures quiet { self.old.mail.tells ≡ true → Quiet self.old mailbox → OnlyLooks mailbox self.old self.new }
     {
-        let number = mailbox as usize + 1;
-        if self.seats[number].job.is_some() {
-            self.resume(gate, mailbox)
-        } else {
-            self.begin(gate, mailbox)
+        match self.take_up(gate, mailbox) {
+            Some(active) => {
+                self.advance(gate, active);
+                true
+            }
+            None => false,
         }
     }
 
