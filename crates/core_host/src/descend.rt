@@ -1,9 +1,14 @@
 //! A thread is served with those below it.
+ghost use Rattle.std.specs.Prelude.{◌≡◌, ◌<◌, suc, length, true, false};
+ghost use Rattle.core_host.specs.Changes.{HasProgressed};
+ghost use Rattle.core_host.specs.Descending.{CanDescend, Descends, IsRunning, KeepsRound};
+ghost use Rattle.core_host.specs.Keeping.{code_in, IsSeated, Quiet};
+ghost use Rattle.core_host.specs.Serving.{Touches, OnlyLooks, HasMissed};
+ghost use Rattle.core_host.specs.Waiting.{IsForked, IsBetween};
 
-use crate::hints::hint_branches;
+use crate::active::Active;
 use crate::round::Round;
 use crate::scheduler::Scheduler;
-use crate::serve::Active;
 use crate::work::ForecWork;
 use copy_slots::Port;
 use core_machine::{Event, Thread};
@@ -11,19 +16,21 @@ use forec_base::Gate;
 use std::sync::Wait;
 
 impl<'c, P: Port<ForecWork> + Drop> Scheduler<'c, P> {
-    /// Sends the branches of the thread's fork their jobs, hints to their cores, and serves those that are here.
-    pub(crate) fn send_and_serve<R: Wait, G: Gate>(
+    /// Serves the branches of the thread's fork that are here, one after the other.
+    #[cycle(serve_down)]
+    pub(crate) fn serve_branches<R: Wait, G: Gate>(
         &mut self,
         rt: &R,
         gate: &G,
         thread: &Thread,
         round: &mut Round<'c>,
     )
+        requires seated { IsSeated self.old }
+        requires forked { IsForked (code_in self.old) thread.now }
+        requires above { CanDescend self.old thread.now.number }
+        ensures descends { Descends thread.now.number thread.now.number self.old self.new }
+        ensures round { KeepsRound round.old round.new }
     {
-        self.send_jobs(thread);
-        if let Some(rope) = &mut round.rope {
-            hint_branches(rt, self.code, thread, rope);
-        }
         let mut k = 0;
         while let Some(branch) = thread.active(self.code, k) {
             if self.seats[branch as usize].thread.is_some() {
@@ -34,6 +41,7 @@ impl<'c, P: Port<ForecWork> + Drop> Scheduler<'c, P> {
     }
 
     /// Runs a thread until it has answered its job, or waits for branches of other cores.
+    #[cycle(serve_down)]
     fn advance_down<R: Wait, G: Gate>(
         &mut self,
         rt: &R,
@@ -41,10 +49,18 @@ impl<'c, P: Port<ForecWork> + Drop> Scheduler<'c, P> {
         mut active: Active,
         round: &mut Round<'c>,
     )
+        requires seated { IsSeated self.old }
+        requires running { IsRunning self.old active }
+        requires above { CanDescend self.old (suc active.mailbox) }
+        ensures descends { Descends active.entry.mailbox (suc active.entry.mailbox) self.old self.new }
+        ensures between { IsBetween self.new active.entry.mailbox }
+        ensures worked { HasProgressed (code_in self.old).shape self.old.mail self.new.mail active.entry.mailbox }
+        ensures round { KeepsRound round.old round.new }
     {
         let thread: &mut Thread = &mut active.thread;
         while let Event::Fork = thread.run(self.code) {
-            self.send_and_serve(rt, gate, thread, round);
+            self.send_jobs_and_hint(rt, thread, round);
+            self.serve_branches(rt, gate, thread, round);
             if !self.gather_replies(thread) {
                 self.hold(active);
                 return;
@@ -56,7 +72,8 @@ impl<'c, P: Port<ForecWork> + Drop> Scheduler<'c, P> {
     }
 
     /// Takes one job of this mailbox, or goes on with its thread where that waits at a fork and its branches have all replied. The
-    /// thread runs until it has answered, or waits for branches of other cores; those here run meanwhile. Whether it did.
+    /// thread runs until it has answered, or waits for branches of other cores; its branches here run with it. Whether it did.
+    #[cycle(serve_down)]
     pub(crate) fn serve_down<R: Wait, G: Gate>(
         &mut self,
         rt: &R,
@@ -64,6 +81,16 @@ impl<'c, P: Port<ForecWork> + Drop> Scheduler<'c, P> {
         mailbox: u32,
         round: &mut Round<'c>,
     ) -> bool
+        requires inside { mailbox < length self.old.mail.ends }
+        requires seated { IsSeated self.old }
+        requires between { IsBetween self.old mailbox }
+        requires above { CanDescend self.old (suc mailbox) }
+        ensures descends { Descends mailbox mailbox self.old self.new }
+        ensures worked { result ≡ true → HasProgressed (code_in self.old).shape self.old.mail self.new.mail mailbox }
+        ensures touches { result ≡ false → Touches mailbox self.old self.new }
+        ensures nothing { result ≡ false → HasMissed mailbox self.old self.new }
+        ensures quiet { self.old.mail.tells ≡ true → Quiet self.old mailbox → OnlyLooks mailbox self.old self.new }
+        ensures round { KeepsRound round.old round.new }
     {
         match self.take_up(gate, mailbox) {
             Some(active) => {

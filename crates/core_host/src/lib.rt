@@ -1,6 +1,7 @@
 //! The host of a program's threads: it runs a tick.
 #![tactic(auto)]
 
+mod active;
 mod boxed;
 mod descend;
 mod hints;

@@ -9,13 +9,15 @@ ghost use Rattle.combine_tree.specs.Plain.{plain_packet};
 ghost use Rattle.copy_slots.specs.Ports.{taken, turn, after_take, after_answer, after_stop, after_check, in_plain, ChildIs};
 ghost use Rattle.core_machine.specs.Held.{Loaded, CanRun};
 ghost use Rattle.core_host.specs.Asking.{Asks, Replies};
-ghost use Rattle.core_host.specs.Changes.{HasWorked, Awaits};
+ghost use Rattle.core_host.specs.Changes.{HasWorked, Awaits, Gains};
+ghost use Rattle.core_host.specs.Descending.{IsRunning, IsHeld, HasFinished};
 ghost use Rattle.core_host.specs.Keeping.{code_in, IsSeated, LacksPacket, AtFork, Quiet};
 ghost use Rattle.core_host.specs.Moving.{MovesPacket, HasGot, HasLooked};
 ghost use Rattle.core_host.specs.Waiting.{HasTold, TellsAll, IsGathering, HasReplies, IsWorking, IsAtRest, WaitsAt, IsBetween};
 ghost use Rattle.core_host.specs.Rounds.{AllIdle, WorkedAt};
 ghost use Rattle.core_host.specs.Serving.{MovesBranches, Touches, OnlyLooks, HasMissed, AllMissed, KeepsServing};
 
+use crate::active::Active;
 use crate::boxed::Boxed;
 use crate::scheduler::Scheduler;
 use crate::seat::Seat;
@@ -24,15 +26,6 @@ use combine_tree::Packet;
 use copy_slots::Port;
 use core_machine::{Event, Thread};
 use forec_base::{Gate, Point};
-
-/// A thread at work on a job, out of its seat.
-#[derive(Drop)]
-pub(crate) struct Active {
-    pub mailbox: u32,
-    pub thread: Boxed<Thread>,
-    /// The packet of its job.
-    pub packet: Boxed<Packet>,
-}
 
 impl<'c, P: Port<ForecWork> + Drop> Scheduler<'c, P> {
     /// Takes what a seat holds, which is then empty.
@@ -144,8 +137,17 @@ impl<'c, P: Port<ForecWork> + Drop> Scheduler<'c, P> {
 
     /// Puts a thread that waits at a fork into its seat, with the packet of its job.
     pub(crate) fn hold(&mut self, active: Active)
+        requires seated { IsSeated self.old }
+        requires held { IsHeld self.old active }
+        ensures touches { Touches active.mailbox self.old self.new }
+        ensures between { IsBetween self.new active.mailbox }
+        ensures mail { self.new.mail ≡ self.old.mail }
     {
-        let Active { mailbox, thread, packet } = active;
+        let Active {
+            mailbox,
+            thread,
+            packet,
+        } = active;
         self.put_thread(
             mailbox + 1,
             Seat {
@@ -157,8 +159,17 @@ impl<'c, P: Port<ForecWork> + Drop> Scheduler<'c, P> {
 
     /// Sends the reply of a thread that has it, and puts the thread into its seat.
     pub(crate) fn finish_job<G: Gate>(&mut self, gate: &G, active: Active)
+        requires seated { IsSeated self.old }
+        requires finished { HasFinished self.old active }
+        ensures touches { Touches active.mailbox self.old self.new }
+        ensures between { IsBetween self.new active.mailbox }
+        ensures replied { Gains (answered self.old.mail active.mailbox) (answered self.new.mail active.mailbox) }
     {
-        let Active { mailbox, thread, mut packet } = active;
+        let Active {
+            mailbox,
+            thread,
+            mut packet,
+        } = active;
         let number = mailbox + 1;
         thread.reply(self.code, &mut packet);
         self.put_thread(
@@ -174,6 +185,16 @@ impl<'c, P: Port<ForecWork> + Drop> Scheduler<'c, P> {
 
     /// Takes the job of a thread that rests, which begins it.
     fn take_job<G: Gate>(&mut self, gate: &G, mailbox: u32) -> Option<Active>
+        requires inside { mailbox < length self.old.mail.ends }
+        requires seated { IsSeated self.old }
+        requires rests { IsAtRest self.old mailbox }
+        ensures touches { Touches mailbox self.old self.new }
+        ensures running { IfSome result (λ r. (r.mailbox ≡ mailbox) × IsRunning self.new r) }
+        ensures answered { answered self.new.mail mailbox ≡ answered self.old.mail mailbox }
+        ensures between { result ≡ None → IsBetween self.new mailbox }
+        ensures nothing { result ≡ None → HasMissed mailbox self.old self.new }
+        ensures looks { result ≡ None → OnlyLooks mailbox self.old self.new }
+        ensures turn { self.old.mail.tells ≡ true → IfSome result (λ r. turn self.old.mail mailbox ≢ 0) }
     {
         let number = mailbox + 1;
         let packet = self.take(mailbox)?;
@@ -184,11 +205,23 @@ impl<'c, P: Port<ForecWork> + Drop> Scheduler<'c, P> {
         };
         let begun: &mut Thread = &mut thread;
         begun.begin(self.code, &packet);
-        Some(Active { mailbox, thread, packet })
+        Some(Active {
+            mailbox,
+            thread,
+            packet,
+        })
     }
 
     /// Takes a thread that waits at a fork out of its seat, where its branches have all replied, and joins them.
     fn take_replies(&mut self, mailbox: u32) -> Option<Active>
+        requires inside { mailbox < length self.old.mail.ends }
+        requires seated { IsSeated self.old }
+        requires waits { WaitsAt self.old mailbox }
+        ensures touches { Touches mailbox self.old self.new }
+        ensures running { IfSome result (λ r. (r.mailbox ≡ mailbox) × IsRunning self.new r) }
+        ensures answered { answered self.new.mail mailbox ≡ answered self.old.mail mailbox }
+        ensures between { result ≡ None → IsBetween self.new mailbox }
+        ensures nothing { result ≡ None → HasMissed mailbox self.old self.new }
     {
         let number = mailbox + 1;
         let Seat { thread, job } = self.take_thread(number);
@@ -198,16 +231,34 @@ impl<'c, P: Port<ForecWork> + Drop> Scheduler<'c, P> {
         let Some(packet) = job else { unreachable!() };
         let waiting: &mut Thread = &mut thread;
         if !self.gather_replies(waiting) {
-            self.hold(Active { mailbox, thread, packet });
+            self.hold(Active {
+                mailbox,
+                thread,
+                packet,
+            });
             return None;
         }
         self.settle(waiting);
         self.join(waiting);
-        Some(Active { mailbox, thread, packet })
+        Some(Active {
+            mailbox,
+            thread,
+            packet,
+        })
     }
 
     /// Takes the job of a thread that rests, or the replies for one that waits at a fork. The thread can then run.
     pub(crate) fn take_up<G: Gate>(&mut self, gate: &G, mailbox: u32) -> Option<Active>
+        requires inside { mailbox < length self.old.mail.ends }
+        requires seated { IsSeated self.old }
+        requires between { IsBetween self.old mailbox }
+        ensures touches { Touches mailbox self.old self.new }
+        ensures running { IfSome result (λ r. (r.mailbox ≡ mailbox) × IsRunning self.new r) }
+        ensures answered { answered self.new.mail mailbox ≡ answered self.old.mail mailbox }
+        ensures between { result ≡ None → IsBetween self.new mailbox }
+        ensures nothing { result ≡ None → HasMissed mailbox self.old self.new }
+        ensures quiet { self.old.mail.tells ≡ true → Quiet self.old mailbox → OnlyLooks mailbox self.old self.new }
+        ensures missed { self.old.mail.tells ≡ true → Quiet self.old mailbox → result ≡ None }
     {
         if self.seats[mailbox as usize + 1].job.is_some() {
             self.take_replies(mailbox)
@@ -219,6 +270,11 @@ impl<'c, P: Port<ForecWork> + Drop> Scheduler<'c, P> {
     /// Runs a thread to its next event. Where that is a fork, its branches are told their jobs, and else
     /// the thread has answered its own.
     fn advance<G: Gate>(&mut self, gate: &G, mut active: Active)
+        requires seated { IsSeated self.old }
+        requires running { IsRunning self.old active }
+        ensures touches { Touches active.entry.mailbox self.old self.new }
+        ensures between { IsBetween self.new active.entry.mailbox }
+        ensures worked { HasWorked (code_in self.old).shape self.old.mail self.new.mail active.entry.mailbox }
     {
         let thread: &mut Thread = &mut active.thread;
         if let Event::Fork = thread.run(self.code) {
@@ -232,6 +288,14 @@ impl<'c, P: Port<ForecWork> + Drop> Scheduler<'c, P> {
     /// Takes one job of this mailbox, or goes on with its thread where that waits at a fork and its branches
     /// have all replied, and runs the thread to its next event. Whether it did.
     pub(crate) fn serve<G: Gate>(&mut self, gate: &G, mailbox: u32) -> bool
+        requires inside { mailbox < length self.old.mail.ends }
+        requires seated { IsSeated self.old }
+        requires between { IsBetween self.old mailbox }
+        ensures touches { Touches mailbox self.old self.new }
+        ensures between { IsBetween self.new mailbox }
+        ensures worked { result ≡ true → HasWorked (code_in self.old).shape self.old.mail self.new.mail mailbox }
+        ensures nothing { result ≡ false → HasMissed mailbox self.old self.new }
+        ensures quiet { self.old.mail.tells ≡ true → Quiet self.old mailbox → OnlyLooks mailbox self.old self.new }
     {
         match self.take_up(gate, mailbox) {
             Some(active) => {

@@ -28,6 +28,7 @@ ghost use Rattle.core_host.specs.Runs.{HasJobs, HasRun};
 ghost use Rattle.core_host.specs.Serving.{AllMissed, MovesBranches, KeepsServing};
 ghost use Rattle.core_host.specs.Waiting.{HasChild, HasTold, TellsAll, IsBetween, IsGathering, HasReplies};
 
+use crate::hints::hint_branches;
 use crate::host::Host;
 use crate::job::write_job;
 use crate::outcome::write_outcome;
@@ -177,6 +178,29 @@ impl<'c, P: Port<ForecWork> + Drop> Scheduler<'c, P> {
         unreachable!()
     }
 
+    /// Sends the branches of the thread's fork their jobs, and hints to their cores.
+    pub(crate) fn send_jobs_and_hint<R: Wait>(
+        &mut self,
+        rt: &R,
+        thread: &Thread,
+        round: &mut Round<'c>,
+    )
+        requires seated { IsSeated self.old }
+        requires fork { AtFork self.old thread.now }
+        requires told { (pairs : List Answered) × HasTold self.old thread.now.number pairs [] }
+        ensures moves { MovesBranches thread.now.number self.old self.new }
+        ensures told { TellsAll self.old self.new thread.now }
+        ensures own { round.new.own ≡ round.old.own }
+        ensures next { round.new.next ≡ round.old.next }
+        ensures rope { KeepsRope round.old.rope round.new.rope }
+    {
+        self.send_jobs(thread);
+        round.up = true;
+        if let Some(rope) = &mut round.rope {
+            hint_branches(rt, self.code, thread, rope);
+        }
+    }
+
     /// Runs thread 0, which has begun a job, until it has its reply.
     fn finish_beside<R: Wait, O: Serve, G: Gate>(
         &mut self,
@@ -203,7 +227,8 @@ impl<'c, P: Port<ForecWork> + Drop> Scheduler<'c, P> {
             let Event::Fork = thread.run(self.code) else {
                 return;
             };
-            self.send_and_serve(rt, gate, thread, round);
+            self.send_jobs_and_hint(rt, thread, round);
+            self.serve_branches(rt, gate, thread, round);
             if !self.gather_replies(thread) {
                 self.await_replies(rt, gate, round, others, thread);
             }
