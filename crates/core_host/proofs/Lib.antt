@@ -21,6 +21,7 @@ pub mod OneMoreExchange
 pub mod Waits
 pub mod SendJobs
 pub mod GatherReplies
+pub mod Holding
 pub mod Advancing
 pub mod Beginning
 pub mod Resuming

@@ -74,9 +74,9 @@ quiet_waits s m q w =
     let at : w.waiting.work.mailbox ≡ m = omega (arith, n, k) in
     both_held (child_at s.mail.ends m) q.idle.child (subst (λ i. ChildIs s.mail i true) at w.waiting.work.child)
 
-pub only_false : (b : Bool) → (b ≡ true → ⊥) → b ≡ false
-only_false true n = absurd (n refl)
-only_false false n = refl
+pub only_none : {A : Type 0} (o : Option A) (turn : ℕ) → IfSome o (λ x. turn ≢ 0) → turn ≡ 0 → o ≡ None
+only_none None turn h e = refl
+only_none (Some x) turn h e = absurd (h e)
 
 quiet_looks : (k : ℕ) (a b : State) → OnlyLooks k a b → (j : ℕ) → Quiet a j → Quiet b j
 quiet_looks k a b l j q =

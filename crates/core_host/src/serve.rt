@@ -6,7 +6,7 @@ ghost use Rattle.thread_code.specs.Plain.{plain_code};
 ghost use Rattle.thread_code.specs.Valid.{of_shape};
 ghost use Rattle.combine_tree.specs.declared.packet.Packet.{Packet as PlainPacketState};
 ghost use Rattle.combine_tree.specs.Plain.{plain_packet};
-ghost use Rattle.copy_slots.specs.Ports.{taken, turn, after_take, after_answer, after_stop, after_check, in_plain, ChildIs};
+ghost use Rattle.copy_slots.specs.Ports.{taken, answered, turn, after_take, after_answer, after_stop, after_check, in_plain, ChildIs};
 ghost use Rattle.core_machine.specs.Held.{Loaded, CanRun};
 ghost use Rattle.core_host.specs.Asking.{Asks, Replies};
 ghost use Rattle.core_host.specs.Changes.{HasWorked, Awaits, Gains};
@@ -272,9 +272,9 @@ impl<'c, P: Port<ForecWork> + Drop> Scheduler<'c, P> {
     fn advance<G: Gate>(&mut self, gate: &G, mut active: Active)
         requires seated { IsSeated self.old }
         requires running { IsRunning self.old active }
-        ensures touches { Touches active.entry.mailbox self.old self.new }
-        ensures between { IsBetween self.new active.entry.mailbox }
-        ensures worked { HasWorked (code_in self.old).shape self.old.mail self.new.mail active.entry.mailbox }
+        ensures touches { Touches active.mailbox self.old self.new }
+        ensures between { IsBetween self.new active.mailbox }
+        ensures worked { HasWorked (code_in self.old).shape self.old.mail self.new.mail active.mailbox }
     {
         let thread: &mut Thread = &mut active.thread;
         if let Event::Fork = thread.run(self.code) {
