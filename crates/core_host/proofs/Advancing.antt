@@ -116,7 +116,7 @@ module _ (s0 : State) (m : ℕ) (inside : m < length s0.mail.ends) (seated : IsS
     pub its_fork : AtFork s0 h
     its_fork = fork_at s0 seated.valid h w.work.loaded settled numbers w.work.jobs w.work.job (in_job_of s0 h w)
 
-    it_forks : IsForked c h
+    pub it_forks : IsForked c h
     it_forks = is_forked c seated.valid h w.work.loaded settled numbers s0.mail w.work.jobs w.work.job (in_job_of s0 h w)
 
     module _ (s1 : State) (moves : MovesBranches h.number s0 s1) (told1 : (pairs : List Answered) → HasTold s0 h.number pairs [] → HasTold s1 h.number pairs (jobs_at c h)) where

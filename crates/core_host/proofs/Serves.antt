@@ -15,11 +15,12 @@ use Rattle.core_host.specs.declared.seat.Seat.{Seat}
 use Rattle.core_host.specs.Posts.{Mail, IsBranchOf}
 use Rattle.core_host.specs.Changes.{Extends, Looked, Grown, IsIdle}
 use Rattle.core_host.specs.Keeping.{State, code_in, Alike, IsSeated, Ready, blank, reply, Quiet}
-use Rattle.core_host.specs.Waiting.{HasChild, IsAtRest, WaitsAt, IsBetween, rests, waits}
+use Rattle.core_host.specs.Waiting.{HasChild, IsAtRest, WaitsAt, IsBetween, IsVacant, rests, waits}
 use Rattle.core_host.specs.Serving.{Touches, OnlyLooks, HasMissed, AllMissed, KeepsServing}
 use Rattle.core_host.proofs.Mails.{by_equal, some_once, alike_then, is_parent, is_child, extends_same}
 use Rattle.core_host.proofs.Keep.{grown_same, grown_then, seated_by, same_child, quiet_keeps}
 use Rattle.core_host.proofs.Waits.{between_keeps, between_still}
+use Rattle.core_host.proofs.Seats.{vacant_by, not_vacant}
 
 -- ---- a thread at rest has no job in its hand, and one that waits has
 
@@ -78,7 +79,7 @@ pub only_none : {A : Type 0} (o : Option A) (turn : ℕ) → IfSome o (λ x. tur
 only_none None turn h e = refl
 only_none (Some x) turn h e = absurd (h e)
 
-quiet_looks : (k : ℕ) (a b : State) → OnlyLooks k a b → (j : ℕ) → Quiet a j → Quiet b j
+pub quiet_looks : (k : ℕ) (a b : State) → OnlyLooks k a b → (j : ℕ) → Quiet a j → Quiet b j
 quiet_looks k a b l j q =
     quiet_keeps j a b
     (record {
@@ -93,14 +94,14 @@ quiet_looks k a b l j q =
 
 -- ---- one mailbox
 
-between_child : (s : State) (k : ℕ) → IsBetween s k → HasChild s.mail k
+pub between_child : (s : State) (k : ℕ) → IsBetween s k → HasChild s.mail k
 between_child s k (rests r) = (false, r.idle.child)
 between_child s k (waits w) =
     let n = w.waiting.work.number in
     let t = w.sits.number in
     let at : w.waiting.work.mailbox ≡ k = omega (arith, n, t) in (true, subst (λ i. ChildIs s.mail i true) at w.waiting.work.child)
 
-child_keeps : (a b : Mail) (j : ℕ) → child_at b.ends j ≡ child_at a.ends j → HasChild a j → HasChild b j
+pub child_keeps : (a b : Mail) (j : ℕ) → child_at b.ends j ≡ child_at a.ends j → HasChild a j → HasChild b j
 child_keeps a b j e h = (h.0, subst (λ (o : Option (Taker PlainPacket)). IsChild o h.0) (sym e) h.1)
 
 pub keeps_one : (k : ℕ) (a b : State) → IsSeated a → k < length a.mail.ends → IsBetween a k → Touches k a b → IsBetween b k → (a.mail.tells ≡ true → Quiet a k → OnlyLooks k a b) → KeepsServing a b
@@ -117,6 +118,7 @@ keeps_one k a b seated inside before t after looks = record {
   here = λ j h. by_equal j k (λ n. child_keeps a.mail b.mail j (t.children j n) h) (λ e. subst (HasChild b.mail) (sym e) (between_child b k after));
   was_here = λ j h. by_equal j k (λ n. child_keeps b.mail a.mail j (sym (t.children j n)) h) (λ e. subst (HasChild a.mail) (sym e) (between_child a k before));
   between = λ j h. by_equal j k (λ n. between_still a b k t j n h) (λ e. subst (IsBetween b) (sym e) after);
+  vacant = λ j v. by_equal j k (λ n. vacant_by a b (suc j) (t.seats (suc j) (λ e. n (omega (arith, e)))) v) (λ e. absurd (not_vacant a k before (subst (λ i. IsVacant a (suc i)) e v)));
   quiet = λ tells quiet j lt. quiet_looks k a b (looks tells (quiet k inside)) j (quiet j lt);
 }
   where
@@ -137,6 +139,7 @@ keeps_same a = record {
   here = λ j h. h;
   was_here = λ j h. h;
   between = λ j h. h;
+  vacant = λ j v. v;
   quiet = λ tells quiet. quiet;
 }
 
@@ -170,6 +173,7 @@ module _ (s : State) (stored : Bool) (stops : List ℕ) (more : Extends s.mail.s
     here = λ j h. h;
     was_here = λ j h. h;
     between = λ j h. between_keeps s watched refl refl watched_alike j refl refl (λ i mine. refl) (λ i mine. refl) h;
+    vacant = λ j v. vacant_by s watched (suc j) refl v;
     quiet = λ tells q j lt. quiet_keeps j s watched (record { code = refl; seat = refl; child = same_child j s.mail watched.mail refl; branches = λ i mine. refl }) (record { parent = refl; hand = refl; blanks = refl }) (q j lt);
   }
 
@@ -187,6 +191,7 @@ keeps_then a b c h g = record {
   here = λ j x. g.here j (h.here j x);
   was_here = λ j x. h.was_here j (g.was_here j x);
   between = λ j x. g.between j (h.between j x);
+  vacant = λ j v. g.vacant j (h.vacant j v);
   quiet = λ tells quiet j lt.
       let count = h.alike.count in
       g.quiet (h.alike.tells ∙ tells) (λ i less. h.quiet tells quiet i (omega (arith, less, count))) j (omega (arith, lt, count));

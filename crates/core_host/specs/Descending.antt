@@ -1,25 +1,14 @@
 -- A thread is served together with the threads that it forks, where they are here.
-use Rattle.std.specs.Prelude.{ℕ, suc, ◌≡◌, ◌<◌, ◌≤◌, ◌⊎◌, None, Some, length, slice_get}
+use Rattle.std.specs.Prelude.{ℕ, suc, ◌≡◌, ◌<◌, ◌≤◌, length}
 use Rattle.forec_kernel.specs.Packed.{HasRoom}
 use Rattle.thread_code.specs.Valid.{of_shape}
 use Rattle.combine_tree.specs.Plain.{plain_packet}
 use Rattle.core_machine.specs.Held.{Loaded, CanRun, HasReply}
 use Rattle.core_host.specs.declared.active.Active.{Active}
 use Rattle.core_host.specs.declared.round.Round.{Round}
-use Rattle.core_host.specs.declared.seat.Seat.{Seat}
 use Rattle.core_host.specs.Hung.{KeepsRope}
 use Rattle.core_host.specs.Keeping.{State, code_in, IsSeated, Leaves}
-use Rattle.core_host.specs.Waiting.{HasChild, IsWorking, IsWaiting, IsBetween}
-
--- the seat of thread t is empty: the thread is another host's, or at work
-pub record IsVacant (s : State) (t : ℕ) : Type 0 where
-  pub seat : Seat
-  pub at : slice_get s.seats t ≡ Some seat
-  pub none : seat.thread ≡ None
-
--- each thread above t is another host's, or at work, or rests, or waits at a fork
-abbrev pub CanDescend : State → ℕ → Type 0
-CanDescend s t = (k : ℕ) → t ≤ k → k < length s.mail.ends → IsVacant s (suc k) ⊎ IsBetween s k
+use Rattle.core_host.specs.Waiting.{HasChild, IsWorking, IsWaiting, IsBetween, IsVacant}
 
 -- What stays where threads above t are served, or where `from` isn't t, those above `from` while thread t + 1 is at work: the threads up to t, their
 -- branches' packets and the parents' ends of their mailboxes, the children's ends of the mailboxes below t; which ends are here; which seats are empty;

@@ -1,10 +1,11 @@
 //! A thread is served with those below it.
-ghost use Rattle.std.specs.Prelude.{◌≡◌, ◌<◌, suc, length, true, false};
+ghost use Rattle.std.specs.Prelude.{◌≡◌, ◌<◌, ℕ, suc, length, true, false};
+ghost use Rattle.core_machine.specs.Held.{CanRun, HasReply};
 ghost use Rattle.core_host.specs.Changes.{HasProgressed};
-ghost use Rattle.core_host.specs.Descending.{CanDescend, Descends, IsRunning, KeepsRound};
+ghost use Rattle.core_host.specs.Descending.{Descends, IsRunning, KeepsRound};
 ghost use Rattle.core_host.specs.Keeping.{code_in, IsSeated, Quiet};
 ghost use Rattle.core_host.specs.Serving.{Touches, OnlyLooks, HasMissed};
-ghost use Rattle.core_host.specs.Waiting.{IsForked, IsBetween};
+ghost use Rattle.core_host.specs.Waiting.{IsForked, IsWorking, IsWaiting, IsBetween, CanDescend};
 
 use crate::active::Active;
 use crate::round::Round;
@@ -33,11 +34,65 @@ impl<'c, P: Port<ForecWork> + Drop> Scheduler<'c, P> {
     {
         let mut k = 0;
         while let Some(branch) = thread.active(self.code, k) {
-            if self.seats[branch as usize].thread.is_some() {
-                let _ = self.serve_down(rt, gate, branch - 1, round);
-            }
+            self.serve_here(rt, gate, branch - 1, round);
             k += 1;
         }
+    }
+
+    /// Serves a mailbox whose thread is here.
+    #[cycle(serve_down)]
+    fn serve_here<R: Wait, G: Gate>(
+        &mut self,
+        rt: &R,
+        gate: &G,
+        mailbox: u32,
+        round: &mut Round<'c>,
+    )
+        requires inside { mailbox < length self.old.mail.ends }
+        requires seated { IsSeated self.old }
+        requires above { CanDescend self.old mailbox }
+        ensures descends { Descends mailbox mailbox self.old self.new }
+        ensures round { KeepsRound round.old round.new }
+    {
+        if self.seats[mailbox as usize + 1].thread.is_some() {
+            let _ = self.serve_down(rt, gate, mailbox, round);
+        }
+    }
+
+    /// Runs a thread until it has its reply, or waits for branches of other cores. Whether it has its reply.
+    #[cycle(serve_down)]
+    fn run_down<R: Wait, G: Gate>(
+        &mut self,
+        rt: &R,
+        gate: &G,
+        thread: &mut Thread,
+        round: &mut Round<'c>,
+    ) -> bool
+        requires seated { IsSeated self.old }
+        requires working { IsWorking self.old thread.old }
+        requires running { CanRun thread.old }
+        requires above { CanDescend self.old thread.old.number }
+        ensures number { thread.new.number ≡ thread.old.number }
+        ensures descends { (m : ℕ) → thread.old.number ≡ suc m → Descends m (suc m) self.old self.new }
+        ensures working { result ≡ true → IsWorking self.new thread.new }
+        ensures reply { result ≡ true → HasReply thread.new }
+        ensures waiting { result ≡ false → IsWaiting self.new thread.new }
+        ensures sent { result ≡ false → (m : ℕ) → thread.old.number ≡ suc m → HasProgressed (code_in self.old).shape self.old.mail self.new.mail m }
+        ensures round { KeepsRound round.old round.new }
+    {
+        for _ in rt.forever() {
+            let Event::Fork = thread.run(self.code) else {
+                return true;
+            };
+            self.send_jobs_and_hint(rt, thread, round);
+            self.serve_branches(rt, gate, thread, round);
+            if !self.gather_replies(thread) {
+                return false;
+            }
+            self.settle(thread);
+            self.join(thread);
+        }
+        unreachable!()
     }
 
     /// Runs a thread until it has answered its job, or waits for branches of other cores.
@@ -52,23 +107,17 @@ impl<'c, P: Port<ForecWork> + Drop> Scheduler<'c, P> {
         requires seated { IsSeated self.old }
         requires running { IsRunning self.old active }
         requires above { CanDescend self.old (suc active.mailbox) }
-        ensures descends { Descends active.entry.mailbox (suc active.entry.mailbox) self.old self.new }
-        ensures between { IsBetween self.new active.entry.mailbox }
-        ensures worked { HasProgressed (code_in self.old).shape self.old.mail self.new.mail active.entry.mailbox }
+        ensures descends { Descends active.mailbox (suc active.mailbox) self.old self.new }
+        ensures between { IsBetween self.new active.mailbox }
+        ensures worked { HasProgressed (code_in self.old).shape self.old.mail self.new.mail active.mailbox }
         ensures round { KeepsRound round.old round.new }
     {
         let thread: &mut Thread = &mut active.thread;
-        while let Event::Fork = thread.run(self.code) {
-            self.send_jobs_and_hint(rt, thread, round);
-            self.serve_branches(rt, gate, thread, round);
-            if !self.gather_replies(thread) {
-                self.hold(active);
-                return;
-            }
-            self.settle(thread);
-            self.join(thread);
+        if self.run_down(rt, gate, thread, round) {
+            self.finish_job(gate, active);
+        } else {
+            self.hold(active);
         }
-        self.finish_job(gate, active);
     }
 
     /// Takes one job of this mailbox, or goes on with its thread where that waits at a fork and its branches have all replied. The
