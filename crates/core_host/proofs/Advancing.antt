@@ -40,7 +40,6 @@ use Rattle.core_host.proofs.Logs.{Ends, job_ends}
 use Rattle.core_host.proofs.AfterFork.{fork_at, is_forked}
 use Rattle.core_host.proofs.OneMoreExchange.{changed, changed_is, told_posts}
 use Rattle.core_host.proofs.Waits.{work_keeps, has_keeps}
-use Rattle.core_host.proofs.Holding.{moves_touches}
 
 -- ---- the jobs of a fork were sent
 
@@ -149,9 +148,6 @@ module _ (s0 : State) (m : ℕ) (inside : m < length s0.mail.ends) (seated : IsS
             waiting = it_waits;
           })
 
-      pub fork_touches : Touches m s0 s1
-      fork_touches = moves_touches h.number m s0 s1 number moves
-
       pub fork_worked : HasWorked c.shape s0.mail s1.mail m
       fork_worked =
           let v = first ws (let n = ap length it_forks.numbers in let k = length_map ws in let s = it_forks.some in omega (arith, n, k, s)) in
@@ -192,9 +188,6 @@ module _ (s0 : State) (m : ℕ) (inside : m < length s0.mail.ends) (seated : IsS
 
     pub its_replies : Replies (plain_code s0.mail.work.code.value) m (taken s0.mail m) q
     its_replies = subst (λ x. Replies (plain_code x) m (taken s0.mail m) q) (sym seated.work) (record { room = room; answers = its_answers })
-
-    pub its_child : ChildIs s0.mail m true
-    its_child = child_m
 
     abbrev seat0 : Seat
     seat0 = record { thread = Some h; job = None }
@@ -307,9 +300,6 @@ module _ (s0 : State) (seated : IsSeated s0) (x : Active) (r : IsRunning s0 x) (
       pub run_held : IsHeld s1 (record { mailbox = x.mailbox; thread = h1; packet = x.packet })
       run_held = fork_held s0 x.mailbox r.active.inside seated h1 run_number run_working settled its_numbers s1 moves told1 x.packet r.active.room
 
-      pub run_touches : Touches x.mailbox s0 s1
-      run_touches = moves_touches h1.number x.mailbox s0 s1 run_number moves
-
       pub run_worked : HasWorked (code_in s0).shape s0.mail s1.mail x.mailbox
       run_worked = fork_worked s0 x.mailbox r.active.inside seated h1 run_number run_working settled its_numbers s1 moves told1
 
@@ -330,9 +320,6 @@ module _ (s0 : State) (seated : IsSeated s0) (x : Active) (f : HasFinished s0 x)
 
   sits_now : s1 ≡ record s0 { seats = slice_set s0.seats (suc x.mailbox) (record { thread = Some x.thread; job = None }) }
   sits_now = let one : x.mailbox + 1 ≡ suc x.mailbox = omega arith in sitting ∙ ap (λ n. record s0 { seats = slice_set s0.seats n (record { thread = Some x.thread; job = None }) }) one
-
-  pub finish_holds : ChildIs s1.mail x.mailbox true
-  finish_holds = subst (λ (s : State). ChildIs s.mail x.mailbox true) (sym sits_now) (its_child s0 x.mailbox f.active.inside seated x.thread f.active.number f.working f.reply p its_room its_kind it_gives)
 
   pub finish_replies : Replies (plain_code s1.mail.work.code.value) x.mailbox (taken s1.mail x.mailbox) (plain_packet p)
   finish_replies =

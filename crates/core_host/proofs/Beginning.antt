@@ -28,7 +28,7 @@ use Rattle.core_host.proofs.Mails.{by_equal, alike_then, children_count, child_h
 use Rattle.core_host.proofs.Keep.{idle_keeps, grown_then, seated_by}
 use Rattle.core_host.proofs.RunChildren.{jobs_more}
 use Rattle.core_host.proofs.Loading.{length_then}
-use Rattle.core_host.proofs.RunChild.{job_can_begin, job_room, job_small, job_is, at_work, work_begins, taken_now, answered_same, holds_now, leaves_begin, seated_work, in_job}
+use Rattle.core_host.proofs.RunChild.{job_can_begin, job_room, job_small, job_is, at_work, work_begins, taken_now, answered_same, holds_now, leaves_begin, in_job}
 use Rattle.core_host.proofs.SchedulerCalls.{took}
 use Rattle.core_host.proofs.OneMoreExchange.{posts_told}
 use Rattle.core_host.proofs.Waits.{has_keeps}
@@ -174,9 +174,6 @@ module _ (s0 : State) (m : ℕ) (inside : m < length s0.mail.ends) (seated : IsS
           hands = λ j n. refl;
           hand_count = refl;
         }
-
-    pub begun_seated : IsSeated begun
-    begun_seated = seated_work s0 m seated inside r.idle p asks empty
 
     pub begun_answered : answered begun.mail m ≡ answered s0.mail m
     begun_answered = answered_same s0 m seated inside r.idle p asks empty

@@ -1,34 +1,16 @@
 -- A thread that waits at a fork is put into its seat.
-use Rattle.std.proofs.Common.{◌≡◌, ℕ, suc, ◌+◌, ◌<◌, Some, length, refl, sym, ap, ◌∙◌, subst, arith}
+use Rattle.std.proofs.Common.{◌≡◌, suc, ◌+◌, ◌<◌, Some, length, refl, sym, ap, ◌∙◌, subst, arith}
 use Rattle.std.specs.Prelude.{slice_get, slice_set}
 use Rattle.std.proofs.lemmas.List.{length-set}
 use Rattle.core_host.specs.declared.active.Active.{Active}
 use Rattle.core_host.specs.declared.seat.Seat.{Seat}
-use Rattle.core_host.specs.Posts.{IsBranchOf}
 use Rattle.core_host.specs.Descending.{IsHeld}
-use Rattle.core_host.specs.Keeping.{State, code_in, IsSeated}
+use Rattle.core_host.specs.Keeping.{State, IsSeated}
 use Rattle.core_host.specs.Waiting.{IsBetween, waits}
-use Rattle.core_host.specs.Serving.{MovesBranches, Touches}
+use Rattle.core_host.specs.Serving.{Touches}
 use Rattle.core_host.proofs.Mails.{get_set, get_set_else, extends_same}
 use Rattle.core_host.proofs.Keep.{grown_same}
 use Rattle.core_host.proofs.Waits.{waiting_keeps}
-
--- what the calls at a thread's fork leave alone
-pub moves_touches : (t m : ℕ) (a b : State) → t ≡ suc m → MovesBranches t a b → Touches m a b
-moves_touches t m a b number moves =
-    let there = λ (j : ℕ) (n : IsBranchOf (code_in a).shape (suc m) j → ⊥) (is : IsBranchOf (code_in a).shape t j). n (subst (λ x. IsBranchOf (code_in a).shape x j) number is) in
-    record {
-      code = moves.code;
-      places = moves.places;
-      alike = moves.alike;
-      grown = moves.grown;
-      seats = λ j n. ap (λ l. slice_get l j) moves.seats;
-      seat_count = ap length moves.seats;
-      children = λ j n. moves.children j;
-      parents = λ j n. moves.parents j (there j n);
-      hands = λ j n. moves.hands j (there j n);
-      hand_count = moves.hand_count;
-    }
 
 module _ (s : State) (seated : IsSeated s) (x : Active) (held : IsHeld s x) (s1 : State) (sitting : s1 ≡ record s { seats = slice_set s.seats (x.mailbox + 1) (record { thread = Some x.thread; job = Some x.packet }) }) where
   abbrev seat : Seat

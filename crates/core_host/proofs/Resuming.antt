@@ -1,8 +1,7 @@
 -- A thread that waits looks for the replies of its branches, and goes on with them.
-use Rattle.std.proofs.Common.{◌≡◌, ◌≢◌, ℕ, zero, suc, ◌+◌, ◌<◌, ◌≤◌, Bool, true, false, Option, Some, None, List, [], ◌∷◌, ◌++◌, length, refl, sym, ap, ◌∙◌, subst, arith}
+use Rattle.std.proofs.Common.{◌≡◌, ◌≢◌, ℕ, zero, suc, ◌+◌, ◌<◌, ◌≤◌, Some, None, List, [], ◌∷◌, ◌++◌, length, refl, sym, ap, ◌∙◌, subst, arith}
 use Rattle.std.specs.Prelude.{slice_get, slice_set, drop}
 use Rattle.std.proofs.lemmas.List.{length-set, length-map}
-use Rattle.forec_kernel.specs.Packets.{PlainPacket}
 use Rattle.forec_kernel.specs.Packed.{HasRoom}
 use Rattle.forec_kernel.specs.Engine.{Job, Reply, Written, Exchange, Answered, pair_up}
 use Rattle.thread_code.specs.Plain.{plain_code}
@@ -12,17 +11,16 @@ use Rattle.combine_tree.specs.Plain.{plain_packet}
 use Rattle.core_machine.specs.declared.thread.Thread.{Thread}
 use Rattle.core_machine.specs.Held.{Loaded, StandsFor, CanRun}
 use Rattle.core_machine.specs.Forks.{jobs_at, with_replies}
-use Rattle.copy_slots.specs.declared.view.Taker.{Taker}
-use Rattle.copy_slots.specs.Ports.{parent_at, child_at, answered_by, IsChild, ChildIs, answered}
+use Rattle.copy_slots.specs.Ports.{parent_at, child_at}
 use Rattle.core_host.specs.declared.seat.Seat.{Seat}
 use Rattle.core_host.specs.Posts.{Mail, IsBranchOf}
-use Rattle.core_host.specs.Changes.{Grown, Awaits, IsIdle}
+use Rattle.core_host.specs.Changes.{Grown}
 use Rattle.core_host.specs.Descending.{IsActive, IsRunning, IsHeld}
 use Rattle.core_host.specs.Writing.{Log, heard, told}
 use Rattle.core_host.specs.Keeping.{State, code_in, Alike, IsSeated, HaveHeard}
 use Rattle.core_host.specs.Waiting.{HasTold, IsGathering, HasReplies, IsAtWork, IsWorking, IsWaiting, WaitsAt}
 use Rattle.core_host.specs.OnJob.{IsOnJob}
-use Rattle.core_host.specs.Serving.{MovesBranches, Touches, HasMissed}
+use Rattle.core_host.specs.Serving.{MovesBranches, Touches}
 use Rattle.core_host.proofs.Mails.{get_set_else, some_once}
 use Rattle.core_host.proofs.AfterFork.{with_none, in_job_now}
 use Rattle.core_host.proofs.OneMoreExchange.{changed, changed_is, told_posts, posts_told}
@@ -86,21 +84,12 @@ module _ (s0 : State) (m : ℕ) (inside : m < length s0.mail.ends) (seated : IsS
   code_is : s1.code ≡ s0.code
   code_is = ap (λ (s : State). s.code) rising
 
-  child_0 : ChildIs s0.mail m true
-  child_0 =
-      let n = w.waiting.work.number in
-      let k = w.sits.number in
-      let at : w.waiting.work.mailbox ≡ m = omega (arith, n, k) in subst (λ i. ChildIs s0.mail i true) at w.waiting.work.child
-
   module _ (s2 : State) (moves : MovesBranches h.number s1 s2) where
     code2 : s2.code ≡ s0.code
     code2 = moves.code ∙ code_is
 
     child2 : (j : ℕ) → child_at s2.mail.ends j ≡ child_at s0.mail.ends j
     child2 j = moves.children j ∙ ap (λ (s : State). child_at s.mail.ends j) rising
-
-    pub same_answered : answered s2.mail m ≡ answered s0.mail m
-    same_answered = ap answered_by (child2 m)
 
     not_mine : (j : ℕ) → (IsBranchOf (code_in s0).shape (suc m) j → ⊥) → IsBranchOf (code_in s1).shape h.number j → ⊥
     not_mine j n mine = n (subst (λ t. IsBranchOf (code_in s0).shape t j) its_number (subst (λ c. IsBranchOf (plain_code c).shape h.number j) code_is mine))
@@ -136,22 +125,6 @@ module _ (s0 : State) (m : ℕ) (inside : m < length s0.mail.ends) (seated : IsS
     -- a branch has not replied
     pub up_held : IsWaiting s2 h → IsHeld s2 (record { mailbox = m; thread = h; packet = p })
     up_held waiting = record { active = up_active h refl waiting.work.loaded; waiting = waiting }
-
-    pub up_missed : ((k : ℕ) → h.number ≡ suc k → Awaits (code_in s1).shape s1.mail s2.mail k) → (s3 : State) → s3.mail ≡ s2.mail → HasMissed m s0 s3
-    up_missed awaits s3 same = record {
-      idle = subst (λ (mail : Mail). IsIdle (code_in s0).shape s0.mail mail m) (sym same) (record {
-        rests = λ rest. absurd (both (child_at s2.mail.ends m) (subst (λ (o : Option (Taker PlainPacket)). IsChild o true) (sym (child2 m)) child_0) rest);
-        forked = λ _. subst (λ (s : State). Awaits (code_in s).shape s.mail s2.mail m) rising (awaits m its_number);
-      });
-      answered = ap (λ (mail : Mail). answered mail m) same ∙ same_answered;
-    }
-      where
-        never : (b : Bool) → b ≡ true → b ≡ false → ⊥
-        never b e f = let g = sym e ∙ f in cc
-
-        both : (o : Option (Taker PlainPacket)) → IsChild o true → IsChild o false → ⊥
-        both None e f = e
-        both (Some z) e f = never z.holds e f
 
     -- all have
     pub up_running : (h1 : Thread) → h1.number ≡ h.number → Loaded (code_in s2) h1 → IsWorking s2 h1 → CanRun h1 → IsRunning s2 (record { mailbox = m; thread = h1; packet = p })

@@ -7,17 +7,15 @@ use Rattle.forec_kernel.specs.Packets.{PlainPacket}
 use Rattle.forec_kernel.specs.Shapes.{PlainShape}
 use Rattle.thread_code.specs.Plain.{plain_code}
 use Rattle.combine_tree.specs.declared.packet.Packet.{Packet}
-use Rattle.copy_slots.specs.declared.view.PacketAt.TheVariants.{Fresh, Held}
-use Rattle.copy_slots.specs.declared.view.Sender.{Sender}
 use Rattle.copy_slots.specs.declared.view.Taker.{Taker}
-use Rattle.copy_slots.specs.Ports.{parent_at, child_at, sent_by, answered_by, words_of_parent, words_of_child, turn_of, IsChild, ChildIs, taken, answered, turn, looked_by_child, looked_by_parent}
+use Rattle.copy_slots.specs.Ports.{child_at, answered_by, words_of_parent, words_of_child, IsChild, ChildIs, taken, answered, looked_by_child, looked_by_parent}
 use Rattle.core_host.specs.declared.seat.Seat.{Seat}
 use Rattle.core_host.specs.Posts.{Mail, IsBranchOf}
 use Rattle.core_host.specs.Changes.{Extends, Looked, Grown, IsIdle}
-use Rattle.core_host.specs.Keeping.{State, code_in, Alike, IsSeated, Ready, blank, reply, Quiet}
+use Rattle.core_host.specs.Keeping.{State, code_in, Alike, IsSeated, Quiet}
 use Rattle.core_host.specs.Waiting.{HasChild, IsAtRest, WaitsAt, IsBetween, IsVacant, rests, waits}
 use Rattle.core_host.specs.Serving.{Touches, OnlyLooks, HasMissed, AllMissed, KeepsServing}
-use Rattle.core_host.proofs.Mails.{by_equal, some_once, alike_then, is_parent, is_child, extends_same}
+use Rattle.core_host.proofs.Mails.{by_equal, some_once, alike_then, extends_same}
 use Rattle.core_host.proofs.Keep.{grown_same, grown_then, seated_by, same_child, quiet_keeps}
 use Rattle.core_host.proofs.Waits.{between_keeps, between_still}
 use Rattle.core_host.proofs.Seats.{vacant_by, not_vacant}
@@ -56,28 +54,12 @@ both_held (Some z) e f = never z.holds e f
     never : (b : Bool) → b ≡ false → b ≡ true → ⊥
     never b e f = let g = sym e ∙ f in cc
 
-pub quiet_turn : (s : State) (m : ℕ) → Quiet s m → turn s.mail m ≡ 0
-quiet_turn s m q =
-    let x = a_parent q.packet.hand q.packet.ready in
-    let y = is_child (child_at s.mail.ends m) false q.idle.child in
-    let sent : length x.0.sent ≡ length (taken s.mail m) = ap length (sym (ap sent_by x.1)) ∙ ap length (sym q.all) in
-    let done : length y.0.answered ≡ length (taken s.mail m) = ap length (sym (ap answered_by y.1)) ∙ q.idle.even in
-    ap (λ o. turn_of o (child_at s.mail.ends m)) x.1 ∙ ap (turn_of (Some x.0)) y.1 ∙ omega (arith, sent, done)
-  where
-    a_parent : (h : Option Packet) → Ready s m h → (x : Sender PlainPacket) × (parent_at s.mail.ends m ≡ Some x)
-    a_parent h (blank fresh p at room) = let x = is_parent (parent_at s.mail.ends m) Fresh fresh in (x.0, x.1)
-    a_parent h (reply held p room) = let x = is_parent (parent_at s.mail.ends m) Held held in (x.0, x.1)
-
 pub quiet_waits : (s : State) (m : ℕ) → Quiet s m → WaitsAt s m → ⊥
 quiet_waits s m q w =
     let n = w.waiting.work.number in
     let k = w.sits.number in
     let at : w.waiting.work.mailbox ≡ m = omega (arith, n, k) in
     both_held (child_at s.mail.ends m) q.idle.child (subst (λ i. ChildIs s.mail i true) at w.waiting.work.child)
-
-pub only_none : {A : Type 0} (o : Option A) (turn : ℕ) → IfSome o (λ x. turn ≢ 0) → turn ≡ 0 → o ≡ None
-only_none None turn h e = refl
-only_none (Some x) turn h e = absurd (h e)
 
 pub quiet_looks : (k : ℕ) (a b : State) → OnlyLooks k a b → (j : ℕ) → Quiet a j → Quiet b j
 quiet_looks k a b l j q =

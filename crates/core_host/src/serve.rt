@@ -1,19 +1,16 @@
 //! Mailboxes are served.
 ghost use Rattle.std.specs.Prelude.{◌≡◌, ◌≢◌, ◌≤◌, ◌<◌, [], ℕ, suc, List, Some, None, IfSome, length, slice_get, slice_set, true, false};
 ghost use Rattle.forec_kernel.specs.Engine.{Answered};
-ghost use Rattle.forec_kernel.specs.Packed.{HasRoom};
 ghost use Rattle.thread_code.specs.Plain.{plain_code};
-ghost use Rattle.thread_code.specs.Valid.{of_shape};
 ghost use Rattle.combine_tree.specs.declared.packet.Packet.{Packet as PlainPacketState};
 ghost use Rattle.combine_tree.specs.Plain.{plain_packet};
 ghost use Rattle.copy_slots.specs.Ports.{taken, answered, turn, after_take, after_answer, after_stop, after_check, in_plain, ChildIs};
-ghost use Rattle.core_machine.specs.Held.{Loaded, CanRun};
 ghost use Rattle.core_host.specs.Asking.{Asks, Replies};
 ghost use Rattle.core_host.specs.Changes.{HasWorked, Awaits, Gains};
 ghost use Rattle.core_host.specs.Descending.{IsRunning, IsHeld, HasFinished};
 ghost use Rattle.core_host.specs.Keeping.{code_in, IsSeated, LacksPacket, AtFork, Quiet};
 ghost use Rattle.core_host.specs.Moving.{MovesPacket, HasGot, HasLooked};
-ghost use Rattle.core_host.specs.Waiting.{HasTold, TellsAll, IsGathering, HasReplies, IsWorking, IsAtRest, WaitsAt, IsBetween};
+ghost use Rattle.core_host.specs.Waiting.{HasTold, TellsAll, IsGathering, HasReplies, IsAtRest, WaitsAt, IsBetween};
 ghost use Rattle.core_host.specs.Rounds.{AllIdle, WorkedAt};
 ghost use Rattle.core_host.specs.Serving.{MovesBranches, Touches, OnlyLooks, HasMissed, AllMissed, KeepsServing};
 

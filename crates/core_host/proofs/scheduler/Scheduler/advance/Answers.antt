@@ -1,11 +1,10 @@
 use Rattle.std.proofs.Common.{sym, ap, subst}
 use Rattle.core_machine.specs.Held.{Left_by}
 use Rattle.core_host.specs.Posts.{Mail}
-use Rattle.core_host.specs.Changes.{HasWorked, replied}
+use Rattle.core_host.specs.Changes.{HasWorked}
 use Rattle.core_host.specs.Keeping.{State, code_in}
 use Rattle.core_host.proofs.Finishing.{replied_by}
-use Rattle.core_host.proofs.Beginning.{touches_then}
-use Rattle.core_host.proofs.Advancing.{run_finished, run_fork, run_held, run_touches, run_worked}
+use Rattle.core_host.proofs.Advancing.{run_finished, run_fork, run_held, run_worked}
 use Rattle.core_host.proofs.scheduler.Scheduler.advance.Goals as goal
 
 pub send_jobs-requires-clause-fork : goal.send_jobs-requires-clause-fork
@@ -13,11 +12,6 @@ send_jobs-requires-clause-fork g c = run_fork c.args.self.now c.requires.seated 
 
 pub hold-requires-clause-held : goal.hold-requires-clause-held
 hold-requires-clause-held g c = run_held c.args.self.now c.requires.seated c.args.active c.requires.running c.deref_mut-thread.result.now c.deref_mut-thread.ensures.value c.self.inside.code.now (ap (λ (s : State). s.code) c.self.view_is) c.run.new.self c.run.ensures.loaded c.run.ensures.number c.run.ensures.stands (subst (Left_by c.run.new.self) c.in-Fork.is c.run.ensures.left) (c.run.ensures.branches c.in-Fork.is) c.send_jobs.new.self c.send_jobs.ensures.moves c.send_jobs.ensures.told
-
-pub returns-in-Fork-clause-touches : goal.returns-in-Fork-clause-touches
-returns-in-Fork-clause-touches g c =
-    touches_then c.args.active.mailbox c.args.self.now c.send_jobs.new.self c.hold.new.self
-    (run_touches c.args.self.now c.requires.seated c.args.active c.requires.running c.deref_mut-thread.result.now c.deref_mut-thread.ensures.value c.self.inside.code.now (ap (λ (s : State). s.code) c.self.view_is) c.run.new.self c.run.ensures.loaded c.run.ensures.number c.run.ensures.stands (subst (Left_by c.run.new.self) c.in-Fork.is c.run.ensures.left) (c.run.ensures.branches c.in-Fork.is) c.send_jobs.new.self c.send_jobs.ensures.moves c.send_jobs.ensures.told) c.hold.ensures.touches
 
 pub returns-in-Fork-clause-worked : goal.returns-in-Fork-clause-worked
 returns-in-Fork-clause-worked g c =

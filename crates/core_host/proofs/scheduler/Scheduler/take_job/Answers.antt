@@ -30,13 +30,6 @@ returns-in_err-packet-clause-nothing g c _ = subst (HasMissed c.args.mailbox c.a
 pub returns-in_err-packet-clause-looks : goal.returns-in_err-packet-clause-looks
 returns-in_err-packet-clause-looks g c _ = subst (OnlyLooks c.args.mailbox c.args.self.now) (sym c.in_err-packet.ensures.state) (only_looks c.args.self.now c.args.mailbox c.requires.inside c.requires.seated c.requires.rests)
 
-pub begin-requires-clause-loaded : goal.begin-requires-clause-loaded
-begin-requires-clause-loaded g c =
-    let same = same_thread c.args.self.now c.args.mailbox c.requires.inside c.requires.seated c.requires.rests c.in_ok-packet.packet c.take.new.self c.in_ok-packet.ensures.state c.in_ok-packet.ensures.job c.take_thread-thread.result c.take_thread-thread.ensures.seat c.take_thread-thread.new.self c.take_thread-thread.ensures.rest c.deref_mut-begun.result.now (c.in-Some.is ∙ ap Some (sym c.deref_mut-begun.ensures.value)) in
-    let take_thread : c.take_thread-thread.new.self.code ≡ c.args.self.now.code = same_code c.args.self.now c.args.mailbox c.requires.inside c.requires.seated c.requires.rests c.in_ok-packet.packet c.take.new.self c.in_ok-packet.ensures.state c.in_ok-packet.ensures.job c.take_thread-thread.result c.take_thread-thread.ensures.seat c.take_thread-thread.new.self c.take_thread-thread.ensures.rest in
-    let code : c.self-2.inside.code.now ≡ c.args.self.now.code = ap (λ (s : State). s.code) c.self-2.view_is ∙ take_thread in
-    subst (λ (x : CodeParts). Loaded (plain_code x) c.deref_mut-begun.result.now) (sym code) (subst (Loaded (code_in c.args.self.now)) same c.requires.rests.idle.sits.loaded)
-
 pub begin-requires-clause-resting : goal.begin-requires-clause-resting
 begin-requires-clause-resting g c =
     let same = same_thread c.args.self.now c.args.mailbox c.requires.inside c.requires.seated c.requires.rests c.in_ok-packet.packet c.take.new.self c.in_ok-packet.ensures.state c.in_ok-packet.ensures.job c.take_thread-thread.result c.take_thread-thread.ensures.seat c.take_thread-thread.new.self c.take_thread-thread.ensures.rest c.deref_mut-begun.result.now (c.in-Some.is ∙ ap Some (sym c.deref_mut-begun.ensures.value)) in

@@ -1,9 +1,9 @@
-use Rattle.std.proofs.Common.{◌≡◌, Some, refl, ap, sym, subst, ◌∙◌}
+use Rattle.std.proofs.Common.{Some, refl, ap, sym, subst, ◌∙◌}
 use Rattle.core_host.specs.Writing.{told}
 use Rattle.core_host.specs.Keeping.{code_in, HaveHeard}
 use Rattle.core_host.proofs.Beginning.{touches_then, touches_seated}
 use Rattle.core_host.proofs.GatherReplies.{all_heard}
-use Rattle.core_host.proofs.Resuming.{waits_on, waits_all, up_waits, up_touches, up_held, up_missed, up_running, goes_on}
+use Rattle.core_host.proofs.Resuming.{waits_on, waits_all, up_waits, up_touches, up_held, up_running, goes_on}
 use Rattle.core_host.proofs.scheduler.Scheduler.take_replies.Goals as goal
 
 pub gather_replies-requires-clause-gathering : goal.gather_replies-requires-clause-gathering
@@ -22,10 +22,6 @@ pub returns-then-not-gather_replies-clause-touches : goal.returns-then-not-gathe
 returns-then-not-gather_replies-clause-touches g c =
     touches_then c.args.mailbox c.args.self.now c.gather_replies.new.self c.hold.new.self
     (up_touches c.args.self.now c.args.mailbox c.requires.inside c.requires.seated c.requires.waits c.take_thread-thread.result c.take_thread-thread.ensures.seat c.take_thread-thread.new.self c.take_thread-thread.ensures.rest c.deref_mut-waiting.result.now (c.in-Some.is ∙ ap Some (sym c.deref_mut-waiting.ensures.value)) c.in-Some-job.packet c.in-Some-job.is c.gather_replies.new.self c.gather_replies.ensures.moves) c.hold.ensures.touches
-
-pub returns-then-not-gather_replies-clause-nothing : goal.returns-then-not-gather_replies-clause-nothing
-returns-then-not-gather_replies-clause-nothing g c _ =
-    up_missed c.args.self.now c.args.mailbox c.requires.inside c.requires.seated c.requires.waits c.take_thread-thread.result c.take_thread-thread.ensures.seat c.take_thread-thread.new.self c.take_thread-thread.ensures.rest c.deref_mut-waiting.result.now (c.in-Some.is ∙ ap Some (sym c.deref_mut-waiting.ensures.value)) c.in-Some-job.packet c.in-Some-job.is c.gather_replies.new.self c.gather_replies.ensures.moves (c.gather_replies.ensures.missing c.if-not-gather_replies.true) c.hold.new.self c.hold.ensures.mail
 
 pub settle-requires-clause-heard : goal.settle-requires-clause-heard
 settle-requires-clause-heard g c =

@@ -1,12 +1,8 @@
 use Rattle.std.proofs.Common.{◌+◌, sym, ap, ◌∙◌}
 use Rattle.std.specs.Prelude.{slice_index_or}
-use Rattle.copy_slots.specs.Ports.{turn}
 use Rattle.core_host.specs.Keeping.{State}
-use Rattle.core_host.proofs.Serves.{it_waits, it_rests, quiet_turn, quiet_waits, only_none}
+use Rattle.core_host.proofs.Serves.{it_waits, it_rests, quiet_waits}
 use Rattle.core_host.proofs.scheduler.Scheduler.take_up.Goals as goal
-
-pub take_replies-requires-clause-waits : goal.take_replies-requires-clause-waits
-take_replies-requires-clause-waits g c = it_waits c.args.self.now c.args.mailbox c.index.result.now (c.index.ensures ∙ ap (λ (s : State). slice_index_or s.seats (c.args.mailbox + 1) c.index.result.now) c.self.view_is) c.requires.between (sym c.is_some.ensures ∙ c.if-is_some.true)
 
 pub take_job-requires-clause-rests : goal.take_job-requires-clause-rests
 take_job-requires-clause-rests g c = it_rests c.args.self.now c.args.mailbox c.index.result.now (c.index.ensures ∙ ap (λ (s : State). slice_index_or s.seats (c.args.mailbox + 1) c.index.result.now) c.self.view_is) c.requires.between (sym c.is_some.ensures ∙ c.if-is_some.false)
@@ -16,9 +12,3 @@ returns-then-is_some-clause-quiet g c tells quiet = absurd (quiet_waits c.args.s
 
 pub returns-then-is_some-clause-missed : goal.returns-then-is_some-clause-missed
 returns-then-is_some-clause-missed g c tells quiet = absurd (quiet_waits c.args.self.now c.args.mailbox quiet (it_waits c.args.self.now c.args.mailbox c.index.result.now (c.index.ensures ∙ ap (λ (s : State). slice_index_or s.seats (c.args.mailbox + 1) c.index.result.now) c.self.view_is) c.requires.between (sym c.is_some.ensures ∙ c.if-is_some.true)))
-
-pub returns-else-is_some-clause-quiet : goal.returns-else-is_some-clause-quiet
-returns-else-is_some-clause-quiet g c tells quiet = c.take_job.ensures.looks (only_none c.take_job.result (turn c.args.self.now.mail c.args.mailbox) (c.take_job.ensures.turn tells) (quiet_turn c.args.self.now c.args.mailbox quiet))
-
-pub returns-else-is_some-clause-missed : goal.returns-else-is_some-clause-missed
-returns-else-is_some-clause-missed g c tells quiet = only_none c.take_job.result (turn c.args.self.now.mail c.args.mailbox) (c.take_job.ensures.turn tells) (quiet_turn c.args.self.now c.args.mailbox quiet)
