@@ -5,6 +5,7 @@ use Rattle.std.proofs.lemmas.List.{length-set, length-append}
 use Rattle.forec_kernel.specs.Packets.{PlainPacket, IsPaused}
 use Rattle.forec_kernel.specs.Packed.{HasRoom, AreJobs, PacketAnswers}
 use Rattle.forec_kernel.specs.Engine.{Job, Reply, Written, Exchange, Answered, Answers, jobs_to, pair_up}
+use Rattle.thread_code.specs.declared.instruction.CodeParts.{CodeParts}
 use Rattle.thread_code.specs.Plain.{PlainCode, plain_code}
 use Rattle.thread_code.specs.Valid.{of_shape}
 use Rattle.thread_code.specs.Alone.{CodeAlone}
@@ -18,15 +19,17 @@ use Rattle.core_machine.specs.Forks.{jobs_at}
 use Rattle.core_machine.specs.Replies.{Replies_by}
 use Rattle.copy_slots.specs.declared.view.Taker.{Taker}
 use Rattle.copy_slots.specs.Mail.{taker_answered}
-use Rattle.copy_slots.specs.Ports.{child_at, on_child, on_taker, sent_by, got_by, taken_by, answered_by, words_of_parent, words_of_child, IsChild, ChildIs, sent, taken, answered, looked_by_child}
+use Rattle.copy_slots.specs.Ports.{child_at, on_child, on_taker, sent_by, got_by, taken_by, answered_by, words_of_parent, words_of_child, IsChild, ChildIs, sent, taken, answered, looked_by_child, after_answer}
+use Rattle.core_host.specs.declared.active.Active.{Active}
 use Rattle.core_host.specs.declared.seat.Seat.{Seat}
 use Rattle.core_host.specs.Asking.{Replies}
 use Rattle.core_host.specs.Posts.{IsBranchOf}
-use Rattle.core_host.specs.Changes.{Extends, HasWorked, replied, forked}
+use Rattle.core_host.specs.Changes.{Extends, Gains, HasWorked, forked}
+use Rattle.core_host.specs.Descending.{IsRunning, HasFinished, IsHeld}
 use Rattle.core_host.specs.Writing.{Log, heard, told}
 use Rattle.core_host.specs.Done.{InJob}
 use Rattle.core_host.specs.Keeping.{State, code_in, IsSeated, LastReply, last, AtFork}
-use Rattle.core_host.specs.Waiting.{jobs_out, HasTold, IsForked, IsGathering, IsWorking, IsWaiting, IsAtRest, IsBetween, rests, waits}
+use Rattle.core_host.specs.Waiting.{jobs_out, HasTold, IsForked, IsGathering, IsWorking, IsWaiting, IsAtRest, IsBetween, rests}
 use Rattle.core_host.specs.Serving.{MovesBranches, Touches}
 use Rattle.core_host.proofs.Mails.{by_equal, get_set, get_set_else, children_count, child_here, child_else, parent_on_child, is_child, extends_same, extends_one}
 use Rattle.core_host.proofs.Keep.{done_keeps}
@@ -36,7 +39,7 @@ use Rattle.core_host.proofs.Loading.{length_then}
 use Rattle.core_host.proofs.Logs.{Ends, job_ends}
 use Rattle.core_host.proofs.AfterFork.{fork_at, is_forked}
 use Rattle.core_host.proofs.OneMoreExchange.{changed, changed_is, told_posts}
-use Rattle.core_host.proofs.Waits.{told_keeps, work_keeps, has_keeps}
+use Rattle.core_host.proofs.Waits.{work_keeps, has_keeps}
 
 -- ---- the jobs of a fork were sent
 
@@ -112,16 +115,10 @@ module _ (s0 : State) (m : ℕ) (inside : m < length s0.mail.ends) (seated : IsS
     pub its_fork : AtFork s0 h
     its_fork = fork_at s0 seated.valid h w.work.loaded settled numbers w.work.jobs w.work.job (in_job_of s0 h w)
 
-    it_forks : IsForked c h
+    pub it_forks : IsForked c h
     it_forks = is_forked c seated.valid h w.work.loaded settled numbers s0.mail w.work.jobs w.work.job (in_job_of s0 h w)
 
-    module _ (s1 : State) (moves : MovesBranches h.number s0 s1) (told1 : (pairs : List Answered) → HasTold s0 h.number pairs [] → HasTold s1 h.number pairs (jobs_at c h)) (p : Packet) (room : HasRoom (of_shape c.shape) (suc m) (plain_packet p)) where
-      abbrev seat : Seat
-      seat = record { thread = Some h; job = Some p }
-
-      abbrev pub s2 : State
-      s2 = record s1 { seats = slice_set s1.seats (suc m) seat }
-
+    module _ (s1 : State) (moves : MovesBranches h.number s0 s1) (told1 : (pairs : List Answered) → HasTold s0 h.number pairs [] → HasTold s1 h.number pairs (jobs_at c h)) where
       abbrev ws : List Written
       ws = jobs_at c h
 
@@ -131,53 +128,25 @@ module _ (s0 : State) (m : ℕ) (inside : m < length s0.mail.ends) (seated : IsS
       abbrev s1' : State
       s1' = changed s0 s1.mail s1.seats s1.hands
 
-      abbrev s2' : State
-      s2' = changed s0 s1.mail (slice_set s1.seats (suc m) seat) s1.hands
-
       path1 : s1' ≡ s1
       path1 = changed_is s0 s1 moves.code moves.places
-
-      path2 : s2' ≡ s2
-      path2 = ap (λ (x : State). record x { seats = slice_set x.seats (suc m) seat }) path1
 
       told_now : HasTold s1' h.number pairs ws
       told_now = subst (λ x. HasTold x h.number pairs ws) (sym path1) (told1 pairs w.told)
 
-      it_waits : IsWaiting s2' h
+      it_waits : IsWaiting s1' h
       it_waits = record {
-        work = work_keeps s0 s1.mail (slice_set s1.seats (suc m) seat) s1.hands moves.alike.blanks moves.alike.count h w.work (moves.children w.work.mailbox);
-        gathering = forked_gathering s2' h pairs it_forks (told_keeps s1' s1.mail (slice_set s1.seats (suc m) seat) s1.hands refl refl h.number (λ j is. refl) (λ j is. refl) pairs ws told_now);
+        work = work_keeps s0 s1.mail s1.seats s1.hands moves.alike.blanks moves.alike.count h w.work (moves.children w.work.mailbox);
+        gathering = forked_gathering s1' h pairs it_forks told_now;
       }
 
-      pub fork_between : IsBetween s2 m
-      fork_between =
-          let count = ap length moves.seats in
-          let k = in_seats in
-          subst (λ x. IsBetween x m) path2 (waits (record {
-            thread = h;
-            sits = record { seat = seat; at = get_set s1.seats (suc m) seat (omega (arith, count, k)); is = refl; loaded = w.work.loaded; number = number };
-            packet = p;
-            holds = refl;
-            room = room;
+      pub fork_held : (p : Packet) → HasRoom (of_shape c.shape) (suc m) (plain_packet p) → IsHeld s1 (record { mailbox = m; thread = h; packet = p })
+      fork_held p room =
+          let count = moves.alike.count in
+          subst (λ x. IsHeld x (record { mailbox = m; thread = h; packet = p })) path1 (record {
+            active = record { inside = omega (arith, inside, count); number = number; loaded = w.work.loaded; room = room };
             waiting = it_waits;
-          }))
-
-      not_mine : (j : ℕ) → (IsBranchOf c.shape (suc m) j → ⊥) → IsBranchOf c.shape h.number j → ⊥
-      not_mine j n is = n (subst (λ t. IsBranchOf c.shape t j) number is)
-
-      pub fork_touches : Touches m s0 s2
-      fork_touches = record {
-        code = moves.code;
-        places = moves.places;
-        alike = moves.alike;
-        grown = moves.grown;
-        seats = λ j n. get_set_else s1.seats (suc m) j seat n ∙ ap (λ l. slice_get l j) moves.seats;
-        seat_count = length-set s1.seats (suc m) seat ∙ ap length moves.seats;
-        children = λ j n. moves.children j;
-        parents = λ j n. moves.parents j (not_mine j n);
-        hands = λ j n. moves.hands j (not_mine j n);
-        hand_count = moves.hand_count;
-      }
+          })
 
       pub fork_worked : HasWorked c.shape s0.mail s1.mail m
       fork_worked =
@@ -219,9 +188,6 @@ module _ (s0 : State) (m : ℕ) (inside : m < length s0.mail.ends) (seated : IsS
 
     pub its_replies : Replies (plain_code s0.mail.work.code.value) m (taken s0.mail m) q
     its_replies = subst (λ x. Replies (plain_code x) m (taken s0.mail m) q) (sym seated.work) (record { room = room; answers = its_answers })
-
-    pub its_child : ChildIs s0.mail m true
-    its_child = child_m
 
     abbrev seat0 : Seat
     seat0 = record { thread = Some h; job = None }
@@ -276,8 +242,8 @@ module _ (s0 : State) (m : ℕ) (inside : m < length s0.mail.ends) (seated : IsS
     pub end_between : IsBetween at_end m
     end_between = rests it_rests
 
-    pub end_worked : HasWorked c.shape s0.mail at_end.mail m
-    end_worked = replied (record { one = q; is = answered_now })
+    pub end_gains : Gains (answered s0.mail m) (answered at_end.mail m)
+    end_gains = record { one = q; is = answered_now }
 
     pub end_touches : Touches m s0 at_end
     end_touches = record {
@@ -300,3 +266,75 @@ module _ (s0 : State) (m : ℕ) (inside : m < length s0.mail.ends) (seated : IsS
       hands = λ j n. refl;
       hand_count = refl;
     }
+
+-- ---- in the words of the calls
+
+module _ (s0 : State) (seated : IsSeated s0) (x : Active) (r : IsRunning s0 x) (h0 : Thread) (same : h0 ≡ x.thread) (c1 : CodeParts) (code : c1 ≡ s0.code) (h1 : Thread) (loaded : Loaded (plain_code c1) h1) (number : h1.number ≡ h0.number)
+    (stands : (xs : List Exchange) → StandsFor (plain_code c1) h0 xs → StandsFor (plain_code c1) h1 xs) where
+  run_number : h1.number ≡ suc x.mailbox
+  run_number = number ∙ ap (λ (t : Thread). t.number) same ∙ r.active.number
+
+  run_loaded : Loaded (code_in s0) h1
+  run_loaded = subst (λ (z : CodeParts). Loaded (plain_code z) h1) code loaded
+
+  run_working : IsWorking s0 h1
+  run_working =
+      has_run s0 x.thread h1 r.working run_loaded (number ∙ ap (λ (t : Thread). t.number) same)
+      (λ xs st. subst (λ (z : CodeParts). StandsFor (plain_code z) h1 xs) code (stands xs (subst (λ (z : CodeParts). StandsFor (plain_code z) h0 xs) (sym code) (subst (λ t. StandsFor (code_in s0) t xs) (sym same) st))))
+
+  pub run_finished : HasReply h1 → HasFinished s0 (record { mailbox = x.mailbox; thread = h1; packet = x.packet })
+  run_finished reply = record {
+    active = record { inside = r.active.inside; number = run_number; loaded = run_loaded; room = r.active.room };
+    working = run_working;
+    reply = reply;
+  }
+
+  module _ (settled : HasSettled h1 0) (numbers : h1.branches.numbers ≡ map (λ w. w.branch) (jobs_at (plain_code c1) h1)) where
+    its_numbers : h1.branches.numbers ≡ map (λ w. w.branch) (jobs_at (code_in s0) h1)
+    its_numbers = subst (λ (z : CodeParts). h1.branches.numbers ≡ map (λ w. w.branch) (jobs_at (plain_code z) h1)) code numbers
+
+    pub run_fork : AtFork s0 h1
+    run_fork = its_fork s0 x.mailbox r.active.inside seated h1 run_number run_working settled its_numbers
+
+    module _ (s1 : State) (moves : MovesBranches h1.number s0 s1) (told1 : (pairs : List Answered) → HasTold s0 h1.number pairs [] → HasTold s1 h1.number pairs (jobs_at (code_in s0) h1)) where
+      pub run_held : IsHeld s1 (record { mailbox = x.mailbox; thread = h1; packet = x.packet })
+      run_held = fork_held s0 x.mailbox r.active.inside seated h1 run_number run_working settled its_numbers s1 moves told1 x.packet r.active.room
+
+      pub run_worked : HasWorked (code_in s0).shape s0.mail s1.mail x.mailbox
+      run_worked = fork_worked s0 x.mailbox r.active.inside seated h1 run_number run_working settled its_numbers s1 moves told1
+
+module _ (s0 : State) (seated : IsSeated s0) (x : Active) (f : HasFinished s0 x) (h0 : Thread) (same : h0 ≡ x.thread) (c1 : CodeParts) (code : c1 ≡ s0.code) (p : Packet) (room : HasRoom (of_shape (plain_code c1).shape) h0.number (plain_packet p)) (kind_is : Replies_by h0 p.kind)
+    (gives : (xs : List Exchange) → StandsFor (plain_code c1) h0 xs → Gives (plain_code c1) h0.number xs (plain_packet p)) (s1 : State) (sitting : s1 ≡ record s0 { seats = slice_set s0.seats (x.mailbox + 1) (record { thread = Some x.thread; job = None }) }) where
+  its_room : HasRoom (of_shape (code_in s0).shape) (suc x.mailbox) (plain_packet p)
+  its_room =
+      subst (λ t. HasRoom (of_shape (code_in s0).shape) t (plain_packet p)) (ap (λ (t : Thread). t.number) same ∙ f.active.number)
+      (subst (λ (z : CodeParts). HasRoom (of_shape (plain_code z).shape) h0.number (plain_packet p)) code room)
+
+  its_kind : Replies_by x.thread p.kind
+  its_kind = subst (λ t. Replies_by t p.kind) same kind_is
+
+  it_gives : (xs : List Exchange) → StandsFor (code_in s0) x.thread xs → Gives (code_in s0) x.thread.number xs (plain_packet p)
+  it_gives xs st =
+      subst (λ (t : Thread). Gives (code_in s0) t.number xs (plain_packet p)) same
+      (subst (λ (z : CodeParts). Gives (plain_code z) h0.number xs (plain_packet p)) code (gives xs (subst (λ (z : CodeParts). StandsFor (plain_code z) h0 xs) (sym code) (subst (λ t. StandsFor (code_in s0) t xs) (sym same) st))))
+
+  sits_now : s1 ≡ record s0 { seats = slice_set s0.seats (suc x.mailbox) (record { thread = Some x.thread; job = None }) }
+  sits_now = let one : x.mailbox + 1 ≡ suc x.mailbox = omega arith in sitting ∙ ap (λ n. record s0 { seats = slice_set s0.seats n (record { thread = Some x.thread; job = None }) }) one
+
+  pub finish_replies : Replies (plain_code s1.mail.work.code.value) x.mailbox (taken s1.mail x.mailbox) (plain_packet p)
+  finish_replies =
+      subst (λ (s : State). Replies (plain_code s.mail.work.code.value) x.mailbox (taken s.mail x.mailbox) (plain_packet p)) (sym sits_now)
+      (its_replies s0 x.mailbox f.active.inside seated x.thread f.active.number f.working f.reply p its_room its_kind it_gives)
+
+  module _ (s2 : State) (answering : s2 ≡ record s1 { mail = after_answer x.mailbox (plain_packet p) s1.mail }) where
+    ends_now : s2 ≡ at_end s0 x.mailbox f.active.inside seated x.thread f.active.number f.working f.reply p its_room its_kind it_gives
+    ends_now = answering ∙ ap (λ (s : State). record s { mail = after_answer x.mailbox (plain_packet p) s.mail }) sits_now
+
+    pub finish_touches : Touches x.mailbox s0 s2
+    finish_touches = subst (Touches x.mailbox s0) (sym ends_now) (end_touches s0 x.mailbox f.active.inside seated x.thread f.active.number f.working f.reply p its_room its_kind it_gives)
+
+    pub finish_between : IsBetween s2 x.mailbox
+    finish_between = subst (λ (s : State). IsBetween s x.mailbox) (sym ends_now) (end_between s0 x.mailbox f.active.inside seated x.thread f.active.number f.working f.reply p its_room its_kind it_gives)
+
+    pub finish_gains : Gains (answered s0.mail x.mailbox) (answered s2.mail x.mailbox)
+    finish_gains = subst (λ (s : State). Gains (answered s0.mail x.mailbox) (answered s.mail x.mailbox)) (sym ends_now) (end_gains s0 x.mailbox f.active.inside seated x.thread f.active.number f.working f.reply p its_room its_kind it_gives)

@@ -11,7 +11,7 @@ use Rattle.thread_code.specs.Valid.{of_shape}
 use Rattle.combine_tree.specs.declared.packet.Packet.{Packet}
 use Rattle.combine_tree.specs.Plain.{plain_packet}
 use Rattle.core_machine.specs.declared.thread.Thread.{Thread}
-use Rattle.core_machine.specs.Held.{Loaded, StandsFor, CanBegin}
+use Rattle.core_machine.specs.Held.{Loaded, StandsFor, CanBegin, CanRun}
 use Rattle.copy_slots.specs.declared.view.Taker.{Taker}
 use Rattle.copy_slots.specs.Mail.{taker_looked}
 use Rattle.copy_slots.specs.Ports.{child_at, on_taker, sent_by, got_by, taken_by, answered_by, words_of_parent, words_of_child, IsChild, ChildIs, sent, taken, answered, looked_by_child, after_take}
@@ -19,6 +19,7 @@ use Rattle.core_host.specs.declared.seat.Seat.{Seat}
 use Rattle.core_host.specs.Asking.{Asks}
 use Rattle.core_host.specs.Posts.{Mail, IsBranchOf}
 use Rattle.core_host.specs.Changes.{Extends, Grown, HasWorked, replied, forked}
+use Rattle.core_host.specs.Descending.{IsRunning}
 use Rattle.core_host.specs.Writing.{told}
 use Rattle.core_host.specs.Keeping.{State, code_in, Alike, IsSeated}
 use Rattle.core_host.specs.Waiting.{IsWorking, IsAtRest, IsBetween, rests}
@@ -27,7 +28,7 @@ use Rattle.core_host.proofs.Mails.{by_equal, alike_then, children_count, child_h
 use Rattle.core_host.proofs.Keep.{idle_keeps, grown_then, seated_by}
 use Rattle.core_host.proofs.RunChildren.{jobs_more}
 use Rattle.core_host.proofs.Loading.{length_then}
-use Rattle.core_host.proofs.RunChild.{job_can_begin, job_room, job_small, job_is, at_work, work_begins, taken_now, answered_same, holds_now, leaves_begin, seated_work, in_job}
+use Rattle.core_host.proofs.RunChild.{job_can_begin, job_room, job_small, job_is, at_work, work_begins, taken_now, answered_same, holds_now, leaves_begin, in_job}
 use Rattle.core_host.proofs.SchedulerCalls.{took}
 use Rattle.core_host.proofs.OneMoreExchange.{posts_told}
 use Rattle.core_host.proofs.Waits.{has_keeps}
@@ -77,8 +78,8 @@ module _ (s0 : State) (m : ℕ) (inside : m < length s0.mail.ends) (seated : IsS
   taken_missed : taken missed.mail m ≡ taken s0.mail m
   taken_missed = ap taken_by child_missed ∙ sym (ap taken_by taker.1)
 
-  answered_missed : answered missed.mail m ≡ answered s0.mail m
-  answered_missed = ap answered_by child_missed ∙ sym (ap answered_by taker.1)
+  pub missed_answered : answered missed.mail m ≡ answered s0.mail m
+  missed_answered = ap answered_by child_missed ∙ sym (ap answered_by taker.1)
 
   looked_missed : looked_by_child missed.mail m ≡ looked_by_child s0.mail m ++ 0 ∷ []
   looked_missed = ap words_of_child child_missed ∙ ap (λ l. l ++ 0 ∷ []) (sym (ap words_of_child taker.1))
@@ -98,7 +99,7 @@ module _ (s0 : State) (m : ℕ) (inside : m < length s0.mail.ends) (seated : IsS
     parents = λ j. parent_on_child s0.mail.ends m j taker_looked;
     children = λ j n. child_else s0.mail.ends m j taker_looked n;
     taken = taken_missed;
-    answered = answered_missed;
+    answered = missed_answered;
     child = λ _. rests_missed;
   }
 
@@ -111,7 +112,7 @@ module _ (s0 : State) (m : ℕ) (inside : m < length s0.mail.ends) (seated : IsS
       sent = λ k. extends_same _ _ (ap sent_by (parent_on_child s0.mail.ends m k taker_looked));
       got = λ k. extends_same _ _ (ap got_by (parent_on_child s0.mail.ends m k taker_looked));
       taken = λ k. by_equal k m (λ n. extends_same _ _ (ap taken_by (child_else s0.mail.ends m k taker_looked n))) (λ e. subst (λ i. Extends (taken s0.mail i) (taken missed.mail i)) (sym e) (extends_same _ _ taken_missed));
-      answered = λ k. by_equal k m (λ n. extends_same _ _ (ap answered_by (child_else s0.mail.ends m k taker_looked n))) (λ e. subst (λ i. Extends (answered s0.mail i) (answered missed.mail i)) (sym e) (extends_same _ _ answered_missed));
+      answered = λ k. by_equal k m (λ n. extends_same _ _ (ap answered_by (child_else s0.mail.ends m k taker_looked n))) (λ e. subst (λ i. Extends (answered s0.mail i) (answered missed.mail i)) (sym e) (extends_same _ _ missed_answered));
       looked_by_parent = λ k. extends_same _ _ (ap words_of_parent (parent_on_child s0.mail.ends m k taker_looked));
       looked_by_child = λ k. by_equal k m (λ n. extends_same _ _ (ap words_of_child (child_else s0.mail.ends m k taker_looked n))) (λ e. subst (λ i. Extends (looked_by_child s0.mail i) (looked_by_child missed.mail i)) (sym e) (extends_one _ _ 0 looked_missed));
       stops = missed_alike.stops;
@@ -126,7 +127,7 @@ module _ (s0 : State) (m : ℕ) (inside : m < length s0.mail.ends) (seated : IsS
 
   pub missed_between : IsBetween missed m
   missed_between = rests (record {
-    idle = idle_keeps m s0 missed (record { code = refl; seat = refl; child = record { taken = taken_missed; answered = answered_missed; rests = λ _. rests_missed }; branches = λ j is. parent_on_child s0.mail.ends m j taker_looked }) r.idle;
+    idle = idle_keeps m s0 missed (record { code = refl; seat = refl; child = record { taken = taken_missed; answered = missed_answered; rests = λ _. rests_missed }; branches = λ j is. parent_on_child s0.mail.ends m j taker_looked }) r.idle;
     has = λ j lt is.
         let count = children_count s0.mail.ends m taker_looked in
         has_keeps s0 missed.mail s0.seats s0.hands refl count j (parent_on_child s0.mail.ends m j taker_looked) refl (r.has j (omega (arith, lt, count)) is);
@@ -138,7 +139,7 @@ module _ (s0 : State) (m : ℕ) (inside : m < length s0.mail.ends) (seated : IsS
       rests = λ _. record { words = []; is = looked_missed ∙ ap (λ l. l ++ 0 ∷ []) (sym (append-nil (looked_by_child s0.mail m))) };
       forked = λ holds. absurd (both (child_at missed.mail.ends m) rests_missed holds);
     };
-    answered = answered_missed;
+    answered = missed_answered;
   }
     where
       never : (b : Bool) → b ≡ false → b ≡ true → ⊥
@@ -173,9 +174,6 @@ module _ (s0 : State) (m : ℕ) (inside : m < length s0.mail.ends) (seated : IsS
           hands = λ j n. refl;
           hand_count = refl;
         }
-
-    pub begun_seated : IsSeated begun
-    begun_seated = seated_work s0 m seated inside r.idle p asks empty
 
     pub begun_answered : answered begun.mail m ≡ answered s0.mail m
     begun_answered = answered_same s0 m seated inside r.idle p asks empty
@@ -213,6 +211,15 @@ module _ (s0 : State) (m : ℕ) (inside : m < length s0.mail.ends) (seated : IsS
             told = posts_told begun h1.number (told c h1.number r.idle.jobs asks.job i.0.log) i.0.posts
                 (λ j lt is. let count = w.alike.count in
                 has_keeps s0 begun.mail begun.seats s0.hands refl count j (w.parents j) refl (r.has j (omega (arith, lt, count)) (subst (λ t. IsBranchOf c.shape t j) at is)));
+          }
+
+      pub begun_running : CanRun h1 → IsRunning begun (record { mailbox = m; thread = h1; packet = p })
+      begun_running running =
+          let count = begun_touches.alike.count in
+          record {
+            active = record { inside = omega (arith, inside, count); number = number ∙ r.idle.sits.number; loaded = loaded1; room = its_room };
+            working = begun_working;
+            running = running;
           }
 
 -- ---- in the words of the calls

@@ -22,7 +22,7 @@ use Rattle.core_host.specs.Done.{HasDone, InJob}
 use Rattle.core_host.specs.Ending.{HasReplied}
 use Rattle.core_host.specs.Rests.{RootRests}
 use Rattle.core_host.specs.Keeping.{State, code_in, IsSeated, Sits, HasPacket, HaveHeard, AtFork}
-use Rattle.core_host.specs.Waiting.{HasTold, IsForked, IsGathering, HasReplies, HasChild, IsBetween}
+use Rattle.core_host.specs.Waiting.{HasTold, IsForked, IsGathering, HasReplies, HasChild, IsBetween, IsVacant, CanDescend}
 use Rattle.core_host.specs.Serving.{MovesBranches, KeepsServing}
 use Rattle.core_host.specs.OnJob.{IsOnJob, KeepsOthers}
 use Rattle.core_host.specs.Rounds.{CanServe, IsSameRound}
@@ -32,6 +32,7 @@ use Rattle.core_host.proofs.Keep.{grown_same, grown_then, packet_keeps, seated_b
 use Rattle.core_host.proofs.AfterFork.{fork_at, is_forked}
 use Rattle.core_host.proofs.OneMoreExchange.{changed_is, told_posts, posts_told}
 use Rattle.core_host.proofs.Waits.{gathering_keeps, between_keeps, between_moves}
+use Rattle.core_host.proofs.Seats.{vacant_by, can_keep}
 use Rattle.core_host.proofs.GatherReplies.{all_heard}
 use Rattle.core_host.proofs.Advancing.{forked_gathering}
 use Rattle.core_host.proofs.Resuming.{job_goes_on}
@@ -51,6 +52,7 @@ others_same a = record {
   here = λ j h. h;
   was_here = λ j h. h;
   between = λ j h. h;
+  vacant = λ j v. v;
 }
 
 pub others_then : (a b c : State) → KeepsOthers a b → KeepsOthers b c → KeepsOthers a c
@@ -65,6 +67,7 @@ others_then a b c h g = record {
   here = λ j x. g.here j (h.here j x);
   was_here = λ j x. h.was_here j (g.was_here j x);
   between = λ j x. g.between j (h.between j x);
+  vacant = λ j v. g.vacant j (h.vacant j v);
 }
 
 pub serving_others : (a b : State) → KeepsServing a b → KeepsOthers a b
@@ -79,6 +82,7 @@ serving_others a b k = record {
   here = k.here;
   was_here = k.was_here;
   between = k.between;
+  vacant = k.vacant;
 }
 
 child_same : (a b : Mail) (j : ℕ) → child_at b.ends j ≡ child_at a.ends j → HasChild a j → HasChild b j
@@ -96,6 +100,7 @@ branches_others a b t root m = record {
   here = λ j h. child_same a.mail b.mail j (m.children j) h;
   was_here = λ j h. child_same b.mail a.mail j (sym (m.children j)) h;
   between = λ j h. between_moves a b t m j (λ e. omega (arith, e, root)) h;
+  vacant = λ j v. vacant_by a b (suc j) (ap (λ l. slice_get l (suc j)) m.seats) v;
 }
 
 pub others_seated : (a b : State) → KeepsOthers a b → IsSeated a → IsSeated b
@@ -108,6 +113,7 @@ round_others s0 s1 a b keeps same can = record {
       let e = can.each i k (ap (λ l. slice_get l i) (sym same.own) ∙ at) in
       let lt = e.0 in
       let count = keeps.alike.count in (omega (arith, lt, count), keeps.between k e.1);
+  all = can_keep s0 s1 0 keeps.alike.count (λ j le w. keeps.between j w) (λ j le v. keeps.vacant j v) can.all;
 }
 
 pub serving_gathering : (a b : State) (h : Thread) → h.number ≡ 0 → KeepsServing a b → (pairs : List Answered) → IsGathering a h pairs → IsGathering b h pairs
@@ -187,6 +193,9 @@ module _ (s : State) (y : Seat) where
       between_keeps s reseated refl refl (record { work = refl; blanks = refl; tells = refl; root = refl; count = refl; stops = extends_same _ _ refl }) k (get_set_else s.seats 0 (suc k) y (λ e. omega (arith, e))) refl (λ i mine. refl)
       (λ i mine. refl) b
 
+  pub seat_vacant : (k : ℕ) → IsVacant s (suc k) → IsVacant reseated (suc k)
+  seat_vacant k v = vacant_by s reseated (suc k) (get_set_else s.seats 0 (suc k) y (λ e. omega (arith, e))) v
+
   pub seat_packet : (k : ℕ) → HasPacket s k → HasPacket reseated k
   seat_packet k p = packet_keeps k s reseated refl (record { parent = refl; hand = refl; blanks = refl }) p
 
@@ -223,6 +232,9 @@ module _ (s0 : State) (seated : IsSeated s0) (root : RootRests s0) (packets : (k
 
   pub up_each : (own : List ℕ) → ((i k : ℕ) → slice_get own i ≡ Some k → (k < length s0.mail.ends) × IsBetween s0 k) → (i k : ℕ) → slice_get own i ≡ Some k → (k < length up.mail.ends) × IsBetween up k
   up_each own each = subst (λ s. (i k : ℕ) → slice_get own i ≡ Some k → (k < length s.mail.ends) × IsBetween s k) (sym up_is) (λ i k at. let e = each i k at in (e.0, seat_between s0 y k e.1))
+
+  pub up_all : CanDescend s0 0 → CanDescend up 0
+  up_all can = subst (λ s. CanDescend s 0) (sym up_is) (can_keep s0 (record s0 { seats = slice_set s0.seats 0 y }) 0 refl (λ k le b. seat_between s0 y k b) (λ k le v. seat_vacant s0 y k v) can)
 
   up_packets : (k : ℕ) → k < length up.mail.ends → IsBranchOf (code_in up).shape 0 k → HasPacket up k
   up_packets = subst (λ s. (k : ℕ) → k < length s.mail.ends → IsBranchOf (code_in s).shape 0 k → HasPacket s k) (sym up_is) (λ k lt mine. seat_packet s0 y k (packets k lt mine))
@@ -273,6 +285,9 @@ module _ (s0 : State) (seated : IsSeated s0) (root : RootRests s0) (packets : (k
 
     pub down_between : (k : ℕ) → IsBetween s0 k → IsBetween down k
     down_between k b = subst (λ s. IsBetween s k) (sym down_is) (seat_between s3 z k (keeps.between k (subst (λ s. IsBetween s k) (sym up_is) (seat_between s0 y k b))))
+
+    pub down_vacant : (k : ℕ) → IsVacant s0 (suc k) → IsVacant down (suc k)
+    down_vacant k v = subst (λ s. IsVacant s (suc k)) (sym down_is) (seat_vacant s3 z k (keeps.vacant k (subst (λ s. IsVacant s (suc k)) (sym up_is) (seat_vacant s0 y k v))))
 
     pub down_packets : (job : Job) → IsJob (plain_packet p) job → (k : ℕ) → k < length down.mail.ends → IsBranchOf (code_in s0).shape 0 k → HasPacket down k
     down_packets job isjob k lt mine =

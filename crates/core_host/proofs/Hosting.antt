@@ -33,6 +33,7 @@ use Rattle.core_host.specs.Rests.{RootRests, IsHosted}
 use Rattle.core_host.specs.Runs.{HasJobs, HasRun}
 use Rattle.core_host.proofs.Keep.{done_keeps, packet_keeps}
 use Rattle.core_host.proofs.Serves.{keeps_seated, both_held}
+use Rattle.core_host.proofs.Seats.{can_keep}
 
 -- ---- lists
 
@@ -101,6 +102,7 @@ round_still s0 s1 a b keeps same can = record {
       let e = can.each i k (ap (λ l. slice_get l i) (sym same.own) ∙ at) in
       let lt = e.0 in
       let count = keeps.alike.count in (omega (arith, lt, count), keeps.between k e.1);
+  all = can_keep s0 s1 0 keeps.alike.count (λ j le w. keeps.between j w) (λ j le v. keeps.vacant j v) can.all;
 }
 
 -- ---- what a host keeps
@@ -188,6 +190,7 @@ module _ (s0 s1 : State) (cores : List ℕ) (root : Packet) (live : Bool) (rope0
           ready = λ e t sits. inv.ready e t (sits_back t sits);
           here = λ k lt on. keeps.here k (inv.here k (within k lt) (back (suc k) on));
           between = λ k lt there. keeps.between k (inv.between k (within k lt) (keeps.was_here k there));
+          all = can_keep s0 s1 0 keeps.alike.count (λ j le w. keeps.between j w) (λ j le v. keeps.vacant j v) inv.all;
           keeper = λ on. keeps.alike.root ∙ inv.keeper (back 0 on);
           packets = λ on k lt mine. packet_still k mine (inv.packets (back 0 on) k (within k lt) (subst (λ x. IsBranchOf (plain_code x).shape 0 k) keeps.code mine));
           hung = hung_keeps s0.code s1.code s0.places s1.places cores rope0 rope1 keeps.code keeps.places same inv.hung;

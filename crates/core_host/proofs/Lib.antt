@@ -19,14 +19,17 @@ pub mod SchedulerCalls
 pub mod Rooted
 pub mod OneMoreExchange
 pub mod Waits
+pub mod Seats
 pub mod SendJobs
 pub mod GatherReplies
+pub mod Holding
 pub mod Advancing
 pub mod Beginning
 pub mod Resuming
 pub mod Serves
 pub mod Sweeping
 pub mod Beside
+pub mod Descending
 pub mod Hosting
 pub mod TickOutcome
 pub mod TickRun

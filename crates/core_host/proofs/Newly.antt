@@ -1,6 +1,6 @@
 -- A host that was just made.
-use Rattle.std.proofs.Common.{◌≡◌, ℕ, zero, suc, ◌-◌, ◌<◌, ◌≤◌, Bool, true, false, Option, Some, None, List, [], ◌∷◌, length, get_or, refl, sym, ap, ◌∙◌, subst, ⊎_elim, arith}
-use Rattle.std.specs.Prelude.{slice_get}
+use Rattle.std.proofs.Common.{◌≡◌, ℕ, zero, suc, ◌-◌, ◌<◌, ◌≤◌, Bool, true, false, Option, Some, None, List, [], ◌∷◌, length, get_or, refl, sym, ap, ◌∙◌, subst, inl, inr, ⊎_elim, arith}
+use Rattle.std.specs.Prelude.{slice_get, ◌⊎◌}
 use Rattle.std.proofs.lemmas.Bool.{cases_lt}
 use Rattle.std.proofs.lemmas.Option.{slice_get-get_or}
 use Rattle.forec_kernel.specs.Packets.{PlainPacket}
@@ -23,7 +23,7 @@ use Rattle.core_host.specs.Posts.{Mail, IsBranchOf, AreReplies}
 use Rattle.core_host.specs.Loads.{is_on, IsNewParent, IsNewChild, ArePlaced, CanLoad, AreAll, IsNewSeat, contains_core}
 use Rattle.core_host.specs.Done.{HasDone}
 use Rattle.core_host.specs.Keeping.{State, Sits, Idle, none, blank, HasPacket, Quiet}
-use Rattle.core_host.specs.Waiting.{HasChild, IsBetween, rests}
+use Rattle.core_host.specs.Waiting.{HasChild, IsBetween, IsVacant, rests}
 use Rattle.core_host.specs.Hosted.{Hosted, hosted, is_here, IsWhole}
 use Rattle.core_host.specs.Rests.{IsReady, IsHosted}
 use Rattle.core_host.specs.Runs.{HasJobs}
@@ -163,6 +163,10 @@ module _ (code : CodeParts) (valid : IsValidCode (plain_code code)) (placement :
       let here = child_there (on (suc k)) (child_at mail.ends k) there.0 (can.children placed k lt) there.1 in
       rests (record { idle = new_idle k lt here; has = λ j less mine. new_packet (suc k) j less mine here })
 
+  new_descends : (k : ℕ) → k < length mail.ends → (b : Bool) → on (suc k) ≡ b → IsVacant st (suc k) ⊎ IsBetween st k
+  new_descends k lt true here = inr (new_between k lt (false, (child_new (on (suc k)) (child_at mail.ends k) (can.children placed k lt) here).0))
+  new_descends k lt false else = let s = seat_at (suc k) (in_threads k lt) in inl (record { seat = s.0; at = s.1; none = s.2.else else })
+
   pub new_hosted : IsHosted new_host
   new_hosted = record {
     valid = valid;
@@ -176,6 +180,7 @@ module _ (code : CodeParts) (valid : IsValidCode (plain_code code)) (placement :
     ready = λ e t sits. subst (IsReady t) (sym is_blank) tt;
     here = λ k lt here. (false, (child_new (on (suc k)) (child_at mail.ends k) (can.children placed k lt) here).0);
     between = new_between;
+    all = λ k le lt. new_descends k lt (on (suc k)) refl;
     keeper = can.root;
     packets = λ here k lt mine. new_packet 0 k lt mine here;
     hung = tt;

@@ -1,8 +1,7 @@
 -- A thread that waits looks for the replies of its branches, and goes on with them.
-use Rattle.std.proofs.Common.{◌≡◌, ◌≢◌, ℕ, zero, suc, ◌+◌, ◌<◌, ◌≤◌, Bool, true, false, Option, Some, None, List, [], ◌∷◌, ◌++◌, length, refl, sym, ap, ◌∙◌, subst, arith}
+use Rattle.std.proofs.Common.{◌≡◌, ◌≢◌, ℕ, zero, suc, ◌+◌, ◌<◌, ◌≤◌, Some, None, List, [], ◌∷◌, ◌++◌, length, refl, sym, ap, ◌∙◌, subst, arith}
 use Rattle.std.specs.Prelude.{slice_get, slice_set, drop}
 use Rattle.std.proofs.lemmas.List.{length-set, length-map}
-use Rattle.forec_kernel.specs.Packets.{PlainPacket}
 use Rattle.forec_kernel.specs.Packed.{HasRoom}
 use Rattle.forec_kernel.specs.Engine.{Job, Reply, Written, Exchange, Answered, pair_up}
 use Rattle.thread_code.specs.Plain.{plain_code}
@@ -10,19 +9,19 @@ use Rattle.thread_code.specs.Valid.{of_shape}
 use Rattle.combine_tree.specs.declared.packet.Packet.{Packet}
 use Rattle.combine_tree.specs.Plain.{plain_packet}
 use Rattle.core_machine.specs.declared.thread.Thread.{Thread}
-use Rattle.core_machine.specs.Held.{Loaded, StandsFor}
+use Rattle.core_machine.specs.Held.{Loaded, StandsFor, CanRun}
 use Rattle.core_machine.specs.Forks.{jobs_at, with_replies}
-use Rattle.copy_slots.specs.declared.view.Taker.{Taker}
-use Rattle.copy_slots.specs.Ports.{parent_at, child_at, answered_by, IsChild, ChildIs, answered}
+use Rattle.copy_slots.specs.Ports.{parent_at, child_at}
 use Rattle.core_host.specs.declared.seat.Seat.{Seat}
 use Rattle.core_host.specs.Posts.{Mail, IsBranchOf}
-use Rattle.core_host.specs.Changes.{Grown, Awaits}
+use Rattle.core_host.specs.Changes.{Grown}
+use Rattle.core_host.specs.Descending.{IsActive, IsRunning, IsHeld}
 use Rattle.core_host.specs.Writing.{Log, heard, told}
 use Rattle.core_host.specs.Keeping.{State, code_in, Alike, IsSeated, HaveHeard}
-use Rattle.core_host.specs.Waiting.{HasTold, IsGathering, HasReplies, IsAtWork, IsWorking, IsWaiting, WaitsAt, IsBetween, waits}
+use Rattle.core_host.specs.Waiting.{HasTold, IsGathering, HasReplies, IsAtWork, IsWorking, IsWaiting, WaitsAt}
 use Rattle.core_host.specs.OnJob.{IsOnJob}
-use Rattle.core_host.specs.Serving.{MovesBranches, Touches, HasMissed}
-use Rattle.core_host.proofs.Mails.{get_set, get_set_else, some_once}
+use Rattle.core_host.specs.Serving.{MovesBranches, Touches}
+use Rattle.core_host.proofs.Mails.{get_set_else, some_once}
 use Rattle.core_host.proofs.AfterFork.{with_none, in_job_now}
 use Rattle.core_host.proofs.OneMoreExchange.{changed, changed_is, told_posts, posts_told}
 use Rattle.core_host.proofs.Waits.{work_keeps, waiting_keeps}
@@ -85,21 +84,12 @@ module _ (s0 : State) (m : ℕ) (inside : m < length s0.mail.ends) (seated : IsS
   code_is : s1.code ≡ s0.code
   code_is = ap (λ (s : State). s.code) rising
 
-  child_0 : ChildIs s0.mail m true
-  child_0 =
-      let n = w.waiting.work.number in
-      let k = w.sits.number in
-      let at : w.waiting.work.mailbox ≡ m = omega (arith, n, k) in subst (λ i. ChildIs s0.mail i true) at w.waiting.work.child
-
   module _ (s2 : State) (moves : MovesBranches h.number s1 s2) where
     code2 : s2.code ≡ s0.code
     code2 = moves.code ∙ code_is
 
     child2 : (j : ℕ) → child_at s2.mail.ends j ≡ child_at s0.mail.ends j
     child2 j = moves.children j ∙ ap (λ (s : State). child_at s.mail.ends j) rising
-
-    pub same_answered : answered s2.mail m ≡ answered s0.mail m
-    same_answered = ap answered_by (child2 m)
 
     not_mine : (j : ℕ) → (IsBranchOf (code_in s0).shape (suc m) j → ⊥) → IsBranchOf (code_in s1).shape h.number j → ⊥
     not_mine j n mine = n (subst (λ t. IsBranchOf (code_in s0).shape t j) its_number (subst (λ c. IsBranchOf (plain_code c).shape h.number j) code_is mine))
@@ -124,64 +114,21 @@ module _ (s0 : State) (m : ℕ) (inside : m < length s0.mail.ends) (seated : IsS
     pub up_room : HasRoom (of_shape (code_in s2).shape) (suc m) (plain_packet p)
     up_room = subst (λ c. HasRoom (of_shape (plain_code c).shape) (suc m) (plain_packet p)) (sym code2) (subst (λ q. HasRoom (of_shape (code_in s0).shape) (suc m) (plain_packet q)) same_packet w.room)
 
-    in_seats : m + 1 < length s2.seats
-    in_seats =
-        let count = ap length moves.seats in
-        let take_thread = ap (λ (s : State). length s.seats) rising in
-        let set = length-set s0.seats (m + 1) empty in omega (arith, inside, count, take_thread, set, seated.seats, seated.mailboxes)
+    pub up_active : (h1 : Thread) → h1.number ≡ h.number → Loaded (code_in s2) h1 → IsActive s2 (record { mailbox = m; thread = h1; packet = p })
+    up_active h1 number loaded = record {
+      inside = let count = up_touches.alike.count in omega (arith, inside, count);
+      number = number ∙ its_number;
+      loaded = loaded;
+      room = up_room;
+    }
 
-    -- ---- back into it
+    -- a branch has not replied
+    pub up_held : IsWaiting s2 h → IsHeld s2 (record { mailbox = m; thread = h; packet = p })
+    up_held waiting = record { active = up_active h refl waiting.work.loaded; waiting = waiting }
 
-    module _ (waiting : IsWaiting s2 h) (s3 : State) (sitting : s3 ≡ record s2 { seats = slice_set s2.seats (m + 1) (record { thread = Some h; job = Some p }) }) where
-      abbrev seat : Seat
-      seat = record { thread = Some h; job = Some p }
-
-      abbrev s3' : State
-      s3' = record s2 { seats = slice_set s2.seats (m + 1) seat }
-
-      pub down_between : IsBetween s3 m
-      down_between =
-          subst (λ s. IsBetween s m) (sym sitting) (waits (record {
-            thread = h;
-            sits = record { seat = seat; at = ap (λ n. slice_get s3'.seats n) (sym one) ∙ get_set s2.seats (m + 1) seat in_seats; is = refl; loaded = waiting.work.loaded; number = its_number };
-            packet = p;
-            holds = refl;
-            room = up_room;
-            waiting = waiting_keeps s2 s2.mail (slice_set s2.seats (m + 1) seat) s2.hands refl refl h (λ j mine. refl) (λ j mine. refl) waiting refl;
-          }))
-
-      pub down_touches : Touches m s0 s3
-      down_touches =
-          let t = up_touches in
-          subst (Touches m s0) (sym sitting) (record {
-            code = t.code;
-            places = t.places;
-            alike = t.alike;
-            grown = t.grown;
-            seats = λ j n. get_set_else s2.seats (m + 1) j seat (λ e. n (e ∙ one)) ∙ t.seats j n;
-            seat_count = length-set s2.seats (m + 1) seat ∙ t.seat_count;
-            children = t.children;
-            parents = t.parents;
-            hands = t.hands;
-            hand_count = t.hand_count;
-          })
-
-      pub down_missed : ((k : ℕ) → h.number ≡ suc k → Awaits (code_in s1).shape s1.mail s2.mail k) → HasMissed m s0 s3
-      down_missed awaits =
-          subst (HasMissed m s0) (sym sitting) (record {
-            idle = record {
-              rests = λ rest. absurd (both (child_at s2.mail.ends m) (subst (λ (o : Option (Taker PlainPacket)). IsChild o true) (sym (child2 m)) child_0) rest);
-              forked = λ _. subst (λ (s : State). Awaits (code_in s).shape s.mail s2.mail m) rising (awaits m its_number);
-            };
-            answered = same_answered;
-          })
-        where
-          never : (b : Bool) → b ≡ true → b ≡ false → ⊥
-          never b e f = let g = sym e ∙ f in cc
-
-          both : (o : Option (Taker PlainPacket)) → IsChild o true → IsChild o false → ⊥
-          both None e f = e
-          both (Some z) e f = never z.holds e f
+    -- all have
+    pub up_running : (h1 : Thread) → h1.number ≡ h.number → Loaded (code_in s2) h1 → IsWorking s2 h1 → CanRun h1 → IsRunning s2 (record { mailbox = m; thread = h1; packet = p })
+    up_running h1 number loaded working running = record { active = up_active h1 number loaded; working = working; running = running }
 
 -- ---- on with the replies
 

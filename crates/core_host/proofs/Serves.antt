@@ -7,19 +7,18 @@ use Rattle.forec_kernel.specs.Packets.{PlainPacket}
 use Rattle.forec_kernel.specs.Shapes.{PlainShape}
 use Rattle.thread_code.specs.Plain.{plain_code}
 use Rattle.combine_tree.specs.declared.packet.Packet.{Packet}
-use Rattle.copy_slots.specs.declared.view.PacketAt.TheVariants.{Fresh, Held}
-use Rattle.copy_slots.specs.declared.view.Sender.{Sender}
 use Rattle.copy_slots.specs.declared.view.Taker.{Taker}
-use Rattle.copy_slots.specs.Ports.{parent_at, child_at, sent_by, answered_by, words_of_parent, words_of_child, turn_of, IsChild, ChildIs, taken, answered, turn, looked_by_child, looked_by_parent}
+use Rattle.copy_slots.specs.Ports.{child_at, answered_by, words_of_parent, words_of_child, IsChild, ChildIs, taken, answered, looked_by_child, looked_by_parent}
 use Rattle.core_host.specs.declared.seat.Seat.{Seat}
 use Rattle.core_host.specs.Posts.{Mail, IsBranchOf}
 use Rattle.core_host.specs.Changes.{Extends, Looked, Grown, IsIdle}
-use Rattle.core_host.specs.Keeping.{State, code_in, Alike, IsSeated, Ready, blank, reply, Quiet}
-use Rattle.core_host.specs.Waiting.{HasChild, IsAtRest, WaitsAt, IsBetween, rests, waits}
+use Rattle.core_host.specs.Keeping.{State, code_in, Alike, IsSeated, Quiet}
+use Rattle.core_host.specs.Waiting.{HasChild, IsAtRest, WaitsAt, IsBetween, IsVacant, rests, waits}
 use Rattle.core_host.specs.Serving.{Touches, OnlyLooks, HasMissed, AllMissed, KeepsServing}
-use Rattle.core_host.proofs.Mails.{by_equal, some_once, alike_then, is_parent, is_child, extends_same}
+use Rattle.core_host.proofs.Mails.{by_equal, some_once, alike_then, extends_same}
 use Rattle.core_host.proofs.Keep.{grown_same, grown_then, seated_by, same_child, quiet_keeps}
 use Rattle.core_host.proofs.Waits.{between_keeps, between_still}
+use Rattle.core_host.proofs.Seats.{vacant_by, not_vacant}
 
 -- ---- a thread at rest has no job in its hand, and one that waits has
 
@@ -55,18 +54,6 @@ both_held (Some z) e f = never z.holds e f
     never : (b : Bool) → b ≡ false → b ≡ true → ⊥
     never b e f = let g = sym e ∙ f in cc
 
-pub quiet_turn : (s : State) (m : ℕ) → Quiet s m → turn s.mail m ≡ 0
-quiet_turn s m q =
-    let x = a_parent q.packet.hand q.packet.ready in
-    let y = is_child (child_at s.mail.ends m) false q.idle.child in
-    let sent : length x.0.sent ≡ length (taken s.mail m) = ap length (sym (ap sent_by x.1)) ∙ ap length (sym q.all) in
-    let done : length y.0.answered ≡ length (taken s.mail m) = ap length (sym (ap answered_by y.1)) ∙ q.idle.even in
-    ap (λ o. turn_of o (child_at s.mail.ends m)) x.1 ∙ ap (turn_of (Some x.0)) y.1 ∙ omega (arith, sent, done)
-  where
-    a_parent : (h : Option Packet) → Ready s m h → (x : Sender PlainPacket) × (parent_at s.mail.ends m ≡ Some x)
-    a_parent h (blank fresh p at room) = let x = is_parent (parent_at s.mail.ends m) Fresh fresh in (x.0, x.1)
-    a_parent h (reply held p room) = let x = is_parent (parent_at s.mail.ends m) Held held in (x.0, x.1)
-
 pub quiet_waits : (s : State) (m : ℕ) → Quiet s m → WaitsAt s m → ⊥
 quiet_waits s m q w =
     let n = w.waiting.work.number in
@@ -74,11 +61,7 @@ quiet_waits s m q w =
     let at : w.waiting.work.mailbox ≡ m = omega (arith, n, k) in
     both_held (child_at s.mail.ends m) q.idle.child (subst (λ i. ChildIs s.mail i true) at w.waiting.work.child)
 
-pub only_false : (b : Bool) → (b ≡ true → ⊥) → b ≡ false
-only_false true n = absurd (n refl)
-only_false false n = refl
-
-quiet_looks : (k : ℕ) (a b : State) → OnlyLooks k a b → (j : ℕ) → Quiet a j → Quiet b j
+pub quiet_looks : (k : ℕ) (a b : State) → OnlyLooks k a b → (j : ℕ) → Quiet a j → Quiet b j
 quiet_looks k a b l j q =
     quiet_keeps j a b
     (record {
@@ -93,14 +76,14 @@ quiet_looks k a b l j q =
 
 -- ---- one mailbox
 
-between_child : (s : State) (k : ℕ) → IsBetween s k → HasChild s.mail k
+pub between_child : (s : State) (k : ℕ) → IsBetween s k → HasChild s.mail k
 between_child s k (rests r) = (false, r.idle.child)
 between_child s k (waits w) =
     let n = w.waiting.work.number in
     let t = w.sits.number in
     let at : w.waiting.work.mailbox ≡ k = omega (arith, n, t) in (true, subst (λ i. ChildIs s.mail i true) at w.waiting.work.child)
 
-child_keeps : (a b : Mail) (j : ℕ) → child_at b.ends j ≡ child_at a.ends j → HasChild a j → HasChild b j
+pub child_keeps : (a b : Mail) (j : ℕ) → child_at b.ends j ≡ child_at a.ends j → HasChild a j → HasChild b j
 child_keeps a b j e h = (h.0, subst (λ (o : Option (Taker PlainPacket)). IsChild o h.0) (sym e) h.1)
 
 pub keeps_one : (k : ℕ) (a b : State) → IsSeated a → k < length a.mail.ends → IsBetween a k → Touches k a b → IsBetween b k → (a.mail.tells ≡ true → Quiet a k → OnlyLooks k a b) → KeepsServing a b
@@ -117,6 +100,7 @@ keeps_one k a b seated inside before t after looks = record {
   here = λ j h. by_equal j k (λ n. child_keeps a.mail b.mail j (t.children j n) h) (λ e. subst (HasChild b.mail) (sym e) (between_child b k after));
   was_here = λ j h. by_equal j k (λ n. child_keeps b.mail a.mail j (sym (t.children j n)) h) (λ e. subst (HasChild a.mail) (sym e) (between_child a k before));
   between = λ j h. by_equal j k (λ n. between_still a b k t j n h) (λ e. subst (IsBetween b) (sym e) after);
+  vacant = λ j v. by_equal j k (λ n. vacant_by a b (suc j) (t.seats (suc j) (λ e. n (omega (arith, e)))) v) (λ e. absurd (not_vacant a k before (subst (λ i. IsVacant a (suc i)) e v)));
   quiet = λ tells quiet j lt. quiet_looks k a b (looks tells (quiet k inside)) j (quiet j lt);
 }
   where
@@ -137,6 +121,7 @@ keeps_same a = record {
   here = λ j h. h;
   was_here = λ j h. h;
   between = λ j h. h;
+  vacant = λ j v. v;
   quiet = λ tells quiet. quiet;
 }
 
@@ -170,6 +155,7 @@ module _ (s : State) (stored : Bool) (stops : List ℕ) (more : Extends s.mail.s
     here = λ j h. h;
     was_here = λ j h. h;
     between = λ j h. between_keeps s watched refl refl watched_alike j refl refl (λ i mine. refl) (λ i mine. refl) h;
+    vacant = λ j v. vacant_by s watched (suc j) refl v;
     quiet = λ tells q j lt. quiet_keeps j s watched (record { code = refl; seat = refl; child = same_child j s.mail watched.mail refl; branches = λ i mine. refl }) (record { parent = refl; hand = refl; blanks = refl }) (q j lt);
   }
 
@@ -187,6 +173,7 @@ keeps_then a b c h g = record {
   here = λ j x. g.here j (h.here j x);
   was_here = λ j x. h.was_here j (g.was_here j x);
   between = λ j x. g.between j (h.between j x);
+  vacant = λ j v. g.vacant j (h.vacant j v);
   quiet = λ tells quiet j lt.
       let count = h.alike.count in
       g.quiet (h.alike.tells ∙ tells) (λ i less. h.quiet tells quiet i (omega (arith, less, count))) j (omega (arith, lt, count));

@@ -1,5 +1,5 @@
 -- A host runs a tick.
-use Rattle.std.proofs.Common.{◌≡◌, ℕ, suc, ◌<◌, ℤ, Bool, true, false, List, [], ◌∷◌, ◌++◌, length, sym, ap, ◌∙◌, subst, arith}
+use Rattle.std.proofs.Common.{◌≡◌, ℕ, suc, ◌<◌, ℤ, Bool, true, false, List, [], ◌∷◌, ◌++◌, length, sym, ap, ◌∙◌, subst, inl, inr, ⊎_elim, arith}
 use Rattle.forec_kernel.specs.declared.shape.Outcome.{Outcome}
 use Rattle.forec_kernel.specs.Shapes.{PlainKernel}
 use Rattle.forec_kernel.specs.WellFormed.{WellFormed}
@@ -28,7 +28,7 @@ use Rattle.core_host.specs.Jobs.{IsBetween, kind_of, job_of}
 use Rattle.core_host.specs.Outcomes.{IsReplied, outcome_in, HasOutputs, HasOutcome}
 use Rattle.core_host.specs.Loads.{is_on}
 use Rattle.core_host.specs.Keeping.{State, code_in, IsSeated, Sits, Idle, HasPacket, QuietAbove}
-use Rattle.core_host.specs.Waiting.{HasChild, IsBetween as IsServed, rests}
+use Rattle.core_host.specs.Waiting.{HasChild, IsBetween as IsServed, IsVacant, CanDescend, rests}
 use Rattle.core_host.specs.Ending.{HasReplied}
 use Rattle.core_host.specs.Hosted.{Hosted, hosted, state_in, code_of, is_here, IsWhole}
 use Rattle.core_host.specs.Rests.{IsReady, RootRests, IsHosted}
@@ -84,22 +84,28 @@ module _ (h : Hosted) (inv : IsHosted h) (here : is_here h 0 ≡ true) (live : h
 pub record HasRested (s : State) (cores : List ℕ) : Type 0 where
   pub here : (k : ℕ) → k < length s.mail.ends → is_on s.places cores (suc k) ≡ true → HasChild s.mail k
   pub between : (k : ℕ) → k < length s.mail.ends → HasChild s.mail k → IsServed s k
+  pub all : CanDescend s 0
   pub keeper : is_on s.places cores 0 ≡ true → s.mail.root ≡ true
   pub packets : (k : ℕ) → k < length s.mail.ends → IsBranchOf (code_in s).shape 0 k → HasPacket s k
 
 pub quiet_rested : (s0 s1 : State) (cores : List ℕ) (p : Packet) (live : Bool) (rope : Option RopeState) → IsHosted (hosted s0 cores p live rope) → s1.places ≡ s0.places → s1.mail.root ≡ s0.mail.root → QuietAbove s1 0 → HasRested s1 cores
 quiet_rested s0 s1 cores p live rope inv places root quiet = record {
   here = λ k lt on. (false, (quiet k (omega arith) lt).idle.child);
-  between = λ k lt there. rests (record { idle = (quiet k (omega arith) lt).idle; has = λ j less mine. (quiet j (omega arith) less).packet });
+  between = λ k lt there. at_rest k lt;
+  all = λ k le lt. inr (at_rest k lt);
   keeper = λ on. root ∙ inv.keeper (ap (λ l. is_on l cores 0) (sym places) ∙ on);
   packets = λ k lt mine. (quiet k (omega arith) lt).packet;
 }
+  where
+    at_rest : (k : ℕ) → k < length s1.mail.ends → IsServed s1 k
+    at_rest k lt = rests (record { idle = (quiet k (omega arith) lt).idle; has = λ j less mine. (quiet j (omega arith) less).packet })
 
 pub beside_rested : (s0 s1 : State) (cores : List ℕ) (p : Packet) (live : Bool) (rope : Option RopeState) → IsHosted (hosted s0 cores p live rope) → IsSeated s1 → s1.code ≡ s0.code → s1.places ≡ s0.places → s1.mail.root ≡ s0.mail.root → ((k : ℕ) → HasChild s0.mail k → HasChild s1.mail k) →
-    ((k : ℕ) → HasChild s1.mail k → HasChild s0.mail k) → ((k : ℕ) → IsServed s0 k → IsServed s1 k) → ((k : ℕ) → k < length s1.mail.ends → IsBranchOf (code_in s0).shape 0 k → HasPacket s1 k) → HasRested s1 cores
-beside_rested s0 s1 cores p live rope inv seated code places root here was_here between packets = record {
+    ((k : ℕ) → HasChild s1.mail k → HasChild s0.mail k) → ((k : ℕ) → IsServed s0 k → IsServed s1 k) → ((k : ℕ) → IsVacant s0 (suc k) → IsVacant s1 (suc k)) → ((k : ℕ) → k < length s1.mail.ends → IsBranchOf (code_in s0).shape 0 k → HasPacket s1 k) → HasRested s1 cores
+beside_rested s0 s1 cores p live rope inv seated code places root here was_here between vacant packets = record {
   here = λ k lt on. here k (inv.here k (within k lt) (ap (λ l. is_on l cores (suc k)) (sym places) ∙ on));
   between = λ k lt there. between k (inv.between k (within k lt) (was_here k there));
+  all = λ k le lt. ⊎_elim (λ v. inl (vacant k v)) (λ w. inr (between k w)) (inv.all k le (within k lt));
   keeper = λ on. root ∙ inv.keeper (ap (λ l. is_on l cores 0) (sym places) ∙ on);
   packets = λ k lt mine. packets k lt (subst (λ x. IsBranchOf (plain_code x).shape 0 k) code mine);
 }
@@ -146,6 +152,7 @@ module _ (s0 s1 : State) (cores : List ℕ) (p0 p1 pj : Packet) (live0 live1 : B
     ready = λ e t sits. subst (IsReady t) (sym (paused_of e)) (subst (Replies_by t) (paused_of e) (kind1 t sits));
     here = rested1.here;
     between = rested1.between;
+    all = rested1.all;
     keeper = rested1.keeper;
     packets = λ on. rested1.packets;
     hung = hung_keeps s0.code s1.code s0.places s1.places cores rope0 rope1 code1 places1 same_rope inv.hung;

@@ -12,7 +12,7 @@ use Rattle.core_host.specs.Done.{HasDone}
 use Rattle.core_host.specs.Hung.{IsHung}
 use Rattle.core_host.specs.Posts.{IsBranchOf}
 use Rattle.core_host.specs.Keeping.{State, code_in, Sits, HasPacket}
-use Rattle.core_host.specs.Waiting.{HasChild, IsBetween}
+use Rattle.core_host.specs.Waiting.{HasChild, IsBetween, CanDescend}
 use Rattle.core_host.specs.Hosted.{Hosted, state_in, code_of, is_here}
 
 -- the next tick can begin: no tick was run, or the last one paused
@@ -42,6 +42,8 @@ pub record IsHosted (h : Hosted) : Type 0 where
   -- the child's end of the mailbox of each other thread of its cores is there, and the thread rests, or waits at a fork
   pub here : (k : ℕ) → k < length h.mail.ends → is_here h (suc k) ≡ true → HasChild h.mail k
   pub between : (k : ℕ) → k < length h.mail.ends → HasChild h.mail k → IsBetween (state_in h) k
+  -- the seat of any other is empty
+  pub all : CanDescend (state_in h) 0
   -- thread 0's port is the root's, and each packet of its branches is its own
   pub keeper : is_here h 0 ≡ true → h.mail.root ≡ true
   pub packets : is_here h 0 ≡ true → (k : ℕ) → k < length h.mail.ends → IsBranchOf (code_of h).shape 0 k → HasPacket (state_in h) k

@@ -4,12 +4,13 @@ use Rattle.core_host.specs.declared.round.Round.{Round}
 use Rattle.core_host.specs.Changes.{HasWorked, HasProgressed, IsIdle}
 use Rattle.core_host.specs.Hung.{KeepsRope}
 use Rattle.core_host.specs.Keeping.{State, code_in}
-use Rattle.core_host.specs.Waiting.{IsBetween}
+use Rattle.core_host.specs.Waiting.{IsBetween, CanDescend}
 
--- each of these mailboxes can be served, and the next is one of them, or none is left before the round's end
+-- each of these mailboxes can be served, with the threads above it, and the next is one of them, or none is left before the round's end
 pub record CanServe (s : State) (round : Round) : Type 0 where
   pub next : round.next ≤ length round.own.items
   pub each : (i k : ℕ) → slice_get round.own.items i ≡ Some k → (k < length s.mail.ends) × IsBetween s k
+  pub all : CanDescend s 0
 
 -- the same mailboxes, from another one on
 pub record IsSameRound (before after : Round) : Type 0 where

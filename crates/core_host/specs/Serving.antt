@@ -4,7 +4,7 @@ use Rattle.copy_slots.specs.Ports.{taken, answered, parent_at, child_at, ChildIs
 use Rattle.core_host.specs.Posts.{Mail, IsBranchOf}
 use Rattle.core_host.specs.Changes.{Grown, IsIdle}
 use Rattle.core_host.specs.Keeping.{State, code_in, Alike, Quiet}
-use Rattle.core_host.specs.Waiting.{HasChild, IsBetween}
+use Rattle.core_host.specs.Waiting.{HasChild, IsBetween, IsVacant}
 
 -- all but the parent's ends and hands of the branches of thread t
 pub record MovesBranches (t : ℕ) (a b : State) : Type 0 where
@@ -54,7 +54,7 @@ pub record AllMissed (a b : State) : Type 0 where
   pub still : (before : Mail) (k : ℕ) → Grown before a.mail → IsIdle (code_in a).shape before a.mail k → IsIdle (code_in a).shape before b.mail k
 
 -- What serving some mailboxes keeps: thread 0, with its branches' ends and their packets in its hand; that each thread rests, or waits at a
--- fork; and where both ends of each mailbox are there, that nothing is under way.
+-- fork; which seats are empty; and where both ends of each mailbox are there, that nothing is under way.
 pub record KeepsServing (a b : State) : Type 0 where
   pub code : b.code ≡ a.code
   pub places : b.places ≡ a.places
@@ -68,4 +68,5 @@ pub record KeepsServing (a b : State) : Type 0 where
   pub here : (j : ℕ) → HasChild a.mail j → HasChild b.mail j
   pub was_here : (j : ℕ) → HasChild b.mail j → HasChild a.mail j
   pub between : (j : ℕ) → IsBetween a j → IsBetween b j
+  pub vacant : (j : ℕ) → IsVacant a (suc j) → IsVacant b (suc j)
   pub quiet : a.mail.tells ≡ true → ((j : ℕ) → j < length a.mail.ends → Quiet a j) → (j : ℕ) → j < length a.mail.ends → Quiet b j

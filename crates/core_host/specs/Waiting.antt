@@ -1,5 +1,5 @@
 -- A thread that is at work on a job while its branches do theirs.
-use Rattle.std.specs.Prelude.{ℕ, suc, ◌≡◌, ◌<◌, ◌≤◌, ◌+◌, ◌==◌, ◌⊎◌, cond, Bool, true, Some, List, [], ◌∷◌, ◌++◌, length, map, slice_get, drop}
+use Rattle.std.specs.Prelude.{ℕ, suc, ◌≡◌, ◌<◌, ◌≤◌, ◌+◌, ◌==◌, ◌⊎◌, cond, Bool, true, None, Some, List, [], ◌∷◌, ◌++◌, length, map, slice_get, drop}
 use Rattle.forec_base.specs.declared.limits.TheConstants.{MAX_THREADS}
 use Rattle.forec_kernel.specs.Packed.{HasRoom, AreJobs}
 use Rattle.forec_kernel.specs.Engine.{Job, Reply, Written, Answers, Answered, Allowed, jobs_to, pair_up}
@@ -12,6 +12,7 @@ use Rattle.core_machine.specs.declared.thread.Thread.{Thread}
 use Rattle.core_machine.specs.Held.{Loaded, StandsFor, HasSettled}
 use Rattle.core_machine.specs.Forks.{jobs_at}
 use Rattle.copy_slots.specs.Ports.{sent, got, taken, answered, ChildIs}
+use Rattle.core_host.specs.declared.seat.Seat.{Seat}
 use Rattle.core_host.specs.Posts.{Mail, IsBranchOf, AreReplies, replies_to}
 use Rattle.core_host.specs.Done.{AreAbove}
 use Rattle.core_host.specs.Writing.{Log, heard, told}
@@ -128,3 +129,13 @@ pub record WaitsAt (s : State) (k : ℕ) : Type 0 where
 pub data IsBetween (s : State) (k : ℕ) : Type 0 where
   rests : IsAtRest s k → IsBetween s k
   waits : WaitsAt s k → IsBetween s k
+
+-- the seat of thread t is empty: the thread is another host's, or at work
+pub record IsVacant (s : State) (t : ℕ) : Type 0 where
+  pub seat : Seat
+  pub at : slice_get s.seats t ≡ Some seat
+  pub none : seat.thread ≡ None
+
+-- each thread above t is another host's, or at work, or rests, or waits at a fork
+abbrev pub CanDescend : State → ℕ → Type 0
+CanDescend s t = (k : ℕ) → t ≤ k → k < length s.mail.ends → IsVacant s (suc k) ⊎ IsBetween s k

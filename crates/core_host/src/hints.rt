@@ -31,8 +31,8 @@ pub(crate) fn hint_branches<R: Wait>(rt: &R, code: &Code, thread: &Thread, rope:
 }
 
 impl<'c, P: Port<ForecWork> + Drop> Scheduler<'c, P> {
-    /// Hints to those to whom a thread sent when it was served last: to its branches where it waits at a fork, and else to its
-    /// parent.
+    /// Hints to the parent of a thread that was served, where it has answered. Where it waits at a fork its branches were hinted to
+    /// when they were told their jobs.
     pub(crate) fn hint<R: Wait>(&self, rt: &R, mailbox: u32, round: &mut Round<'c>)
         ensures own { round.new.own ≡ round.old.own }
         ensures next { round.new.next ≡ round.old.next }
@@ -42,13 +42,11 @@ impl<'c, P: Port<ForecWork> + Drop> Scheduler<'c, P> {
         let Some(seat) = self.seats.get(mailbox as usize + 1) else {
             return;
         };
-        match (&seat.thread, &seat.job) {
-            (Some(thread), Some(_)) => hint_branches(rt, self.code, thread, rope),
-            _ => {
-                if let Some(parent) = parent_of(self.code, mailbox) {
-                    rope.hint(rt, parent, mailbox);
-                }
-            }
+        if seat.job.is_some() {
+            return;
+        }
+        if let Some(parent) = parent_of(self.code, mailbox) {
+            rope.hint(rt, parent, mailbox);
         }
     }
 }

@@ -1,7 +1,9 @@
 //! The host of a program's threads: it runs a tick.
 #![tactic(auto)]
 
+mod active;
 mod boxed;
+mod descend;
 mod hints;
 mod host;
 mod job;

@@ -1,21 +1,20 @@
 //! Mailboxes are served.
 ghost use Rattle.std.specs.Prelude.{◌≡◌, ◌≢◌, ◌≤◌, ◌<◌, [], ℕ, suc, List, Some, None, IfSome, length, slice_get, slice_set, true, false};
 ghost use Rattle.forec_kernel.specs.Engine.{Answered};
-ghost use Rattle.forec_kernel.specs.Packed.{HasRoom};
 ghost use Rattle.thread_code.specs.Plain.{plain_code};
-ghost use Rattle.thread_code.specs.Valid.{of_shape};
 ghost use Rattle.combine_tree.specs.declared.packet.Packet.{Packet as PlainPacketState};
 ghost use Rattle.combine_tree.specs.Plain.{plain_packet};
-ghost use Rattle.copy_slots.specs.Ports.{taken, turn, after_take, after_answer, after_stop, after_check, in_plain, ChildIs};
-ghost use Rattle.core_machine.specs.Held.{Loaded, CanRun};
+ghost use Rattle.copy_slots.specs.Ports.{taken, answered, turn, after_take, after_answer, after_stop, after_check, in_plain, ChildIs};
 ghost use Rattle.core_host.specs.Asking.{Asks, Replies};
-ghost use Rattle.core_host.specs.Changes.{HasWorked, Awaits};
+ghost use Rattle.core_host.specs.Changes.{HasWorked, Awaits, Gains};
+ghost use Rattle.core_host.specs.Descending.{IsRunning, IsHeld, HasFinished};
 ghost use Rattle.core_host.specs.Keeping.{code_in, IsSeated, LacksPacket, AtFork, Quiet};
 ghost use Rattle.core_host.specs.Moving.{MovesPacket, HasGot, HasLooked};
-ghost use Rattle.core_host.specs.Waiting.{HasTold, TellsAll, IsGathering, HasReplies, IsWorking, IsAtRest, WaitsAt, IsBetween};
+ghost use Rattle.core_host.specs.Waiting.{HasTold, TellsAll, IsGathering, HasReplies, IsAtRest, WaitsAt, IsBetween};
 ghost use Rattle.core_host.specs.Rounds.{AllIdle, WorkedAt};
 ghost use Rattle.core_host.specs.Serving.{MovesBranches, Touches, OnlyLooks, HasMissed, AllMissed, KeepsServing};
 
+use crate::active::Active;
 use crate::boxed::Boxed;
 use crate::scheduler::Scheduler;
 use crate::seat::Seat;
@@ -133,46 +132,47 @@ impl<'c, P: Port<ForecWork> + Drop> Scheduler<'c, P> {
         true
     }
 
-    /// Runs a thread to its next event. Where that is a fork, its branches are told their jobs, and else
-    /// the thread has answered its own.
-    fn advance<G: Gate>(
-        &mut self,
-        gate: &G,
-        mailbox: u32,
-        thread: Boxed<Thread>,
-        packet: Boxed<Packet>,
-    )
-        requires inside { mailbox < length self.old.mail.ends }
+    /// Puts a thread that waits at a fork into its seat, with the packet of its job.
+    pub(crate) fn hold(&mut self, active: Active)
         requires seated { IsSeated self.old }
-        requires number { thread.number ≡ suc mailbox }
-        requires loaded { Loaded (code_in self.old) thread }
-        requires running { CanRun thread }
-        requires working { IsWorking self.old thread }
-        requires room { HasRoom (of_shape (code_in self.old).shape) (suc mailbox) (plain_packet packet) }
-        ensures touches { Touches mailbox self.old self.new }
-        ensures between { IsBetween self.new mailbox }
-        ensures worked { HasWorked (code_in self.old).shape self.old.mail self.new.mail mailbox }
+        requires held { IsHeld self.old active }
+        ensures touches { Touches active.mailbox self.old self.new }
+        ensures between { IsBetween self.new active.mailbox }
+        ensures mail { self.new.mail ≡ self.old.mail }
     {
+        let Active {
+            mailbox,
+            thread,
+            packet,
+        } = active;
+        self.put_thread(
+            mailbox + 1,
+            Seat {
+                thread: Some(thread),
+                job: Some(packet),
+            },
+        );
+    }
+
+    /// Sends the reply of a thread that has it, and puts the thread into its seat.
+    pub(crate) fn finish_job<G: Gate>(&mut self, gate: &G, active: Active)
+        requires seated { IsSeated self.old }
+        requires finished { HasFinished self.old active }
+        ensures touches { Touches active.mailbox self.old self.new }
+        ensures between { IsBetween self.new active.mailbox }
+        ensures replied { Gains (answered self.old.mail active.mailbox) (answered self.new.mail active.mailbox) }
+    {
+        let Active {
+            mailbox,
+            thread,
+            mut packet,
+        } = active;
         let number = mailbox + 1;
-        let mut seated = thread;
-        let mut packet = packet;
-        let thread: &mut Thread = &mut seated;
-        if let Event::Fork = thread.run(self.code) {
-            self.send_jobs(thread);
-            self.put_thread(
-                number,
-                Seat {
-                    thread: Some(seated),
-                    job: Some(packet),
-                },
-            );
-            return;
-        }
         thread.reply(self.code, &mut packet);
         self.put_thread(
             number,
             Seat {
-                thread: Some(seated),
+                thread: Some(thread),
                 job: None,
             },
         );
@@ -180,64 +180,106 @@ impl<'c, P: Port<ForecWork> + Drop> Scheduler<'c, P> {
         gate.pass(self.places[number as usize], number, Point::Answered);
     }
 
-    /// Takes the job of a thread that rests, and runs the thread to its next event. Whether there was a job.
-    fn begin<G: Gate>(&mut self, gate: &G, mailbox: u32) -> bool
+    /// Takes the job of a thread that rests, which begins it.
+    fn take_job<G: Gate>(&mut self, gate: &G, mailbox: u32) -> Option<Active>
         requires inside { mailbox < length self.old.mail.ends }
         requires seated { IsSeated self.old }
         requires rests { IsAtRest self.old mailbox }
         ensures touches { Touches mailbox self.old self.new }
-        ensures between { IsBetween self.new mailbox }
-        ensures worked { result ≡ true → HasWorked (code_in self.old).shape self.old.mail self.new.mail mailbox }
-        ensures nothing { result ≡ false → HasMissed mailbox self.old self.new }
-        ensures looks { result ≡ false → OnlyLooks mailbox self.old self.new }
-        ensures turn { self.old.mail.tells ≡ true → result ≡ true → turn self.old.mail mailbox ≢ 0 }
+        ensures running { IfSome result (λ r. (r.mailbox ≡ mailbox) × IsRunning self.new r) }
+        ensures answered { answered self.new.mail mailbox ≡ answered self.old.mail mailbox }
+        ensures between { result ≡ None → IsBetween self.new mailbox }
+        ensures nothing { result ≡ None → HasMissed mailbox self.old self.new }
+        ensures looks { result ≡ None → OnlyLooks mailbox self.old self.new }
+        ensures turn { self.old.mail.tells ≡ true → IfSome result (λ r. turn self.old.mail mailbox ≢ 0) }
     {
         let number = mailbox + 1;
-        let Some(packet) = self.take(mailbox) else {
-            return false;
-        };
+        let packet = self.take(mailbox)?;
         gate.pass(self.places[number as usize], number, Point::Begun);
         let Seat { thread, .. } = self.take_thread(number);
-        let Some(mut seated) = thread else {
+        let Some(mut thread) = thread else {
             unreachable!()
         };
-        let thread: &mut Thread = &mut seated;
-        thread.begin(self.code, &packet);
-        self.advance(gate, mailbox, seated, packet);
-        true
+        let begun: &mut Thread = &mut thread;
+        begun.begin(self.code, &packet);
+        Some(Active {
+            mailbox,
+            thread,
+            packet,
+        })
     }
 
-    /// Goes on with a thread that waits at a fork, where its branches have all replied. Whether they have.
-    fn resume<G: Gate>(&mut self, gate: &G, mailbox: u32) -> bool
+    /// Takes a thread that waits at a fork out of its seat, where its branches have all replied, and joins them.
+    fn take_replies(&mut self, mailbox: u32) -> Option<Active>
         requires inside { mailbox < length self.old.mail.ends }
         requires seated { IsSeated self.old }
         requires waits { WaitsAt self.old mailbox }
         ensures touches { Touches mailbox self.old self.new }
-        ensures between { IsBetween self.new mailbox }
-        ensures worked { result ≡ true → HasWorked (code_in self.old).shape self.old.mail self.new.mail mailbox }
-        ensures nothing { result ≡ false → HasMissed mailbox self.old self.new }
+        ensures running { IfSome result (λ r. (r.mailbox ≡ mailbox) × IsRunning self.new r) }
+        ensures answered { answered self.new.mail mailbox ≡ answered self.old.mail mailbox }
+        ensures between { result ≡ None → IsBetween self.new mailbox }
+        ensures nothing { result ≡ None → HasMissed mailbox self.old self.new }
     {
         let number = mailbox + 1;
         let Seat { thread, job } = self.take_thread(number);
-        let Some(mut seated) = thread else {
+        let Some(mut thread) = thread else {
             unreachable!()
         };
         let Some(packet) = job else { unreachable!() };
-        let thread: &mut Thread = &mut seated;
-        if !self.gather_replies(thread) {
-            self.put_thread(
-                number,
-                Seat {
-                    thread: Some(seated),
-                    job: Some(packet),
-                },
-            );
-            return false;
+        let waiting: &mut Thread = &mut thread;
+        if !self.gather_replies(waiting) {
+            self.hold(Active {
+                mailbox,
+                thread,
+                packet,
+            });
+            return None;
         }
-        self.settle(thread);
-        self.join(thread);
-        self.advance(gate, mailbox, seated, packet);
-        true
+        self.settle(waiting);
+        self.join(waiting);
+        Some(Active {
+            mailbox,
+            thread,
+            packet,
+        })
+    }
+
+    /// Takes the job of a thread that rests, or the replies for one that waits at a fork. The thread can then run.
+    pub(crate) fn take_up<G: Gate>(&mut self, gate: &G, mailbox: u32) -> Option<Active>
+        requires inside { mailbox < length self.old.mail.ends }
+        requires seated { IsSeated self.old }
+        requires between { IsBetween self.old mailbox }
+        ensures touches { Touches mailbox self.old self.new }
+        ensures running { IfSome result (λ r. (r.mailbox ≡ mailbox) × IsRunning self.new r) }
+        ensures answered { answered self.new.mail mailbox ≡ answered self.old.mail mailbox }
+        ensures between { result ≡ None → IsBetween self.new mailbox }
+        ensures nothing { result ≡ None → HasMissed mailbox self.old self.new }
+        ensures quiet { self.old.mail.tells ≡ true → Quiet self.old mailbox → OnlyLooks mailbox self.old self.new }
+        ensures missed { self.old.mail.tells ≡ true → Quiet self.old mailbox → result ≡ None }
+    {
+        if self.seats[mailbox as usize + 1].job.is_some() {
+            self.take_replies(mailbox)
+        } else {
+            self.take_job(gate, mailbox)
+        }
+    }
+
+    /// Runs a thread to its next event. Where that is a fork, its branches are told their jobs, and else
+    /// the thread has answered its own.
+    fn advance<G: Gate>(&mut self, gate: &G, mut active: Active)
+        requires seated { IsSeated self.old }
+        requires running { IsRunning self.old active }
+        ensures touches { Touches active.mailbox self.old self.new }
+        ensures between { IsBetween self.new active.mailbox }
+        ensures worked { HasWorked (code_in self.old).shape self.old.mail self.new.mail active.mailbox }
+    {
+        let thread: &mut Thread = &mut active.thread;
+        if let Event::Fork = thread.run(self.code) {
+            self.send_jobs(thread);
+            self.hold(active);
+        } else {
+            self.finish_job(gate, active);
+        }
     }
 
     /// Takes one job of this mailbox, or goes on with its thread where that waits at a fork and its branches
@@ -252,11 +294,12 @@ impl<'c, P: Port<ForecWork> + Drop> Scheduler<'c, P> {
         ensures nothing { result ≡ false → HasMissed mailbox self.old self.new }
         ensures quiet { self.old.mail.tells ≡ true → Quiet self.old mailbox → OnlyLooks mailbox self.old self.new }
     {
-        let number = mailbox as usize + 1;
-        if self.seats[number].job.is_some() {
-            self.resume(gate, mailbox)
-        } else {
-            self.begin(gate, mailbox)
+        match self.take_up(gate, mailbox) {
+            Some(active) => {
+                self.advance(gate, active);
+                true
+            }
+            None => false,
         }
     }
 

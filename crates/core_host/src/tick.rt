@@ -1,5 +1,5 @@
 //! A tick beside hosts that are served.
-ghost use Rattle.std.specs.Prelude.{◌≡◌, ◌≤◌, ◌<◌, ◌++◌, ◌∷◌, [], ℕ, List, Some, length, true, false};
+ghost use Rattle.std.specs.Prelude.{◌≡◌, ◌≤◌, ◌<◌, ◌++◌, ◌∷◌, [], ℕ, suc, List, Some, length, true, false};
 ghost use Rattle.forec_base.specs.declared.limits.TheConstants.{MAX_BUDGET};
 ghost use Rattle.forec_kernel.specs.Composed.{Turn, state_after};
 ghost use Rattle.forec_kernel.specs.Engine.{Job, Answered};
@@ -26,7 +26,7 @@ ghost use Rattle.core_host.specs.Rests.{RootRests};
 ghost use Rattle.core_host.specs.Rounds.{AllIdle, CanServe, IsIdleAt, IsSameRound, SomeWorked};
 ghost use Rattle.core_host.specs.Runs.{HasJobs, HasRun};
 ghost use Rattle.core_host.specs.Serving.{AllMissed, MovesBranches, KeepsServing};
-ghost use Rattle.core_host.specs.Waiting.{HasChild, HasTold, TellsAll, IsBetween, IsGathering, HasReplies};
+ghost use Rattle.core_host.specs.Waiting.{HasChild, HasTold, TellsAll, IsBetween, IsVacant, IsGathering, HasReplies};
 
 use crate::hints::hint_branches;
 use crate::host::Host;
@@ -44,7 +44,8 @@ use forec_kernel::Outcome;
 use std::sync::Wait;
 
 impl<'c, P: Port<ForecWork> + Drop> Scheduler<'c, P> {
-    /// Serves the mailbox at this place of the round, and hints to those to whom its thread sent. Whether there was something to do.
+    /// Serves the mailbox at this place of the round, with the branches of its thread that are here, and hints to those to whom they sent.
+    /// Whether there was something to do.
     fn serve_at<R: Wait, G: Gate>(
         &mut self,
         rt: &R,
@@ -62,7 +63,7 @@ impl<'c, P: Port<ForecWork> + Drop> Scheduler<'c, P> {
         ensures idle { result ≡ false → IsIdleAt round.old.own.items place self.old self.new }
     {
         let mailbox = round.own[place];
-        if !self.serve(gate, mailbox) {
+        if !self.serve_down(rt, gate, mailbox, round) {
             return false;
         }
         self.hint(rt, mailbox, round);
@@ -178,8 +179,36 @@ impl<'c, P: Port<ForecWork> + Drop> Scheduler<'c, P> {
         unreachable!()
     }
 
-    /// Sends the branches of thread 0's fork their jobs, and hints to their cores.
-    fn send_jobs_and_hint<R: Wait>(&mut self, rt: &R, thread: &Thread, round: &mut Round<'c>)
+    /// Serves the branches of the thread's fork that are here, and waits until all have replied.
+    fn await_branches<R: Wait, O: Serve, G: Gate>(
+        &mut self,
+        rt: &R,
+        gate: &G,
+        round: &mut Round<'c>,
+        others: &mut O,
+        thread: &Thread,
+    )
+        requires seated { IsSeated self.old }
+        requires round { CanServe self.old round.old }
+        requires root { thread.now.number ≡ 0 }
+        requires gathering { (pairs : List Answered) × IsGathering self.old thread.now pairs }
+        ensures keeps { KeepsOthers self.old self.new }
+        ensures round { IsSameRound round.old round.new }
+        ensures all { (pairs : List Answered) → IsGathering self.old thread.now pairs → HasReplies self.new thread.now pairs }
+    {
+        self.serve_branches(rt, gate, thread, round);
+        if !self.gather_replies(thread) {
+            self.await_replies(rt, gate, round, others, thread);
+        }
+    }
+
+    /// Sends the branches of the thread's fork their jobs, and hints to their cores.
+    pub(crate) fn send_jobs_and_hint<R: Wait>(
+        &mut self,
+        rt: &R,
+        thread: &Thread,
+        round: &mut Round<'c>,
+    )
         requires seated { IsSeated self.old }
         requires fork { AtFork self.old thread.now }
         requires told { (pairs : List Answered) × HasTold self.old thread.now.number pairs [] }
@@ -223,7 +252,7 @@ impl<'c, P: Port<ForecWork> + Drop> Scheduler<'c, P> {
                 return;
             };
             self.send_jobs_and_hint(rt, thread, round);
-            self.await_replies(rt, gate, round, others, thread);
+            self.await_branches(rt, gate, round, others, thread);
             self.settle(thread);
             self.join(thread);
         }
@@ -256,6 +285,7 @@ impl<'c, P: Port<ForecWork> + Drop> Scheduler<'c, P> {
         ensures here { (k : ℕ) → HasChild self.old.mail k → HasChild self.new.mail k }
         ensures was_here { (k : ℕ) → HasChild self.new.mail k → HasChild self.old.mail k }
         ensures between { (k : ℕ) → IsBetween self.old k → IsBetween self.new k }
+        ensures vacant { (k : ℕ) → IsVacant self.old (suc k) → IsVacant self.new (suc k) }
         ensures root { RootRests self.new }
         ensures packets { (k : ℕ) → k < length self.new.mail.ends → IsBranchOf (code_in self.old).shape 0 k → HasPacket self.new k }
         ensures grown { Grown self.old.mail self.new.mail }

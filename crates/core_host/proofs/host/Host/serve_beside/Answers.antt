@@ -8,6 +8,7 @@ pub serve_sweep-requires-clause-round : goal.serve_sweep-requires-clause-round
 serve_sweep-requires-clause-round g c = record {
   next = c.self.inside.next_within;
   each = each_between c.self.inside.scheduler c.self.inside.cores.items c.self.inside.root c.self.inside.live c.self.inside.round.rope c.self.invariant c.self.inside.round.own.items c.self.inside.own_are;
+  all = c.self.invariant.all;
 }
 
 pub invariant_of-self : goal.invariant_of-self

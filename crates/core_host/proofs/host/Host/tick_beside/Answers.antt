@@ -35,7 +35,7 @@ invariant_of-self g c =
     let live : c.match-matches.live ≡ goes_on c.write_outcome-outcome.result = search rules in
     now_hosted c.self.inside.scheduler c.work_beside.new.self c.self.inside.cores.items c.self.inside.root c.work_beside.new.packet c.write_job.new.packet c.self.inside.live c.match-matches.live c.self.inside.round.rope c.work_beside.new.round.rope c.self.invariant (ap (λ (h : Hosted). h.live) c.self.view_is ∙ c.requires.live)
     c.args.row.now c.args.budget (subst (λ s. IsJob (plain_packet c.write_job.new.packet) (job_of s c.self.inside.root c.args.row.now c.args.budget)) shape c.write_job.ensures.job)
-    c.work_beside.ensures.seated c.work_beside.ensures.code c.work_beside.ensures.places c.work_beside.ensures.round.rope (beside_rested c.self.inside.scheduler c.work_beside.new.self c.self.inside.cores.items c.self.inside.root c.self.inside.live c.self.inside.round.rope c.self.invariant c.work_beside.ensures.seated c.work_beside.ensures.code c.work_beside.ensures.places c.work_beside.ensures.keeper c.work_beside.ensures.here c.work_beside.ensures.was_here c.work_beside.ensures.between c.work_beside.ensures.packets) c.work_beside.ensures.root c.work_beside.ensures.room c.work_beside.ensures.kind c.work_beside.ensures.replied c.write_outcome-outcome.result c.write_outcome-outcome.ensures.outcome live
+    c.work_beside.ensures.seated c.work_beside.ensures.code c.work_beside.ensures.places c.work_beside.ensures.round.rope (beside_rested c.self.inside.scheduler c.work_beside.new.self c.self.inside.cores.items c.self.inside.root c.self.inside.live c.self.inside.round.rope c.self.invariant c.work_beside.ensures.seated c.work_beside.ensures.code c.work_beside.ensures.places c.work_beside.ensures.keeper c.work_beside.ensures.here c.work_beside.ensures.was_here c.work_beside.ensures.between c.work_beside.ensures.vacant c.work_beside.ensures.packets) c.work_beside.ensures.root c.work_beside.ensures.room c.work_beside.ensures.kind c.work_beside.ensures.replied c.write_outcome-outcome.result c.write_outcome-outcome.ensures.outcome live
 
 pub returns-clause-jobs : goal.returns-clause-jobs
 returns-clause-jobs g c jobs old =
@@ -44,7 +44,7 @@ returns-clause-jobs g c jobs old =
     let before = subst (λ h. HasJobs h jobs) (sym c.self.view_is) old in
     let after = now_jobs c.self.inside.scheduler c.work_beside.new.self c.self.inside.cores.items c.self.inside.root c.work_beside.new.packet c.write_job.new.packet c.self.inside.live c.match-matches.live c.self.inside.round.rope c.work_beside.new.round.rope c.self.invariant (ap (λ (h : Hosted). h.live) c.self.view_is ∙ c.requires.live)
     c.args.row.now c.args.budget (subst (λ s. IsJob (plain_packet c.write_job.new.packet) (job_of s c.self.inside.root c.args.row.now c.args.budget)) shape c.write_job.ensures.job)
-    c.work_beside.ensures.seated c.work_beside.ensures.code c.work_beside.ensures.places c.work_beside.ensures.round.rope (beside_rested c.self.inside.scheduler c.work_beside.new.self c.self.inside.cores.items c.self.inside.root c.self.inside.live c.self.inside.round.rope c.self.invariant c.work_beside.ensures.seated c.work_beside.ensures.code c.work_beside.ensures.places c.work_beside.ensures.keeper c.work_beside.ensures.here c.work_beside.ensures.was_here c.work_beside.ensures.between c.work_beside.ensures.packets) c.work_beside.ensures.root c.work_beside.ensures.room c.work_beside.ensures.kind c.work_beside.ensures.replied c.write_outcome-outcome.result c.write_outcome-outcome.ensures.outcome live jobs before in
+    c.work_beside.ensures.seated c.work_beside.ensures.code c.work_beside.ensures.places c.work_beside.ensures.round.rope (beside_rested c.self.inside.scheduler c.work_beside.new.self c.self.inside.cores.items c.self.inside.root c.self.inside.live c.self.inside.round.rope c.self.invariant c.work_beside.ensures.seated c.work_beside.ensures.code c.work_beside.ensures.places c.work_beside.ensures.keeper c.work_beside.ensures.here c.work_beside.ensures.was_here c.work_beside.ensures.between c.work_beside.ensures.vacant c.work_beside.ensures.packets) c.work_beside.ensures.root c.work_beside.ensures.room c.work_beside.ensures.kind c.work_beside.ensures.replied c.write_outcome-outcome.result c.write_outcome-outcome.ensures.outcome live jobs before in
     subst (λ (h : Hosted). HasJobs (hosted c.work_beside.new.self c.self.inside.cores.items c.work_beside.new.packet c.match-matches.live c.work_beside.new.round.rope) (jobs ++ job_of (plain_shape h.code.shape) h.root c.args.row.now c.args.budget ∷ [])) c.self.view_is after
 
 pub returns-clause-turns : goal.returns-clause-turns
@@ -56,7 +56,7 @@ returns-clause-turns g c turns run k fine stands =
     let before = subst (λ h. HasTicked h k turns) (sym c.self.view_is) (run k fine (subst (λ (h : Hosted). Stands (code_of h) k) c.self.view_is here)) in
     ticked_now c.self.inside.scheduler c.work_beside.new.self c.self.inside.cores.items c.self.inside.root c.work_beside.new.packet c.write_job.new.packet c.self.inside.live c.match-matches.live c.self.inside.round.rope c.work_beside.new.round.rope c.self.invariant (ap (λ (h : Hosted). h.live) c.self.view_is ∙ c.requires.live)
     c.args.row.now c.args.budget (subst (λ s. IsJob (plain_packet c.write_job.new.packet) (job_of s c.self.inside.root c.args.row.now c.args.budget)) shape c.write_job.ensures.job)
-    c.work_beside.ensures.seated c.work_beside.ensures.code c.work_beside.ensures.places c.work_beside.ensures.round.rope (beside_rested c.self.inside.scheduler c.work_beside.new.self c.self.inside.cores.items c.self.inside.root c.self.inside.live c.self.inside.round.rope c.self.invariant c.work_beside.ensures.seated c.work_beside.ensures.code c.work_beside.ensures.places c.work_beside.ensures.keeper c.work_beside.ensures.here c.work_beside.ensures.was_here c.work_beside.ensures.between c.work_beside.ensures.packets) c.work_beside.ensures.root c.work_beside.ensures.room c.work_beside.ensures.kind c.work_beside.ensures.replied c.write_outcome-outcome.result c.write_outcome-outcome.ensures.outcome live k turns fine here before
+    c.work_beside.ensures.seated c.work_beside.ensures.code c.work_beside.ensures.places c.work_beside.ensures.round.rope (beside_rested c.self.inside.scheduler c.work_beside.new.self c.self.inside.cores.items c.self.inside.root c.self.inside.live c.self.inside.round.rope c.self.invariant c.work_beside.ensures.seated c.work_beside.ensures.code c.work_beside.ensures.places c.work_beside.ensures.keeper c.work_beside.ensures.here c.work_beside.ensures.was_here c.work_beside.ensures.between c.work_beside.ensures.vacant c.work_beside.ensures.packets) c.work_beside.ensures.root c.work_beside.ensures.room c.work_beside.ensures.kind c.work_beside.ensures.replied c.write_outcome-outcome.result c.write_outcome-outcome.ensures.outcome live k turns fine here before
 
 pub returns-clause-outcome : goal.returns-clause-outcome
 unfolding HasRun
@@ -67,7 +67,7 @@ returns-clause-outcome g c k turns fine stands run =
     let before = subst (λ h. HasTicked h k turns) (sym c.self.view_is) (run k fine stands) in
     c.write_outcome-outcome.ensures.outcome ∙ (told_now c.self.inside.scheduler c.work_beside.new.self c.self.inside.cores.items c.self.inside.root c.work_beside.new.packet c.write_job.new.packet c.self.inside.live c.match-matches.live c.self.inside.round.rope c.work_beside.new.round.rope c.self.invariant (ap (λ (h : Hosted). h.live) c.self.view_is ∙ c.requires.live)
     c.args.row.now c.args.budget (subst (λ s. IsJob (plain_packet c.write_job.new.packet) (job_of s c.self.inside.root c.args.row.now c.args.budget)) shape c.write_job.ensures.job)
-    c.work_beside.ensures.seated c.work_beside.ensures.code c.work_beside.ensures.places c.work_beside.ensures.round.rope (beside_rested c.self.inside.scheduler c.work_beside.new.self c.self.inside.cores.items c.self.inside.root c.self.inside.live c.self.inside.round.rope c.self.invariant c.work_beside.ensures.seated c.work_beside.ensures.code c.work_beside.ensures.places c.work_beside.ensures.keeper c.work_beside.ensures.here c.work_beside.ensures.was_here c.work_beside.ensures.between c.work_beside.ensures.packets) c.work_beside.ensures.root c.work_beside.ensures.room c.work_beside.ensures.kind c.work_beside.ensures.replied c.write_outcome-outcome.result c.write_outcome-outcome.ensures.outcome live k turns fine here before).outcome
+    c.work_beside.ensures.seated c.work_beside.ensures.code c.work_beside.ensures.places c.work_beside.ensures.round.rope (beside_rested c.self.inside.scheduler c.work_beside.new.self c.self.inside.cores.items c.self.inside.root c.self.inside.live c.self.inside.round.rope c.self.invariant c.work_beside.ensures.seated c.work_beside.ensures.code c.work_beside.ensures.places c.work_beside.ensures.keeper c.work_beside.ensures.here c.work_beside.ensures.was_here c.work_beside.ensures.between c.work_beside.ensures.vacant c.work_beside.ensures.packets) c.work_beside.ensures.root c.work_beside.ensures.room c.work_beside.ensures.kind c.work_beside.ensures.replied c.write_outcome-outcome.result c.write_outcome-outcome.ensures.outcome live k turns fine here before).outcome
 
 pub returns-clause-outputs : goal.returns-clause-outputs
 unfolding HasRun
@@ -82,7 +82,7 @@ returns-clause-outputs g c k turns fine stands run has =
     ∙ ap (λ (s : PlainShape). values_of (uses_in s.threads 0) copies s.outputs) shape2
     ∙ (told_now c.self.inside.scheduler c.work_beside.new.self c.self.inside.cores.items c.self.inside.root c.work_beside.new.packet c.write_job.new.packet c.self.inside.live c.match-matches.live c.self.inside.round.rope c.work_beside.new.round.rope c.self.invariant (ap (λ (h : Hosted). h.live) c.self.view_is ∙ c.requires.live)
     c.args.row.now c.args.budget (subst (λ s. IsJob (plain_packet c.write_job.new.packet) (job_of s c.self.inside.root c.args.row.now c.args.budget)) shape c.write_job.ensures.job)
-    c.work_beside.ensures.seated c.work_beside.ensures.code c.work_beside.ensures.places c.work_beside.ensures.round.rope (beside_rested c.self.inside.scheduler c.work_beside.new.self c.self.inside.cores.items c.self.inside.root c.self.inside.live c.self.inside.round.rope c.self.invariant c.work_beside.ensures.seated c.work_beside.ensures.code c.work_beside.ensures.places c.work_beside.ensures.keeper c.work_beside.ensures.here c.work_beside.ensures.was_here c.work_beside.ensures.between c.work_beside.ensures.packets) c.work_beside.ensures.root c.work_beside.ensures.room c.work_beside.ensures.kind c.work_beside.ensures.replied c.write_outcome-outcome.result c.write_outcome-outcome.ensures.outcome live k turns fine here before).outputs (subst HasOutputs c.write_outcome-outcome.ensures.outcome has)
+    c.work_beside.ensures.seated c.work_beside.ensures.code c.work_beside.ensures.places c.work_beside.ensures.round.rope (beside_rested c.self.inside.scheduler c.work_beside.new.self c.self.inside.cores.items c.self.inside.root c.self.inside.live c.self.inside.round.rope c.self.invariant c.work_beside.ensures.seated c.work_beside.ensures.code c.work_beside.ensures.places c.work_beside.ensures.keeper c.work_beside.ensures.here c.work_beside.ensures.was_here c.work_beside.ensures.between c.work_beside.ensures.vacant c.work_beside.ensures.packets) c.work_beside.ensures.root c.work_beside.ensures.room c.work_beside.ensures.kind c.work_beside.ensures.replied c.write_outcome-outcome.result c.write_outcome-outcome.ensures.outcome live k turns fine here before).outputs (subst HasOutputs c.write_outcome-outcome.ensures.outcome has)
 
 pub returns-clause-reply : goal.returns-clause-reply
 returns-clause-reply g c jobs old =
@@ -93,7 +93,7 @@ returns-clause-reply g c jobs old =
     let before = subst (λ h. HasJobs h jobs) (sym c.self.view_is) old in
     let now = outcome_now c.self.inside.scheduler c.work_beside.new.self c.self.inside.cores.items c.self.inside.root c.work_beside.new.packet c.write_job.new.packet c.self.inside.live c.match-matches.live c.self.inside.round.rope c.work_beside.new.round.rope c.self.invariant (ap (λ (h : Hosted). h.live) c.self.view_is ∙ c.requires.live)
     c.args.row.now c.args.budget (subst (λ s. IsJob (plain_packet c.write_job.new.packet) (job_of s c.self.inside.root c.args.row.now c.args.budget)) shape c.write_job.ensures.job)
-    c.work_beside.ensures.seated c.work_beside.ensures.code c.work_beside.ensures.places c.work_beside.ensures.round.rope (beside_rested c.self.inside.scheduler c.work_beside.new.self c.self.inside.cores.items c.self.inside.root c.self.inside.live c.self.inside.round.rope c.self.invariant c.work_beside.ensures.seated c.work_beside.ensures.code c.work_beside.ensures.places c.work_beside.ensures.keeper c.work_beside.ensures.here c.work_beside.ensures.was_here c.work_beside.ensures.between c.work_beside.ensures.packets) c.work_beside.ensures.root c.work_beside.ensures.room c.work_beside.ensures.kind c.work_beside.ensures.replied c.write_outcome-outcome.result c.write_outcome-outcome.ensures.outcome live jobs before
+    c.work_beside.ensures.seated c.work_beside.ensures.code c.work_beside.ensures.places c.work_beside.ensures.round.rope (beside_rested c.self.inside.scheduler c.work_beside.new.self c.self.inside.cores.items c.self.inside.root c.self.inside.live c.self.inside.round.rope c.self.invariant c.work_beside.ensures.seated c.work_beside.ensures.code c.work_beside.ensures.places c.work_beside.ensures.keeper c.work_beside.ensures.here c.work_beside.ensures.was_here c.work_beside.ensures.between c.work_beside.ensures.vacant c.work_beside.ensures.packets) c.work_beside.ensures.root c.work_beside.ensures.room c.work_beside.ensures.kind c.work_beside.ensures.replied c.write_outcome-outcome.result c.write_outcome-outcome.ensures.outcome live jobs before
     c.write_outcome-outcome.new.outputs (λ has. c.write_outcome-outcome.ensures.outputs has ∙ ap (λ (s : PlainShape). values_of (uses_in s.threads 0) copies s.outputs) shape2) in
     subst (λ (h : Hosted). HasOutcome (code_of h) (jobs ++ job_of (code_of h).shape h.root c.args.row.now c.args.budget ∷ []) c.write_outcome-outcome.result c.write_outcome-outcome.new.outputs) c.self.view_is now
 
@@ -101,6 +101,7 @@ pub work_beside-requires-clause-round : goal.work_beside-requires-clause-round
 work_beside-requires-clause-round g c = record {
   next = c.self.inside.next_within;
   each = each_between c.self.inside.scheduler c.self.inside.cores.items c.self.inside.root c.self.inside.live c.self.inside.round.rope c.self.invariant c.self.inside.round.own.items c.self.inside.own_are;
+  all = c.self.invariant.all;
 }
 
 pub work_beside-requires-clause-root : goal.work_beside-requires-clause-root

@@ -40,21 +40,21 @@ send_jobs_and_hint-requires-clause-told g c =
           (subst (λ e. Left_by c.run.new.self e) c.in-Fork.is c.run.ensures.left) (subst (λ (x : CodeParts). c.run.new.self.branches.numbers ≡ map (λ w. w.branch) (jobs_at (plain_code x) c.run.new.self)) code (c.run.ensures.branches c.in-Fork.is)) c.requires.begun.0 c.requires.begun.1 (c.loop.invariant.done c.requires.begun.0 c.requires.begun.1 c.requires.begun.2),
     )
 
-pub await_replies-requires-clause-seated : goal.await_replies-requires-clause-seated
-await_replies-requires-clause-seated g c =
+pub await_branches-requires-clause-seated : goal.await_branches-requires-clause-seated
+await_branches-requires-clause-seated g c =
     others_seated c.loop.self c.send_jobs_and_hint.new.self (branches_others c.loop.self c.send_jobs_and_hint.new.self c.run.new.self.number (c.run.ensures.number ∙ c.loop.invariant.root) c.send_jobs_and_hint.ensures.moves) (others_seated c.args.self.now c.loop.self c.loop.invariant.keeps c.requires.seated)
 
-pub await_replies-requires-clause-round : goal.await_replies-requires-clause-round
-await_replies-requires-clause-round g c =
+pub await_branches-requires-clause-round : goal.await_branches-requires-clause-round
+await_branches-requires-clause-round g c =
     round_others c.loop.self c.send_jobs_and_hint.new.self c.loop.round c.send_jobs_and_hint.new.round (branches_others c.loop.self c.send_jobs_and_hint.new.self c.run.new.self.number (c.run.ensures.number ∙ c.loop.invariant.root) c.send_jobs_and_hint.ensures.moves)
     (round_moved c.loop.round c.send_jobs_and_hint.new.round c.loop.invariant.round.next c.send_jobs_and_hint.ensures.own c.send_jobs_and_hint.ensures.next c.send_jobs_and_hint.ensures.rope)
     (round_others c.args.self.now c.loop.self c.args.round.now c.loop.round c.loop.invariant.keeps c.loop.invariant.round c.requires.round)
 
-pub await_replies-requires-clause-root : goal.await_replies-requires-clause-root
-await_replies-requires-clause-root g c = c.run.ensures.number ∙ c.loop.invariant.root
+pub await_branches-requires-clause-root : goal.await_branches-requires-clause-root
+await_branches-requires-clause-root g c = c.run.ensures.number ∙ c.loop.invariant.root
 
-pub await_replies-requires-clause-gathering : goal.await_replies-requires-clause-gathering
-await_replies-requires-clause-gathering g c =
+pub await_branches-requires-clause-gathering : goal.await_branches-requires-clause-gathering
+await_branches-requires-clause-gathering g c =
     let code : c.self.inside.code.now ≡ c.loop.self.code = ap (λ (s : State). s.code) c.self.view_is in (
       pairs_now c.loop.self (others_seated c.args.self.now c.loop.self c.loop.invariant.keeps c.requires.seated) c.loop.thread c.run.new.self (subst (λ (x : CodeParts). Loaded (plain_code x) c.run.new.self) code c.run.ensures.loaded) c.run.ensures.number
           (λ xs st. subst (λ (x : CodeParts). StandsFor (plain_code x) c.run.new.self xs) code (c.run.ensures.stands xs (subst (λ (x : CodeParts). StandsFor (plain_code x) c.loop.thread xs) (sym code) st)))
@@ -68,7 +68,7 @@ await_replies-requires-clause-gathering g c =
 pub settle-requires-clause-loaded : goal.settle-requires-clause-loaded
 settle-requires-clause-loaded g c =
     let code : c.self.inside.code.now ≡ c.loop.self.code = ap (λ (s : State). s.code) c.self.view_is in
-    subst (λ (x : CodeParts). Loaded (plain_code x) c.run.new.self) (sym (c.await_replies.ensures.keeps.code ∙ c.send_jobs_and_hint.ensures.moves.code)) (subst (λ (x : CodeParts). Loaded (plain_code x) c.run.new.self) code c.run.ensures.loaded)
+    subst (λ (x : CodeParts). Loaded (plain_code x) c.run.new.self) (sym (c.await_branches.ensures.keeps.code ∙ c.send_jobs_and_hint.ensures.moves.code)) (subst (λ (x : CodeParts). Loaded (plain_code x) c.run.new.self) code c.run.ensures.loaded)
 
 pub settle-requires-clause-fork : goal.settle-requires-clause-fork
 settle-requires-clause-fork g c = subst (λ e. Left_by c.run.new.self e) c.in-Fork.is c.run.ensures.left
@@ -86,12 +86,12 @@ settle-requires-clause-heard g c =
     let r = replies_now c.loop.self (others_seated c.args.self.now c.loop.self c.loop.invariant.keeps c.requires.seated) c.loop.thread c.run.new.self (subst (λ (x : CodeParts). Loaded (plain_code x) c.run.new.self) code c.run.ensures.loaded) c.run.ensures.number
     (λ xs st. subst (λ (x : CodeParts). StandsFor (plain_code x) c.run.new.self xs) code (c.run.ensures.stands xs (subst (λ (x : CodeParts). StandsFor (plain_code x) c.loop.thread xs) (sym code) st)))
     (subst (λ e. Left_by c.run.new.self e) c.in-Fork.is c.run.ensures.left) (subst (λ (x : CodeParts). c.run.new.self.branches.numbers ≡ map (λ w. w.branch) (jobs_at (plain_code x) c.run.new.self)) code (c.run.ensures.branches c.in-Fork.is)) c.requires.begun.0 c.requires.begun.1 (c.loop.invariant.done c.requires.begun.0 c.requires.begun.1 c.requires.begun.2)
-    c.send_jobs_and_hint.new.self c.send_jobs_and_hint.ensures.moves c.send_jobs_and_hint.ensures.told c.await_replies.new.self c.await_replies.ensures.keeps c.await_replies.ensures.all in (
+    c.send_jobs_and_hint.new.self c.send_jobs_and_hint.ensures.moves c.send_jobs_and_hint.ensures.told c.await_branches.new.self c.await_branches.ensures.keeps c.await_branches.ensures.all in (
       r.gathering.replies,
       heard_now c.loop.self (others_seated c.args.self.now c.loop.self c.loop.invariant.keeps c.requires.seated) c.loop.thread c.run.new.self (subst (λ (x : CodeParts). Loaded (plain_code x) c.run.new.self) code c.run.ensures.loaded) c.run.ensures.number
           (λ xs st. subst (λ (x : CodeParts). StandsFor (plain_code x) c.run.new.self xs) code (c.run.ensures.stands xs (subst (λ (x : CodeParts). StandsFor (plain_code x) c.loop.thread xs) (sym code) st)))
           (subst (λ e. Left_by c.run.new.self e) c.in-Fork.is c.run.ensures.left) (subst (λ (x : CodeParts). c.run.new.self.branches.numbers ≡ map (λ w. w.branch) (jobs_at (plain_code x) c.run.new.self)) code (c.run.ensures.branches c.in-Fork.is)) c.requires.begun.0 c.requires.begun.1 (c.loop.invariant.done c.requires.begun.0 c.requires.begun.1 c.requires.begun.2)
-          c.send_jobs_and_hint.new.self c.send_jobs_and_hint.ensures.moves c.send_jobs_and_hint.ensures.told c.await_replies.new.self c.await_replies.ensures.keeps c.await_replies.ensures.all,
+          c.send_jobs_and_hint.new.self c.send_jobs_and_hint.ensures.moves c.send_jobs_and_hint.ensures.told c.await_branches.new.self c.await_branches.ensures.keeps c.await_branches.ensures.all,
     )
 
 pub join-requires-clause-some : goal.join-requires-clause-some
@@ -100,7 +100,7 @@ join-requires-clause-some g c =
     let r = replies_now c.loop.self (others_seated c.args.self.now c.loop.self c.loop.invariant.keeps c.requires.seated) c.loop.thread c.run.new.self (subst (λ (x : CodeParts). Loaded (plain_code x) c.run.new.self) code c.run.ensures.loaded) c.run.ensures.number
     (λ xs st. subst (λ (x : CodeParts). StandsFor (plain_code x) c.run.new.self xs) code (c.run.ensures.stands xs (subst (λ (x : CodeParts). StandsFor (plain_code x) c.loop.thread xs) (sym code) st)))
     (subst (λ e. Left_by c.run.new.self e) c.in-Fork.is c.run.ensures.left) (subst (λ (x : CodeParts). c.run.new.self.branches.numbers ≡ map (λ w. w.branch) (jobs_at (plain_code x) c.run.new.self)) code (c.run.ensures.branches c.in-Fork.is)) c.requires.begun.0 c.requires.begun.1 (c.loop.invariant.done c.requires.begun.0 c.requires.begun.1 c.requires.begun.2)
-    c.send_jobs_and_hint.new.self c.send_jobs_and_hint.ensures.moves c.send_jobs_and_hint.ensures.told c.await_replies.new.self c.await_replies.ensures.keeps c.await_replies.ensures.all in
+    c.send_jobs_and_hint.new.self c.send_jobs_and_hint.ensures.moves c.send_jobs_and_hint.ensures.told c.await_branches.new.self c.await_branches.ensures.keeps c.await_branches.ensures.all in
     subst (λ l. 0 < length l) (sym c.settle.ensures.branches) r.gathering.forked.some
 
 pub join-requires-clause-few : goal.join-requires-clause-few
@@ -109,7 +109,7 @@ join-requires-clause-few g c =
     let r = replies_now c.loop.self (others_seated c.args.self.now c.loop.self c.loop.invariant.keeps c.requires.seated) c.loop.thread c.run.new.self (subst (λ (x : CodeParts). Loaded (plain_code x) c.run.new.self) code c.run.ensures.loaded) c.run.ensures.number
     (λ xs st. subst (λ (x : CodeParts). StandsFor (plain_code x) c.run.new.self xs) code (c.run.ensures.stands xs (subst (λ (x : CodeParts). StandsFor (plain_code x) c.loop.thread xs) (sym code) st)))
     (subst (λ e. Left_by c.run.new.self e) c.in-Fork.is c.run.ensures.left) (subst (λ (x : CodeParts). c.run.new.self.branches.numbers ≡ map (λ w. w.branch) (jobs_at (plain_code x) c.run.new.self)) code (c.run.ensures.branches c.in-Fork.is)) c.requires.begun.0 c.requires.begun.1 (c.loop.invariant.done c.requires.begun.0 c.requires.begun.1 c.requires.begun.2)
-    c.send_jobs_and_hint.new.self c.send_jobs_and_hint.ensures.moves c.send_jobs_and_hint.ensures.told c.await_replies.new.self c.await_replies.ensures.keeps c.await_replies.ensures.all in
+    c.send_jobs_and_hint.new.self c.send_jobs_and_hint.ensures.moves c.send_jobs_and_hint.ensures.told c.await_branches.new.self c.await_branches.ensures.keeps c.await_branches.ensures.all in
     subst (λ l. length l ≤ 256) (sym c.settle.ensures.branches) r.gathering.forked.few
 
 pub join-requires-clause-heard : goal.join-requires-clause-heard
@@ -118,21 +118,21 @@ join-requires-clause-heard g c =
     let r = replies_now c.loop.self (others_seated c.args.self.now c.loop.self c.loop.invariant.keeps c.requires.seated) c.loop.thread c.run.new.self (subst (λ (x : CodeParts). Loaded (plain_code x) c.run.new.self) code c.run.ensures.loaded) c.run.ensures.number
     (λ xs st. subst (λ (x : CodeParts). StandsFor (plain_code x) c.run.new.self xs) code (c.run.ensures.stands xs (subst (λ (x : CodeParts). StandsFor (plain_code x) c.loop.thread xs) (sym code) st)))
     (subst (λ e. Left_by c.run.new.self e) c.in-Fork.is c.run.ensures.left) (subst (λ (x : CodeParts). c.run.new.self.branches.numbers ≡ map (λ w. w.branch) (jobs_at (plain_code x) c.run.new.self)) code (c.run.ensures.branches c.in-Fork.is)) c.requires.begun.0 c.requires.begun.1 (c.loop.invariant.done c.requires.begun.0 c.requires.begun.1 c.requires.begun.2)
-    c.send_jobs_and_hint.new.self c.send_jobs_and_hint.ensures.moves c.send_jobs_and_hint.ensures.told c.await_replies.new.self c.await_replies.ensures.keeps c.await_replies.ensures.all in (
+    c.send_jobs_and_hint.new.self c.send_jobs_and_hint.ensures.moves c.send_jobs_and_hint.ensures.told c.await_branches.new.self c.await_branches.ensures.keeps c.await_branches.ensures.all in (
       r.gathering.replies,
-      subst (λ l. HaveHeard c.await_replies.new.self l r.gathering.replies) (sym c.settle.ensures.branches) (heard_now c.loop.self (others_seated c.args.self.now c.loop.self c.loop.invariant.keeps c.requires.seated) c.loop.thread c.run.new.self (subst (λ (x : CodeParts). Loaded (plain_code x) c.run.new.self) code c.run.ensures.loaded) c.run.ensures.number
+      subst (λ l. HaveHeard c.await_branches.new.self l r.gathering.replies) (sym c.settle.ensures.branches) (heard_now c.loop.self (others_seated c.args.self.now c.loop.self c.loop.invariant.keeps c.requires.seated) c.loop.thread c.run.new.self (subst (λ (x : CodeParts). Loaded (plain_code x) c.run.new.self) code c.run.ensures.loaded) c.run.ensures.number
           (λ xs st. subst (λ (x : CodeParts). StandsFor (plain_code x) c.run.new.self xs) code (c.run.ensures.stands xs (subst (λ (x : CodeParts). StandsFor (plain_code x) c.loop.thread xs) (sym code) st)))
           (subst (λ e. Left_by c.run.new.self e) c.in-Fork.is c.run.ensures.left) (subst (λ (x : CodeParts). c.run.new.self.branches.numbers ≡ map (λ w. w.branch) (jobs_at (plain_code x) c.run.new.self)) code (c.run.ensures.branches c.in-Fork.is)) c.requires.begun.0 c.requires.begun.1 (c.loop.invariant.done c.requires.begun.0 c.requires.begun.1 c.requires.begun.2)
-          c.send_jobs_and_hint.new.self c.send_jobs_and_hint.ensures.moves c.send_jobs_and_hint.ensures.told c.await_replies.new.self c.await_replies.ensures.keeps c.await_replies.ensures.all),
+          c.send_jobs_and_hint.new.self c.send_jobs_and_hint.ensures.moves c.send_jobs_and_hint.ensures.told c.await_branches.new.self c.await_branches.ensures.keeps c.await_branches.ensures.all),
     )
 
 pub loop-preserved : goal.loop-preserved
 loop-preserved g c =
     let code : c.self.inside.code.now ≡ c.loop.self.code = ap (λ (s : State). s.code) c.self.view_is in
     record {
-      keeps = others_then c.args.self.now c.loop.self c.await_replies.new.self c.loop.invariant.keeps
-          (others_then c.loop.self c.send_jobs_and_hint.new.self c.await_replies.new.self (branches_others c.loop.self c.send_jobs_and_hint.new.self c.run.new.self.number (c.run.ensures.number ∙ c.loop.invariant.root) c.send_jobs_and_hint.ensures.moves) c.await_replies.ensures.keeps);
-      round = round_then c.args.round.now c.loop.round c.await_replies.new.round c.loop.invariant.round (round_then c.loop.round c.send_jobs_and_hint.new.round c.await_replies.new.round (round_moved c.loop.round c.send_jobs_and_hint.new.round c.loop.invariant.round.next c.send_jobs_and_hint.ensures.own c.send_jobs_and_hint.ensures.next c.send_jobs_and_hint.ensures.rope) c.await_replies.ensures.round);
+      keeps = others_then c.args.self.now c.loop.self c.await_branches.new.self c.loop.invariant.keeps
+          (others_then c.loop.self c.send_jobs_and_hint.new.self c.await_branches.new.self (branches_others c.loop.self c.send_jobs_and_hint.new.self c.run.new.self.number (c.run.ensures.number ∙ c.loop.invariant.root) c.send_jobs_and_hint.ensures.moves) c.await_branches.ensures.keeps);
+      round = round_then c.args.round.now c.loop.round c.await_branches.new.round c.loop.invariant.round (round_then c.loop.round c.send_jobs_and_hint.new.round c.await_branches.new.round (round_moved c.loop.round c.send_jobs_and_hint.new.round c.loop.invariant.round.next c.send_jobs_and_hint.ensures.own c.send_jobs_and_hint.ensures.next c.send_jobs_and_hint.ensures.rope) c.await_branches.ensures.round);
       root = c.join.ensures.number ∙ c.settle.ensures.number ∙ c.run.ensures.number ∙ c.loop.invariant.root;
       loaded = c.join.ensures.loaded;
       running = c.join.ensures.running;
@@ -140,7 +140,7 @@ loop-preserved g c =
           on_next c.loop.self (others_seated c.args.self.now c.loop.self c.loop.invariant.keeps c.requires.seated) c.loop.thread c.run.new.self (subst (λ (x : CodeParts). Loaded (plain_code x) c.run.new.self) code c.run.ensures.loaded) c.run.ensures.number
           (λ xs st. subst (λ (x : CodeParts). StandsFor (plain_code x) c.run.new.self xs) code (c.run.ensures.stands xs (subst (λ (x : CodeParts). StandsFor (plain_code x) c.loop.thread xs) (sym code) st)))
           (subst (λ e. Left_by c.run.new.self e) c.in-Fork.is c.run.ensures.left) (subst (λ (x : CodeParts). c.run.new.self.branches.numbers ≡ map (λ w. w.branch) (jobs_at (plain_code x) c.run.new.self)) code (c.run.ensures.branches c.in-Fork.is)) jobs job (c.loop.invariant.done jobs job on)
-          c.send_jobs_and_hint.new.self c.send_jobs_and_hint.ensures.moves c.send_jobs_and_hint.ensures.told c.await_replies.new.self c.await_replies.ensures.keeps c.await_replies.ensures.all c.settle.new.thread c.join.new.thread c.settle.ensures.number c.join.ensures.number c.settle.ensures.branches c.settle.ensures.stands c.join.ensures.stands;
+          c.send_jobs_and_hint.new.self c.send_jobs_and_hint.ensures.moves c.send_jobs_and_hint.ensures.told c.await_branches.new.self c.await_branches.ensures.keeps c.await_branches.ensures.all c.settle.new.thread c.join.new.thread c.settle.ensures.number c.join.ensures.number c.settle.ensures.branches c.settle.ensures.stands c.join.ensures.stands;
     }
 
 pub returns-in_default : goal.returns-in_default

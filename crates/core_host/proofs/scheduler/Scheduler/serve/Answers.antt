@@ -1,22 +1,20 @@
-use Rattle.std.proofs.Common.{◌+◌, sym, ap, ◌∙◌}
-use Rattle.std.specs.Prelude.{slice_index_or}
-use Rattle.core_host.specs.Keeping.{State}
-use Rattle.core_host.proofs.Serves.{it_waits, it_rests, quiet_turn, quiet_waits, only_false}
+use Rattle.std.proofs.Common.{subst}
+use Rattle.thread_code.specs.declared.instruction.CodeParts.{CodeParts}
+use Rattle.thread_code.specs.Plain.{plain_code}
+use Rattle.core_host.specs.Changes.{HasWorked}
+use Rattle.core_host.specs.Keeping.{code_in}
+use Rattle.core_host.specs.Serving.{Touches}
+use Rattle.core_host.proofs.Beginning.{touches_then, worked_from}
 use Rattle.core_host.proofs.scheduler.Scheduler.serve.Goals as goal
 
-pub resume-requires-clause-waits : goal.resume-requires-clause-waits
-resume-requires-clause-waits g c =
-    it_waits c.args.self.now c.args.mailbox c.index.result.now (c.index.ensures ∙ ap (λ (s : State). slice_index_or s.seats (c.args.mailbox + 1) c.index.result.now) c.self.view_is) c.requires.between (sym c.is_some.ensures ∙ c.if-is_some.true)
+pub returns-in-Some-clause-touches : goal.returns-in-Some-clause-touches
+returns-in-Some-clause-touches g c =
+    touches_then c.args.mailbox c.args.self.now c.take_up.new.self c.advance.new.self c.take_up.ensures.touches
+    (subst (λ k. Touches k c.take_up.new.self c.advance.new.self) c.in-Some.ensures.running.0 c.advance.ensures.touches)
 
-pub begin-requires-clause-rests : goal.begin-requires-clause-rests
-begin-requires-clause-rests g c =
-    it_rests c.args.self.now c.args.mailbox c.index.result.now (c.index.ensures ∙ ap (λ (s : State). slice_index_or s.seats (c.args.mailbox + 1) c.index.result.now) c.self.view_is) c.requires.between (sym c.is_some.ensures ∙ c.if-is_some.false)
-
-pub returns-then-is_some-clause-quiet : goal.returns-then-is_some-clause-quiet
-returns-then-is_some-clause-quiet g c tells quiet =
-    absurd
-    (quiet_waits c.args.self.now c.args.mailbox quiet
-    (it_waits c.args.self.now c.args.mailbox c.index.result.now (c.index.ensures ∙ ap (λ (s : State). slice_index_or s.seats (c.args.mailbox + 1) c.index.result.now) c.self.view_is) c.requires.between (sym c.is_some.ensures ∙ c.if-is_some.true)))
-
-pub returns-else-is_some-clause-quiet : goal.returns-else-is_some-clause-quiet
-returns-else-is_some-clause-quiet g c tells quiet = c.begin.ensures.looks (only_false c.begin.result (λ e. c.begin.ensures.turn tells e (quiet_turn c.args.self.now c.args.mailbox quiet)))
+pub returns-in-Some-clause-worked : goal.returns-in-Some-clause-worked
+returns-in-Some-clause-worked g c _ =
+    let first = c.take_up.ensures.touches in
+    worked_from (code_in c.args.self.now).shape c.args.self.now.mail c.take_up.new.self.mail c.advance.new.self.mail c.args.mailbox first.grown c.take_up.ensures.answered
+    (subst (λ k. HasWorked (code_in c.args.self.now).shape c.take_up.new.self.mail c.advance.new.self.mail k) c.in-Some.ensures.running.0
+    (subst (λ (x : CodeParts). HasWorked (plain_code x).shape c.take_up.new.self.mail c.advance.new.self.mail c.in-Some.active.mailbox) first.code c.advance.ensures.worked))

@@ -1,6 +1,6 @@
 use Rattle.std.proofs.Common.{Some, refl, sym, ap, ◌∙◌}
 use Rattle.core_host.proofs.Rooted.{root_loaded, root_begins}
-use Rattle.core_host.proofs.Beside.{up_root, up_seated, up_each, up_begun, down_code, down_places, down_keeper, down_grown, down_seated, down_here, down_was_here, down_between, down_packets, down_replied, down_rests}
+use Rattle.core_host.proofs.Beside.{up_root, up_seated, up_each, up_all, up_begun, down_code, down_places, down_keeper, down_grown, down_seated, down_here, down_was_here, down_between, down_vacant, down_packets, down_replied, down_rests}
 use Rattle.core_host.proofs.scheduler.Scheduler.work_beside.Goals as goal
 
 pub begin-requires-clause-loaded : goal.begin-requires-clause-loaded
@@ -19,6 +19,8 @@ finish_beside-requires-clause-round g c = record {
   next = c.requires.round.next;
   each = up_each c.args.self.now c.requires.seated c.requires.root c.requires.packets c.self.inside.code.now c.self.inside.places.items (g.P.Port.state c.self.inside.port) c.self.inside.seats.items c.self.inside.hands.items c.self.view_is c.index_mut.result.now c.index_mut.ensures.value c.take.result c.take.ensures.value c.deref_mut-thread.result.now (c.in-Some.is ∙ ap Some (sym c.deref_mut-thread.ensures.value))
       (record { thread = c.take.new.self; job = c.index_mut.result.now.job }) c.args.packet.now c.begin.new.self c.begin.ensures.number c.begin.ensures.stands c.args.round.now.own.items c.requires.round.each;
+  all = up_all c.args.self.now c.requires.seated c.requires.root c.requires.packets c.self.inside.code.now c.self.inside.places.items (g.P.Port.state c.self.inside.port) c.self.inside.seats.items c.self.inside.hands.items c.self.view_is c.index_mut.result.now c.index_mut.ensures.value c.take.result c.take.ensures.value c.deref_mut-thread.result.now (c.in-Some.is ∙ ap Some (sym c.deref_mut-thread.ensures.value))
+      (record { thread = c.take.new.self; job = c.index_mut.result.now.job }) c.args.packet.now c.begin.new.self c.begin.ensures.number c.begin.ensures.stands c.requires.round.all;
 }
 
 pub finish_beside-requires-clause-root : goal.finish_beside-requires-clause-root
@@ -85,6 +87,14 @@ returns-clause-was_here g c =
 pub returns-clause-between : goal.returns-clause-between
 returns-clause-between g c =
     down_between c.args.self.now c.requires.seated c.requires.root c.requires.packets c.self.inside.code.now c.self.inside.places.items (g.P.Port.state c.self.inside.port) c.self.inside.seats.items c.self.inside.hands.items c.self.view_is c.index_mut.result.now c.index_mut.ensures.value c.take.result c.take.ensures.value c.deref_mut-thread.result.now (c.in-Some.is ∙ ap Some (sym c.deref_mut-thread.ensures.value))
+    (record { thread = c.take.new.self; job = c.index_mut.result.now.job }) c.args.packet.now c.begin.new.self c.begin.ensures.number c.begin.ensures.stands
+    c.finish_beside.new.self c.finish_beside.new.thread c.finish_beside.ensures.root c.finish_beside.ensures.loaded c.finish_beside.ensures.reply c.finish_beside.ensures.keeps c.finish_beside.ensures.done
+    c.self-2.inside.code.now c.self-2.inside.places.items (g.P.Port.state c.self-2.inside.port) c.self-2.inside.seats.items c.self-2.inside.hands.items c.self-2.view_is
+    c.reply.new.packet c.reply.ensures.gives (record { thread = Some c.finish_beside.new.thread; job = c.index_mut-2.result.now.job }) refl
+
+pub returns-clause-vacant : goal.returns-clause-vacant
+returns-clause-vacant g c =
+    down_vacant c.args.self.now c.requires.seated c.requires.root c.requires.packets c.self.inside.code.now c.self.inside.places.items (g.P.Port.state c.self.inside.port) c.self.inside.seats.items c.self.inside.hands.items c.self.view_is c.index_mut.result.now c.index_mut.ensures.value c.take.result c.take.ensures.value c.deref_mut-thread.result.now (c.in-Some.is ∙ ap Some (sym c.deref_mut-thread.ensures.value))
     (record { thread = c.take.new.self; job = c.index_mut.result.now.job }) c.args.packet.now c.begin.new.self c.begin.ensures.number c.begin.ensures.stands
     c.finish_beside.new.self c.finish_beside.new.thread c.finish_beside.ensures.root c.finish_beside.ensures.loaded c.finish_beside.ensures.reply c.finish_beside.ensures.keeps c.finish_beside.ensures.done
     c.self-2.inside.code.now c.self-2.inside.places.items (g.P.Port.state c.self-2.inside.port) c.self-2.inside.seats.items c.self-2.inside.hands.items c.self-2.view_is
