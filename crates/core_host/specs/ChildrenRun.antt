@@ -15,3 +15,7 @@ pub record Consulted (a b : State) (h : Thread) (k : ℕ) : Type 0 where
   pub heard : (i number : ℕ) (r : Reply) → slice_get h.branches.numbers i ≡ Some number → slice_get replies i ≡ Some r → HasHeard b number r
   pub posts : (pairs : List Answered) → Posts (code_in a) h.number a.mail pairs → Posts (code_in a) h.number b.mail (pairs ++ pair_up (jobs_at (code_in a) h) replies)
   pub rest : (i : ℕ) (w : Written) → k ≤ i → slice_get (jobs_at (code_in a) h) i ≡ Some w → IsJobFor (code_in a) b.mail h.number w
+
+-- what was told to the branches of a thread, and what they told, is now that and this fork's jobs and replies
+abbrev pub PostsMore : State → State → Thread → List Reply → Type 0
+PostsMore a b h rs = (pairs : List Answered) → Posts (code_in a) h.number a.mail pairs → Posts (code_in a) h.number b.mail (pairs ++ pair_up (jobs_at (code_in a) h) rs)

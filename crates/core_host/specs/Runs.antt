@@ -1,5 +1,5 @@
 -- What a host has run.
-use Rattle.std.specs.Prelude.{◌≡◌, true, List}
+use Rattle.std.specs.Prelude.{ℕ, suc, ◌≡◌, ◌<◌, true, List, [], ◌∷◌, ◌++◌, length}
 use Rattle.forec_kernel.specs.Shapes.{PlainKernel}
 use Rattle.forec_kernel.specs.Ticks.{State, Fresh, After_tick}
 use Rattle.forec_kernel.specs.WellFormed.{WellFormed}
@@ -12,7 +12,8 @@ use Rattle.thread_code.specs.Laws.{EachFits}
 use Rattle.core_machine.specs.declared.thread.Thread.{Thread}
 use Rattle.core_host.specs.Done.{HasDone}
 use Rattle.core_host.specs.Keeping.{Sits}
-use Rattle.core_host.specs.Hosted.{Hosted, code_of, state_in}
+use Rattle.core_host.specs.Changes.{IsIdle}
+use Rattle.core_host.specs.Hosted.{Hosted, code_of, state_in, is_here}
 
 -- thread 0 was given these jobs by the ticks so far, and has replied to each
 pub record HasJobs (h : Hosted) (jobs : List Job) : Type 0 where
@@ -20,6 +21,14 @@ pub record HasJobs (h : Hosted) (jobs : List Job) : Type 0 where
   pub sits : Sits (state_in h) 0 thread
   pub fit : EachFits (code_of h).shape 0 jobs
   pub done : HasDone (code_of h) thread h.mail jobs
+
+-- whatever jobs it was given before, it was given this one after them
+abbrev pub HasJobMore : Hosted → Hosted → Job → Type 0
+HasJobMore a b job = (jobs : List Job) → HasJobs a jobs → HasJobs b (jobs ++ job ∷ [])
+
+-- each thread here but thread 0 was seen to have nothing to do
+abbrev pub AreIdleHere : Hosted → Hosted → Type 0
+AreIdleHere a b = (k : ℕ) → k < length a.mail.ends → is_here a (suc k) ≡ true → IsIdle (code_of a).shape a.mail b.mail k
 
 -- what the packet of thread 0 has between ticks: before the first nothing, later the copies with which the last one paused
 abbrev pub Keeps : State → Packet → Type 0

@@ -1,5 +1,5 @@
 //! The host of some of a code's threads.
-ghost use Rattle.std.specs.Prelude.{◌≡◌, ◌≤◌, ◌<◌, ◌++◌, ◌∷◌, [], ℕ, suc, List, Some, None, option_map, length, true, false, IfOk, IsTrue};
+ghost use Rattle.std.specs.Prelude.{◌≡◌, ◌≤◌, ◌<◌, ◌++◌, ◌∷◌, [], ℕ, suc, List, Some, None, option_map, length, true, false, IfOk};
 ghost use Rattle.forec_base.specs.declared.limits.TheConstants.{MAX_BUDGET};
 ghost use Rattle.forec_kernel.specs.Composed.{Turn, state_after};
 ghost use Rattle.forec_kernel.specs.Engine.{Job};
@@ -67,11 +67,11 @@ impl<'c, P: Port<ForecWork> + Drop> Model for Host<'c, P> {
 }
 
 impl<'c, P: Port<ForecWork> + Drop> Host<'c, P> {
-    ghost use Rattle.core_host.specs.Changes.{Grown, HasWorked, IsIdle};
+    ghost use Rattle.core_host.specs.Changes.{Grown, HasWorked};
     ghost use Rattle.core_host.specs.Hosted.{code_of, is_live, is_here, IsWhole};
     ghost use Rattle.core_host.specs.Hung.{IsRopeOf};
     ghost use Rattle.core_host.specs.Posts.{HasPosted, HasPostedTaken};
-    ghost use Rattle.core_host.specs.Runs.{HasJobs, HasRun};
+    ghost use Rattle.core_host.specs.Runs.{AreIdleHere, HasJobMore, HasJobs, HasRun};
 
     /// The threads of these cores, over a port with the ends of their mailboxes. No tick was run.
     ///
@@ -162,7 +162,7 @@ impl<'c, P: Port<ForecWork> + Drop> Host<'c, P> {
             → HasOutcome (code_of self.old) (jobs ++ job_of (code_of self.old).shape self.old.root row.now budget ∷ []) result outputs.new }
         ensures stay { LacksOutputs result → outputs.new ≡ outputs.old }
         ensures live { is_live self.new ≡ goes_on result }
-        ensures jobs { (jobs : List Job) → HasJobs self.old jobs → HasJobs self.new (jobs ++ job_of (code_of self.old).shape self.old.root row.now budget ∷ []) }
+        ensures jobs { HasJobMore self.old self.new (job_of (code_of self.old).shape self.old.root row.now budget) }
         ensures rest { (k : ℕ) → k < length self.new.mail.ends → ChildIs self.new.mail k false }
         ensures taken { (k : ℕ) → k < length self.new.mail.ends → taken self.new.mail k ≡ sent self.new.mail k }
         ensures grown { Grown self.old.mail self.new.mail }
@@ -190,7 +190,7 @@ impl<'c, P: Port<ForecWork> + Drop> Host<'c, P> {
     pub fn serve<G: Gate>(&mut self, gate: &G) -> Served
         ensures worked { (k : ℕ) → result ≡ Served.Worked k → HasWorked (code_of self.old).shape self.old.mail self.new.mail k }
         ensures mine { (k : ℕ) → result ≡ Served.Worked k → (k < length self.old.mail.ends) × (is_here self.old (suc k) ≡ true) }
-        ensures nothing { result ≡ Served.Nothing → (k : ℕ) → k < length self.old.mail.ends → is_here self.old (suc k) ≡ true → IsIdle (code_of self.old).shape self.old.mail self.new.mail k }
+        ensures nothing { result ≡ Served.Nothing → AreIdleHere self.old self.new }
         ensures code { self.new.code ≡ self.old.code }
         ensures places { self.new.places ≡ self.old.places }
         ensures cores { self.new.cores ≡ self.old.cores }

@@ -1,7 +1,7 @@
 //! Threads at work, one after the other.
-ghost use Rattle.std.specs.Prelude.{◌≡◌, ◌≢◌, ◌≤◌, ◌<◌, ◌+◌, ◌++◌, suc, List, Some, None, length, slice_get, true, false};
+ghost use Rattle.std.specs.Prelude.{◌≡◌, ◌≢◌, ◌≤◌, ◌<◌, ◌+◌, suc, List, Some, None, length, slice_get, true, false};
 ghost use Rattle.forec_base.specs.declared.limits.TheConstants.{MAX_BUDGET, MAX_THREADS};
-ghost use Rattle.forec_kernel.specs.Engine.{Job, Reply, Written, Answered, pair_up};
+ghost use Rattle.forec_kernel.specs.Engine.{Job, Reply, Written, Answered};
 ghost use Rattle.forec_kernel.specs.Packed.{HasRoom, IsJob};
 ghost use Rattle.thread_code.specs.Valid.{of_shape};
 ghost use Rattle.combine_tree.specs.Plain.{plain_packet};
@@ -12,7 +12,7 @@ ghost use Rattle.core_machine.specs.Forks.{jobs_at};
 ghost use Rattle.core_machine.specs.declared.thread.Thread.{Thread as PlainThread};
 ghost use Rattle.core_machine.specs.Replies.{Replies_by};
 ghost use Rattle.core_host.specs.Changes.{Grown};
-ghost use Rattle.core_host.specs.Done.{Posts};
+ghost use Rattle.core_host.specs.ChildrenRun.{PostsMore};
 ghost use Rattle.core_host.specs.Keeping.{State, code_in, IsSeated, IsFitted, Sits, QuietAbove, HasPacket, LacksPacket, CanSend, IsCalled, IsBack, Leaves, AtFork, HaveHeard, SettlesReplies, JoinsReplies};
 ghost use Rattle.core_host.specs.Moving.{MovesPacket, HasSent, HasGot, HasLooked};
 
@@ -144,7 +144,7 @@ impl<'c, P: Port<ForecWork> + Drop> Scheduler<'c, P> {
         ensures above { QuietAbove self.new thread.now.number }
         ensures leaves { Leaves thread.now.number thread.now.number self.old self.new }
         ensures heard { (rs : List Reply) × HaveHeard self.new thread.now.branches.numbers rs
-            × ((pairs : List Answered) → Posts (code_in self.old) thread.now.number self.old.mail pairs → Posts (code_in self.old) thread.now.number self.new.mail (pairs ++ pair_up (jobs_at (code_in self.old) thread.now) rs)) }
+            × PostsMore self.old self.new thread.now rs }
     {
         let mut k = 0;
         while let Some(branch) = thread.active(self.code, k) {

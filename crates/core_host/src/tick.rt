@@ -24,7 +24,7 @@ ghost use Rattle.core_host.specs.Outcomes.{HasOutputs, LacksOutputs, HasOutcome}
 ghost use Rattle.core_host.specs.Posts.{IsBranchOf};
 ghost use Rattle.core_host.specs.Rests.{RootRests};
 ghost use Rattle.core_host.specs.Rounds.{AllIdle, CanServe, IsIdleAt, IsSameRound, SomeWorked};
-ghost use Rattle.core_host.specs.Runs.{HasJobs, HasRun};
+ghost use Rattle.core_host.specs.Runs.{HasJobMore, HasJobs, HasRun};
 ghost use Rattle.core_host.specs.Serving.{AllMissed, MovesBranches, KeepsServing};
 ghost use Rattle.core_host.specs.Waiting.{HasChild, HasTold, TellsAll, IsBetween, IsVacant, IsGathering, HasReplies};
 
@@ -342,7 +342,7 @@ impl<'c, P: Port<ForecWork> + Drop> Host<'c, P> {
             → HasOutcome (code_of self.old) (jobs ++ job_of (code_of self.old).shape self.old.root row.now budget ∷ []) result outputs.new }
         ensures stay { LacksOutputs result → outputs.new ≡ outputs.old }
         ensures live { is_live self.new ≡ goes_on result }
-        ensures jobs { (jobs : List Job) → HasJobs self.old jobs → HasJobs self.new (jobs ++ job_of (code_of self.old).shape self.old.root row.now budget ∷ []) }
+        ensures jobs { HasJobMore self.old self.new (job_of (code_of self.old).shape self.old.root row.now budget) }
         ensures grown { Grown self.old.mail self.new.mail }
         ensures rope { KeepsRope self.old.rope self.new.rope }
     {
@@ -377,7 +377,7 @@ impl<'c, P: Port<ForecWork> + Drop> Host<'c, P> {
             → HasOutcome (code_of self.old) (jobs ++ job_of (code_of self.old).shape self.old.root row.now budget ∷ []) result outputs.new }
         ensures stay { LacksOutputs result → outputs.new ≡ outputs.old }
         ensures live { is_live self.new ≡ goes_on result }
-        ensures jobs { (jobs : List Job) → HasJobs self.old jobs → HasJobs self.new (jobs ++ job_of (code_of self.old).shape self.old.root row.now budget ∷ []) }
+        ensures jobs { HasJobMore self.old self.new (job_of (code_of self.old).shape self.old.root row.now budget) }
         ensures grown { Grown self.old.mail self.new.mail }
         ensures rope { KeepsRope self.old.rope self.new.rope }
     {

@@ -1,12 +1,12 @@
 //! What works beside a tick: hosts without thread 0.
-ghost use Rattle.std.specs.Prelude.{◌≡◌, ◌<◌, ℕ, suc, List, IfOk, IfErr, length, true, false};
+ghost use Rattle.std.specs.Prelude.{◌≡◌, ◌<◌, ℕ, suc, List, IfOk, IfErr, true, false};
 ghost use Rattle.forec_kernel.specs.Composed.{Turn};
 ghost use Rattle.forec_kernel.specs.Engine.{Job};
 ghost use Rattle.copy_slots.specs.Ports.{after_stop, after_check};
-ghost use Rattle.core_host.specs.Changes.{Grown, Looked, HasProgressed, HasWorked, IsIdle};
-ghost use Rattle.core_host.specs.Hosted.{code_of, is_live, is_here};
+ghost use Rattle.core_host.specs.Changes.{Grown, Looked, HasProgressed, HasWorked};
+ghost use Rattle.core_host.specs.Hosted.{code_of, is_here};
 ghost use Rattle.core_host.specs.Hung.{KeepsRope};
-ghost use Rattle.core_host.specs.Runs.{HasJobs, HasRun};
+ghost use Rattle.core_host.specs.Runs.{AreIdleHere, HasJobs, HasRun};
 
 use crate::host::{Host, Served};
 use crate::load::is_among;
@@ -78,7 +78,7 @@ impl<'c, P: Port<ForecWork> + Drop> Host<'c, P> {
     /// to do.
     pub(crate) fn serve_beside<R: Wait, G: Gate>(&mut self, rt: &R, gate: &G) -> bool
         ensures worked { result ≡ true → (k : ℕ) × (is_here self.old (suc k) ≡ true) × HasProgressed (code_of self.old).shape self.old.mail self.new.mail k }
-        ensures nothing { result ≡ false → (k : ℕ) → k < length self.old.mail.ends → is_here self.old (suc k) ≡ true → IsIdle (code_of self.old).shape self.old.mail self.new.mail k }
+        ensures nothing { result ≡ false → AreIdleHere self.old self.new }
         ensures code { self.new.code ≡ self.old.code }
         ensures places { self.new.places ≡ self.old.places }
         ensures cores { self.new.cores ≡ self.old.cores }
@@ -180,7 +180,7 @@ impl<'c, P: Port<ForecWork> + Drop> Worker<'c, P> {
     /// [`Host::serve`].
     pub fn serve<G: Gate>(&mut self, gate: &G) -> Served
         ensures worked { (k : ℕ) → result ≡ Served.Worked k → HasWorked (code_of self.old).shape self.old.mail self.new.mail k }
-        ensures nothing { result ≡ Served.Nothing → (k : ℕ) → k < length self.old.mail.ends → is_here self.old (suc k) ≡ true → IsIdle (code_of self.old).shape self.old.mail self.new.mail k }
+        ensures nothing { result ≡ Served.Nothing → AreIdleHere self.old self.new }
         ensures code { self.new.code ≡ self.old.code }
         ensures places { self.new.places ≡ self.old.places }
         ensures cores { self.new.cores ≡ self.old.cores }
@@ -194,7 +194,7 @@ impl<'c, P: Port<ForecWork> + Drop> Worker<'c, P> {
     /// to do.
     pub fn serve_beside<R: Wait, G: Gate>(&mut self, rt: &R, gate: &G) -> bool
         ensures worked { result ≡ true → (k : ℕ) × (is_here self.old (suc k) ≡ true) × HasProgressed (code_of self.old).shape self.old.mail self.new.mail k }
-        ensures nothing { result ≡ false → (k : ℕ) → k < length self.old.mail.ends → is_here self.old (suc k) ≡ true → IsIdle (code_of self.old).shape self.old.mail self.new.mail k }
+        ensures nothing { result ≡ false → AreIdleHere self.old self.new }
         ensures code { self.new.code ≡ self.old.code }
         ensures places { self.new.places ≡ self.old.places }
         ensures cores { self.new.cores ≡ self.old.cores }
