@@ -1,5 +1,5 @@
 -- A thread is served together with the threads that it forks: what stays.
-use Rattle.std.proofs.Common.{◌≡◌, ℕ, suc, ◌<◌, ◌≤◌, true, false, Some, List, [], ◌∷◌, ◌++◌, length, map, refl, sym, ap, ◌∙◌, subst, ⊎_elim, arith}
+use Rattle.std.proofs.Common.{◌≡◌, ℕ, suc, ◌<◌, ◌≤◌, true, false, Some, List, [], ◌∷◌, length, map, refl, sym, ap, ◌∙◌, subst, ⊎_elim, arith}
 use Rattle.std.specs.Prelude.{slice_get}
 use Rattle.std.proofs.lemmas.Bool.{cases_lt}
 use Rattle.std.proofs.lemmas.List.{length-append}
@@ -12,7 +12,7 @@ use Rattle.combine_tree.specs.Plain.{plain_packet}
 use Rattle.core_machine.specs.declared.thread.Thread.{Thread}
 use Rattle.core_machine.specs.Held.{Loaded, StandsFor, HasSettled, HasReply}
 use Rattle.core_machine.specs.Forks.{jobs_at, with_replies}
-use Rattle.copy_slots.specs.Ports.{child_at, answered, ChildIs}
+use Rattle.copy_slots.specs.Ports.{answered, ChildIs}
 use Rattle.core_host.specs.declared.active.Active.{Active}
 use Rattle.core_host.specs.declared.round.Round.{Round}
 use Rattle.core_host.specs.Posts.{Mail, IsBranchOf}

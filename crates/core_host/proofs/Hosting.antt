@@ -25,7 +25,7 @@ use Rattle.core_host.specs.Done.{HasDone}
 use Rattle.core_host.specs.Keeping.{State, code_in, IsSeated, Sits, Idle, HasPacket}
 use Rattle.core_host.specs.Waiting.{IsBetween, rests, waits}
 use Rattle.core_host.specs.Serving.{KeepsServing}
-use Rattle.core_host.specs.Hung.{IsRopeOf, IsHung, KeepsRope}
+use Rattle.core_host.specs.Hung.{IsHung, KeepsRope}
 use Rattle.core_host.specs.Rounds.{CanServe, IsSameRound}
 use Rattle.core_host.specs.declared.round.Round.{Round}
 use Rattle.core_host.specs.Hosted.{Hosted, hosted, is_here, IsWhole}

@@ -1,19 +1,18 @@
 -- Sweeps over mailboxes: whether there was something to do.
-use Rattle.std.proofs.Common.{◌≡◌, ◌≢◌, ℕ, suc, ◌+◌, ◌<◌, ◌≤◌, ◌||◌, Bool, true, false, Some, List, length, refl, sym, ap, ◌∙◌, subst, arith}
+use Rattle.std.proofs.Common.{◌≡◌, ◌≢◌, ℕ, ◌+◌, ◌<◌, ◌≤◌, ◌||◌, Bool, true, false, Some, List, length, refl, sym, ap, ◌∙◌, subst, arith}
 use Rattle.std.specs.Prelude.{slice_get}
 use Rattle.std.proofs.lemmas.List.{length-append}
 use Rattle.std.proofs.lemmas.Option.{slice_get_within}
-use Rattle.forec_kernel.specs.Packets.{PlainPacket}
 use Rattle.forec_kernel.specs.Shapes.{PlainShape}
 use Rattle.thread_code.specs.Plain.{plain_code}
 use Rattle.copy_slots.specs.Ports.{sent, answered}
-use Rattle.core_host.specs.Posts.{Mail, IsBranchOf}
-use Rattle.core_host.specs.Changes.{Extends, Grown, HasWorked, HasProgressed, replied, forked, answered_more, sent_more, IsIdle}
+use Rattle.core_host.specs.Posts.{Mail}
+use Rattle.core_host.specs.Changes.{Grown, HasWorked, HasProgressed, replied, forked, answered_more, sent_more, IsIdle}
 use Rattle.core_host.specs.Keeping.{State, code_in}
 use Rattle.core_host.specs.Serving.{AllMissed, KeepsServing}
 use Rattle.core_host.specs.Rounds.{SomeWorked, AllIdle}
-use Rattle.core_host.proofs.Mails.{by_equal, some_once}
-use Rattle.core_host.proofs.Serves.{idle_from, keeps_same, missed_same, missed_then}
+use Rattle.core_host.proofs.Mails.{by_equal}
+use Rattle.core_host.proofs.Serves.{idle_from, missed_same, missed_then}
 
 -- ---- something was done
 
@@ -36,9 +35,6 @@ progress_then s a b c k (answered_more lt) grown =
 progress_then s a b c k (sent_more j is lt) grown =
     let new = grown.sent j in
     let long = ap length new.is ∙ length-append (sent b j) new.more in sent_more j is (omega (arith, lt, long))
-
-pub some_one : (own : List ℕ) (a b : State) (place k : ℕ) → slice_get own place ≡ Some k → HasWorked (code_in a).shape a.mail b.mail k → SomeWorked own a b
-some_one own a b place k at worked = record { place = place; mailbox = k; at = at; progress = progress_one (code_in a).shape a.mail b.mail k worked }
 
 pub some_from : (own : List ℕ) (a b c : State) → KeepsServing a b → SomeWorked own b c → SomeWorked own a c
 some_from own a b c keeps w = record {

@@ -7,7 +7,7 @@ use Rattle.core_machine.specs.Held.{Loaded, CanRun, HasReply}
 use Rattle.core_host.specs.declared.active.Active.{Active}
 use Rattle.core_host.specs.declared.round.Round.{Round}
 use Rattle.core_host.specs.Hung.{KeepsRope}
-use Rattle.core_host.specs.Keeping.{State, code_in, IsSeated, Leaves}
+use Rattle.core_host.specs.Keeping.{State, code_in, Leaves}
 use Rattle.core_host.specs.Waiting.{HasChild, IsWorking, IsWaiting, IsBetween, IsVacant}
 
 -- What stays where threads above t are served, or where `from` isn't t, those above `from` while thread t + 1 is at work: the threads up to t, their

@@ -1,4 +1,4 @@
-use Rattle.std.proofs.Common.{◌≡◌, ◌<◌, ℕ, suc, true, length, sym, subst}
+use Rattle.std.proofs.Common.{◌≡◌, ◌<◌, suc, true, length, sym, subst}
 use Rattle.core_host.specs.Changes.{HasProgressed, IsIdle}
 use Rattle.core_host.specs.Hosted.{Hosted, code_of, is_here}
 use Rattle.core_host.proofs.Hosting.{served_hosted, each_between, its_own, where_own}

@@ -1,5 +1,4 @@
 use Rattle.std.proofs.Common.{rules, ◌≡◌, true, ◌++◌, ◌∷◌, [], sym, ap, ◌∙◌, subst}
-use Rattle.std.specs.Prelude.{slice_get}
 use Rattle.forec_kernel.specs.Shapes.{PlainShape, plain_shape}
 use Rattle.forec_kernel.specs.Texts.{uses_in}
 use Rattle.forec_kernel.specs.Ticks.{goes_on, values_of}

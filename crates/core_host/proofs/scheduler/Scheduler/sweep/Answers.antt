@@ -1,4 +1,4 @@
-use Rattle.std.proofs.Common.{rules, ◌≡◌, ◌+◌, length, ap, ◌∙◌, arith}
+use Rattle.std.proofs.Common.{rules, ◌≡◌, length, ap, ◌∙◌, arith}
 use Rattle.std.specs.Prelude.{slice_get}
 use Rattle.core_host.proofs.Serves.{keeps_same, keeps_then, keeps_seated}
 use Rattle.core_host.proofs.Hosting.{round_same, round_then, round_still}
