@@ -1,6 +1,5 @@
 -- How a command ends.
 use Rattle.std.specs.Prelude.{◌≡◌, ℕ, Bool, List, Option, None, Some, IfSome}
-use Rattle.forec_base.specs.Outside.{Fell}
 use Rattle.forec_kernel.specs.Shapes.{PlainKernel}
 use Rattle.command_words.specs.Requests.{PlainPlacing, PlainRunning, PlainCommand, Run, Check, Threads, Code, Explain, OnText, OnWorkload, request_of}
 use Rattle.workload.specs.Text.{text_of}
@@ -19,11 +18,6 @@ pub record RunsAs (text : List ℕ) (placing : PlainPlacing) (k : PlainKernel) :
 abbrev pub WantedByText : PlainRunning → List ℕ → Option (List ℕ) → Option (List ℕ) → Option (List ℕ) → Option (List ℕ) → Type 0
 WantedByText running text left_old left_new held_old held_new =
     (k : PlainKernel) × RunsAs text running.placing k × Wanted k running.budget left_old left_new held_old held_new
-
--- the trace failed while the kernel of a text, which runs so, wanted it
-abbrev pub FailsWanted : {S : Type 0} → (S → Option (List ℕ)) → (S → ℕ) → (S → Bool) → PlainRunning → Option (List ℕ) → S → S → Option (List ℕ) → Option (List ℕ) → Type 0
-FailsWanted left faults down running text old new held_old held_new =
-    Fell (faults old) (faults new) (down new) × IfSome text (λ t. WantedByText running t (left old) (left new) held_old held_new)
 
 -- how a command runs over the trace, where it does; rewriting has no list of places
 abbrev pub running_in : PlainCommand → Option PlainRunning

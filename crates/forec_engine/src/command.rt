@@ -7,7 +7,7 @@ ghost use Rattle.workload.specs.Text.{text_of};
 ghost use Rattle.trace_runs.specs.Calls.{AppendsFront};
 ghost use Rattle.forec_engine.specs.Commands.{usage, IsReport, WorkloadReport, HasTextReport, Tells, IsInRange, IsRunnable, HasRanges};
 ghost use Rattle.trace_runs.specs.Ends.{IsOwn, Given};
-ghost use Rattle.forec_engine.specs.Ends.{WantedByText, WantedByWords, FailsWanted, ReadForText, ReadForWords, CommandIsMisplaced, AcceptedSo, IsMisuse, Rewrites, AskForRewriting, running_in};
+ghost use Rattle.forec_engine.specs.Ends.{WantedByText, WantedByWords, ReadForText, ReadForWords, CommandIsMisplaced, AcceptedSo, IsMisuse, Rewrites, AskForRewriting, running_in};
 ghost use Rattle.text_verdict.specs.Judging.{Judged, Says};
 ghost use Rattle.forec_engine.specs.Placing.{IsMisplaced};
 ghost use Rattle.trace_runs.specs.Report.{Report};
@@ -82,7 +82,9 @@ fn run_named<T: Texts, S: Source, K: Sink, G: Gate + Sync, R: Threads + Wait + S
     ensures read { result ≡ Status.ReadFault →
         (Fell (T.faults texts.old) (T.faults texts.new) (T.down texts.new) × (K.held out.new ≡ K.held out.old))
         ⊎ ((running : PlainRunning) × (running_in (plain_command command.entry) ≡ Some running)
-        × FailsWanted S.left S.faults S.down running (T.content texts.old name.now) trace.old trace.new (K.held out.old) (K.held out.new)) }
+        × Fell (S.faults trace.old) (S.faults trace.new) (S.down trace.new)
+        × IfSome (T.content texts.old name.now)
+        (λ text. WantedByText running text (S.left trace.old) (S.left trace.new) (K.held out.old) (K.held out.new))) }
     ensures write { result ≡ Status.WriteFault → Fell (K.faults out.old) (K.faults out.new) (K.down out.new)
         × ((text : List ℕ) → T.content texts.old name.now ≡ Some text
         → HasTextReport (plain_command command.entry) (S.left trace.old) text (λ r. AppendsFront (K.held out.old) (K.held out.new) r.bytes)) }
