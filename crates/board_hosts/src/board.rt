@@ -49,7 +49,7 @@ fn ends_of(
 ///
 /// # Errors
 ///
-/// Want of memory.
+/// Out of memory.
 pub fn board_of(
     alloc: Global,
     code: &Code,

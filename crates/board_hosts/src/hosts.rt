@@ -127,7 +127,7 @@ fn make_next<'b, 'c>(
 ///
 /// # Errors
 ///
-/// Want of memory. The ports and ropes are then gone.
+/// Out of memory. The ports and ropes are then gone.
 pub fn hosts_of<'b, 'c>(
     alloc: Global,
     code: &'c Code,

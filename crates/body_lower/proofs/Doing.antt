@@ -18,7 +18,7 @@ use Rattle.forec_kernel.specs.declared.terms.Statement as rust
 use Rattle.text_kernel.specs.declared.names.Slot.{Slot}
 use Rattle.body_lower.specs.declared.scope.Scope.{Scope}
 use Rattle.body_lower.specs.declared.state.State.{State}
-use Rattle.text_kernel.specs.Lowering.{joined, NextNumbers, Made, Lowered, Listed, Started, InPlace, as_one, params_of, lower_terms, sequence, ends_with, bound_of, or_inferred, optional_test, after_start, then_step, set_params, scope_after, scope_after_perhaps, par_of, par_after, thread_of, lower_statement, lower_list, lower_perhaps, lower_branches}
+use Rattle.text_kernel.specs.Lowering.{joined, NextNumbers, Made, Lowered, Listed, Started, Inlined, as_one, params_of, lower_terms, sequence, ends_with, bound_of, or_inferred, optional_test, after_start, then_step, set_params, scope_after, scope_after_perhaps, par_of, par_after, thread_of, lower_statement, lower_list, lower_perhaps, lower_branches}
 use Rattle.body_lower.proofs.Statements.{joined_none, joined_more}
 use Rattle.body_lower.specs.Views.{seen, Kept, Same, next_of, threads_of, Bare, bare, Does, DoesList, DoesBranches}
 
@@ -41,7 +41,7 @@ pub record Rest (text : Text) (old new : State) : Type 0 where
 pub does_rest : {text : Text} (l : Lowered) (k : Stmt) (old mid new : State) → Rest text mid new → Does text l k old mid → Does text l k old new
 does_rest {text} l k old mid new r d = record { is = d.is; next = r.next ∙ d.next; threads = r.threads ∙ d.threads }
 
-module _ (text : Text) (called : ℕ → InPlace) (t : ℕ) where
+module _ (text : Text) (called : ℕ → Inlined) (t : ℕ) where
   -- ---- a list
 
   pub list_step : (s s1 : List Slot) (n n1 : NextNumbers) (a : Statement) (rest : Statements) → s1 ≡ scope_after text s n.slot a → n1 ≡ (lower_statement text called t s n a).next →
@@ -177,7 +177,7 @@ list_more text l m rest whole xs ys x old now new e d p w =
           ∙ (append_assoc (threads_of text now) (map bare l.made) (map bare m.made) ∙ (ap (λ z. threads_of text now ++ z) (sym (map-append bare l.made m.made)) ∙ q.threads));
     }
 
-pub list_finish : (text : Text) (called : ℕ → InPlace) (t : ℕ) (s : List Slot) (rest whole : Listed) (xs : List rust.Statement) (old now : State) →
+pub list_finish : (text : Text) (called : ℕ → Inlined) (t : ℕ) (s : List Slot) (rest whole : Listed) (xs : List rust.Statement) (old now : State) →
     rest ≡ (let r : Listed = record { list = no_stmts; next = next_of now; made = [] } in r) → ListLeft text rest whole (stmts xs) old now → DoesList text whole (stmts xs) old now
 list_finish text called t s rest whole xs old now e w =
     let r : Listed = record { list = no_stmts; next = next_of now; made = [] } in
@@ -222,7 +222,7 @@ kept_cut a b c n h e s g = record { base = g ∙ h.base; slots = s ∙ (ap (λ m
 
 -- ---- one branch, and the rest
 
-pub branches_step : (text : Text) (called : ℕ → InPlace) (t : ℕ) (s s1 : List Slot) (p : ℕ) (n n1 : NextNumbers) (b : Branch) (rest : Branches) → s1 ≡ s →
+pub branches_step : (text : Text) (called : ℕ → Inlined) (t : ℕ) (s s1 : List Slot) (p : ℕ) (n n1 : NextNumbers) (b : Branch) (rest : Branches) → s1 ≡ s →
     n1 ≡ (lower_branches text called t s p n (branch_with b no_branches)).next →
     lower_branches text called t s p n (branch_with b rest)
     ≡ (let l = lower_branches text called t s p n (branch_with b no_branches) in

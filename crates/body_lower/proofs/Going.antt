@@ -16,13 +16,13 @@ use Rattle.forec_kernel.specs.declared.terms.Launch.{Launch}
 use Rattle.text_kernel.specs.declared.names.Slot.{Slot}
 use Rattle.body_lower.specs.declared.scope.Scope.{Scope}
 use Rattle.body_lower.specs.declared.state.State.{State}
-use Rattle.text_kernel.specs.Lowering.{NextNumbers, Listed, Started, InPlace, as_one, sequence, scope_after, lower_statement, lower_list, lower_branches, body_in_place, in_place_step, nothing_in_place}
+use Rattle.text_kernel.specs.Lowering.{NextNumbers, Listed, Started, Inlined, as_one, sequence, scope_after, lower_statement, lower_list, lower_branches, inlined_body, inlined_step, nothing_inlined}
 use Rattle.body_lower.specs.Landings.{called_within}
 use Rattle.body_lower.specs.Views.{seen, Kept, Same, next_of, threads_of, bare, Does, DoesList, DoesBranches}
 use Rattle.body_lower.proofs.Statements.{drop_next}
 use Rattle.body_lower.proofs.Doing.{ListLeft, BranchesLeft, list_step, list_more, list_finish, branches_more, branches_finish, branches_step, same_seen, par_does}
 
-module _ (text : Text) (called : ℕ → InPlace) (t : ℕ) where
+module _ (text : Text) (called : ℕ → Inlined) (t : ℕ) where
   pub list_goes : (body : List tree_stmt.Stmt) (i : ℕ) (x : tree_stmt.Stmt) (xs ys : List rust.Statement) (k : rust.Statement) (whole : Listed) (old now new : State) →
       i < length body → get_or body i x ≡ x → seen new.scope ≡ scope_after text (seen now.scope) now.slot (statement x) →
       Does text (lower_statement text called t (seen now.scope) (next_of now) (statement x)) (stmt k) now new → ys ≡ xs ++ k ∷ [] →
@@ -81,7 +81,7 @@ as_one_does text l m ks k old one two new e h d g n w =
       threads = w ∙ (q.threads ∙ ap (λ x. x ++ map bare m.made) h);
     }
 
-pub same_list : (text : Text) (called : ℕ → InPlace) (t : ℕ) (s s1 : List Slot) (n n1 : NextNumbers) (a b : List tree_stmt.Stmt) → s ≡ s1 → n ≡ n1 → a ≡ b →
+pub same_list : (text : Text) (called : ℕ → Inlined) (t : ℕ) (s s1 : List Slot) (n n1 : NextNumbers) (a b : List tree_stmt.Stmt) → s ≡ s1 → n ≡ n1 → a ≡ b →
     lower_list text called t s n (statements a) ≡ lower_list text called t s1 n1 (statements b)
 same_list text called t s s1 n n1 a b e d f =
     ap (λ x. lower_list text called t x n (statements a)) e ∙ (ap (λ x. lower_list text called t s1 x (statements a)) d ∙ ap (λ x. lower_list text called t s1 n1 (statements x)) f)
@@ -100,22 +100,22 @@ unfolding within
 place_none text zero id first t s e = record { is = refl; next = refl; threads = sym (append-nil (threads_of text s)) }
 place_none text (suc deep) id first t s e = absurd (omega (arith, e))
 
-pub place_is : (text : Text) (deep id first t : ℕ) (n : NextNumbers) → (deep ≡ 0 → ⊥) → called_within text deep id first t n ≡ body_in_place text (called_within text (deep - 1)) (find_function id text) first t n
+pub place_is : (text : Text) (deep id first t : ℕ) (n : NextNumbers) → (deep ≡ 0 → ⊥) → called_within text deep id first t n ≡ inlined_body text (called_within text (deep - 1)) (find_function id text) first t n
 unfolding within
 place_is text zero id first t n e = absurd (e refl)
 place_is text (suc deep) id first t n e =
     let z : deep ≡ suc deep - 1 = omega arith in
-    ap (λ d. body_in_place text (within nothing_in_place (in_place_step text) d) (find_function id text) first t n) z
+    ap (λ d. inlined_body text (within nothing_inlined (inlined_step text) d) (find_function id text) first t n) z
 
 pub place_unknown : (text : Text) (deep id first t : ℕ) (s : State) → (deep ≡ 0 → ⊥) → find_function id text ≡ None → Does text (called_within text deep id first t (next_of s)) kernel.Nop s s
 place_unknown text deep id first t s e f =
-    let same = place_is text deep id first t (next_of s) e ∙ ap (λ o. body_in_place text (called_within text (deep - 1)) o first t (next_of s)) f in
+    let same = place_is text deep id first t (next_of s) e ∙ ap (λ o. inlined_body text (called_within text (deep - 1)) o first t (next_of s)) f in
     subst (λ l. Does text l kernel.Nop s s) (sym same) (record { is = refl; next = refl; threads = sym (append-nil (threads_of text s)) })
 
 pub place_known : (text : Text) (deep below id first t : ℕ) (f : PlainFunction) (k : Stmt) (old new : State) → (deep ≡ 0 → ⊥) → below ≡ deep - 1 → find_function id text ≡ Some f →
-    Does text (body_in_place text (called_within text below) (Some f) first t (next_of old)) k old new → Does text (called_within text deep id first t (next_of old)) k old new
+    Does text (inlined_body text (called_within text below) (Some f) first t (next_of old)) k old new → Does text (called_within text deep id first t (next_of old)) k old new
 place_known text deep below id first t f k old new e z g d =
     let same =
     place_is text deep id first t (next_of old) e
-    ∙ (ap (λ o. body_in_place text (called_within text (deep - 1)) o first t (next_of old)) g ∙ ap (λ b. body_in_place text (called_within text b) (Some f) first t (next_of old)) (sym z)) in
+    ∙ (ap (λ o. inlined_body text (called_within text (deep - 1)) o first t (next_of old)) g ∙ ap (λ b. inlined_body text (called_within text b) (Some f) first t (next_of old)) (sym z)) in
     subst (λ l. Does text l k old new) (sym same) d

@@ -1,10 +1,10 @@
-pub mod Trailed
+pub mod TrailLemmas
 pub mod Looked
 pub mod Lists
 pub mod Statements
 pub mod Doing
-pub mod Numbered
+pub mod NumberingLemmas
 pub mod Going
-pub mod Landed
+pub mod LandingLemmas
 pub mod Pended
-pub mod Adding
+pub mod AdditionLemmas

@@ -1,7 +1,7 @@
 -- Looking a local up: where its number stands last is where it is found.
 use Rattle.std.proofs.Common.{ℕ, zero, suc, ◌+◌, ◌-◌, ◌==◌, ◌<◌, ◌≤◌, ◌≡◌, ◌∙◌, sym, ap, refl, true, false, cond, Option, Some, None, List, [], ◌∷◌, ◌++◌, length, take, drop, get_or, map, arith, length-take}
 use Rattle.std.proofs.lemmas.List.{length-map, take-append-drop}
-use Rattle.loop_check.proofs.Indexed.{split}
+use Rattle.loop_check.proofs.IndexLemmas.{split}
 use Rattle.text_kernel.specs.declared.names.Slot.{Slot}
 use Rattle.body_lower.specs.declared.trail.Link.{Link}
 use Rattle.text_kernel.specs.Bindings.{slot_id, find_slot}

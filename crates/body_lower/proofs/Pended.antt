@@ -14,7 +14,7 @@ use Rattle.forec_tree.specs.Pauses.{find_function}
 use Rattle.forec_kernel.specs.Terms as kernel
 use Rattle.forec_kernel.specs.Terms.{Stmt}
 use Rattle.text_kernel.specs.declared.names.Slot.{Slot}
-use Rattle.text_kernel.specs.Lowering.{NextNumbers, Lowered, InPlace, as_one, params_of, thread_of, lower_terms, lower_list, lower_branches}
+use Rattle.text_kernel.specs.Lowering.{NextNumbers, Lowered, Inlined, as_one, params_of, thread_of, lower_terms, lower_list, lower_branches}
 use Rattle.body_lower.specs.declared.added.Added.{Added}
 use Rattle.body_lower.specs.declared.state.Pending.{Pending}
 use Rattle.body_lower.specs.declared.state.State.{State}
@@ -36,7 +36,7 @@ stack_pushed text (p ∷ ps) q =
     ap (λ l. l ++ map bare (made_of text p)) (stack_pushed text ps q) ∙ append_assoc (map bare (made_of text q)) (threads_on text ps) (map bare (made_of text p))
 
 -- what a branch becomes doesn't hang on the scope and the slot in which its `par` stands
-made_anywhere : (text : Text) (called : ℕ → InPlace) (t p : ℕ) (s : List Slot) (n : NextNumbers) (b : Branch) →
+made_anywhere : (text : Text) (called : ℕ → Inlined) (t p : ℕ) (s : List Slot) (n : NextNumbers) (b : Branch) →
     (lower_branches text called t [] p (record { slot = 0; thread = n.thread; par = n.par }) (branch_with b no_branches)).made ≡ (lower_branches text called t s p n (branch_with b no_branches)).made
 made_anywhere text called t p s n (Call name args) = refl
 made_anywhere text called t p s n (Group' place shape body) = refl
@@ -44,7 +44,7 @@ made_anywhere text called t p s n (Group' place shape body) = refl
 abbrev next_at : ℕ → ℕ → ℕ → NextNumbers
 next_at slot thread par = record { slot = slot; thread = thread; par = par }
 
-next_behind : (text : Text) (called : ℕ → InPlace) (t p : ℕ) (s : List Slot) (n : NextNumbers) (b : Branch) →
+next_behind : (text : Text) (called : ℕ → Inlined) (t p : ℕ) (s : List Slot) (n : NextNumbers) (b : Branch) →
     (let l = lower_branches text called t s p n (branch_with b no_branches) in next_at n.slot l.next.thread l.next.par ≡ l.next)
 next_behind text called t p s n (Call name args) = refl
 next_behind text called t p s n (Group' place shape body) = refl

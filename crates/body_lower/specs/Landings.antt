@@ -3,7 +3,7 @@ use Rattle.std.specs.Prelude.{ℕ, ◌+◌, ◌≡◌, ◌==◌, cond, Option, S
 use Rattle.forec_tree.specs.Plain.{statement}
 use Rattle.forec_tree.specs.Terms.{Text, Statement, Group, Statements, no_statements, more_statements}
 use Rattle.forec_tree.specs.Pauses.{within}
-use Rattle.text_kernel.specs.Lowering.{NextNumbers, InPlace, in_place_step, nothing_in_place, lower_statement}
+use Rattle.text_kernel.specs.Lowering.{NextNumbers, Inlined, inlined_step, nothing_inlined, lower_statement}
 use Rattle.text_kernel.specs.declared.names.Slot.{Slot}
 use Rattle.body_lower.specs.declared.landing.Landing.{Landing}
 
@@ -20,11 +20,11 @@ inside _ = None
 
 -- two statements become the same wherever they stand
 abbrev pub SameKernel : Statement → Statement → Type 0
-SameKernel a b = (text : Text) (called : ℕ → InPlace) (t : ℕ) (s : List Slot) (n : NextNumbers) → lower_statement text called t s n a ≡ lower_statement text called t s n b
+SameKernel a b = (text : Text) (called : ℕ → Inlined) (t : ℕ) (s : List Slot) (n : NextNumbers) → lower_statement text called t s n a ≡ lower_statement text called t s n b
 
 -- what is called as a statement is inlined, up to so many calls deep
-abbrev pub called_within : Text → ℕ → ℕ → InPlace
-called_within text deep = within nothing_in_place (in_place_step text) deep
+abbrev pub called_within : Text → ℕ → ℕ → Inlined
+called_within text deep = within nothing_inlined (inlined_step text) deep
 
 -- The function of a name becomes what the statement of its landing does, which sees global names alone and so many calls fewer.
 abbrev pub FunctionLands : Text → ℕ → Option Landing → Type 0

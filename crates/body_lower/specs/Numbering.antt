@@ -4,33 +4,33 @@ use Rattle.forec_tree.specs.Terms.{Text, PlainItem, PlainGlobal}
 use Rattle.forec_tree.specs.Scopes.{is_constant}
 use Rattle.text_kernel.specs.declared.names.Stands.{Stands}
 use Rattle.text_kernel.specs.declared.names.Stands.TheVariants as st
-use Rattle.body_lower.specs.declared.globals.ItemCounts.{ItemCounts}
+use Rattle.body_lower.specs.declared.globals.KernelIndices.{KernelIndices}
 use Rattle.text_kernel.specs.Bindings.{item_id, is_variable, is_table, is_int_function, first_value}
 
-abbrev pub none : ItemCounts
+abbrev pub none : KernelIndices
 none = record { variables = 0; tables = 0; functions = 0 }
 
 abbrev pub more_if : ℕ → Bool → ℕ
 more_if n b = n + cond b 1 0
 
-abbrev pub counted : ItemCounts → PlainItem → ItemCounts
+abbrev pub counted : KernelIndices → PlainItem → KernelIndices
 counted c i =
     record { variables = more_if c.variables (is_variable i); tables = more_if c.tables (is_table i); functions = more_if c.functions (is_int_function i) }
 
 -- the counts before the first item of a name, or after all
-abbrev pub before_name : ℕ → ItemCounts → Text → ItemCounts
+abbrev pub before_name : ℕ → KernelIndices → Text → KernelIndices
 before_name id c [] = c
 before_name id c (i ∷ rest) = cond (item_id i == id) c (before_name id (counted c i) rest)
 
-abbrev pub given : Option ItemCounts → ItemCounts → ItemCounts
+abbrev pub given : Option KernelIndices → KernelIndices → KernelIndices
 given None c = c
 given (Some d) c = d
 
 -- counts were put at a name that had none
-abbrev pub noted : ℕ → ℕ → ItemCounts → Option ItemCounts → Option ItemCounts
+abbrev pub noted : ℕ → ℕ → KernelIndices → Option KernelIndices → Option KernelIndices
 noted id g c old = cond (id == g) (Some (given old c)) old
 
 -- what a global stands for, with the counts before it
-abbrev pub global_stands : ItemCounts → PlainGlobal → Stands
+abbrev pub global_stands : KernelIndices → PlainGlobal → Stands
 global_stands c g =
     cond (is_constant g.kind) (elim g.length [ None ↦ st.AsNumber (first_value g.values) | Some n ↦ st.AsTable c.tables ]) (st.AsVariable c.variables)

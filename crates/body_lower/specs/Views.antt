@@ -19,7 +19,7 @@ use Rattle.body_lower.specs.Landings.{called_within, AllLand}
 use Rattle.body_lower.specs.declared.state.Pending.{Pending}
 use Rattle.body_lower.specs.declared.state.Thread.{Thread}
 use Rattle.body_lower.specs.declared.state.State.{State}
-use Rattle.text_kernel.specs.Lowering.{NextNumbers, Made, Lowered, Listed, Started, InPlace, as_one, scope_after, scope_after_perhaps, optional_test, lower_statement, lower_perhaps, lower_list, lower_branches, body_in_place}
+use Rattle.text_kernel.specs.Lowering.{NextNumbers, Made, Lowered, Listed, Started, Inlined, as_one, scope_after, scope_after_perhaps, optional_test, lower_statement, lower_perhaps, lower_list, lower_branches, inlined_body}
 use Rattle.text_kernel.specs.declared.names.Slot.{Slot}
 use Rattle.body_lower.specs.declared.scope.Scope.{Scope}
 
@@ -104,7 +104,7 @@ context_text c = text_of c.source.now.globals.index
 
 -- the arguments of a single branch, from where it stands
 abbrev pub Launches : Text → List Slot → Branches → Exprs → Type 0
-Launches text s bs args = (called : ℕ → InPlace) (t p : ℕ) (n : NextNumbers) → (lower_branches text called t s p n bs).launches ≡ record { thread = n.thread; args = args } ∷ []
+Launches text s bs args = (called : ℕ → Inlined) (t p : ℕ) (n : NextNumbers) → (lower_branches text called t s p n bs).launches ≡ record { thread = n.thread; args = args } ∷ []
 
 -- the same, in a context
 abbrev pub Done : Context → Statement → Stmt → State → State → Type 0
@@ -149,7 +149,7 @@ DoneCall c id first k old new =
 -- the body of a function, inlined with its parameters from a slot on
 abbrev pub DoneFunction : Context → PlainFunction → (first : ℕ) → Stmt → State → State → Type 0
 DoneFunction c f first k old new =
-    let text = text_of c.source.now.globals.index in Does text (body_in_place text (called_within text c.deep) (Some f) first c.owner (next_of old)) k old new
+    let text = text_of c.source.now.globals.index in Does text (inlined_body text (called_within text c.deep) (Some f) first c.owner (next_of old)) k old new
 
 -- the locals that are seen after a statement
 abbrev pub SeenAfter : Context → Statement → State → State → Type 0

@@ -144,7 +144,7 @@ fn of_list(table: &[Option<Added>], list: &[Stmt]) -> Result<Added, OutOfMemory>
 ///
 /// # Errors
 ///
-/// Want of memory, also where it adds more threads than 32 bits hold.
+/// Out of memory, also where it adds more threads than 32 bits hold.
 #[cycle(added)]
 pub fn of_branch(table: &[Option<Added>], one: &Branch) -> Result<Added, OutOfMemory>
     ensures { IfOk result (λ a. (text : Text) → AllAdd text table.now → BranchesAdd text (plain.branches (one.now ∷ [])) a) }

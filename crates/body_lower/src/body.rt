@@ -264,7 +264,7 @@ fn call<'p>(
         args,
     )?;
     state.slot = after;
-    let body = in_place(context, fuel, first, state, name.id)?;
+    let body = inlined(context, fuel, first, state, name.id)?;
     list.push(body)?;
     Ok(sequence(list))
 }
@@ -446,9 +446,9 @@ fn block<'p>(
 ///
 /// # Errors
 ///
-/// Want of memory, also where more than `fuel` levels of the kernel nest.
+/// Out of memory, also where more than `fuel` levels of the kernel nest.
 #[cycle(body)]
-pub fn in_place<'p>(
+pub fn inlined<'p>(
     context: &Context<'_, 'p>,
     fuel: u32,
     first: u32,
@@ -477,11 +477,11 @@ pub fn in_place<'p>(
     }
 }
 
-/// The body of a function, with slots of its parameters from `first` on; for the rest as `in_place`.
+/// The body of a function, with slots of its parameters from `first` on; for the rest as `inlined`.
 ///
 /// # Errors
 ///
-/// Want of memory, also where more than `fuel` levels of the kernel nest.
+/// Out of memory, also where more than `fuel` levels of the kernel nest.
 #[cycle(body)]
 pub fn in_function<'p>(
     context: &Context<'_, 'p>,

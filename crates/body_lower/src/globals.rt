@@ -15,7 +15,7 @@ use text_kernel::Stands;
 
 /// How many variables, constant arrays and int functions stand before an item.
 #[derive(Clone, Copy)]
-pub struct ItemCounts {
+pub struct KernelIndices {
     pub variables: u32,
     pub tables: u32,
     pub functions: u32,
@@ -25,8 +25,8 @@ pub struct ItemCounts {
 #[derive(Drop)]
 pub struct Globals<'p> {
     pub index: Index<'p>,
-    before: Vec<Option<ItemCounts>>,
-    pub total: ItemCounts,
+    before: Vec<Option<KernelIndices>>,
+    pub total: KernelIndices,
     ghost right: { (id : ℕ) → numbering.given (slice_index_or before.items id None) total ≡ numbering.before_name id numbering.none (text_of index) },
 }
 
@@ -77,10 +77,10 @@ fn is_int_function(item: &Item) -> bool
 }
 
 /// The counts after an item.
-fn counted(counts: ItemCounts, item: &Item) -> Result<ItemCounts, OutOfMemory>
+fn counted(counts: KernelIndices, item: &Item) -> Result<KernelIndices, OutOfMemory>
     ensures { IfOk result (λ c. c ≡ numbering.counted counts (plain_item item.now)) }
 {
-    Ok(ItemCounts {
+    Ok(KernelIndices {
         variables: one_more(counts.variables, is_variable(item))?,
         tables: one_more(counts.tables, is_table(item))?,
         functions: one_more(counts.functions, is_int_function(item))?,
@@ -89,9 +89,9 @@ fn counted(counts: ItemCounts, item: &Item) -> Result<ItemCounts, OutOfMemory>
 
 /// Puts counts at a name that has none.
 fn note(
-    before: &mut Vec<Option<ItemCounts>>,
+    before: &mut Vec<Option<KernelIndices>>,
     id: u32,
-    counts: ItemCounts,
+    counts: KernelIndices,
 ) -> Result<(), OutOfMemory>
     ensures { OnOk result ((g : ℕ) → slice_index_or before.new.items g None ≡ numbering.noted id g counts (slice_index_or before.old.items g None)) }
 {
@@ -123,7 +123,7 @@ pub fn first_value(global: &Variable) -> i32
 }
 
 /// What a global stands for, with the counts before it.
-fn global_stands(counts: ItemCounts, global: &Variable) -> Stands
+fn global_stands(counts: KernelIndices, global: &Variable) -> Stands
     ensures { result ≡ numbering.global_stands counts (plain_global global.now) }
 {
     if !is_constant(global.kind) {
@@ -146,13 +146,13 @@ impl<'p> Globals<'p> {
     ///
     /// # Errors
     ///
-    /// Want of memory.
+    /// Out of memory.
     pub fn of(alloc: Global, items: &'p [Item]) -> Result<Globals<'p>, OutOfMemory>
         ensures { IfOk result (λ g. text_of g.index ≡ map plain_item items.now) }
     {
         let index = Index::of(alloc, items)?;
         let mut before = Vec::new(alloc);
-        let mut total = ItemCounts {
+        let mut total = KernelIndices {
             variables: 0,
             tables: 0,
             functions: 0,
@@ -168,7 +168,7 @@ impl<'p> Globals<'p> {
         })
     }
 
-    fn counts(&self, id: u32) -> ItemCounts
+    fn counts(&self, id: u32) -> KernelIndices
         ensures { result ≡ numbering.before_name id numbering.none (text_of self.now.index) }
     {
         match self.before.get(id as usize) {

@@ -18,9 +18,9 @@ mod term;
 mod threads;
 mod trail;
 
-pub use body::{FUEL, in_function, in_place};
+pub use body::{FUEL, in_function, inlined};
 pub use context::Context;
-pub use globals::{Globals, ItemCounts, first_number, first_value, is_constant};
+pub use globals::{Globals, KernelIndices, first_number, first_value, is_constant};
 pub use parts::{count, sum};
 pub use scope::Scope;
 pub use source::Source;

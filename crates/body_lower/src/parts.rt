@@ -32,7 +32,7 @@ pub fn boxed_term(alloc: Global, e: Expression) -> Result<Box<Expression>, OutOf
 ///
 /// # Errors
 ///
-/// Want of memory: past 32 bits there is none for so many.
+/// Out of memory: past 32 bits there is none for so many.
 pub fn sum(a: u32, b: u32) -> Result<u32, OutOfMemory>
     ensures ok { IfOk result (λ n. n ≡ a + b) }
     ensures refused { OnErr result (2 ^ 32 ≤ a + b) }
@@ -74,7 +74,7 @@ pub fn both(
 ///
 /// # Errors
 ///
-/// Want of memory: past 32 bits there is none for so many.
+/// Out of memory: past 32 bits there is none for so many.
 pub fn count(n: usize) -> Result<u32, OutOfMemory>
     ensures ok { IfOk result (λ m. m ≡ n) }
     ensures refused { OnErr result (2 ^ 32 ≤ n) }

@@ -33,9 +33,9 @@ impl<'p> Source<'p> {
     ///
     /// # Errors
     ///
-    /// Want of memory.
+    /// Out of memory.
     pub fn of(alloc: Global, items: &'p [Item]) -> Result<Source<'p>, OutOfMemory>
-        requires { (f : ℕ) → Leads (pauses.starts (map plain.plain_item items.now)) f f → ⊥ }
+        requires { (f : ℕ) → Leads (pauses.callees_of (map plain.plain_item items.now)) f f → ⊥ }
         ensures text { IfOk result (λ s. text_of s.globals.index ≡ map plain.plain_item items.now) }
         ensures same { IfOk result OneText }
     {
@@ -75,7 +75,7 @@ impl<'p> Source<'p> {
     ///
     /// # Errors
     ///
-    /// Want of memory, also where there are more than 32 bits hold.
+    /// Out of memory, also where there are more than 32 bits hold.
     pub fn added_by(&self, one: &Branch) -> Result<Added, OutOfMemory>
         requires { OneText self.now }
         ensures { IfOk result (BranchesAdd (text_of self.now.globals.index) (plain.branches (one.now ∷ []))) }

@@ -11,7 +11,7 @@ ghost use Rattle.loop_check.specs.Views.{text_of};
 ghost use Rattle.text_kernel.specs.Lowering as lowering;
 ghost use Rattle.body_lower.specs.Views.{OneText, Same, DoneAsOne, of_thread, IsMade, IsMadeBy, threads_in, threads_of, threads_on};
 
-use crate::body::{FUEL, in_place, list};
+use crate::body::{FUEL, inlined, list};
 use crate::context::Context;
 use crate::parts::{count, sequence, sum};
 use crate::source::Source;
@@ -64,7 +64,7 @@ fn calling<'p>(
     let params = params_of(context.source, name.id)?;
     let taken = count(args.len())?;
     state.slot = taken;
-    let body = in_place(context, FUEL, 0, state, name.id)?;
+    let body = inlined(context, FUEL, 0, state, name.id)?;
     Ok(Thread {
         parent: one.parent,
         par: one.par,

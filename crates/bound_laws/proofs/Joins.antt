@@ -4,7 +4,7 @@ use Rattle.std.proofs.lemmas.Bool.Decides.{nat_tests}
 use Rattle.forec_base.specs.declared.Policy.{Policy}
 use Rattle.forec_kernel.specs.declared.shape.VarCopy.{VarCopy}
 use Rattle.forec_kernel.specs.Shapes.{PlainKernel}
-use Rattle.forec_kernel.specs.Values.{Value, Gives, Stops, more_units, call, copy_of}
+use Rattle.forec_kernel.specs.Values.{Value, Gives, Raises, more_units, call, copy_of}
 use Rattle.forec_kernel.specs.Texts.{Threads, no_threads, child, is_active, uses_of}
 use Rattle.forec_kernel.specs.Combining.{Share, contains, shares, takes_part, taking_part, Joint, fold_calls, variable_calls, variable_of, combine_of, part_of, calls_of, calls_from, calls_at, count_threads, in_order, Cost, Costs, Fails, more_cost, cost_of, join_cost}
 use Rattle.forec_kernel.specs.WellFormed.{users}
@@ -33,7 +33,7 @@ more_cost_le u (Fails place trap v) n h = omega arith
 cost_of_le : (vs : List Value) → join_units (cost_of vs) ≤ units_sum vs
 cost_of_le [] = omega arith
 cost_of_le (Gives n u ∷ vs) = more_cost_le u (cost_of vs) (units_sum vs) (cost_of_le vs)
-cost_of_le (Stops place trap u ∷ vs) = omega arith
+cost_of_le (Raises place trap u ∷ vs) = omega arith
 
 sum_append : (vs ws : List Value) → units_sum (vs ++ ws) ≡ units_sum vs + units_sum ws
 sum_append [] ws = omega arith
@@ -98,10 +98,10 @@ fold_le f b h (s ∷ ss) total = pick (f total s.copy.value) (h total s.copy.val
         joint_sum
         (elim v [
           | Gives n u ↦ record { from = s.from; gives = Gives n u } ∷ fold_calls f n ss
-          | Stops place trap u ↦ record { from = s.from; gives = Stops place trap u } ∷ []
+          | Raises place trap u ↦ record { from = s.from; gives = Raises place trap u } ∷ []
         ]) ≤ suc (length ss) * b
     pick (Gives n u) e ih = omega (arith, ih n)
-    pick (Stops place trap u) e ih = omega arith
+    pick (Raises place trap u) e ih = omega arith
 
 taking_few : (policy : Policy) (base : ℤ) (ss : List Share) → length (taking_part policy base ss) ≤ length ss
 taking_few policy base [] = omega arith

@@ -8,7 +8,7 @@ use Rattle.forec_kernel.specs.declared.terms.Spot.TheVariants as spot
 use Rattle.forec_kernel.specs.declared.shape.VarCopy.{VarCopy}
 use Rattle.forec_kernel.specs.Terms.{Expr, Num, Branch, Stmt, Set, Seq, If, While, Pause, Par, Enter, Stmts, no_stmts, more_stmts}
 use Rattle.forec_kernel.specs.Shapes.{PlainKernel}
-use Rattle.forec_kernel.specs.Values.{Value, Gives, Stops, Values, AllGive, OneStops, Setting, setting, Sight, vals}
+use Rattle.forec_kernel.specs.Values.{Value, Gives, Raises, Values, AllGive, OneRaises, Setting, setting, Sight, vals}
 use Rattle.forec_kernel.specs.Texts.{Loop, After, Go_on, Again, Status, Running, Paused, Ended, Gone, Trapped, Text, Done, Then, Turning, Fork, Held, Watch, Threads, no_threads, child, child_of, text_of, after_text, all_over, some_running, runs_at, first_trap, ended_are_gone, uses_of, words_of, params_of, body_of}
 use Rattle.forec_kernel.specs.Combining.{Cost, Costs, Fails, join_cost}
 use Rattle.forec_kernel.specs.Steps.{Path, Owner, evaluated, Move, Finished, Halts, Moves, Traps, more_move, move_with, turned, Arguments, Ready, Refused, arguments_then, arguments, started, forked, combined, joined, thread_after, move_before, move_watched, place_at, path_below, text_move, child_move}
@@ -44,12 +44,12 @@ more_not_ended N u (Traps place trap v) h = tt
 
 pub with_not_ended : (N : AfterText) (v : Value) (go : ℤ → Move) → ((x : ℤ) (u : ℕ) → v ≡ Gives x u → NotEnded N (go x)) → NotEnded N (move_with v go)
 with_not_ended N (Gives x u) go h = more_not_ended N u (go x) (h x u refl)
-with_not_ended N (Stops place trap u) go h = tt
+with_not_ended N (Raises place trap u) go h = tt
 
 -- a test that holds, or traps
 abbrev pub Holds : Value → Type 0
 Holds (Gives n u) = is_zero n ≡ false
-Holds (Stops place trap u) = Unit {0}
+Holds (Raises place trap u) = Unit {0}
 
 module _ (k : PlainKernel) (size : ℕ) (uses : List ℕ) where
   abbrev o : Owner
@@ -183,7 +183,7 @@ module _ (k : PlainKernel) (size : ℕ) (uses : List ℕ) where
           NotEnded (Never m)
           (move_before (Go_on (more_stmts (While test bound body place) no_stmts)) w c
           (move_with v (λ n. Moves Done (slice_set w slot n) c 1)))
-      set_move (Stops p trap u) holds = tt
+      set_move (Raises p trap u) holds = tt
       set_move (Gives n u) holds = from_done m (slice_set w slot n) (length-set w slot n ∙ z) (holds n u refl)
         where
           from_done : (m : ℕ) (w : List ℤ) → length w ≡ size → Holds (evaluated o w c test) →
@@ -298,13 +298,13 @@ module _ (k : PlainKernel) (uses : List ℕ) where
     starts_now m c b bs (AllGive ns u) (Ready lists v) h =
         inl (h m _ _ (taken_length ns (params_of k b.thread) (words_of k b.thread) (params b.thread)))
     starts_now m c b bs (AllGive ns u) (Refused place trap v) h = tt
-    starts_now m c b bs (OneStops place trap u) rest h = tt
+    starts_now m c b bs (OneRaises place trap u) rest h = tt
 
     starts_later : (m : ℕ) (c : List VarCopy) (b : Branch) (bs : List Branch) (vs : Values) (rest : Arguments) → SomeStarts m c bs rest →
         SomeStarts m c (b ∷ bs) (arguments_then vs rest)
     starts_later m c b bs (AllGive ns u) (Ready lists v) h = inr h
     starts_later m c b bs (AllGive ns u) (Refused place trap v) h = tt
-    starts_later m c b bs (OneStops place trap u) rest h = tt
+    starts_later m c b bs (OneRaises place trap u) rest h = tt
 
     starts : (m : ℕ) (c : List VarCopy) (s : Setting) (e : Sight) (bs : List Branch) → SomeNever bs → SomeStarts m c bs (arguments s e bs)
     starts m c s e [] h = absurd h

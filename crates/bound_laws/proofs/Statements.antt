@@ -7,7 +7,7 @@ use Rattle.forec_kernel.specs.declared.terms.Spot.TheVariants as spot
 use Rattle.forec_kernel.specs.declared.shape.VarCopy.{VarCopy}
 use Rattle.forec_kernel.specs.Terms.{Expr, Branch, Stmt, Nop, Set, SetAt, Clear, Seq, If, While, Pause, Par, Enter, Return, Stmts, no_stmts, more_stmts}
 use Rattle.forec_kernel.specs.Shapes.{PlainKernel}
-use Rattle.forec_kernel.specs.Values.{Values, AllGive, OneStops, Setting, setting, Sight, vals, index_in, fresh_words}
+use Rattle.forec_kernel.specs.Values.{Values, AllGive, OneRaises, Setting, setting, Sight, vals, index_in, fresh_words}
 use Rattle.forec_kernel.specs.Texts.{Go_on, Text, Done, Run, Turning, Fork, Watch, Last, text_of, texts_of, then_list, uses_of, words_of, params_of, body_of, handed_down}
 use Rattle.forec_kernel.specs.Steps.{Owner, evaluated, Moves, move_with, assigned, assigned_at, entered, Arguments, Ready, Refused, arguments_then, arguments, started, forked, statement_move}
 use Rattle.forec_kernel.specs.WellFormed.{threads_in, pars_of, pars_in}
@@ -30,7 +30,7 @@ args_units (Refused place trap u) = u
 args_then_le : (vs : Values) (rest : Arguments) (a b : ℕ) → cost_all vs ≤ a → args_units rest ≤ b → args_units (arguments_then vs rest) ≤ a + b
 args_then_le (AllGive ns u) (Ready lists v) a b h g = omega arith
 args_then_le (AllGive ns u) (Refused place trap v) a b h g = omega arith
-args_then_le (OneStops place trap u) rest a b h g = omega arith
+args_then_le (OneRaises place trap u) rest a b h g = omega arith
 
 args_le : (k : PlainKernel) (e : Sight) (bs : List Branch) → args_units (arguments (setting k) e bs) ≤ args_bound (function_bound k) bs
 args_le k e [] = omega arith
@@ -47,7 +47,7 @@ fit_then : (o : Owner) (copies : List VarCopy) (b : Branch) (bs : List Branch) (
     Fit o copies (b ∷ bs) (arguments_then vs rest)
 fit_then o copies b bs (AllGive ns u) (Ready lists v) h = ap (λ ts. b.thread ∷ ts) h
 fit_then o copies b bs (AllGive ns u) (Refused place trap v) h = tt
-fit_then o copies b bs (OneStops place trap u) rest h = tt
+fit_then o copies b bs (OneRaises place trap u) rest h = tt
 
 fit : (o : Owner) (copies : List VarCopy) (s : Setting) (e : Sight) (bs : List Branch) → Fit o copies bs (arguments s e bs)
 fit o copies s e [] = refl

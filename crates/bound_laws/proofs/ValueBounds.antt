@@ -7,7 +7,7 @@ use Rattle.forec_kernel.specs.declared.terms.Spot.{Spot}
 use Rattle.forec_kernel.specs.declared.terms.Spot.TheVariants as spot
 use Rattle.forec_kernel.specs.Terms.{Expr, Num, Local, LocalAt, Var, TableAt, Un, Bin, And, Or, Choose, Call, Exprs, no_exprs, more_exprs, Stmt, Nop, Set, SetAt, Clear, Seq, If, While, Pause, Par, Enter, Return, Stmts, no_stmts, more_stmts}
 use Rattle.forec_kernel.specs.Shapes.{PlainKernel}
-use Rattle.forec_kernel.specs.Values.{Value, Gives, Stops, more_units, value_then, Values, AllGive, OneStops, one_more, first_then, values_then, Setting, Sight, word, index_in, at_index, divided, val, vals, Flow, Goes, Returns, Breaks, more_flow, flow_with, flow_then, words_alone, stored_at, stored, turns, flow, flows, returned, fresh_words, function_words, call_within}
+use Rattle.forec_kernel.specs.Values.{Value, Gives, Raises, more_units, value_then, Values, AllGive, OneRaises, one_more, first_then, values_then, Setting, Sight, word, index_in, at_index, divided, val, vals, Flow, Goes, Returns, Breaks, more_flow, flow_with, flow_then, words_alone, stored_at, stored, turns, flow, flows, returned, fresh_words, function_words, call_within}
 use Rattle.forec_kernel.specs.WellFormed.{function_body}
 use Rattle.tick_bounds.specs.Bound.{Bounds, expr_bound, exprs_bound, stmt_bound, stmts_bound, function_within}
 
@@ -15,11 +15,11 @@ use Rattle.tick_bounds.specs.Bound.{Bounds, expr_bound, exprs_bound, stmt_bound,
 
 abbrev pub cost : Value → ℕ
 cost (Gives n u) = u
-cost (Stops place trap u) = u
+cost (Raises place trap u) = u
 
 abbrev pub cost_all : Values → ℕ
 cost_all (AllGive ns u) = u
-cost_all (OneStops place trap u) = u
+cost_all (OneRaises place trap u) = u
 
 abbrev pub flow_cost : Flow → ℕ
 flow_cost (Goes words u) = u
@@ -30,12 +30,12 @@ flow_cost (Breaks place trap u) = u
 
 pub more_le : (u : ℕ) (v : Value) (a c : ℕ) → cost v ≤ a → u + a ≤ c → cost (more_units u v) ≤ c
 more_le u (Gives n w) a c h fits = omega arith
-more_le u (Stops place trap w) a c h fits = omega arith
+more_le u (Raises place trap w) a c h fits = omega arith
 
 pub then_le : (v : Value) (go : ℤ → Value) (a b c : ℕ) → cost v ≤ a → ((x : ℤ) → cost (go x) ≤ b) → a + b ≤ c →
     cost (value_then v go) ≤ c
 then_le (Gives n u) go a b c h g fits = more_le u (go n) b c (g n) (omega arith)
-then_le (Stops place trap u) go a b c h g fits = omega arith
+then_le (Raises place trap u) go a b c h g fits = omega arith
 
 pub either_le : (b : Bool) (p q : Value) (c : ℕ) → cost p ≤ c → cost q ≤ c → cost (elim b [ true ↦ p | false ↦ q ]) ≤ c
 either_le true p q c hp hq = hp
@@ -51,16 +51,16 @@ divided_le None place = omega arith
 
 one_more_le : (n : ℤ) (u : ℕ) (vs : Values) (b c : ℕ) → cost_all vs ≤ b → u + b ≤ c → cost_all (one_more n u vs) ≤ c
 one_more_le n u (AllGive ns v) b c h fits = omega arith
-one_more_le n u (OneStops place trap v) b c h fits = omega arith
+one_more_le n u (OneRaises place trap v) b c h fits = omega arith
 
 first_le : (v : Value) (vs : Values) (a b : ℕ) → cost v ≤ a → cost_all vs ≤ b → cost_all (first_then v vs) ≤ a + b
 first_le (Gives n u) vs a b h g = one_more_le n u vs b (a + b) g (omega arith)
-first_le (Stops place trap u) vs a b h g = omega arith
+first_le (Raises place trap u) vs a b h g = omega arith
 
 values_le : (vs : Values) (go : List ℤ → Value) (a b c : ℕ) → cost_all vs ≤ a → ((ns : List ℤ) → cost (go ns) ≤ b) → a + b ≤ c →
     cost (values_then vs go) ≤ c
 values_le (AllGive ns u) go a b c h g fits = more_le u (go ns) b c (g ns) (omega arith)
-values_le (OneStops place trap u) go a b c h g fits = omega arith
+values_le (OneRaises place trap u) go a b c h g fits = omega arith
 
 -- ---- expressions, where each call costs at most its function's bound
 
@@ -128,7 +128,7 @@ more_flow_le u (Breaks place trap v) a c h fits = omega arith
 flow_with_le : (v : Value) (go : ℤ → Flow) (a b c : ℕ) → cost v ≤ a → ((x : ℤ) → flow_cost (go x) ≤ b) → a + b ≤ c →
     flow_cost (flow_with v go) ≤ c
 flow_with_le (Gives n u) go a b c h g fits = more_flow_le u (go n) b c (g n) (omega arith)
-flow_with_le (Stops place trap u) go a b c h g fits = omega arith
+flow_with_le (Raises place trap u) go a b c h g fits = omega arith
 
 flow_then_le : (r : Flow) (go : List ℤ → Flow) (a b c : ℕ) → flow_cost r ≤ a → ((w : List ℤ) → flow_cost (go w) ≤ b) → a + b ≤ c →
     flow_cost (flow_then r go) ≤ c

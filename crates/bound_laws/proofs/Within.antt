@@ -2,7 +2,7 @@
 use Rattle.std.proofs.Common.{ℕ, zero, suc, ◌+◌, ◌≤◌, ◌≡◌, ℤ, List, length, arith}
 use Rattle.forec_kernel.specs.declared.shape.VarCopy.{VarCopy}
 use Rattle.forec_kernel.specs.Shapes.{PlainKernel}
-use Rattle.forec_kernel.specs.Values.{Value, Gives, Stops}
+use Rattle.forec_kernel.specs.Values.{Value, Gives, Raises}
 use Rattle.forec_kernel.specs.Texts.{Loop, After, Go_on, Again, Text, Done, Then, Resting, after_text}
 use Rattle.forec_kernel.specs.Steps.{Path, Move, Finished, Halts, Moves, Traps, more_move, move_with, move_before, text_move, Woken, Wakes, Stays, more_woken, woken_in, woken_with, refilled, woken}
 use Rattle.bound_laws.proofs.ValueBounds.{cost}
@@ -112,7 +112,7 @@ more_within N Rest u a n (Traps place trap v) h fits = omega arith
 pub with_within : (N : OfText) (Rest : Type 0) (v : Value) (go : ℤ → Move) (a b n : ℕ) → cost v ≤ a → ((x : ℤ) → AfterMove N Rest b (go x)) →
     a + b ≤ n → AfterMove N Rest n (move_with v go)
 with_within N Rest (Gives x u) go a b n h g fits = more_within N Rest u b n (go x) (g x) (omega arith)
-with_within N Rest (Stops place trap u) go a b n h g fits = omega arith
+with_within N Rest (Raises place trap u) go a b n h g fits = omega arith
 
 pub more_wake : (N : OfText) (u a n : ℕ) (words : List ℤ) (copies : List VarCopy) (r : Woken) → AfterWake N a words copies r → u + a ≤ n →
     AfterWake N n words copies (more_woken u r)
@@ -122,7 +122,7 @@ more_wake N u a n words copies (Stays place trap v) h fits = omega arith
 pub with_wake : (N : OfText) (v : Value) (go : ℤ → Woken) (a b n : ℕ) (words : List ℤ) (copies : List VarCopy) → cost v ≤ a →
     ((x : ℤ) → AfterWake N b words copies (go x)) → a + b ≤ n → AfterWake N n words copies (woken_with v go)
 with_wake N (Gives x u) go a b n words copies h g fits = more_wake N u b n words copies (go x) (g x) (omega arith)
-with_wake N (Stops place trap u) go a b n words copies h g fits = omega arith
+with_wake N (Raises place trap u) go a b n words copies h g fits = omega arith
 
 -- ---- what follows a text: d units now, d' after a wake, for a thread of so many words
 

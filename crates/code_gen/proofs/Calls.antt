@@ -15,7 +15,7 @@ use Rattle.code_gen.specs.Statements.{Outside, statement_code}
 use Rattle.code_gen.specs.Blocks.{function_block, blocks_from, kernel_code}
 use Rattle.code_gen.proofs.Stretch.{HasAt, has_all, point, Yields}
 use Rattle.code_gen.proofs.Each.{Each, each_front, each_back, each_test}
-use Rattle.code_gen.proofs.Blocks.{blocks_length, block_at}
+use Rattle.code_gen.proofs.BlockLemmas.{blocks_length, block_at}
 use Rattle.code_gen.proofs.Deep.{deep, statement_named, all_deep}
 use Rattle.code_gen.proofs.Fits.{FitsCall, Fits, AllFit, Own_expression, BodyFits, BodiesFit, CallsRun}
 use Rattle.code_gen.proofs.Functions.{function_does}

@@ -5,7 +5,7 @@ use Rattle.std.proofs.lemmas.Bool.Decides.{nat_tests}
 use Rattle.forec_base.specs.declared.Policy.{Policy}
 use Rattle.forec_kernel.specs.declared.shape.VarCopy.{VarCopy}
 use Rattle.forec_kernel.specs.Shapes.{PlainKernel}
-use Rattle.forec_kernel.specs.Values.{Value, Gives, Stops, copy_of}
+use Rattle.forec_kernel.specs.Values.{Value, Gives, Raises, copy_of}
 use Rattle.forec_kernel.specs.Texts.{Threads, no_threads, child, is_active, uses_of}
 use Rattle.forec_kernel.specs.WellFormed.{ascends}
 use Rattle.forec_kernel.specs.Combining as combining
@@ -139,7 +139,7 @@ called (Some g) true (Some m) n = g m n ∷ []
 
 abbrev pub given_or : ℤ → Value → ℤ
 given_or m (Gives x u) = x
-given_or m (Stops place trap u) = m
+given_or m (Raises place trap u) = m
 
 abbrev pub total_after : Option (ℤ → ℤ → Value) → Bool → Option ℤ → ℤ → Option ℤ
 total_after f false total n = total
@@ -165,12 +165,12 @@ none_then (Fails place trap b) = let e : b ≡ 0 + b = omega arith in ap (Fails 
 pub cost_append : (xs ys : List Value) → cost_of (xs ++ ys) ≡ cost_then (cost_of xs) (cost_of ys)
 cost_append [] ys = none_then (cost_of ys)
 cost_append (Gives n u ∷ xs) ys = ap (more_cost u) (cost_append xs ys) ∙ more_then u (cost_of xs) (cost_of ys)
-cost_append (Stops place trap u ∷ xs) ys = refl
+cost_append (Raises place trap u ∷ xs) ys = refl
 
 -- no call traps
 abbrev pub Given : Value → Type 0
 Given (Gives n u) = Unit {0}
-Given (Stops place trap u) = ⊥
+Given (Raises place trap u) = ⊥
 
 pub all_given : (xs : List Value) (a : ℕ) → cost_of xs ≡ Costs a → Each Given xs
 all_given [] a h = tt
@@ -179,7 +179,7 @@ all_given (Gives n u ∷ xs) a h = (tt, more u (cost_of xs) refl h (λ b e. all_
     more : (u : ℕ) (c : Cost) → cost_of xs ≡ c → more_cost u c ≡ Costs a → ((b : ℕ) → cost_of xs ≡ Costs b → Each Given xs) → Each Given xs
     more u (Costs b) e h ih = ih b e
     more u (Fails place trap b) e h ih = cc
-all_given (Stops place trap u ∷ xs) a h = cc
+all_given (Raises place trap u ∷ xs) a h = cc
 
 -- ---- one variable
 
@@ -193,7 +193,7 @@ abbrev pub total_in : Option (ℤ → ℤ → Value) → Option ℤ → List com
 total_in f total [] = total
 total_in f None (s ∷ ss) = total_in f (Some s.copy.value) ss
 total_in None (Some n) (s ∷ ss) = total_in None (Some n) ss
-total_in (Some g) (Some n) (s ∷ ss) = elim (g n s.copy.value) [ Gives m u ↦ total_in (Some g) (Some m) ss | Stops place trap u ↦ Some n ]
+total_in (Some g) (Some n) (s ∷ ss) = elim (g n s.copy.value) [ Gives m u ↦ total_in (Some g) (Some m) ss | Raises place trap u ↦ Some n ]
 
 -- from later branches
 abbrev pub Later : ℕ → List combining.Share → Type 0
@@ -207,9 +207,9 @@ no_fold g j n (s ∷ ss) h = pick (g n s.copy.value) (λ m. no_fold g j m ss h.1
     other = let lt : j < s.from = h.0 in grind (arith, nat_tests)
 
     pick : (v : Value) → ((m : ℤ) → calls_from j (fold_calls g m ss) ≡ []) →
-        calls_from j (elim v [ Gives m u ↦ record { from = s.from; gives = Gives m u } ∷ fold_calls g m ss | Stops place trap u ↦ record { from = s.from; gives = Stops place trap u } ∷ [] ]) ≡ []
+        calls_from j (elim v [ Gives m u ↦ record { from = s.from; gives = Gives m u } ∷ fold_calls g m ss | Raises place trap u ↦ record { from = s.from; gives = Raises place trap u } ∷ [] ]) ≡ []
     pick (Gives m u) ih = rw other (ih m)
-    pick (Stops place trap u) ih = rw other refl
+    pick (Raises place trap u) ih = rw other refl
 
 no_rest : (f : Option (ℤ → ℤ → Value)) (j : ℕ) (total : Option ℤ) (ss : List combining.Share) → Later j ss → calls_from j (rest_calls f total ss) ≡ []
 no_rest None j None [] h = refl
@@ -267,9 +267,9 @@ calls_now f p base total (Some d) j ss h = pick (takes_part p base d) f total
     pick true None (Some m) = refl
     pick true (Some g) (Some m) = by_value (g m d.value)
       where
-        by_value : (v : Value) → calls_from j (elim v [ Gives m u ↦ record { from = j; gives = Gives m u } ∷ fold_calls g m (taking_part p base ss) | Stops place trap u ↦ record { from = j; gives = Stops place trap u } ∷ [] ]) ≡ v ∷ []
+        by_value : (v : Value) → calls_from j (elim v [ Gives m u ↦ record { from = j; gives = Gives m u } ∷ fold_calls g m (taking_part p base ss) | Raises place trap u ↦ record { from = j; gives = Raises place trap u } ∷ [] ]) ≡ v ∷ []
         by_value (Gives x u) = rw (same_one j) (ap (λ l. Gives x u ∷ l) (no_fold g j x (taking_part p base ss) later))
-        by_value (Stops place trap u) = rw (same_one j) refl
+        by_value (Raises place trap u) = rw (same_one j) refl
 
 -- the calls of later branches, where no call of this one trapped
 pub calls_later : (f : Option (ℤ → ℤ → Value)) (p : Policy) (base : ℤ) (total : Option ℤ) (sh : Option VarCopy) (i j : ℕ) (ss : List combining.Share) → j < i → Each Given (share_calls f p base total sh) →
@@ -288,9 +288,9 @@ calls_later f p base total (Some d) i j ss lt h = pick (takes_part p base d) f t
     pick true None (Some m) h = refl
     pick true (Some g) (Some m) h = by_value (g m d.value) h.0
       where
-        by_value : (v : Value) → Given v → calls_from i (elim v [ Gives m u ↦ record { from = j; gives = Gives m u } ∷ fold_calls g m (taking_part p base ss) | Stops place trap u ↦ record { from = j; gives = Stops place trap u } ∷ [] ]) ≡ calls_from i (fold_calls g (given_or m v) (taking_part p base ss))
+        by_value : (v : Value) → Given v → calls_from i (elim v [ Gives m u ↦ record { from = j; gives = Gives m u } ∷ fold_calls g m (taking_part p base ss) | Raises place trap u ↦ record { from = j; gives = Raises place trap u } ∷ [] ]) ≡ calls_from i (fold_calls g (given_or m v) (taking_part p base ss))
         by_value (Gives x u) h = rw other refl
-        by_value (Stops place trap u) h = absurd h
+        by_value (Raises place trap u) h = absurd h
 
 -- the total of all branches, by that of this one
 pub total_now : (f : Option (ℤ → ℤ → Value)) (p : Policy) (base : ℤ) (total : Option ℤ) (sh : Option VarCopy) (j : ℕ) (ss : List combining.Share) → Each Given (share_calls f p base total sh) →
@@ -306,9 +306,9 @@ total_now f p base total (Some d) j ss h = pick (takes_part p base d) f total h
     pick true None (Some m) h = refl
     pick true (Some g) (Some m) h = by_value (g m d.value) h.0
       where
-        by_value : (v : Value) → Given v → elim v [ Gives x u ↦ total_in (Some g) (Some x) (taking_part p base ss) | Stops place trap u ↦ Some m ] ≡ total_in (Some g) (Some (given_or m v)) (taking_part p base ss)
+        by_value : (v : Value) → Given v → elim v [ Gives x u ↦ total_in (Some g) (Some x) (taking_part p base ss) | Raises place trap u ↦ Some m ] ≡ total_in (Some g) (Some (given_or m v)) (taking_part p base ss)
         by_value (Gives x u) h = refl
-        by_value (Stops place trap u) h = absurd h
+        by_value (Raises place trap u) h = absurd h
 
 -- what is combined of all
 pub total_combined : (f : Option (ℤ → ℤ → Value)) (base : ℤ) (ss : List combining.Share) → elim (total_in f None ss) [ Some n ↦ n | None ↦ base ] ≡ combined_value f base ss
@@ -326,6 +326,6 @@ total_combined (Some g) base (s ∷ ss) = folded s.copy.value ss
     folded n (s ∷ ss) = by_value (g n s.copy.value) (λ m. folded m ss)
       where
         by_value : (v : Value) → ((m : ℤ) → elim (total_in (Some g) (Some m) ss) [ Some n ↦ n | None ↦ base ] ≡ last_value m (fold_calls g m ss)) →
-            elim (elim v as (λ x. Option ℤ) [ Gives m u ↦ total_in (Some g) (Some m) ss | Stops place trap u ↦ Some n ]) [ Some n ↦ n | None ↦ base ] ≡ last_value n (elim v [ Gives m u ↦ record { from = s.from; gives = Gives m u } ∷ fold_calls g m ss | Stops place trap u ↦ record { from = s.from; gives = Stops place trap u } ∷ [] ])
+            elim (elim v as (λ x. Option ℤ) [ Gives m u ↦ total_in (Some g) (Some m) ss | Raises place trap u ↦ Some n ]) [ Some n ↦ n | None ↦ base ] ≡ last_value n (elim v [ Gives m u ↦ record { from = s.from; gives = Gives m u } ∷ fold_calls g m ss | Raises place trap u ↦ record { from = s.from; gives = Raises place trap u } ∷ [] ])
         by_value (Gives m u) ih = ih m
-        by_value (Stops place trap u) ih = refl
+        by_value (Raises place trap u) ih = refl

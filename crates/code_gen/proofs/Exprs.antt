@@ -5,7 +5,7 @@ use Rattle.forec_base.specs.Numbers.{is_zero, truth, unary_of, binary_of}
 use Rattle.forec_base.specs.declared.Place.{Place}
 use Rattle.forec_base.specs.declared.Trap.TheVariants.{Divide, Index}
 use Rattle.forec_kernel.specs.Terms.{Expr, Num, Local, LocalAt, Var, TableAt, Un, Bin, And, Or, Choose, Call, Exprs, no_exprs, more_exprs, count_exprs}
-use Rattle.forec_kernel.specs.Values.{word, index_in, Value, Gives, Stops, Values, AllGive, OneStops, more_units, value_then, first_then, Setting, Sight, place_or, divided, at_index, val, vals, fresh_words}
+use Rattle.forec_kernel.specs.Values.{word, index_in, Value, Gives, Raises, Values, AllGive, OneRaises, more_units, value_then, first_then, Setting, Sight, place_or, divided, at_index, val, vals, fresh_words}
 use Rattle.thread_code.specs.declared.instruction.Instruction.{Instruction}
 use Rattle.thread_code.specs.declared.instruction.Instruction.TheVariants as instruction
 use Rattle.thread_code.specs.Plain.{PlainCode}
@@ -35,8 +35,8 @@ all_arguments n vs st u go h =
 
 one_more_count : (n : ℕ) (r : Value) (rs : Values) → SameCount n rs → SameCount (suc n) (first_then r rs)
 one_more_count n (Gives x u) (AllGive ns v) h = ap suc h
-one_more_count n (Gives x u) (OneStops place trap v) h = tt
-one_more_count n (Stops place trap u) rs h = tt
+one_more_count n (Gives x u) (OneRaises place trap v) h = tt
+one_more_count n (Raises place trap u) rs h = tt
 
 -- the numbers are as many as the expressions
 pub same_count : (s : Setting) (e : Sight) (es : Exprs) → SameCount (count_exprs es) (vals s e es)

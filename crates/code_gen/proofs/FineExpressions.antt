@@ -12,7 +12,7 @@ use Rattle.thread_code.specs.Valid.{Scope, Leads, IsFine, uses_for, costs}
 use Rattle.thread_code.proofs.AllFine.{AllFine, fine_join}
 use Rattle.code_gen.specs.Expressions.{expression_code, expressions_code}
 use Rattle.code_gen.specs.Blocks.{function_block, kernel_code}
-use Rattle.code_gen.proofs.Blocks.{blocks_length}
+use Rattle.code_gen.proofs.BlockLemmas.{blocks_length}
 use Rattle.code_gen.proofs.Depths.{expression_depths, expressions_depths, same_length, same_lengths}
 use Rattle.code_gen.proofs.Stretch.{HasAt, has_front, has_back}
 

@@ -4,7 +4,7 @@ use Rattle.std.specs.Prelude.{ℤ, pos, replicate}
 use Rattle.forec_kernel.specs.declared.shape.VarCopy.{VarCopy}
 use Rattle.forec_kernel.specs.Terms.{Branch}
 use Rattle.forec_kernel.specs.Shapes.{PlainKernel}
-use Rattle.forec_kernel.specs.Values.{Values, AllGive, OneStops, Setting, setting, Sight, vals, fresh_words, call}
+use Rattle.forec_kernel.specs.Values.{Values, AllGive, OneRaises, Setting, setting, Sight, vals, fresh_words, call}
 use Rattle.forec_kernel.specs.Texts.{some_running, uses_of, words_of, params_of}
 use Rattle.forec_kernel.specs.Steps.{Owner, Arguments, Ready, Refused, arguments_then, arguments, started}
 use Rattle.forec_kernel.specs.WellFormed.{threads_in}
@@ -18,7 +18,7 @@ use Rattle.code_gen.specs.Blocks.{kernel_code}
 use Rattle.code_gen.proofs.Fits.{CallsRun}
 use Rattle.code_gen.proofs.Stretch.{HasAt, has_front, has_back, SameCount, point, Comes, stays, comes_on, comes_at, YieldsAll}
 use Rattle.code_gen.proofs.Exprs.{push_all, same_count, expressions_run}
-use Rattle.code_gen.proofs.Places.{ok, BranchesFit, numbers, running_in, Awaits}
+use Rattle.code_gen.proofs.MachinePoints.{ok, BranchesFit, numbers, running_in, Awaits}
 
 -- all lists, one after the other
 abbrev pub joined : List (List ℤ) → List ℤ
@@ -107,7 +107,7 @@ Fitting k bs (Refused place trap u) = Unit {0}
 fitting_then : (k : PlainKernel) (b : Branch) (bs : List Branch) (vs : Values) (rest : Arguments) → SameCount (params_of k b.thread) vs → Fitting k bs rest → Fitting k (b ∷ bs) (arguments_then vs rest)
 fitting_then k b bs (AllGive ns u) (Ready lists v) h g = (h, g)
 fitting_then k b bs (AllGive ns u) (Refused place trap v) h g = tt
-fitting_then k b bs (OneStops place trap u) rest h g = tt
+fitting_then k b bs (OneRaises place trap u) rest h g = tt
 
 pub arguments_fit : (k : PlainKernel) (s : Setting) (e : Sight) (bs : List Branch) → BranchesFit k bs → Fitting k bs (arguments s e bs)
 arguments_fit k s e [] h = tt
@@ -132,7 +132,7 @@ module _ (k : PlainKernel) (t : ℕ) (run : CallsRun (kernel_code k) t (ok k) (c
   lists_then m u mid to to' (AllGive ns v) (Refused place trap w) e g h =
       let z : u + v + w ≡ u + (v + w) = omega arith in
       comes_at (kernel_code k) t (ap (Trapped place trap) z) (comes_on (kernel_code k) t g (h ns (u + v)))
-  lists_then m u mid to to' (OneStops place trap v) rest e g h = g
+  lists_then m u mid to to' (OneRaises place trap v) rest e g h = g
 
   pub arguments_run : (bs : List Branch) (p : ℕ) (st : List ℤ) (u : ℕ) → BranchesFit k bs → HasAt s p (arguments_code p bs) →
       YieldsLists (here p st u) u (λ lists w. here (p + length (arguments_code p bs)) (push_all (joined lists) st) w) (arguments (setting k) sight bs)

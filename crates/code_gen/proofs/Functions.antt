@@ -7,7 +7,7 @@ use Rattle.forec_base.specs.declared.Trap.TheVariants.{Index, Turns}
 use Rattle.forec_kernel.specs.declared.terms.Spot.TheVariants as spot
 use Rattle.forec_kernel.specs.Terms.{Expr, Num, Local, LocalAt, Var, TableAt, Un, Bin, And, Or, Choose, Call, Exprs, no_exprs, more_exprs, Stmt, Nop, Set, SetAt, Clear, Seq, If, While, Pause, Par, Enter, Return, Stmts, no_stmts, more_stmts}
 use Rattle.forec_kernel.specs.Shapes.{PlainKernel, PlainThread}
-use Rattle.forec_kernel.specs.Values.{word, index_in, Value, Gives, Stops, more_units, value_then, first_then, values_then, Setting, Sight, divided, at_index, val, vals, Flow, Goes, Returns, Breaks, more_flow, flow_with, flow_then, words_alone, cleared, stored_at, turns, flow, flows, returned}
+use Rattle.forec_kernel.specs.Values.{word, index_in, Value, Gives, Raises, more_units, value_then, first_then, values_then, Setting, Sight, divided, at_index, val, vals, Flow, Goes, Returns, Breaks, more_flow, flow_with, flow_then, words_alone, cleared, stored_at, turns, flow, flows, returned}
 use Rattle.forec_kernel.specs.WellFormed.{Scope, FineExpr, FineExprs}
 use Rattle.thread_code.specs.declared.instruction.Instruction.{Instruction}
 use Rattle.thread_code.specs.declared.instruction.Instruction.TheVariants as instruction
@@ -95,7 +95,7 @@ module _ (c : PlainCode) (t : ℕ) (call : ℕ → List ℤ → Value) (ok : ℕ
 
   does_test : (i q : ℕ) (cs : List ℕ) (m : Machine) (u : ℕ) (mid : ℤ → ℕ → Machine) (r : Value) (go : ℤ → Flow) → Yields c t m u mid r → ((n : ℤ) (w : ℕ) → Does i q cs (mid n w) w (go n)) → Does i q cs m u (flow_with r go)
   does_test i q cs m u mid (Gives n v) go g h = does_after i q cs m v u (go n) (does_from i q cs m (mid n (u + v)) (u + v) (go n) g (h n (u + v)))
-  does_test i q cs m u mid (Stops place trap v) go g h = g
+  does_test i q cs m u mid (Raises place trap v) go g h = g
 
   -- other counters of what is inside
   does_under : (i i' q : ℕ) (cs cs1 : List ℕ) (m : Machine) (u : ℕ) (b : Flow) → i ≤ i' → ((j : ℕ) → j < i → get_or cs1 j 0 ≡ get_or cs j 0) → Does i' q cs1 m u b → Does i q cs m u b

@@ -23,7 +23,7 @@ use Rattle.code_gen.proofs.Stretch.{point, Comes, comes_at}
 use Rattle.code_gen.proofs.Columns.{Ascends}
 use Rattle.code_gen.proofs.Branchwise.{child_shares}
 use Rattle.code_gen.proofs.Merging.{Joined, join_runs}
-use Rattle.code_gen.proofs.Places.{Store, Marks, own, numbers, running_in, Awaits, Sleeps, some_paused, leaf, ok, inside, Here, At_fork, ForkAt, Works, At, GoesOn}
+use Rattle.code_gen.proofs.MachinePoints.{Store, Marks, own, numbers, running_in, Awaits, Sleeps, some_paused, leaf, ok, inside, Here, At_fork, ForkAt, Works, At, ReachesText}
 use Rattle.code_gen.proofs.Steps.{Follows, then_runs, watch_runs, last_runs}
 
 -- a reply for each child that runs
@@ -222,11 +222,11 @@ sleeps_after live (child t R w c (Trapped place trap) rest) rs d a h g = absurd 
 -- ---- the machine at the join
 
 module _ (k : PlainKernel) (t : ℕ) (w : Awaited) (all : List Reply) (o : Own) (u : ℕ) where
-  pub replied_trap : (rs : List Reply) (place : Place) (trap : Trap) → reply_trap rs ≡ Some (place, trap) → replied (kernel_code k) t w all rs o u ≡ machine.Fails place trap u
+  pub replied_trap : (rs : List Reply) (place : Place) (trap : Trap) → reply_trap rs ≡ Some (place, trap) → replied (kernel_code k) t w all rs o u ≡ machine.Failing place trap u
   replied_trap [] place trap h = cc
   replied_trap (WasPaused d v ∷ rs) place trap h = replied_trap rs place trap h
   replied_trap (WasEnded d v ∷ rs) place trap h = replied_trap rs place trap h
-  replied_trap (WasTrapped place' trap' v ∷ rs) place trap h = ap (λ (x : Option (Place × Trap)). elim x as (λ y. Machine) [ Some p ↦ machine.Fails p.0 p.1 u | None ↦ machine.Stuck u ]) h
+  replied_trap (WasTrapped place' trap' v ∷ rs) place trap h = ap (λ (x : Option (Place × Trap)). elim x as (λ y. Machine) [ Some p ↦ machine.Failing p.0 p.1 u | None ↦ machine.Stuck u ]) h
   replied_trap (WasOver ∷ rs) place trap h = replied_trap rs place trap h
 
   abbrev pub merging : Machine
@@ -276,11 +276,11 @@ module _ (k : PlainKernel) (t : ℕ) (run : CallsRun (kernel_code k) t (ok k) (c
         same : numbers (ended_are_gone (all_replied cs rs)) ≡ numbers cs
         same = gone_numbers (all_replied cs rs) ∙ replied_numbers k f.live cs rs works.awaits fits
 
-        by_end : (b : Bool) → all_ended rs ≡ b → GoesOn k t s false a (cond (all_over (all_replied cs rs)) Done (Held (ended_are_gone (all_replied cs rs)))) q (record { words = st.words; copies = joined_copies k (all_replied cs rs) (uses_of k t) st.copies }) c f m (u + v)
+        by_end : (b : Bool) → all_ended rs ≡ b → ReachesText k t s false a (cond (all_over (all_replied cs rs)) Done (Held (ended_are_gone (all_replied cs rs)))) q (record { words = st.words; copies = joined_copies k (all_replied cs rs) (uses_of k t) st.copies }) c f m (u + v)
         by_end true e =
             let over : all_over (all_replied cs rs) ≡ true = over_together k f.live cs rs works.awaits fits silent ∙ e in
             let back : back_to w rs ≡ point s d [] st.words c = back_is w rs ∙ ap (λ b. cond b w.done w.going) e in
-            subst (λ b. GoesOn k t s false a (cond b Done (Held (ended_are_gone (all_replied cs rs)))) q new c f m (u + v)) (sym over)
+            subst (λ b. ReachesText k t s false a (cond b Done (Held (ended_are_gone (all_replied cs rs)))) q new c f m (u + v)) (sym over)
             (record {
               at = Here d;
               c' = c;
@@ -292,7 +292,7 @@ module _ (k : PlainKernel) (t : ℕ) (run : CallsRun (kernel_code k) t (ok k) (c
         by_end false e =
             let over : all_over (all_replied cs rs) ≡ false = over_together k f.live cs rs works.awaits fits silent ∙ e in
             let back : back_to w rs ≡ point s g [] st.words c = back_is w rs ∙ ap (λ b. cond b w.done w.going) e in
-            subst (λ b. GoesOn k t s false a (cond b Done (Held (ended_are_gone (all_replied cs rs)))) q new c f m (u + v)) (sym over)
+            subst (λ b. ReachesText k t s false a (cond b Done (Held (ended_are_gone (all_replied cs rs)))) q new c f m (u + v)) (sym over)
             (record {
               at = Here g;
               c' = c;

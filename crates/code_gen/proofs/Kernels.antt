@@ -17,7 +17,7 @@ use Rattle.code_gen.proofs.Deep.{deep, statement_named}
 use Rattle.code_gen.proofs.Fits.{FitsCall, Fits}
 use Rattle.code_gen.proofs.Calls.{fits, all_fit, fits_call, each_deep}
 use Rattle.code_gen.proofs.Columns.{Ascends, ascending, not_above}
-use Rattle.code_gen.proofs.Places.{ok, BranchesFit, StatementFits, StatementsFit}
+use Rattle.code_gen.proofs.MachinePoints.{ok, BranchesFit, StatementFits, StatementsFit}
 
 -- ---- the branches of a par
 

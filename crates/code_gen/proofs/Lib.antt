@@ -6,10 +6,10 @@ pub mod Lengths
 pub mod Counted
 pub mod Functions
 pub mod Each
-pub mod Blocks
+pub mod BlockLemmas
 pub mod Deep
 pub mod Calls
-pub mod Places
+pub mod MachinePoints
 pub mod Forks
 pub mod Steps
 pub mod Waking
@@ -22,7 +22,7 @@ pub mod Stands
 pub mod Depths
 pub mod FineExpressions
 pub mod FineStatements
-pub mod Called
+pub mod CalledFunctions
 pub mod Valid
 pub mod Patch
 pub mod Copies

@@ -4,7 +4,7 @@ use Rattle.std.specs.Prelude.{ℤ, slice_get, replicate}
 use Rattle.std.proofs.lemmas.Bool.Decides.{nat_tests}
 use Rattle.forec_kernel.specs.declared.shape.VarCopy.{VarCopy}
 use Rattle.forec_kernel.specs.Shapes.{PlainKernel}
-use Rattle.forec_kernel.specs.Values.{Value, Gives, Stops, more_units, copy_of, call, fresh_words}
+use Rattle.forec_kernel.specs.Values.{Value, Gives, Raises, more_units, copy_of, call, fresh_words}
 use Rattle.forec_kernel.specs.Texts.{Status, Text, Threads, no_threads, child, uses_of}
 use Rattle.forec_kernel.specs.Combining as combining
 use Rattle.forec_kernel.specs.Combining.{contains, shares, takes_part, taking_part, some_marked, Joint, variable_of, combine_of, joined_copies, calls_of, calls_from, calls_at, count_threads, in_order, Cost, Costs, Fails, more_cost, cost_of, join_cost}
@@ -13,7 +13,7 @@ use Rattle.code_gen.specs.Blocks.{kernel_code}
 use Rattle.code_gen.proofs.Each.{Each, each_front, each_back}
 use Rattle.code_gen.proofs.Fits.{FitsCall, CallsRun}
 use Rattle.code_gen.proofs.Stretch.{point, Comes, stays, comes_on, comes_at, Yields}
-use Rattle.code_gen.proofs.Places.{ok}
+use Rattle.code_gen.proofs.MachinePoints.{ok}
 use Rattle.code_gen.proofs.Columns.{Ascends, kept, kept_ascends, Sized, none_sized, none_total, put_sized, total_same, total_other, total_outside, called, total_after, given_or, cost_then, cost_append, Given, all_given, rest_calls, total_in, shares_later, with_share, share_calls, share_total, calls_now, calls_later, total_now}
 use Rattle.code_gen.proofs.Branchwise.{flat, flat_at, flat_same, each_in, in_order_same, variables_of, share_in, from_share, list_calls, Silent, cross, branch_shares, child_shares, branch_ascends, first_share, bases, placed, joins, policy, calls_are, final_total, settled_is}
 
@@ -119,7 +119,7 @@ module _ (k : PlainKernel) (t : ℕ) (run : CallsRun (kernel_code k) t (ok k) (c
         by_value : (r : Value) → Yields (kernel_code k) t (entered (slice_get (kernel_code k).functions f) (n ∷ s.copy.value ∷ []) (Folding s.variable (record { left = rest; totals = marked; back = back }) ∷ []) o u) (u + 1) (λ y w. at rest (valued y) w) r → ((y : ℤ) (w : ℕ) → r ≡ Gives y w → Shared s totals (valued y)) →
             Merged (entered (slice_get (kernel_code k).functions f) (n ∷ s.copy.value ∷ []) (Folding s.variable (record { left = rest; totals = marked; back = back }) ∷ []) o u) u rest (Shared s totals) (cost_of (more_units 1 r ∷ []))
         by_value (Gives y w) g h = let e : u + 1 + w ≡ u + (1 + w + 0) = omega arith in (valued y, comes_at (kernel_code k) t (ap (at rest (valued y)) e) g, h y w refl)
-        by_value (Stops place trap w) g h = let e : u + 1 + w ≡ u + (1 + w) = omega arith in comes_at (kernel_code k) t (ap (Trapped place trap) e) g
+        by_value (Raises place trap w) g h = let e : u + 1 + w ≡ u + (1 + w) = omega arith in comes_at (kernel_code k) t (ap (Trapped place trap) e) g
 
     nothing_more : (u : ℕ) (m : Machine) (totals' : List Total) → m ≡ at rest totals' u → Shared s totals totals' → Merged m u rest (Shared s totals) (Costs 0)
     nothing_more u m totals' e h = let z : u ≡ u + 0 = omega arith in (totals', comes_at (kernel_code k) t (e ∙ ap (at rest totals') z) (stays (kernel_code k) t m), h)

@@ -26,12 +26,12 @@ use Rattle.thread_code.proofs.Steady.{code_steady}
 use Rattle.code_gen.specs.Statements.{Outside, statement_code}
 use Rattle.code_gen.specs.Blocks.{thread_block, kernel_code}
 use Rattle.code_gen.proofs.Stretch.{HasAt, has_front, has_back, has_all, point, Comes, comes_on, comes_at, one}
-use Rattle.code_gen.proofs.Blocks.{block_at}
+use Rattle.code_gen.proofs.BlockLemmas.{block_at}
 use Rattle.code_gen.proofs.Fits.{CallsRun}
 use Rattle.code_gen.proofs.Calls.{calls_run}
 use Rattle.code_gen.proofs.Kernels.{body_fits, uses_ascend, combines}
-use Rattle.code_gen.proofs.Places as places
-use Rattle.code_gen.proofs.Places.{Store, Marks, own, numbers, running_in, leaf, ok, Where, Here, At_fork, on, machine_at, Ends, ends_here, WakeAt, text_at, GoesOn}
+use Rattle.code_gen.proofs.MachinePoints as places
+use Rattle.code_gen.proofs.MachinePoints.{Store, Marks, own, numbers, running_in, leaf, ok, Where, Here, At_fork, on, machine_at, Ends, ends_here, WakeAt, text_at, ReachesText}
 use Rattle.code_gen.proofs.Steps.{Follows, text_runs}
 use Rattle.code_gen.proofs.Waking.{FollowsWoken, wake_runs}
 use Rattle.code_gen.proofs.Joining.{Replies, replies_fit, none_running, text_follows, leaf_works, fork_waits, no_fork, replied_no_fork}

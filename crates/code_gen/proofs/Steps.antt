@@ -9,7 +9,7 @@ use Rattle.forec_kernel.specs.declared.terms.Spot.{Spot}
 use Rattle.forec_kernel.specs.declared.terms.Spot.TheVariants as spot
 use Rattle.forec_kernel.specs.Terms.{Expr, Branch, Stmt, Nop, Set, SetAt, Clear, Seq, If, While, Pause, Par, Enter, Return}
 use Rattle.forec_kernel.specs.Shapes.{PlainKernel}
-use Rattle.forec_kernel.specs.Values.{Value, Gives, Stops, setting, Sight, call, cleared, index_in}
+use Rattle.forec_kernel.specs.Values.{Value, Gives, Raises, setting, Sight, call, cleared, index_in}
 use Rattle.forec_kernel.specs.Texts.{Loop, After, Go_on, Again, Text, Done, Run, Then, Turning, Resting, Fork, Held, Watch, Last, text_of, texts_of, after_text, uses_of, put_copy}
 use Rattle.forec_kernel.specs.WellFormed.{distinct, threads_in}
 use Rattle.forec_kernel.specs.Steps.{Move, Finished, Halts, Moves, Traps, more_move, move_with, Owner, evaluated, assigned, assigned_at, turned, entered, Arguments, Ready, Refused, arguments, started, forked, statement_move, loop_move, move_before, move_watched, move_last, text_move}
@@ -27,7 +27,7 @@ use Rattle.code_gen.proofs.Fits.{Fits, CallsRun}
 use Rattle.code_gen.proofs.Stretch.{HasAt, has_front, has_back, has_join, point, Comes, stays, comes_on, comes_at, one, Yields}
 use Rattle.code_gen.proofs.Exprs.{push_all, all_arguments, expression_runs}
 use Rattle.code_gen.proofs.Forks.{joined, Fitting, numbers_started, running_started, awaits_started, some_started, starts_are, arguments_count, arguments_fit, YieldsLists, arguments_run}
-use Rattle.code_gen.proofs.Places.{Store, Marks, own, numbers, ok, ParFits, same_below, Left, Unset, inside, Turns_left, Here, At_fork, on, machine_at, Ends, ends_here, ends_on, ends_jump, StatementAt, LoopAt, BehindAt, ForkAt, At, WakeAt, text_at, texts_at, GoesOn, goes, goes_from, goes_at, none_more, goes_then, goes_watch, goes_last}
+use Rattle.code_gen.proofs.MachinePoints.{Store, Marks, own, numbers, ok, ParFits, same_below, Left, Unset, inside, Turns_left, Here, At_fork, on, machine_at, Ends, ends_here, ends_on, ends_jump, StatementAt, LoopAt, BehindAt, ForkAt, At, WakeAt, text_at, texts_at, ReachesText, goes, goes_from, goes_at, none_more, goes_then, goes_watch, goes_last}
 
 module _ (k : PlainKernel) (t : ℕ) (run : CallsRun (kernel_code k) t (ok k) (call k)) (s : List Instruction) where
   abbrev o : Owner
@@ -41,7 +41,7 @@ module _ (k : PlainKernel) (t : ℕ) (run : CallsRun (kernel_code k) t (ok k) (c
   Follows a R q st c f m u Finished = Comes (kernel_code k) t m (on k t s q st c f u)
   Follows a R q st c f m u Halts =
       (p : ℕ) × (w : ℕ) × Comes (kernel_code k) t m (on k t s p st c f u) × HasAt s p (checks a ++ instruction.Pause w ∷ []) × WakeAt k t s a R w q f.live
-  Follows a R q st c f m u (Moves R' words copies v) = GoesOn k t s false a R' q (record { words = words; copies = copies }) c f m (u + v)
+  Follows a R q st c f m u (Moves R' words copies v) = ReachesText k t s false a R' q (record { words = words; copies = copies }) c f m (u + v)
   Follows a R q st c f m u (Traps place trap v) = Comes (kernel_code k) t m (Trapped place trap (u + v))
 
   -- a step that goes on or traps
@@ -66,7 +66,7 @@ module _ (k : PlainKernel) (t : ℕ) (run : CallsRun (kernel_code k) t (ok k) (c
   follows_with : (a : Around) (R : Text) (q : ℕ) (st : Store) (c : List ℕ) (f : Marks) (m : Machine) (u : ℕ) (mid : ℤ → ℕ → Machine) (r : Value) (go : ℤ → Move) → ((n : ℤ) → Advances (go n)) → Yields (kernel_code k) t m u mid r → ((n : ℤ) (w : ℕ) → Follows a R q st c f (mid n w) w (go n)) → Follows a R q st c f m u (move_with r go)
   follows_with a R q st c f m u mid (Gives n v) go ok g h =
       follows_after a R q st c f m v u (go n) (ok n) (follows_from a R q st c f m (mid n (u + v)) (u + v) (go n) g (h n (u + v)))
-  follows_with a R q st c f m u mid (Stops place trap v) go ok g h = g
+  follows_with a R q st c f m u mid (Raises place trap v) go ok g h = g
 
   -- an expression's code
   test_runs : (x : Expr) (p : ℕ) (stack : List ℤ) (st : Store) (c : List ℕ) (f : Marks) (u : ℕ) → Fits (kernel_code k) (ok k) x → HasAt s p (expression_code p x) →
@@ -105,7 +105,7 @@ module _ (k : PlainKernel) (t : ℕ) (run : CallsRun (kernel_code k) t (ok k) (c
       more v Halts h = h
       more v (Moves R words copies w) h = tt
       more v (Traps place trap w) h = tt
-  advances_with (Stops place trap v) go h = tt
+  advances_with (Raises place trap v) go h = tt
 
   stored_runs : (i : Option ℕ) (n : ℤ) (place : Place) (x : ℕ) (a : Around) (R : Text) (j q : ℕ) (st : Store) (c : List ℕ) (f : Marks) (m : Machine) (u : ℕ) → Ends k t s (j + 1) q →
       Comes (kernel_code k) t m (unless_none i place Index (u + 1) (λ b. On (point s (j + 1) [] (slice_set st.words (x + b) n) c) [] (own st f) (u + 1))) →
@@ -134,7 +134,7 @@ module _ (k : PlainKernel) (t : ℕ) (run : CallsRun (kernel_code k) t (ok k) (c
 
   -- after a test
   side : (b : Bool) (a : Around) (x y : Stmt) (m : Machine) (j r q : ℕ) (st : Store) (c : List ℕ) (f : Marks) (u : ℕ) → Comes (kernel_code k) t m (on k t s (cond b r j) st c f (u + 1)) → StatementAt k t s a x j q → StatementAt k t s a y r q →
-      GoesOn k t s false a (cond b (text_of y) (text_of x)) q st c f m (u + 1)
+      ReachesText k t s false a (cond b (text_of y) (text_of x)) q st c f m (u + 1)
   side true a x y m j r q st c f u h hx hy = goes k t s false a (text_of y) r q st c f m (u + 1) (text_at k t s y a r q c f hy) h
   side false a x y m j r q st c f u h hx hy = goes k t s false a (text_of x) j q st c f m (u + 1) (text_at k t s x a j q c f hx) h
 
@@ -157,7 +157,7 @@ module _ (k : PlainKernel) (t : ℕ) (run : CallsRun (kernel_code k) t (ok k) (c
       (test_runs e p [] st c f u fit.0 (has_front s p ce _ h.has))
       (λ n w. side (is_zero n) a x y _ (at + 1) (j + 1) q st c f w (one (kernel_code k) t (instruction.Zero (j + 1)) (point s at (n ∷ []) st.words c) [] (own st f) w g.0) at_x at_y)
 
-  pause_runs : (a : Around) (p q : ℕ) (st : Store) (c : List ℕ) (f : Marks) (u : ℕ) → StatementAt k t s a Pause p q → GoesOn k t s false a Resting q st c f (on k t s p st c f u) (u + 1)
+  pause_runs : (a : Around) (p q : ℕ) (st : Store) (c : List ℕ) (f : Marks) (u : ℕ) → StatementAt k t s a Pause p q → ReachesText k t s false a Resting q st c f (on k t s p st c f u) (u + 1)
   pause_runs a p q st c f u h =
       let ch = checks a in
       let j = p + 1 + length ch in
@@ -170,7 +170,7 @@ module _ (k : PlainKernel) (t : ℕ) (run : CallsRun (kernel_code k) t (ok k) (c
       (one (kernel_code k) t (instruction.Unit 1) (point s p [] st.words c) [] (own st f) u has.0)
 
   while_runs : (n : Option ℕ) (e : Expr) (x : Stmt) (place : Place) (a : Around) (p q : ℕ) (st : Store) (c : List ℕ) (f : Marks) (u : ℕ) → StatementAt k t s a (While e n x place) p q →
-      GoesOn k t s false a (Turning (record { test = e; bound = n; left = n; body = x; place = place })) q st c f (on k t s p st c f u) (u + 0)
+      ReachesText k t s false a (Turning (record { test = e; bound = n; left = n; body = x; place = place })) q st c f (on k t s p st c f u) (u + 0)
   while_runs None e x place a p q st c f u h =
       let z : p ≡ p + 0 = omega arith in
       let code = λ (b : ℕ). statement_code k.shape.threads a b x in
@@ -229,7 +229,7 @@ module _ (k : PlainKernel) (t : ℕ) (run : CallsRun (kernel_code k) t (ok k) (c
       let fit = h.fits in
       (record { has = subst (λ n. HasAt s n body) start (has_back s p pre body h.has); ends = ends_here k t s _ _ (ap (λ n. j + n) long); fits = fit.1 }, ends_on k t s (ends_here k t s _ _ len) h.ends)
 
-  enter_plain : (weak : Bool) (e : Expr) (x : Stmt) (a : Around) (p q : ℕ) (st : Store) (c : List ℕ) (f : Marks) (u : ℕ) → StatementAt k t s a (Enter weak false e x) p q → GoesOn k t s false a (Watch weak e (text_of x)) q st c f (on k t s p st c f u) (u + 0)
+  enter_plain : (weak : Bool) (e : Expr) (x : Stmt) (a : Around) (p q : ℕ) (st : Store) (c : List ℕ) (f : Marks) (u : ℕ) → StatementAt k t s a (Enter weak false e x) p q → ReachesText k t s false a (Watch weak e (text_of x)) q st c f (on k t s p st c f u) (u + 0)
   enter_plain false e x a p q st c f u h =
       let b = enter_body false false e x a p q h in
       let z : p ≡ p + 0 = omega arith in
@@ -259,12 +259,12 @@ module _ (k : PlainKernel) (t : ℕ) (run : CallsRun (kernel_code k) t (ok k) (c
 
   -- an abort that tests at its start, after the test
   entered_strong : (b : Bool) (e : Expr) (x : Stmt) (a : Around) (j y q : ℕ) (st : Store) (c : List ℕ) (f : Marks) (m : Machine) (w : ℕ) → StatementAt k t s (InAbort false e y a) x j y → Ends k t s y q → Fits (kernel_code k) (ok k) e → Comes (kernel_code k) t m (on k t s (cond b j y) st c f w) →
-      GoesOn k t s false a (cond b (Watch false e (text_of x)) Done) q st c f m w
+      ReachesText k t s false a (cond b (Watch false e (text_of x)) Done) q st c f m w
   entered_strong true e x a j y q st c f m w h ends fit g = goes k t s false a (Watch false e (text_of x)) j q st c f m w (y, text_at k t s x (InAbort false e y a) j y c f h, ends, fit, tt) g
   entered_strong false e x a j y q st c f m w h ends fit g = goes k t s false a Done y q st c f m w ends g
 
   entered_weak : (b : Bool) (e : Expr) (x : Stmt) (a : Around) (j y q : ℕ) (st : Store) (c : List ℕ) (f : Marks) (m : Machine) (w : ℕ) → StatementAt k t s (InAbort true e y a) x j y → Ends k t s y q → Fits (kernel_code k) (ok k) e →
-      Comes (kernel_code k) t m (on k t s j st c (record { flags = put_at false f.flags (weaks a) (not b); live = f.live }) w) → GoesOn k t s false a (cond b (Watch true e (text_of x)) (Last (text_of x))) q st c f m w
+      Comes (kernel_code k) t m (on k t s j st c (record { flags = put_at false f.flags (weaks a) (not b); live = f.live }) w) → ReachesText k t s false a (cond b (Watch true e (text_of x)) (Last (text_of x))) q st c f m w
   entered_weak true e x a j y q st c f m w h ends fit g =
       let f1 : Marks = record { flags = put_at false f.flags (weaks a) false; live = f.live } in
       record {
@@ -468,7 +468,7 @@ module _ (k : PlainKernel) (t : ℕ) (run : CallsRun (kernel_code k) t (ok k) (c
 
   -- ---- a step in a context
 
-  behind_goes : (b : After) (a : Around) (m q : ℕ) (st : Store) (c : List ℕ) (f : Marks) (mach : Machine) (u : ℕ) → BehindAt k t s a b m q → Turns_left a b c → Comes (kernel_code k) t mach (on k t s m st c f u) → GoesOn k t s false a (after_text b) q st c f mach (u + 0)
+  behind_goes : (b : After) (a : Around) (m q : ℕ) (st : Store) (c : List ℕ) (f : Marks) (mach : Machine) (u : ℕ) → BehindAt k t s a b m q → Turns_left a b c → Comes (kernel_code k) t mach (on k t s m st c f u) → ReachesText k t s false a (after_text b) q st c f mach (u + 0)
   behind_goes (Go_on list) a m q st c f mach u h l g = goes k t s false a (texts_of list) m q st c f mach (u + 0) (texts_at k t s list a m q c f h) (none_more k t s m st c f mach u g)
   behind_goes (Again loop) a m q st c f mach u h l g =
       goes k t s false a (Turning loop) h.0 q st c f mach (u + 0) (h.2, l) (none_more k t s h.0 st c f mach u (comes_on (kernel_code k) t g ((ends_jump k t s m h.0 h.1).by st c f u)))

@@ -3,7 +3,7 @@ use Rattle.std.proofs.Common.{◌≡◌, ℕ, zero, suc, ◌+◌, ◌<◌, List,
 use Rattle.std.specs.Prelude.{ℤ, slice_get}
 use Rattle.std.proofs.Math.Seq.{get_or-append_seam}
 use Rattle.std.proofs.lemmas.Option.{slice_get-get_or}
-use Rattle.forec_kernel.specs.Values.{Value, Gives, Stops, Values, AllGive, OneStops, more_units, value_then, first_then, one_more, values_then}
+use Rattle.forec_kernel.specs.Values.{Value, Gives, Raises, Values, AllGive, OneRaises, more_units, value_then, first_then, one_more, values_then}
 use Rattle.forec_kernel.specs.Engine.{run_for}
 use Rattle.thread_code.specs.declared.instruction.Instruction.{Instruction}
 use Rattle.thread_code.specs.Plain.{PlainCode}
@@ -49,7 +49,7 @@ run_add step (suc n) k m =
 -- as many numbers
 abbrev pub SameCount : ℕ → Values → Type 0
 SameCount n (AllGive ns u) = length ns ≡ n
-SameCount n (OneStops place trap u) = Unit {0}
+SameCount n (OneRaises place trap u) = Unit {0}
 
 abbrev pub point : List Instruction → ℕ → List ℤ → List ℤ → List ℕ → Point
 point s p stack words counters = record { steps = s; at = p; stack = stack; words = words; counters = counters }
@@ -78,19 +78,19 @@ module _ (c : PlainCode) (t : ℕ) where
   -- The code of a term, u units having come before: it comes to `to` with the number and the units, or traps.
   abbrev pub Yields : Machine → ℕ → (ℤ → ℕ → Machine) → Value → Type 0
   Yields m u to (Gives n v) = Comes m (to n (u + v))
-  Yields m u to (Stops place trap v) = Comes m (Trapped place trap (u + v))
+  Yields m u to (Raises place trap v) = Comes m (Trapped place trap (u + v))
 
   abbrev pub YieldsAll : Machine → ℕ → (List ℤ → ℕ → Machine) → Values → Type 0
   YieldsAll m u to (AllGive ns v) = Comes m (to ns (u + v))
-  YieldsAll m u to (OneStops place trap v) = Comes m (Trapped place trap (u + v))
+  YieldsAll m u to (OneRaises place trap v) = Comes m (Trapped place trap (u + v))
 
   pub yields_from : (m m1 : Machine) (u : ℕ) (to : ℤ → ℕ → Machine) (r : Value) → Comes m m1 → Yields m1 u to r → Yields m u to r
   yields_from m m1 u to (Gives n v) k g = comes_on k g
-  yields_from m m1 u to (Stops place trap v) k g = comes_on k g
+  yields_from m m1 u to (Raises place trap v) k g = comes_on k g
 
   pub yields_to : (m : Machine) (u : ℕ) (to to' : ℤ → ℕ → Machine) (r : Value) → ((n : ℤ) (w : ℕ) → Comes (to n w) (to' n w)) → Yields m u to r → Yields m u to' r
   yields_to m u to to' (Gives n v) k g = comes_on g (k n (u + v))
-  yields_to m u to to' (Stops place trap v) k g = g
+  yields_to m u to to' (Raises place trap v) k g = g
 
   -- a number that costs nothing more
   pub yields_value : (m : Machine) (u : ℕ) (to : ℤ → ℕ → Machine) (n : ℤ) → Comes m (to n u) → Yields m u to (Gives n 0)
@@ -99,29 +99,29 @@ module _ (c : PlainCode) (t : ℕ) where
   -- units that came before
   pub yields_after : (m : Machine) (v u : ℕ) (to : ℤ → ℕ → Machine) (r : Value) → Yields m (u + v) to r → Yields m u to (more_units v r)
   yields_after m v u to (Gives n w) g = let e : u + v + w ≡ u + (v + w) = omega arith in comes_at (ap (to n) e) g
-  yields_after m v u to (Stops place trap w) g = let e : u + v + w ≡ u + (v + w) = omega arith in comes_at (ap (Trapped place trap) e) g
+  yields_after m v u to (Raises place trap w) g = let e : u + v + w ≡ u + (v + w) = omega arith in comes_at (ap (Trapped place trap) e) g
 
   -- a number, and what is done with it
   pub yields_then : (m : Machine) (u : ℕ) (mid to : ℤ → ℕ → Machine) (r : Value) (go : ℤ → Value) → Yields m u mid r → ((n : ℤ) (w : ℕ) → Yields (mid n w) w to (go n)) → Yields m u to (value_then r go)
   yields_then m u mid to (Gives n v) go g h = yields_after m v u to (go n) (yields_from m (mid n (u + v)) (u + v) to (go n) g (h n (u + v)))
-  yields_then m u mid to (Stops place trap v) go g h = g
+  yields_then m u mid to (Raises place trap v) go g h = g
 
   pub yields_all_then : (k : ℕ) (m : Machine) (u : ℕ) (mid : List ℤ → ℕ → Machine) (to : ℤ → ℕ → Machine) (r : Values) (go : List ℤ → Value) → SameCount k r → YieldsAll m u mid r → ((ns : List ℤ) (w : ℕ) → length ns ≡ k → Yields (mid ns w) w to (go ns)) → Yields m u to (values_then r go)
   yields_all_then k m u mid to (AllGive ns v) go c g h = yields_after m v u to (go ns) (yields_from m (mid ns (u + v)) (u + v) to (go ns) g (h ns (u + v) c))
-  yields_all_then k m u mid to (OneStops place trap v) go c g h = g
+  yields_all_then k m u mid to (OneRaises place trap v) go c g h = g
 
   -- one number before the others
   pub yields_one_before : (m : Machine) (u v : ℕ) (n : ℤ) (to to' : List ℤ → ℕ → Machine) (r : Values) → ((ns : List ℤ) (w : ℕ) → to ns w ≡ to' (n ∷ ns) w) → YieldsAll m (u + v) to r → YieldsAll m u to' (one_more n v r)
   yields_one_before m u v n to to' (AllGive ns w) e g =
       let f : u + v + w ≡ u + (v + w) = omega arith in
       comes_at (e ns (u + v + w) ∙ ap (to' (n ∷ ns)) f) g
-  yields_one_before m u v n to to' (OneStops place trap w) e g = let f : u + v + w ≡ u + (v + w) = omega arith in comes_at (ap (Trapped place trap) f) g
+  yields_one_before m u v n to to' (OneRaises place trap w) e g = let f : u + v + w ≡ u + (v + w) = omega arith in comes_at (ap (Trapped place trap) f) g
 
   pub yields_all_from : (m m1 : Machine) (u : ℕ) (to : List ℤ → ℕ → Machine) (r : Values) → Comes m m1 → YieldsAll m1 u to r → YieldsAll m u to r
   yields_all_from m m1 u to (AllGive ns v) k g = comes_on k g
-  yields_all_from m m1 u to (OneStops place trap v) k g = comes_on k g
+  yields_all_from m m1 u to (OneRaises place trap v) k g = comes_on k g
 
   pub yields_both : (m : Machine) (u : ℕ) (mid : ℤ → ℕ → Machine) (to' : List ℤ → ℕ → Machine) (to : ℤ → List ℤ → ℕ → Machine) (r : Value) (rs : Values) → ((n : ℤ) (ns : List ℤ) (w : ℕ) → to n ns w ≡ to' (n ∷ ns) w) → Yields m u mid r → ((n : ℤ) (w : ℕ) → YieldsAll (mid n w) w (to n) rs) → YieldsAll m u to' (first_then r rs)
   yields_both m u mid to' to (Gives n v) rs e g h =
       yields_one_before m u v n (to n) to' rs (e n) (yields_all_from m (mid n (u + v)) (u + v) (to n) rs g (h n (u + v)))
-  yields_both m u mid to' to (Stops place trap v) rs e g h = g
+  yields_both m u mid to' to (Raises place trap v) rs e g h = g

@@ -16,12 +16,12 @@ use Rattle.thread_code.proofs.KernelShape.{shape_is_fine}
 use Rattle.code_gen.specs.Statements.{Outside, statement_code}
 use Rattle.code_gen.specs.Blocks.{thread_block, function_block, kernel_code, counters_in, flags_in, flags_of}
 use Rattle.code_gen.proofs.Stretch.{HasAt, has_front, has_all}
-use Rattle.code_gen.proofs.Blocks.{blocks_length, block_at}
+use Rattle.code_gen.proofs.BlockLemmas.{blocks_length, block_at}
 use Rattle.code_gen.proofs.Each.{Each, each_front, each_back}
 use Rattle.code_gen.proofs.Calls.{each_deep}
-use Rattle.code_gen.proofs.Called.{within}
+use Rattle.code_gen.proofs.CalledFunctions.{within}
 use Rattle.code_gen.proofs.Kernels.{body_fits, each_par}
-use Rattle.code_gen.proofs.Places.{BranchesFit, StatementFits, StatementsFit}
+use Rattle.code_gen.proofs.MachinePoints.{BranchesFit, StatementFits, StatementsFit}
 use Rattle.code_gen.proofs.Depths.{count_all, statement_depths, statement_length}
 use Rattle.code_gen.proofs.FineExpressions.{back_at}
 use Rattle.code_gen.proofs.FineStatements.{First, statement_first, ParsFine, AllParsFine, statement_fine}

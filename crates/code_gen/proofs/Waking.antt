@@ -6,7 +6,7 @@ use Rattle.forec_base.specs.declared.Place.{Place}
 use Rattle.forec_kernel.specs.declared.shape.VarCopy.{VarCopy}
 use Rattle.forec_kernel.specs.Terms.{Expr, Stmt}
 use Rattle.forec_kernel.specs.Shapes.{PlainKernel}
-use Rattle.forec_kernel.specs.Values.{Value, Gives, Stops, call}
+use Rattle.forec_kernel.specs.Values.{Value, Gives, Raises, call}
 use Rattle.forec_kernel.specs.Texts.{Loop, After, Go_on, Again, Running, Paused, Ended, Gone, Trapped, Text, Done, Run, Then, Turning, Resting, Fork, Held, Watch, Last, Threads, no_threads, child, some_running, uses_of}
 use Rattle.forec_kernel.specs.Steps.{Owner, evaluated, Woken, Wakes, Stays, more_woken, woken_in, woken_with, refilled, watched_on, woken, woken_children}
 use Rattle.forec_kernel.specs.Erased.{erased, erased_threads}
@@ -23,7 +23,7 @@ use Rattle.code_gen.proofs.Cells.{put_same, put_other}
 use Rattle.code_gen.proofs.Fits.{Fits, CallsRun}
 use Rattle.code_gen.proofs.Stretch.{HasAt, has_front, has_back, point, Comes, stays, comes_on, comes_at, one, Yields}
 use Rattle.code_gen.proofs.Exprs.{expression_runs}
-use Rattle.code_gen.proofs.Places.{Store, Marks, own, numbers, running_in, Awaits, Sleeps, some_paused, ok, SameBelow, same_below, inside, Turns_left, At_fork, on, machine_at, Ends, ends_here, BehindAt, HeldAt, Rests, WakeAt, GoesOn, goes, goes_from, goes_under, goes_at, none_more, goes_then, goes_watch, goes_last}
+use Rattle.code_gen.proofs.MachinePoints.{Store, Marks, own, numbers, running_in, Awaits, Sleeps, some_paused, ok, SameBelow, same_below, inside, Turns_left, At_fork, on, machine_at, Ends, ends_here, BehindAt, HeldAt, Rests, WakeAt, ReachesText, goes, goes_from, goes_under, goes_at, none_more, goes_then, goes_watch, goes_last}
 
 -- ---- the children of a held fork
 
@@ -102,7 +102,7 @@ module _ (k : PlainKernel) (t : ℕ) (run : CallsRun (kernel_code k) t (ok k) (c
 
   -- the machine does what the waking of a text does
   abbrev pub FollowsWoken : Around → ℕ → Store → List ℕ → Marks → Machine → ℕ → Woken → Type 0
-  FollowsWoken a q st c f m u (Wakes R v) = GoesOn k t s true a R q st c f m (u + v)
+  FollowsWoken a q st c f m u (Wakes R v) = ReachesText k t s true a R q st c f m (u + v)
   FollowsWoken a q st c f m u (Stays place trap v) = Comes (kernel_code k) t m (Trapped place trap (u + v))
 
   woken_from : (a : Around) (q : ℕ) (st : Store) (c : List ℕ) (f : Marks) (m m1 : Machine) (u : ℕ) (w : Woken) → Comes (kernel_code k) t m m1 → FollowsWoken a q st c f m1 u w → FollowsWoken a q st c f m u w
@@ -115,7 +115,7 @@ module _ (k : PlainKernel) (t : ℕ) (run : CallsRun (kernel_code k) t (ok k) (c
 
   woken_by : (a : Around) (q : ℕ) (st : Store) (c : List ℕ) (f : Marks) (m : Machine) (u : ℕ) (mid : ℤ → ℕ → Machine) (r : Value) (go : ℤ → Woken) → Yields (kernel_code k) t m u mid r → ((n : ℤ) (w : ℕ) → FollowsWoken a q st c f (mid n w) w (go n)) → FollowsWoken a q st c f m u (woken_with r go)
   woken_by a q st c f m u mid (Gives n v) go g h = woken_after a q st c f m v u (go n) (woken_from a q st c f m (mid n (u + v)) (u + v) (go n) g (h n (u + v)))
-  woken_by a q st c f m u mid (Stops place trap v) go g h = g
+  woken_by a q st c f m u mid (Raises place trap v) go g h = g
 
   -- ---- what the prologue has
 

@@ -10,7 +10,7 @@ use Rattle.thread_code.specs.declared.instruction.Instruction.TheVariants as ins
 use Rattle.thread_code.specs.Plain.{PlainBlock, PlainCode}
 use Rattle.code_gen.specs.Statements.{Outside, statement_code}
 
--- how deep loops with a bound stand in one another
+-- how deep loops with a bound nest
 abbrev pub counted : Option ℕ → ℕ → ℕ
 counted None n = n
 counted (Some bound) n = suc n
@@ -33,7 +33,7 @@ abbrev mutual
   counters_of no_stmts = 0
   counters_of (more_stmts s rest) = max (counters_in s) (counters_of rest)
 
--- how deep weak aborts stand in one another
+-- how deep weak aborts nest
 abbrev pub flagged : Bool → ℕ → ℕ
 flagged false n = n
 flagged true n = suc n

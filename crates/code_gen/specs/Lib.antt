@@ -3,5 +3,5 @@ pub mod Statements
 pub mod Sizes
 pub mod Blocks
 pub mod Arounds
-pub mod Surroundings
+pub mod StatementCode
 pub mod Worked

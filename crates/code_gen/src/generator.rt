@@ -47,7 +47,7 @@ fn body_steps(
     Ok(steps)
 }
 
-/// How deep loops with a bound stand in one another.
+/// How deep loops with a bound nest.
 #[cycle(counters)]
 fn counters(statement: &Statement) -> Result<u32, OutOfMemory>
     ensures { IfOk result (λ n. n ≡ counters_in (stmt statement.now)) }
@@ -88,7 +88,7 @@ fn counters_within(list: &[Statement]) -> Result<u32, OutOfMemory>
     Ok(most)
 }
 
-/// How deep weak aborts stand in one another.
+/// How deep weak aborts nest.
 #[cycle(flags)]
 fn flags(statement: &Statement) -> Result<u32, OutOfMemory>
     ensures { IfOk result (λ n. n ≡ flags_in (stmt statement.now)) }
@@ -212,7 +212,7 @@ fn function_blocks(
 
 /// The code of a kernel: it has the kernel's shape, and each thread by itself does the same with every
 /// list of jobs and replies: the same forks, jobs and replies, units included. A code that would have
-/// more than 8,388,608 instructions is answered as want of memory, which is the only other answer.
+/// more than 8,388,608 instructions is reported as out of memory, which is the only other answer.
 ///
 /// A pause has the tests of all aborts round it after it, which are made at each wake: so code can be
 /// far larger than its kernel.

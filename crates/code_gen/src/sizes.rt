@@ -1,6 +1,6 @@
 //! How many instructions code has, counted before it is written: an abort leads after its body, so its
 //! address is needed inside. A sum that passes 32 bits is past the most that a code may have, and is
-//! answered as want of memory.
+//! reported as out of memory.
 
 ghost use Rattle.std.specs.Prelude.{◌≡◌, ◌+◌, ◌++◌, map, OnOk, IfOk};
 ghost use Rattle.forec_kernel.specs.Plain.{expr, exprs, stmt, stmts, branch};

@@ -6,7 +6,7 @@ ghost use Rattle.forec_kernel.specs.Shapes.{plain_thread};
 ghost use Rattle.forec_kernel.specs.Terms.{While, Enter};
 ghost use Rattle.code_gen.specs.Statements.{loops, weaks, checks, prologue, wait_code, pause_code, fork_code, set_code, entry_code, par_number, arguments_code};
 ghost use Rattle.code_gen.specs.Arounds.{plain_around, perhaps};
-ghost use Rattle.code_gen.specs.Surroundings.{code_within, codes_within, loop_within};
+ghost use Rattle.code_gen.specs.StatementCode.{code_within, codes_within, loop_within};
 
 use crate::around::{Around, Surroundings};
 use crate::expressions::{emit_expression, emit_expressions};

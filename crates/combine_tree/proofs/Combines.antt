@@ -4,7 +4,7 @@ use Rattle.forec_base.specs.declared.Place.{Place}
 use Rattle.forec_base.specs.declared.Policy.{Policy}
 use Rattle.forec_base.specs.declared.Trap.{Trap}
 use Rattle.forec_kernel.specs.declared.shape.VarCopy.{VarCopy}
-use Rattle.forec_kernel.specs.Values.{Value, Gives, Stops}
+use Rattle.forec_kernel.specs.Values.{Value, Gives, Raises}
 use Rattle.forec_kernel.specs.Combining.{Share, takes_part, taking_part, some_marked, fold_calls, last_value, variable_calls, combined_value}
 use Rattle.combine_tree.specs.declared.joining.Fold.{Fold}
 use Rattle.combine_tree.specs.Joins.{result_of}
@@ -52,7 +52,7 @@ called f policy base marked n s ss m u e gives rest = record {
 
 -- the next copy takes part, and the call traps
 stopped : (f : ℤ → ℤ → Value) (policy : Policy) (base : VarCopy) (marked : Bool) (n : ℤ) (s : Share) (ss : List Share) (place : Place) (trap : Trap) (u : ℕ) →
-    takes_part policy base.value s.copy ≡ true → f n s.copy.value ≡ Stops place trap u → IsFold f policy base marked n (s ∷ ss)
+    takes_part policy base.value s.copy ≡ true → f n s.copy.value ≡ Raises place trap u → IsFold f policy base marked n (s ∷ ss)
 stopped f policy base marked n s ss place trap u e stops = record {
   pairs = rw (e, stops) refl;
   calls = rw (e, stops) refl;
@@ -74,7 +74,7 @@ is_fold f policy base marked n (s ∷ ss) =
         ((m : ℤ) → IsFold f policy base (marked || s.copy.modified) m ss) → IsFold f policy base marked n (s ∷ ss)
     step false e v w rest = passed f policy base marked n s ss e (rest n)
     step true e (Gives m u) w rest = called f policy base marked n s ss m u e w (rest m)
-    step true e (Stops place trap u) w rest = stopped f policy base marked n s ss place trap u e w
+    step true e (Raises place trap u) w rest = stopped f policy base marked n s ss place trap u e w
 
 -- ---- before a value has taken part
 

@@ -2,7 +2,7 @@
 use Rattle.std.specs.Prelude.{ℕ, ℤ, ◌≡◌, Bool, true, false, ◌||◌, Option, Some, None, List, [], ◌∷◌, map}
 use Rattle.forec_base.specs.declared.Policy.{Policy}
 use Rattle.forec_kernel.specs.declared.shape.VarCopy.{VarCopy}
-use Rattle.forec_kernel.specs.Values.{Value, Gives, Stops}
+use Rattle.forec_kernel.specs.Values.{Value, Gives, Raises}
 use Rattle.forec_kernel.specs.Combining.{Share, Joint, taking_part, some_marked, variable_calls, combined_value}
 use Rattle.combine_tree.specs.declared.joining.Fold.{Fold}
 use Rattle.combine_tree.specs.Joins.{begun, offered, pair_of, folded, result_of}
@@ -24,7 +24,7 @@ with_pair pair o = record { fold = o.fold; pairs = pair ∷ o.pairs }
 -- goes on with the combine function's number folded in; a trap is the end
 abbrev pub answered : Fold → Value → (Fold → Offers) → Offers
 answered fold (Gives n u) go = go (folded n fold)
-answered fold (Stops place trap u) go = record { fold = fold; pairs = [] }
+answered fold (Raises place trap u) go = record { fold = fold; pairs = [] }
 
 -- goes on after an offer: at once, or with a pair
 abbrev pub given : (ℤ → ℤ → Value) → ℕ → Fold → Option (ℤ × ℤ) → (Fold → Offers) → Offers
@@ -42,7 +42,7 @@ abbrev pub fold_arguments : (ℤ → ℤ → Value) → ℤ → List Share → L
 fold_arguments f total [] = []
 fold_arguments f total (s ∷ ss) =
     record { from = s.from; left = total; right = s.copy.value } ∷
-    elim (f total s.copy.value) [ Gives n u ↦ fold_arguments f n ss | Stops place trap u ↦ [] ]
+    elim (f total s.copy.value) [ Gives n u ↦ fold_arguments f n ss | Raises place trap u ↦ [] ]
 
 -- the arguments of the calls for a variable, of the values that take part
 abbrev pub variable_arguments : (ℤ → ℤ → Value) → List Share → List Pair
@@ -54,7 +54,7 @@ call_of f pair = record { from = pair.from; gives = f pair.left pair.right }
 
 abbrev pub stops : Value → Bool
 stops (Gives n u) = false
-stops (Stops place trap u) = true
+stops (Raises place trap u) = true
 
 abbrev pub some_stops : List Joint → Bool
 some_stops [] = false

@@ -58,7 +58,7 @@ impl Joining {
     ///
     /// # Errors
     ///
-    /// Want of memory.
+    /// Out of memory.
     pub fn new(alloc: Global, uses: usize) -> Result<Joining, OutOfMemory>
         ensures { IfOk result (λ j. j ≡ replicate uses blank_fold) }
     {

@@ -46,7 +46,7 @@ impl Packet {
     ///
     /// # Errors
     ///
-    /// Want of memory.
+    /// Out of memory.
     pub fn new(alloc: Global, args: usize, copies: usize) -> Result<Packet, OutOfMemory>
         ensures { IfOk result (λ p. plain_packet p ≡ blank_packet args copies) }
     {

@@ -14,7 +14,7 @@ pub simple : is_simple command_line ≡ true
 unfolding command_line clap_on_literals
 simple = refl
 
--- an error of no kind is want of memory
+-- an error of no kind is out of memory
 pub no_kind : (kinds : Kinds) (k : ErrorKind) → kinds ≡ [] → (k ≡ OutOfMemory) ⊎ IsAmong k kinds → (k ≡ OutOfMemory → ⊥) → ⊥
 no_kind [] k e h f = elim h [ inl x ↦ f x | inr x ↦ x ]
 no_kind (x ∷ xs) k e h f = cc

@@ -58,7 +58,7 @@ fn command<'a>(alloc: Global) -> Result<Command<'a>, AllocError>
     Ok(bare(command))
 }
 
-/// Any error but want of memory is one of the words.
+/// Any error but out of memory is one of the words.
 fn fault(kind: ErrorKind) -> WordsFault
     ensures { result ≡ fault.Usage → kind ≢ ErrorKind.OutOfMemory }
 {
@@ -72,7 +72,7 @@ fn fault(kind: ErrorKind) -> WordsFault
 ///
 /// # Errors
 ///
-/// `Usage` exactly where `clap` refuses the words. Or want of memory.
+/// `Usage` exactly where `clap` refuses the words. Or out of memory.
 pub fn values<'a>(alloc: Global, words: &'a [String]) -> Result<Values<'a>, WordsFault>
     ensures accepted { IfOk result (λ v. kinds_of (map string_bytes words.entry.now) ≡ []) }
     ensures values { IfOk result (λ v. plain_values v ≡ values_of (map string_bytes words.entry.now)) }

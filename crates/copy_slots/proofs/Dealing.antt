@@ -13,7 +13,7 @@ use Rattle.copy_slots.specs.declared.view.Role.{Role}
 use Rattle.copy_slots.specs.declared.view.Role.TheVariants.{Idle, Keeper, Mailbox}
 use Rattle.copy_slots.specs.declared.view.View.{View}
 use Rattle.copy_slots.specs.Mail.{Mail, untouched, End, parent_of, child_of, root, owner_of, SendsAt, TakesAt, KnowsParent, KnowsChild, Knows, Has, IsEnd, BoxAt, spent, Seated, Kept, posed, new_sender, new_taker, left_of, right_of, dealt_left, dealt_right, role_checked, role_stopped, starting, checked, stops}
-use Rattle.copy_slots.proofs.Mailing.{put, put_here, put_else, ends_stay, knows, at_end}
+use Rattle.copy_slots.proofs.MailLemmas.{put, put_here, put_else, ends_stay, knows, at_end}
 
 module _ {W P Q : Type 0} (plain : P → Q) (asks : W → ℕ → List Q → Type 0) (answers : W → ℕ → List Q → Q → Type 0) (work : W) (blanks : List Q) where
   abbrev St : Type 0

@@ -1,6 +1,6 @@
 pub mod Dealing
-pub mod Mailing
-pub mod Placing
-pub mod Porting
-pub mod Ruling
+pub mod MailLemmas
+pub mod SeatEndLemmas
+pub mod PortLemmas
+pub mod RuleLemmas
 pub mod Seating

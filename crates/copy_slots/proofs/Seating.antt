@@ -13,9 +13,9 @@ use Rattle.copy_slots.specs.declared.view.Role.TheVariants.{Idle, Keeper, Mailbo
 use Rattle.copy_slots.specs.Mail.{role_checked, role_stopped, new_sender, new_taker}
 use Rattle.copy_slots.specs.Fresh.{AllFresh, AllSit, fresh_ends, new_state}
 use Rattle.copy_slots.specs.declared.both.BothEnds.{BothEnds}
-use Rattle.copy_slots.specs.Places.{Sits, Watches}
+use Rattle.copy_slots.specs.SeatEnds.{Sits, Watches}
 use Rattle.copy_slots.specs.Ports.{PortState, local_state, Ends, parent_at, child_at, on_parent, on_child, IsParent, IsChild, ends_of, sender_in, taker_in, root_of, after_check, stop_word, after_stop}
-use Rattle.copy_slots.proofs.Placing.{role_is}
+use Rattle.copy_slots.proofs.SeatEndLemmas.{role_is}
 
 pub set_cases : {A : Type 0} (l : List A) (k j : ℕ) (a b : A) → slice_get (set l k a) j ≡ Some b → ((j ≡ k) × (a ≡ b)) ⊎ (slice_get l j ≡ Some b)
 set_cases [] k j a b e = inr e

@@ -3,7 +3,7 @@ use Rattle.std.specs.Prelude.{◌≡◌, ℕ, List, [], map, slice_get, Some, No
 use Rattle.atomic_table.specs.Seated.{TableId}
 use Rattle.copy_slots.specs.declared.both.BothEnds.{BothEnds}
 use Rattle.copy_slots.specs.Mail.{new_sender, new_taker}
-use Rattle.copy_slots.specs.Places.{Sits}
+use Rattle.copy_slots.specs.SeatEnds.{Sits}
 use Rattle.copy_slots.specs.Ports.{Ends, PortState, sender_in, taker_in}
 
 -- each seat has both ends of its mailbox, and nothing was done there

@@ -1,6 +1,6 @@
 pub mod Fresh
 pub mod Mail
-pub mod Places
+pub mod SeatEnds
 pub mod Ports
 pub mod Rule
 pub mod Steps

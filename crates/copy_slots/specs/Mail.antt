@@ -56,10 +56,10 @@ IsOut with_child = Unit {0}
 IsOut at_parent = Unit {0}
 IsOut _ = ⊥
 
-abbrev pub IsPlaced : PacketAt → Stage → Type 0
-IsPlaced Fresh g = g ≡ fresh
-IsPlaced Held g = g ≡ with_parent
-IsPlaced Out g = IsOut g
+abbrev pub IsAtStage : PacketAt → Stage → Type 0
+IsAtStage Fresh g = g ≡ fresh
+IsAtStage Held g = g ≡ with_parent
+IsAtStage Out g = IsOut g
 
 abbrev pub IsHeld : Bool → Stage → Type 0
 IsHeld true g = g ≡ with_child
@@ -67,7 +67,7 @@ IsHeld false g = g ≢ with_child
 
 module _ {Q : Type 0} where
   pub record SendsAt (m : Mail Q) (x : Sender Q) : Type 0 where
-    pub place : IsPlaced x.place m.stage
+    pub place : IsAtStage x.place m.stage
     pub sent : x.sent ≡ m.sent
     pub got : x.got ≡ m.got
 

@@ -11,7 +11,7 @@ use Rattle.copy_slots.specs.declared.view.Role.{Role}
 use Rattle.copy_slots.specs.declared.view.Role.TheVariants.{Keeper}
 use Rattle.copy_slots.specs.declared.view.View.{View}
 use Rattle.copy_slots.specs.Mail.{new_sender, new_taker, turn_between}
-use Rattle.copy_slots.specs.Places.{Sits, Watches}
+use Rattle.copy_slots.specs.SeatEnds.{Sits, Watches}
 
 -- as one who has both ends knows it, it is the child's turn, and this is the job that it did not take yet
 abbrev pub IsNewJob : {Q : Type 0} → Sender Q → Taker Q → Q → Type 0

@@ -1,7 +1,7 @@
 //! A port with all ends, for one thread.
 ghost use Rattle.std.specs.Prelude.{◌≡◌, ◌<◌, ◌^◌, length, true};
 ghost use Rattle.copy_slots.specs.Fresh.{AllSit};
-ghost use Rattle.copy_slots.specs.Places.{IsBoard, Watches};
+ghost use Rattle.copy_slots.specs.SeatEnds.{IsBoard, Watches};
 ghost use Rattle.copy_slots.specs.Ports.{root_of};
 
 use crate::both::BothEnds;
@@ -75,7 +75,7 @@ impl<W: Work> LocalPort<W> {
     ///
     /// # Errors
     ///
-    /// Want of memory.
+    /// Out of memory.
     pub fn new(alloc: Global, work: W, blanks: Vec<W::Packet>) -> Result<LocalPort<W>, OutOfMemory>
         requires { length blanks.items < 2 ^ 16 }
         ensures { IfOk result (λ p. ⟦<LocalPort<W> as Port<W>>⟧.state p ≡ new_state W.plain work blanks.items) }

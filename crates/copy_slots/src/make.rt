@@ -2,7 +2,7 @@
 ghost use Rattle.std.specs.Prelude.{◌≡◌, ℕ, ◌+◌, ◌<◌, ◌^◌, [], length, replicate, Some, IfOk, false, map};
 ghost use Rattle.copy_slots.specs.Mail.{plain_list};
 ghost use Rattle.copy_slots.specs.declared.view.Role.TheVariants.{Keeper};
-ghost use Rattle.copy_slots.specs.Places.{IsBoard, Watches};
+ghost use Rattle.copy_slots.specs.SeatEnds.{IsBoard, Watches};
 ghost use Rattle.copy_slots.specs.Fresh.{AllFresh};
 ghost use Rattle.copy_slots.specs.Steps.{CanDeal, CanDealAll, HandsOut, HandsOutAll, IsFreshSeat};
 

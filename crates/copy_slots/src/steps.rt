@@ -2,7 +2,7 @@
 ghost use Rattle.std.specs.Prelude.{◌≡◌, ◌≢◌, ℕ, ◌<◌, [], ◌∷◌, ◌++◌, slice_get, Some, IfSome, MatchOption, true, false};
 ghost use Rattle.copy_slots.specs.declared.view.PacketAt.TheVariants.{Fresh, Out};
 ghost use Rattle.copy_slots.specs.Mail.{sender_opened, sender_sent, taker_answered, turn_between, role_stopped, role_checked};
-ghost use Rattle.copy_slots.specs.Places.{IsBoard};
+ghost use Rattle.copy_slots.specs.SeatEnds.{IsBoard};
 ghost use Rattle.copy_slots.specs.Ports.{in_plain, sender_seen, taker_seen, stop_word};
 ghost use Rattle.copy_slots.specs.Steps.{HasParentAt, CanOffer, HasChildWith, CanAnswer, ChangesParent, ChangesChild, OfParent, OfChild, OfBoth, IsNewJob, IsKeeper, LooksAtStop, ChangesWatch, OfKeeper};
 

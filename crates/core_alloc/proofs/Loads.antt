@@ -8,7 +8,7 @@ use Rattle.std.proofs.lemmas.List.Sums.{sum_by-cons}
 use Rattle.std.proofs.lemmas.List.Sorted.{sum_by-IsPermutation}
 use Rattle.core_alloc.specs.declared.ranked.Ranked.{Ranked}
 use Rattle.core_alloc.specs.Balance.{ranked_from, heaviest, lightest, Balance, placed, placed_all, nothing_placed, balance_of, load_of, IsHeaviestFirst, IsEven}
-use Rattle.core_alloc.proofs.Balancing.{order_length, order_low, loads_stay_even}
+use Rattle.core_alloc.proofs.BalanceLemmas.{order_length, order_low, loads_stay_even}
 
 -- ---- no thread comes twice
 

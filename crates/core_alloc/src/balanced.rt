@@ -79,7 +79,7 @@ fn places_of(alloc: Global, order: &[Ranked], cores: u32) -> Result<Vec<u32>, Ou
 ///
 /// # Errors
 ///
-/// Want of memory.
+/// Out of memory.
 pub fn balance(alloc: Global, weights: &[u64], cores: u32) -> Result<Placement, OutOfMemory>
     requires some { 1 ≤ cores }
     requires few { cores ≤ 64 }

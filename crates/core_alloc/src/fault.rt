@@ -6,7 +6,7 @@ use thiserror::Error;
 
 /// Why a list of places is refused. Its pieces are numbered from 0.
 #[derive(Clone, Copy, Debug, PartialEq, Eq, Error)]
-pub enum PlaceFault {
+pub enum PlacementFault {
     /// This piece is not one to three decimal digits.
     #[error("a place is no number")]
     Shape { at: u64 },
@@ -21,24 +21,24 @@ pub enum PlaceFault {
     OutOfMemory,
 }
 
-impl From<OutOfMemory> for PlaceFault {
+impl From<OutOfMemory> for PlacementFault {
     ghost use Rattle.std.specs.Prelude.{◌≡◌};
-    ghost use Rattle.core_alloc.specs.declared.fault.PlaceFault.TheVariants as fault;
+    ghost use Rattle.core_alloc.specs.declared.fault.PlacementFault.TheVariants as fault;
 
     ghost from_gives = { λ _ e. e ≡ fault.OutOfMemory };
 
     fn from(_: OutOfMemory) -> Self {
-        PlaceFault::OutOfMemory
+        PlacementFault::OutOfMemory
     }
 }
 
-impl From<AllocError> for PlaceFault {
+impl From<AllocError> for PlacementFault {
     ghost use Rattle.std.specs.Prelude.{◌≡◌};
-    ghost use Rattle.core_alloc.specs.declared.fault.PlaceFault.TheVariants as fault;
+    ghost use Rattle.core_alloc.specs.declared.fault.PlacementFault.TheVariants as fault;
 
     ghost from_gives = { λ _ e. e ≡ fault.OutOfMemory };
 
     fn from(_: AllocError) -> Self {
-        PlaceFault::OutOfMemory
+        PlacementFault::OutOfMemory
     }
 }

@@ -1,4 +1,4 @@
-pub mod Counting
+pub mod HintLemmas
 pub mod Dealing
 pub mod Hanging
 pub mod Lists

@@ -9,7 +9,7 @@ use Rattle.core_bells.specs.declared.belfry.LooseRope.{LooseRope}
 use Rattle.core_bells.specs.declared.hints.HintLog.{HintLog}
 use Rattle.core_bells.specs.Hints.{new_log}
 use Rattle.core_bells.specs.Ropes.{AllFit, AreQueues, ArePasses, FitsCore, MayPop, RopeState, logs_of, new_logs, new_rope, new_ropes, pushed_by, rope_state, states_of}
-use Rattle.core_bells.proofs.Counting.{total_snoc}
+use Rattle.core_bells.proofs.HintLemmas.{total_snoc}
 use Rattle.core_bells.proofs.Lists.{map_snoc, snoc_cases}
 
 none_pushed : (core n : ℕ) → pushed_by (new_logs core n) ≡ 0

@@ -6,7 +6,7 @@ use Rattle.core_bells.specs.declared.hints.HintLog.{HintLog}
 use Rattle.core_bells.specs.Hints.{KeepsHints, Knows, new_log, with_pushed, with_popped, with_log}
 
 -- `id`, `v`: the number of a pass, and its log. `room`: the capacity of the queue
-pub record EveryStep : Type 0 where
+pub record EveryHintStep : Type 0 where
   -- the queue is empty, and its one pass did nothing
   pub start : KeepsHints [] (new_log true ∷ [])
   pub push : (room id : ℕ) (v : HintLog) (hint : ℕ) → Pushes KeepsHints room id v hint (λ w. w ≡ with_pushed v hint)

@@ -71,7 +71,7 @@ impl Bells {
     ///
     /// # Errors
     ///
-    /// Want of memory.
+    /// Out of memory.
     pub fn new(alloc: Global, code: &Code, placement: &Placement) -> Result<Bells, OutOfMemory>
         requires { length placement.now.places ≡ length (plain_code code.now).threads }
         ensures whole { IfOk result (λ b. ⟦<Bells as GivesRopes>⟧.is_whole b) }
@@ -95,7 +95,7 @@ impl Bells {
     ///
     /// # Errors
     ///
-    /// Want of memory. Then none was given out.
+    /// Out of memory. Then none was given out.
     pub fn ropes<'b>(&'b mut self, alloc: Global) -> Result<Vec<Rope<'b>>, OutOfMemory>
         requires { ⟦<Bells as GivesRopes>⟧.is_whole self.old }
         ensures { IfOk result (λ ropes. ropes.items ≡ ⟦<Bells as GivesRopes>⟧.ropes self.old) }

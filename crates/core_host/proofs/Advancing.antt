@@ -14,7 +14,7 @@ use Rattle.combine_tree.specs.declared.packet.PacketKind.{PacketKind}
 use Rattle.combine_tree.specs.declared.packet.PacketKind.TheVariants as kind
 use Rattle.combine_tree.specs.Plain.{plain_kind, plain_packet}
 use Rattle.core_machine.specs.declared.thread.Thread.{Thread}
-use Rattle.core_machine.specs.Held.{Loaded, StandsFor, HasSettled, HasReply, HasPaused, Gives}
+use Rattle.core_machine.specs.Threads.{Loaded, StandsFor, HasSettled, HasReply, HasPaused, Gives}
 use Rattle.core_machine.specs.Forks.{jobs_at}
 use Rattle.core_machine.specs.Replies.{Replies_by}
 use Rattle.copy_slots.specs.declared.view.Taker.{Taker}
@@ -30,16 +30,16 @@ use Rattle.core_host.specs.Writing.{Log, heard, told}
 use Rattle.core_host.specs.Done.{InJob}
 use Rattle.core_host.specs.Keeping.{State, code_in, IsSeated, LastReply, last, AtFork}
 use Rattle.core_host.specs.Waiting.{jobs_out, HasTold, IsForked, IsGathering, IsWorking, IsWaiting, IsAtRest, IsBetween, rests}
-use Rattle.core_host.specs.Serving.{MovesBranches, Touches}
+use Rattle.core_host.specs.Serving.{ChangesBranches, Touches}
 use Rattle.core_host.proofs.Mails.{by_equal, get_set, get_set_else, children_count, child_here, child_else, parent_on_child, is_child, extends_same, extends_one}
-use Rattle.core_host.proofs.Keep.{done_keeps}
+use Rattle.core_host.proofs.KeepingLemmas.{done_keeps}
 use Rattle.core_host.proofs.RunChildren.{same_test}
 use Rattle.core_host.proofs.ChildrenRunLemmas.{no_pairs}
-use Rattle.core_host.proofs.Loading.{length_then}
+use Rattle.core_host.proofs.LoadLemmas.{length_then}
 use Rattle.core_host.proofs.Logs.{Ends, job_ends}
 use Rattle.core_host.proofs.AfterFork.{fork_at, is_forked}
 use Rattle.core_host.proofs.OneMoreExchange.{changed, changed_is, told_posts}
-use Rattle.core_host.proofs.Waits.{work_keeps, has_keeps}
+use Rattle.core_host.proofs.WaitingLemmas.{work_keeps, has_keeps}
 
 -- ---- the jobs of a fork were sent
 
@@ -118,7 +118,7 @@ module _ (s0 : State) (m : ℕ) (inside : m < length s0.mail.ends) (seated : IsS
     pub it_forks : IsForked c h
     it_forks = is_forked c seated.valid h w.work.loaded settled numbers s0.mail w.work.jobs w.work.job (in_job_of s0 h w)
 
-    module _ (s1 : State) (moves : MovesBranches h.number s0 s1) (told1 : (pairs : List Answered) → HasTold s0 h.number pairs [] → HasTold s1 h.number pairs (jobs_at c h)) where
+    module _ (s1 : State) (moves : ChangesBranches h.number s0 s1) (told1 : (pairs : List Answered) → HasTold s0 h.number pairs [] → HasTold s1 h.number pairs (jobs_at c h)) where
       abbrev ws : List Written
       ws = jobs_at c h
 
@@ -296,7 +296,7 @@ module _ (s0 : State) (seated : IsSeated s0) (x : Active) (r : IsRunning s0 x) (
     pub run_fork : AtFork s0 h1
     run_fork = its_fork s0 x.mailbox r.active.inside seated h1 run_number run_working settled its_numbers
 
-    module _ (s1 : State) (moves : MovesBranches h1.number s0 s1) (told1 : (pairs : List Answered) → HasTold s0 h1.number pairs [] → HasTold s1 h1.number pairs (jobs_at (code_in s0) h1)) where
+    module _ (s1 : State) (moves : ChangesBranches h1.number s0 s1) (told1 : (pairs : List Answered) → HasTold s0 h1.number pairs [] → HasTold s1 h1.number pairs (jobs_at (code_in s0) h1)) where
       pub run_held : IsHeld s1 (record { mailbox = x.mailbox; thread = h1; packet = x.packet })
       run_held = fork_held s0 x.mailbox r.active.inside seated h1 run_number run_working settled its_numbers s1 moves told1 x.packet r.active.room
 

@@ -7,16 +7,17 @@ use Rattle.forec_kernel.specs.Packets.{IsPaused}
 use Rattle.forec_kernel.specs.WellFormed.{thread_of}
 use Rattle.forec_kernel.specs.Engine.{Job, Start, Wake, allowance_of, Reply, WasPaused, Seed, Starts, Wakes, Written, written, AtFork as IsAtFork, Engine, Exchange, Nothing, Begins, Answered, pair_up, pair_forks, pair_all, jobs_to, Allowed, Answers}
 use Rattle.forec_kernel.specs.Reached.{Inside}
-use Rattle.forec_kernel.proofs.Reach.{Went}
+use Rattle.forec_kernel.proofs.ReachedLemmas.{Went}
 use Rattle.thread_code.specs.Plain.{PlainCode}
 use Rattle.thread_code.specs.Valid.{IsValidCode, costs, of_shape}
-use Rattle.thread_code.specs.Machine.{Machine, On, Waits, Merges, Fails, Paused, Ended, Trapped, Exceeded, Stuck}
+use Rattle.thread_code.specs.Machine.{Machine, On, Waits, Merges, Failing, Paused, Ended, Trapped, Exceeded, Stuck}
 use Rattle.thread_code.specs.Alone.{block_of, view_of, units_of, code_engine, CodeAlone}
 use Rattle.thread_code.proofs.Steady.{code_steady}
 use Rattle.thread_code.proofs.Unstuck.{Good, reached_good}
 use Rattle.core_machine.specs.declared.thread.Thread.{Thread}
 use Rattle.core_machine.specs.declared.thread.Phase.TheVariants as phase
-use Rattle.core_machine.specs.Held.{branch_of, machine_in, machine_of, Waits_at, Placed, Loaded, StandsFor, HasSettled}
+use Rattle.core_machine.specs.Held.{branch_of, machine_in, machine_of, Waits_at, Placed}
+use Rattle.core_machine.specs.Threads.{Loaded, StandsFor, HasSettled}
 use Rattle.core_machine.specs.Forks.{seeds_in, jobs_at, next_replies, with_replies}
 use Rattle.copy_slots.specs.Ports.{sent}
 use Rattle.core_host.specs.Asking.{ArePaused}
@@ -25,9 +26,9 @@ use Rattle.core_host.specs.Writing.{Log, heard, told, Wrote}
 use Rattle.core_host.specs.Done.{Posts, InJob}
 use Rattle.core_host.specs.Keeping.{State, code_in, IsJobFor, MayAsk, AtFork}
 use Rattle.core_host.specs.Waiting.{IsForked}
-use Rattle.core_host.proofs.Keep.{branch_above}
+use Rattle.core_host.proofs.KeepingLemmas.{branch_above}
 use Rattle.core_host.proofs.AtEachFork.{EndsPaused, WakesPaused, AllAbove, Rising, AllAre, IsMine, Fine}
-use Rattle.core_host.proofs.Follows.{Working, follows, wrote_of, wrote_once, wrote_count, went_join, forks_then}
+use Rattle.core_host.proofs.FollowingLemmas.{Working, follows, wrote_of, wrote_once, wrote_count, went_join, forks_then}
 use Rattle.core_host.proofs.RunChildren.{jobs_then}
 use Rattle.core_host.proofs.Logs.{IsInside, fork_in, fork_machine, begins_once, alone_to_once}
 
@@ -181,7 +182,7 @@ module _ (c : PlainCode) (valid : IsValidCode c) (t : ℕ) (lt : t < length c.th
   fork_facts : (n : ℕ) (pairs : List Answered) (m : Machine) (seeds : List Seed) → view_of m ≡ IsAtFork seeds → Good c t m → Fine c valid t n pairs m → ForkFacts n pairs m seeds
   fork_facts n pairs (On p fs o u) seeds v g f = cc
   fork_facts n pairs (Merges m o u) seeds v g f = cc
-  fork_facts n pairs (Fails place trap u) seeds v g f = cc
+  fork_facts n pairs (Failing place trap u) seeds v g f = cc
   fork_facts n pairs (Paused wake o u) seeds v g f = cc
   fork_facts n pairs (Ended o u) seeds v g f = cc
   fork_facts n pairs (Trapped place trap u) seeds v g f = cc

@@ -19,7 +19,7 @@ use Rattle.thread_code.specs.declared.instruction.Instruction.{Instruction}
 use Rattle.thread_code.specs.declared.instruction.Instruction.TheVariants as instruction
 use Rattle.thread_code.specs.Plain.{PlainBlock, PlainCode}
 use Rattle.thread_code.specs.Valid.{Leads, IsFine, IsParOf, IsValidCode, costs, of_shape, branches_in, arguments_of, function_arguments}
-use Rattle.thread_code.specs.Machine.{Point, BranchCopy, Merge, Frame, Caller, Folding, Own, Awaited, Machine, On, Waits, Merges, Fails, Paused, Ended, Trapped, Exceeded, Stuck, onward, with_top, with_arguments, unless_none, turn_taken, put_at, entered, uses_of, total_of, folded, offered, merge_step, returned, living, starts, wakes, awaited, waking, act, step, is_ended, live_after, back_to, replied, join}
+use Rattle.thread_code.specs.Machine.{Point, BranchCopy, Merge, Frame, Caller, Folding, Own, Awaited, Machine, On, Waits, Merges, Failing, Paused, Ended, Trapped, Exceeded, Stuck, onward, with_top, with_arguments, unless_none, turn_taken, put_at, entered, uses_of, total_of, folded, offered, merge_step, returned, living, starts, wakes, awaited, waking, act, step, is_ended, live_after, back_to, replied, join}
 use Rattle.thread_code.specs.Alone.{block_of, view_of}
 use Rattle.thread_code.proofs.Unstuck.{IsHere, Good, owner, fetched, fine_at}
 use Rattle.core_machine.specs.Held.{branch_of}
@@ -281,7 +281,7 @@ module _ (c : PlainCode) (valid : IsValidCode c) (t : ℕ) where
   Fine n past (Waits w o u) =
       (w.done.steps ≡ own) × (n + 1 ≤ (length own + 2) * u + place w.done.at) × (w.going.steps ≡ own) × (n + 1 ≤ (length own + 2) * u + place w.going.at) × Lively past o.live × IsFork c t past w
   Fine n past (Merges m o u) = (m.back.steps ≡ own) × Few n u m.back.at × Lively past o.live
-  Fine n past (Fails place trap u) = Unit {0}
+  Fine n past (Failing place trap u) = Unit {0}
   Fine n past (Paused wake o u) = (wake.steps ≡ own) × Lively past o.live
   Fine n past (Ended o u) = Unit {0}
   Fine n past (Trapped place trap u) = Unit {0}
@@ -543,7 +543,7 @@ module _ (c : PlainCode) (valid : IsValidCode c) (t : ℕ) where
         subst (λ x. F (act c t x p (frame ∷ fs) o u)) (sym i.1) (inner_act p frame fs o u f.0 f.1 i.0 g.0.block g.0.depths (fine_at c valid t None p g.0 i.0 i.1))
     step_fine (Waits w o u) g f = f
     step_fine (Merges m o u) g f = merge_fine m.left m o u f
-    step_fine (Fails place trap u) g f = tt
+    step_fine (Failing place trap u) g f = tt
     step_fine (Paused wake o u) g f = f
     step_fine (Ended o u) g f = tt
     step_fine (Trapped place trap u) g f = tt
@@ -595,7 +595,7 @@ module _ (c : PlainCode) (valid : IsValidCode c) (t : ℕ) where
       going_fork : Going ≡ AtFork seeds → ⊥
       going_fork e = cc
   join_fine n past a rs (Merges m o u) seeds v count f = cc
-  join_fine n past a rs (Fails place trap u) seeds v count f = tt
+  join_fine n past a rs (Failing place trap u) seeds v count f = tt
   join_fine n past a rs (Paused wake o u) seeds v count f = cc
   join_fine n past a rs (Ended o u) seeds v count f = tt
   join_fine n past a rs (Trapped place trap u) seeds v count f = tt

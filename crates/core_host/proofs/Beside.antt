@@ -10,7 +10,7 @@ use Rattle.thread_code.specs.Plain.{plain_code}
 use Rattle.combine_tree.specs.declared.packet.Packet.{Packet}
 use Rattle.combine_tree.specs.Plain.{plain_packet}
 use Rattle.core_machine.specs.declared.thread.Thread.{Thread}
-use Rattle.core_machine.specs.Held.{Loaded, StandsFor, HasSettled, HasReply, Gives}
+use Rattle.core_machine.specs.Threads.{Loaded, StandsFor, HasSettled, HasReply, Gives}
 use Rattle.core_machine.specs.Forks.{jobs_at, with_replies}
 use Rattle.copy_slots.specs.declared.view.Taker.{Taker}
 use Rattle.copy_slots.specs.Ports.{child_at, IsChild}
@@ -23,15 +23,15 @@ use Rattle.core_host.specs.Ending.{HasReplied}
 use Rattle.core_host.specs.Rests.{RootRests}
 use Rattle.core_host.specs.Keeping.{State, code_in, IsSeated, Sits, HasPacket, HaveHeard, AtFork}
 use Rattle.core_host.specs.Waiting.{HasTold, IsForked, IsGathering, HasReplies, HasChild, IsBetween, IsVacant, CanDescend}
-use Rattle.core_host.specs.Serving.{MovesBranches, KeepsServing}
+use Rattle.core_host.specs.Serving.{ChangesBranches, KeepsServing}
 use Rattle.core_host.specs.OnJob.{IsOnJob, KeepsOthers}
 use Rattle.core_host.specs.Rounds.{CanServe, IsSameRound}
 use Rattle.core_host.specs.declared.round.Round.{Round}
 use Rattle.core_host.proofs.Mails.{state, alike_then, extends_same, get_set_else}
-use Rattle.core_host.proofs.Keep.{grown_same, grown_then, packet_keeps, seated_by}
+use Rattle.core_host.proofs.KeepingLemmas.{grown_same, grown_then, packet_keeps, seated_by}
 use Rattle.core_host.proofs.AfterFork.{fork_at, is_forked}
 use Rattle.core_host.proofs.OneMoreExchange.{changed_is, told_posts, posts_told}
-use Rattle.core_host.proofs.Waits.{gathering_keeps, between_keeps, between_moves}
+use Rattle.core_host.proofs.WaitingLemmas.{gathering_keeps, between_keeps, between_moves}
 use Rattle.core_host.proofs.Seats.{vacant_by, can_keep}
 use Rattle.core_host.proofs.GatherReplies.{all_heard}
 use Rattle.core_host.proofs.Advancing.{forked_gathering}
@@ -88,7 +88,7 @@ serving_others a b k = record {
 child_same : (a b : Mail) (j : ℕ) → child_at b.ends j ≡ child_at a.ends j → HasChild a j → HasChild b j
 child_same a b j e h = (h.0, subst (λ (o : Option (Taker PlainPacket)). IsChild o h.0) (sym e) h.1)
 
-pub branches_others : (a b : State) (t : ℕ) → t ≡ 0 → MovesBranches t a b → KeepsOthers a b
+pub branches_others : (a b : State) (t : ℕ) → t ≡ 0 → ChangesBranches t a b → KeepsOthers a b
 branches_others a b t root m = record {
   code = m.code;
   places = m.places;
@@ -153,7 +153,7 @@ module _ (a : State) (seated : IsSeated a) (h h1 : Thread) (loaded1 : Loaded (co
   forked_now : IsForked (code_in a) h1
   forked_now = is_forked (code_in a) seated.valid h1 loaded1 settled numbers a.mail jobs job (on_job a h1 jobs job on_now)
 
-  module _ (b : State) (moves : MovesBranches h1.number a b) (told1 : (pairs : List Answered) → HasTold a h1.number pairs [] → HasTold b h1.number pairs (jobs_at (code_in a) h1)) where
+  module _ (b : State) (moves : ChangesBranches h1.number a b) (told1 : (pairs : List Answered) → HasTold a h1.number pairs [] → HasTold b h1.number pairs (jobs_at (code_in a) h1)) where
     pub gathering_now : IsGathering b h1 pairs_now
     gathering_now =
         forked_gathering b h1 pairs_now (subst (λ x. IsForked (plain_code x) h1) (sym moves.code) forked_now)

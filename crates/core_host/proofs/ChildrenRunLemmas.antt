@@ -9,17 +9,17 @@ use Rattle.combine_tree.specs.Plain.{plain_packet}
 use Rattle.forec_kernel.specs.Engine.{Job, Start, Wake, Reply, Written, pair_up}
 use Rattle.thread_code.specs.Plain.{PlainCode, plain_code}
 use Rattle.core_machine.specs.declared.thread.Thread.{Thread}
-use Rattle.core_machine.specs.Held.{Loaded}
+use Rattle.core_machine.specs.Threads.{Loaded}
 use Rattle.core_machine.specs.Forks.{jobs_at}
 use Rattle.copy_slots.specs.Ports.{parent_at, sent_by, sent}
 use Rattle.core_host.specs.Asking.{ArePaused}
 use Rattle.core_host.specs.Posts.{Mail, IsBranchOf}
 use Rattle.core_host.specs.Done.{Posts}
 use Rattle.core_host.specs.Keeping.{State, code_in, Leaves, IsSeated, IsFitted, HasPacket, LacksPacket, Quiet, QuietAbove, IsCalled, IsBack, MayAsk, IsJobFor, AtFork, CanSend, HasHeard, HaveHeard}
-use Rattle.core_host.specs.Moving.{MovesPacket, HasSent, HasGot}
+use Rattle.core_host.specs.Moving.{ChangesPacket, HasSent, HasGot}
 use Rattle.core_host.specs.ChildrenRun.{Consulted}
 use Rattle.core_host.proofs.Mails.{some_once}
-use Rattle.core_host.proofs.Keep.{leaves_same, leaves_then, seated_keeps, moved_seated, fitted_keeps, moved_quiet, parent_once}
+use Rattle.core_host.proofs.KeepingLemmas.{leaves_same, leaves_then, seated_keeps, moved_seated, fitted_keeps, moved_quiet, parent_once}
 use Rattle.core_host.proofs.Send.{called_now, quiet_now, at_map}
 use Rattle.core_host.proofs.RunChildren.{all_leaves, quiet_all, parent_else, hand_else, its_reply, heard_now, posts_now, pairs_more}
 
@@ -109,7 +109,7 @@ module _ (a b : State) (h : Thread) (k number : ℕ) (fitted : IsFitted a) (fork
   pub some_packet : HasPacket b m
   some_packet = quiet_m.packet
 
-  module _ (s1 : State) (sending : MovesPacket m b s1) where
+  module _ (s1 : State) (sending : ChangesPacket m b s1) where
     pub is_called : LacksPacket s1 m → ((w : Written) → slice_get (jobs_at (code_in b) h) k ≡ Some w → HasSent b s1 m w.job) → IsCalled s1 m
     is_called lacks sent = called_now b s1 m fitted_b.seated inside_m quiet_m sending lacks can_send.job.job (sent can_send.job can_send.at)
 
@@ -121,7 +121,7 @@ module _ (a b : State) (h : Thread) (k number : ℕ) (fitted : IsFitted a) (fork
         (done.above j (omega (arith, from, above_m)) (omega (arith, lt, count)))
 
     module _ (s2 s3 : State) (sent_now : (w : Written) → slice_get (jobs_at (code_in b) h) k ≡ Some w → HasSent b s1 m w.job) (working : Leaves (suc m) m s1 s2) (above_now : QuietAbove s2 (suc m))
-        (back : IsBack s2 m) (getting : MovesPacket m s2 s3) (got_now : HasGot s2 s3 m) where
+        (back : IsBack s2 m) (getting : ChangesPacket m s2 s3) (got_now : HasGot s2 s3 m) where
       sent1 : HasSent b s1 m job.0.job
       sent1 = sent_now job.0 (subst (λ x. slice_get (jobs_at (plain_code x) h) k ≡ Some job.0) (sym done.leaves.code) job.1)
 

@@ -6,13 +6,13 @@ use Rattle.thread_code.specs.Alone.{block_of, units_of}
 use Rattle.core_machine.specs.declared.thread.Thread.{Thread}
 use Rattle.core_machine.specs.declared.thread.Event.{Event}
 use Rattle.core_machine.specs.declared.thread.Event.TheVariants as event
-use Rattle.core_machine.specs.Held.{Loaded, StandsFor, HasSettled, HasReply, Left_by}
+use Rattle.core_machine.specs.Threads.{Loaded, StandsFor, HasSettled, HasReply, Left_by}
 use Rattle.core_machine.specs.Forks.{jobs_at, with_replies}
 use Rattle.core_host.specs.Posts.{Mail}
 use Rattle.core_host.specs.Done.{Posts, InJob}
 use Rattle.core_host.specs.Writing.{heard, told}
 use Rattle.core_host.specs.Keeping.{State, code_in, IsFitted, Leaves, AtFork, HaveHeard}
-use Rattle.core_host.proofs.Keep.{fitted_keeps}
+use Rattle.core_host.proofs.KeepingLemmas.{fitted_keeps}
 use Rattle.core_host.proofs.Logs.{allowance_in}
 use Rattle.core_host.proofs.AfterFork.{in_job_by, fork_at, some_branches, inside, forks_bound, units_within, in_job_now, with_none}
 

@@ -15,12 +15,12 @@ use Rattle.core_host.specs.declared.seat.Seat.{Seat}
 use Rattle.core_host.specs.Posts.{Mail, IsBranchOf, AreReplies, replies_to}
 use Rattle.core_host.specs.Changes.{Extends, Awaits}
 use Rattle.core_host.specs.Keeping.{State, code_in, IsSeated, LacksPacket, HasHeard, HaveHeard}
-use Rattle.core_host.specs.Moving.{MovesPacket, HasGot, HasLooked}
+use Rattle.core_host.specs.Moving.{ChangesPacket, HasGot, HasLooked}
 use Rattle.core_host.specs.Waiting.{jobs_out, IsOut, HasTold, IsFor, IsGathering, HasReplies}
-use Rattle.core_host.specs.Serving.{MovesBranches}
+use Rattle.core_host.specs.Serving.{ChangesBranches}
 use Rattle.core_host.proofs.Mails.{by_equal, extends_one, extends_same, some_once}
-use Rattle.core_host.proofs.Keep.{packet_keeps}
-use Rattle.core_host.proofs.Loading.{get_then, length_then}
+use Rattle.core_host.proofs.KeepingLemmas.{packet_keeps}
+use Rattle.core_host.proofs.LoadLemmas.{get_then, length_then}
 use Rattle.core_host.proofs.Send.{at_map}
 use Rattle.core_host.proofs.RunChildren.{pairs_more}
 use Rattle.core_host.proofs.OneMoreExchange.{changed, changed_is, lacks_keeps, told_back, answers}
@@ -50,7 +50,7 @@ out_dropped b (w ∷ ws) (suc k) h =
 
 -- ---- a state with the same code
 
-module _ (s : State) (mail : Mail) (seats : List Seat) (hands : List (Option Packet)) (h : Thread) (m : ℕ) (mine : IsBranchOf (code_in s).shape h.number m) (moves : MovesPacket m s (changed s mail seats hands)) where
+module _ (s : State) (mail : Mail) (seats : List Seat) (hands : List (Option Packet)) (h : Thread) (m : ℕ) (mine : IsBranchOf (code_in s).shape h.number m) (moves : ChangesPacket m s (changed s mail seats hands)) where
   abbrev s' : State
   s' = changed s mail seats hands
 
@@ -160,7 +160,7 @@ module _ (s : State) (mail : Mail) (seats : List Seat) (hands : List (Option Pac
       pub waits_on : IsGathering s' h pairs
       waits_on = record { forked = w.forked; replies = rs; gathered = record { within = w.gathered.within; heard = kept; told = told_same } }
 
-same_moves : (s : State) (m : ℕ) → MovesPacket m s s
+same_moves : (s : State) (m : ℕ) → ChangesPacket m s s
 same_moves s m = record {
   code = refl;
   places = refl;
@@ -182,13 +182,13 @@ pub record HasSome (s : State) (h : Thread) (pairs : List Answered) (k : ℕ) : 
 
 pub record HasGotFirst (a b : State) (h : Thread) (k : ℕ) : Type 0 where
   pub within : k ≤ length h.branches.numbers
-  pub moves : MovesBranches h.number a b
+  pub moves : ChangesBranches h.number a b
   pub some : (pairs : List Answered) → IsGathering a h pairs → HasSome b h pairs k
 
 pub got_none : (a : State) (h : Thread) → HasGotFirst a a h 0
 got_none a h = record { within = omega arith; moves = branches_same h.number a; some = λ pairs w. record { gathering = w; reached = omega arith } }
 
-module _ (a b : State) (h : Thread) (k number : ℕ) (seated : IsSeated a) (moves_b : MovesBranches h.number a b) (at : slice_get h.branches.numbers k ≡ Some number) (pairs : List Answered) (have : HasSome b h pairs k) where
+module _ (a b : State) (h : Thread) (k number : ℕ) (seated : IsSeated a) (moves_b : ChangesBranches h.number a b) (at : slice_get h.branches.numbers k ≡ Some number) (pairs : List Answered) (have : HasSome b h pairs k) where
   abbrev w : IsGathering b h pairs
   w = have.gathering
 
@@ -251,23 +251,23 @@ module _ (a b : State) (h : Thread) (k number : ℕ) (seated : IsSeated a) (move
       full : (p : Packet) → Some (Some p) ≡ Some None → ⊥
       full p e = cc
 
-  module _ (s1 : State) (moves : MovesPacket m b s1) where
+  module _ (s1 : State) (moves : ChangesPacket m b s1) where
     path : changed b s1.mail s1.seats s1.hands ≡ s1
     path = changed_is b s1 moves.code moves.places
 
-    moves' : MovesPacket m b (changed b s1.mail s1.seats s1.hands)
-    moves' = subst (MovesPacket m b) (sym path) moves
+    moves' : ChangesPacket m b (changed b s1.mail s1.seats s1.hands)
+    moves' = subst (ChangesPacket m b) (sym path) moves
 
-    moved : (Extends (sent b.mail m) (sent s1.mail m)) × (Extends (got b.mail m) (got s1.mail m)) → MovesBranches h.number a s1
+    moved : (Extends (sent b.mail m) (sent s1.mail m)) × (Extends (got b.mail m) (got s1.mail m)) → ChangesBranches h.number a s1
     moved grown = branches_then h.number a b s1 moves_b (branch_moves h.number m b s1 mine_b moves grown)
 
     module _ (before : (p : Packet) → slice_get b.hands m ≡ Some (Some p) → s1 ≡ b) (there : slice_get b.hands m ≡ Some None → HasGot b s1 m) where
       got_next : k ≡ length w.replies → HasGot b s1 m
       got_next next = there (it_lacks b b.mail b.seats b.hands h m mine_b (same_moves b m) pairs w k at_m next).empty
 
-      pub more_moves : MovesBranches h.number a s1
+      pub more_moves : ChangesBranches h.number a s1
       more_moves =
-          ⊎_elim (λ p. subst (MovesBranches h.number a) (sym (before p.0 p.1)) moves_b)
+          ⊎_elim (λ p. subst (ChangesBranches h.number a) (sym (before p.0 p.1)) moves_b)
           (λ next. let g = got_next next in moved (extends_same (sent b.mail m) (sent s1.mail m) g.sent, extends_one (got b.mail m) (got s1.mail m) (plain_packet g.packet) g.got)) here_or_next
 
       pub more_some : HasSome s1 h pairs (k + 1)
@@ -281,7 +281,7 @@ module _ (a b : State) (h : Thread) (k number : ℕ) (seated : IsSeated a) (move
       is_next : k ≡ length w.replies
       is_next = ⊎_elim (λ p. absurd (empty p.0 p.1)) (λ next. next) here_or_next
 
-      pub missed_moves : MovesBranches h.number a s1
+      pub missed_moves : ChangesBranches h.number a s1
       missed_moves = moved (extends_same (sent b.mail m) (sent s1.mail m) missed.sent, extends_same (got b.mail m) (got s1.mail m) missed.got)
 
       pub missed_waits : IsGathering s1 h pairs
@@ -299,7 +299,7 @@ module _ (a b : State) (h : Thread) (k number : ℕ) (seated : IsSeated a) (move
 -- ---- one branch more
 
 -- beside some pairs it was at the fork to begin with
-pub got_more : (a b s1 : State) (h : Thread) (k number : ℕ) → IsSeated a → HasGotFirst a b h k → slice_get h.branches.numbers k ≡ Some number → (pairs : List Answered) × IsGathering a h pairs → MovesPacket (number - 1) b s1 →
+pub got_more : (a b s1 : State) (h : Thread) (k number : ℕ) → IsSeated a → HasGotFirst a b h k → slice_get h.branches.numbers k ≡ Some number → (pairs : List Answered) × IsGathering a h pairs → ChangesPacket (number - 1) b s1 →
     ((p : Packet) → slice_get b.hands (number - 1) ≡ Some (Some p) → s1 ≡ b) → (slice_get b.hands (number - 1) ≡ Some None → HasGot b s1 (number - 1)) → HasGotFirst a s1 h (k + 1)
 got_more a b s1 h k number seated done at it moves before there = record {
   within = let lt = slice_get_within h.branches.numbers k number at in omega (arith, lt);

@@ -9,8 +9,8 @@ use Rattle.core_host.specs.Keeping.{State, IsSeated}
 use Rattle.core_host.specs.Waiting.{IsBetween, waits}
 use Rattle.core_host.specs.Serving.{Touches}
 use Rattle.core_host.proofs.Mails.{get_set, get_set_else, extends_same}
-use Rattle.core_host.proofs.Keep.{grown_same}
-use Rattle.core_host.proofs.Waits.{waiting_keeps}
+use Rattle.core_host.proofs.KeepingLemmas.{grown_same}
+use Rattle.core_host.proofs.WaitingLemmas.{waiting_keeps}
 
 module _ (s : State) (seated : IsSeated s) (x : Active) (held : IsHeld s x) (s1 : State) (sitting : s1 ≡ record s { seats = slice_set s.seats (x.mailbox + 1) (record { thread = Some x.thread; job = Some x.packet }) }) where
   abbrev seat : Seat

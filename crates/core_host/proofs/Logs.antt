@@ -3,10 +3,10 @@ use Rattle.std.proofs.Common.{◌≡◌, ℕ, ◌-◌, ◌<◌, ◌==◌, true, 
 use Rattle.std.proofs.lemmas.Bool.Decides.{nat_tests}
 use Rattle.forec_kernel.specs.Packets.{PlainPacket}
 use Rattle.forec_kernel.specs.Packed.{IsReply}
-use Rattle.forec_kernel.specs.Engine.{Job, Start, Wake, allowance_of, Reply, Seed, Written, written, View, Going, AtFork, Pausing, Ending, Trapping, Exceeding, Engine, Reaches, Rest, Asleep, Nothing, Exchange, Output, ends_at, first_jobs, AtEvent, RunsOn, over, event, Either, Serves, Begins, Alone, Answered, pair_forks, pair_all, Allowed, last_reply, Answers}
+use Rattle.forec_kernel.specs.Engine.{Job, Start, Wake, allowance_of, Reply, Seed, Written, written, View, Going, AtFork, Pausing, Ending, Trapping, Exceeding, Engine, Reaches, Rest, Asleep, Nothing, Exchange, Output, ends_at, first_jobs, AtEvent, RunsOn, over, event, IfElse, Serves, Begins, Alone, Answered, pair_forks, pair_all, Allowed, last_reply, Answers}
 use Rattle.forec_kernel.specs.Reached.{Reached, Inside, AloneTo}
 use Rattle.forec_kernel.proofs.Same.{IsSteady, one_stop, not_both, serves_one}
-use Rattle.forec_kernel.proofs.Reach.{alone_of}
+use Rattle.forec_kernel.proofs.ReachedLemmas.{alone_of}
 use Rattle.forec_kernel.proofs.Agree.{answers_join}
 use Rattle.thread_code.specs.Plain.{PlainCode}
 use Rattle.thread_code.specs.Valid.{IsValidCode}
@@ -15,12 +15,13 @@ use Rattle.thread_code.specs.Alone.{code_engine, CodeAlone}
 use Rattle.thread_code.proofs.Steady.{code_steady}
 use Rattle.core_machine.specs.declared.thread.Thread.{Thread}
 use Rattle.core_machine.specs.declared.thread.Phase.TheVariants as phase
-use Rattle.core_machine.specs.Held.{StandsFor, never, since, settling, joining, machine_of, Gives, HasSettled, machine_in, Stands_in, Stands_at}
+use Rattle.core_machine.specs.Held.{machine_of, machine_in}
+use Rattle.core_machine.specs.Threads.{StandsFor, never, since, settling, joining, Gives, HasSettled, Stands_in, Stands_at}
 use Rattle.core_host.specs.Posts.{Mail}
 use Rattle.core_host.specs.Writing.{Wrote, heard, told}
 use Rattle.core_host.specs.Done.{AreAbove, Posts, HasDone, InJob}
 use Rattle.core_host.proofs.Replying.{alone_one}
-use Rattle.core_host.proofs.Follows.{follows, all_then, reply_then, alone_count}
+use Rattle.core_host.proofs.FollowingLemmas.{follows, all_then, reply_then, alone_count}
 
 -- ---- lists that end with one more
 
@@ -189,7 +190,7 @@ module _ (S : Type 0) (e : Engine S) (steady : IsSteady e) where
   serves_wrote n (rs ∷ more) s o r reply forks h has w =
       let f = goes_fork n s o r _ w.0 w.1 w.3 w.4 h in
       let ws = map (written (n - e.units w.0)) w.1 in
-      let g = subst (λ b. Either b ((o' : Output) × Serves e n more (e.join rs w.0) o' r × (o ≡ first_jobs ws o')) ((o ≡ ends_at ws) × (r ≡ Nothing))) (same_count (length rs) (length w.1) w.5) f in
+      let g = subst (λ b. IfElse b ((o' : Output) × Serves e n more (e.join rs w.0) o' r × (o ≡ first_jobs ws o')) ((o ≡ ends_at ws) × (r ≡ Nothing))) (same_count (length rs) (length w.1) w.5) f in
       let ih = serves_wrote n more (e.join rs w.0) g.0 r reply w.2 g.1 (sym (ap (λ (x : Output). x.reply) g.2) ∙ has) w.7 in
       ap (λ (x : Output). x.jobs) g.2 ∙ ap (λ l. ws ∷ l) ih ∙ sym w.6
 

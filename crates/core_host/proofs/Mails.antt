@@ -19,7 +19,7 @@ use Rattle.core_host.specs.declared.seat.Seat.{Seat}
 use Rattle.core_host.specs.Posts.{Mail}
 use Rattle.core_host.specs.Changes.{Extends}
 use Rattle.core_host.specs.Keeping.{State, code_in, Alike, IsSeated, Ready, blank, reply, HasPacket}
-use Rattle.core_host.specs.Moving.{MovesPacket}
+use Rattle.core_host.specs.Moving.{ChangesPacket}
 
 abbrev pub state : CodeParts → List ℕ → Mail → List Seat → List (Option Packet) → State
 state code places mail seats hands = record { code = code; places = places; mail = mail; seats = seats; hands = hands }
@@ -127,7 +127,7 @@ module _ (s : State) (k : ℕ) (f : Sender PlainPacket → Sender PlainPacket) (
   looks_on look None = extends_same [] [] refl
   looks_on look (Some x) = look x
 
-  pub moves_parent : ((x : Sender PlainPacket) → Extends x.looked (f x).looked) → ((j : ℕ) → j ≢ k → slice_get hands j ≡ slice_get s.hands j) → length hands ≡ length s.hands → MovesPacket k s with_parent
+  pub moves_parent : ((x : Sender PlainPacket) → Extends x.looked (f x).looked) → ((j : ℕ) → j ≢ k → slice_get hands j ≡ slice_get s.hands j) → length hands ≡ length s.hands → ChangesPacket k s with_parent
   moves_parent look else count = record {
     code = refl;
     places = refl;
@@ -162,7 +162,7 @@ module _ (s : State) (k : ℕ) (f : Sender PlainPacket → Sender PlainPacket) (
 pub alike_then : (a b c : Mail) → Alike a b → Alike b c → Alike a c
 alike_then a b c h g = record { work = g.work ∙ h.work; blanks = g.blanks ∙ h.blanks; tells = g.tells ∙ h.tells; root = g.root ∙ h.root; count = g.count ∙ h.count; stops = extends_then _ _ _ h.stops g.stops }
 
-pub moves_then : (k : ℕ) (a b c : State) → MovesPacket k a b → MovesPacket k b c → MovesPacket k a c
+pub moves_then : (k : ℕ) (a b c : State) → ChangesPacket k a b → ChangesPacket k b c → ChangesPacket k a c
 moves_then k a b c h g = record {
   code = g.code ∙ h.code;
   places = g.places ∙ h.places;
@@ -181,7 +181,7 @@ moves_then k a b c h g = record {
 abbrev pub handed : State → ℕ → State
 handed s k = record s { hands = slice_set s.hands k None }
 
-pub handed_moves : (s : State) (k : ℕ) → MovesPacket k s (handed s k)
+pub handed_moves : (s : State) (k : ℕ) → ChangesPacket k s (handed s k)
 handed_moves s k = record {
   code = refl;
   places = refl;
@@ -241,7 +241,7 @@ module _ (s : State) (k : ℕ) (seated : IsSeated s) (inside : k < length s.mail
     abbrev pub opened : State
     opened = with_parent s k sender_opened (slice_set s.hands k None)
 
-    pub opened_moves : MovesPacket k s opened
+    pub opened_moves : ChangesPacket k s opened
     opened_moves = moves_parent s k sender_opened (slice_set s.hands k None) (λ x. extends_one x.looked _ 0 refl) emptied_else (length-set s.hands k None)
 
     pub opened_held : ParentIs opened.mail k Held

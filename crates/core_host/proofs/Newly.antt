@@ -12,7 +12,7 @@ use Rattle.combine_tree.specs.declared.packet.Packet.{Packet}
 use Rattle.combine_tree.specs.declared.packet.PacketKind.TheVariants as kind
 use Rattle.combine_tree.specs.Plain.{plain_packet}
 use Rattle.core_machine.specs.declared.thread.Thread.{Thread}
-use Rattle.core_machine.specs.Held.{IsResting, StandsFor}
+use Rattle.core_machine.specs.Threads.{IsResting, StandsFor}
 use Rattle.copy_slots.specs.declared.view.PacketAt.TheVariants.{Fresh}
 use Rattle.copy_slots.specs.declared.view.Sender.{Sender}
 use Rattle.copy_slots.specs.declared.view.Taker.{Taker}
@@ -27,7 +27,7 @@ use Rattle.core_host.specs.Waiting.{HasChild, IsBetween, IsVacant, rests}
 use Rattle.core_host.specs.Hosted.{Hosted, hosted, is_here, IsWhole}
 use Rattle.core_host.specs.Rests.{IsReady, IsHosted}
 use Rattle.core_host.specs.Runs.{HasJobs}
-use Rattle.core_host.proofs.Keep.{branch_above, has_parent}
+use Rattle.core_host.proofs.KeepingLemmas.{branch_above, has_parent}
 
 parent_past : {Q : Type 0} (es : List (Ends Q)) (k : ℕ) → length es ≤ k → parent_at es k ≡ None
 parent_past [] k le = refl

@@ -1,7 +1,7 @@
 -- What threads answer to jobs is determined.
 use Rattle.std.proofs.Common.{◌≡◌, ℕ, zero, suc, ◌-◌, ◌==◌, Bool, true, false, cond, Some, None, List, [], ◌∷◌, ◌++◌, map, length, refl, sym, ap, ◌∙◌, subst, append_assoc, arith}
 use Rattle.std.proofs.lemmas.Bool.Decides.{nat_tests}
-use Rattle.forec_kernel.specs.Engine.{Job, Start, Wake, allowance_of, Reply, WasPaused, WasEnded, WasTrapped, WasOver, Seed, Written, written, View, Going, AtFork, Pausing, Ending, Trapping, Exceeding, Engine, Rest, Asleep, Nothing, Exchange, Output, answers_with, ends_at, first_jobs, AtEvent, RunsOn, over, event, Either, Serves, Begins, Alone, Answered, pair_up, pair_forks, pair_all, jobs_to, Allowed, AllReply, last_reply, AnswersBy, answers_within, Answers}
+use Rattle.forec_kernel.specs.Engine.{Job, Start, Wake, allowance_of, Reply, WasPaused, WasEnded, WasTrapped, WasOver, Seed, Written, written, View, Going, AtFork, Pausing, Ending, Trapping, Exceeding, Engine, Rest, Asleep, Nothing, Exchange, Output, answers_with, ends_at, first_jobs, AtEvent, RunsOn, over, event, IfElse, Serves, Begins, Alone, Answered, pair_up, pair_forks, pair_all, jobs_to, Allowed, AllReply, last_reply, AnswersBy, answers_within, Answers}
 use Rattle.forec_kernel.proofs.Same.{IsSteady, one_stop, not_both}
 use Rattle.forec_kernel.proofs.Serving.{allowed_first, allowed_then}
 
@@ -105,13 +105,13 @@ module _ (S : Type 0) (e : Engine S) (steady : IsSteady e) where
 
         Fork : S → List Seed → List Reply → List (List Reply) → Bool → Output → Rest S → Type 0
         Fork s' seeds rs more test o r =
-            Either test ((p : Output) × Serves e a more (e.join rs s') p r × (o ≡ first_jobs (map (written (a - e.units s')) seeds) p)) ((o ≡ ends_at (map (written (a - e.units s')) seeds)) × (r ≡ Nothing))
+            IfElse test ((p : Output) × Serves e a more (e.join rs s') p r × (o ≡ first_jobs (map (written (a - e.units s')) seeds) p)) ((o ≡ ends_at (map (written (a - e.units s')) seeds)) × (r ≡ Nothing))
 
         by_counts : (s' : S) (seeds : List Seed) (test test' : Bool) → (length rs == length seeds) ≡ test → (length rs' == length seeds) ≡ test' →
             ((p q : Output) → Serves e a more (e.join rs s') p r → Serves e a more' (e.join rs s') q r' → HasReplied p → HasReplied q →
             Allowed Sub (past ++ pair_up (map (written (a - e.units s')) seeds) rs) (pair_forks p.jobs more ++ rest) → Allowed Sub (past ++ pair_up (map (written (a - e.units s')) seeds) rs) (pair_forks q.jobs more' ++ rest') → IsSame p q r r' more more') →
-            Either test ((p : Output) × Serves e a more (e.join rs s') p r × (o ≡ first_jobs (map (written (a - e.units s')) seeds) p)) ((o ≡ ends_at (map (written (a - e.units s')) seeds)) × (r ≡ Nothing)) →
-            Either test' ((p : Output) × Serves e a more' (e.join rs' s') p r' × (o' ≡ first_jobs (map (written (a - e.units s')) seeds) p)) ((o' ≡ ends_at (map (written (a - e.units s')) seeds)) × (r' ≡ Nothing)) →
+            IfElse test ((p : Output) × Serves e a more (e.join rs s') p r × (o ≡ first_jobs (map (written (a - e.units s')) seeds) p)) ((o ≡ ends_at (map (written (a - e.units s')) seeds)) × (r ≡ Nothing)) →
+            IfElse test' ((p : Output) × Serves e a more' (e.join rs' s') p r' × (o' ≡ first_jobs (map (written (a - e.units s')) seeds) p)) ((o' ≡ ends_at (map (written (a - e.units s')) seeds)) × (r' ≡ Nothing)) →
             IsSame o o' r r' (rs ∷ more) (rs' ∷ more')
         by_counts s' seeds false test' c c' ih f g = absurd (ends_none _ o f.0 has)
         by_counts s' seeds true false c c' ih f g = absurd (ends_none _ o' g.0 has')

@@ -15,10 +15,10 @@ use Rattle.core_host.specs.declared.seat.Seat.{Seat}
 use Rattle.core_host.specs.Posts.{Mail, IsBranchOf, AreReplies, replies_to}
 use Rattle.core_host.specs.Done.{AreAbove, Posts}
 use Rattle.core_host.specs.Keeping.{State, code_in, HasPacket, LacksPacket}
-use Rattle.core_host.specs.Moving.{MovesPacket, HasSent, HasGot}
+use Rattle.core_host.specs.Moving.{ChangesPacket, HasSent, HasGot}
 use Rattle.core_host.specs.Waiting.{jobs_out, IsOut, HasTold}
 use Rattle.core_host.proofs.Mails.{by_equal}
-use Rattle.core_host.proofs.Keep.{packet_keeps}
+use Rattle.core_host.proofs.KeepingLemmas.{packet_keeps}
 use Rattle.core_host.proofs.Send.{got_packet}
 use Rattle.core_host.proofs.RunChildren.{jobs_once, jobs_more, replies_more, jobs_first, jobs_then, replies_then, same_test, other_test, allowed_more}
 
@@ -78,7 +78,7 @@ lacks_keeps k a b parent hand l = record { out = subst (λ (o : Option (Sender P
 
 -- ---- one job more, or one reply more
 
-module _ (s : State) (mail : Mail) (seats : List Seat) (hands : List (Option Packet)) (t m : ℕ) (mine : IsBranchOf (code_in s).shape t m) (moves : MovesPacket m s (changed s mail seats hands)) where
+module _ (s : State) (mail : Mail) (seats : List Seat) (hands : List (Option Packet)) (t m : ℕ) (mine : IsBranchOf (code_in s).shape t m) (moves : ChangesPacket m s (changed s mail seats hands)) where
   abbrev c : PlainCode
   c = code_in s
 

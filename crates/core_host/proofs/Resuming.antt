@@ -9,7 +9,7 @@ use Rattle.thread_code.specs.Valid.{of_shape}
 use Rattle.combine_tree.specs.declared.packet.Packet.{Packet}
 use Rattle.combine_tree.specs.Plain.{plain_packet}
 use Rattle.core_machine.specs.declared.thread.Thread.{Thread}
-use Rattle.core_machine.specs.Held.{Loaded, StandsFor, CanRun}
+use Rattle.core_machine.specs.Threads.{Loaded, StandsFor, CanRun}
 use Rattle.core_machine.specs.Forks.{jobs_at, with_replies}
 use Rattle.copy_slots.specs.Ports.{parent_at, child_at}
 use Rattle.core_host.specs.declared.seat.Seat.{Seat}
@@ -20,11 +20,11 @@ use Rattle.core_host.specs.Writing.{Log, heard, told}
 use Rattle.core_host.specs.Keeping.{State, code_in, Alike, IsSeated, HaveHeard}
 use Rattle.core_host.specs.Waiting.{HasTold, IsGathering, HasReplies, IsAtWork, IsWorking, IsWaiting, WaitsAt}
 use Rattle.core_host.specs.OnJob.{IsOnJob}
-use Rattle.core_host.specs.Serving.{MovesBranches, Touches}
+use Rattle.core_host.specs.Serving.{ChangesBranches, Touches}
 use Rattle.core_host.proofs.Mails.{get_set_else, some_once}
 use Rattle.core_host.proofs.AfterFork.{with_none, in_job_now}
 use Rattle.core_host.proofs.OneMoreExchange.{changed, changed_is, told_posts, posts_told}
-use Rattle.core_host.proofs.Waits.{work_keeps, waiting_keeps}
+use Rattle.core_host.proofs.WaitingLemmas.{work_keeps, waiting_keeps}
 use Rattle.core_host.proofs.GatherReplies.{all_heard}
 
 -- ---- its work stays while its branches are looked at
@@ -34,7 +34,7 @@ pub record HasAll (s : State) (h : Thread) : Type 0 where
   pub waiting : IsWaiting s h
   pub all : length waiting.gathering.replies ≡ length h.branches.numbers
 
-module _ (a b : State) (h : Thread) (moves : MovesBranches h.number a b) (w : IsWaiting a h) where
+module _ (a b : State) (h : Thread) (moves : ChangesBranches h.number a b) (w : IsWaiting a h) where
   abbrev pub its_pairs : List Answered
   its_pairs = told (code_in a) h.number w.work.jobs w.work.job w.work.log
 
@@ -84,7 +84,7 @@ module _ (s0 : State) (m : ℕ) (inside : m < length s0.mail.ends) (seated : IsS
   code_is : s1.code ≡ s0.code
   code_is = ap (λ (s : State). s.code) rising
 
-  module _ (s2 : State) (moves : MovesBranches h.number s1 s2) where
+  module _ (s2 : State) (moves : ChangesBranches h.number s1 s2) where
     code2 : s2.code ≡ s0.code
     code2 = moves.code ∙ code_is
 

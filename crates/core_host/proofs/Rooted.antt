@@ -13,7 +13,7 @@ use Rattle.combine_tree.specs.declared.packet.Packet.{Packet}
 use Rattle.combine_tree.specs.declared.packet.PacketKind.{PacketKind}
 use Rattle.combine_tree.specs.Plain.{plain_packet}
 use Rattle.core_machine.specs.declared.thread.Thread.{Thread}
-use Rattle.core_machine.specs.Held.{Loaded, CanBegin, StandsFor, HasReply, Gives}
+use Rattle.core_machine.specs.Threads.{Loaded, CanBegin, StandsFor, HasReply, Gives}
 use Rattle.core_host.specs.declared.seat.Seat.{Seat}
 use Rattle.core_host.specs.Posts.{Mail}
 use Rattle.core_host.specs.Done.{HasDone, InJob}
@@ -22,7 +22,7 @@ use Rattle.core_host.specs.Following.{HasFollowed}
 use Rattle.core_host.specs.Ending.{HasReplied}
 use Rattle.core_host.specs.Rests.{RootRests}
 use Rattle.core_host.proofs.Mails.{state, some_once, get_set, get_set_else}
-use Rattle.core_host.proofs.Keep.{same_child, quiet_keeps}
+use Rattle.core_host.proofs.KeepingLemmas.{same_child, quiet_keeps}
 use Rattle.core_host.proofs.Logs.{job_begins, job_ends}
 
 -- another thread in the seat of thread 0

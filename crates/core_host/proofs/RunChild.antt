@@ -15,7 +15,7 @@ use Rattle.combine_tree.specs.declared.packet.PacketKind.{PacketKind}
 use Rattle.combine_tree.specs.declared.packet.PacketKind.TheVariants as kind
 use Rattle.combine_tree.specs.Plain.{plain_kind, plain_packet}
 use Rattle.core_machine.specs.declared.thread.Thread.{Thread}
-use Rattle.core_machine.specs.Held.{Loaded, StandsFor, CanBegin, HasPaused, HasReply, Gives}
+use Rattle.core_machine.specs.Threads.{Loaded, StandsFor, CanBegin, HasPaused, HasReply, Gives}
 use Rattle.core_machine.specs.Replies.{Replies_by}
 use Rattle.copy_slots.specs.declared.view.PacketAt.TheVariants.{Out}
 use Rattle.copy_slots.specs.declared.view.Sender.{Sender}
@@ -30,7 +30,7 @@ use Rattle.core_host.specs.Done.{HasDone, InJob}
 use Rattle.core_host.specs.Keeping.{State, code_in, Alike, Leaves, IsSeated, LastReply, none, last, Idle, QuietAbove, LacksPacket, IsBack}
 use Rattle.core_host.specs.Following.{HasFollowed}
 use Rattle.core_host.proofs.Mails.{by_equal, get_set, get_set_else, children_count, child_here, child_else, parent_on_child, is_child, extends_same, extends_one}
-use Rattle.core_host.proofs.Keep.{same_child, branch_above, has_parent, done_keeps, quiet_keeps, leaves_then, leaves_less, seated_keeps}
+use Rattle.core_host.proofs.KeepingLemmas.{same_child, branch_above, has_parent, done_keeps, quiet_keeps, leaves_then, leaves_less, seated_keeps}
 use Rattle.core_host.proofs.Once.{answers_once}
 use Rattle.core_host.proofs.RunChildren.{jobs_once, jobs_more}
 use Rattle.core_host.proofs.Logs.{front_once, job_begins, Ends, job_ends}

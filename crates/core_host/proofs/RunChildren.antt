@@ -16,9 +16,9 @@ use Rattle.copy_slots.specs.Ports.{parent_at, sent_by, got_by, sent, got}
 use Rattle.core_host.specs.Posts.{Mail, IsBranchOf, AreReplies, replies_to}
 use Rattle.core_host.specs.Done.{AreAbove, Posts}
 use Rattle.core_host.specs.Keeping.{State, code_in, Leaves, IsFitted, Quiet, QuietAbove, HasHeard}
-use Rattle.core_host.specs.Moving.{MovesPacket, HasSent, HasGot}
+use Rattle.core_host.specs.Moving.{ChangesPacket, HasSent, HasGot}
 use Rattle.core_host.proofs.Mails.{extends_one, extends_same}
-use Rattle.core_host.proofs.Keep.{parent_once, moved_quiet, moved_grown, moved_leaves, leaves_then, leaves_less, quiet_below, fitted_keeps}
+use Rattle.core_host.proofs.KeepingLemmas.{parent_once, moved_quiet, moved_grown, moved_leaves, leaves_then, leaves_less, quiet_below, fitted_keeps}
 
 -- ---- packets say which jobs and replies they are
 
@@ -145,8 +145,8 @@ module _ (c : PlainCode) (t : ℕ) (m m' : Mail) (k : ℕ) (mine : IsBranchOf c.
 -- ---- one branch: its job is sent, done, and its reply got
 
 module _ (s0 s1 s2 s3 : State) (t m : ℕ) (fitted : IsFitted s0) (inside : m < length s0.mail.ends) (mine : IsBranchOf (code_in s0).shape t m) (le : t ≤ m) (job : Job)
-    (above : QuietAbove s0 t) (sending : MovesPacket m s0 s1) (sent_now : HasSent s0 s1 m job) (working : Leaves (suc m) m s1 s2) (above_now : QuietAbove s2 (suc m))
-    (getting : MovesPacket m s2 s3) (quiet_now : Quiet s3 m) (got_now : HasGot s2 s3 m) where
+    (above : QuietAbove s0 t) (sending : ChangesPacket m s0 s1) (sent_now : HasSent s0 s1 m job) (working : Leaves (suc m) m s1 s2) (above_now : QuietAbove s2 (suc m))
+    (getting : ChangesPacket m s2 s3) (quiet_now : Quiet s3 m) (got_now : HasGot s2 s3 m) where
   mine1 : IsBranchOf (code_in s1).shape t m
   mine1 = subst (λ x. IsBranchOf (plain_code x).shape t m) (sym sending.code) mine
 

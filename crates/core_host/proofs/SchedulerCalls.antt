@@ -11,7 +11,7 @@ use Rattle.thread_code.specs.Valid.{of_shape}
 use Rattle.combine_tree.specs.declared.packet.Packet.{Packet}
 use Rattle.combine_tree.specs.Plain.{plain_packet}
 use Rattle.core_machine.specs.declared.thread.Thread.{Thread}
-use Rattle.core_machine.specs.Held.{Loaded, StandsFor, CanBegin, HasReply, IsResting, Gives}
+use Rattle.core_machine.specs.Threads.{Loaded, StandsFor, CanBegin, HasReply, IsResting, Gives}
 use Rattle.core_machine.specs.Replies.{Replies_by}
 use Rattle.copy_slots.specs.Mail.{taker_took, taker_answered}
 use Rattle.copy_slots.specs.Ports.{child_at, on_child, on_taker, sent_by, taken_by, ChildIs, sent, taken, turn, after_take, after_answer}

@@ -16,9 +16,9 @@ use Rattle.copy_slots.specs.Ports.{parent_at, child_at, sent_by, taken_by, answe
 use Rattle.core_host.specs.Asking.{Replies, ArePaused, MayFollow, Asks}
 use Rattle.core_host.specs.Posts.{Mail, IsBranchOf}
 use Rattle.core_host.specs.Keeping.{State, code_in, IsSeated, reply, HasPacket, LacksPacket, Quiet, IsCalled, IsBack, MayAsk}
-use Rattle.core_host.specs.Moving.{MovesPacket, HasSent, HasGot, HasLooked}
+use Rattle.core_host.specs.Moving.{ChangesPacket, HasSent, HasGot, HasLooked}
 use Rattle.core_host.proofs.Mails.{with_parent, moves_parent, moves_then, parent_now, place_now, sent_now, got_now, sent_before, got_before, is_parent, is_child, extends_same, extends_one, get_set, get_set_else}
-use Rattle.core_host.proofs.Keep.{branch_above, moved_idle}
+use Rattle.core_host.proofs.KeepingLemmas.{branch_above, moved_idle}
 
 -- no thread is a branch of itself
 own_branch : (c : PlainCode) → IsValidCode c → (k : ℕ) → suc k < length c.threads → IsBranchOf c.shape (suc k) k → ⊥
@@ -33,7 +33,7 @@ follows c m m' k q (Wake values a) is same may = subst (MayFollow c k (sent m' k
 pub asks_now : (c : PlainCode) (m m' : Mail) (k : ℕ) (q : PlainPacket) (j : Job) → IsJob q j → sent m' k ≡ sent m k → MayAsk c m k j → HasRoom (of_shape c.shape) (suc k) q → q.allowance ≤ 2 ^ 62 → Asks c k (sent m' k ++ q ∷ [])
 asks_now c m m' k q j is same may room small = record { before = sent m' k; last = q; are = refl; job = j; is = is; room = room; small = small; follows = follows c m m' k q j is same may }
 
-module _ (s0 s1 : State) (k : ℕ) (moves : MovesPacket k s0 s1) (held : ParentIs s1.mail k Held) (empty : slice_get s1.hands k ≡ Some None)
+module _ (s0 s1 : State) (k : ℕ) (moves : ChangesPacket k s0 s1) (held : ParentIs s1.mail k Held) (empty : slice_get s1.hands k ≡ Some None)
     (same_sent : sent s1.mail k ≡ sent s0.mail k) (same_got : got s1.mail k ≡ got s0.mail k) (q : PlainPacket) where
   sender : (x : Sender PlainPacket) × (parent_at s1.mail.ends k ≡ Some x) × (x.place ≡ Held)
   sender = is_parent (parent_at s1.mail.ends k) Held held
@@ -41,7 +41,7 @@ module _ (s0 s1 : State) (k : ℕ) (moves : MovesPacket k s0 s1) (held : ParentI
   abbrev pub after_sent : State
   after_sent = with_parent s1 k (sender_sent q) s1.hands
 
-  pub sent_moves : MovesPacket k s0 after_sent
+  pub sent_moves : ChangesPacket k s0 after_sent
   sent_moves = moves_then k s0 s1 after_sent moves (moves_parent s1 k (sender_sent q) s1.hands (λ x. extends_same x.looked x.looked refl) (λ j n. refl) refl)
 
   now_sent : sent after_sent.mail k ≡ sent s0.mail k ++ q ∷ []
@@ -59,7 +59,7 @@ module _ (s0 s1 : State) (k : ℕ) (moves : MovesPacket k s0 s1) (held : ParentI
   has_sent job is = record { packet = q; is = is; sent = now_sent; got = now_got }
 
 -- a branch at which nothing was under way is called
-pub called_now : (s0 s1 : State) (k : ℕ) → IsSeated s0 → k < length s0.mail.ends → Quiet s0 k → MovesPacket k s0 s1 → LacksPacket s1 k → (job : Job) → HasSent s0 s1 k job → IsCalled s1 k
+pub called_now : (s0 s1 : State) (k : ℕ) → IsSeated s0 → k < length s0.mail.ends → Quiet s0 k → ChangesPacket k s0 s1 → LacksPacket s1 k → (job : Job) → HasSent s0 s1 k job → IsCalled s1 k
 called_now s0 s1 k seated inside quiet moves lacks job sent = record {
   idle = moved_idle s0 s1 k moves k (own_branch (code_in s0) seated.valid k (omega (arith, inside, seated.mailboxes))) quiet.idle;
   lacks = lacks;
@@ -77,7 +77,7 @@ module _ (s : State) (k : ℕ) (seated : IsSeated s) (inside : k < length s.mail
     abbrev pub after_got : State
     after_got = with_parent s k (sender_got (plain_packet p)) (slice_set s.hands k (Some p))
 
-    pub got_moves : MovesPacket k s after_got
+    pub got_moves : ChangesPacket k s after_got
     got_moves =
         moves_parent s k (sender_got (plain_packet p)) (slice_set s.hands k (Some p)) (λ x. extends_one x.looked _ 0 refl) (λ j n. get_set_else s.hands k j (Some p) n)
         (length-set s.hands k (Some p))
@@ -99,7 +99,7 @@ module _ (s : State) (k : ℕ) (seated : IsSeated s) (inside : k < length s.mail
   abbrev pub after_looked : State
   after_looked = with_parent s k sender_looked s.hands
 
-  pub looked_moves : MovesPacket k s after_looked
+  pub looked_moves : ChangesPacket k s after_looked
   looked_moves = moves_parent s k sender_looked s.hands (λ x. extends_one x.looked _ 1 refl) (λ j n. refl) refl
 
   pub has_looked : HasLooked s after_looked k
@@ -114,7 +114,7 @@ module _ (s : State) (k : ℕ) (seated : IsSeated s) (inside : k < length s.mail
   }
 
 -- the packet is back in its parent's hand
-pub got_packet : (s s1 : State) (k : ℕ) → MovesPacket k s s1 → HasGot s s1 k → HasPacket s1 k
+pub got_packet : (s s1 : State) (k : ℕ) → ChangesPacket k s s1 → HasGot s s1 k → HasPacket s1 k
 got_packet s s1 k moves got = record {
   hand = Some got.packet;
   at = got.at;
@@ -122,7 +122,7 @@ got_packet s s1 k moves got = record {
 }
 
 -- nothing is under way any more at a branch that is back
-pub quiet_now : (s s1 : State) (k : ℕ) → IsSeated s → k < length s.mail.ends → IsBack s k → MovesPacket k s s1 → HasGot s s1 k → Quiet s1 k
+pub quiet_now : (s s1 : State) (k : ℕ) → IsSeated s → k < length s.mail.ends → IsBack s k → ChangesPacket k s s1 → HasGot s s1 k → Quiet s1 k
 quiet_now s s1 k seated inside back moves got = record {
   idle = moved_idle s s1 k moves k (own_branch (code_in s) seated.valid k (omega (arith, inside, seated.mailboxes))) back.idle;
   all = ap taken_by (moves.children k) ∙ back.all ∙ sym got.sent;

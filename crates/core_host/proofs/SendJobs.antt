@@ -6,26 +6,26 @@ use Rattle.std.proofs.lemmas.Option.{slice_get_within}
 use Rattle.forec_kernel.specs.Engine.{Answered, Written}
 use Rattle.thread_code.specs.Plain.{plain_code}
 use Rattle.core_machine.specs.declared.thread.Thread.{Thread}
-use Rattle.core_machine.specs.Held.{Loaded}
+use Rattle.core_machine.specs.Threads.{Loaded}
 use Rattle.core_machine.specs.Forks.{jobs_at}
 use Rattle.copy_slots.specs.Ports.{sent_by, sent, got}
 use Rattle.core_host.specs.Posts.{IsBranchOf}
 use Rattle.core_host.specs.Changes.{Extends}
 use Rattle.core_host.specs.Keeping.{State, code_in, IsSeated, HasPacket, LacksPacket, MayAsk, IsJobFor, AtFork, CanSend}
-use Rattle.core_host.specs.Moving.{MovesPacket, HasSent}
+use Rattle.core_host.specs.Moving.{ChangesPacket, HasSent}
 use Rattle.core_host.specs.Waiting.{IsOut, HasTold}
-use Rattle.core_host.specs.Serving.{MovesBranches}
+use Rattle.core_host.specs.Serving.{ChangesBranches}
 use Rattle.core_host.proofs.Mails.{alike_then, extends_one, extends_same}
-use Rattle.core_host.proofs.Keep.{grown_same, grown_then, moved_grown, seated_by}
+use Rattle.core_host.proofs.KeepingLemmas.{grown_same, grown_then, moved_grown, seated_by}
 use Rattle.core_host.proofs.Hearing.{take_all}
-use Rattle.core_host.proofs.Loading.{take_next}
+use Rattle.core_host.proofs.LoadLemmas.{take_next}
 use Rattle.core_host.proofs.Send.{at_map}
 use Rattle.core_host.proofs.ChildrenRunLemmas.{may_keeps}
 use Rattle.core_host.proofs.OneMoreExchange.{changed_is, told_one}
 
 -- ---- changes of a thread's branches
 
-pub branches_same : (t : ℕ) (a : State) → MovesBranches t a a
+pub branches_same : (t : ℕ) (a : State) → ChangesBranches t a a
 branches_same t a = record {
   code = refl;
   places = refl;
@@ -38,7 +38,7 @@ branches_same t a = record {
   hand_count = refl;
 }
 
-pub branches_then : (t : ℕ) (a b c : State) → MovesBranches t a b → MovesBranches t b c → MovesBranches t a c
+pub branches_then : (t : ℕ) (a b c : State) → ChangesBranches t a b → ChangesBranches t b c → ChangesBranches t a c
 branches_then t a b c h g =
     let there = λ (j : ℕ) (n : IsBranchOf (code_in a).shape t j → ⊥) (is : IsBranchOf (code_in b).shape t j). n (subst (λ x. IsBranchOf (plain_code x).shape t j) h.code is) in
     record {
@@ -53,11 +53,11 @@ branches_then t a b c h g =
       hand_count = g.hand_count ∙ h.hand_count;
     }
 
-pub branches_seated : (t : ℕ) (a b : State) → MovesBranches t a b → IsSeated a → IsSeated b
+pub branches_seated : (t : ℕ) (a b : State) → ChangesBranches t a b → IsSeated a → IsSeated b
 branches_seated t a b h seated = seated_by a b h.code h.places h.alike (ap length h.seats) h.hand_count seated
 
 -- one of them
-pub branch_moves : (t m : ℕ) (a b : State) → IsBranchOf (code_in a).shape t m → (moves : MovesPacket m a b) → Extends (sent a.mail m) (sent b.mail m) × Extends (got a.mail m) (got b.mail m) → MovesBranches t a b
+pub branch_moves : (t m : ℕ) (a b : State) → IsBranchOf (code_in a).shape t m → (moves : ChangesPacket m a b) → Extends (sent a.mail m) (sent b.mail m) × Extends (got a.mail m) (got b.mail m) → ChangesBranches t a b
 branch_moves t m a b mine moves grown =
     let other = λ (j : ℕ) (n : IsBranchOf (code_in a).shape t j → ⊥) (e : j ≡ m). n (subst (IsBranchOf (code_in a).shape t) (sym e) mine) in
     record {
@@ -95,7 +95,7 @@ out_taken b (w ∷ ws) (suc k) h =
 -- the first k jobs of the fork were sent
 pub record HasSentFirst (a b : State) (h : Thread) (k : ℕ) : Type 0 where
   pub within : k ≤ length h.branches.numbers
-  pub moves : MovesBranches h.number a b
+  pub moves : ChangesBranches h.number a b
   pub told : (pairs : List Answered) → HasTold a h.number pairs [] → HasTold b h.number pairs (take k (jobs_at (code_in a) h))
   pub rest : (i : ℕ) (w : Written) → k ≤ i → slice_get (jobs_at (code_in a) h) i ≡ Some w → IsJobFor (code_in a) b.mail h.number w
 
@@ -175,7 +175,7 @@ module _ (a b : State) (h : Thread) (k number : ℕ) (seated : IsSeated a) (fork
   pub its_packet : HasPacket b m
   its_packet = (done.told some.0 some.1).has m inside_m mine_b not_yet
 
-  module _ (s1 : State) (moves : MovesPacket m b s1) (lacks : LacksPacket s1 m) (sent_now : (w : Written) → slice_get (jobs_at (code_in b) h) k ≡ Some w → HasSent b s1 m w.job) where
+  module _ (s1 : State) (moves : ChangesPacket m b s1) (lacks : LacksPacket s1 m) (sent_now : (w : Written) → slice_get (jobs_at (code_in b) h) k ≡ Some w → HasSent b s1 m w.job) where
     sent1 : HasSent b s1 m job.0.job
     sent1 = sent_now job.0 (subst (λ x. slice_get (jobs_at (plain_code x) h) k ≡ Some job.0) (sym done.moves.code) job.1)
 
@@ -183,7 +183,7 @@ module _ (a b : State) (h : Thread) (k number : ℕ) (seated : IsSeated a) (fork
     told1 pairs before =
         let path = changed_is b s1 moves.code moves.places in
         let old = done.told pairs before in
-        let new = told_one b s1.mail s1.seats s1.hands h.number m mine_b (subst (MovesPacket m b) (sym path) moves) pairs (take k ws) old job.0.job (subst (λ x. HasSent b x m job.0.job) (sym path) sent1)
+        let new = told_one b s1.mail s1.seats s1.hands h.number m mine_b (subst (ChangesPacket m b) (sym path) moves) pairs (take k ws) old job.0.job (subst (λ x. HasSent b x m job.0.job) (sym path) sent1)
         (subst (λ x. LacksPacket x m) (sym path) lacks) in
         let named : take k ws ++ record { branch = suc m; job = job.0.job } ∷ [] ≡ take (k + 1) ws =
         ap (λ n. take k ws ++ record { branch = n; job = job.0.job } ∷ []) (sym is_suc ∙ sym job.2) ∙ take_next ws k job.0 job.1 in

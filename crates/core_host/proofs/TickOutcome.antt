@@ -11,7 +11,7 @@ use Rattle.forec_kernel.specs.Packets.{Blank, IsPaused, IsEnded, IsTrapped, IsOv
 use Rattle.forec_kernel.specs.Packed.{HasRoom, IsReply}
 use Rattle.forec_kernel.specs.Engine.{Job, Start, Wake, Reply, WasPaused, WasEnded, WasTrapped, WasOver, Answers}
 use Rattle.forec_kernel.specs.Solo.{values_in, KernelAlone}
-use Rattle.forec_kernel.specs.Composed.{Turn, tick_job, tick_jobs, next_state, state_after, Tells}
+use Rattle.forec_kernel.specs.Composed.{TickInput, tick_job, tick_jobs, next_state, state_after, Tells}
 use Rattle.forec_kernel.proofs.Distinct.{branches_apart}
 use Rattle.forec_kernel.proofs.TickByTick.{each_tick}
 use Rattle.thread_code.specs.Plain.{PlainCode}
@@ -31,7 +31,7 @@ use Rattle.core_host.proofs.KeptCopies.{KeptBy, HasCopies, copies_kept, jobs_the
 
 -- ---- the job
 
-same_job : (c : PlainCode) (k : PlainKernel) → c.shape ≡ k.shape → (state : State) (p : Packet) (turn : Turn) → Keeps state p → job_of c.shape p turn.row turn.budget ≡ tick_job k state turn
+same_job : (c : PlainCode) (k : PlainKernel) → c.shape ≡ k.shape → (state : State) (p : Packet) (turn : TickInput) → Keeps state p → job_of c.shape p turn.row turn.budget ≡ tick_job k state turn
 same_job c k same Fresh p turn keeps =
     ap (λ q. job_with q (values_in (with_row (uses_in c.shape.threads 0) c.shape.inputs turn.row (copies_before c.shape q p.copies.items))) turn.budget) keeps
     ∙ ap (λ (s : PlainShape). Start [] (values_in (with_row (uses_in s.threads 0) s.inputs turn.row (start_copies s.variables))) turn.budget) same
@@ -76,7 +76,7 @@ trapped_of (kind.Trapped p t) place trap e = cc
 trapped_of _ place trap e = cc
 
 -- what a tick comes to, where the packet is the reply
-pub record Told (c : PlainCode) (k : PlainKernel) (turns : List Turn) (turn : Turn) (p : Packet) : Type 0 where
+pub record Told (c : PlainCode) (k : PlainKernel) (turns : List TickInput) (turn : TickInput) (p : Packet) : Type 0 where
   pub outcome : outcome_in p.kind ≡ (tick k turn.budget (state_after k Fresh turns) turn.row).outcome
   pub outputs : HasOutputs (outcome_in p.kind) → values_of (uses_in c.shape.threads 0) p.copies.items c.shape.outputs ≡ (tick k turn.budget (state_after k Fresh turns) turn.row).outputs
   pub keeps : p.kind ≡ kind.Paused → Keeps (next_state k (state_after k Fresh turns) turn) p
@@ -85,7 +85,7 @@ keeps_of : (state : State) (p : Packet) (copies : List VarCopy) → p.kind ≡ k
 keeps_of Fresh p copies e f h = absurd h
 keeps_of (After_tick thread) p copies e f h = (e, f ∙ sym h)
 
-told_by : (c : PlainCode) (k : PlainKernel) → c.shape ≡ k.shape → (turns : List Turn) (turn : Turn) (p : Packet) (r : Reply) → IsReply (plain_packet p) r →
+told_by : (c : PlainCode) (k : PlainKernel) → c.shape ≡ k.shape → (turns : List TickInput) (turn : TickInput) (p : Packet) (r : Reply) → IsReply (plain_packet p) r →
     Tells k (tick k turn.budget (state_after k Fresh turns) turn.row) r → KeptBy (next_state k (state_after k Fresh turns) turn) r → Told c k turns turn p
 told_by c k same turns turn p (WasPaused copies u) is tells kept =
     let q = paused_of p.kind is.0 in
@@ -131,10 +131,10 @@ goes_on_paused _ e = cc
 
 -- ---- a tick
 
-module _ (c : PlainCode) (valid : IsValidCode c) (k : PlainKernel) (turns : List Turn) (fine : WellFormed k) (stands : Stands c k) (p p' : Packet) (room : HasRoom (of_shape c.shape) 0 (plain_packet p)) (row : List ℤ) (budget : ℕ)
+module _ (c : PlainCode) (valid : IsValidCode c) (k : PlainKernel) (turns : List TickInput) (fine : WellFormed k) (stands : Stands c k) (p p' : Packet) (room : HasRoom (of_shape c.shape) 0 (plain_packet p)) (row : List ℤ) (budget : ℕ)
     (fit : EachFits c.shape 0 (tick_jobs k Fresh turns)) (keeps : Keeps (state_after k Fresh turns) p) (reply : Reply) (is : IsReply (plain_packet p') reply)
     (answers : Answers (CodeAlone c) (length c.threads) 0 (tick_jobs k Fresh turns ++ job_of c.shape p row budget ∷ []) reply) where
-  abbrev turn : Turn
+  abbrev turn : TickInput
   turn = record { row = row; budget = budget }
 
   abbrev job : Job

@@ -7,7 +7,7 @@ use Rattle.forec_kernel.specs.Texts.{uses_in}
 use Rattle.forec_kernel.specs.Ticks.{Fresh, goes_on, values_of}
 use Rattle.forec_kernel.specs.Packed.{HasRoom, IsJob}
 use Rattle.forec_kernel.specs.Engine.{Job, Answers}
-use Rattle.forec_kernel.specs.Composed.{Turn, tick_jobs}
+use Rattle.forec_kernel.specs.Composed.{TickInput, tick_jobs}
 use Rattle.thread_code.specs.Plain.{PlainCode, plain_code}
 use Rattle.thread_code.specs.Valid.{of_shape}
 use Rattle.thread_code.specs.Alone.{Stands, CodeAlone}
@@ -17,7 +17,7 @@ use Rattle.combine_tree.specs.declared.packet.PacketKind.{PacketKind}
 use Rattle.combine_tree.specs.declared.packet.PacketKind.TheVariants as kind
 use Rattle.combine_tree.specs.Plain.{plain_packet}
 use Rattle.core_machine.specs.declared.thread.Thread.{Thread}
-use Rattle.core_machine.specs.Held.{CanBegin}
+use Rattle.core_machine.specs.Threads.{CanBegin}
 use Rattle.core_machine.specs.Replies.{Replies_by}
 use Rattle.std.specs.Prelude.{Option}
 use Rattle.core_bells.specs.Ropes.{RopeState}
@@ -33,7 +33,7 @@ use Rattle.core_host.specs.Ending.{HasReplied}
 use Rattle.core_host.specs.Hosted.{Hosted, hosted, state_in, code_of, is_here, IsWhole}
 use Rattle.core_host.specs.Rests.{IsReady, RootRests, IsHosted}
 use Rattle.core_host.specs.Runs.{HasJobs, HasTicked}
-use Rattle.core_host.proofs.Hosting.{hung_keeps}
+use Rattle.core_host.proofs.HostedLemmas.{hung_keeps}
 use Rattle.core_host.proofs.TickOutcome.{Told, told, keeps_now, jobs_are, goes_on_paused, comes_to, job_fits, fits_then}
 
 -- ---- before
@@ -176,8 +176,8 @@ module _ (s0 s1 : State) (cores : List ℕ) (p0 p1 pj : Packet) (live0 live1 : B
     comes = comes_to c.shape p1 r.reply r.is outcome outcome_is outputs are;
   }
 
-  module _ (k : PlainKernel) (turns : List Turn) (fine : WellFormed k) (stands : Stands c k) (ticked : HasTicked h0 k turns) where
-    abbrev turn : Turn
+  module _ (k : PlainKernel) (turns : List TickInput) (fine : WellFormed k) (stands : Stands c k) (ticked : HasTicked h0 k turns) where
+    abbrev turn : TickInput
     turn = record { row = row; budget = budget }
 
     abbrev r : HasReplied s1 root1.thread (tick_jobs k Fresh turns ++ job ∷ []) (plain_packet p1)

@@ -3,7 +3,7 @@ use Rattle.std.specs.Prelude.{ℕ, suc, ◌≡◌, ◌<◌, ◌≤◌, length}
 use Rattle.forec_kernel.specs.Packed.{HasRoom}
 use Rattle.thread_code.specs.Valid.{of_shape}
 use Rattle.combine_tree.specs.Plain.{plain_packet}
-use Rattle.core_machine.specs.Held.{Loaded, CanRun, HasReply}
+use Rattle.core_machine.specs.Threads.{Loaded, CanRun, HasReply}
 use Rattle.core_host.specs.declared.active.Active.{Active}
 use Rattle.core_host.specs.declared.round.Round.{Round}
 use Rattle.core_host.specs.Hung.{KeepsRope}

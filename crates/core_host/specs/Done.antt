@@ -5,7 +5,7 @@ use Rattle.forec_kernel.specs.Engine.{Job, Exchange, Output, AllReply, Allowed, 
 use Rattle.thread_code.specs.Plain.{PlainCode}
 use Rattle.thread_code.specs.Alone.{CodeAlone}
 use Rattle.core_machine.specs.declared.thread.Thread.{Thread}
-use Rattle.core_machine.specs.Held.{StandsFor}
+use Rattle.core_machine.specs.Threads.{StandsFor}
 use Rattle.copy_slots.specs.Ports.{sent, got}
 use Rattle.core_host.specs.Posts.{Mail, IsBranchOf, AreReplies, replies_to}
 use Rattle.core_host.specs.Writing.{Log, heard, told}

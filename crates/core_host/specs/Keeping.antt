@@ -11,7 +11,7 @@ use Rattle.thread_code.specs.Alone.{CodeAlone}
 use Rattle.combine_tree.specs.declared.packet.Packet.{Packet}
 use Rattle.combine_tree.specs.Plain.{plain_packet}
 use Rattle.core_machine.specs.declared.thread.Thread.{Thread}
-use Rattle.core_machine.specs.Held.{Loaded, IsResting, HasPaused, HasSettled, StandsFor}
+use Rattle.core_machine.specs.Threads.{Loaded, IsResting, HasPaused, HasSettled, StandsFor}
 use Rattle.core_machine.specs.Forks.{jobs_at, with_replies}
 use Rattle.copy_slots.specs.declared.view.PacketAt.TheVariants.{Fresh, Held, Out}
 use Rattle.copy_slots.specs.Ports.{sent, taken, answered, parent_at, child_at, ParentIs, ChildIs}

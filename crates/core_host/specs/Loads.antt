@@ -9,7 +9,7 @@ use Rattle.thread_code.specs.Plain.{PlainCode, plain_code}
 use Rattle.combine_tree.specs.declared.packet.Packet.{Packet}
 use Rattle.combine_tree.specs.Plain.{plain_packet}
 use Rattle.core_machine.specs.declared.thread.Thread.{Thread}
-use Rattle.core_machine.specs.Held.{Loaded, IsResting, StandsFor}
+use Rattle.core_machine.specs.Threads.{Loaded, IsResting, StandsFor}
 use Rattle.core_host.specs.declared.seat.Seat.{Seat}
 use Rattle.thread_code.specs.Valid.{of_shape}
 use Rattle.copy_slots.specs.declared.view.PacketAt.TheVariants.{Fresh}

@@ -12,7 +12,7 @@ use Rattle.core_host.specs.Changes.{Extends}
 use Rattle.core_host.specs.Keeping.{State, code_in, Alike, LacksPacket}
 
 -- all but the parent's end and hand of mailbox k stays
-pub record MovesPacket (k : ℕ) (a b : State) : Type 0 where
+pub record ChangesPacket (k : ℕ) (a b : State) : Type 0 where
   pub code : b.code ≡ a.code
   pub places : b.places ≡ a.places
   pub seats : b.seats ≡ a.seats

@@ -7,7 +7,7 @@ use Rattle.combine_tree.specs.declared.packet.PacketKind.TheVariants as kind
 use Rattle.combine_tree.specs.Plain.{plain_packet}
 use Rattle.thread_code.specs.Valid.{of_shape, IsValidCode}
 use Rattle.core_machine.specs.declared.thread.Thread.{Thread}
-use Rattle.core_machine.specs.Held.{IsResting, HasPaused}
+use Rattle.core_machine.specs.Threads.{IsResting, HasPaused}
 use Rattle.core_host.specs.Done.{HasDone}
 use Rattle.core_host.specs.Hung.{IsHung}
 use Rattle.core_host.specs.Posts.{IsBranchOf}

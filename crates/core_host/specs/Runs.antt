@@ -4,7 +4,7 @@ use Rattle.forec_kernel.specs.Shapes.{PlainKernel}
 use Rattle.forec_kernel.specs.Ticks.{State, Fresh, After_tick}
 use Rattle.forec_kernel.specs.WellFormed.{WellFormed}
 use Rattle.forec_kernel.specs.Engine.{Job}
-use Rattle.forec_kernel.specs.Composed.{Turn, tick_jobs, state_after}
+use Rattle.forec_kernel.specs.Composed.{TickInput, tick_jobs, state_after}
 use Rattle.combine_tree.specs.declared.packet.Packet.{Packet}
 use Rattle.combine_tree.specs.declared.packet.PacketKind.TheVariants as kind
 use Rattle.thread_code.specs.Alone.{Stands}
@@ -35,10 +35,10 @@ abbrev pub Keeps : State → Packet → Type 0
 Keeps Fresh p = p.kind ≡ kind.Blank
 Keeps (After_tick thread) p = (p.kind ≡ kind.Paused) × (p.copies.items ≡ thread.copies)
 
-pub record HasTicked (h : Hosted) (k : PlainKernel) (turns : List Turn) : Type 0 where
+pub record HasTicked (h : Hosted) (k : PlainKernel) (turns : List TickInput) : Type 0 where
   pub jobs : HasJobs h (tick_jobs k Fresh turns)
   pub keeps : h.live ≡ true → Keeps (state_after k Fresh turns) h.root
 
 -- the host has run these ticks, each with its row and its budget, as each kernel for which its code stands runs them
-unfoldable pub HasRun : Hosted → List Turn → Type 0
+unfoldable pub HasRun : Hosted → List TickInput → Type 0
 HasRun h turns = (k : PlainKernel) → WellFormed k → Stands (code_of h) k → HasTicked h k turns

@@ -7,7 +7,7 @@ use Rattle.core_host.specs.Keeping.{State, code_in, Alike, Quiet}
 use Rattle.core_host.specs.Waiting.{HasChild, IsBetween, IsVacant}
 
 -- all but the parent's ends and hands of the branches of thread t
-pub record MovesBranches (t : ℕ) (a b : State) : Type 0 where
+pub record ChangesBranches (t : ℕ) (a b : State) : Type 0 where
   pub code : b.code ≡ a.code
   pub places : b.places ≡ a.places
   pub alike : Alike a.mail b.mail

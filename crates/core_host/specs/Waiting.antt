@@ -9,7 +9,7 @@ use Rattle.thread_code.specs.Alone.{CodeAlone}
 use Rattle.combine_tree.specs.declared.packet.Packet.{Packet}
 use Rattle.combine_tree.specs.Plain.{plain_packet}
 use Rattle.core_machine.specs.declared.thread.Thread.{Thread}
-use Rattle.core_machine.specs.Held.{Loaded, StandsFor, HasSettled}
+use Rattle.core_machine.specs.Threads.{Loaded, StandsFor, HasSettled}
 use Rattle.core_machine.specs.Forks.{jobs_at}
 use Rattle.copy_slots.specs.Ports.{sent, got, taken, answered, ChildIs}
 use Rattle.core_host.specs.declared.seat.Seat.{Seat}

@@ -26,7 +26,7 @@ impl<T: Drop> Boxed<T> {
     ///
     /// # Errors
     ///
-    /// Want of memory; the value is then dropped.
+    /// Out of memory; the value is then dropped.
     pub fn new(alloc: Global, value: T) -> Result<Boxed<T>, OutOfMemory>
         ensures { IfOk result (λ b. b ≡ value) }
     {

@@ -1,6 +1,6 @@
 //! A thread is served with those below it.
 ghost use Rattle.std.specs.Prelude.{◌≡◌, ◌<◌, ℕ, suc, length, true, false};
-ghost use Rattle.core_machine.specs.Held.{CanRun, HasReply};
+ghost use Rattle.core_machine.specs.Threads.{CanRun, HasReply};
 ghost use Rattle.core_host.specs.Changes.{HasProgressed};
 ghost use Rattle.core_host.specs.Descending.{Descends, IsRunning, KeepsRound};
 ghost use Rattle.core_host.specs.Keeping.{code_in, IsSeated, Quiet};
@@ -59,7 +59,7 @@ impl<'c, P: Port<ForecWork> + Drop> Scheduler<'c, P> {
         }
     }
 
-    /// Runs a thread until it has its reply, or waits for branches of other cores. Whether it has its reply.
+    /// Runs a thread until it has its reply, or waits for branches of other cores. Returns whether it has its reply.
     #[cycle(serve_down)]
     fn run_down<R: Wait, G: Gate>(
         &mut self,
@@ -121,7 +121,7 @@ impl<'c, P: Port<ForecWork> + Drop> Scheduler<'c, P> {
     }
 
     /// Takes one job of this mailbox, or goes on with its thread where that waits at a fork and its branches have all replied. The
-    /// thread runs until it has answered, or waits for branches of other cores; its branches here run with it. Whether it did.
+    /// thread runs until it has answered, or waits for branches of other cores; its branches here run with it. Returns whether it did.
     #[cycle(serve_down)]
     pub(crate) fn serve_down<R: Wait, G: Gate>(
         &mut self,

@@ -1,7 +1,7 @@
 //! The host of some of a code's threads.
 ghost use Rattle.std.specs.Prelude.{◌≡◌, ◌≤◌, ◌<◌, ◌++◌, ◌∷◌, [], ℕ, suc, List, Some, None, option_map, length, true, false, IfOk};
 ghost use Rattle.forec_base.specs.declared.limits.TheConstants.{MAX_BUDGET};
-ghost use Rattle.forec_kernel.specs.Composed.{Turn, state_after};
+ghost use Rattle.forec_kernel.specs.Composed.{TickInput, state_after};
 ghost use Rattle.forec_kernel.specs.Engine.{Job};
 ghost use Rattle.forec_kernel.specs.Shapes.{PlainKernel};
 ghost use Rattle.forec_kernel.specs.Ticks.{Fresh, tick, goes_on};
@@ -77,7 +77,7 @@ impl<'c, P: Port<ForecWork> + Drop> Host<'c, P> {
     ///
     /// # Errors
     ///
-    /// Want of memory.
+    /// Out of memory.
     pub fn load(
         alloc: Global,
         code: &'c Code,
@@ -153,10 +153,10 @@ impl<'c, P: Port<ForecWork> + Drop> Host<'c, P> {
         requires small { budget ≤ MAX_BUDGET }
         ensures code { self.new.code ≡ self.old.code }
         ensures whole { IsWhole self.new }
-        ensures turns { (turns : List Turn) → HasRun self.old turns → HasRun self.new (turns ++ record { row = row.now; budget = budget } ∷ []) }
-        ensures outcome { (k : PlainKernel) (turns : List Turn) → WellFormed k → Stands (code_of self.old) k → HasRun self.old turns
+        ensures turns { (turns : List TickInput) → HasRun self.old turns → HasRun self.new (turns ++ record { row = row.now; budget = budget } ∷ []) }
+        ensures outcome { (k : PlainKernel) (turns : List TickInput) → WellFormed k → Stands (code_of self.old) k → HasRun self.old turns
             → result ≡ (tick k budget (state_after k Fresh turns) row.now).outcome }
-        ensures outputs { (k : PlainKernel) (turns : List Turn) → WellFormed k → Stands (code_of self.old) k → HasRun self.old turns
+        ensures outputs { (k : PlainKernel) (turns : List TickInput) → WellFormed k → Stands (code_of self.old) k → HasRun self.old turns
             → HasOutputs result → outputs.new ≡ (tick k budget (state_after k Fresh turns) row.now).outputs }
         ensures reply { (jobs : List Job) → HasJobs self.old jobs
             → HasOutcome (code_of self.old) (jobs ++ job_of (code_of self.old).shape self.old.root row.now budget ∷ []) result outputs.new }
@@ -197,7 +197,7 @@ impl<'c, P: Port<ForecWork> + Drop> Host<'c, P> {
         ensures live { is_live self.new ≡ is_live self.old }
         ensures rope { self.new.rope ≡ self.old.rope }
         ensures grown { Grown self.old.mail self.new.mail }
-        ensures turns { (turns : List Turn) → HasRun self.old turns → HasRun self.new turns }
+        ensures turns { (turns : List TickInput) → HasRun self.old turns → HasRun self.new turns }
         ensures jobs { (jobs : List Job) → HasJobs self.old jobs → HasJobs self.new jobs }
         ensures whole { IsWhole self.old → IsWhole self.new }
     {
@@ -221,7 +221,7 @@ impl<'c, P: Port<ForecWork> + Drop> Host<'c, P> {
         requires fits { IsRopeOf self.code self.places self.cores rope }
         requires none { self.rope ≡ None }
         ensures hung { result ≡ record self.entry { rope = Some rope.entry } }
-        ensures turns { (turns : List Turn) → HasRun self.entry turns → HasRun result turns }
+        ensures turns { (turns : List TickInput) → HasRun self.entry turns → HasRun result turns }
         ensures jobs { (jobs : List Job) → HasJobs self.entry jobs → HasJobs result jobs }
     {
         let Host {
@@ -253,8 +253,8 @@ impl<'c, P: Port<ForecWork> + Drop> Host<'c, P> {
         self.round.rope.as_ref()
     }
 
-    /// What a host keeps: the branches of a thread were told and have told exactly what the thread writes by
-    /// itself, for thread 0 in the ticks so far, for each other thread that rests in the jobs that were taken.
+    /// A law: the mailboxes of a thread's branches carried exactly the jobs that the thread gives, and their replies: for thread 0
+    /// in the ticks so far, for each other thread that rests in the jobs that were taken.
     pub fn posts(&self)
         ensures root { (jobs : List Job) → HasJobs self.now jobs → HasPosted (code_of self.now) 0 self.now.mail jobs }
         ensures taken { (k : ℕ) → k < length self.now.mail.ends → ChildIs self.now.mail k false → HasPostedTaken (code_of self.now) self.now.mail k }

@@ -1,4 +1,4 @@
-//! The host of a program's threads: it runs a tick.
+//! The threads of some cores, over mailboxes: a host runs the ticks of a program, by itself or beside other hosts, or serves single jobs.
 #![tactic(auto)]
 
 mod active;

@@ -17,7 +17,7 @@ use thread_code::Code;
 ///
 /// # Errors
 ///
-/// Want of memory.
+/// Out of memory.
 pub fn blanks(alloc: Global, code: &Code) -> Result<Vec<Boxed<Packet>>, OutOfMemory>
     ensures count { IfOk result (λ packets. suc (length packets.items) ≡ length (plain_code code.now).threads) }
     ensures few { IfOk result (λ packets. length packets.items < 2 ^ 16) }
@@ -38,7 +38,7 @@ pub fn blanks(alloc: Global, code: &Code) -> Result<Vec<Boxed<Packet>>, OutOfMem
 ///
 /// # Errors
 ///
-/// Want of memory.
+/// Out of memory.
 pub fn local_port(alloc: Global, code: &Code) -> Result<LocalPort<ForecWork>, OutOfMemory>
     ensures tells { IfOk result (λ p. (⟦<LocalPort<ForecWork> as Port<ForecWork>>⟧.state p).tells ≡ true) }
     ensures serves { IfOk result (λ p. (placement : Places) (cores : List ℕ) → length placement.places ≡ length (plain_code code.now).threads

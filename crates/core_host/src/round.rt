@@ -53,8 +53,8 @@ impl<'c> Round<'c> {
     }
 }
 
-/// The k-th of so many places, from the first one on or from the last one.
-pub fn place_of(k: usize, count: usize, up: bool) -> usize
+/// The index that a sweep over so many mailboxes visits k-th: from the first one on, or from the last one.
+pub fn index_at(k: usize, count: usize, up: bool) -> usize
     requires { k < count }
     ensures below { result < count }
     ensures up { up ≡ true → result ≡ k }

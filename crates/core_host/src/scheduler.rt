@@ -7,14 +7,14 @@ ghost use Rattle.thread_code.specs.Valid.{of_shape};
 ghost use Rattle.combine_tree.specs.Plain.{plain_packet};
 ghost use Rattle.copy_slots.specs.declared.view.PacketAt.TheVariants.{Held};
 ghost use Rattle.copy_slots.specs.Ports.{sent, got, turn, ParentIs};
-ghost use Rattle.core_machine.specs.Held.{Loaded, CanBegin, CanRun, HasReply, HasSettled, HasJoined};
+ghost use Rattle.core_machine.specs.Threads.{Loaded, CanBegin, CanRun, HasReply, HasSettled, HasJoined};
 ghost use Rattle.core_machine.specs.Forks.{jobs_at};
 ghost use Rattle.core_machine.specs.declared.thread.Thread.{Thread as PlainThread};
 ghost use Rattle.core_machine.specs.Replies.{Replies_by};
 ghost use Rattle.core_host.specs.Changes.{Grown};
 ghost use Rattle.core_host.specs.ChildrenRun.{PostsMore};
 ghost use Rattle.core_host.specs.Keeping.{State, code_in, IsSeated, IsFitted, Sits, QuietAbove, HasPacket, LacksPacket, CanSend, IsCalled, IsBack, Leaves, AtFork, HaveHeard, SettlesReplies, JoinsReplies};
-ghost use Rattle.core_host.specs.Moving.{MovesPacket, HasSent, HasGot, HasLooked};
+ghost use Rattle.core_host.specs.Moving.{ChangesPacket, HasSent, HasGot, HasLooked};
 
 use crate::boxed::Boxed;
 use crate::seat::Seat;
@@ -56,7 +56,7 @@ impl<'c, P: Port<ForecWork> + Drop> Scheduler<'c, P> {
         requires inside { mailbox < length self.old.mail.ends }
         requires seated { IsSeated self.old }
         requires has { HasPacket self.old mailbox }
-        ensures moves { MovesPacket mailbox self.old self.new }
+        ensures moves { ChangesPacket mailbox self.old self.new }
         ensures held { ParentIs self.new.mail mailbox Held }
         ensures empty { slice_get self.new.hands mailbox ≡ Some None }
         ensures room { HasRoom (of_shape (code_in self.old).shape) (suc mailbox) (plain_packet result) }
@@ -75,7 +75,7 @@ impl<'c, P: Port<ForecWork> + Drop> Scheduler<'c, P> {
         requires seated { IsSeated self.old }
         requires job { CanSend self.old thread.now k mailbox }
         requires has { HasPacket self.old mailbox }
-        ensures moves { MovesPacket mailbox self.old self.new }
+        ensures moves { ChangesPacket mailbox self.old self.new }
         ensures lacks { LacksPacket self.new mailbox }
         ensures sent { (w : Written) → slice_get (jobs_at (code_in self.old) thread.now) k ≡ Some w → HasSent self.old self.new mailbox w.job }
     {
@@ -84,12 +84,12 @@ impl<'c, P: Port<ForecWork> + Drop> Scheduler<'c, P> {
         self.port.offer(mailbox, packet);
     }
 
-    /// Looks for the reply of a branch that was told a job. Whether it is there.
+    /// Looks for the reply of a branch that was told a job. Returns whether it is there.
     pub(crate) fn collect(&mut self, mailbox: u32) -> bool
         requires inside { mailbox < length self.old.mail.ends }
         requires seated { IsSeated self.old }
         requires lacks { LacksPacket self.old mailbox }
-        ensures moves { MovesPacket mailbox self.old self.new }
+        ensures moves { ChangesPacket mailbox self.old self.new }
         ensures there { result ≡ true → HasGot self.old self.new mailbox }
         ensures awaited { result ≡ false → HasLooked self.old self.new mailbox }
         ensures turn { self.old.mail.tells ≡ true → result ≡ false → turn self.old.mail mailbox ≢ 0 }
@@ -217,6 +217,7 @@ impl<'c, P: Port<ForecWork> + Drop> Scheduler<'c, P> {
         ensures leaves { Leaves thread.old.number thread.old.number self.old self.new }
         ensures done { StaysInJob self.old thread.old self.new thread.new }
     {
+        // For the proof alone, which counts the forks down.
         let mut forks: u128 = 0;
         while let Event::Fork = thread.run(self.code) {
             self.run_children(gate, thread);

@@ -9,10 +9,10 @@ ghost use Rattle.core_host.specs.Asking.{Asks, Replies};
 ghost use Rattle.core_host.specs.Changes.{HasWorked, Awaits, Gains};
 ghost use Rattle.core_host.specs.Descending.{IsRunning, IsHeld, HasFinished};
 ghost use Rattle.core_host.specs.Keeping.{code_in, IsSeated, LacksPacket, AtFork, Quiet};
-ghost use Rattle.core_host.specs.Moving.{MovesPacket, HasGot, HasLooked};
+ghost use Rattle.core_host.specs.Moving.{ChangesPacket, HasGot, HasLooked};
 ghost use Rattle.core_host.specs.Waiting.{HasTold, TellsAll, IsGathering, HasReplies, IsAtRest, WaitsAt, IsBetween};
 ghost use Rattle.core_host.specs.Rounds.{AllIdle, WorkedAt};
-ghost use Rattle.core_host.specs.Serving.{MovesBranches, Touches, OnlyLooks, HasMissed, AllMissed, KeepsServing};
+ghost use Rattle.core_host.specs.Serving.{ChangesBranches, Touches, OnlyLooks, HasMissed, AllMissed, KeepsServing};
 
 use crate::active::Active;
 use crate::boxed::Boxed;
@@ -87,7 +87,7 @@ impl<'c, P: Port<ForecWork> + Drop> Scheduler<'c, P> {
         requires seated { IsSeated self.old }
         requires fork { AtFork self.old thread.now }
         requires told { (pairs : List Answered) × HasTold self.old thread.now.number pairs [] }
-        ensures moves { MovesBranches thread.now.number self.old self.new }
+        ensures moves { ChangesBranches thread.now.number self.old self.new }
         ensures told { TellsAll self.old self.new thread.now }
     {
         let mut k = 0;
@@ -102,7 +102,7 @@ impl<'c, P: Port<ForecWork> + Drop> Scheduler<'c, P> {
         requires inside { mailbox < length self.old.mail.ends }
         requires seated { IsSeated self.old }
         requires lacks { slice_get self.old.hands mailbox ≡ Some None → LacksPacket self.old mailbox }
-        ensures moves { MovesPacket mailbox self.old self.new }
+        ensures moves { ChangesPacket mailbox self.old self.new }
         ensures before { (p : PlainPacketState) → slice_get self.old.hands mailbox ≡ Some (Some p) → (result ≡ true) × (self.new ≡ self.old) }
         ensures there { result ≡ true → slice_get self.old.hands mailbox ≡ Some None → HasGot self.old self.new mailbox }
         ensures awaited { result ≡ false → HasLooked self.old self.new mailbox }
@@ -117,7 +117,7 @@ impl<'c, P: Port<ForecWork> + Drop> Scheduler<'c, P> {
     pub(crate) fn gather_replies(&mut self, thread: &Thread) -> bool
         requires seated { IsSeated self.old }
         requires gathering { (pairs : List Answered) × IsGathering self.old thread.now pairs }
-        ensures moves { MovesBranches thread.now.number self.old self.new }
+        ensures moves { ChangesBranches thread.now.number self.old self.new }
         ensures gathering { result ≡ false → (pairs : List Answered) → IsGathering self.old thread.now pairs → IsGathering self.new thread.now pairs }
         ensures all { result ≡ true → (pairs : List Answered) → IsGathering self.old thread.now pairs → HasReplies self.new thread.now pairs }
         ensures missing { result ≡ false → (k : ℕ) → thread.now.number ≡ suc k → Awaits (code_in self.old).shape self.old.mail self.new.mail k }
@@ -283,7 +283,7 @@ impl<'c, P: Port<ForecWork> + Drop> Scheduler<'c, P> {
     }
 
     /// Takes one job of this mailbox, or goes on with its thread where that waits at a fork and its branches
-    /// have all replied, and runs the thread to its next event. Whether it did.
+    /// have all replied, and runs the thread to its next event. Returns whether it did.
     pub(crate) fn serve<G: Gate>(&mut self, gate: &G, mailbox: u32) -> bool
         requires inside { mailbox < length self.old.mail.ends }
         requires seated { IsSeated self.old }

@@ -1,7 +1,7 @@
 //! A tick beside hosts that are served.
 ghost use Rattle.std.specs.Prelude.{◌≡◌, ◌≤◌, ◌<◌, ◌++◌, ◌∷◌, [], ℕ, suc, List, Some, length, true, false};
 ghost use Rattle.forec_base.specs.declared.limits.TheConstants.{MAX_BUDGET};
-ghost use Rattle.forec_kernel.specs.Composed.{Turn, state_after};
+ghost use Rattle.forec_kernel.specs.Composed.{TickInput, state_after};
 ghost use Rattle.forec_kernel.specs.Engine.{Job, Answered};
 ghost use Rattle.forec_kernel.specs.Packed.{HasRoom, IsJob};
 ghost use Rattle.forec_kernel.specs.Shapes.{PlainKernel};
@@ -11,7 +11,7 @@ ghost use Rattle.thread_code.specs.Alone.{Stands};
 ghost use Rattle.thread_code.specs.Valid.{of_shape};
 ghost use Rattle.combine_tree.specs.Plain.{plain_packet};
 ghost use Rattle.core_machine.specs.declared.thread.Thread.{Thread as PlainThread};
-ghost use Rattle.core_machine.specs.Held.{Loaded, CanBegin, CanRun, HasReply};
+ghost use Rattle.core_machine.specs.Threads.{Loaded, CanBegin, CanRun, HasReply};
 ghost use Rattle.core_machine.specs.Replies.{Replies_by};
 ghost use Rattle.core_host.specs.Changes.{Grown};
 ghost use Rattle.core_host.specs.Ending.{HasRepliedTo};
@@ -25,14 +25,14 @@ ghost use Rattle.core_host.specs.Posts.{IsBranchOf};
 ghost use Rattle.core_host.specs.Rests.{RootRests};
 ghost use Rattle.core_host.specs.Rounds.{AllIdle, CanServe, IsIdleAt, IsSameRound, SomeWorked};
 ghost use Rattle.core_host.specs.Runs.{HasJobMore, HasJobs, HasRun};
-ghost use Rattle.core_host.specs.Serving.{AllMissed, MovesBranches, KeepsServing};
+ghost use Rattle.core_host.specs.Serving.{AllMissed, ChangesBranches, KeepsServing};
 ghost use Rattle.core_host.specs.Waiting.{HasChild, HasTold, TellsAll, IsBetween, IsVacant, IsGathering, HasReplies};
 
 use crate::hints::hint_branches;
 use crate::host::Host;
 use crate::job::write_job;
 use crate::outcome::write_outcome;
-use crate::round::{Round, place_of};
+use crate::round::{Round, index_at};
 use crate::scheduler::Scheduler;
 use crate::work::ForecWork;
 use crate::worker::{Crew, Serve};
@@ -45,7 +45,7 @@ use std::sync::Wait;
 
 impl<'c, P: Port<ForecWork> + Drop> Scheduler<'c, P> {
     /// Serves the mailbox at this place of the round, with the branches of its thread that are here, and hints to those to whom they sent.
-    /// Whether there was something to do.
+    /// Returns whether there was something to do.
     fn serve_at<R: Wait, G: Gate>(
         &mut self,
         rt: &R,
@@ -70,7 +70,7 @@ impl<'c, P: Port<ForecWork> + Drop> Scheduler<'c, P> {
         true
     }
 
-    /// Serves a mailbox, if it is one of the round. Whether there was something to do.
+    /// Serves a mailbox, if it is one of the round. Returns whether there was something to do.
     fn serve_named<R: Wait, G: Gate>(
         &mut self,
         rt: &R,
@@ -91,7 +91,7 @@ impl<'c, P: Port<ForecWork> + Drop> Scheduler<'c, P> {
         }
     }
 
-    /// Serves the mailboxes that hints name, until there is no hint. Whether there was something to do.
+    /// Serves the mailboxes that hints name, until there is no hint. Returns whether there was something to do.
     fn serve_hinted<R: Wait, G: Gate>(&mut self, rt: &R, gate: &G, round: &mut Round<'c>) -> bool
         requires seated { IsSeated self.old }
         requires round { CanServe self.old round.old }
@@ -111,7 +111,7 @@ impl<'c, P: Port<ForecWork> + Drop> Scheduler<'c, P> {
     }
 
     /// Serves each mailbox of the round once, upwards and downwards in turn: upwards a thread comes before its branches, which it
-    /// gives jobs; downwards it comes after them, when they have replied. Whether there was something to do.
+    /// gives jobs; downwards it comes after them, when they have replied. Returns whether there was something to do.
     fn sweep<R: Wait, G: Gate>(&mut self, rt: &R, gate: &G, round: &mut Round<'c>) -> bool
         requires seated { IsSeated self.old }
         requires round { CanServe self.old round.old }
@@ -124,13 +124,13 @@ impl<'c, P: Port<ForecWork> + Drop> Scheduler<'c, P> {
         let up = round.up;
         let mut found = false;
         for k in 0..count {
-            found |= self.serve_at(rt, gate, place_of(k, count, up), round);
+            found |= self.serve_at(rt, gate, index_at(k, count, up), round);
         }
         round.up = !up;
         found
     }
 
-    /// Serves the mailboxes that hints name, and then each mailbox of the round once. Whether there was something to do.
+    /// Serves the mailboxes that hints name, and then each mailbox of the round once. Returns whether there was something to do.
     pub(crate) fn serve_sweep<R: Wait, G: Gate>(
         &mut self,
         rt: &R,
@@ -212,7 +212,7 @@ impl<'c, P: Port<ForecWork> + Drop> Scheduler<'c, P> {
         requires seated { IsSeated self.old }
         requires fork { AtFork self.old thread.now }
         requires told { (pairs : List Answered) × HasTold self.old thread.now.number pairs [] }
-        ensures moves { MovesBranches thread.now.number self.old self.new }
+        ensures moves { ChangesBranches thread.now.number self.old self.new }
         ensures told { TellsAll self.old self.new thread.now }
         ensures own { round.new.own ≡ round.old.own }
         ensures next { round.new.next ≡ round.old.next }
@@ -305,11 +305,11 @@ impl<'c, P: Port<ForecWork> + Drop> Scheduler<'c, P> {
 }
 
 impl<'c, P: Port<ForecWork> + Drop> Host<'c, P> {
-    /// Runs one tick beside hosts that others run: the inputs get the values of the row, in order of declaration. Where the
+    /// Runs one tick beside hosts that other OS threads run: the inputs get the values of the row, in order of declaration. Where the
     /// tick pauses or ends the outputs are written, in order of declaration; else they stay as they were. While thread 0
-    /// waits for its branches, the threads of this host and the `others`, which nobody runs, are served. It takes no memory.
+    /// waits for its branches, the threads of this host are served, and those of the `others`, which no OS thread runs. It takes no memory.
     ///
-    /// A host on which a rope hangs hints to the cores to which it sends, and looks first where it is hinted to. After some time in
+    /// A host with a rope hints to the cores to which it sends, and looks first where it is hinted to. After some time in
     /// which there was nothing to do its core sleeps until it is woken, but never where there are `others`. What is hinted, and
     /// that a sleeping core is woken, no clause says.
     ///
@@ -333,10 +333,10 @@ impl<'c, P: Port<ForecWork> + Drop> Host<'c, P> {
         ensures code { self.new.code ≡ self.old.code }
         ensures places { self.new.places ≡ self.old.places }
         ensures cores { self.new.cores ≡ self.old.cores }
-        ensures turns { (turns : List Turn) → HasRun self.old turns → HasRun self.new (turns ++ record { row = row.now; budget = budget } ∷ []) }
-        ensures outcome { (k : PlainKernel) (turns : List Turn) → WellFormed k → Stands (code_of self.old) k → HasRun self.old turns
+        ensures turns { (turns : List TickInput) → HasRun self.old turns → HasRun self.new (turns ++ record { row = row.now; budget = budget } ∷ []) }
+        ensures outcome { (k : PlainKernel) (turns : List TickInput) → WellFormed k → Stands (code_of self.old) k → HasRun self.old turns
             → result ≡ (tick k budget (state_after k Fresh turns) row.now).outcome }
-        ensures outputs { (k : PlainKernel) (turns : List Turn) → WellFormed k → Stands (code_of self.old) k → HasRun self.old turns
+        ensures outputs { (k : PlainKernel) (turns : List TickInput) → WellFormed k → Stands (code_of self.old) k → HasRun self.old turns
             → HasOutputs result → outputs.new ≡ (tick k budget (state_after k Fresh turns) row.now).outputs }
         ensures reply { (jobs : List Job) → HasJobs self.old jobs
             → HasOutcome (code_of self.old) (jobs ++ job_of (code_of self.old).shape self.old.root row.now budget ∷ []) result outputs.new }
@@ -368,10 +368,10 @@ impl<'c, P: Port<ForecWork> + Drop> Host<'c, P> {
         ensures code { self.new.code ≡ self.old.code }
         ensures places { self.new.places ≡ self.old.places }
         ensures cores { self.new.cores ≡ self.old.cores }
-        ensures turns { (turns : List Turn) → HasRun self.old turns → HasRun self.new (turns ++ record { row = row.now; budget = budget } ∷ []) }
-        ensures outcome { (k : PlainKernel) (turns : List Turn) → WellFormed k → Stands (code_of self.old) k → HasRun self.old turns
+        ensures turns { (turns : List TickInput) → HasRun self.old turns → HasRun self.new (turns ++ record { row = row.now; budget = budget } ∷ []) }
+        ensures outcome { (k : PlainKernel) (turns : List TickInput) → WellFormed k → Stands (code_of self.old) k → HasRun self.old turns
             → result ≡ (tick k budget (state_after k Fresh turns) row.now).outcome }
-        ensures outputs { (k : PlainKernel) (turns : List Turn) → WellFormed k → Stands (code_of self.old) k → HasRun self.old turns
+        ensures outputs { (k : PlainKernel) (turns : List TickInput) → WellFormed k → Stands (code_of self.old) k → HasRun self.old turns
             → HasOutputs result → outputs.new ≡ (tick k budget (state_after k Fresh turns) row.now).outputs }
         ensures reply { (jobs : List Job) → HasJobs self.old jobs
             → HasOutcome (code_of self.old) (jobs ++ job_of (code_of self.old).shape self.old.root row.now budget ∷ []) result outputs.new }

@@ -1,6 +1,6 @@
 //! What works beside a tick: hosts without thread 0.
 ghost use Rattle.std.specs.Prelude.{◌≡◌, ◌<◌, ℕ, suc, List, IfOk, IfErr, true, false};
-ghost use Rattle.forec_kernel.specs.Composed.{Turn};
+ghost use Rattle.forec_kernel.specs.Composed.{TickInput};
 ghost use Rattle.forec_kernel.specs.Engine.{Job};
 ghost use Rattle.copy_slots.specs.Ports.{after_stop, after_check};
 ghost use Rattle.core_host.specs.Changes.{Grown, Looked, HasProgressed, HasWorked};
@@ -18,10 +18,10 @@ use std::sync::Wait;
 
 /// What is served where nobody else runs it.
 pub trait Serve {
-    /// Does something, if there is anything to do, and hints to those to whom it sent. Whether there was something to do.
+    /// Does something, if there is anything to do, and hints to those to whom it sent. Returns whether there was something to do.
     fn serve<R: Wait>(&mut self, rt: &R) -> bool;
 
-    /// Whether there is nobody to serve.
+    /// Returns whether there is nobody to serve.
     fn is_empty(&self) -> bool;
 }
 
@@ -51,7 +51,7 @@ impl<'h, 'g, 'c, P: Port<ForecWork> + Drop, G: Gate> Serve for Crew<'h, 'g, 'c, 
     }
 }
 
-/// Serves each of these hosts once. Whether there was something to do.
+/// Serves each of these hosts once. Returns whether there was something to do.
 fn serve_each<R: Wait, P: Port<ForecWork> + Drop, G: Gate>(
     rt: &R,
     hosts: &mut [Host<'_, P>],
@@ -74,8 +74,8 @@ impl<'c, P: Port<ForecWork> + Drop> Host<'c, P> {
         is_among(self.scheduler.places[0], &self.cores)
     }
 
-    /// Serves each of its mailboxes once, those that hints name first, and hints to those to whom it sent. Whether there was something
-    /// to do.
+    /// Serves the mailboxes that hints name, then sweeps once over all of its own, and hints to those to whom it sent. Returns whether
+    /// there was something to do.
     pub(crate) fn serve_beside<R: Wait, G: Gate>(&mut self, rt: &R, gate: &G) -> bool
         ensures worked { result ≡ true → (k : ℕ) × (is_here self.old (suc k) ≡ true) × HasProgressed (code_of self.old).shape self.old.mail self.new.mail k }
         ensures nothing { result ≡ false → AreIdleHere self.old self.new }
@@ -98,7 +98,7 @@ impl<'c, P: Port<ForecWork> + Drop> Host<'c, P> {
         requires { is_here self.old 0 ≡ true }
         ensures stored { self.new ≡ record self.old { mail = after_stop self.old.mail } }
         ensures grown { Grown self.old.mail self.new.mail }
-        ensures turns { (turns : List Turn) → HasRun self.old turns → HasRun self.new turns }
+        ensures turns { (turns : List TickInput) → HasRun self.old turns → HasRun self.new turns }
         ensures jobs { (jobs : List Job) → HasJobs self.old jobs → HasJobs self.new jobs }
     {
         self.scheduler.stop();
@@ -115,9 +115,9 @@ impl<'c, P: Port<ForecWork> + Drop> Host<'c, P> {
         self.scheduler.stopped()
     }
 
-    /// Serves, for as long as the workers are not stopped. It ends only after it loaded a stop word 1.
+    /// Serves, for as long as the workers are not stopped. It returns the host, and only after it loaded a stop word 1.
     ///
-    /// Where a rope hangs, its core sleeps after some time in which there was nothing to do, until it is woken; else it looks all
+    /// A host with a rope sleeps after some time in which there was nothing to do, until it is woken; else it looks all
     /// the time.
     pub fn run<R: Wait, G: Gate>(self, rt: &R, gate: &G) -> Host<'c, P>
         requires lacks { is_here self 0 ≡ false }
@@ -177,7 +177,7 @@ impl<'c, P: Port<ForecWork> + Drop> Worker<'c, P> {
         Ok(Worker { host })
     }
 
-    /// [`Host::serve`].
+    /// Serves one of its mailboxes, as [`Host::serve`] does.
     pub fn serve<G: Gate>(&mut self, gate: &G) -> Served
         ensures worked { (k : ℕ) → result ≡ Served.Worked k → HasWorked (code_of self.old).shape self.old.mail self.new.mail k }
         ensures nothing { result ≡ Served.Nothing → AreIdleHere self.old self.new }
@@ -190,8 +190,8 @@ impl<'c, P: Port<ForecWork> + Drop> Worker<'c, P> {
         self.host.serve(gate)
     }
 
-    /// Serves each of its mailboxes once, those that hints name first, and hints to those to whom it sent. Whether there was something
-    /// to do.
+    /// Serves the mailboxes that hints name, then sweeps once over all of its own, and hints to those to whom it sent. Returns whether
+    /// there was something to do.
     pub fn serve_beside<R: Wait, G: Gate>(&mut self, rt: &R, gate: &G) -> bool
         ensures worked { result ≡ true → (k : ℕ) × (is_here self.old (suc k) ≡ true) × HasProgressed (code_of self.old).shape self.old.mail self.new.mail k }
         ensures nothing { result ≡ false → AreIdleHere self.old self.new }
@@ -204,7 +204,7 @@ impl<'c, P: Port<ForecWork> + Drop> Worker<'c, P> {
         self.host.serve_beside(rt, gate)
     }
 
-    /// [`Host::run`].
+    /// Serves, as [`Host::run`] does, and returns the host once it has loaded a stop word 1.
     pub fn run<R: Wait, G: Gate>(self, rt: &R, gate: &G) -> Worker<'c, P>
         ensures stopped { Looked 1 self.entry.mail.stops result.mail.stops }
         ensures code { result.code ≡ self.entry.code }

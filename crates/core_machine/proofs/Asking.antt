@@ -1,16 +1,17 @@
 -- The jobs that a thread asks of its branches.
 use Rattle.std.proofs.Common.{◌≡◌, ◌≢◌, ℕ, ◌-◌, ◌≤◌, ◌==◌, List, [], ◌∷◌, ◌++◌, length, map, None, true, refl, sym, ap, ◌∙◌, subst, arith}
 use Rattle.std.proofs.lemmas.Bool.Decides.{nat_tests}
-use Rattle.forec_kernel.specs.Engine.{Job, allowance_of, Reply, Seed, Starts, Wakes, Written, written, AtFork, Engine, IsStopped, Rest, Nothing, Exchange, Output, first_jobs, ends_at, AtEvent, event as at_event, Either, Serves}
+use Rattle.forec_kernel.specs.Engine.{Job, allowance_of, Reply, Seed, Starts, Wakes, Written, written, AtFork, Engine, IsStopped, Rest, Nothing, Exchange, Output, first_jobs, ends_at, AtEvent, event as at_event, IfElse, Serves}
 use Rattle.forec_kernel.specs.Reached.{Reached, Inside}
-use Rattle.forec_kernel.proofs.Reach.{Went, tells, alone_of, alone_snoc}
+use Rattle.forec_kernel.proofs.ReachedLemmas.{Went, tells, alone_of, alone_snoc}
 use Rattle.thread_code.specs.Plain.{PlainCode}
 use Rattle.thread_code.specs.Machine.{Machine}
 use Rattle.thread_code.specs.Alone.{view_of, units_of, code_engine}
 use Rattle.core_machine.specs.declared.thread.Thread.{Thread}
 use Rattle.core_machine.specs.declared.thread.Phase.TheVariants as phase
 use Rattle.core_machine.specs.Branches.{Says}
-use Rattle.core_machine.specs.Held.{machine_in, machine_of, branch_of, Waits_at, Placed, Loaded, Stands_in, StandsFor, never, since, settling, joining, HasSettled}
+use Rattle.core_machine.specs.Held.{machine_in, machine_of, branch_of, Waits_at, Placed}
+use Rattle.core_machine.specs.Threads.{Loaded, Stands_in, StandsFor, never, since, settling, joining, HasSettled}
 use Rattle.core_machine.specs.Forks.{seeds_in, jobs_at, Asks}
 
 same_count : (a b : ℕ) → a ≡ b → (a == b) ≡ true
@@ -20,8 +21,8 @@ module _ (S : Type 0) (e : Engine S) where
   abbrev pub ends_with : List (List Written) → List Written → Output
   ends_with js ws = record { jobs = js ++ ws ∷ []; reply = None }
 
-  count_is : (rs : List Reply) (seeds : List Seed) (A B : Type 0) → length rs ≡ length seeds → A → Either (length rs == length seeds) A B
-  count_is rs seeds A B c x = subst (λ b. Either b A B) (sym (same_count (length rs) (length seeds) c)) x
+  count_is : (rs : List Reply) (seeds : List Seed) (A B : Type 0) → length rs ≡ length seeds → A → IfElse (length rs == length seeds) A B
+  count_is rs seeds A B c x = subst (λ b. IfElse b A B) (sym (same_count (length rs) (length seeds) c)) x
 
   pub went_fork : (n : ℕ) (before : List (List Reply)) (s0 : S) (js : List (List Written)) (s : S) (seeds : List Seed) → Went S e n s0 before js s → e.units s ≤ n → e.view s ≡ AtFork seeds →
       Serves e n before s0 (ends_with js (map (written (n - e.units s)) seeds)) Nothing
@@ -34,7 +35,7 @@ module _ (S : Type 0) (e : Engine S) where
       let rest = went_fork n more (e.join rs h.0) h.2 s seeds h.7 le v in
       let ws = map (written (n - e.units s)) seeds in
       at_event h.0 h.3
-      (subst (λ w. AtEvent e h.0 w (λ seeds o r. Either (length rs == length seeds) ((o' : Output) × Serves e n more (e.join rs h.0) o' r × (o ≡ first_jobs (map (written (n - e.units h.0)) seeds) o')) ((o ≡ ends_at (map (written (n - e.units h.0)) seeds)) × (r ≡ Nothing))) (ends_with js ws) Nothing) (sym h.4)
+      (subst (λ w. AtEvent e h.0 w (λ seeds o r. IfElse (length rs == length seeds) ((o' : Output) × Serves e n more (e.join rs h.0) o' r × (o ≡ first_jobs (map (written (n - e.units h.0)) seeds) o')) ((o ≡ ends_at (map (written (n - e.units h.0)) seeds)) × (r ≡ Nothing))) (ends_with js ws) Nothing) (sym h.4)
       (count_is rs h.1 _ _ h.5 (ends_with h.2 ws, rest, ap (λ l. ends_with l ws) h.6)))
 
 -- ---- at a fork

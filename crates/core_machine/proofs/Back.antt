@@ -13,7 +13,7 @@ use Rattle.thread_code.specs.declared.instruction.Instruction.{Instruction}
 use Rattle.thread_code.specs.declared.instruction.Instruction.TheVariants as instruction
 use Rattle.thread_code.specs.Plain.{PlainCode}
 use Rattle.thread_code.specs.Valid.{branches_in, arguments_of}
-use Rattle.thread_code.specs.Machine.{Point, Own, no_total, Awaited, awaited, Machine, Waits, Merges, Fails, no_totals, all_shares, live_after, back_to, is_ended, replied, living, waking, starts, wakes, uses_of, act}
+use Rattle.thread_code.specs.Machine.{Point, Own, no_total, Awaited, awaited, Machine, Waits, Merges, Failing, no_totals, all_shares, live_after, back_to, is_ended, replied, living, waking, starts, wakes, uses_of, act}
 use Rattle.thread_code.specs.Alone.{block_of, units_of}
 use Rattle.combine_tree.specs.declared.joining.Fold.{Fold}
 use Rattle.combine_tree.specs.Joins.{begun, fold_at}
@@ -25,10 +25,11 @@ use Rattle.core_machine.specs.Branches.{trap_of, verdict_of}
 use Rattle.core_machine.specs.declared.branches.Verdict.TheVariants as verdict
 use Rattle.core_machine.specs.declared.thread.Thread.{Thread}
 use Rattle.core_machine.specs.declared.thread.Phase.TheVariants as phase
-use Rattle.core_machine.specs.Held.{machine_in, machine_of, AreBranches, some_use, total_in, totals_in, Below, Works, Waits_at, Loaded, HasSettled}
+use Rattle.core_machine.specs.Held.{machine_in, machine_of, AreBranches, some_use, total_in, totals_in, Below, Works, Waits_at}
+use Rattle.core_machine.specs.Threads.{Loaded, HasSettled}
 use Rattle.core_machine.specs.Merging.{AreBelow, HaveUses, marked_live, begun_uses, begun_branches}
 use Rattle.core_machine.proofs.Asking.{waits, machine_is}
-use Rattle.core_machine.proofs.Branching.{same_self}
+use Rattle.core_machine.proofs.BranchLemmas.{same_self}
 use Rattle.core_machine.proofs.Calls.{length_without}
 use Rattle.thread_state.proofs.Indexed.{equal_of}
 use Rattle.core_machine.proofs.Offering.{same_or_not}
@@ -347,11 +348,11 @@ replied_units c t w rs (WasEnded copies v ∷ more) o u = replied_units c t w rs
 replied_units c t w rs (WasTrapped place trap v ∷ more) o u = refl
 replied_units c t w rs (WasOver ∷ more) o u = replied_units c t w rs more o u
 
-pub replied_trap : (c : PlainCode) (t : ℕ) (w : Awaited) (rs more : List Reply) (o : Own) (u : ℕ) (place : _) (trap : _) → trap_of more ≡ verdict.Trap place trap → replied c t w rs more o u ≡ Fails place trap u
+pub replied_trap : (c : PlainCode) (t : ℕ) (w : Awaited) (rs more : List Reply) (o : Own) (u : ℕ) (place : _) (trap : _) → trap_of more ≡ verdict.Trap place trap → replied c t w rs more o u ≡ Failing place trap u
 replied_trap c t w rs [] o u place trap e = cc
 replied_trap c t w rs (WasPaused copies v ∷ more) o u place trap e = replied_trap c t w rs more o u place trap e
 replied_trap c t w rs (WasEnded copies v ∷ more) o u place trap e = replied_trap c t w rs more o u place trap e
-replied_trap c t w rs (WasTrapped p q v ∷ more) o u place trap e = let a : p ≡ place = cc in let b : q ≡ trap = cc in ap (λ p. Fails p q u) a ∙ ap (λ q. Fails place q u) b
+replied_trap c t w rs (WasTrapped p q v ∷ more) o u place trap e = let a : p ≡ place = cc in let b : q ≡ trap = cc in ap (λ p. Failing p q u) a ∙ ap (λ q. Failing place q u) b
 replied_trap c t w rs (WasOver ∷ more) o u place trap e = replied_trap c t w rs more o u place trap e
 
 pub replied_all : (c : PlainCode) (t : ℕ) (w : Awaited) (rs more : List Reply) (o : Own) (u : ℕ) → trap_of more ≡ verdict.Combine →

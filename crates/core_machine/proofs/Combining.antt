@@ -12,10 +12,11 @@ use Rattle.core_machine.specs.declared.branches.Verdict.{Verdict}
 use Rattle.core_machine.specs.declared.branches.Verdict.TheVariants as verdict
 use Rattle.core_machine.specs.declared.thread.Thread.{Thread}
 use Rattle.core_machine.specs.declared.thread.Phase.TheVariants as phase
-use Rattle.core_machine.specs.Held.{Loaded, Placed, Joins, IsBranch, some_use, Exceeds}
+use Rattle.core_machine.specs.Held.{Placed, Joins, IsBranch, some_use}
+use Rattle.core_machine.specs.Threads.{Loaded, Exceeds}
 use Rattle.core_machine.specs.Merging.{merging_with, Joining_on, Comes_by, Combined}
 use Rattle.thread_steps.proofs.Advance.{run_add}
-use Rattle.core_machine.proofs.Branching.{same_self}
+use Rattle.core_machine.proofs.BranchLemmas.{same_self}
 use Rattle.thread_state.proofs.Lists.{take_next}
 use Rattle.core_machine.proofs.Seeds.{branch_in}
 

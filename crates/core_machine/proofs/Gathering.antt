@@ -17,7 +17,7 @@ use Rattle.combine_tree.specs.declared.packet.Packet.{Packet}
 use Rattle.combine_tree.specs.declared.packet.PacketKind.{PacketKind}
 use Rattle.combine_tree.specs.declared.packet.PacketKind.TheVariants as kind
 use Rattle.combine_tree.specs.Plain.{plain_kind, plain_packet}
-use Rattle.core_machine.specs.Branches.{Gathered, chosen, with_verdict, first_trap, noted, counted, trap_of, verdict_of, CountsAs, Says, Settles}
+use Rattle.core_machine.specs.Branches.{Gathered, chosen, with_verdict, first_trap, noted, counted, trap_of, verdict_of, SaturatesTo, Says, Settles}
 
 -- ---- all of a list
 
@@ -96,10 +96,10 @@ ended_more : (rs : List Reply) (r : Reply) → map is_ended (rs ++ r ∷ []) ≡
 ended_more [] r = refl
 ended_more (x ∷ rs) r = ap (λ l. is_ended x ∷ l) (ended_more rs r)
 
-counts_more : (n s u : ℕ) → CountsAs n s → CountsAs (min (n + u) (2 ^ 64 - 1)) (s + u)
+counts_more : (n s u : ℕ) → SaturatesTo n s → SaturatesTo (min (n + u) (2 ^ 64 - 1)) (s + u)
 counts_more n s u (inl e) = by_size (⊎_elim (λ lt. inr lt) (λ le. inl le) (cases_lt (2 ^ 64 - 1) (n + u)))
   where
-    by_size : ((n + u ≤ 2 ^ 64 - 1) ⊎ (2 ^ 64 - 1 < n + u)) → CountsAs (min (n + u) (2 ^ 64 - 1)) (s + u)
+    by_size : ((n + u ≤ 2 ^ 64 - 1) ⊎ (2 ^ 64 - 1 < n + u)) → SaturatesTo (min (n + u) (2 ^ 64 - 1)) (s + u)
     by_size (inl le) = inl (omega (arith, e, le))
     by_size (inr lt) = inr (omega (arith, lt), omega (arith, e, lt))
 counts_more n s u (inr h) = inr (omega (arith, h.0), omega (arith, h.1))
@@ -109,14 +109,14 @@ module _ (g g' : Gathered) (rs : List Reply) (s : Says g rs) where
   pub says_plain : (r : Reply) → is_over_reply r ≡ false → trap_of (r ∷ []) ≡ verdict.Combine → g'.ended ≡ g.ended ++ is_ended r ∷ [] → g'.units ≡ min (g.units + reply_units r) (2 ^ 64 - 1) → g'.verdict ≡ g.verdict → Says g' (rs ++ r ∷ [])
   says_plain r not none e u v = record {
     ended = e ∙ ap (λ l. l ++ is_ended r ∷ []) s.ended ∙ sym (ended_more rs r);
-    units = subst (λ n. CountsAs g'.units n) (sym (units_more rs r)) (subst (λ n. CountsAs n (all_units rs + reply_units r)) (sym u) (counts_more g.units (all_units rs) (reply_units r) s.units));
+    units = subst (λ n. SaturatesTo g'.units n) (sym (units_more rs r)) (subst (λ n. SaturatesTo n (all_units rs + reply_units r)) (sym u) (counts_more g.units (all_units rs) (reply_units r) s.units));
     verdict = v ∙ s.verdict ∙ sym (verdict_trap rs r not ∙ ap (first_trap (verdict_of rs)) none ∙ still (verdict_of rs));
   }
 
   pub says_trap : (place : Place) (trap : Trap) (w : ℕ) → g'.ended ≡ g.ended ++ false ∷ [] → g'.units ≡ min (g.units + w) (2 ^ 64 - 1) → g'.verdict ≡ first_trap g.verdict (verdict.Trap place trap) → Says g' (rs ++ WasTrapped place trap w ∷ [])
   says_trap place trap w e u v = record {
     ended = e ∙ ap (λ l. l ++ false ∷ []) s.ended ∙ sym (ended_more rs (WasTrapped place trap w));
-    units = subst (λ n. CountsAs g'.units n) (sym (units_more rs (WasTrapped place trap w))) (subst (λ n. CountsAs n (all_units rs + w)) (sym u) (counts_more g.units (all_units rs) w s.units));
+    units = subst (λ n. SaturatesTo g'.units n) (sym (units_more rs (WasTrapped place trap w))) (subst (λ n. SaturatesTo n (all_units rs + w)) (sym u) (counts_more g.units (all_units rs) w s.units));
     verdict = v ∙ ap (λ x. first_trap x (verdict.Trap place trap)) s.verdict ∙ sym (verdict_trap rs (WasTrapped place trap w) refl);
   }
 
@@ -125,7 +125,7 @@ module _ (g g' : Gathered) (rs : List Reply) (s : Says g rs) where
       let z : all_units (rs ++ WasOver ∷ []) ≡ all_units rs = omega (arith, units_more rs WasOver) in
       record {
         ended = e ∙ ap (λ l. l ++ false ∷ []) s.ended ∙ sym (ended_more rs WasOver);
-        units = subst (λ n. CountsAs g'.units n) (sym z) (subst (λ n. CountsAs n (all_units rs)) (sym u) s.units);
+        units = subst (λ n. SaturatesTo g'.units n) (sym z) (subst (λ n. SaturatesTo n (all_units rs)) (sym u) s.units);
         verdict = v ∙ sym (verdict_over rs);
       }
 

@@ -15,7 +15,7 @@ use Rattle.forec_kernel.specs.Packets.{PlainPacket}
 use Rattle.forec_kernel.specs.Packed.{HasRoom, IsJob, IsReply}
 use Rattle.forec_kernel.specs.Engine.{Job, Start, Wake, allowance_of, Reply, WasPaused, WasEnded, WasTrapped, WasOver, Written, View, Going, AtFork, Pausing, Ending, Trapping, Exceeding, Engine, run_for, IsStopped, Rest, Asleep, Nothing, Exchange, Output, Serves as Serves_by, last_reply}
 use Rattle.forec_kernel.specs.Reached.{Reached, AtRest, Inside, none, begun, stepped, answered, exceeded, Closes}
-use Rattle.forec_kernel.proofs.Reach.{Went, alone_of, alone_snoc, went_answer, went_over}
+use Rattle.forec_kernel.proofs.ReachedLemmas.{Went, alone_of, alone_snoc, went_answer, went_over}
 use Rattle.forec_kernel.proofs.Same.{one_stop, not_both}
 use Rattle.thread_code.specs.Plain.{PlainBlock, PlainCode}
 use Rattle.thread_code.specs.Valid.{IsBlock, IsValidCode, of_shape, thread_scope}
@@ -36,7 +36,9 @@ use Rattle.core_machine.specs.declared.thread.Phase.{Phase}
 use Rattle.core_machine.specs.declared.thread.Phase.TheVariants as phase
 use Rattle.core_machine.specs.declared.thread.Event.{Event}
 use Rattle.core_machine.specs.declared.thread.Event.TheVariants as event
-use Rattle.core_machine.specs.Held.{callers, machine_in, machine_of, Works, Placed, Loaded, Exceeds, Stands_in, Stands_at, Waits_for, StandsFor, never, since, settling, joining, event_of, Tells, passes, reaches, IsResting, Rests_in, HasReply, HasPaused, Has_machine, Stops_in, Runs_in, CanRun, Left_by, CanBegin, Gives, started_anew, woken_up, Begun, Moved, Shown, over, comes, Comes_to}
+use Rattle.core_machine.specs.Held.{callers, machine_in, machine_of, Works, Placed}
+use Rattle.core_machine.specs.Threads.{Loaded, Exceeds, Stands_in, Stands_at, Waits_for, StandsFor, never, since, settling, joining, event_of, Tells, passes, reaches, IsResting, Rests_in, HasReply, HasPaused, Runs_in, CanRun, Left_by, CanBegin, Gives}
+use Rattle.core_machine.specs.RunParts.{Has_machine, CanStop, started_anew, woken_up, Begun, Moved, Shown, over, comes, Comes_to}
 use Rattle.core_machine.proofs.Outer.{empty_of}
 use Rattle.core_machine.proofs.Told.{all_then, told}
 
@@ -479,7 +481,7 @@ module _ (c : PlainCode) (h h' : Thread) (r : Event) (k : Comes_to c h h' r) (ru
 
 -- ---- how an event leaves the thread
 
-rests_over : (h : Thread) (p : Phase) → h.allowance < h.units → Stops_in p → Rests_in h p
+rests_over : (h : Thread) (p : Phase) → h.allowance < h.units → CanStop p → Rests_in h p
 rests_over h phase.Fresh past k = tt
 rests_over h (phase.Running folding) past k = (past, k)
 rests_over h (phase.Forked before) past k = past
@@ -507,7 +509,7 @@ left_in c h l (phase.Trapped place trap) e pl r le g v =
     subst (Left_by h) (sym k) (record { resting = subst (Rests_in h) (sym e) tt; started = λ f. let w = sym e ∙ f in cc })
 left_in c h l phase.Over e pl r le g v = cc
 
-left_shown : (c : PlainCode) (h : Thread) (l : Loaded c h) → h.phase ≢ phase.Fresh → (r : Event) → Stops_in h.phase → ((before : ℕ) → h.phase ≡ phase.Forked before → Says h.branches []) → Shown c h r → Left_by h r
+left_shown : (c : PlainCode) (h : Thread) (l : Loaded c h) → h.phase ≢ phase.Fresh → (r : Event) → CanStop h.phase → ((before : ℕ) → h.phase ≡ phase.Forked before → Says h.branches []) → Shown c h r → Left_by h r
 left_shown c h l started r stops quiet (over past) = record { resting = rests_over h h.phase past stops; started = started }
 left_shown c h l started r stops quiet (comes s le v) = left_in c h l h.phase refl l.placed r le quiet v
 

@@ -18,7 +18,8 @@ use Rattle.core_machine.specs.declared.branches.Verdict.TheVariants as verdict
 use Rattle.core_machine.specs.declared.thread.Thread.{Thread}
 use Rattle.core_machine.specs.declared.thread.Phase.TheVariants as phase
 use Rattle.core_machine.specs.Forks.{branch_at, with_replies}
-use Rattle.core_machine.specs.Held.{machine_in, machine_of, branch_of, Placed, Joins, Joins_by, Loaded, HasSettled, HasJoined, Exceeds, Stands_in, Stands_at, Stands_by, Waits_at, StandsFor, never, since, settling, joining}
+use Rattle.core_machine.specs.Held.{machine_in, machine_of, branch_of, Placed, Joins, Joins_by, Waits_at}
+use Rattle.core_machine.specs.Threads.{Loaded, HasSettled, HasJoined, Exceeds, Stands_in, Stands_at, Stands_by, StandsFor, never, since, settling, joining}
 use Rattle.core_machine.specs.Merging.{merging_with, Joining_on, Comes_by, Combined, StartsJoins, Prepared, Ends, Ends_by, Steps_on}
 use Rattle.core_machine.proofs.Asking.{waits, view_is, units_is}
 use Rattle.core_machine.proofs.Back.{not_over}

@@ -6,7 +6,7 @@ pub mod Moving
 pub mod Jobs
 pub mod Gathering
 pub mod Args
-pub mod Branching
+pub mod BranchLemmas
 pub mod Asking
 pub mod Replying
 pub mod Seeds

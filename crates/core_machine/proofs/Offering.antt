@@ -18,7 +18,8 @@ use Rattle.core_machine.specs.declared.branches.Verdict.{Verdict}
 use Rattle.core_machine.specs.declared.branches.Verdict.TheVariants as verdict
 use Rattle.core_machine.specs.declared.thread.Thread.{Thread}
 use Rattle.core_machine.specs.declared.thread.Phase.TheVariants as phase
-use Rattle.core_machine.specs.Held.{IsNarrow, Loaded, Placed, Joins, Joins_by, Combines, FoldsFit, some_use, total_in, totals_in, Exceeds}
+use Rattle.core_machine.specs.Held.{IsNarrow, Placed, Joins, Joins_by, Combines, FoldsFit, some_use, total_in, totals_in}
+use Rattle.core_machine.specs.Threads.{Loaded, Exceeds}
 use Rattle.core_machine.specs.Merging.{merging_with, calling, with_units, Joining_on, FoldFails_by, FoldFails, Valued, Comes_by, Combined}
 use Rattle.thread_steps.proofs.Advance.{run_add}
 use Rattle.thread_state.proofs.Indexed.{equal_of, differs_of, place_within, found_at}

@@ -18,13 +18,15 @@ use Rattle.thread_steps.specs.declared.block_run.Stop.TheVariants as stop
 use Rattle.core_machine.specs.declared.thread.Thread.{Thread}
 use Rattle.core_machine.specs.declared.thread.Phase.TheVariants as phase
 use Rattle.core_machine.specs.declared.thread.Event.TheVariants as event
-use Rattle.core_machine.specs.Held.{work_of, callers, callers_over, machine_in, machine_of, branch_of, Chained, Below, Works, Placed, Loaded, Has_machine, Moved, Stretches, event_of}
+use Rattle.core_machine.specs.Held.{work_of, callers, machine_in, machine_of, branch_of, Chained, Below, Works, Placed}
+use Rattle.core_machine.specs.Threads.{Loaded, event_of}
+use Rattle.core_machine.specs.RunParts.{callers_over, Has_machine, Moved, RunsBlock}
 use Rattle.core_machine.specs.Room.{EnoughToCombine}
 use Rattle.core_machine.specs.Branches.{chosen, with_branches}
 use Rattle.core_machine.specs.declared.fork.ForkAt.{ForkAt}
 use Rattle.core_machine.specs.Forks.{IsFork, IsForkStep}
 use Rattle.core_machine.specs.Merging.{instruction_of}
-use Rattle.core_machine.proofs.Branching.{starts_name, wakes_name, chosen_are, chosen_few}
+use Rattle.core_machine.proofs.BranchLemmas.{starts_name, wakes_name, chosen_are, chosen_few}
 use Rattle.thread_steps.proofs.Steps.{fine}
 
 -- ---- lists
@@ -187,8 +189,8 @@ module _ (folding : Bool) (c : PlainCode) (h : Thread) (l : Loaded c h) (run : h
       below = still_below;
     }
 
-    pub run_stretches : (s : Stop) → Shows c h.number h.function h.allowance w s → Stretches c h went s
-    run_stretches s shows = record {
+    pub runs_block : (s : Stop) → Shows c h.number h.function h.allowance w s → RunsBlock c h went s
+    runs_block s shows = record {
       moved = record {
         loaded = record {
           thread = l.thread;

@@ -8,7 +8,8 @@ use Rattle.thread_code.specs.Machine.{is_ended}
 use Rattle.thread_code.specs.Alone.{code_engine}
 use Rattle.core_machine.specs.declared.thread.Thread.{Thread}
 use Rattle.core_machine.specs.Branches.{Gathered, Says}
-use Rattle.core_machine.specs.Held.{machine_in, machine_of, Stands_in, Waits_for, StandsFor, never, since, settling, joining, HasSettled}
+use Rattle.core_machine.specs.Held.{machine_in, machine_of}
+use Rattle.core_machine.specs.Threads.{Stands_in, Waits_for, StandsFor, never, since, settling, joining, HasSettled}
 use Rattle.core_machine.specs.Forks.{next_replies, with_replies}
 
 -- ---- the last of a list

@@ -19,7 +19,8 @@ use Rattle.thread_state.specs.Kept.{Kept, own_of, place_in, place_of, no_copy, H
 use Rattle.thread_steps.specs.BlockRun.{work, point_of, machine_at}
 use Rattle.core_machine.specs.declared.thread.Thread.{Thread}
 use Rattle.core_machine.specs.declared.thread.Phase.TheVariants as phase
-use Rattle.core_machine.specs.Held.{machine_in, branch_of, IsBranch, AreBranches, Waits_at, Loaded, HasSettled}
+use Rattle.core_machine.specs.Held.{machine_in, branch_of, IsBranch, AreBranches, Waits_at}
+use Rattle.core_machine.specs.Threads.{Loaded, HasSettled}
 use Rattle.forec_kernel.specs.Packets.{PlainPacket}
 use Rattle.forec_kernel.specs.Packed.{IsJob}
 use Rattle.combine_tree.specs.declared.packet.Packet.{Packet}
@@ -27,7 +28,7 @@ use Rattle.combine_tree.specs.Plain.{plain_kind}
 use Rattle.core_machine.specs.Forks.{branch_at, jobs_at, args_at, HasKind}
 use Rattle.core_machine.proofs.Args.{args_are, sum_within}
 use Rattle.core_machine.proofs.Asking.{waits, jobs_are}
-use Rattle.core_machine.proofs.Branching.{starts_name, wakes_name}
+use Rattle.core_machine.proofs.BranchLemmas.{starts_name, wakes_name}
 use Rattle.thread_state.proofs.Indexed.{place_within}
 use Rattle.core_machine.proofs.Outer.{Fork_kind, is_fork, is_again, fork_kind, args_act}
 use Rattle.thread_steps.proofs.Steps.{copy_at, got, fine}

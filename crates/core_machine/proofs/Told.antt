@@ -2,7 +2,7 @@
 use Rattle.std.proofs.Common.{◌≡◌, ℕ, zero, suc, ◌+◌, ◌-◌, ◌≤◌, List, [], ◌∷◌, ◌++◌, Some, map, length, refl, sym, ap, ◌∙◌, subst, arith}
 use Rattle.forec_kernel.specs.Engine.{allowance_of, Reply, WasOver, Seed, Written, written, AtFork, Engine, run_for, IsStopped, Rest, Nothing, Output, Exchange, Begins, AllReply}
 use Rattle.forec_kernel.specs.Reached.{AloneTo, Position, AtRest, Inside, Reached, none, begun, stepped, joined, answered, exceeded}
-use Rattle.forec_kernel.proofs.Reach.{Went, alone_snoc, went_answer, went_over}
+use Rattle.forec_kernel.proofs.ReachedLemmas.{Went, alone_snoc, went_answer, went_over}
 use Rattle.forec_kernel.proofs.Agree.{answers_join}
 use Rattle.thread_code.specs.Alone.{CodeAlone}
 use Rattle.core_machine.specs.Replies.{RepliesAnswer}

@@ -69,13 +69,13 @@ abbrev pub verdict_of : List Reply → Verdict
 verdict_of rs = cond (some_reply_over rs) verdict.Over (trap_of rs)
 
 -- a sum; or, where it is more than any allowance, another number that is
-abbrev pub CountsAs : ℕ → ℕ → Type 0
-CountsAs n sum = (n ≡ sum) ⊎ ((MAX_BUDGET < n) × (MAX_BUDGET < sum))
+abbrev pub SaturatesTo : ℕ → ℕ → Type 0
+SaturatesTo n sum = (n ≡ sum) ⊎ ((MAX_BUDGET < n) × (MAX_BUDGET < sum))
 
 -- these are the replies so far
 pub record Says (g : Gathered) (rs : List Reply) : Type 0 where
   pub ended : g.ended ≡ map is_ended rs
-  pub units : CountsAs g.units (all_units rs)
+  pub units : SaturatesTo g.units (all_units rs)
   pub verdict : g.verdict ≡ verdict_of rs
 
 -- one more reply was settled

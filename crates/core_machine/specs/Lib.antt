@@ -2,6 +2,8 @@ pub mod Branches
 pub mod Depths
 pub mod Room
 pub mod Held
+pub mod RunParts
+pub mod Threads
 pub mod Forks
 pub mod Merging
 pub mod Replies

@@ -8,7 +8,7 @@ use Rattle.combine_tree.specs.declared.packet.PacketKind.TheVariants as kind
 use Rattle.thread_code.specs.Plain.{PlainCode}
 use Rattle.thread_code.specs.Alone.{CodeAlone}
 use Rattle.core_machine.specs.declared.thread.Thread.{Thread}
-use Rattle.core_machine.specs.Held.{HasPaused, Gives}
+use Rattle.core_machine.specs.Threads.{HasPaused, Gives}
 
 -- it is a reply; and that the thread paused, only where it did
 abbrev pub Replies_by : Thread → PacketKind → Type 0

@@ -98,7 +98,7 @@ impl Branches {
     ///
     /// # Errors
     ///
-    /// Want of memory.
+    /// Out of memory.
     pub fn new(alloc: Global, threads: usize) -> Result<Branches, OutOfMemory>
         ensures { IfOk result (λ b. b ≡ no_branches threads) }
     {

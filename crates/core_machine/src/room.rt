@@ -31,7 +31,7 @@ impl Needs {
     ///
     /// # Errors
     ///
-    /// Want of memory, also where a function needs more than can be counted.
+    /// Out of memory, also where a function needs more than can be counted.
     pub fn new(alloc: Global, code: &Code) -> Result<Needs, OutOfMemory>
         ensures { IfOk result (λ needs. AreNeeds (plain_code code.now) needs) }
     {
@@ -222,7 +222,7 @@ fn runs_need(code: &CodeParts, block: &Block, own: u64, uses: &[u32], needs: &[u
 ///
 /// # Errors
 ///
-/// Want of memory, also where they are too many to count.
+/// Out of memory, also where they are too many to count.
 pub fn thread_need(
     alloc: Global,
     code: &CodeParts,

@@ -3,7 +3,7 @@
 ghost use Rattle.std.specs.Prelude.{◌≡◌, [], ◌∷◌, IfOk};
 ghost use Rattle.forec_kernel.specs.Shapes.{plain_shape};
 ghost use Rattle.thread_code.specs.Plain.{plain_block, plain_code};
-ghost use Rattle.core_machine.specs.Held.{Loaded, IsResting};
+ghost use Rattle.core_machine.specs.Threads.{Loaded, IsResting};
 ghost use Rattle.thread_code.specs.Worked.{small_shape, small_main, small_function, small_code};
 
 use crate::joining::{begins, first_thread, pauses, replies, wakes};

@@ -6,7 +6,7 @@ ghost use Rattle.thread_code.specs.Plain.{plain_code};
 ghost use Rattle.thread_code.specs.Valid.{of_shape};
 ghost use Rattle.combine_tree.specs.Plain.{plain_packet};
 ghost use Rattle.core_machine.specs.Forks.{IsReplyKind};
-ghost use Rattle.core_machine.specs.Held.{Loaded, CanRun, IsResting, HasReply, HasPaused, HasSettled, HasJoined};
+ghost use Rattle.core_machine.specs.Threads.{Loaded, CanRun, IsResting, HasReply, HasPaused, HasSettled, HasJoined};
 
 use crate::compiled::compiled;
 use combine_tree::{Packet, PacketKind};

@@ -35,8 +35,8 @@ pub data At (m : ℕ) : ℕ → Term → ℕ → List Spelt → Option TokenKind
   at_level : {v w : ℕ} {x : Term} {ls : List Spelt} {k : Option TokenKind} → Spells m x v ls w → At m v x w ls k
 
 -- and what stands after it goes on with no operator of that level or above
-pub data FoundAt (m : ℕ) : ℕ → Term → ℕ → List Spelt → Option TokenKind → Type 0 where
-  found : {v w : ℕ} {x : Term} {ls : List Spelt} {k : Option TokenKind} → Spells m x v ls w → binds (infix_of k) < m → FoundAt m v x w ls k
+pub data ParsedAt (m : ℕ) : ℕ → Term → ℕ → List Spelt → Option TokenKind → Type 0 where
+  found : {v w : ℕ} {x : Term} {ls : List Spelt} {k : Option TokenKind} → Spells m x v ls w → binds (infix_of k) < m → ParsedAt m v x w ls k
 
 -- a token that opens a level
 pub data Opens : ℕ → Token → ℕ → List Spelt → Option TokenKind → Type 0 where
@@ -50,14 +50,14 @@ pub data Behind_name (n : Name) : ℕ → Term → ℕ → List Spelt → Option
 
 -- an operator and its second operand, or `?` and two
 pub data Operates (left : Term) : ℕ → Term → ℕ → List Spelt → Option TokenKind → Type 0 where
-  joins_to : {v w : ℕ} {t : Token} {right : Term} {rs : List Spelt} {k : Option TokenKind} (op : Operator) → IsMark (mark_of op) t → FoundAt (level_of op + 1) (v + 1) right w rs k
+  joins_to : {v w : ℕ} {t : Token} {right : Term} {rs : List Spelt} {k : Option TokenKind} (op : Operator) → IsMark (mark_of op) t → ParsedAt (level_of op + 1) (v + 1) right w rs k
       → Operates left v (joined op t.place left right) w (at t (v + 1) ∷ rs) k
-  chooses : {v w x : ℕ} {t : Token} (colon : Token) {a b : Term} {ms rs : List Spelt} {k : Option TokenKind} → IsMark mark.Question t → Spells 1 a (v + 1) ms w → IsMark mark.Colon colon → FoundAt 1 w b x rs k
+  chooses : {v w x : ℕ} {t : Token} (colon : Token) {a b : Term} {ms rs : List Spelt} {k : Option TokenKind} → IsMark mark.Question t → Spells 1 a (v + 1) ms w → IsMark mark.Colon colon → ParsedAt 1 w b x rs k
       → Operates left v (plain.Choose t.place left a b) x (at t (v + 1) ∷ (ms ++ (at colon w ∷ rs))) k
 
 -- an operation whose operator binds as tightly as n
-pub data GoesOn (n : ℕ) (left : Term) : ℕ → Term → ℕ → List Spelt → Option TokenKind → Type 0 where
-  goes_on : {v w : ℕ} {x : Term} {ls : List Spelt} {k : Option TokenKind} → Operates left v x w ls k → n ≤ binds (infix_of (first ls k)) → GoesOn n left v x w ls k
+pub data OperatesAt (n : ℕ) (left : Term) : ℕ → Term → ℕ → List Spelt → Option TokenKind → Type 0 where
+  goes_on : {v w : ℕ} {x : Term} {ls : List Spelt} {k : Option TokenKind} → Operates left v x w ls k → n ≤ binds (infix_of (first ls k)) → OperatesAt n left v x w ls k
 
 -- what is read so far of an expression at level n, and what stands after it
 pub data SoFar (n : ℕ) : ℕ → Term → ℕ → List Spelt → Option TokenKind → Type 0 where
@@ -79,7 +79,7 @@ two_at zero a e f = absurd (let z = f (omega arith) in omega arith)
 two_at (suc zero) a e f = absurd (let z = f (omega arith) in omega arith)
 two_at (suc (suc m)) a e f = omega arith
 
-join_with : {n v u w : ℕ} {x y : Term} {ls rs : List Spelt} {k : Option TokenKind} → GoesOn n x u y w rs k → SoFar n v x u ls (first rs k) → SoFar n v y w (ls ++ rs) k
+join_with : {n v u w : ℕ} {x y : Term} {ls rs : List Spelt} {k : Option TokenKind} → OperatesAt n x u y w rs k → SoFar n v x u ls (first rs k) → SoFar n v y w (ls ++ rs) k
 join_with {n} (goes_on (joins_to {t = t} op is (found r low)) high) (so_far m le s tight right) =
     let i : infix_of (Some t.kind) ≡ inf.Joins op = rw is (mark_infix op) in
     let same : binds (infix_of (Some t.kind)) ≡ level_of op = ap binds i in
@@ -89,7 +89,7 @@ join_with {n} (goes_on (chooses {t = t} colon is a hc (found r low)) high) (so_f
     let same : binds (infix_of (Some t.kind)) ≡ 1 = rw is in
     so_far 1 (omega arith) (sp.choose t colon (omega arith) (lower s 2 (two_at m _ same right)) is a hc r) (omega arith) (λ z. omega arith)
 
-pub join : {n v w : ℕ} {y : Term} {ls : List Spelt} {k : Option TokenKind} → Bind (SoFar n) (GoesOn n) v y w ls k → SoFar n v y w ls k
+pub join : {n v w : ℕ} {y : Term} {ls : List Spelt} {k : Option TokenKind} → Bind (SoFar n) (OperatesAt n) v y w ls k → SoFar n v y w ls k
 join (both a b) = join_with b a
 
 -- ---- what each rule finds, as an expression
@@ -108,21 +108,21 @@ named_of (both (part (name_is id h) c) by_nothing) = at_level (sp.read id h)
 pub literal_of : {v w : ℕ} {y : Term} {ls : List Spelt} {k : Option TokenKind} → Map (λ n. plain.Num n.place n.value) (Part Any NumberIs) v y w ls k → At 12 v y w ls k
 literal_of (mapped (part (number_is value h) c)) = at_level (sp.number value h)
 
-pub signed_of : {v w : ℕ} {y : Term} {ls : List Spelt} {k : Option TokenKind} (op : Unary) → Bind Opens (λ t. Map (λ z. plain.Un t.place op z) (FoundAt 12)) v y w ls k → first ls k ≡ Some (kind.Mark (sign_of op)) → At 12 v y w ls k
+pub signed_of : {v w : ℕ} {y : Term} {ls : List Spelt} {k : Option TokenKind} (op : Unary) → Bind Opens (λ t. Map (λ z. plain.Un t.place op z) (ParsedAt 12)) v y w ls k → first ls k ≡ Some (kind.Mark (sign_of op)) → At 12 v y w ls k
 signed_of op (both (opens {t = t}) (mapped (found s low))) e = let is : IsMark (sign_of op) t = cc in at_level (sp.unary op (omega arith) is s)
 
 pub round_of : {v w : ℕ} {y : Term} {ls : List Spelt} {k : Option TokenKind} → Part Any Brackets v y w ls k → At 12 v y w ls k
 round_of (part s c) = at_level (sp.bracketed s)
 
-join_map : {v w : ℕ} {t : Token} {left y : Term} {ls : List Spelt} {k : Option TokenKind} (op : Operator) → Map (λ z. joined op t.place left z) (FoundAt (level_of op + 1)) (v + 1) y w ls k
+join_map : {v w : ℕ} {t : Token} {left y : Term} {ls : List Spelt} {k : Option TokenKind} (op : Operator) → Map (λ z. joined op t.place left z) (ParsedAt (level_of op + 1)) (v + 1) y w ls k
     → Some t.kind ≡ Some (kind.Mark (mark_of op)) → Operates left v y w (at t (v + 1) ∷ ls) k
 join_map {v} {t = t} op (mapped s) e = let is : IsMark (mark_of op) t = cc in joins_to op is s
 
-pub joins_of : {v w : ℕ} {left y : Term} {ls : List Spelt} {k : Option TokenKind} (op : Operator) → Bind Opens (λ t. Map (λ z. joined op t.place left z) (FoundAt (level_of op + 1))) v y w ls k
+pub joins_of : {v w : ℕ} {left y : Term} {ls : List Spelt} {k : Option TokenKind} (op : Operator) → Bind Opens (λ t. Map (λ z. joined op t.place left z) (ParsedAt (level_of op + 1))) v y w ls k
     → first ls k ≡ Some (kind.Mark (mark_of op)) → Operates left v y w ls k
 joins_of op (both (opens {t = t}) m) e = join_map {t = t} op m e
 
-pub chooses_of : {v w : ℕ} {left y : Term} {ls : List Spelt} {k : Option TokenKind} → Bind Opens (λ t. Bind (FoundAt 1) (λ a. Bind (Tok fixed.Colon) (λ _. Map (λ c. plain.Choose t.place left a c) (FoundAt 1)))) v y w ls k
+pub chooses_of : {v w : ℕ} {left y : Term} {ls : List Spelt} {k : Option TokenKind} → Bind Opens (λ t. Bind (ParsedAt 1) (λ a. Bind (Tok fixed.Colon) (λ _. Map (λ c. plain.Choose t.place left a c) (ParsedAt 1)))) v y w ls k
     → first ls k ≡ Some (kind.Mark mark.Question) → Operates left v y w ls k
 chooses_of (both (opens {t = t}) (both (found s low) (both (tok {t = colon} hc) (mapped r)))) e = let is : IsMark mark.Question t = cc in chooses colon is s hc r
 
@@ -131,7 +131,7 @@ so_far_of {k = k} n top (at_level q) = let low = binds_small (infix_of k) in so_
 
 module _ (limit : ℕ) where
   abbrev pub Sounds : (ℕ → Parser Term) → Type 0
-  Sounds ex = (n : ℕ) → 1 ≤ n → n ≤ 12 → (i j : Input) (x : Term) → i.level ≤ limit → ex n i ≡ Ok (x, j) → Read limit (FoundAt n) x i j
+  Sounds ex = (n : ℕ) → 1 ≤ n → n ≤ 12 → (i j : Input) (x : Term) → i.level ≤ limit → ex n i ≡ Ok (x, j) → Read limit (ParsedAt n) x i j
 
   pub a_raise : Exact limit (raise limit) Opens (Reading limit (raise limit))
   a_raise = by_reading (λ i j t small h. so i j t (raised limit i.rest i.level t j h))
@@ -142,15 +142,15 @@ module _ (limit : ℕ) where
           record { spelt = at t (i.level + 1) ∷ []; front = c.front; spells = subst R (sym c.level) opens; within = (c.small, tt); small = omega (arith, c.level, c.small) }
 
   module _ (ex : ℕ → Parser Term) (sound : Sounds ex) where
-    an_expr : (n : ℕ) → 1 ≤ n → n ≤ 12 → Exact limit (ex n) (FoundAt n) (Reading limit (ex n))
+    an_expr : (n : ℕ) → 1 ≤ n → n ≤ 12 → Exact limit (ex n) (ParsedAt n) (Reading limit (ex n))
     an_expr n low high = by_reading (sound n low high)
 
-    pub own : Exact limit (ex 1) (FoundAt 1) (Reading limit (ex 1))
+    pub own : Exact limit (ex 1) (ParsedAt 1) (Reading limit (ex 1))
     own = an_expr 1 (omega arith) (omega arith)
 
     -- ---- an expression of its own
 
-    pub whole_of : (v w : ℕ) (x : Term) (ls : List Spelt) (k : Option TokenKind) → Scoped (FoundAt 1) v x w ls k → Part Any Whole v x w ls k
+    pub whole_of : (v w : ℕ) (x : Term) (ls : List Spelt) (k : Option TokenKind) → Scoped (ParsedAt 1) v x w ls k → Part Any Whole v x w ls k
     whole_of v w x ls k (inside (found s low)) = part (whole s) tt
 
     pub a_value : Exact limit (reading.value limit ex) (Part Any Whole) (Scoped (Reading limit (ex 1)))
@@ -159,14 +159,14 @@ module _ (limit : ℕ) where
 
     -- ---- brackets
 
-    pub brackets_of : (v w : ℕ) (x : Term) (ls : List Spelt) (k : Option TokenKind) → Enclosed fixed.LeftRound fixed.RightRound (λ _ y. y) (FoundAt 1) v x w ls k → Part Any Brackets v x w ls k
+    pub brackets_of : (v w : ℕ) (x : Term) (ls : List Spelt) (k : Option TokenKind) → Enclosed fixed.LeftRound fixed.RightRound (λ _ y. y) (ParsedAt 1) v x w ls k → Part Any Brackets v x w ls k
     brackets_of v w x ls k (between right hl (found s low) hr) = part (brackets right hl (whole s) hr) tt
 
     pub a_bracketed : Exact limit (reading.bracketed limit ex) (Part Any Brackets) (EnclosedBy limit fixed.LeftRound fixed.RightRound (λ _ y. y) (Reading limit (ex 1)))
     unfolding reading.bracketed
     a_bracketed = convert brackets_of (λ v w x ls k q. q) (enclosing fixed.LeftRound fixed.RightRound (λ _ y. y) own)
 
-    pub indexes_of : (v w : ℕ) (x : Term) (ls : List Spelt) (k : Option TokenKind) → Enclosed fixed.LeftSquare fixed.RightSquare (λ _ y. y) (FoundAt 1) v x w ls k → Part Any Indexes v x w ls k
+    pub indexes_of : (v w : ℕ) (x : Term) (ls : List Spelt) (k : Option TokenKind) → Enclosed fixed.LeftSquare fixed.RightSquare (λ _ y. y) (ParsedAt 1) v x w ls k → Part Any Indexes v x w ls k
     indexes_of v w x ls k (between right hl (found s low) hr) = part (indexes right hl (whole s) hr) tt
 
     pub an_indexed : Exact limit (reading.indexed limit ex) (Part Any Indexes) (EnclosedBy limit fixed.LeftSquare fixed.RightSquare (λ _ y. y) (Reading limit (ex 1)))
@@ -253,26 +253,26 @@ module _ (limit : ℕ) where
 
     -- ---- the loop
 
-    pub goes_of : (n : ℕ) (left : Term) (i j : Input) (x : Term) → i.level ≤ limit → n ≤ ahead i → operation limit ex left i ≡ Ok (x, j) → Read limit (GoesOn n left) x i j
+    pub goes_of : (n : ℕ) (left : Term) (i j : Input) (x : Term) → i.level ≤ limit → n ≤ ahead i → operation limit ex left i ≡ Ok (x, j) → Read limit (OperatesAt n left) x i j
     goes_of n left i j x small high h = read_as (s_operation left i j x small h) (λ ls e q. goes_on q (let f : binds (infix_of (first ls (kind_ahead j.rest))) ≡ ahead i = ap (λ k. binds (infix_of k)) e in omega arith))
 
     ClimbsTo : ℕ → Type 0
-    ClimbsTo turns = (n : ℕ) (x y : Term) (i j k : Input) → 1 ≤ n → Read limit (SoFar n) x i j → climb limit ex n turns x j ≡ Ok (y, k) → Read limit (FoundAt n) y i k
+    ClimbsTo turns = (n : ℕ) (x y : Term) (i j k : Input) → 1 ≤ n → Read limit (SoFar n) x i j → climb limit ex n turns x j ≡ Ok (y, k) → Read limit (ParsedAt n) y i k
 
-    s_stop : (n : ℕ) (x y : Term) (i j k : Input) → Read limit (SoFar n) x i j → ahead j < n → x ≡ y → j ≡ k → Read limit (FoundAt n) y i k
+    s_stop : (n : ℕ) (x y : Term) (i j k : Input) → Read limit (SoFar n) x i j → ahead j < n → x ≡ y → j ≡ k → Read limit (ParsedAt n) y i k
     s_stop n x y i j k g low e f =
-        let R : Input → Type 0 = λ z. Read limit (FoundAt n) x i z in
-        let S : Term → Type 0 = λ z. Read limit (FoundAt n) z i k in
+        let R : Input → Type 0 = λ z. Read limit (ParsedAt n) x i z in
+        let S : Term → Type 0 = λ z. Read limit (ParsedAt n) z i k in
         subst S e (subst R f (read_as g (λ ls h q. of q)))
       where
-        of : {v w : ℕ} {ls : List Spelt} → SoFar n v x w ls (kind_ahead j.rest) → FoundAt n v x w ls (kind_ahead j.rest)
+        of : {v w : ℕ} {ls : List Spelt} → SoFar n v x w ls (kind_ahead j.rest) → ParsedAt n v x w ls (kind_ahead j.rest)
         of (so_far m le s tight right) = found (lower s n le) low
 
     s_climb_turn : (turns : ℕ) → ClimbsTo turns → ClimbsTo (suc turns)
     unfolding climb ClimbsTo
     s_climb_turn turns ih n x y i j k pos g h = by_test (nat_lt (ahead j) n) refl h
       where
-        by_test : (b : Bool) → nat_lt (ahead j) n ≡ b → cond b (ok_of x j) (and_then (operation limit ex x j) (climb limit ex n turns)) ≡ Ok (y, k) → Read limit (FoundAt n) y i k
+        by_test : (b : Bool) → nat_lt (ahead j) n ≡ b → cond b (ok_of x j) (and_then (operation limit ex x j) (climb limit ex n turns)) ≡ Ok (y, k) → Read limit (ParsedAt n) y i k
         by_test true c h =
             let p = ok_pair x y j k h in
             let low : ahead j < n = grind arith in
@@ -281,14 +281,14 @@ module _ (limit : ℕ) where
             let high : n ≤ ahead j = grind arith in
             let s = step (operation limit ex x j) (climb limit ex n turns) (y, k) h in
             let o = goes_of n x j s.state s.value g.small high s.was in
-            let both' : Read limit (Bind (SoFar n) (GoesOn n)) s.value i s.state = then_read g o in
+            let both' : Read limit (Bind (SoFar n) (OperatesAt n)) s.value i s.state = then_read g o in
             ih n s.value y i s.state k pos (read_as both' (λ ls e q. join q)) s.goes
 
     s_climb_end : ClimbsTo zero
     unfolding climb ClimbsTo
     s_climb_end n x y i j k pos g h = by_test (nat_lt (ahead j) n) refl h
       where
-        by_test : (b : Bool) → nat_lt (ahead j) n ≡ b → cond b (ok_of x j) (Err (Syntax (length j.rest))) ≡ Ok (y, k) → Read limit (FoundAt n) y i k
+        by_test : (b : Bool) → nat_lt (ahead j) n ≡ b → cond b (ok_of x j) (Err (Syntax (length j.rest))) ≡ Ok (y, k) → Read limit (ParsedAt n) y i k
         by_test true c h = let p = ok_pair x y j k h in let low : ahead j < n = grind arith in s_stop n x y i j k g low p.0 p.1
         by_test false c h = absurd (cc)
 
@@ -296,7 +296,7 @@ module _ (limit : ℕ) where
     s_climb zero = s_climb_end
     s_climb (suc turns) = s_climb_turn turns (s_climb turns)
 
-    s_climbing : (n : ℕ) → 1 ≤ n → n ≤ 12 → (i j : Input) (x : Term) → i.level ≤ limit → reading.climbing limit ex n i ≡ Ok (x, j) → Read limit (FoundAt n) x i j
+    s_climbing : (n : ℕ) → 1 ≤ n → n ≤ 12 → (i j : Input) (x : Term) → i.level ≤ limit → reading.climbing limit ex n i ≡ Ok (x, j) → Read limit (ParsedAt n) x i j
     unfolding reading.climbing reading.operations ClimbsTo
     s_climbing n pos top i j x small h =
         let s = step (prefix limit ex i) (λ y k. climb limit ex n (length k.rest) y k) (x, j) h in

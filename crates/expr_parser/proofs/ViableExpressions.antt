@@ -31,7 +31,7 @@ use Rattle.expr_parser.proofs.Exact as exact
 use Rattle.expr_parser.proofs.Leaves as leaf
 use Rattle.expr_parser.proofs.Leaves.{token, Enclosed, between, Listed, end_of_list, next_of_list}
 use Rattle.expr_parser.proofs.Operators.{Begins, begins, Joins, joins, level_bounds}
-use Rattle.expr_parser.proofs.ExpressionSound.{At, at_level, FoundAt, found, Opens, opens, Behind_name, by_nothing, Operates, joins_to, chooses, GoesOn, goes_on, SoFar, so_far, lower, join, element_of, call_of, named_of, literal_of, signed_of, round_of, joins_of, chooses_of, so_far_of, Sounds, a_raise, own, whole_of, brackets_of, indexes_of, value_by, some_values, s_prefix, goes_of, sound}
+use Rattle.expr_parser.proofs.ExpressionSound.{At, at_level, ParsedAt, found, Opens, opens, Behind_name, by_nothing, Operates, joins_to, chooses, OperatesAt, goes_on, SoFar, so_far, lower, join, element_of, call_of, named_of, literal_of, signed_of, round_of, joins_of, chooses_of, so_far_of, Sounds, a_raise, own, whole_of, brackets_of, indexes_of, value_by, some_values, s_prefix, goes_of, sound}
 use Rattle.expr_parser.proofs.ExpressionComplete.{rises}
 use Rattle.expr_parser.proofs.Viable.{made, Least, Refused, Viable, Keeps, refused_here, refused_as, refused_so, refused_to, refused_second, Second, failed, bind, map_to, scope, convert, either_on, done_at}
 use Rattle.expr_parser.proofs.ViableLeaves.{part_keeps, token_keeps, token_at, raise_stops, a_name, a_number, name_here, number_here, enclosing, commas}
@@ -40,13 +40,13 @@ use Rattle.expr_parser.proofs.ViableLeaves.{part_keeps, token_keeps, token_at, r
 abbrev pub Plain : Option TokenKind → Type 0
 Plain k = binds (infix_of k) ≡ 0
 
-pub found_keeps : {low n : ℕ} {k : Option TokenKind} → 1 ≤ n → Plain k → Keeps low low (FoundAt n) k
+pub found_keeps : {low n : ℕ} {k : Option TokenKind} → 1 ≤ n → Plain k → Keeps low low (ParsedAt n) k
 found_keeps {low} {n} {k} pos' e = record { before = λ v w x ls o q. of q; rises = λ v w x ls o q le. le_of q le }
   where
-    of : {v w : ℕ} {x : Term} {ls : List Spelt} {o : Option TokenKind} → FoundAt n v x w ls o → FoundAt n v x w ls k
+    of : {v w : ℕ} {x : Term} {ls : List Spelt} {o : Option TokenKind} → ParsedAt n v x w ls o → ParsedAt n v x w ls k
     of (found s h) = found s (omega (arith, e))
 
-    le_of : {v w : ℕ} {x : Term} {ls : List Spelt} {o : Option TokenKind} → FoundAt n v x w ls o → low ≤ v → low ≤ w
+    le_of : {v w : ℕ} {x : Term} {ls : List Spelt} {o : Option TokenKind} → ParsedAt n v x w ls o → low ≤ v → low ≤ w
     le_of (found s h) le = omega (arith, rises s)
 
 opens_keep : {low : ℕ} {k : Option TokenKind} → Keeps low (low + 1) Opens k
@@ -63,10 +63,10 @@ opens_keep {low} {k} = record { before = λ v w x ls o q. of q; rises = λ v w x
 least_at : {m : ℕ} {k : Option TokenKind} (v : ℕ) → Least (At m) a_number k v
 least_at v = let t = made (kind.Number (pos 1)) in record { value = plain.Num t.place (pos 1); last = v; tokens = at t v ∷ []; spells = at_level (sp.number (pos 1) refl); begins = refl }
 
-found_at : {n v w : ℕ} {x : Term} {ls : List Spelt} {k : Option TokenKind} → 1 ≤ n → Plain k → At n v x w ls k → FoundAt n v x w ls k
+found_at : {n v w : ℕ} {x : Term} {ls : List Spelt} {k : Option TokenKind} → 1 ≤ n → Plain k → At n v x w ls k → ParsedAt n v x w ls k
 found_at pos' e (at_level s) = found s (omega (arith, e))
 
-pub least_found : {n : ℕ} {k : Option TokenKind} → 1 ≤ n → Plain k → (v : ℕ) → Least (FoundAt n) a_number k v
+pub least_found : {n : ℕ} {k : Option TokenKind} → 1 ≤ n → Plain k → (v : ℕ) → Least (ParsedAt n) a_number k v
 least_found pos' e v = let s = least_at v in record { value = s.value; last = s.last; tokens = s.tokens; spells = found_at pos' e s.spells; begins = s.begins }
 
 abbrev an_or : Option TokenKind
@@ -104,38 +104,38 @@ passes_given (between right hl (part (some_args s) c) hr) = part (passes right h
 -- an operation, or nothing more
 data Onward (n : ℕ) (left : Term) : ℕ → Term → ℕ → List Spelt → Option TokenKind → Type 0 where
   stays : {v : ℕ} {k : Option TokenKind} → Onward n left v left v [] k
-  goes : {v w : ℕ} {x : Term} {ls : List Spelt} {k : Option TokenKind} → GoesOn n left v x w ls k → Onward n left v x w ls k
+  goes : {v w : ℕ} {x : Term} {ls : List Spelt} {k : Option TokenKind} → OperatesAt n left v x w ls k → Onward n left v x w ls k
 
 least_onward : {n : ℕ} {left : Term} {k : Option TokenKind} (v : ℕ) → Least (Onward n left) k k v
 least_onward {n} {left} v = record { value = left; last = v; tokens = []; spells = stays; begins = refl }
 
-end_of : {n v w : ℕ} {y : Term} {ls : List Spelt} {k : Option TokenKind} → 1 ≤ n → Plain k → SoFar n v y w ls k → FoundAt n v y w ls k
+end_of : {n v w : ℕ} {y : Term} {ls : List Spelt} {k : Option TokenKind} → 1 ≤ n → Plain k → SoFar n v y w ls k → ParsedAt n v y w ls k
 end_of {n} low p (so_far m le s tight right) = found (lower s n le) (omega (arith, p))
 
 before_end : {n v w : ℕ} {y : Term} {ls : List Spelt} {o k : Option TokenKind} → Plain k → SoFar n v y w ls o → SoFar n v y w ls k
 before_end p (so_far m le s tight right) = so_far m le s (omega (arith, p)) (λ z. p)
 
-onward_of : {n v w : ℕ} {y : Term} {ls : List Spelt} {k : Option TokenKind} → 1 ≤ n → Plain k → Bind (SoFar n) (Onward n) v y w ls k → FoundAt n v y w ls k
-onward_of {n} {v} {w} {y} {ls} {k} low p (both {ls = ms} a stays) = let R : List Spelt → Type 0 = λ z. FoundAt n v y w z k in subst R (sym (append-nil ms)) (end_of low p a)
+onward_of : {n v w : ℕ} {y : Term} {ls : List Spelt} {k : Option TokenKind} → 1 ≤ n → Plain k → Bind (SoFar n) (Onward n) v y w ls k → ParsedAt n v y w ls k
+onward_of {n} {v} {w} {y} {ls} {k} low p (both {ls = ms} a stays) = let R : List Spelt → Type 0 = λ z. ParsedAt n v y w z k in subst R (sym (append-nil ms)) (end_of low p a)
 onward_of low p (both a (goes b)) = end_of low p (join (both a b))
 
 operates_rises : {left x : Term} {v w : ℕ} {ls : List Spelt} {k : Option TokenKind} → Operates left v x w ls k → v ≤ w
 operates_rises (joins_to op h (found s q)) = omega (arith, rises s)
 operates_rises (chooses colon h a c (found s q)) = omega (arith, rises a, rises s)
 
-goes_rises : {n : ℕ} {left x : Term} {v w : ℕ} {ls : List Spelt} {k : Option TokenKind} → GoesOn n left v x w ls k → v ≤ w
+goes_rises : {n : ℕ} {left x : Term} {v w : ℕ} {ls : List Spelt} {k : Option TokenKind} → OperatesAt n left v x w ls k → v ≤ w
 goes_rises (goes_on q h) = operates_rises q
 
 at_rises : {n : ℕ} {x : Term} {v w : ℕ} {ls : List Spelt} {k : Option TokenKind} → At n v x w ls k → v ≤ w
 at_rises (at_level s) = rises s
 
-found_lower : {n v w : ℕ} {y : Term} {ls : List Spelt} {k : Option TokenKind} → 1 ≤ n → n ≤ 12 → Plain k → At 12 v y w ls k → FoundAt n v y w ls k
+found_lower : {n v w : ℕ} {y : Term} {ls : List Spelt} {k : Option TokenKind} → 1 ≤ n → n ≤ 12 → Plain k → At 12 v y w ls k → ParsedAt n v y w ls k
 found_lower {n} low top p (at_level s) = found (lower s n top) (omega (arith, p))
 
 module _ (limit : ℕ) where
   -- from the level low on, an expression is refused after the front of one
   abbrev pub Views : ℕ → (ℕ → Parser Term) → Type 0
-  Views low ex = (n : ℕ) → 1 ≤ n → n ≤ 12 → (k : Option TokenKind) → Plain k → Viable limit low (ex n) (FoundAt n) a_number k
+  Views low ex = (n : ℕ) → 1 ≤ n → n ≤ 12 → (k : Option TokenKind) → Plain k → Viable limit low (ex n) (ParsedAt n) a_number k
 
   raise_at : {low : ℕ} {k : Option TokenKind} → Viable limit low (raise limit) Opens (Some (kind.Mark mark.Minus)) k
   raise_at {low} {k} = record { refused = λ i e deep small h. raise_stops i e small h (le i.level) (λ t ts s. record { value = t; last = i.level + 1; behind = []; spells = opens }); least = le }
@@ -188,7 +188,7 @@ module _ (limit : ℕ) where
       unfolding reading.named
       named_at = convert (λ v w x ls o q. named_of q) (bind (leaf.a_name limit) part_keeps name_here behind_at)
 
-      sign_at : {k : Option TokenKind} (op : _) → Plain k → Viable limit low (λ i. prefix_by limit ex (beg.Sign op) i) (Bind Opens (λ t. Map (λ z. plain.Un t.place op z) (FoundAt 12))) (Some (kind.Mark mark.Minus)) k
+      sign_at : {k : Option TokenKind} (op : _) → Plain k → Viable limit low (λ i. prefix_by limit ex (beg.Sign op) i) (Bind Opens (λ t. Map (λ z. plain.Un t.place op z) (ParsedAt 12))) (Some (kind.Mark mark.Minus)) k
       sign_at {k} op e = bind (a_raise limit) opens_keep raise_at (λ t. map_to (λ y. plain.Un t.place op y) (view 12 (omega arith) (omega arith) k e))
 
       prefix_stops : {k : Option TokenKind} → Plain k → (s : Start) (i : Input) (e : Fault) → Begins (kind_ahead i.rest) s → low ≤ i.level → i.level ≤ limit → prefix_by limit ex s i ≡ Err e → Refused limit (At 12) k i e
@@ -205,12 +205,12 @@ module _ (limit : ℕ) where
 
       -- ---- operators
 
-      joins_at : {k : Option TokenKind} (left : Term) (op : _) → Plain k → Viable limit low (λ i. operation_by limit ex left (inf.Joins op) i) (Bind Opens (λ t. Map (λ z. joined op t.place left z) (FoundAt (level_of op + 1)))) (Some (kind.Mark mark.Minus)) k
+      joins_at : {k : Option TokenKind} (left : Term) (op : _) → Plain k → Viable limit low (λ i. operation_by limit ex left (inf.Joins op) i) (Bind Opens (λ t. Map (λ z. joined op t.place left z) (ParsedAt (level_of op + 1)))) (Some (kind.Mark mark.Minus)) k
       joins_at {k} left op e =
           let bounds = level_bounds op in
           bind (a_raise limit) opens_keep raise_at (λ t. map_to (λ y. joined op t.place left y) (view (level_of op + 1) (omega arith) (omega (arith, bounds.1)) k e))
 
-      chosen_at : {k : Option TokenKind} (left : Term) → Plain k → Viable limit low (reading.chosen limit ex left) (Bind Opens (λ t. Bind (FoundAt 1) (λ a. Bind (leaf.Tok fixed.Colon) (λ _. Map (λ c. plain.Choose t.place left a c) (FoundAt 1))))) (Some (kind.Mark mark.Minus)) k
+      chosen_at : {k : Option TokenKind} (left : Term) → Plain k → Viable limit low (reading.chosen limit ex left) (Bind Opens (λ t. Bind (ParsedAt 1) (λ a. Bind (leaf.Tok fixed.Colon) (λ _. Map (λ c. plain.Choose t.place left a c) (ParsedAt 1))))) (Some (kind.Mark mark.Minus)) k
       unfolding reading.chosen
       chosen_at {k} left e =
           bind (a_raise limit) opens_keep raise_at (λ t. bind (own limit ex so) (found_keeps (omega arith) refl) (view 1 (omega arith) (omega arith) (Some (kind_of fixed.Colon)) refl)
@@ -228,16 +228,16 @@ module _ (limit : ℕ) where
       -- ---- the loop
 
       abbrev ClimbRefused : Option TokenKind → ℕ → Type 0
-      ClimbRefused k turns = (n : ℕ) (x : Term) (i j : Input) (e : Fault) → 1 ≤ n → low ≤ j.level → Read limit (SoFar n) x i j → climb limit ex n turns x j ≡ Err e → Refused limit (FoundAt n) k i e
+      ClimbRefused k turns = (n : ℕ) (x : Term) (i j : Input) (e : Fault) → 1 ≤ n → low ≤ j.level → Read limit (SoFar n) x i j → climb limit ex n turns x j ≡ Err e → Refused limit (ParsedAt n) k i e
 
-      fails_on : {k : Option TokenKind} → Plain k → (n : ℕ) (x : Term) (i j : Input) (e : Fault) → 1 ≤ n → Read limit (SoFar n) x i j → Refused limit (Onward n x) k j e → Refused limit (FoundAt n) k i e
+      fails_on : {k : Option TokenKind} → Plain k → (n : ℕ) (x : Term) (i j : Input) (e : Fault) → 1 ≤ n → Read limit (SoFar n) x i j → Refused limit (Onward n x) k j e → Refused limit (ParsedAt n) k i e
       fails_on p n x i j e pos' g r = refused_so (refused_second g (before_end p g.spells) (least_onward j.level) r) (λ ls s. record { value = s.value; last = s.last; behind = s.behind; spells = onward_of pos' p s.spells })
 
       fails_end : {k : Option TokenKind} → Plain k → ClimbRefused k zero
       unfolding climb
       fails_end {k} p n x i j e pos' deep g h = by_test (nat_lt (ahead j) n) h
         where
-          by_test : (b : Bool) → cond b (ok_of x j) (Err (Syntax (length j.rest))) ≡ Err e → Refused limit (FoundAt n) k i e
+          by_test : (b : Bool) → cond b (ok_of x j) (Err (Syntax (length j.rest))) ≡ Err e → Refused limit (ParsedAt n) k i e
           by_test true h = absurd (cc)
           by_test false h = fails_on p n x i j e pos' g (refused_here (least_onward j.level) (cc))
 
@@ -245,16 +245,16 @@ module _ (limit : ℕ) where
       unfolding climb
       fails_turn {k} p turns ih n x i j e pos' deep g h = by_test (nat_lt (ahead j) n) refl h
         where
-          on' : n ≤ ahead j → (operation limit ex x j ≡ Err e) ⊎ Second (operation limit ex x j) (climb limit ex n turns) e → Refused limit (FoundAt n) k i e
+          on' : n ≤ ahead j → (operation limit ex x j ≡ Err e) ⊎ Second (operation limit ex x j) (climb limit ex n turns) e → Refused limit (ParsedAt n) k i e
           on' high (inl z) =
               fails_on p n x i j e pos' g (refused_as ((operation_at x p).refused j e deep g.small z) (least_onward j.level)
               (λ w y ls f q. goes (goes_on q (let u : binds (infix_of (first ls k)) ≡ ahead j = ap (λ o. binds (infix_of o)) f in omega arith))))
           on' high (inr z) =
               let o = goes_of limit ex so n x j z.state z.value g.small high z.was in
-              let both' : Read limit (Bind (SoFar n) (GoesOn n)) z.value i z.state = then_read g o in
+              let both' : Read limit (Bind (SoFar n) (OperatesAt n)) z.value i z.state = then_read g o in
               ih n z.value i z.state e pos' (omega (arith, goes_rises o.spells)) (read_as both' (λ ls e q. join q)) z.goes
 
-          by_test : (b : Bool) → nat_lt (ahead j) n ≡ b → cond b (ok_of x j) (and_then (operation limit ex x j) (climb limit ex n turns)) ≡ Err e → Refused limit (FoundAt n) k i e
+          by_test : (b : Bool) → nat_lt (ahead j) n ≡ b → cond b (ok_of x j) (and_then (operation limit ex x j) (climb limit ex n turns)) ≡ Err e → Refused limit (ParsedAt n) k i e
           by_test true c h = absurd (cc)
           by_test false c h = on' (grind arith) (failed (operation limit ex x j) (climb limit ex n turns) e h)
 
@@ -262,11 +262,11 @@ module _ (limit : ℕ) where
       fails p zero = fails_end p
       fails p (suc turns) = fails_turn p turns (fails p turns)
 
-      climbing_stops : (n : ℕ) → 1 ≤ n → n ≤ 12 → (k : Option TokenKind) → Plain k → (i : Input) (e : Fault) → low ≤ i.level → i.level ≤ limit → reading.climbing limit ex n i ≡ Err e → Refused limit (FoundAt n) k i e
+      climbing_stops : (n : ℕ) → 1 ≤ n → n ≤ 12 → (k : Option TokenKind) → Plain k → (i : Input) (e : Fault) → low ≤ i.level → i.level ≤ limit → reading.climbing limit ex n i ≡ Err e → Refused limit (ParsedAt n) k i e
       unfolding reading.climbing reading.operations
       climbing_stops n pos' top k p i e deep small h = of (failed (prefix limit ex i) (λ y o. climb limit ex n (length o.rest) y o) e h)
         where
-          of : (prefix limit ex i ≡ Err e) ⊎ Second (prefix limit ex i) (λ y o. climb limit ex n (length o.rest) y o) e → Refused limit (FoundAt n) k i e
+          of : (prefix limit ex i ≡ Err e) ⊎ Second (prefix limit ex i) (λ y o. climb limit ex n (length o.rest) y o) e → Refused limit (ParsedAt n) k i e
           of (inl z) = refused_so ((prefix_at p).refused i e deep small z) (λ ls s. record { value = s.value; last = s.last; behind = s.behind; spells = found_lower pos' top p s.spells })
           of (inr z) =
               let g = s_prefix limit ex so i z.state z.value small z.was in

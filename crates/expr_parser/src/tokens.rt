@@ -11,11 +11,9 @@ ghost use Rattle.expr_parser.specs.Reading as reading;
 use crate::fault::Fault;
 use crate::fixed::{Fixed, is_fixed};
 use crate::meaning::{name_of, number_of};
+use forec_base::MAX_LEVEL;
 use forec_tree::{Name, Number, Token, TokenKind};
 use std::marker::Model;
-
-/// The greatest level of a program.
-pub const MAX_LEVEL: u32 = 128;
 
 /// The tokens from the next one on, and the level after the last one that was read.
 #[derive(Drop)]

@@ -7,9 +7,9 @@ use Rattle.forec_tree.specs.Terms.{Text, PlainItem, IsGlobal, IsFunction, PlainF
 use Rattle.forec_tree.specs.Scopes.{name_of, find_item, no_scope, with_params}
 use Rattle.forec_tree.specs.Findings.{in_params, in_statements}
 use Rattle.forec_tree.specs.Rules.{Judging, fault_if, is_long, some_returns, findings_faults}
-use Rattle.forec_tree.specs.Pauses.{find_function, all_started, starts, function_starts}
-use Rattle.forec_tree.specs.Faults.{Before, is_in, Leads, at_once, through, calls_of, called_in, in_function, item_named, Member, here, later, Circles, IsEarly, text_faults, main_faults, items_faults, item_faults, function_faults, after_item, none_before}
-use Rattle.loop_check.proofs.Indexed.{split}
+use Rattle.forec_tree.specs.Pauses.{find_function, all_started, callees_of, function_callees}
+use Rattle.forec_tree.specs.Faults.{Before, is_in, Leads, at_once, through, calls_of, called_in, in_function, item_named, Member, here, later, Recursive, IsEarly, text_faults, main_faults, items_faults, item_faults, function_faults, after_item, none_before}
+use Rattle.loop_check.proofs.IndexLemmas.{split}
 use Rattle.forec_check.proofs.Recursion.{found_member}
 use Rattle.forec_check.proofs.Started.{nil_right, nil_left, calls_all, called_right, clean_right}
 
@@ -62,10 +62,10 @@ module _ (text : Text) (names : List (List ℕ)) (none : (f : Fault) → IsEarly
   clean_items = nil_right (main_faults text names) (items_faults text names none_before text) (no_members (text_faults text names) (λ f p. none f (inl p)))
 
   -- what a function calls or starts it calls in its findings
-  sub : (f g : ℕ) → is_in g (starts text f) ≡ true → is_in g (calls_of text f) ≡ true
+  sub : (f g : ℕ) → is_in g (callees_of text f) ≡ true → is_in g (calls_of text f) ≡ true
   sub f g h = pick (find_item f text) refl h
     where
-      pick : (i : Option PlainItem) → find_item f text ≡ i → is_in g (function_starts (elim i [ None ↦ None | Some (IsGlobal x) ↦ None | Some (IsFunction x) ↦ Some x ])) ≡ true →
+      pick : (i : Option PlainItem) → find_item f text ≡ i → is_in g (function_callees (elim i [ None ↦ None | Some (IsGlobal x) ↦ None | Some (IsFunction x) ↦ Some x ])) ≡ true →
           is_in g (elim (find_item f text) [ None ↦ [] | Some (IsGlobal x) ↦ [] | Some (IsFunction x) ↦ called_in (in_function text x) ]) ≡ true
       pick None e q = absurd (let z : false ≡ true = q in cc)
       pick (Some (IsGlobal x)) e q = absurd (let z : false ≡ true = q in cc)
@@ -75,7 +75,7 @@ module _ (text : Text) (names : List (List ℕ)) (none : (f : Fault) → IsEarly
           let body = in_statements text (with_params no_scope x.params) x.body in
           rw e (called_right g params body (calls_all (judge names x) text (with_params no_scope x.params) x.body (clean_right (judge names x) params body clean) g q))
 
-  leads_sub : {f g : ℕ} → Leads (starts text) f g → Leads (calls_of text) f g
+  leads_sub : {f g : ℕ} → Leads (callees_of text) f g → Leads (calls_of text) f g
   leads_sub {f} {g} (at_once e) = at_once (sub f g e)
   leads_sub {f} {g} (through {g = m} e r) = through (sub f m e) (leads_sub r)
 
@@ -95,5 +95,5 @@ module _ (text : Text) (names : List (List ℕ)) (none : (f : Fault) → IsEarly
         is = refl;
       }))
 
-  pub no_circle : (f : ℕ) → Leads (starts text) f f → ⊥
+  pub no_circle : (f : ℕ) → Leads (callees_of text) f f → ⊥
   no_circle f l = no_reach f (leads_sub l)

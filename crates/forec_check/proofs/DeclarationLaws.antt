@@ -9,7 +9,7 @@ use Rattle.forec_tree.specs.declared.uses.Seen.{Seen}
 use Rattle.forec_tree.specs.Scopes.{find_last, is_among}
 use Rattle.forec_check.specs.declared.scopes.declaration.Declaration.{Declaration}
 use Rattle.forec_check.specs.Declarations.{blank, seen, last_from, last_of, Chained, latest_put, pushed}
-use Rattle.loop_check.proofs.Indexed.{split}
+use Rattle.loop_check.proofs.IndexLemmas.{split}
 
 pub last_append : (id at f : ℕ) (xs ys : List Declaration) → last_from id at f (xs ++ ys) ≡ last_from id (at + length xs) (last_from id at f xs) ys
 last_append id at f [] ys = let e : at + 0 ≡ at = omega arith in ap (λ n. last_from id n f ys) (sym e)

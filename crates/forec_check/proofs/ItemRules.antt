@@ -24,7 +24,7 @@ use Rattle.forec_check.specs.declared.walk.item_counts.ItemCounts.{ItemCounts}
 use Rattle.forec_check.specs.Walk.{NotesView, walked, effects_of, effects_lists}
 use Rattle.forec_check.specs.Items.{is_extra, before_of, head_faults, in_item, counts_after, CountsBelow}
 use Rattle.forec_check.specs.Views.{judging}
-use Rattle.forec_check.proofs.Walked.{walked-append, walked-none}
+use Rattle.forec_check.proofs.WalkLemmas.{walked-append, walked-none}
 use Rattle.forec_check.proofs.Parts.{two, then}
 
 pub no_combine : (text : Text) (c : Option Combine) (kept : Option Fault) → c ≡ None → kept ≡ least_from kept (combine_faults text c)

@@ -15,7 +15,7 @@ use Rattle.forec_check.specs.Early.{Kept}
 use Rattle.forec_check.specs.AccessScan.{instances_of, namings}
 use Rattle.forec_check.proofs.AccessLaws.{tree_namings}
 use Rattle.forec_check.specs.AccessCounts.{access_fault, access_faults}
-use Rattle.forec_check.proofs.Looping.{loops_append}
+use Rattle.forec_check.proofs.LoopLemmas.{loops_append}
 use Rattle.forec_check.proofs.LoopFaults.{either_of, on_left, on_right, function_loops}
 use Rattle.forec_check.proofs.Recursion.{kept_list, same_kept}
 

@@ -10,7 +10,7 @@ use Rattle.forec_tree.specs.Findings.{Finding, Use, Declares, Bound, Loop, Synch
 use Rattle.forec_tree.specs.Rules.{fault_if, endless, loop_place, loop_faults}
 use Rattle.forec_tree.specs.Faults.{Member, here, later}
 use Rattle.forec_check.specs.Loops.{loops_in, loops_in_all, loops_in_perhaps, loops_in_branches, loops_faults}
-use Rattle.forec_check.proofs.Looping.{loops_append}
+use Rattle.forec_check.proofs.LoopLemmas.{loops_append}
 
 -- ---- the same faults in any order
 

@@ -15,11 +15,11 @@ use Rattle.forec_tree.specs.Parts.{in_order, Launch, launched, Head}
 use Rattle.forec_tree.specs.Spelling as sp
 use Rattle.forec_tree.specs.Spelling.{Spelt, IsName, joined, listed, tokens, Spells, Whole, Brackets, Indexes, Passes, Arguments}
 use Rattle.forec_tree.specs.SpelledStatements as st
-use Rattle.forec_tree.specs.SpelledStatements.{Separated, Targets, Simple, Lengths, Declares, Bounds, LoopStarts, Tests, Steps, HeadParts, Heads, Optional, Says, Block, Lists, Forks, Starting, Launches}
+use Rattle.forec_tree.specs.SpelledStatements.{Separated, Targets, Simple, Lengths, Declares, Bounds, ForStarts, Tests, ForSteps, HeadParts, Heads, Optional, Says, Block, Lists, Forks, Starting, Launches}
 use Rattle.forec_tree.specs.SpelledPrograms as pr
 use Rattle.forec_tree.specs.SpelledPrograms.{Signed, Named, Scalar, Table, Sharing, Combines, Param, Params, Parameters, Introduces, Programs, IsSpelled}
 use Rattle.forec_tree.specs.LexedText.{IsNumbered, AreDistinct}
-use Rattle.forec_check.specs.Checks.{Distinct, term_names, terms_names, optional_names, locals_names, statement_names, statements_names, perhaps_names, branches_names, combine_names, item_names, text_names, IdsBelow}
+use Rattle.forec_check.specs.Faultless.{Distinct, term_names, terms_names, optional_names, locals_names, statement_names, statements_names, perhaps_names, branches_names, combine_names, item_names, text_names, IdsBelow}
 
 module _ (n : ℕ) where
   -- a token that is a name has a number below n
@@ -125,7 +125,7 @@ module _ (n : ℕ) where
 
   -- ---- loops
 
-  of_start : {v : ℕ} {x : Perhaps} {ls : List Spelt} → LoopStarts x v ls → AreLow ls → AreBelow (perhaps_names x)
+  of_start : {v : ℕ} {x : Perhaps} {ls : List Spelt} → ForStarts x v ls → AreLow ls → AreBelow (perhaps_names x)
   of_start st.no_start h = tt
   of_start (st.simple_start s) h = of_simple s h
   of_start (st.declared_start {value = e} id is also equal s) h =
@@ -135,7 +135,7 @@ module _ (n : ℕ) where
   of_test st.no_test h = tt
   of_test (st.some_test s) h = of_whole s h
 
-  of_step : {v : ℕ} {x : Perhaps} {ls : List Spelt} → Steps x v ls → AreLow ls → AreBelow (perhaps_names x)
+  of_step : {v : ℕ} {x : Perhaps} {ls : List Spelt} → ForSteps x v ls → AreLow ls → AreBelow (perhaps_names x)
   of_step st.no_step h = tt
   of_step (st.some_step s) h = of_simple s h
 
@@ -246,7 +246,7 @@ module _ (n : ℕ) where
   of_declaration (pr.inputs semicolon {ls = ls} a b s c) h = of_globals (Named _) (λ x v ls p low. of_named p low) s (front ls _ h.1.1)
   of_declaration (pr.outputs semicolon {ls = ls} a b s c) h = of_globals (Scalar _ None) (λ x v ls p low. of_scalar p low tt) s (front ls _ h.1.1)
   of_declaration (pr.globals semicolon {ls = ls} a s b) h = of_globals (Scalar _ None) (λ x v ls p low. of_scalar p low tt) s (front ls _ h.1)
-  of_declaration (pr.shares int semicolon {ls = ls} {ms = ms} {rs = rs} a b s r c) h =
+  of_declaration (pr.shared_globals int semicolon {ls = ls} {ms = ms} {rs = rs} a b s r c) h =
       let scalar = (behind ls _ h).1 in
       (of_scalar s (front ms _ scalar) (of_combine r (front rs _ (behind ms _ scalar))), tt)
   of_declaration (pr.function {names = xs} {body = body} {ls = ls} gives id a b s r) h =

@@ -14,7 +14,7 @@ use Rattle.forec_tree.specs.Plain.{term, terms, term_at}
 use Rattle.forec_tree.specs.Findings.{Finding, use_at, in_term, in_terms}
 use Rattle.forec_tree.specs.Rules.{Judging}
 use Rattle.forec_check.specs.Walk.{NotesView, walked}
-use Rattle.forec_check.proofs.Walked.{walked-append, walked-none}
+use Rattle.forec_check.proofs.WalkLemmas.{walked-append, walked-none}
 use Rattle.forec_tree.proofs.Rows.{term-call}
 
 -- two parts, one after the other

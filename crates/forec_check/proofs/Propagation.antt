@@ -8,7 +8,7 @@ use Rattle.forec_tree.specs.Pauses.{find_function}
 use Rattle.forec_check.specs.AccessScan.{instances_of}
 use Rattle.forec_tree.specs.Faults.{is_in}
 use Rattle.loop_check.specs.Known.{is_function}
-use Rattle.loop_check.proofs.Indexed.{split}
+use Rattle.loop_check.proofs.IndexLemmas.{split}
 use Rattle.loop_check.proofs.Ordered.{place_of}
 use Rattle.forec_check.specs.declared.instances.call_sites.CallSites.{CallSites}
 use Rattle.forec_check.specs.declared.instances.call_sites.CallSites.TheVariants as sites

@@ -18,12 +18,12 @@ use Rattle.forec_tree.specs.Findings as finding
 use Rattle.forec_tree.specs.Findings.{Finding}
 use Rattle.forec_tree.specs.Rules.{fault_if, is_none}
 use Rattle.forec_tree.specs.Pauses.{find_function}
-use Rattle.forec_tree.specs.Faults.{is_in, Leads, at_once, through, Reaches, calls_of, called_in, in_function, item_named, Member, here, later, IsLeast, Circles, IsEarly, is_before, text_faults}
+use Rattle.forec_tree.specs.Faults.{is_in, Leads, at_once, through, Reaches, calls_of, called_in, in_function, item_named, Member, here, later, IsLeast, Recursive, IsEarly, is_before, text_faults}
 use Rattle.forec_check.specs.Least.{lesser, least_from}
 use Rattle.forec_check.proofs.LeastLaws.{before_trans, before_self, before_flip, lesser_none, lesser_kept, lesser_is, none_least, is_least}
 use Rattle.loop_check.specs.Graph.{IsOrder, FunctionsCall}
 use Rattle.loop_check.specs.Known.{Read, list_at, IsListOf}
-use Rattle.loop_check.proofs.Indexed.{split}
+use Rattle.loop_check.proofs.IndexLemmas.{split}
 use Rattle.loop_check.proofs.Ordered.{place_of, is_in_at}
 use Rattle.loop_check.proofs.Settled.{front_at, get_take}
 use Rattle.loop_check.proofs.Reading.{next_of, leads_same}

@@ -10,7 +10,7 @@ use Rattle.forec_check.specs.AccessScan.{TextAccess, AccessScan, no_access, star
 use Rattle.forec_tree.specs.Faults.{is_in, Leads, at_once, through, calls_of, called_in}
 use Rattle.forec_tree.proofs.Reach.{append}
 use Rattle.loop_check.specs.Known.{list_at}
-use Rattle.loop_check.proofs.Indexed.{split}
+use Rattle.loop_check.proofs.IndexLemmas.{split}
 use Rattle.forec_check.specs.declared.walk.effects.Effect.{Effect}
 use Rattle.forec_check.specs.declared.walk.effects.Effect.TheVariants as effect
 use Rattle.forec_check.specs.declared.instances.call_sites.CallSite.{CallSite}
@@ -21,7 +21,7 @@ use Rattle.forec_check.specs.Walk.{effects_of}
 use Rattle.forec_check.specs.AccessCounts.{effects_in, scan_effect, scan_effects}
 use Rattle.forec_check.specs.CallSites.{same_call_site, is_within, opened, SiteMaps, InstanceView, left, inside_after, Holds, Settled, body_settled, start_site}
 use Rattle.forec_check.proofs.Recursion.{calls_is, calls_at}
-use Rattle.forec_check.proofs.AccessCounting.{effects_tell}
+use Rattle.forec_check.proofs.AccessCountLemmas.{effects_tell}
 
 -- ---- sets of sites
 

@@ -14,11 +14,11 @@ use Rattle.forec_tree.specs.Findings.{Finding, Use, use_at, in_bound, in_terms, 
 use Rattle.forec_tree.specs.Rules.{Judging, use_faults, finding_faults, findings_faults}
 use Rattle.forec_tree.specs.Pauses.{started, all_started, perhaps_started, branches_started}
 use Rattle.forec_tree.specs.Faults.{is_in, called_in}
-use Rattle.forec_tree.proofs.Found.{findings-append}
-use Rattle.loop_check.proofs.Indexed.{split}
+use Rattle.forec_tree.proofs.FindingFaults.{findings-append}
+use Rattle.loop_check.proofs.IndexLemmas.{split}
 use Rattle.forec_check.specs.Walk.{effects_of}
 use Rattle.forec_check.specs.Early.{effect_calls}
-use Rattle.forec_check.proofs.Walked.{effects-append}
+use Rattle.forec_check.proofs.WalkLemmas.{effects-append}
 use Rattle.forec_check.proofs.Recursion.{effect_calls-append, calls_is}
 
 pub nil_left : {A : Type 0} (xs ys : List A) → xs ++ ys ≡ [] → xs ≡ []

@@ -18,7 +18,7 @@ use Rattle.forec_tree.specs.Plain.{term, terms, written, optional_term, declared
 use Rattle.forec_tree.specs.Findings.{Finding, Declares, Loop, Synchronous, use_at, in_term, in_terms, in_target, in_bound, in_local, in_locals, in_statement, in_statements}
 use Rattle.forec_tree.specs.Rules.{Judging}
 use Rattle.forec_check.specs.Walk.{NotesView, walked}
-use Rattle.forec_check.proofs.Walked.{walked-append, walked-none, passed_loop}
+use Rattle.forec_check.proofs.WalkLemmas.{walked-append, walked-none, passed_loop}
 use Rattle.forec_tree.proofs.Rows.{statement-group, statement-abort}
 use Rattle.std.proofs.Math.Seq.{drop-cons}
 use Rattle.std.proofs.lemmas.List.{drop_all}

@@ -8,7 +8,7 @@ use Rattle.forec_check.specs.declared.instances.call_sites.CallSite.{CallSite}
 use Rattle.forec_check.specs.declared.instances.call_sites.CallSites.{CallSites}
 use Rattle.forec_check.specs.declared.instances.call_sites.CallSites.TheVariants as sites
 use Rattle.forec_check.specs.declared.instances.propagate.SiteTables.{SiteTables}
-use Rattle.forec_check.specs.declared.instances.propagate.InstanceStack.{InstanceStack}
+use Rattle.forec_check.specs.declared.instances.propagate.OpenInstances.{OpenInstances}
 use Rattle.forec_check.specs.AccessCounts.{effects_in}
 
 abbrev pub same_call_site : CallSite → CallSite → Bool
@@ -55,7 +55,7 @@ pub record InstanceView : Type 0 where
   pub here : CallSites
   pub round : List CallSites
 
-abbrev pub instances_around : InstanceStack → InstanceView
+abbrev pub instances_around : OpenInstances → InstanceView
 instances_around r = record { here = r.here; round = reverse r.round.items }
 
 abbrev pub left : CallSites → List CallSites → InstanceView
@@ -81,7 +81,7 @@ pub record Rests (t : SiteMaps) (e : Effect) (site : CallSites) (before after : 
   pub next : after ≡ inside_after e site before
 
 -- the same of the tables and the instances as they are kept
-abbrev pub RestsAround : SiteTables → Effect → CallSites → InstanceStack → InstanceStack → Type 0
+abbrev pub RestsAround : SiteTables → Effect → CallSites → OpenInstances → OpenInstances → Type 0
 RestsAround tables e site before after = Rests (tables_of tables) e site (instances_around before) (instances_around after)
 
 -- The tables hold what the effects from number n on of the body of f tell, and each block in it ends.

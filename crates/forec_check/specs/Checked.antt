@@ -16,7 +16,7 @@ text_of c = program c.program
 abbrev pub names_of : Checked → List (List ℕ)
 names_of c = c.names.now
 
--- a refusal tells the least fault; want of memory is free
+-- a refusal tells the least fault; out of memory is free
 abbrev pub Causes : CheckFault → Text → List (List ℕ) → Type 0
 Causes (fault.Broken place rule) text names = IsLeast (record { place = place; rule = rule }) (IsFault text names)
 Causes fault.OutOfMemory text names = Unit {0}

@@ -3,7 +3,7 @@ pub mod AccessScan
 pub mod Declarations
 pub mod Views
 pub mod Walk
-pub mod Walks
+pub mod WalkParts
 pub mod Items
 pub mod Early
 pub mod Loops
@@ -12,5 +12,5 @@ pub mod AccessCounts
 pub mod CallSites
 pub mod SingleAccess
 pub mod Instances
-pub mod Checks
+pub mod Faultless
 pub mod Checked

@@ -2,13 +2,13 @@
 
 ghost use Rattle.std.specs.Prelude.{◌≡◌, length};
 ghost use Rattle.forec_tree.specs.Plain as plain;
-ghost use Rattle.forec_check.specs.Checks.{Faultless, Distinct, IdsBelow};
+ghost use Rattle.forec_check.specs.Faultless.{Faultless, Distinct, IdsBelow};
 
 use forec_base::Labels;
 use forec_tree::Program;
 
 /// A program that breaks no rule, with the names that its numbers stand for. The type keeps that no
-/// two of the names are spelled alike, and that each number of a name is below their number.
+/// two of the names are spelled alike, and that each name's number is less than how many names there are.
 #[derive(Drop)]
 pub struct Checked<'n> {
     program: Program,

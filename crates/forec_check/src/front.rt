@@ -2,7 +2,7 @@
 
 ghost use Rattle.std.specs.Prelude.{◌≡◌, length, IfOk, IfErr};
 ghost use Rattle.forec_tree.specs.Plain as plain;
-ghost use Rattle.forec_check.specs.Checks.{Distinct, IdsBelow};
+ghost use Rattle.forec_check.specs.Faultless.{Distinct, IdsBelow};
 ghost use Rattle.forec_check.specs.Checked.{text_of, names_of, Causes};
 
 use crate::check_fault::CheckFault;
@@ -13,9 +13,8 @@ use forec_tree::Program;
 use std::alloc::Global;
 
 /// Judges a program by the rules of the language: it is accepted exactly where it breaks none, and
-/// else refused by the least fault by place, then rule. A refusal drops the program. Takes time in
-/// proportion to the program, but that a plain global costs a look at each effect of a body, and a
-/// function that reaches itself a look at each call for each step of a chain.
+/// else refused by the least fault by place, then rule. Rules 10 and 20 count only where no other
+/// rule is broken. A refusal drops the program. Takes time in proportion to the program.
 pub fn check<'n>(
     alloc: Global,
     program: Program,

@@ -1,11 +1,11 @@
 //! Thread instances: how many a program has, up to the greatest `u64`, and below, which of them access a global.
 //!
-//! An instance is `main`, or one branch of one `par` where void functions that are called as statements are put in place.
+//! An instance is `main`, or one branch of one `par` where void functions that are called as statements are inlined.
 
 ghost use Rattle.std.specs.Prelude.{◌≡◌, ◌+◌, ◌-◌, ◌^◌, ℕ, min, map, IfOk, OnOk};
 ghost use Rattle.forec_tree.specs.Plain as plain;
 ghost use Rattle.forec_tree.specs.Plain.{perhaps_of};
-ghost use Rattle.forec_tree.specs.Pauses.{starts};
+ghost use Rattle.forec_tree.specs.Pauses.{callees_of};
 ghost use Rattle.forec_tree.specs.Faults.{Leads};
 ghost use Rattle.forec_tree.specs.Threads as threads;
 ghost use Rattle.loop_check.specs.Views.{text_of};
@@ -143,9 +143,9 @@ fn counts(alloc: Global, index: &Index<'_>, order: &[u32]) -> Result<Vec<u64>, O
 }
 
 /// The thread instances of a program that begins with the function of this name, at most the greatest
-/// `u64`. Each function is counted once, after those that it calls or starts, so nothing is put in place.
+/// `u64`. Each function is counted once, after those that it calls or starts, so nothing is inlined.
 pub fn instances(alloc: Global, items: &[Item], first: u32) -> Result<u64, OutOfMemory>
-    requires { (f : ℕ) → Leads (starts (map plain.plain_item items.now)) f f → ⊥ }
+    requires { (f : ℕ) → Leads (callees_of (map plain.plain_item items.now)) f f → ⊥ }
     ensures { IfOk result (λ n. n ≡ min (threads.instances (map plain.plain_item items.now) first) (2 ^ 64 - 1)) }
 {
     let index = Index::of(alloc, items)?;

@@ -16,7 +16,7 @@ use std::alloc::Global;
 
 impl<'n> Checked<'n> {
     /// The thread instances of the program, at most the greatest `u64`: `main`, and each branch of each
-    /// `par` where void functions that are called as statements are put in place. Each function is
+    /// `par` where void functions that are called as statements are inlined. Each function is
     /// counted once, so it takes time in proportion to the program however many instances there are.
     pub fn threads(&self, alloc: Global) -> Result<u64, OutOfMemory>
         ensures { IfOk result (λ n. n ≡ count.threads_of (text_of self.now) (names_of self.now)) }
@@ -49,7 +49,7 @@ impl<'n> Checked<'n> {
     }
 }
 
-/// The number of the name `main`.
+/// The number of the name `main`; 0 where there is no such function, which rule 3 refuses.
 fn start_of(names: &Labels, items: &[Item]) -> u32
     ensures { result ≡ count.start_of names.now (map plain.plain_item items.now) }
 {

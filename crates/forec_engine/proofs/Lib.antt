@@ -2,6 +2,6 @@ mod Answered
 mod Bounds
 mod Misused
 mod Named
-mod Placed
+mod PlacementReports
 mod Reports
 mod WorkedLines

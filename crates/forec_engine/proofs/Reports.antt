@@ -2,7 +2,7 @@
 use Rattle.std.proofs.Common.{◌≡◌, ◌⊎◌, inl, inr, ℕ, List, Option, Some, None, refl, sym, ap, subst, ◌∙◌}
 use Rattle.forec_kernel.specs.Shapes.{PlainKernel}
 use Rattle.thread_code.specs.Alone.{Stands}
-use Rattle.core_alloc.specs.declared.fault.PlaceFault.{PlaceFault}
+use Rattle.core_alloc.specs.declared.fault.PlacementFault.{PlacementFault}
 use Rattle.command_words.specs.Requests.{PlainPlacing, PlainRunning, PlainCommand, Run, Check, Threads, Code, Explain, PlainRequest, OnText, OnWorkload, request_of}
 use Rattle.thread_places.specs.Laws.{OnePlacement, SomePlacement}
 use Rattle.forec_engine.specs.Commands.{ThreadsReport, Of_misplaced, Of_placed, AcceptedReport, Of_refusal, Of_accepted, TextReport, WorkloadReport, Of_usage, Of_text, Of_workload, IsReport, TellsTrace, Tells, usage, refused, counted, threads_listed, run_report}
@@ -33,7 +33,7 @@ never_both why c k e = cc
 
 -- ---- one report of an accepted text
 
-never_placed : (why : PlaceFault) (o : Option PlaceFault) → o ≡ Some why → o ≡ None → ⊥
+never_placed : (why : PlacementFault) (o : Option PlacementFault) → o ≡ Some why → o ≡ None → ⊥
 never_placed why o e f = let h : Some why ≡ None = sym e ∙ f in cc
 
 -- two lists of a kernel's threads
@@ -144,7 +144,7 @@ alike_reports one places words content trace r q x y =
 
 -- ---- some report
 
-some_threads : SomePlacement → (k : PlainKernel) (placing : PlainPlacing) (o : Option PlaceFault) → misplacing k placing ≡ o → ((r : Report) → ThreadsReport k placing r → ⊥) → ⊥
+some_threads : SomePlacement → (k : PlainKernel) (placing : PlainPlacing) (o : Option PlacementFault) → misplacing k placing ≡ o → ((r : Report) → ThreadsReport k placing r → ⊥) → ⊥
 some_threads some k placing None e never = let p = some k placing e in never (threads_listed k p.0.places) (Of_placed p.0 e p.1 refl)
 some_threads some k placing (Some why) e never = never (misplaced why) (Of_misplaced why e refl)
 

@@ -6,7 +6,7 @@ use Rattle.thread_code.specs.Alone.{Stands}
 use Rattle.thread_code.specs.Listing.{listing_of}
 use Rattle.thread_code.specs.Plain.{PlainCode}
 use Rattle.core_alloc.specs.Places.{Places}
-use Rattle.core_alloc.specs.declared.fault.PlaceFault.{PlaceFault}
+use Rattle.core_alloc.specs.declared.fault.PlacementFault.{PlacementFault}
 use Rattle.command_words.specs.Requests.{PlainPlacing, PlainRunning, PlainCommand, Run, Check, Threads, Code, Explain, PlainRequest, OnText, OnWorkload, request_of}
 use Rattle.thread_places.specs.Lines.{thread_lines}
 use Rattle.thread_places.specs.Placed.{IsPlacement}
@@ -48,7 +48,7 @@ run_report k running bytes = unless_misplaced (misplacing k running.placing) (tr
 
 -- r lists the threads of a kernel with their cores
 pub data ThreadsReport (k : PlainKernel) (placing : PlainPlacing) (r : Report) : Type 0 where
-  Of_misplaced : (why : PlaceFault) → misplacing k placing ≡ Some why → r ≡ misplaced why → ThreadsReport k placing r
+  Of_misplaced : (why : PlacementFault) → misplacing k placing ≡ Some why → r ≡ misplaced why → ThreadsReport k placing r
   Of_placed : (p : Places) → misplacing k placing ≡ None → IsPlacement k placing p → r ≡ threads_listed k p.places → ThreadsReport k placing r
 
 -- r is the report of a command on a text that is accepted, with these counts and this kernel, where the trace has these bytes.

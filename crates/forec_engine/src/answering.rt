@@ -5,7 +5,7 @@ ghost use Rattle.forec_kernel.specs.Shapes.{plain_kernel};
 ghost use Rattle.thread_code.specs.Alone.{Stands};
 ghost use Rattle.thread_code.specs.Plain.{PlainCode};
 ghost use Rattle.command_words.specs.Requests.{PlainRunning, plain_placing, plain_running, plain_command};
-ghost use Rattle.core_alloc.specs.declared.fault.PlaceFault.TheVariants as fault;
+ghost use Rattle.core_alloc.specs.declared.fault.PlacementFault.TheVariants as fault;
 ghost use Rattle.trace_runs.specs.Calls.{AppendsFront};
 ghost use Rattle.forec_engine.specs.Commands.{refused, counted, threads_listed, listed, run_report, ThreadsReport, AcceptedReport, TellsTrace, IsPlaceable, IsRunnable, IsInRange};
 ghost use Rattle.trace_runs.specs.Ends.{IsOwn, Given, Wanted, ReadFor};
@@ -16,7 +16,7 @@ ghost use Rattle.trace_runs.specs.Report.{Report};
 use crate::lines::{put_counts, put_misplaced, put_refusal};
 use code_gen::generate;
 use command_words::{Command, Placing, Running};
-use core_alloc::{PlaceFault, Placement};
+use core_alloc::{Placement, PlacementFault};
 use forec_base::{Gate, Sink, Source};
 use forec_kernel::Kernel;
 use std::alloc::Global;
@@ -44,7 +44,7 @@ pub fn refuse<K: Sink>(alloc: Global, why: Refusal, out: &mut K) -> Status
 }
 
 /// Says why a list of places is refused.
-fn say_misplaced<K: Sink>(alloc: Global, why: PlaceFault, out: &mut K) -> Status
+fn say_misplaced<K: Sink>(alloc: Global, why: PlacementFault, out: &mut K) -> Status
     ensures own { IsOwn result → Given (misplaced why) result (K.held out.old) (K.held out.new) }
     ensures read { result ≢ Status.ReadFault }
     ensures write { result ≡ Status.WriteFault → Fell (K.faults out.old) (K.faults out.new) (K.down out.new)
@@ -59,7 +59,7 @@ fn say_misplaced<K: Sink>(alloc: Global, why: PlaceFault, out: &mut K) -> Status
 }
 
 /// Says why a list of places is refused, where memory wasn't wanting.
-fn misplace<K: Sink>(alloc: Global, why: PlaceFault, out: &mut K) -> Status
+fn misplace<K: Sink>(alloc: Global, why: PlacementFault, out: &mut K) -> Status
     ensures own { IsOwn result → (why ≢ fault.OutOfMemory) × Given (misplaced why) result (K.held out.old) (K.held out.new) }
     ensures read { result ≢ Status.ReadFault }
     ensures write { result ≡ Status.WriteFault → (why ≢ fault.OutOfMemory) × Fell (K.faults out.old) (K.faults out.new) (K.down out.new)
@@ -68,7 +68,7 @@ fn misplace<K: Sink>(alloc: Global, why: PlaceFault, out: &mut K) -> Status
     ensures usage { result ≡ Status.Usage → why ≢ fault.OutOfMemory }
 {
     match why {
-        PlaceFault::OutOfMemory => Status::NoMemory,
+        PlacementFault::OutOfMemory => Status::NoMemory,
         _ => say_misplaced(alloc, why, out),
     }
 }

@@ -146,10 +146,10 @@ fn run_workload_text<K: Sink, G: Gate + Sync, R: Threads + Wait + Sync>(
 ///
 /// `run P` runs the program whose text `texts` has under the name `P`, a tick for each row of `trace`, of which each
 /// may have `--budget B` units, or 10,000,000. `check P` counts the program's thread instances, inputs and outputs,
-/// `threads P` lists its threads with their cores and weights, and `code P` its code. `gen N` runs a workload of `N`
-/// threads for 1,000 ticks, and prints the sum of the outputs. `explain P` prints what `run P` does, made by rewriting
-/// the kernel's texts in the order of steps `--order N`; it alone may want memory between ticks. `run` and `explain`
-/// read the trace, and `gen` reads no text.
+/// `threads P` lists its threads with their cores and weights and the bound of a tick, and `code P` its code. `gen N`
+/// runs a workload of `N` threads and `main` for 1,000 ticks, and prints the sum of the outputs. `explain P` prints
+/// what `run P` does, made by rewriting the kernel's texts in the order of steps `--order N`; it alone may run out of
+/// memory between ticks. `run` and `explain` read the trace, and `gen` reads no text.
 ///
 /// `run`, `threads` and `gen` place the threads on `--cores N` cores, or on one: by the list `--place L`, or balanced.
 /// What `run` and `gen` print doesn't depend on it. All other words give the usage line.
@@ -165,7 +165,7 @@ pub fn forec<T: Texts, S: Source, K: Sink, G: Gate + Sync, R: Threads + Wait + S
     // The text that the words name may be asked for.
     requires may { (name : List ℕ) (command : PlainCommand) → request_of (map string_bytes words.now) ≡ Some (OnText name command) → T.may texts.old name }
 
-    // Where the text and the trace are told, what is printed is a report of the words, and the status is the report's.
+    // Where the text and the trace are known, what is printed is a report of the words, and the status is the report's.
     ensures own { IsOwn result → Tells (map string_bytes words.now) (T.content texts.old) (S.left trace.old) → (r : Report)
         × IsReport (map string_bytes words.now) (T.content texts.old) (S.left trace.old) r
         × Given r result (K.held out.old) (K.held out.new) }
@@ -176,7 +176,7 @@ pub fn forec<T: Texts, S: Source, K: Sink, G: Gate + Sync, R: Threads + Wait + S
         ⊎ (Fell (S.faults trace.old) (S.faults trace.new) (S.down trace.new)
         × WantedByWords (map string_bytes words.now) (T.content texts.old) (S.left trace.old) (S.left trace.new) (K.held out.old) (K.held out.new)) }
 
-    // The sink failed. What was printed is a front of a report of the words.
+    // The sink failed. What was printed is a prefix of a report of the words.
     ensures write { result ≡ Status.WriteFault → Fell (K.faults out.old) (K.faults out.new) (K.down out.new)
         × (Tells (map string_bytes words.now) (T.content texts.old) (S.left trace.old) → (r : Report)
         × IsReport (map string_bytes words.now) (T.content texts.old) (S.left trace.old) r
@@ -186,7 +186,7 @@ pub fn forec<T: Texts, S: Source, K: Sink, G: Gate + Sync, R: Threads + Wait + S
     // asked for once a line that stops the program has come whole.
     ensures trace { (trace.new ≡ trace.old) ⊎ ReadForWords S.left S.faults S.down (map string_bytes words.now) (T.content texts.old) trace.old trace.new }
 
-    // Where memory was wanting, nothing was printed. Of a program that is rewritten a front of a report may be.
+    // Where memory ran out, nothing was printed. Of a program that is rewritten a prefix of a report may be.
     ensures memory { result ≡ Status.NoMemory → (K.held out.new ≡ K.held out.old)
         ⊎ (AskForRewriting (map string_bytes words.now) × (Tells (map string_bytes words.now) (T.content texts.old) (S.left trace.old) → (r : Report)
         × IsReport (map string_bytes words.now) (T.content texts.old) (S.left trace.old) r
@@ -195,7 +195,7 @@ pub fn forec<T: Texts, S: Source, K: Sink, G: Gate + Sync, R: Threads + Wait + S
     // This status comes only where the words ask for nothing, or the list of places is refused.
     ensures usage { result ≡ Status.Usage → IsMisuse (map string_bytes words.now) (T.content texts.old) }
 
-    // Where no count of faults rises, the report is given whole, or memory was wanting.
+    // Where no count of faults rises, the report is given whole, or memory ran out.
     ensures complete { (Rose (T.faults texts.old) (T.faults texts.new) → ⊥) → (Rose (S.faults trace.old) (S.faults trace.new) → ⊥)
         → (Rose (K.faults out.old) (K.faults out.new) → ⊥) → IsOwn result ⊎ (result ≡ Status.NoMemory) }
 {

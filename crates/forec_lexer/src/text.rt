@@ -1,6 +1,7 @@
 //! A whole text.
 ghost use Rattle.std.specs.Prelude.{◌≡◌, ◌≢◌, ◌≤◌, ◌<◌, ◌+◌, ℕ, List, length, All, IfOk, IfErr, OnOk, IsOkAnd, Err, fold};
 ghost use Rattle.forec_base.specs.declared.Place.{Place};
+ghost use Rattle.forec_base.specs.declared.limits.TheConstants.{MAX_TOKENS};
 ghost use Rattle.forec_tree.specs.declared.token.Token.{Token};
 ghost use Rattle.forec_tree.specs.LexedText as lexed;
 ghost use Rattle.forec_tree.specs.LexedText.{place_after, first_place, IsLexed, IsBad, IsMany, AreDistinct, IsSpelt, IsNumbered, NumbersSpellings, AreInOrder};
@@ -11,11 +12,9 @@ ghost use Rattle.forec_lexer.specs.Shown.{IsSame};
 use crate::fault::LexFault;
 use crate::names::Names;
 use crate::pieces::{Piece, next};
-use forec_base::{Labels, OutOfMemory, Place};
+use forec_base::{Labels, MAX_TOKENS, OutOfMemory, Place};
 use forec_tree::{Token, TokenKind};
 use std::alloc::Global;
-
-const MAX_TOKENS: usize = 200_000;
 
 /// The tokens of a text, in its order, and the names that they number.
 #[derive(Drop)]
@@ -139,14 +138,14 @@ fn lexed_text(alloc: Global, text: &[u8]) -> Result<Lexed, LexFault>
 
 /// The tokens and the names of a text of at most 1,048,576 bytes.
 ///
-/// A name's id is its place among the names. A refusal other than want of memory tells where the
+/// A name's id is its place among the names. A refusal other than out of memory tells where the
 /// text is refused.
 pub fn lex(alloc: Global, text: &[u8]) -> Result<Lexed, LexFault>
     requires { length text.now ≤ 1048576 }
     ensures ok { IfOk result (λ l. IsLexed text.now l.tokens.items l.names) }
     ensures err { IfErr result (HasCause text.now) }
 
-    // Each answer but want of memory comes wherever its cause is.
+    // Each answer but out of memory comes wherever its cause is.
     ensures lexed { (tokens : List Token) (names : List (List ℕ)) → IsLexed text.now tokens names
         → result ≢ Err LexFault.OutOfMemory
         → IsOkAnd result (λ l. (l.tokens.items ≡ tokens) × (l.names ≡ names)) }

@@ -15,7 +15,7 @@ use Rattle.forec_tree.specs.Terms.{Statement, PlainGlobal, PlainItem, IsGlobal, 
 use Rattle.forec_tree.specs.Parts.{in_order, global_of}
 use Rattle.forec_tree.specs.Spelling.{Spelt, at, tokens, IsMark, IsWord, IsName, name_at}
 use Rattle.forec_tree.specs.SpelledStatements.{Separated, last_part, next_part, Block, block}
-use Rattle.forec_tree.specs.SpelledPrograms.{positive, negative, Scalar, unset, set, Table, Combines, combines, Parameters, parameters, gives_word, Introduces, constants, inputs, outputs, globals, shares, function}
+use Rattle.forec_tree.specs.SpelledPrograms.{positive, negative, Scalar, unset, set, Table, Combines, combines, Parameters, parameters, gives_word, Introduces, constants, inputs, outputs, globals, shared_globals, function}
 use Rattle.forec_tree.specs.SpelledPrograms as sp
 use Rattle.expr_parser.specs.declared.fixed.Fixed.{Fixed}
 use Rattle.expr_parser.specs.declared.fixed.Fixed.TheVariants as fixed
@@ -202,12 +202,12 @@ module _ (limit : ℕ) where
   unfolding it.outputs it.output_shared
   an_output = bind (token limit fixed.Output) (λ _. either fixed.Shared (bind (token limit fixed.Shared) (λ _. shared_by glob.SharedOutput)) (ints_by (decl.Valued glob.Output)))
 
-  abbrev pub ShareBy : Lang (List PlainItem) → Lang (List PlainItem) → Lang (List PlainItem)
-  ShareBy O S = Bind (Tok fixed.Shared) (λ _. If fixed.Output (Bind (Tok fixed.Output) (λ _. O)) S)
+  abbrev pub SharedGlobalsBy : Lang (List PlainItem) → Lang (List PlainItem) → Lang (List PlainItem)
+  SharedGlobalsBy O S = Bind (Tok fixed.Shared) (λ _. If fixed.Output (Bind (Tok fixed.Output) (λ _. O)) S)
 
-  a_share : Exact limit (it.shares limit) (ShareBy (Part Any (SharedRest glob.SharedOutput)) (Part Any (SharedRest glob.Shared)))
-      (ShareBy (Reading limit (it.shared limit glob.SharedOutput)) (Reading limit (it.shared limit glob.Shared)))
-  unfolding it.shares it.shared_output
+  a_share : Exact limit (it.shared_globals limit) (SharedGlobalsBy (Part Any (SharedRest glob.SharedOutput)) (Part Any (SharedRest glob.Shared)))
+      (SharedGlobalsBy (Reading limit (it.shared limit glob.SharedOutput)) (Reading limit (it.shared limit glob.Shared)))
+  unfolding it.shared_globals it.shared_output
   a_share = bind (token limit fixed.Shared) (λ _. either fixed.Output (bind (token limit fixed.Output) (λ _. shared_by glob.SharedOutput)) (shared_by glob.Shared))
 
   abbrev pub NumberBy : (Bool → Name → Lang (List PlainItem)) → (Name → Lang (List PlainItem)) → Lang (List PlainItem)
@@ -234,12 +234,12 @@ module _ (limit : ℕ) where
   inputs_of (both (tok h) (part (ints semicolon m s n) c)) = part (inputs semicolon h m s n) tt
 
   pub outputs_of : {v w : ℕ} {xs : List PlainItem} {ls : List Spelt} {k : Option TokenKind} → OutputBy (Part Any (SharedRest glob.SharedOutput)) (Part Any (Ints (decl.Valued glob.Output))) v xs w ls k → Part Any Introduces v xs w ls k
-  outputs_of (both (tok h) (on e (both (tok o) (part (shared_rest semicolon m s c n) d)))) = part (shares _ semicolon (sp.output_shared h o) m s c n) tt
+  outputs_of (both (tok h) (on e (both (tok o) (part (shared_rest semicolon m s c n) d)))) = part (shared_globals _ semicolon (sp.output_shared h o) m s c n) tt
   outputs_of (both (tok h) (off e (part (ints semicolon m s n) c))) = part (outputs semicolon h m s n) tt
 
-  pub shares_of : {v w : ℕ} {xs : List PlainItem} {ls : List Spelt} {k : Option TokenKind} → ShareBy (Part Any (SharedRest glob.SharedOutput)) (Part Any (SharedRest glob.Shared)) v xs w ls k → Part Any Introduces v xs w ls k
-  shares_of (both (tok h) (on e (both (tok o) (part (shared_rest semicolon m s c n) d)))) = part (shares _ semicolon (sp.shared_output h o) m s c n) tt
-  shares_of (both (tok h) (off e (part (shared_rest semicolon m s c n) d))) = part (shares _ semicolon (sp.shared h) m s c n) tt
+  pub shares_of : {v w : ℕ} {xs : List PlainItem} {ls : List Spelt} {k : Option TokenKind} → SharedGlobalsBy (Part Any (SharedRest glob.SharedOutput)) (Part Any (SharedRest glob.Shared)) v xs w ls k → Part Any Introduces v xs w ls k
+  shares_of (both (tok h) (on e (both (tok o) (part (shared_rest semicolon m s c n) d)))) = part (shared_globals _ semicolon (sp.shared_output h o) m s c n) tt
+  shares_of (both (tok h) (off e (part (shared_rest semicolon m s c n) d))) = part (shared_globals _ semicolon (sp.shared h) m s c n) tt
 
   pub void_of : {v w : ℕ} {xs : List PlainItem} {ls : List Spelt} {k : Option TokenKind} → VoidBy (λ n. Part Any (FunctionRest false n)) v xs w ls k → Part Any Introduces v xs w ls k
   void_of (both (tok h) (both (part (name_is id m) c) (part (function_rest s b) d))) = part (function false id h m s b) tt
@@ -308,10 +308,10 @@ module _ (limit : ℕ) where
   item_reads (globals semicolon h (next_part comma (unset id m) o r) n) = by_plain h m (rw o) (plain_rest semicolon no_value (some_globals o r) n)
   item_reads (globals semicolon h (next_part comma (set id m q (positive x y)) o r) n) = by_plain h m (rw q) (plain_rest semicolon (some_value q (positive x y)) (some_globals o r) n)
   item_reads (globals semicolon h (next_part comma (set id m q (negative x y z)) o r) n) = by_plain h m (rw q) (plain_rest semicolon (some_value q (negative x y z)) (some_globals o r) n)
-  item_reads (shares int semicolon (sp.shared h) m s c n) = begins_so opening.Shared (rw h) (reads_by a_share (both (tok h) (off (rw m) (shared_reads (shared_rest semicolon m s c n)))))
-  item_reads (shares int semicolon (sp.shared_output {s = t} h o) m s c n) =
+  item_reads (shared_globals int semicolon (sp.shared h) m s c n) = begins_so opening.Shared (rw h) (reads_by a_share (both (tok h) (off (rw m) (shared_reads (shared_rest semicolon m s c n)))))
+  item_reads (shared_globals int semicolon (sp.shared_output {s = t} h o) m s c n) =
       begins_so opening.Shared (rw h) (reads_by a_share (both (tok h) (on (is_so fixed.Output t o) (both (tok o) (shared_reads (shared_rest semicolon m s c n))))))
-  item_reads (shares int semicolon (sp.output_shared {s = t} h o) m s c n) =
+  item_reads (shared_globals int semicolon (sp.output_shared {s = t} h o) m s c n) =
       begins_so opening.Output (rw h) (reads_by an_output (both (tok h) (on (is_so fixed.Shared t o) (both (tok o) (shared_reads (shared_rest semicolon m s c n))))))
   item_reads (function gives id h m s b) = by_gives gives id h m s b
 
@@ -320,7 +320,7 @@ module _ (limit : ℕ) where
   item_filled (inputs semicolon h m s n) = tt
   item_filled (outputs semicolon h m s n) = tt
   item_filled (globals semicolon h s n) = tt
-  item_filled (shares int semicolon (sp.shared h) m s c n) = tt
-  item_filled (shares int semicolon (sp.shared_output h o) m s c n) = tt
-  item_filled (shares int semicolon (sp.output_shared h o) m s c n) = tt
+  item_filled (shared_globals int semicolon (sp.shared h) m s c n) = tt
+  item_filled (shared_globals int semicolon (sp.shared_output h o) m s c n) = tt
+  item_filled (shared_globals int semicolon (sp.output_shared h o) m s c n) = tt
   item_filled (function gives id h m s b) = tt

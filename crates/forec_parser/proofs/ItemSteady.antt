@@ -79,7 +79,7 @@ module _ {E : Type 0} (k l : ℕ) (le : Limits E k l) where
       bind (closed fixed.Semicolon) (λ _. done _)))
 
   item_by_steady : (o : Opening) → Steady E 1 (items.item_by k o) (items.item_by l o)
-  unfolding items.outputs items.output_shared items.shares items.shared_output items.numbers
+  unfolding items.outputs items.output_shared items.shared_globals items.shared_output items.numbers
   item_by_steady opening.Const = bind (closed fixed.Const) (λ _. ints_steady declarator.Table)
   item_by_steady opening.Input = bind (closed fixed.Input) (λ _. ints_steady declarator.Bare)
   item_by_steady opening.Output = bind (closed fixed.Output) (λ _.

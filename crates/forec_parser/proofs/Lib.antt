@@ -8,7 +8,7 @@ pub mod ItemRules
 pub mod ItemSound
 pub mod StatementSteady
 pub mod ItemSteady
-pub mod Programs
+pub mod ProgramLemmas
 pub mod Refusals
 pub mod ViableParts
 pub mod ViableStatements

@@ -26,12 +26,12 @@ update_changes (kind.Mark mark.OrAssign) op h = refl
 update_changes (kind.Mark mark.XorAssign) op h = refl
 update_changes _ op h = absurd (cc)
 
-pub step_changes : (k : TokenKind) (op : Binary) → steps_by k ≡ Some op → change_of (Some k) ≡ change.Steps
+pub step_changes : (k : TokenKind) (op : Binary) → steps_by k ≡ Some op → change_of (Some k) ≡ change.Increments
 step_changes (kind.Mark mark.PlusPlus) op h = refl
 step_changes (kind.Mark mark.MinusMinus) op h = refl
 step_changes _ op h = absurd (cc)
 
-pub step_acts : (k : TokenKind) (op : Binary) → steps_by k ≡ Some op → act_of (Some k) ≡ act.Steps
+pub step_acts : (k : TokenKind) (op : Binary) → steps_by k ≡ Some op → act_of (Some k) ≡ act.Increments
 step_acts (kind.Mark mark.PlusPlus) op h = refl
 step_acts (kind.Mark mark.MinusMinus) op h = refl
 step_acts _ op h = absurd (cc)

@@ -10,7 +10,7 @@ use Rattle.forec_tree.specs.Terms as plain
 use Rattle.forec_tree.specs.Terms.{Term, Declared, Statement, Perhaps, absent, present}
 use Rattle.forec_tree.specs.Spelling.{Spelt, at, IsMark, Whole, Arguments}
 use Rattle.forec_tree.specs.Parts.{declared_as, Head, head_of}
-use Rattle.forec_tree.specs.SpelledStatements.{Simple, Lengths, lengths, Declares, bare, valued, array, valued_array, Bounds, unbounded, bounded, LoopStarts, no_start, simple_start, declared_start, Tests, no_test, some_test, Steps, no_step, some_step, HeadParts, head_parts, Heads, heads}
+use Rattle.forec_tree.specs.SpelledStatements.{Simple, Lengths, lengths, Declares, bare, valued, array, valued_array, Bounds, unbounded, bounded, ForStarts, no_start, simple_start, declared_start, Tests, no_test, some_test, ForSteps, no_step, some_step, HeadParts, head_parts, Heads, heads}
 use Rattle.expr_parser.specs.declared.fixed.Fixed.{Fixed}
 use Rattle.expr_parser.specs.declared.fixed.Fixed.TheVariants as fixed
 use Rattle.expr_parser.specs.Meaning.{is_fixed}
@@ -175,26 +175,26 @@ module _ (limit : ℕ) where
   abbrev pub Start : Lang Term → Lang Statement → Lang Perhaps
   Start V S = If fixed.Semicolon (Done absent) (If fixed.Int (FirstLocal V) (Map (λ x. present x) S))
 
-  pub starts_of : (v w : ℕ) (x : Perhaps) (ls : List Spelt) (k : Option TokenKind) → Start (Part Any Whole) (Part Any Simple) v x w ls k → Part Any LoopStarts v x w ls k
+  pub starts_of : (v w : ℕ) (x : Perhaps) (ls : List Spelt) (k : Option TokenKind) → Start (Part Any Whole) (Part Any Simple) v x w ls k → Part Any ForStarts v x w ls k
   starts_of v w x ls k (on e done) = part no_start tt
   starts_of v w x ls k (off e (on f (both (tok hi) (both (part (name_is id h) c) (both (tok m) (mapped (part s d))))))) = part (declared_start id hi h m s) tt
   starts_of v w x ls k (off e (off f (mapped (part s c)))) = part (simple_start s) tt
 
-  a_start : Exact limit (st.start limit) (Part Any LoopStarts) (Start (Reading limit (st.value limit)) (Reading limit (st.simple limit)))
+  a_start : Exact limit (st.start limit) (Part Any ForStarts) (Start (Reading limit (st.value limit)) (Reading limit (st.simple limit)))
   unfolding st.start st.some_start st.first_local
   a_start = convert starts_of (λ v w x ls k q. q)
       (either fixed.Semicolon (done_at absent)
       (either fixed.Int (bind (token limit fixed.Int) (λ int. bind (a_name limit) (λ n. bind (token limit fixed.Assign) (λ _. map_to (first_declared int n) (a_value limit)))))
       (map_to (λ x. present x) (a_simple limit))))
 
-  pub start_by : Exact limit (st.start limit) (Part Any LoopStarts) (Reading limit (st.start limit))
+  pub start_by : Exact limit (st.start limit) (Part Any ForStarts) (Reading limit (st.start limit))
   start_by = by_reading a_start.sound
 
   acts_then : (f : Fixed) → ((k : Option TokenKind) → acts_first k ≡ true → is_fixed f k ≡ false) → (ls : List Spelt) (k : Option TokenKind) → ActsFirst limit ls → is_fixed f (first ls k) ≡ false
   acts_then f g [] k h = absurd h
   acts_then f g (s ∷ ls) k h = g (Some s.token.kind) h
 
-  start_reads : {v : ℕ} {x : Perhaps} {ls : List Spelt} {k : Option TokenKind} → LoopStarts x v ls → v ≤ limit → is_fixed fixed.Semicolon k ≡ true → ends k ≡ true → Reading limit (st.start limit) v x v ls k
+  start_reads : {v : ℕ} {x : Perhaps} {ls : List Spelt} {k : Option TokenKind} → ForStarts x v ls → v ≤ limit → is_fixed fixed.Semicolon k ≡ true → ends k ≡ true → Reading limit (st.start limit) v x v ls k
   start_reads no_start small n e = reads_by a_start (on n done)
   start_reads {ls = ls} {k = k} (simple_start s) small n e =
       reads_by a_start (off (acts_then fixed.Semicolon acts_semicolon ls k (simple_first limit s)) (off (acts_then fixed.Int acts_int ls k (simple_first limit s)) (mapped (simple_reads limit s small e))))
@@ -216,25 +216,25 @@ module _ (limit : ℕ) where
   test_reads no_test small n e = reads_by a_test (on n done)
   test_reads {ls = ls} {k = k} (some_test s) small n e = reads_by a_test (off (begun_semicolon ls k (begun_whole s)) (mapped (value_reads limit s small e)))
 
-  pub steps_of : (v w : ℕ) (x : Perhaps) (ls : List Spelt) (k : Option TokenKind) → If fixed.RightRound (Done absent) (Map (λ x. present x) (Part Any Simple)) v x w ls k → Part Any Steps v x w ls k
+  pub steps_of : (v w : ℕ) (x : Perhaps) (ls : List Spelt) (k : Option TokenKind) → If fixed.RightRound (Done absent) (Map (λ x. present x) (Part Any Simple)) v x w ls k → Part Any ForSteps v x w ls k
   steps_of v w x ls k (on e done) = part no_step tt
   steps_of v w x ls k (off e (mapped (part s c))) = part (some_step s) tt
 
-  a_step : Exact limit (st.step limit) (Part Any Steps) (If fixed.RightRound (Done absent) (Map (λ x. present x) (Reading limit (st.simple limit))))
+  a_step : Exact limit (st.step limit) (Part Any ForSteps) (If fixed.RightRound (Done absent) (Map (λ x. present x) (Reading limit (st.simple limit))))
   unfolding st.step
   a_step = convert steps_of (λ v w x ls k q. q) (either fixed.RightRound (done_at absent) (map_to (λ x. present x) (a_simple limit)))
 
-  pub step_by : Exact limit (st.step limit) (Part Any Steps) (Reading limit (st.step limit))
+  pub step_by : Exact limit (st.step limit) (Part Any ForSteps) (Reading limit (st.step limit))
   step_by = by_reading a_step.sound
 
-  step_reads : {v : ℕ} {x : Perhaps} {ls : List Spelt} {k : Option TokenKind} → Steps x v ls → v ≤ limit → is_fixed fixed.RightRound k ≡ true → ends k ≡ true → Reading limit (st.step limit) v x v ls k
+  step_reads : {v : ℕ} {x : Perhaps} {ls : List Spelt} {k : Option TokenKind} → ForSteps x v ls → v ≤ limit → is_fixed fixed.RightRound k ≡ true → ends k ≡ true → Reading limit (st.step limit) v x v ls k
   step_reads no_step small n e = reads_by a_step (on n done)
   step_reads {ls = ls} {k = k} (some_step s) small n e = reads_by a_step (off (acts_then fixed.RightRound acts_round ls k (simple_first limit s)) (mapped (simple_reads limit s small e)))
 
   abbrev pub Triple : Lang Perhaps → Lang (Option Term) → Lang Perhaps → Lang Head
   Triple A T S = Bind A (λ first. Bind (Tok fixed.Semicolon) (λ _. Bind T (λ second. Bind (Tok fixed.Semicolon) (λ _. Map (λ third. head_of first second third) S))))
 
-  pub head_parts_of : (v w : ℕ) (x : Head) (ls : List Spelt) (k : Option TokenKind) → Triple (Part Any LoopStarts) (Part Any Tests) (Part Any Steps) v x w ls k → Part Any HeadParts v x w ls k
+  pub head_parts_of : (v w : ℕ) (x : Head) (ls : List Spelt) (k : Option TokenKind) → Triple (Part Any ForStarts) (Part Any Tests) (Part Any ForSteps) v x w ls k → Part Any HeadParts v x w ls k
   head_parts_of v w x ls k (both (part a c) (both (tok m) (both (part b d) (both (tok n) (mapped (part s e)))))) = part (head_parts _ _ a m b n s) tt
 
   pub head_parts_by : Exact limit (st.head_parts limit) (Part Any HeadParts) (Triple (Reading limit (st.start limit)) (Reading limit (st.loop_test limit)) (Reading limit (st.step limit)))

@@ -8,12 +8,12 @@ use Rattle.forec_tree.specs.SpelledPrograms.{IsSpelled}
 use Rattle.expr_parser.specs.declared.fault.Fault.TheVariants.{Syntax, Deep}
 use Rattle.expr_parser.specs.Input.{input, Outcome}
 use Rattle.forec_parser.specs.Items.{items}
-use Rattle.forec_parser.specs.Places.{IsFront, IsFrontWithin}
+use Rattle.forec_parser.specs.ViablePrefixes.{IsFront, IsFrontWithin}
 use Rattle.expr_parser.proofs.Spans.{within_more}
 use Rattle.expr_parser.proofs.Steady.{Meets, both_end, same_token, refused_too, deep_too}
 use Rattle.expr_parser.proofs.Exact.{Above, above_here, above_later, Follows, comes, too_high}
 use Rattle.forec_parser.proofs.ItemSteady.{items_steady}
-use Rattle.forec_parser.proofs.Programs.{read_back, follows}
+use Rattle.forec_parser.proofs.ProgramLemmas.{read_back, follows}
 
 -- a limit above each level
 record Bounded (ls : List Spelt) : Type 0 where

@@ -201,7 +201,7 @@ module _ (limit : ℕ) where
   abbrev pub stepping_to : Written → OpAt → Statement
   stepping_to target op = plain.Assign target.name.place target (Some op) (plain.Num op.place (pos 1))
 
-  stepping : (target : Written) → Exact limit (st.changed_by limit change.Steps target) (Map (stepping_to target) (Part Any (OpIs steps_by))) (Map (stepping_to target) (Reading limit st.step_mark))
+  stepping : (target : Written) → Exact limit (st.changed_by limit change.Increments target) (Map (stepping_to target) (Part Any (OpIs steps_by))) (Map (stepping_to target) (Reading limit st.step_mark))
   stepping target = map_to (stepping_to target) a_step
 
   pub set_of : {target : Written} {v w : ℕ} {y : Statement} {ls : List Spelt} {k : Option TokenKind} → Bind (Tok fixed.Assign) (λ _. Map (λ x. plain.Assign target.name.place target None x) (Part Any Whole)) v y w ls k → Part Any (Changes target) v y w ls k
@@ -216,7 +216,7 @@ module _ (limit : ℕ) where
   changes_of : (target : Written) (c : Change) (i j : Input) (x : Statement) → i.level ≤ limit → st.changed_by limit c target i ≡ Ok (x, j) → Read limit (Part Any (Changes target)) x i j
   changes_of target change.Sets i j x small h = read_as ((setting target).sound i j x small h) (λ ls e q. set_of q)
   changes_of target change.Updates i j x small h = read_as ((updating target).sound i j x small h) (λ ls e q. updated_of q)
-  changes_of target change.Steps i j x small h = read_as ((stepping target).sound i j x small h) (λ ls e q. moved_of q)
+  changes_of target change.Increments i j x small h = read_as ((stepping target).sound i j x small h) (λ ls e q. moved_of q)
   changes_of target change.Nothing i j x small h = absurd (cc)
 
   pub changed_by : (target : Written) → Exact limit (st.changed limit target) (Part Any (Changes target)) (Reading limit (st.changed limit target))
@@ -241,7 +241,7 @@ module _ (limit : ℕ) where
       → Reading limit (st.changed limit target) v (plain.Assign target.name.place target (Some (op_at op t.place)) (plain.Num t.place (pos 1))) v (at t v ∷ []) k
   unfolding st.changed
   step_changed {target} {v} {t} {k} op h = reading (λ rest e.
-      let c : change_of (Some t.kind) ≡ change.Steps = step_changes t.kind op h in
+      let c : change_of (Some t.kind) ≡ change.Increments = step_changes t.kind op h in
       rw c (read_at (reads_by (stepping target) (mapped (step_reads (op_is op h)))) rest e))
 
   -- ---- simple statements
@@ -275,7 +275,7 @@ module _ (limit : ℕ) where
 
   simple_of : (a : Act) (i j : Input) (x : Statement) → i.level ≤ limit → st.simple_by limit a i ≡ Ok (x, j) → Read limit (Part Any Simple) x i j
   simple_of act.Named i j x small h = read_as (a_named.sound i j x small h) (λ ls e q. named_of q)
-  simple_of act.Steps i j x small h = read_as (a_stepped.sound i j x small h) (λ ls e q. stepped_of q)
+  simple_of act.Increments i j x small h = read_as (a_stepped.sound i j x small h) (λ ls e q. stepped_of q)
   simple_of act.Nothing i j x small h = absurd (cc)
 
   pub a_simple : Exact limit (st.simple limit) (Part Any Simple) (Reading limit (st.simple limit))
@@ -314,7 +314,7 @@ module _ (limit : ℕ) where
   simple_reads (steps_after t op (scalar id h) m) small e = scalar_changed id h (step_round t.kind op m) (step_square t.kind op m) (step_changed op m)
   simple_reads (steps_after t op (indexed id h r) m) small e = index_changed id h r (step_square t.kind op m) (step_changed op m)
   simple_reads {k = k} (steps_ahead {t = t} op h s) small n = reading (λ rest e.
-      let c : act_of (Some t.kind) ≡ act.Steps = step_acts t.kind op h in
+      let c : act_of (Some t.kind) ≡ act.Increments = step_acts t.kind op h in
       rw c (read_at (reads_by a_stepped (both (step_reads (op_is op h)) (mapped (target_reads s (ends_square k n))))) rest e))
   simple_reads {k = k} (invokes id h s) small e = by_name id h (on (ap (is_fixed fixed.LeftRound) (passes_first s k)) (mapped (passed_reads s)))
 

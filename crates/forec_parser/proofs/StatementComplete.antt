@@ -31,7 +31,7 @@ use Rattle.expr_parser.proofs.ExpressionComplete.{brackets_first, passes_first}
 use Rattle.forec_parser.proofs.Marks.{acts_simple, acts_says, says_first, says_else, says_hash, says_ends}
 use Rattle.forec_parser.proofs.SimpleRules.{list_reads, value_reads, bracketed_reads, passed_reads, simple_reads, ActsFirst, simple_first}
 use Rattle.forec_parser.proofs.PartRules.{local_reads, bound_reads, head_reads}
-use Rattle.forec_parser.proofs.StatementSound.{Calm, flag_reads, a_called, sound_stmt, BracesBy, a_block, a_launch, a_launches, AbortRest, x_empty, x_group, x_declaring, x_acting, x_branching, x_looping, x_counting, x_pausing, x_forking, x_aborting, x_giving}
+use Rattle.forec_parser.proofs.StatementSound.{Calm, flag_reads, a_called, sound_stmt, BracesBy, a_block, a_launch, a_launches, AbortRest, x_empty, x_group, x_declaring, x_acting, x_branching, x_looping, x_counting, x_pausing, x_par_statement, x_abort_statement, x_return_statement}
 
 abbrev pub SaysFirst : List Spelt → Type 0
 SaysFirst [] = ⊥
@@ -285,15 +285,15 @@ module _ (limit : ℕ) where
       → IsMark mark.RightRound right → IsMark mark.Semicolon semicolon
       → IsRead (plain.Par t.place (launched branches)) false v u (at t v ∷ (at left (v + 1) ∷ (ls ++ (at right v ∷ [])) ++ (at semicolon u ∷ [])))
   r_forks right semicolon h hl r hr n d k small low far calm = deep d small far (λ e m.
-      one_is (stmt limit e) sort.Par (rw h) (reads_by (x_forking limit (stmt limit e) (sound_stmt limit e) _ low)
+      one_is (stmt limit e) sort.Par (rw h) (reads_by (x_par_statement limit (stmt limit e) (sound_stmt limit e) _ low)
       (both (tok h) (both (encloses right hl (λ small. reads_by (a_launches limit (stmt limit e) (sound_stmt limit e)) (r e (Some right.kind) (omega arith) (round_ends right hr) (round_comma right hr))) hr) (mapped (last n))))))
 
   aborting_reads : {v u : ℕ} {weak immediate : Bool} {place : Place} (t when semicolon : Token) {test : Term} {body : List Statement} {ls is ms : List Spelt} (e : ℕ) (k : Option TokenKind) → u ≤ limit → limit ≤ e + v
       → IsWord word.Abort t → Block place body (v + 1) (v + 1) ls → BlockReads place body (v + 1) (v + 1) ls → IsWord word.When when → Optional word.Immediate immediate (v + 1) is
       → Brackets test (v + 1) ms → IsMark mark.Semicolon semicolon
-      → Reading limit (st.aborting limit (stmt limit e) weak) v (plain.Abort t.place weak immediate test (in_order body)) v (at t (v + 1) ∷ (ls ++ (at when (v + 1) ∷ (is ++ (ms ++ (at semicolon u ∷ [])))))) k
+      → Reading limit (st.abort_statement limit (stmt limit e) weak) v (plain.Abort t.place weak immediate test (in_order body)) v (at t (v + 1) ∷ (ls ++ (at when (v + 1) ∷ (is ++ (ms ++ (at semicolon u ∷ [])))))) k
   aborting_reads {weak = weak} t when semicolon {ms = ms} e k low m h b r n f c q =
-      reads_by (x_aborting limit (stmt limit e) (sound_stmt limit e) _ low weak)
+      reads_by (x_abort_statement limit (stmt limit e) (sound_stmt limit e) _ low weak)
       (inside (over h (λ small. both (here_reads e b r (omega arith)) (both (tok n)
       (both (flag_reads limit f (ap (is_fixed fixed.Immediate) (first_then ms _ k ∙ brackets_first c _))) (both (bracketed_reads limit c) (mapped (last q))))))))
 
@@ -302,10 +302,10 @@ module _ (limit : ℕ) where
       → Brackets test (v + 1) ms → IsMark mark.Semicolon semicolon
       → IsRead (plain.Abort t.place true immediate test (in_order body)) false v u (at w v ∷ at t (v + 1) ∷ (ls ++ (at when (v + 1) ∷ (is ++ (ms ++ (at semicolon u ∷ []))))))
   r_weak {u = u} t when semicolon hw h b r n f c q d k small low far calm = deep d small far (λ e m.
-      one_is (stmt limit e) sort.Weak (rw hw) (reads_by (bind (token limit fixed.Weak) (λ _. aborting_by e)) (both (tok hw) (aborting_reads t when semicolon e k low m h b r n f c q))))
+      one_is (stmt limit e) sort.Weak (rw hw) (reads_by (bind (token limit fixed.Weak) (λ _. abort_statement_by e)) (both (tok hw) (aborting_reads t when semicolon e k low m h b r n f c q))))
     where
-      aborting_by : (e : ℕ) → Exact limit (st.aborting limit (stmt limit e) true) (Part Any (AbortRest limit (stmt limit e) (sound_stmt limit e) u low true)) (Reading limit (st.aborting limit (stmt limit e) true))
-      aborting_by e = by_reading (x_aborting limit (stmt limit e) (sound_stmt limit e) _ low true).sound
+      abort_statement_by : (e : ℕ) → Exact limit (st.abort_statement limit (stmt limit e) true) (Part Any (AbortRest limit (stmt limit e) (sound_stmt limit e) u low true)) (Reading limit (st.abort_statement limit (stmt limit e) true))
+      abort_statement_by e = by_reading (x_abort_statement limit (stmt limit e) (sound_stmt limit e) _ low true).sound
 
   r_abort : {v u : ℕ} {immediate : Bool} {place : Place} (t when semicolon : Token) {test : Term} {body : List Statement} {ls is ms : List Spelt}
       → IsWord word.Abort t → Block place body (v + 1) (v + 1) ls → BlockReads place body (v + 1) (v + 1) ls → IsWord word.When when → Optional word.Immediate immediate (v + 1) is
@@ -316,7 +316,7 @@ module _ (limit : ℕ) where
   r_gives : {v u : ℕ} {t : Token} (semicolon : Token) {value : Term} {ls : List Spelt} → IsWord word.Return t → Whole value v ls → IsMark mark.Semicolon semicolon
       → IsRead (plain.Return t.place value) false v u (at t v ∷ (ls ++ (at semicolon u ∷ [])))
   r_gives semicolon h s n d k small low far calm = deep d small far (λ e m.
-      one_is (stmt limit e) sort.Return (rw h) (reads_by (x_giving limit (stmt limit e) (sound_stmt limit e) _ low) (both (tok h) (both (value_reads limit s small (semicolon_ends semicolon n)) (mapped (last n))))))
+      one_is (stmt limit e) sort.Return (rw h) (reads_by (x_return_statement limit (stmt limit e) (sound_stmt limit e) _ low) (both (tok h) (both (value_reads limit s small (semicolon_ends semicolon n)) (mapped (last n))))))
 
   mutual
     pub reads : {x : Statement} {o : Bool} {v u : ℕ} {ls : List Spelt} → Says x o v u ls → IsRead x o v u ls

@@ -260,8 +260,8 @@ module _ (limit : ℕ) where
       Branched = Scoped (Bind (Up fixed.If) (λ t. Bind (Part Any Brackets) (λ test.
           Choice fixed.Else SaidHere (Said u) (λ a. Otherwise t test a (Said u)) (λ a. Done (plain.If t.place test a absent)))))
 
-      abbrev pub Branching : Lang Statement
-      Branching = Scoped (Over limit fixed.If (λ t. Bind (Reading limit (st.bracketed limit)) (λ test.
+      abbrev pub IfBy : Lang Statement
+      IfBy = Scoped (Over limit fixed.If (λ t. Bind (Reading limit (st.bracketed limit)) (λ test.
           Bind (Reading limit p) (λ a. If fixed.Else (OtherwiseBy t test a) (Done (plain.If t.place test a absent))))))
 
       pub branched_of : {v w : ℕ} {x : Statement} {ls : List Spelt} {k : Option TokenKind} → Branched v x w ls k → Said u v x w ls k
@@ -270,16 +270,16 @@ module _ (limit : ℕ) where
           let R : List Spelt → Type 0 = λ z. Said u v (plain.If t.place test a absent) v (at t (v + 1) ∷ (ls ++ z)) k in
           subst R (sym (append-nil ms)) (said (if_alone h b s) (λ _. e))
 
-      pub x_branching : Exact limit (st.if_statement limit p) (Said u) Branching
+      pub x_branching : Exact limit (st.if_statement limit p) (Said u) IfBy
       unfolding st.if_statement
       x_branching = convert (λ v w x ls k q. branched_of q) (λ v w x ls k q. q)
           (scope (bind_up fixed.If (λ t. bind (a_bracketed limit) (λ test.
           choose_by fixed.Else inner_here (inner u low) (λ a. x_otherwise t test a) (λ a. done_at (plain.If t.place test a absent))))))
 
-      abbrev Looping : Lang Term → Lang (Option Number) → Lang Statement → Lang Statement
-      Looping B N S = Scoped (Bind (Up fixed.While) (λ t. Bind B (λ test. Bind N (λ turns. Map (λ x. plain.While t.place test turns x) S))))
+      abbrev WhileBy : Lang Term → Lang (Option Number) → Lang Statement → Lang Statement
+      WhileBy B N S = Scoped (Bind (Up fixed.While) (λ t. Bind B (λ test. Bind N (λ turns. Map (λ x. plain.While t.place test turns x) S))))
 
-      pub looping_of : (v w : ℕ) (x : Statement) (ls : List Spelt) (k : Option TokenKind) → Looping (Part Any Brackets) (Part Any Bounds) (Said u) v x w ls k → Said u v x w ls k
+      pub looping_of : (v w : ℕ) (x : Statement) (ls : List Spelt) (k : Option TokenKind) → WhileBy (Part Any Brackets) (Part Any Bounds) (Said u) v x w ls k → Said u v x w ls k
       looping_of v w x ls k (inside (both (up h) (both (part b c) (both (part n d) (mapped (said s calm)))))) = said (loops h b n s) calm
 
       abbrev LoopingBy : Lang Statement
@@ -290,10 +290,10 @@ module _ (limit : ℕ) where
       x_looping = convert looping_of (λ v w x ls k q. q)
           (scope (bind_up fixed.While (λ t. bind (a_bracketed limit) (λ test. bind (bound_by limit) (λ turns. map_to (λ x. plain.While t.place test turns x) (inner u low))))))
 
-      abbrev Counting : Lang Head → Lang (Option Number) → Lang Statement → Lang Statement
-      Counting B N S = Scoped (Bind (Up fixed.For) (λ t. Bind B (λ h. Bind N (λ turns. Map (λ x. plain.For t.place h.start h.test h.step turns x) S))))
+      abbrev ForBy : Lang Head → Lang (Option Number) → Lang Statement → Lang Statement
+      ForBy B N S = Scoped (Bind (Up fixed.For) (λ t. Bind B (λ h. Bind N (λ turns. Map (λ x. plain.For t.place h.start h.test h.step turns x) S))))
 
-      pub counting_of : (v w : ℕ) (x : Statement) (ls : List Spelt) (k : Option TokenKind) → Counting (Part Any Heads) (Part Any Bounds) (Said u) v x w ls k → Said u v x w ls k
+      pub counting_of : (v w : ℕ) (x : Statement) (ls : List Spelt) (k : Option TokenKind) → ForBy (Part Any Heads) (Part Any Bounds) (Said u) v x w ls k → Said u v x w ls k
       counting_of v w x ls k (inside (both (up h) (both (part b c) (both (part n d) (mapped (said s calm)))))) = said (counts h b n s) calm
 
       abbrev CountingBy : Lang Statement
@@ -324,9 +324,9 @@ module _ (limit : ℕ) where
       ForkingBy = Bind (Tok fixed.Par) (λ t. Bind (EnclosedBy limit fixed.LeftRound fixed.RightRound (λ _ xs. xs) (Reading limit (st.launches limit p))) (λ bs.
           Map (λ (_ : Token). plain.Par t.place (launched bs)) (Last fixed.Semicolon u)))
 
-      pub x_forking : Exact limit (st.forking limit p) (Said u) ForkingBy
-      unfolding st.forking
-      x_forking = convert forking_of (λ v w x ls k q. q)
+      pub x_par_statement : Exact limit (st.par_statement limit p) (Said u) ForkingBy
+      unfolding st.par_statement
+      x_par_statement = convert forking_of (λ v w x ls k q. q)
           (bind (token limit fixed.Par) (λ t. bind (enclosing fixed.LeftRound fixed.RightRound (λ _ xs. xs) launches_by) (λ bs. map_to (λ (_ : Token). plain.Par t.place (launched bs)) (last_token limit u low fixed.Semicolon))))
 
       -- an abort from the word `abort` on
@@ -347,9 +347,9 @@ module _ (limit : ℕ) where
       AbortingBy weak = Scoped (Over limit fixed.Abort (λ t. Bind (Reading limit (st.block limit p)) (λ b. Bind (Tok fixed.When) (λ _. Bind (Reading limit (st.flag fixed.Immediate)) (λ immediate.
           Bind (Reading limit (st.bracketed limit)) (λ test. Map (λ (_ : Token). plain.Abort t.place weak immediate test (in_order b.1)) (Last fixed.Semicolon u)))))))
 
-      pub x_aborting : (weak : Bool) → Exact limit (st.aborting limit p weak) (Part Any (AbortRest weak)) (AbortingBy weak)
-      unfolding st.aborting
-      x_aborting weak = convert (aborting_of weak) (λ v w x ls k q. q)
+      pub x_abort_statement : (weak : Bool) → Exact limit (st.abort_statement limit p weak) (Part Any (AbortRest weak)) (AbortingBy weak)
+      unfolding st.abort_statement
+      x_abort_statement weak = convert (aborting_of weak) (λ v w x ls k q. q)
           (scope (bind_up fixed.Abort (λ t. bind block_here (λ b. bind (token limit fixed.When) (λ _. bind (flag_by) (λ immediate. bind (a_bracketed limit) (λ test.
           map_to (λ (_ : Token). plain.Abort t.place weak immediate test (in_order b.1)) (last_token limit u low fixed.Semicolon))))))))
 
@@ -359,9 +359,9 @@ module _ (limit : ℕ) where
       pub giving_of : (v w : ℕ) (x : Statement) (ls : List Spelt) (k : Option TokenKind) → Giving (Part Any Whole) v x w ls k → Said u v x w ls k
       giving_of v w x ls k (both (tok h) (both (part s c) (mapped (last m)))) = said (gives_back _ h s m) (open_never k)
 
-      pub x_giving : Exact limit (st.giving limit) (Said u) (Giving (Reading limit (st.value limit)))
-      unfolding st.giving
-      x_giving = convert giving_of (λ v w x ls k q. q) (bind (token limit fixed.Return) (λ t. bind (a_value limit) (λ x. map_to (λ (_ : Token). plain.Return t.place x) (last_token limit u low fixed.Semicolon))))
+      pub x_return_statement : Exact limit (st.return_statement limit) (Said u) (Giving (Reading limit (st.value limit)))
+      unfolding st.return_statement
+      x_return_statement = convert giving_of (λ v w x ls k q. q) (bind (token limit fixed.Return) (λ t. bind (a_value limit) (λ x. map_to (λ (_ : Token). plain.Return t.place x) (last_token limit u low fixed.Semicolon))))
 
       pub weak_of : {v w : ℕ} {x : Statement} {ls : List Spelt} {k : Option TokenKind} → Bind (Tok fixed.Weak) (λ _. Part Any (AbortRest true)) v x w ls k → Said u v x w ls k
       weak_of {k = k} (both (tok h) (part (abort_rest t when semicolon a b c d e f) g)) = said (aborts t when semicolon (there h) a b c d e f) (open_never k)
@@ -377,10 +377,10 @@ module _ (limit : ℕ) where
       one_of sort.While i j x small h = x_looping.sound i j x small h
       one_of sort.For i j x small h = x_counting.sound i j x small h
       one_of sort.Pause i j x small h = x_pausing.sound i j x small h
-      one_of sort.Par i j x small h = x_forking.sound i j x small h
-      one_of sort.Weak i j x small h = read_as ((bind (token limit fixed.Weak) (λ _. x_aborting true)).sound i j x small h) (λ ls e q. weak_of q)
-      one_of sort.Abort i j x small h = read_as ((x_aborting false).sound i j x small h) (λ ls e q. strong_of q)
-      one_of sort.Return i j x small h = x_giving.sound i j x small h
+      one_of sort.Par i j x small h = x_par_statement.sound i j x small h
+      one_of sort.Weak i j x small h = read_as ((bind (token limit fixed.Weak) (λ _. x_abort_statement true)).sound i j x small h) (λ ls e q. weak_of q)
+      one_of sort.Abort i j x small h = read_as ((x_abort_statement false).sound i j x small h) (λ ls e q. strong_of q)
+      one_of sort.Return i j x small h = x_return_statement.sound i j x small h
       one_of sort.Simple i j x small h = x_acting.sound i j x small h
       one_of sort.Nothing i j x small h = absurd (cc)
 

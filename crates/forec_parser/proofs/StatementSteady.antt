@@ -77,7 +77,7 @@ module _ {E : Type 0} (k l : ℕ) (le : Limits E k l) where
   changed_by_steady : (c : Change) (to : Written) → Steady E 1 (st.changed_by k c to) (st.changed_by l c to)
   changed_by_steady change.Sets to = bind (closed fixed.Assign) (λ _. bind value_steady (λ x. done _))
   changed_by_steady change.Updates to = bind update_steady (λ op. bind value_steady (λ x. done _))
-  changed_by_steady change.Steps to = bind step_mark_steady (λ op. done _)
+  changed_by_steady change.Increments to = bind step_mark_steady (λ op. done _)
   changed_by_steady change.Nothing to = refused
 
   changed_steady : (to : Written) → Steady E 1 (st.changed k to) (st.changed l to)
@@ -94,7 +94,7 @@ module _ {E : Type 0} (k l : ℕ) (le : Limits E k l) where
 
   simple_by_steady : (a : Act) → Steady E 1 (st.simple_by k a) (st.simple_by l a)
   simple_by_steady act.Named = named_steady
-  simple_by_steady act.Steps = stepped_steady
+  simple_by_steady act.Increments = stepped_steady
   simple_by_steady act.Nothing = refused
 
   simple_steady : Steady E 1 (st.simple k) (st.simple l)
@@ -173,18 +173,18 @@ module _ {E : Type 0} (k l : ℕ) (le : Limits E k l) where
     unfolding st.launch
     launch_steady = either fixed.LeftCurly (bind block_steady (λ b. done _)) called_steady
 
-    forking_steady : Steady E 1 (st.forking k p) (st.forking l q)
-    unfolding st.forking st.launches
-    forking_steady = bind (closed fixed.Par) (λ t. bind (enclosing k l le fixed.LeftRound fixed.RightRound (λ _ xs. xs) (listing launch_steady)) (λ branches.
+    par_statement_steady : Steady E 1 (st.par_statement k p) (st.par_statement l q)
+    unfolding st.par_statement st.launches
+    par_statement_steady = bind (closed fixed.Par) (λ t. bind (enclosing k l le fixed.LeftRound fixed.RightRound (λ _ xs. xs) (listing launch_steady)) (λ branches.
         bind (closed fixed.Semicolon) (λ _. done _)))
 
-    aborting_steady : (weak : Bool) → Steady E 1 (st.aborting k p weak) (st.aborting l q weak)
-    unfolding st.aborting
-    aborting_steady weak = scope (bind (entered fixed.Abort k l le) (λ t. bind block_steady (λ b. bind (closed fixed.When) (λ _. bind (flag_steady fixed.Immediate) (λ immediate.
+    abort_statement_steady : (weak : Bool) → Steady E 1 (st.abort_statement k p weak) (st.abort_statement l q weak)
+    unfolding st.abort_statement
+    abort_statement_steady weak = scope (bind (entered fixed.Abort k l le) (λ t. bind block_steady (λ b. bind (closed fixed.When) (λ _. bind (flag_steady fixed.Immediate) (λ immediate.
         bind bracketed_steady (λ test. bind (closed fixed.Semicolon) (λ _. done _)))))))
 
     one_by_steady : (s : Sort) → Steady E 1 (st.one_by k p s) (st.one_by l q s)
-    unfolding st.group st.declaring st.acting st.pausing st.giving
+    unfolding st.group st.declaring st.acting st.pausing st.return_statement
     one_by_steady sort.Empty = bind (closed fixed.Semicolon) (λ t. done _)
     one_by_steady sort.Curly = bind block_steady (λ b. done _)
     one_by_steady sort.Declares = bind (closed fixed.Int) (λ t. bind (listing local_steady) (λ locals. bind (closed fixed.Semicolon) (λ _. done _)))
@@ -192,9 +192,9 @@ module _ {E : Type 0} (k l : ℕ) (le : Limits E k l) where
     one_by_steady sort.While = looping_steady
     one_by_steady sort.For = counting_steady
     one_by_steady sort.Pause = bind (closed fixed.Pause) (λ t. bind (closed fixed.Semicolon) (λ _. done _))
-    one_by_steady sort.Par = forking_steady
-    one_by_steady sort.Weak = bind (closed fixed.Weak) (λ _. aborting_steady true)
-    one_by_steady sort.Abort = aborting_steady false
+    one_by_steady sort.Par = par_statement_steady
+    one_by_steady sort.Weak = bind (closed fixed.Weak) (λ _. abort_statement_steady true)
+    one_by_steady sort.Abort = abort_statement_steady false
     one_by_steady sort.Return = bind (closed fixed.Return) (λ t. bind value_steady (λ x. bind (closed fixed.Semicolon) (λ _. done _)))
     one_by_steady sort.Simple = bind simple_steady (λ x. bind (closed fixed.Semicolon) (λ _. done x))
     one_by_steady sort.Nothing = refused

@@ -12,12 +12,12 @@ use Rattle.forec_parser.specs.declared.fault.ParseFault.{ParseFault}
 use Rattle.forec_parser.specs.declared.fault.ParseFault.TheVariants as public
 use Rattle.expr_parser.specs.Input.{input, Outcome, max_level}
 use Rattle.forec_parser.specs.Items.{items}
-use Rattle.forec_parser.specs.Places.{IsFront, IsFrontWithin, OpensAbove, StopsAt, OpensAt}
+use Rattle.forec_parser.specs.ViablePrefixes.{IsFront, IsFrontWithin, OpensAbove, StopsAt, OpensAt}
 use Rattle.forec_parser.specs.Program.{Ends, HasCause, IsAmong, told_of}
 use Rattle.expr_parser.proofs.Spans.{within_front}
 use Rattle.forec_tree.specs.declared.tree.Program.{Program}
 use Rattle.forec_tree.specs.Plain.{program}
-use Rattle.forec_parser.proofs.Programs.{spelled_so, found_so}
+use Rattle.forec_parser.proofs.ProgramLemmas.{spelled_so, found_so}
 use Rattle.forec_parser.proofs.ItemSteady.{items_among, items_deep_among, items_take_no_memory}
 use Rattle.forec_parser.proofs.ViablePrograms.{FrontBefore, AboveBefore, refused_behind_front}
 use Rattle.forec_parser.proofs.Refusals.{no_front, no_program, no_front_within, tokens_join}

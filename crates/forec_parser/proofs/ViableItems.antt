@@ -156,8 +156,8 @@ module _ (limit low : ℕ) where
   outputs_at = convert (λ v w x ls o q. is'.outputs_of limit q) (bind (token limit fixed.Output) token_keeps (token_at fixed.Output) (λ _.
       either_off fixed.Shared refl (bind (token limit fixed.Shared) token_keeps (token_at fixed.Shared) (λ _. shared_at glob.SharedOutput)) (ints_at (decl.Valued glob.Output))))
 
-  shares_at : {k : Option TokenKind} → Viable limit low (it.shares limit) (Part Any Introduces) (Some (kind_of fixed.Shared)) k
-  unfolding it.shares it.shared_output
+  shares_at : {k : Option TokenKind} → Viable limit low (it.shared_globals limit) (Part Any Introduces) (Some (kind_of fixed.Shared)) k
+  unfolding it.shared_globals it.shared_output
   shares_at = convert (λ v w x ls o q. is'.shares_of limit q) (bind (token limit fixed.Shared) token_keeps (token_at fixed.Shared) (λ _.
       either_off fixed.Output refl (bind (token limit fixed.Output) token_keeps (token_at fixed.Output) (λ _. shared_at glob.SharedOutput)) (shared_at glob.Shared)))
 

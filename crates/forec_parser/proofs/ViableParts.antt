@@ -10,7 +10,7 @@ use Rattle.forec_tree.specs.Terms as plain
 use Rattle.forec_tree.specs.Terms.{Written, absent, present}
 use Rattle.forec_tree.specs.Spelling.{Spelt, at, listed, Whole, Brackets, Indexes, Passes, Arguments}
 use Rattle.forec_tree.specs.Parts.{op_at, updates_by, steps_by, written_at, declared_as, head_of}
-use Rattle.forec_tree.specs.SpelledStatements.{Separated, Targets, Simple, Lengths, Declares, Bounds, LoopStarts, Tests, Steps, HeadParts, Heads}
+use Rattle.forec_tree.specs.SpelledStatements.{Separated, Targets, Simple, Lengths, Declares, Bounds, ForStarts, Tests, ForSteps, HeadParts, Heads}
 use Rattle.expr_parser.specs.declared.fault.Fault.{Fault}
 use Rattle.expr_parser.specs.declared.fixed.Fixed.TheVariants as fixed
 use Rattle.forec_parser.specs.declared.meaning.Change.{Change}
@@ -119,7 +119,7 @@ module _ (limit : ℕ) where
   changed_stops to n change.Sets i e deep small h = (set_at to n).refused i e deep small h
   changed_stops {low} to n change.Updates i e deep small h =
       refused_to (λ v w x ls o q. sr.updated_of limit q) ((bind {low = low} (sr.an_update limit) part_keeps update_at (λ op. map_to (λ x. plain.Assign to.name.place to (Some op) x) (value_at n))).refused i e deep small h)
-  changed_stops {low} to n change.Steps i e deep small h = refused_to (λ v w x ls o q. sr.moved_of limit q) ((map_to {low = low} (sr.stepping_to limit to) step_at).refused i e deep small h)
+  changed_stops {low} to n change.Increments i e deep small h = refused_to (λ v w x ls o q. sr.moved_of limit q) ((map_to {low = low} (sr.stepping_to limit to) step_at).refused i e deep small h)
   changed_stops {low} to n change.Nothing i e deep small h = refused_here ((set_at {low = low} to n).least i.level) (cc)
 
   changed_at : {low : ℕ} {k : Option TokenKind} (to : Written) → ends k ≡ true → Viable limit low (st.changed limit to) (Part Any (Changes limit to)) (Some (kind_of fixed.Assign)) k
@@ -138,7 +138,7 @@ module _ (limit : ℕ) where
 
   simple_stops : {low : ℕ} {k : Option TokenKind} → ends k ≡ true → (a : Act) (i : Input) (e : Fault) → low ≤ i.level → i.level ≤ limit → st.simple_by limit a i ≡ Err e → Refused limit (Part Any Simple) k i e
   simple_stops n act.Named i e deep small h = (named_at n).refused i e deep small h
-  simple_stops n act.Steps i e deep small h = (stepped_at n).refused i e deep small h
+  simple_stops n act.Increments i e deep small h = (stepped_at n).refused i e deep small h
   simple_stops {low} n act.Nothing i e deep small h = refused_here ((named_at {low = low} n).least i.level) (cc)
 
   pub simple_at : {low : ℕ} {k : Option TokenKind} → ends k ≡ true → Viable limit low (st.simple limit) (Part Any Simple) a_name k
@@ -184,7 +184,7 @@ module _ (limit : ℕ) where
   first_local_at = bind (token limit fixed.Int) token_keeps (token_at fixed.Int) (λ int. bind (leaf.a_name limit) part_keeps name_here (λ n.
       bind (token limit fixed.Assign) token_keeps (token_at fixed.Assign) (λ _. map_to (pr.first_declared limit int n) (value_at refl))))
 
-  start_at : {low : ℕ} → Viable limit low (st.start limit) (Part Any LoopStarts) (Some (kind_of fixed.Semicolon)) (Some (kind_of fixed.Semicolon))
+  start_at : {low : ℕ} → Viable limit low (st.start limit) (Part Any ForStarts) (Some (kind_of fixed.Semicolon)) (Some (kind_of fixed.Semicolon))
   unfolding st.start st.some_start
   start_at = convert (pr.starts_of limit) (either_on fixed.Semicolon refl (done_at absent) (either_off fixed.Int refl first_local_at (map_to (λ x. present x) (simple_at refl))))
 
@@ -192,7 +192,7 @@ module _ (limit : ℕ) where
   unfolding st.loop_test
   test_at = convert (pr.tests_of limit) (either_on fixed.Semicolon refl (done_at None) (map_to (λ x. Some x) (value_at refl)))
 
-  last_step_at : {low : ℕ} → Viable limit low (st.step limit) (Part Any Steps) (Some (kind_of fixed.RightRound)) (Some (kind_of fixed.RightRound))
+  last_step_at : {low : ℕ} → Viable limit low (st.step limit) (Part Any ForSteps) (Some (kind_of fixed.RightRound)) (Some (kind_of fixed.RightRound))
   unfolding st.step
   last_step_at = convert (pr.steps_of limit) (either_on fixed.RightRound refl (done_at absent) (map_to (λ x. present x) (simple_at refl)))
 

@@ -10,12 +10,12 @@ use Rattle.expr_parser.specs.declared.fault.Fault.{Fault}
 use Rattle.expr_parser.specs.declared.fault.Fault.TheVariants.{Syntax, Deep, OutOfMemory}
 use Rattle.expr_parser.specs.Input.{Input, input, and_then, kind_ahead, at_end}
 use Rattle.forec_parser.specs.Items.{item, items, items_from}
-use Rattle.forec_parser.specs.Places.{IsFrontWithin, OpensAbove}
+use Rattle.forec_parser.specs.ViablePrefixes.{IsFrontWithin, OpensAbove}
 use Rattle.expr_parser.proofs.Spans.{ok_of}
 use Rattle.expr_parser.proofs.Exact.{Map, mapped, Part, part, Any}
 use Rattle.expr_parser.proofs.Viable.{Front, Least, Barred, stuck, above, Refused, refused_here, refused_so, refused_to, refused_first, refused_second, Second, failed}
 use Rattle.forec_parser.proofs.ItemSound.{sound_item}
-use Rattle.forec_parser.proofs.Programs.{Programmed, programmed, add_on}
+use Rattle.forec_parser.proofs.ProgramLemmas.{Programmed, programmed, add_on}
 use Rattle.forec_parser.proofs.ViableItems.{item_at}
 
 -- The tokens before the last so many are a front within the limit.

@@ -185,26 +185,26 @@ module _ (limit : ℕ) where
       unfolding st.pausing
       pausing_at = convert (ss.pausing_of limit p so u top) (bind (token limit fixed.Pause) token_keeps (token_at fixed.Pause) (λ t. map_to (λ (_ : Token). plain.Pause t.place) (last_at fixed.Semicolon u)))
 
-      forking_at : {k : Option TokenKind} → Viable limit low (st.forking limit p) (Said u) (Some (kind_of fixed.Par)) k
-      unfolding st.forking
-      forking_at = convert (ss.forking_of limit p so u top)
+      par_statement_at : {k : Option TokenKind} → Viable limit low (st.par_statement limit p) (Said u) (Some (kind_of fixed.Par)) k
+      unfolding st.par_statement
+      par_statement_at = convert (ss.forking_of limit p so u top)
           (bind (token limit fixed.Par) token_keeps (token_at fixed.Par) (λ t. bind (leaves.enclosing fixed.LeftRound fixed.RightRound (λ _ xs. xs) (ss.launches_by limit p so)) enclosed_keeps
           (enclosing fixed.LeftRound fixed.RightRound (λ _ xs. xs) (ss.launches_by limit p so) part_keeps (launches_at (omega arith)))
           (λ bs. map_to (λ (_ : Token). plain.Par t.place (launched bs)) (last_at fixed.Semicolon u))))
 
-      aborting_at : {k : Option TokenKind} (weak : Bool) → Viable limit low (st.aborting limit p weak) (Part Any (ss.AbortRest limit p so u top weak)) (Some (kind_of fixed.Abort)) k
-      unfolding st.aborting
-      aborting_at weak = convert (ss.aborting_of limit p so u top weak)
+      abort_statement_at : {k : Option TokenKind} (weak : Bool) → Viable limit low (st.abort_statement limit p weak) (Part Any (ss.AbortRest limit p so u top weak)) (Some (kind_of fixed.Abort)) k
+      unfolding st.abort_statement
+      abort_statement_at weak = convert (ss.aborting_of limit p so u top weak)
           (scope (bind (opening limit fixed.Abort) opening_keeps (open_at fixed.Abort) (λ t. bind (ss.block_here limit p so) enclosed_keeps (block_at (omega arith) (λ v. v)) (λ b.
           bind (token limit fixed.When) token_keeps (token_at fixed.When) (λ _. bind (ss.flag_by limit) part_keeps (flag_at refl) (λ immediate. bind (sr.a_bracketed limit) part_keeps (bracketed_at limit) (λ test.
           map_to (λ (_ : Token). plain.Abort t.place weak immediate test (in_order b.1)) (last_at fixed.Semicolon u))))))))
 
       weak_at : {k : Option TokenKind} → Viable limit low (st.one_by limit p sort.Weak) (Said u) (Some (kind_of fixed.Weak)) k
-      weak_at = convert (λ v w x ls o q. ss.weak_of limit p so u top q) (bind (token limit fixed.Weak) token_keeps (token_at fixed.Weak) (λ _. aborting_at true))
+      weak_at = convert (λ v w x ls o q. ss.weak_of limit p so u top q) (bind (token limit fixed.Weak) token_keeps (token_at fixed.Weak) (λ _. abort_statement_at true))
 
-      giving_at : {k : Option TokenKind} → Viable limit low (st.giving limit) (Said u) (Some (kind_of fixed.Return)) k
-      unfolding st.giving
-      giving_at = convert (ss.giving_of limit p so u top)
+      return_statement_at : {k : Option TokenKind} → Viable limit low (st.return_statement limit) (Said u) (Some (kind_of fixed.Return)) k
+      unfolding st.return_statement
+      return_statement_at = convert (ss.giving_of limit p so u top)
           (bind (token limit fixed.Return) token_keeps (token_at fixed.Return) (λ t. bind (sr.a_value limit) part_keeps (value_at limit refl) (λ x. map_to (λ (_ : Token). plain.Return t.place x) (last_at fixed.Semicolon u))))
 
       one_stops : {k : Option TokenKind} → is_fixed fixed.Else k ≡ false → (s : Sort) (i : Input) (e : Fault) → low ≤ i.level → i.level ≤ limit → st.one_by limit p s i ≡ Err e → Refused limit (Said u) k i e
@@ -215,10 +215,10 @@ module _ (limit : ℕ) where
       one_stops n sort.While i e deep small h = (looping_at n).refused i e deep small h
       one_stops n sort.For i e deep small h = (counting_at n).refused i e deep small h
       one_stops n sort.Pause i e deep small h = pausing_at.refused i e deep small h
-      one_stops n sort.Par i e deep small h = forking_at.refused i e deep small h
+      one_stops n sort.Par i e deep small h = par_statement_at.refused i e deep small h
       one_stops n sort.Weak i e deep small h = weak_at.refused i e deep small h
-      one_stops n sort.Abort i e deep small h = refused_to (λ v w x ls o q. ss.strong_of limit p so u top q) ((aborting_at false).refused i e deep small h)
-      one_stops n sort.Return i e deep small h = giving_at.refused i e deep small h
+      one_stops n sort.Abort i e deep small h = refused_to (λ v w x ls o q. ss.strong_of limit p so u top q) ((abort_statement_at false).refused i e deep small h)
+      one_stops n sort.Return i e deep small h = return_statement_at.refused i e deep small h
       one_stops n sort.Simple i e deep small h = acting_at.refused i e deep small h
       one_stops n sort.Nothing i e deep small h = refused_here (least_said i.level) (cc)
 

@@ -162,8 +162,8 @@ module _ (limit : ℕ) where
     close fixed.Output
     (λ i. if next_is fixed.Shared i then output_shared i else ints (declarator.Valued kind.Output) i)
 
-  unfoldable pub shares : Parser (List PlainItem)
-  shares = do
+  unfoldable pub shared_globals : Parser (List PlainItem)
+  shared_globals = do
     close fixed.Shared
     (λ i. if next_is fixed.Output i then shared_output i else shared kind.Shared i)
 
@@ -181,7 +181,7 @@ module _ (limit : ℕ) where
     close fixed.Input
     ints declarator.Bare
   item_by opening.Output = outputs
-  item_by opening.Shared = shares
+  item_by opening.Shared = shared_globals
   item_by opening.Int = numbers
   item_by opening.Void = do
     close fixed.Void

@@ -4,4 +4,4 @@ pub mod Views
 pub mod Statements
 pub mod Items
 pub mod Program
-pub mod Places
+pub mod ViablePrefixes

@@ -49,15 +49,15 @@ change_of (Some (kind.Mark mark.RemAssign)) = change.Updates
 change_of (Some (kind.Mark mark.AndAssign)) = change.Updates
 change_of (Some (kind.Mark mark.OrAssign)) = change.Updates
 change_of (Some (kind.Mark mark.XorAssign)) = change.Updates
-change_of (Some (kind.Mark mark.PlusPlus)) = change.Steps
-change_of (Some (kind.Mark mark.MinusMinus)) = change.Steps
+change_of (Some (kind.Mark mark.PlusPlus)) = change.Increments
+change_of (Some (kind.Mark mark.MinusMinus)) = change.Increments
 change_of _ = change.Nothing
 
 -- what a token begins where a simple statement is wanted
 abbrev pub act_of : Option TokenKind → Act
 act_of (Some (kind.Name id)) = act.Named
-act_of (Some (kind.Mark mark.PlusPlus)) = act.Steps
-act_of (Some (kind.Mark mark.MinusMinus)) = act.Steps
+act_of (Some (kind.Mark mark.PlusPlus)) = act.Increments
+act_of (Some (kind.Mark mark.MinusMinus)) = act.Increments
 act_of _ = act.Nothing
 
 -- what a token begins where a statement is wanted

@@ -9,7 +9,7 @@ use Rattle.expr_parser.specs.declared.fault.Fault.TheVariants as inner
 use Rattle.forec_parser.specs.declared.fault.ParseFault.{ParseFault}
 use Rattle.forec_parser.specs.declared.fault.ParseFault.TheVariants.{Syntax, Deep, OutOfMemory}
 use Rattle.expr_parser.specs.Input.{Input, Outcome, max_level}
-use Rattle.forec_parser.specs.Places.{StopsAt, OpensAt}
+use Rattle.forec_parser.specs.ViablePrefixes.{StopsAt, OpensAt}
 
 -- What is answered where the tokens spell the text: it, unless memory fails.
 abbrev pub Answers : Text → Result Program ParseFault → Type 0

@@ -76,7 +76,7 @@ module _ (limit : ℕ) where
     op ← update
     x ← value
     pure (plain.Assign to.name.place to (Some op) x)
-  changed_by change.Steps to = do
+  changed_by change.Increments to = do
     op ← step_mark
     pure (plain.Assign to.name.place to (Some op) (plain.Num op.place (pos 1)))
   changed_by change.Nothing to = refuse
@@ -107,7 +107,7 @@ module _ (limit : ℕ) where
 
   abbrev pub simple_by : Act → Parser Statement
   simple_by act.Named = named
-  simple_by act.Steps = stepped
+  simple_by act.Increments = stepped
   simple_by act.Nothing = refuse
 
   unfoldable pub simple : Parser Statement
@@ -198,8 +198,8 @@ module _ (limit : ℕ) where
     close fixed.Semicolon
     pure (plain.Pause t.place)
 
-  unfoldable pub giving : Parser Statement
-  giving = do
+  unfoldable pub return_statement : Parser Statement
+  return_statement = do
     t ← close fixed.Return
     x ← value
     close fixed.Semicolon
@@ -267,15 +267,15 @@ module _ (limit : ℕ) where
     unfoldable pub launches : Parser (List Launch)
     launches = separated launch
 
-    unfoldable pub forking : Parser Statement
-    forking = do
+    unfoldable pub par_statement : Parser Statement
+    par_statement = do
       t ← close fixed.Par
       branches ← enclosed limit fixed.LeftRound fixed.RightRound (λ _ xs. xs) launches
       close fixed.Semicolon
       pure (plain.Par t.place (launched branches))
 
-    unfoldable pub aborting : Bool → Parser Statement
-    aborting weak = scoped (do
+    unfoldable pub abort_statement : Bool → Parser Statement
+    abort_statement weak = scoped (do
       t ← enter limit fixed.Abort
       b ← block
       close fixed.When
@@ -294,12 +294,12 @@ module _ (limit : ℕ) where
     one_by sort.While = while_statement
     one_by sort.For = for_statement
     one_by sort.Pause = pausing
-    one_by sort.Par = forking
+    one_by sort.Par = par_statement
     one_by sort.Weak = do
       close fixed.Weak
-      aborting true
-    one_by sort.Abort = aborting false
-    one_by sort.Return = giving
+      abort_statement true
+    one_by sort.Abort = abort_statement false
+    one_by sort.Return = return_statement
     one_by sort.Simple = acting
     one_by sort.Nothing = refuse
 

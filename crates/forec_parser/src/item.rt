@@ -412,9 +412,9 @@ fn outputs(alloc: Global, tokens: &mut Tokens<'_>) -> Result<Items<Item>, Fault>
 }
 
 /// An item that begins with `shared`.
-#[tactic(auto, unfolding(crate::specs::Items::shares))]
-fn shares(alloc: Global, tokens: &mut Tokens<'_>) -> Result<Items<Item>, Fault>
-    ensures { Reads (map plain_item) (spec.shares max_level tokens.old) result tokens.new }
+#[tactic(auto, unfolding(crate::specs::Items::shared_globals))]
+fn shared_globals(alloc: Global, tokens: &mut Tokens<'_>) -> Result<Items<Item>, Fault>
+    ensures { Reads (map plain_item) (spec.shared_globals max_level tokens.old) result tokens.new }
 {
     tokens.close(Fixed::Shared)?;
     if tokens.next_is(Fixed::Output) {
@@ -453,7 +453,7 @@ fn item(alloc: Global, tokens: &mut Tokens<'_>) -> Result<Items<Item>, Fault>
             ints(alloc, tokens, Declarator::Bare)
         }
         Opening::Output => outputs(alloc, tokens),
-        Opening::Shared => shares(alloc, tokens),
+        Opening::Shared => shared_globals(alloc, tokens),
         Opening::Int => numbers(alloc, tokens),
         Opening::Void => {
             tokens.close(Fixed::Void)?;

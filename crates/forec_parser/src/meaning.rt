@@ -12,7 +12,7 @@ use forec_tree::{GlobalKind, Mark, TokenKind, Word};
 pub enum Change {
     Sets,
     Updates,
-    Steps,
+    Increments,
     Nothing,
 }
 
@@ -20,7 +20,7 @@ pub enum Change {
 #[derive(Clone, Copy)]
 pub enum Act {
     Named,
-    Steps,
+    Increments,
     Nothing,
 }
 
@@ -128,8 +128,8 @@ fn change_mark(mark: Mark) -> Change
         Mark::AndAssign => Change::Updates,
         Mark::OrAssign => Change::Updates,
         Mark::XorAssign => Change::Updates,
-        Mark::PlusPlus => Change::Steps,
-        Mark::MinusMinus => Change::Steps,
+        Mark::PlusPlus => Change::Increments,
+        Mark::MinusMinus => Change::Increments,
         _ => Change::Nothing,
     }
 }
@@ -148,8 +148,8 @@ fn act_mark(mark: Mark) -> Act
     ensures { result ≡ spec.act_of (Some (TokenKind.Mark mark)) }
 {
     match mark {
-        Mark::PlusPlus => Act::Steps,
-        Mark::MinusMinus => Act::Steps,
+        Mark::PlusPlus => Act::Increments,
+        Mark::MinusMinus => Act::Increments,
         _ => Act::Nothing,
     }
 }

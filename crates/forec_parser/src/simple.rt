@@ -132,7 +132,7 @@ fn changed(
             let value = value(alloc, tokens)?;
             Ok(parts::assign(parts::target(name, index), Some(op), value))
         }
-        Change::Steps => {
+        Change::Increments => {
             let op = step_mark(tokens)?;
             Ok(parts::step(name.place, parts::target(name, index), op))
         }
@@ -184,7 +184,7 @@ fn action(alloc: Global, tokens: &mut Tokens<'_>) -> Result<Stmt, Fault>
 {
     match act_of(tokens.kind()) {
         Act::Named => named(alloc, tokens),
-        Act::Steps => stepped(alloc, tokens),
+        Act::Increments => stepped(alloc, tokens),
         Act::Nothing => Err(tokens.refuse()),
     }
 }
@@ -419,9 +419,9 @@ pub fn pausing(tokens: &mut Tokens<'_>) -> Result<Stmt, Fault>
 }
 
 /// `return` and its value.
-#[tactic(auto, unfolding(crate::specs::Statements::giving))]
-pub fn giving(alloc: Global, tokens: &mut Tokens<'_>) -> Result<Stmt, Fault>
-    ensures { Reads statement (spec.giving max_level tokens.old) result tokens.new }
+#[tactic(auto, unfolding(crate::specs::Statements::return_statement))]
+pub fn return_statement(alloc: Global, tokens: &mut Tokens<'_>) -> Result<Stmt, Fault>
+    ensures { Reads statement (spec.return_statement max_level tokens.old) result tokens.new }
 {
     let token = tokens.close(Fixed::Return)?;
     let found = value(alloc, tokens)?;

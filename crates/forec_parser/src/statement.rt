@@ -9,7 +9,9 @@ ghost use Rattle.forec_parser.specs.Views.{statement_in, launch_of, block_of};
 
 use crate::meaning::{Sort, ends_body, sort_of};
 use crate::parts::{self, Block};
-use crate::simple::{acting, bound, bracketed, called, declaring, flag, giving, head, pausing};
+use crate::simple::{
+    acting, bound, bracketed, called, declaring, flag, head, pausing, return_statement,
+};
 use expr_parser::{Fault, Fixed, Tokens};
 use forec_tree::{Branch, Expr, Stmt, Token};
 use sqlite_items::Items;
@@ -46,13 +48,13 @@ fn one(alloc: Global, tokens: &mut Tokens<'_>, depth: usize) -> Result<Stmt, Fau
         Sort::While => while_statement(alloc, tokens, depth),
         Sort::For => for_statement(alloc, tokens, depth),
         Sort::Pause => pausing(tokens),
-        Sort::Par => forking(alloc, tokens, depth),
+        Sort::Par => par_statement(alloc, tokens, depth),
         Sort::Weak => {
             tokens.close(Fixed::Weak)?;
-            aborting(alloc, tokens, depth, true)
+            abort_statement(alloc, tokens, depth, true)
         }
-        Sort::Abort => aborting(alloc, tokens, depth, false),
-        Sort::Return => giving(alloc, tokens),
+        Sort::Abort => abort_statement(alloc, tokens, depth, false),
+        Sort::Return => return_statement(alloc, tokens),
         Sort::Simple => acting(alloc, tokens),
         Sort::Nothing => Err(tokens.refuse()),
     }
@@ -197,9 +199,9 @@ fn launches(alloc: Global, tokens: &mut Tokens<'_>, depth: usize) -> Result<Item
 }
 
 #[cycle(stmt)]
-#[tactic(auto, unfolding(crate::specs::Statements::forking))]
-fn forking(alloc: Global, tokens: &mut Tokens<'_>, depth: usize) -> Result<Stmt, Fault>
-    ensures { Reads statement (spec.forking max_level (spec.stmt max_level depth) tokens.old) result tokens.new }
+#[tactic(auto, unfolding(crate::specs::Statements::par_statement))]
+fn par_statement(alloc: Global, tokens: &mut Tokens<'_>, depth: usize) -> Result<Stmt, Fault>
+    ensures { Reads statement (spec.par_statement max_level (spec.stmt max_level depth) tokens.old) result tokens.new }
 {
     let token = tokens.close(Fixed::Par)?;
     let outer = tokens.level();
@@ -213,9 +215,14 @@ fn forking(alloc: Global, tokens: &mut Tokens<'_>, depth: usize) -> Result<Stmt,
 
 /// An abort from the word `abort` on.
 #[cycle(stmt)]
-#[tactic(auto, unfolding(crate::specs::Statements::aborting))]
-fn aborting(alloc: Global, tokens: &mut Tokens<'_>, depth: usize, weak: bool) -> Result<Stmt, Fault>
-    ensures { Reads statement (spec.aborting max_level (spec.stmt max_level depth) weak tokens.old) result tokens.new }
+#[tactic(auto, unfolding(crate::specs::Statements::abort_statement))]
+fn abort_statement(
+    alloc: Global,
+    tokens: &mut Tokens<'_>,
+    depth: usize,
+    weak: bool,
+) -> Result<Stmt, Fault>
+    ensures { Reads statement (spec.abort_statement max_level (spec.stmt max_level depth) weak tokens.old) result tokens.new }
 {
     let outer = tokens.level();
     let token = tokens.enter(Fixed::Abort)?;

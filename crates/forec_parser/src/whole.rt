@@ -7,7 +7,7 @@ ghost use Rattle.forec_tree.specs.Terms.{Text};
 ghost use Rattle.forec_tree.specs.SpelledPrograms.{IsSpelled};
 ghost use Rattle.expr_parser.specs.Input.{input, max_level};
 ghost use Rattle.forec_parser.specs.Items as spec;
-ghost use Rattle.forec_parser.specs.Places.{StopsAt, OpensAt};
+ghost use Rattle.forec_parser.specs.ViablePrefixes.{StopsAt, OpensAt};
 ghost use Rattle.forec_parser.specs.Program.{Answers, Gives, HasCause, IsAmong, told_of};
 
 use crate::fault::ParseFault;
@@ -46,7 +46,7 @@ fn told(fault: Fault, count: usize) -> ParseFault
 ///
 /// The level of a program is how deep its brackets, statements and operators nest; 128 is the
 /// greatest that is read, so a stack of one megabyte does. The time is linear in the tokens.
-/// A refusal other than want of memory tells at which token the text stops to be a program within
+/// A refusal other than out of memory tells at which token the text stops to be a program within
 /// this level, and comes wherever its cause is.
 pub fn parse(alloc: Global, tokens: &[Token]) -> Result<Program, ParseFault>
     requires { length tokens.now ≤ 200000 }

@@ -91,7 +91,7 @@ pub data Introduces : List PlainItem → ℕ → List Spelt → Type 0 where
   globals : {v : ℕ} {int : Token} (semicolon : Token) {globals : List PlainGlobal} {ls : List Spelt}
       → IsWord word.Int int → Separated (Scalar sort.Plain None) globals v ls → IsMark mark.Semicolon semicolon
       → Introduces (map IsGlobal globals) v (at int v ∷ (ls ++ (at semicolon v ∷ [])))
-  shares : {v : ℕ} (int semicolon : Token) {kind : GlobalKind} {global : PlainGlobal} {combine : Combine} {ls ms rs : List Spelt}
+  shared_globals : {v : ℕ} (int semicolon : Token) {kind : GlobalKind} {global : PlainGlobal} {combine : Combine} {ls ms rs : List Spelt}
       → Sharing kind v ls → IsWord word.Int int → Scalar kind (Some combine) global v ms → Combines combine v rs → IsMark mark.Semicolon semicolon
       → Introduces (IsGlobal global ∷ []) v (ls ++ (at int v ∷ (ms ++ (rs ++ (at semicolon v ∷ [])))))
   function : {v : ℕ} {t name : Token} {place : Place} {names : List Name} {body : List Statement} {ls ms : List Spelt} (gives : Bool) (id : ℕ)

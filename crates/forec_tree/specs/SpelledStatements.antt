@@ -73,11 +73,11 @@ pub data Bounds : Option Number → ℕ → List Spelt → Type 0 where
   bounded : {v : ℕ} {hash t : Token} (value : ℤ) → IsMark mark.Hash hash → IsNumber value t → Bounds (Some (number_at value t.place)) v (at hash v ∷ at t v ∷ [])
 
 -- how a `for` starts
-pub data LoopStarts : Perhaps → ℕ → List Spelt → Type 0 where
-  no_start : {v : ℕ} → LoopStarts absent v []
-  simple_start : {v : ℕ} {x : Statement} {ls : List Spelt} → Simple x v ls → LoopStarts (present x) v ls
+pub data ForStarts : Perhaps → ℕ → List Spelt → Type 0 where
+  no_start : {v : ℕ} → ForStarts absent v []
+  simple_start : {v : ℕ} {x : Statement} {ls : List Spelt} → Simple x v ls → ForStarts (present x) v ls
   declared_start : {v : ℕ} {int t equal : Token} {value : Term} {ls : List Spelt} (id : ℕ) → IsWord word.Int int → IsName id t → IsMark mark.Assign equal → Whole value v ls
-      → LoopStarts (present (plain.Declare int.place (declared_as (name_at id t.place) None (value ∷ []) ∷ []))) v (at int v ∷ at t v ∷ at equal v ∷ ls)
+      → ForStarts (present (plain.Declare int.place (declared_as (name_at id t.place) None (value ∷ []) ∷ []))) v (at int v ∷ at t v ∷ at equal v ∷ ls)
 
 -- the test of a `for`
 pub data Tests : Option Term → ℕ → List Spelt → Type 0 where
@@ -85,14 +85,14 @@ pub data Tests : Option Term → ℕ → List Spelt → Type 0 where
   some_test : {v : ℕ} {test : Term} {ls : List Spelt} → Whole test v ls → Tests (Some test) v ls
 
 -- what a `for` does after its body
-pub data Steps : Perhaps → ℕ → List Spelt → Type 0 where
-  no_step : {v : ℕ} → Steps absent v []
-  some_step : {v : ℕ} {x : Statement} {ls : List Spelt} → Simple x v ls → Steps (present x) v ls
+pub data ForSteps : Perhaps → ℕ → List Spelt → Type 0 where
+  no_step : {v : ℕ} → ForSteps absent v []
+  some_step : {v : ℕ} {x : Statement} {ls : List Spelt} → Simple x v ls → ForSteps (present x) v ls
 
 -- what stands between the brackets of a `for`
 pub data HeadParts : Head → ℕ → List Spelt → Type 0 where
   head_parts : {v : ℕ} (first second : Token) {start : Perhaps} {test : Option Term} {step : Perhaps} {ls ms rs : List Spelt}
-      → LoopStarts start v ls → IsMark mark.Semicolon first → Tests test v ms → IsMark mark.Semicolon second → Steps step v rs
+      → ForStarts start v ls → IsMark mark.Semicolon first → Tests test v ms → IsMark mark.Semicolon second → ForSteps step v rs
       → HeadParts (head_of start test step) v (ls ++ (at first v ∷ (ms ++ (at second v ∷ rs))))
 
 -- the head of a `for`, with its brackets

@@ -81,7 +81,7 @@ fn launch_calls(calls: &mut Vec<u32>, launches: &[Launch]) -> Result<(), OutOfMe
 ///
 /// # Errors
 ///
-/// Want of memory.
+/// Out of memory.
 #[cycle(statement_calls)]
 pub fn statement_calls(calls: &mut Vec<u32>, s: &Statement) -> Result<(), OutOfMemory>
     ensures { OnOk result (calls.new.items ≡ calls.old.items ++ of.stmt_calls (kernel.stmt s.now)) }

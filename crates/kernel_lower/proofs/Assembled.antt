@@ -16,7 +16,7 @@ use Rattle.std.specs.declared.alloc.Global.{Global as Alloc}
 use Rattle.body_lower.specs.declared.state.State.{State}
 use Rattle.body_lower.specs.declared.state.Thread.{Thread}
 use Rattle.text_kernel.specs.Bindings.{first_value}
-use Rattle.text_kernel.specs.Lowering.{NextNumbers, as_one, body_in_place}
+use Rattle.text_kernel.specs.Lowering.{NextNumbers, as_one, inlined_body}
 use Rattle.text_kernel.specs.Kernels.{padded, function_body}
 use Rattle.body_lower.specs.Landings.{called_within}
 use Rattle.body_lower.specs.Views.{Bare, bare, of_thread, next_of, threads_in, threads_of, Does}
@@ -24,7 +24,7 @@ use Rattle.kernel_lower.specs.declared.expand.Bodies.{Bodies}
 use Rattle.kernel_lower.specs.Drafts.{bare_shapes, named_at, part_at, marked_from, Expanded}
 use Rattle.text_kernel.specs.Items.{globals_of}
 use Rattle.kernel_lower.specs.Marks.{row_uses, shape_uses, with_uses, MarksOf}
-use Rattle.kernel_lower.proofs.Drafted.{marks_uses}
+use Rattle.kernel_lower.proofs.DraftLemmas.{marks_uses}
 use Rattle.body_lower.proofs.Statements.{drop_next}
 
 -- ---- int functions
@@ -34,9 +34,9 @@ from_params n = record { slot = n; thread = 1; par = 0 }
 
 -- where nothing is put in place
 alone : (text : Text) (names : List (List ℕ)) (f : PlainFunction) (n : NextNumbers) → n ≡ (let m : NextNumbers = record { slot = length f.params; thread = 1; par = 0 } in m) →
-    body_in_place text (called_within text 0) (Some f) 0 0 n ≡ as_one (function_body text names f)
+    inlined_body text (called_within text 0) (Some f) 0 0 n ≡ as_one (function_body text names f)
 unfolding within
-alone text names f n e = ap (body_in_place text (called_within text 0) (Some f) 0 0) e
+alone text names f n e = ap (inlined_body text (called_within text 0) (Some f) 0 0) e
 
 begins : (s : State) (p : ℕ) → s.slot ≡ p → s.thread ≡ 1 → s.par ≡ 0 → next_of s ≡ (let m : NextNumbers = record { slot = p; thread = 1; par = 0 } in m)
 begins s p e t q =
@@ -44,7 +44,7 @@ begins s p e t q =
     ap (λ x. at x s.thread s.par) e ∙ (ap (λ x. at p x s.par) t ∙ ap (at p 1) q)
 
 pub translated : (text : Text) (names : List (List ℕ)) (f : PlainFunction) (k : Stmt) (old new : State) → old.slot ≡ length f.params → old.thread ≡ 1 → old.par ≡ 0 →
-    Does text (body_in_place text (called_within text 0) (Some f) 0 0 (next_of old)) k old new → Does text (as_one (function_body text names f)) k old new
+    Does text (inlined_body text (called_within text 0) (Some f) 0 0 (next_of old)) k old new → Does text (as_one (function_body text names f)) k old new
 translated text names f k old new s t p d = subst (λ l. Does text l k old new) (alone text names f (next_of old) (begins old (length f.params) s t p)) d
 
 -- thread 0 and those below it

@@ -34,7 +34,7 @@ use Rattle.kernel_lower.specs.Refusals.{amount_in, First, Causes, Passes}
 use Rattle.text_sizes.proofs.Sized.{place_threads}
 use Rattle.text_kernel.proofs.Placed.{root_grown}
 use Rattle.text_kernel.proofs.Segments.{segments}
-use Rattle.kernel_lower.proofs.Drafted.{shapes_are}
+use Rattle.kernel_lower.proofs.DraftLemmas.{shapes_are}
 
 -- ---- the threads
 

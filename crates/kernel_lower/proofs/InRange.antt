@@ -7,7 +7,7 @@ use Rattle.forec_kernel.specs.Shapes.{PlainKernel}
 use Rattle.forec_kernel.specs.Combining.{contains, variable_of}
 use Rattle.forec_kernel.specs.Texts.{body_of, uses_of, words_of}
 use Rattle.forec_kernel.specs.WellFormed.{Scope, FineExpr, FineExprs, FineBranches, FineStmt, FineStmts, calls_of, calls_in, branch_calls, stmt_calls, stmts_calls, pars_of, users, combine_calls, par_calls, thread_calls, function_body, count_up}
-use Rattle.loop_check.proofs.Indexed.{split}
+use Rattle.loop_check.proofs.IndexLemmas.{split}
 use Rattle.text_kernel.specs.Kernels.{kernel_of, root, variable_count}
 use Rattle.kernel_lower.specs.Measures.{CallsLow}
 use Rattle.text_kernel.proofs.Called.{in_two}

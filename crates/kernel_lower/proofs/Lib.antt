@@ -2,7 +2,7 @@ pub mod Finishing
 pub mod Assembled
 pub mod Tallying
 pub mod InRange
-pub mod Drafted
+pub mod DraftLemmas
 pub mod Measuring
-pub mod Reaching
+pub mod ReachLemmas
 pub mod Reckoning

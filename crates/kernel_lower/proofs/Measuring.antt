@@ -18,7 +18,7 @@ use Rattle.forec_kernel.specs.Values.{function_words}
 use Rattle.forec_kernel.specs.Texts.{uses_in, uses_of, words_in, body_of}
 use Rattle.forec_kernel.specs.WellFormed.{greatest, count_up, stmt_calls, stmt_depth, function_body, chain, users, combine_calls, par_calls, thread_calls, pars_of, Ranked}
 use Rattle.loop_check.specs.Graph.{callees}
-use Rattle.loop_check.proofs.Indexed.{split}
+use Rattle.loop_check.proofs.IndexLemmas.{split}
 use Rattle.kernel_lower.specs.Reach.{value_at, chain_step, chain_value, list_items, has, combine_at, users_by, combine_by, pars_by}
 use Rattle.kernel_lower.specs.Drafts.{marked_from}
 use Rattle.kernel_lower.specs.Marks.{is_marked, row_uses, shape_uses}

@@ -10,7 +10,7 @@ use Rattle.forec_kernel.specs.declared.terms.Statement.{Statement}
 use Rattle.forec_kernel.specs.declared.shape.FunctionShape.{FunctionShape}
 use Rattle.kernel_lower.specs.declared.expand.Bodies.{Bodies}
 use Rattle.body_lower.specs.declared.state.Thread.{Thread}
-use Rattle.text_kernel.specs.Lowering.{Lowered, sequence, vars_of, in_place}
+use Rattle.text_kernel.specs.Lowering.{Lowered, sequence, vars_of, inlined}
 use Rattle.text_kernel.specs.Kernels.{function_body, filter_in}
 use Rattle.body_lower.specs.Views.{Bare, bare, of_thread}
 
@@ -22,7 +22,7 @@ function_text text names f = sequence (function_body text names f).list
 
 -- `main` and what stands below it, from a function by its name
 abbrev pub root_of : Text → ℕ → Lowered
-root_of text first = in_place text first 0 0 (record { slot = 0; thread = 1; par = 0 })
+root_of text first = inlined text first 0 0 (record { slot = 0; thread = 1; par = 0 })
 
 pub record Expanded (text : Text) (first : ℕ) (b : Bodies) : Type 0 where
   pub main : stmt b.main ≡ (root_of text first).stmt

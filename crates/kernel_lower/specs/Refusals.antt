@@ -9,7 +9,7 @@ use Rattle.kernel_lower.specs.declared.lower_fault.LowerFault.TheVariants as fau
 use Rattle.kernel_lower.specs.declared.judge.Amounts.{Amounts}
 use Rattle.text_kernel.specs.Limits.{limit_of, earlier, IsLimit}
 
--- a refusal reports the first limit that is passed; want of memory is free
+-- a refusal reports the first limit that is passed; out of memory is free
 abbrev pub Causes : LowerFault → Text → List (List ℕ) → Type 0
 Causes (fault.Limit what count) text names = IsLimit text names what count
 Causes fault.OutOfMemory text names = Unit {0}

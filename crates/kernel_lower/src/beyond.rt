@@ -3,8 +3,8 @@
 ghost use Rattle.std.specs.Prelude.{◌≡◌, ◌≤◌, ◌-◌, ◌^◌, ℕ, min, map, IfOk, IfErr, OnOk};
 ghost use Rattle.forec_tree.specs.Plain.{plain_item};
 ghost use Rattle.forec_tree.specs.Faults.{Leads};
-ghost use Rattle.forec_tree.specs.Pauses.{starts};
-ghost use Rattle.forec_check.specs.Checks.{Faultless};
+ghost use Rattle.forec_tree.specs.Pauses.{callees_of};
+ghost use Rattle.forec_check.specs.Faultless.{Faultless};
 ghost use Rattle.forec_kernel.specs.WellFormed.{Ranked};
 ghost use Rattle.loop_check.specs.Views.{text_of};
 ghost use Rattle.text_kernel.specs.Kernels.{kernel_of, int_functions, main_id};
@@ -49,7 +49,7 @@ pub fn foresee(
     first: u32,
     threads: u64,
 ) -> Result<u64, LowerFault>
-    requires free { (f : ℕ) → Leads (starts (text_of index.now)) f f → ⊥ }
+    requires free { (f : ℕ) → Leads (callees_of (text_of index.now)) f f → ⊥ }
     requires first { first ≡ main_id (text_of index.now) names.now }
     requires threads { threads ≡ min (limits.amount quantity.Threads (kernel_of (text_of index.now) names.now)) (2 ^ 64 - 1) }
     requires few { threads ≤ limits.limit_of quantity.Threads }
@@ -101,7 +101,7 @@ pub fn beyond(
     requires text { OneText source.now }
     requires items { map plain_item items.now ≡ text_of source.now.globals.index }
     requires functions { functions_of functions.now ≡ int_functions (text_of source.now.globals.index) names.now (text_of source.now.globals.index) }
-    requires free { (f : ℕ) → Leads (starts (text_of source.now.globals.index)) f f → ⊥ }
+    requires free { (f : ℕ) → Leads (callees_of (text_of source.now.globals.index)) f f → ⊥ }
     requires faultless { Faultless (text_of source.now.globals.index) names.now }
     requires ranked { Ranked (kernel_of (text_of source.now.globals.index) names.now) }
     requires low { CallsLow (kernel_of (text_of source.now.globals.index) names.now) }

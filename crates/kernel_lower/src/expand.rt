@@ -5,7 +5,7 @@ ghost use Rattle.loop_check.specs.Views.{text_of};
 ghost use Rattle.body_lower.specs.Views.{OneText};
 ghost use Rattle.kernel_lower.specs.Drafts.{Expanded};
 
-use body_lower::{Context, FUEL, Source, State, Thread, in_place, threads_below};
+use body_lower::{Context, FUEL, Source, State, Thread, inlined, threads_below};
 use forec_base::OutOfMemory;
 use forec_kernel::Statement;
 use std::alloc::Global;
@@ -36,7 +36,7 @@ pub fn expand(
         deep,
         owner: 0,
     };
-    let main = in_place(&context, FUEL, 0, &mut state, first)?;
+    let main = inlined(&context, FUEL, 0, &mut state, first)?;
     let words = state.slot;
     let threads = threads_below(alloc, source, state)?;
     Ok(Bodies {

@@ -3,7 +3,7 @@ use Rattle.std.proofs.Common.{◌≡◌, ◌∙◌, ℕ, ◌+◌, ◌≤◌, ◌
 use Rattle.forec_kernel.specs.Plain.{exprs, branch}
 use Rattle.forec_kernel.specs.declared.terms.Launch.{Launch}
 use Rattle.running_texts.proofs.Kernels.{drop_next}
-use Rattle.forec_kernel.specs.Values.{Values, AllGive, OneStops, Setting, Sight, vals}
+use Rattle.forec_kernel.specs.Values.{Values, AllGive, OneRaises, Setting, Sight, vals}
 use Rattle.forec_kernel.specs.Steps.{Arguments, Ready, Refused, one_more_list, arguments_then, arguments}
 use Rattle.running_texts.specs.declared.meter.Halt.{Halt}
 use Rattle.running_texts.specs.declared.meter.Halt.TheVariants.{Trapped, Over, OutOfMemory}
@@ -46,7 +46,7 @@ lists_more old mid new ns more whole rest v x s m e =
 lists_least : (ns : List (List ℤ)) (u : ℕ) (v : Values) (rest : Arguments) → u + values_units v ≤ lists_units (after_lists ns u (arguments_then v rest))
 lists_least ns u (AllGive n w) (Ready ms x) = omega arith
 lists_least ns u (AllGive n w) (Refused place trap x) = omega arith
-lists_least ns u (OneStops place trap w) rest = omega arith
+lists_least ns u (OneRaises place trap w) rest = omega arith
 
 pub lists_stop : (old mid new : ℕ) (ns : List (List ℤ)) (whole rest : Arguments) (v : Values) (h : Halt) → ListsSoFar old mid ns whole (arguments_then v rest) →
     IsMetered numbers mid new (Err h) v → IsMetered lists old new (Err h) whole

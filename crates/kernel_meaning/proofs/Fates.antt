@@ -8,7 +8,7 @@ use Rattle.forec_kernel.specs.declared.shape.VarCopy.{VarCopy}
 use Rattle.forec_kernel.specs.Plain.{expr}
 use Rattle.forec_kernel.specs.Shapes.{PlainKernel}
 use Rattle.forec_kernel.specs.Terms.{Expr}
-use Rattle.forec_kernel.specs.Values.{Value, Gives, Stops}
+use Rattle.forec_kernel.specs.Values.{Value, Gives, Raises}
 use Rattle.forec_kernel.specs.Texts as plain
 use Rattle.forec_kernel.specs.Texts.{Text, Done, Watch, Last, Thread}
 use Rattle.forec_kernel.specs.Steps.{Woken, Wakes, Stays, more_woken, woken_in, woken_with, watched_on, woken, waking_units, evaluated, text_if, status_of}
@@ -16,7 +16,7 @@ use Rattle.forec_kernel.specs.Ticks.{Going}
 use Rattle.running_texts.specs.declared.meter.Halt.{Halt}
 use Rattle.running_texts.specs.declared.meter.Halt.TheVariants.{Trapped, Over, OutOfMemory}
 use Rattle.running_texts.specs.Metered.{IsMetered}
-use Rattle.running_texts.proofs.Metering.{is_zero_of, not_zero_of, tested_gives}
+use Rattle.running_texts.proofs.MeteredLemmas.{is_zero_of, not_zero_of, tested_gives}
 use Rattle.running_texts.proofs.Tests.{AfterTest}
 use Rattle.running_threads.specs.declared.threads.Frame.{Frame}
 use Rattle.running_threads.specs.declared.threads.Frame.TheVariants as frame
@@ -58,7 +58,7 @@ no_frames R (Stays place trap v) = ap (Stays place trap) (omega arith)
 with_is : (v : Value) (go : ℤ → Woken) (on : ℤ → Fate) (R : Text) (inner : Woken) → ((n : ℤ) → go n ≡ by_fate R (on n) inner) →
     woken_with v go ≡ by_fate R (fate_with v on) inner
 with_is (Gives n u) go on R inner e = ap (more_woken u) (e n) ∙ sym (more_is u R (on n) inner)
-with_is (Stops place trap u) go on R inner e = refl
+with_is (Raises place trap u) go on R inner e = refl
 
 watch_is : (k : PlainKernel) (weak : Bool) (e : _) (n : ℤ) (R : Text) (x : Fate) (whole inner : Woken) → whole ≡ by_fate R x inner →
     watched_on weak (expr e.now) n whole ≡ by_fate R (fate_on (frame.Watch weak e) weak n x) inner
@@ -188,12 +188,12 @@ module _ (weak : Bool) (f : Frame) (inner : Fate) (v : Value) (before after : Li
   test_fails h t = by_value v h t
     where
       by_value : (v : Value) (h : Halt) → AfterTest old new (Err h) v → Reached (fate_with v rest) before after old new (Err h)
-      by_value (Gives n u) (Trapped place trap) t = let e : Gives n (u + 1) ≡ Stops place trap t.by.units = t.by.is in absurd (cc)
-      by_value (Stops p q u) (Trapped place trap) t =
-          let e : Stops p q u ≡ Stops place trap t.by.units = t.by.is in
+      by_value (Gives n u) (Trapped place trap) t = let e : Gives n (u + 1) ≡ Raises place trap t.by.units = t.by.is in absurd (cc)
+      by_value (Raises p q u) (Trapped place trap) t =
+          let e : Raises p q u ≡ Raises place trap t.by.units = t.by.is in
           record { by = record { units = t.by.units; is = ap (λ x. fate_with x rest) e; left = t.by.left } }
       by_value (Gives n u) Over t = let l : old < u + 1 = t.by in record { by = omega (arith, more_units_is u (rest n), rest_least n) }
-      by_value (Stops p q u) Over t = record { by = t.by }
+      by_value (Raises p q u) Over t = record { by = t.by }
       by_value v OutOfMemory t = record { by = tt }
 
 -- ---- a thread that wakes

@@ -10,11 +10,11 @@ use Rattle.forec_kernel.specs.Texts.{Loop, Again, Then, Watch, Last, text_of}
 use Rattle.forec_kernel.specs.Steps.{Move, Moves, move_with, Owner, evaluated, turned, entered, loop_move, statement_move, units_of}
 use Rattle.running_texts.specs.declared.meter.Halt.{Halt}
 use Rattle.running_texts.specs.declared.meter.Halt.TheVariants.{Trapped}
-use Rattle.running_texts.proofs.Metering.{is_zero_of, not_zero_of}
+use Rattle.running_texts.proofs.MeteredLemmas.{is_zero_of, not_zero_of}
 use Rattle.running_texts.proofs.Tests.{AfterTest}
 use Rattle.forec_kernel.specs.Plain.{stmt}
 use Rattle.running_threads.specs.declared.threads.Turn.{Turn}
-use Rattle.running_threads.specs.Views.{looping}
+use Rattle.running_threads.specs.Views.{plain_loop}
 use Rattle.running_threads.specs.declared.frames.NextText.{NextText}
 use Rattle.running_threads.specs.Moves.{next_text}
 use Rattle.kernel_meaning.specs.declared.moving.Step.TheVariants as step
@@ -129,6 +129,6 @@ module _ (s : Origin) (old mid : ℕ) (v : Value) (e : Expr) (weak : Bool) (body
   enter_fails h t = step_failed s old mid h v enter_move (λ n. omega arith) t
 
 -- a turn's text, where the loop is known by an equation
-pub turned_text : (turn : Turn) (loop : Loop) → looping turn ≡ loop →
-    Then (text_of (stmt turn.body.now)) (Again (looping turn)) ≡ Then (text_of loop.body) (Again loop)
+pub turned_text : (turn : Turn) (loop : Loop) → plain_loop turn ≡ loop →
+    Then (text_of (stmt turn.body.now)) (Again (plain_loop turn)) ≡ Then (text_of loop.body) (Again loop)
 turned_text turn loop e = ap (λ l. Then (text_of l.body) (Again l)) e

@@ -16,7 +16,7 @@ use Rattle.running_threads.specs.declared.threads.Thread as rust
 use Rattle.running_threads.specs.Views.{plain_thread, standing}
 use Rattle.kernel_meaning.specs.Moving.{IsThread, after_move}
 use Rattle.kernel_meaning.specs.Waking.{WokenTo}
-use Rattle.kernel_meaning.specs.States.{Along, PassesBudget, CameTo, GoesOn, Advances, told}
+use Rattle.kernel_meaning.specs.States.{Along, PassesBudget, CameTo, CarriesOn, Advances, told}
 
 -- ---- one step more
 
@@ -73,7 +73,7 @@ advanced k t now path old new (Err Over) run h budget from a =
 advanced k t now path old new (Err OutOfMemory) run h budget from a = tt
 
 pub advance_goes : {A : Type 0} (k : PlainKernel) (t now : Thread) (old new : ℕ) (r : Result A Halt) → is_running t.status ≡ true → Advances k t now old new r →
-    GoesOn k t now old new r
+    CarriesOn k t now old new r
 advance_goes k t now old new r run a = record { on = advanced k t now a.path old new r run a.is }
 
 pub advance_pays : {A : Type 0} (k : PlainKernel) (t now : Thread) (old new : ℕ) (x : A) → Advances k t now old new (Ok x) → new ≤ old
@@ -81,7 +81,7 @@ advance_pays k t now old new x a = let paid = a.is.by.1 in omega arith
 
 pub then_goes : {A : Type 0} (k : PlainKernel) (first t now : Thread) (start old new : ℕ) (r : Result A Halt) →
     ((budget : ℕ) (from : Going) → Along k budget from first start → Along k budget from t old) →
-    GoesOn k t now old new r → GoesOn k first now start new r
+    CarriesOn k t now old new r → CarriesOn k first now start new r
 then_goes k first t now start old new r before g = record { on = λ budget from a. g.on budget from (before budget from a) }
 
 -- ---- a step that costs nothing

@@ -6,14 +6,14 @@ use Rattle.forec_kernel.specs.declared.shape.VarCopy.{VarCopy}
 use Rattle.forec_kernel.specs.declared.terms.Spot.{Spot}
 use Rattle.forec_kernel.specs.declared.terms.Spot.TheVariants as spot
 use Rattle.forec_kernel.specs.Shapes.{PlainKernel}
-use Rattle.forec_kernel.specs.Values.{Value, Gives, Stops}
+use Rattle.forec_kernel.specs.Values.{Value, Gives, Raises}
 use Rattle.forec_kernel.specs.Texts as plain
 use Rattle.forec_kernel.specs.Steps.{Move, Finished, Halts, Moves, Traps, more_move, move_with, units_of, Arguments, Ready, Refused, Owner, forked, started, assigned, assigned_at}
 use Rattle.forec_kernel.specs.Terms.{Branch}
 use Rattle.running_texts.specs.declared.meter.Halt.{Halt}
 use Rattle.running_texts.specs.declared.meter.Halt.TheVariants.{Trapped, Over, OutOfMemory}
 use Rattle.running_texts.specs.Metered.{IsMetered, number, value_units}
-use Rattle.running_texts.proofs.Metering.{tested_gives}
+use Rattle.running_texts.proofs.MeteredLemmas.{tested_gives}
 use Rattle.running_texts.proofs.Tests.{AfterTest}
 use Rattle.running_threads.specs.declared.frames.NextText.{NextText}
 use Rattle.running_threads.specs.Moves.{next_text}
@@ -54,13 +54,13 @@ module _ (s : Origin) where
 
   pub step_failed : (old new : ℕ) (h : Halt) (v : Value) (go : ℤ → Move) → ((x : ℤ) → 1 ≤ units_of (go x)) →
       AfterTest old new (Err h) v → IsMoved s old new (Err h) (move_with v go)
-  step_failed old new (Trapped place trap) (Gives n u) go least t = let e : Gives n (u + 1) ≡ Stops place trap t.by.units = t.by.is in absurd (cc)
-  step_failed old new (Trapped place trap) (Stops p q u) go least t =
-      let e : Stops p q u ≡ Stops place trap t.by.units = t.by.is in
+  step_failed old new (Trapped place trap) (Gives n u) go least t = let e : Gives n (u + 1) ≡ Raises place trap t.by.units = t.by.is in absurd (cc)
+  step_failed old new (Trapped place trap) (Raises p q u) go least t =
+      let e : Raises p q u ≡ Raises place trap t.by.units = t.by.is in
       record { by = record { units = t.by.units; is = ap (λ x. move_with x go) e; left = t.by.left } }
   step_failed old new Over (Gives n u) go least t =
       let h : old < u + 1 = t.by in record { by = omega (arith, units_more u (go n) (least n), least n) }
-  step_failed old new Over (Stops p q u) go least t = record { by = t.by }
+  step_failed old new Over (Raises p q u) go least t = record { by = t.by }
   step_failed old new OutOfMemory v go least t = record { by = tt }
 
 -- ---- an operand before the one that decides
@@ -80,7 +80,7 @@ more_has_units u (Traps place trap w) g = tt
 
 pub with_has_units : (v : Value) (go : ℤ → Move) → ((x : ℤ) → HasUnits (go x)) → HasUnits (move_with v go)
 with_has_units (Gives n u) go h = more_has_units u (go n) (h n)
-with_has_units (Stops place trap u) go h = tt
+with_has_units (Raises place trap u) go h = tt
 
 units_add : (u : ℕ) (m : Move) → HasUnits m → units_of (more_move u m) ≡ u + units_of m
 units_add u Finished g = absurd g
@@ -127,7 +127,7 @@ units_least (Gives n u) go g = at (go n) (g n)
     at Halts g = absurd g
     at (Moves R words copies w) g = omega arith
     at (Traps place trap w) g = omega arith
-units_least (Stops place trap u) go g = omega arith
+units_least (Raises place trap u) go g = omega arith
 
 pub operand_err : (s : Origin) (old new : ℕ) (h : Halt) (v : Value) (go : ℤ → Move) → ((x : ℤ) → HasUnits (go x)) →
     IsMetered number old new (Err h) v → IsMoved s old new (Err h) (move_with v go)

@@ -4,7 +4,7 @@ use Rattle.std.proofs.lemmas.Bool.Decides.{nat_tests}
 use Rattle.forec_base.specs.declared.Policy.{Policy}
 use Rattle.forec_kernel.specs.declared.shape.VarCopy.{VarCopy}
 use Rattle.forec_kernel.specs.Shapes.{PlainKernel}
-use Rattle.forec_kernel.specs.Values.{Value, Gives, Stops, copy_of}
+use Rattle.forec_kernel.specs.Values.{Value, Gives, Raises, copy_of}
 use Rattle.forec_kernel.specs.Texts.{Text, Threads, no_threads, child, Status, is_active, uses_of}
 use Rattle.forec_kernel.specs.Combining.{Share, contains, shares, takes_part, taking_part, some_marked, Joint, fold_calls, last_value, variable_calls, combined_value, variable_of, combine_of, part_of, joined_copies, calls_of, calls_from, calls_at, count_threads, in_order, Cost, Costs, Fails, more_cost, cost_of, join_cost}
 use Rattle.running_texts.specs.declared.folds.Fold.{Fold}
@@ -86,11 +86,11 @@ fold_quiet f total m i (s ∷ ss) h lt =
     pick : (v : Value) → (s.from == i) ≡ false → ((n : ℤ) → calls_from i (fold_calls f n ss) ≡ []) →
         calls_from i (elim v [
           | Gives n u ↦ record { from = s.from; gives = Gives n u } ∷ fold_calls f n ss
-          | Stops place trap u ↦ record { from = s.from; gives = Stops place trap u } ∷ []
+          | Raises place trap u ↦ record { from = s.from; gives = Raises place trap u } ∷ []
         ])
         ≡ []
     pick (Gives n u) ne r = ap (λ b. cond b (Gives n u ∷ calls_from i (fold_calls f n ss)) (calls_from i (fold_calls f n ss))) ne ∙ r n
-    pick (Stops place trap u) ne r = ap (λ b. cond b (Stops place trap u ∷ []) []) ne
+    pick (Raises place trap u) ne r = ap (λ b. cond b (Raises place trap u ∷ []) []) ne
 
 from_quiet : (f : Option (ℤ → ℤ → Value)) (total : ℤ) (m i : ℕ) (ss : List Share) → FromOn m ss → i < m → calls_from i (rest_from f total ss) ≡ []
 from_quiet None total m i ss h lt = refl
@@ -131,7 +131,7 @@ more_then u (Fails place trap w) c = refl
 cost_append : (xs ys : List Value) → cost_of (xs ++ ys) ≡ cost_then (cost_of xs) (cost_of ys)
 cost_append [] ys = sym (more_none (cost_of ys))
 cost_append (Gives n u ∷ xs) ys = ap (more_cost u) (cost_append xs ys) ∙ more_then u (cost_of xs) (cost_of ys)
-cost_append (Stops place trap u ∷ xs) ys = refl
+cost_append (Raises place trap u ∷ xs) ys = refl
 
 in_order_same : (n j : ℕ) (as' bs : List (List Joint)) → ((i : ℕ) → j ≤ i → calls_at i as' ≡ calls_at i bs) → in_order j n as' ≡ in_order j n bs
 in_order_same zero j as' bs h = refl
@@ -162,11 +162,11 @@ module _ (k : PlainKernel) (j : ℕ) (rest : Threads) where
       EntryOk e
       (elim v [
         | Gives n u ↦ record { from = j; gives = Gives n u } ∷ fold_calls f n (later e)
-        | Stops place trap u ↦ record { from = j; gives = Stops place trap u } ∷ []
+        | Raises place trap u ↦ record { from = j; gives = Raises place trap u } ∷ []
       ])
       (Some (last_value total (elim v [
         | Gives n u ↦ record { from = j; gives = Gives n u } ∷ fold_calls f n (later e)
-        | Stops place trap u ↦ record { from = j; gives = Stops place trap u } ∷ []
+        | Raises place trap u ↦ record { from = j; gives = Raises place trap u } ∷ []
       ])))
       (as_added v)
   entry_called e total f (Gives n u) is =
@@ -182,8 +182,8 @@ module _ (k : PlainKernel) (j : ℕ) (rest : Threads) where
     where
       differs : (i : ℕ) → j < i → (j == i) ≡ false
       differs i lt = grind (arith, nat_tests)
-  entry_called e total f (Stops place trap u) is =
-      ap (λ b. cost_of (cond b (Stops place trap u ∷ []) [])) (itself j)
+  entry_called e total f (Raises place trap u) is =
+      ap (λ b. cost_of (cond b (Raises place trap u ∷ []) [])) (itself j)
 
   entry_in : (e : Fold) (x : VarCopy) (f : Option (ℤ → ℤ → Value)) (total : Option ℤ) → function_of k e ≡ f →
       EntryOk e (rest_calls f total (record { from = j; copy = x } ∷ later e)) (rest_total f total (record { from = j; copy = x } ∷ later e)) (added f total x.value)

@@ -74,7 +74,7 @@ CameTo k budget from t new (Err Over) = PassesBudget k budget from
 CameTo k budget from t new (Err OutOfMemory) = Unit {0}
 
 -- going on along some steps from where other steps have come to
-pub record GoesOn {A : Type 0} (k : PlainKernel) (before after : plain.Thread) (old new : ℕ) (result : Result A Halt) : Type 0 where
+pub record CarriesOn {A : Type 0} (k : PlainKernel) (before after : plain.Thread) (old new : ℕ) (result : Result A Halt) : Type 0 where
   pub on : (budget : ℕ) (from : Going) → Along k budget from before old → CameTo k budget from after new result
 
 -- thread 0 after a step along some path

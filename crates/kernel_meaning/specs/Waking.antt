@@ -9,7 +9,7 @@ use Rattle.forec_kernel.specs.declared.shape.VarCopy.{VarCopy}
 use Rattle.forec_kernel.specs.Plain.{expr}
 use Rattle.forec_kernel.specs.declared.shape.KernelParts.{KernelParts}
 use Rattle.forec_kernel.specs.Shapes.{PlainKernel, plain_kernel}
-use Rattle.forec_kernel.specs.Values.{Value, Gives, Stops}
+use Rattle.forec_kernel.specs.Values.{Value, Gives, Raises}
 use Rattle.forec_kernel.specs.Texts as plain
 use Rattle.forec_kernel.specs.Steps.{Woken, Wakes, Stays, waking_units, woken, text_if, status_of, evaluated, Stepped}
 use Rattle.forec_kernel.specs.Ticks.{Going}
@@ -45,7 +45,7 @@ fate_in f (Sticks place trap u) = Sticks place trap u
 
 abbrev pub fate_with : Value → (ℤ → Fate) → Fate
 fate_with (Gives n u) go = more_fate u (go n)
-fate_with (Stops place trap u) go = Sticks place trap u
+fate_with (Raises place trap u) go = Sticks place trap u
 
 -- an abort whose test has given a number
 abbrev pub fate_on : Frame → Bool → ℤ → Fate → Fate

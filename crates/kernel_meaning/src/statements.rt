@@ -8,7 +8,7 @@ ghost use Rattle.forec_kernel.specs.Texts as plain;
 ghost use Rattle.forec_kernel.specs.Values.{vals, setting, index_in, cleared};
 ghost use Rattle.forec_kernel.specs.Steps.{Moves, arguments, entered, assigned, assigned_at};
 ghost use Rattle.running_texts.specs.Metered.{IsMetered, number, numbers, sight_of};
-ghost use Rattle.running_threads.specs.Views.{looping};
+ghost use Rattle.running_threads.specs.Views.{plain_loop};
 ghost use Rattle.kernel_meaning.specs.Moving.{IsMoved, IsMoveAfter, LoopMoved, StatementMoved, Origin, lists, value_in};
 
 use crate::forks::start_children;
@@ -74,7 +74,7 @@ fn arguments_of(
 
 /// A loop with so many turns left.
 fn with_left<'k>(turn: Turn<'k>, left: u32) -> Turn<'k>
-    ensures { looping result ≡ record (looping turn.entry) { left = Some left } }
+    ensures { plain_loop result ≡ record (plain_loop turn.entry) { left = Some left } }
 {
     Turn {
         test: turn.test,
@@ -92,7 +92,7 @@ pub(crate) fn loop_step<'k>(
     turn: Turn<'k>,
     left: &mut u64,
 ) -> Result<Step<'k>, Halt>
-    ensures { LoopMoved kernel.now values.now (looping turn.entry) left.old left.new result }
+    ensures { LoopMoved kernel.now values.now (plain_loop turn.entry) left.old left.new result }
 {
     let test = number_of(alloc, kernel, values, turn.test, left);
     match tested(test, left) {

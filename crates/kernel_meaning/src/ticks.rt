@@ -8,7 +8,7 @@ ghost use Rattle.forec_kernel.specs.Ticks as ticks;
 ghost use Rattle.forec_kernel.specs.Ticks.{begin, start_copies, unmarked, with_row, values_of, outcome_of};
 ghost use Rattle.running_threads.specs.Views.{plain_thread, standing};
 ghost use Rattle.kernel_meaning.specs.Waking.{WokenTo};
-ghost use Rattle.kernel_meaning.specs.States.{plain_state, Advances, GoesOn, tick_of_state, told, is_told};
+ghost use Rattle.kernel_meaning.specs.States.{plain_state, Advances, CarriesOn, tick_of_state, told, is_told};
 
 use crate::forks::start_body;
 use crate::moving::set_copy;
@@ -188,7 +188,7 @@ fn run_free<'k>(
     main: &mut Thread<'k>,
     left: &mut u64,
 ) -> Result<(), Halt>
-    ensures on { GoesOn (plain_kernel kernel.now) (plain_thread main.old) (plain_thread main.new) left.old left.new result }
+    ensures on { CarriesOn (plain_kernel kernel.now) (plain_thread main.old) (plain_thread main.new) left.old left.new result }
     ensures paid { IfOk result (λ _. (left.new ≤ left.old) × (is_running (standing main.new.status) ≡ true → left.new < left.old)) }
 {
     let before = *left;
@@ -215,7 +215,7 @@ fn run_tick<'k>(
     main: &mut Thread<'k>,
     left: &mut u64,
 ) -> Result<(), Halt>
-    ensures on { GoesOn (plain_kernel kernel.now) (plain_thread main.old) (plain_thread main.new) left.old left.new result }
+    ensures on { CarriesOn (plain_kernel kernel.now) (plain_thread main.old) (plain_thread main.new) left.old left.new result }
     ensures stopped { IfOk result (λ _. is_running (standing main.new.status) ≡ false) }
 {
     let mut at = 0;

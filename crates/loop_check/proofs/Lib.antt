@@ -1,6 +1,6 @@
 pub mod Branches
 pub mod Arithmetic
-pub mod Indexed
+pub mod IndexLemmas
 pub mod Ordered
 pub mod Settled
 pub mod Reading

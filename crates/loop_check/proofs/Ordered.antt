@@ -6,7 +6,7 @@ use Rattle.std.proofs.lemmas.List.{take-append-le, get_or_append_left}
 use Rattle.std.proofs.Math.Seq.{take-append_seam, get_or-append_seam, take-suc}
 use Rattle.forec_tree.specs.Faults.{is_in}
 use Rattle.loop_check.specs.Graph.{CalleesFirst, IsOrder, trues, any_waits, Waits, Held, set_at}
-use Rattle.loop_check.proofs.Indexed.{split}
+use Rattle.loop_check.proofs.IndexLemmas.{split}
 
 same_id : (f : ℕ) → (f == f) ≡ true
 same_id f = grind (arith, nat_tests)

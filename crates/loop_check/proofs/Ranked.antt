@@ -4,7 +4,7 @@ use Rattle.std.proofs.Math.Seq.{take-suc}
 use Rattle.std.proofs.lemmas.Bool.{eqb-true}
 use Rattle.forec_tree.specs.Faults.{is_in, Leads, at_once, through}
 use Rattle.loop_check.specs.Graph.{rank_at, NeverUp, set_at}
-use Rattle.loop_check.proofs.Indexed.{split}
+use Rattle.loop_check.proofs.IndexLemmas.{split}
 use Rattle.loop_check.proofs.Ordered.{is_in_snoc}
 
 -- one more of a list

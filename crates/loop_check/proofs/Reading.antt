@@ -6,14 +6,14 @@ use Rattle.std.proofs.Math.Seq.{take-suc}
 use Rattle.forec_tree.specs.Terms.{Text, PlainItem, IsGlobal, IsFunction, PlainFunction}
 use Rattle.forec_tree.specs.Scopes.{name_of, find_item}
 use Rattle.forec_tree.specs.Rules.{is_none}
-use Rattle.forec_tree.specs.Pauses.{find_function, function_starts, starts, body_certain, certain_step, certain_function}
+use Rattle.forec_tree.specs.Pauses.{find_function, function_callees, callees_of, body_certain, certain_step, certain_function}
 use Rattle.forec_tree.specs.Faults.{is_in, item_named, Leads, at_once, through}
 use Rattle.forec_tree.proofs.Fixed.{IsLocal}
 use Rattle.forec_tree.proofs.Agrees.{certain_local}
 use Rattle.loop_check.specs.Graph.{IsOrder, set_at}
 use Rattle.loop_check.proofs.Settled.{settle, out, all_ordered}
 use Rattle.loop_check.specs.Known.{Read, list_at, started_in, is_function, put_at, Agrees, Judged}
-use Rattle.loop_check.proofs.Indexed.{split}
+use Rattle.loop_check.proofs.IndexLemmas.{split}
 use Rattle.loop_check.proofs.Ordered.{is_in_snoc}
 
 pub next_of : (text : Text) (at : ℕ) (x : PlainItem) → slice_get text at ≡ Some x → take (at + 1) text ≡ take at text ++ x ∷ []
@@ -189,13 +189,13 @@ no_function text a g h = pick (find_function g text) h
     pick None h = refl
     pick (Some f) h = absurd (let q : true ≡ false = h in cc)
 
-started_list : (f : Option PlainFunction) → list_at started_in f ≡ function_starts f
+started_list : (f : Option PlainFunction) → list_at started_in f ≡ function_callees f
 started_list None = refl
 started_list (Some f) = refl
 
 -- the table of a whole program
 pub all_judged : (text : Text) (functions order : List ℕ) (calls : ℕ → List ℕ) (table : ℕ → Bool) → Read started_in text functions calls → IsOrder functions calls order →
-    ((f : ℕ) → Leads (starts text) f f → ⊥) → Judged (certain_step text) order (length order) table → (id : ℕ) → table id ≡ certain_function text id
+    ((f : ℕ) → Leads (callees_of text) f f → ⊥) → Judged (certain_step text) order (length order) table → (id : ℕ) → table id ≡ certain_function text id
 all_judged text functions order calls table r o free judged id =
     let lists = λ (f : ℕ). r.lists f ∙ started_list (find_function f text) in
     let loc : IsLocal calls (certain_step text) =
@@ -210,4 +210,4 @@ all_judged text functions order calls table r o free judged id =
     (λ i.
     agrees.outside id (ap (is_in id) whole ∙ i)
     ∙ sym (out false (certain_step text) functions calls order o loc outside (length text) id
-    (split (is_in id functions) (λ f. absurd_bool (is_in id order) (all_ordered functions calls order o (λ g l. free g (leads_same calls (starts text) lists l)) id f) i) (λ f. f))))
+    (split (is_in id functions) (λ f. absurd_bool (is_in id order) (all_ordered functions calls order o (λ g l. free g (leads_same calls (callees_of text) lists l)) id f) i) (λ f. f))))

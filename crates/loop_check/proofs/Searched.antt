@@ -5,7 +5,7 @@ use Rattle.std.proofs.lemmas.Bool.Decides.{nat_tests}
 use Rattle.forec_tree.specs.Faults.{is_in, Leads, at_once, through}
 use Rattle.forec_tree.proofs.Reach.{append}
 use Rattle.loop_check.specs.Graph.{trues, FunctionsCall}
-use Rattle.loop_check.proofs.Indexed.{split}
+use Rattle.loop_check.proofs.IndexLemmas.{split}
 use Rattle.loop_check.proofs.Ordered.{is_in_snoc, in_marks, other_id, trues_clear}
 
 -- ---- those of a list that wait are put on the stack

@@ -6,7 +6,7 @@ use Rattle.forec_tree.specs.Faults.{is_in, Leads, at_once}
 use Rattle.forec_tree.proofs.Fixed.{IsLocal}
 use Rattle.forec_tree.proofs.Reach.{append}
 use Rattle.loop_check.specs.Graph.{IsOrder}
-use Rattle.loop_check.proofs.Indexed.{split}
+use Rattle.loop_check.proofs.IndexLemmas.{split}
 use Rattle.loop_check.proofs.Ordered.{place_of, is_in_at}
 
 clash : {P : Type 0} (b : Bool) → b ≡ true → b ≡ false → P

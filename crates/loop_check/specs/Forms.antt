@@ -17,7 +17,7 @@ abbrev pub test_from : Option Test → Option form.Test
 test_from None = None
 test_from (Some t) = form.test_by t.op t.id t.number
 
-abbrev pub step_from : Option LoopStep → Option form.PlainStep
+abbrev pub step_from : Option LoopStep → Option form.PlainLoopStep
 step_from None = None
 step_from (Some s) = form.step_by s.op s.id s.by
 

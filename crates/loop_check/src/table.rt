@@ -153,7 +153,7 @@ pub struct Pauses<'p> {
 impl<'p> Pauses<'p> {
     /// Judges each function of a program in which none reaches itself by statements and branches.
     pub fn of(alloc: Global, items: &'p [Item]) -> Result<Pauses<'p>, OutOfMemory>
-        requires { (f : ℕ) → Leads (pauses.starts (map plain.plain_item items.now)) f f → ⊥ }
+        requires { (f : ℕ) → Leads (pauses.callees_of (map plain.plain_item items.now)) f f → ⊥ }
         ensures { IfOk result (λ p. text_of p.index ≡ map plain.plain_item items.now) }
     {
         let index = Index::of(alloc, items)?;
@@ -189,7 +189,7 @@ impl<'p> Pauses<'p> {
 /// the program is judged once. No function of the program may reach itself by calls as statements
 /// and branches.
 pub fn certain(alloc: Global, program: &Program, stmt: &Stmt) -> Result<bool, OutOfMemory>
-    requires { (f : ℕ) → Leads (pauses.starts (plain.program program.now)) f f → ⊥ }
+    requires { (f : ℕ) → Leads (pauses.callees_of (plain.program program.now)) f f → ⊥ }
     ensures { IfOk result (λ answer. answer ≡ pauses.certain (plain.program program.now) (plain.statement stmt.now)) }
 {
     let pauses = Pauses::of(alloc, program.items.as_slice())?;

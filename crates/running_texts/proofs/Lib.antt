@@ -1,7 +1,7 @@
 pub mod Copies
 pub mod Kernels
 pub mod Words
-pub mod Metering
+pub mod MeteredLemmas
 pub mod Falls
 pub mod Tests
 pub mod Onward

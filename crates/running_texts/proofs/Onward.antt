@@ -5,13 +5,13 @@ use Rattle.forec_kernel.specs.Terms.{more_exprs, more_stmts}
 use Rattle.forec_kernel.specs.Plain.{expr, exprs, stmt, stmts}
 use Rattle.forec_kernel.specs.declared.terms.Expression.{Expression}
 use Rattle.forec_kernel.specs.declared.terms.Statement.{Statement}
-use Rattle.forec_kernel.specs.Values.{Value, Gives, Stops, Values, AllGive, OneStops, one_more, first_then, Setting, Flow, Goes, Returns, Breaks, more_flow, flow_then, flow_with, flow, flows, turns}
+use Rattle.forec_kernel.specs.Values.{Value, Gives, Raises, Values, AllGive, OneRaises, one_more, first_then, Setting, Flow, Goes, Returns, Breaks, more_flow, flow_then, flow_with, flow, flows, turns}
 use Rattle.running_texts.specs.declared.meter.Halt.{Halt}
 use Rattle.running_texts.specs.declared.meter.Halt.TheVariants.{Trapped, Over, OutOfMemory}
 use Rattle.running_texts.specs.declared.functions.Ran.{Ran}
 use Rattle.running_texts.specs.declared.functions.Ran.TheVariants as ran
 use Rattle.running_texts.specs.Metered.{IsMetered, number, numbers, flowing, value_units, values_units}
-use Rattle.running_texts.proofs.Metering.{more_metered, adds_flow, binds_flow, test_ok, test_err, tested_gives, is_zero_of, not_zero_of}
+use Rattle.running_texts.proofs.MeteredLemmas.{more_metered, adds_flow, binds_flow, test_ok, test_err, tested_gives, is_zero_of, not_zero_of}
 use Rattle.running_texts.proofs.Tests.{AfterTest}
 use Rattle.forec_base.specs.Numbers.{is_zero}
 use Rattle.forec_base.specs.declared.Trap.TheVariants.{Turns}
@@ -48,7 +48,7 @@ stmts_none (x ∷ xs) (suc i) h = stmts_none xs i (omega arith)
 
 abbrev pub after_numbers : List ℤ → ℕ → Values → Values
 after_numbers ns u (AllGive ms w) = AllGive (ns ++ ms) (u + w)
-after_numbers ns u (OneStops place trap w) = OneStops place trap (u + w)
+after_numbers ns u (OneRaises place trap w) = OneRaises place trap (u + w)
 
 pub record NumbersSoFar (old now : ℕ) (ns : List ℤ) (whole rest : Values) : Type 0 where
   pub units : ℕ
@@ -57,7 +57,7 @@ pub record NumbersSoFar (old now : ℕ) (ns : List ℤ) (whole rest : Values) : 
 
 after_none : (v : Values) → v ≡ after_numbers [] 0 v
 after_none (AllGive ms w) = ap (AllGive ms) (omega arith)
-after_none (OneStops place trap w) = ap (OneStops place trap) (omega arith)
+after_none (OneRaises place trap w) = ap (OneRaises place trap) (omega arith)
 
 pub no_numbers : (old : ℕ) (ns : List ℤ) (v : Values) → ns ≡ [] → NumbersSoFar old old ns v v
 no_numbers old ns v e = record { units = 0; is = after_none v ∙ ap (λ n. after_numbers n 0 v) (sym e); left = omega arith }
@@ -65,7 +65,7 @@ no_numbers old ns v e = record { units = 0; is = after_none v ∙ ap (λ n. afte
 after_more : (ns : List ℤ) (u n : ℕ) (x : ℤ) (v : Values) → after_numbers ns u (one_more x n v) ≡ after_numbers (ns ++ x ∷ []) (u + n) v
 after_more ns u n x (AllGive ms w) =
     ap (λ l. AllGive l (u + (n + w))) (sym (append_assoc ns (x ∷ []) ms)) ∙ ap (AllGive ((ns ++ x ∷ []) ++ ms)) (omega arith)
-after_more ns u n x (OneStops place trap w) = ap (OneStops place trap) (omega arith)
+after_more ns u n x (OneRaises place trap w) = ap (OneRaises place trap) (omega arith)
 
 pub numbers_more : (old mid new : ℕ) (ns more : List ℤ) (whole rest : Values) (v : Value) (x : ℤ) → NumbersSoFar old mid ns whole (first_then v rest) →
     IsMetered number mid new (Ok x) v → more ≡ ns ++ x ∷ [] → NumbersSoFar old new more whole rest
@@ -79,8 +79,8 @@ numbers_more old mid new ns more whole rest v x s m e =
 
 after_least : (ns : List ℤ) (u : ℕ) (v : Value) (rest : Values) → u + value_units v ≤ values_units (after_numbers ns u (first_then v rest))
 after_least ns u (Gives n w) (AllGive ms x) = omega arith
-after_least ns u (Gives n w) (OneStops place trap x) = omega arith
-after_least ns u (Stops place trap w) rest = omega arith
+after_least ns u (Gives n w) (OneRaises place trap x) = omega arith
+after_least ns u (Raises place trap w) rest = omega arith
 
 pub numbers_stop : (old mid new : ℕ) (ns : List ℤ) (whole rest : Values) (v : Value) (h : Halt) → NumbersSoFar old mid ns whole (first_then v rest) →
     IsMetered number mid new (Err h) v → IsMetered numbers old new (Err h) whole

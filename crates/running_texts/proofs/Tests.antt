@@ -2,12 +2,12 @@
 use Rattle.std.proofs.Common.{◌≡◌, ◌≢◌, ℕ, ◌+◌, ◌≤◌, ◌<◌, ℤ, pos, Bool, true, false, not, Result, Ok, Err, List, refl, ap, sym, subst, arith, SFits, of_z, w32, Vec, Global}
 use Rattle.std.proofs.lemmas.Int.{ints}
 use Rattle.forec_base.specs.Numbers.{is_zero, truth}
-use Rattle.forec_kernel.specs.Values.{Value, Gives, Stops, more_units, value_then, Values, values_then, Flow, more_flow, flow_with}
+use Rattle.forec_kernel.specs.Values.{Value, Gives, Raises, more_units, value_then, Values, values_then, Flow, more_flow, flow_with}
 use Rattle.running_texts.specs.declared.meter.Halt.{Halt}
 use Rattle.running_texts.specs.declared.meter.Halt.TheVariants.{Over}
 use Rattle.running_texts.specs.declared.functions.Ran.{Ran}
 use Rattle.running_texts.specs.Metered.{IsMetered, number, numbers, flowing, value_units}
-use Rattle.running_texts.proofs.Metering.{is_zero_of, not_zero_of, more_metered, then_ok, then_err, test_ok, test_err, binds_value, adds_number, binds_values, binds_flow, adds_flow}
+use Rattle.running_texts.proofs.MeteredLemmas.{is_zero_of, not_zero_of, more_metered, then_ok, then_err, test_ok, test_err, binds_value, adds_number, binds_values, binds_flow, adds_flow}
 
 pub zero_of : (n : ℤ) → SFits w32 n → of_z w32 n ≡ 0 → n ≡ pos 0
 zero_of n f e = omega (arith, ints)
@@ -24,7 +24,7 @@ free n left = record { by = record { units = 0; is = refl; left = omega arith } 
 
 least_more : (u : ℕ) (v : Value) → u ≤ value_units (more_units u v)
 least_more u (Gives n w) = omega arith
-least_more u (Stops place trap w) = omega arith
+least_more u (Raises place trap w) = omega arith
 
 -- ---- and, or, choose
 

@@ -4,7 +4,7 @@ use Rattle.forec_base.specs.declared.Place.{Place}
 use Rattle.forec_base.specs.declared.Trap.{Trap}
 use Rattle.forec_kernel.specs.declared.shape.VarCopy.{VarCopy}
 use Rattle.forec_kernel.specs.Shapes.{PlainKernel}
-use Rattle.forec_kernel.specs.Values.{Value, Gives, Stops, copy_of}
+use Rattle.forec_kernel.specs.Values.{Value, Gives, Raises, copy_of}
 use Rattle.forec_kernel.specs.Texts.{Threads, no_threads, child, is_active, uses_of}
 use Rattle.forec_kernel.specs.Combining.{contains, takes_part, variable_of, combine_of, shares, some_marked}
 use Rattle.std.specs.declared.vec.Vec.{Vec}
@@ -24,7 +24,7 @@ pub data Folds : Type 0 where
 
 abbrev pub as_added : Value → Added
 as_added (Gives n u) = Comes (Some n) u
-as_added (Stops place trap u) = Stays place trap u
+as_added (Raises place trap u) = Stays place trap u
 
 abbrev pub added : Option (ℤ → ℤ → Value) → Option ℤ → ℤ → Added
 added f None x = Comes (Some x) 0

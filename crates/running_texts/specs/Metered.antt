@@ -8,7 +8,7 @@ use Rattle.forec_base.specs.declared.Place.{Place}
 use Rattle.forec_base.specs.declared.Trap.{Trap}
 use Rattle.forec_kernel.specs.Shapes.{PlainKernel}
 use Rattle.forec_kernel.specs.Plain.{expr, stmt}
-use Rattle.forec_kernel.specs.Values.{Value, Gives, Stops, Values, AllGive, OneStops, Flow, Goes, Returns, Breaks, Setting, Sight, value_then, flow_with, val, flow, turns, words_alone, call_within}
+use Rattle.forec_kernel.specs.Values.{Value, Gives, Raises, Values, AllGive, OneRaises, Flow, Goes, Returns, Breaks, Setting, Sight, value_then, flow_with, val, flow, turns, words_alone, call_within}
 use Rattle.running_texts.specs.declared.evaluation.ThreadValues.{ThreadValues}
 use Rattle.running_texts.specs.declared.evaluation.BoundedLoop.{BoundedLoop}
 use Rattle.running_texts.specs.declared.meter.Halt.{Halt}
@@ -42,17 +42,17 @@ pub record IsMetered {X V : Type 0} (k : Kind X V) (old new : ℕ) (result : Res
 
 abbrev pub value_units : Value → ℕ
 value_units (Gives n u) = u
-value_units (Stops place trap u) = u
+value_units (Raises place trap u) = u
 
 abbrev pub number : Kind ℤ Value
-number = record { gives = Gives; stops = Stops; units = value_units }
+number = record { gives = Gives; stops = Raises; units = value_units }
 
 abbrev pub values_units : Values → ℕ
 values_units (AllGive ns u) = u
-values_units (OneStops place trap u) = u
+values_units (OneRaises place trap u) = u
 
 abbrev pub numbers : Kind (Vec ℤ Global) Values
-numbers = record { gives = λ v u. AllGive v.items u; stops = OneStops; units = values_units }
+numbers = record { gives = λ v u. AllGive v.items u; stops = OneRaises; units = values_units }
 
 abbrev pub flow_units : Flow → ℕ
 flow_units (Goes words u) = u

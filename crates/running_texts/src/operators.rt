@@ -2,7 +2,7 @@
 
 ghost use Rattle.std.specs.Prelude.{◌≡◌, ◌<◌, ◌+◌, ◌^◌, ℕ, ℤ, map, length, [], pos, get_or, not};
 ghost use Rattle.forec_base.specs.Numbers.{unary_of, binary_of, truth, is_zero};
-ghost use Rattle.forec_kernel.specs.Values.{word, copy_of, index_in, at_index, Gives, Stops, divided};
+ghost use Rattle.forec_kernel.specs.Values.{word, copy_of, index_in, at_index, Gives, Raises, divided};
 ghost use Rattle.running_texts.specs.Metered.{IsMetered, IsNumberAfter, number};
 
 use crate::meter::{Halt, give};
@@ -72,7 +72,7 @@ pub(crate) fn after_unary(op: Unary, part: Result<i32, Halt>, left: &mut u64) ->
 
 /// Stops at a place, for one unit.
 fn stop(place: Place, trap: Trap, left: &mut u64) -> Result<i32, Halt>
-    ensures { IsMetered number left.old left.new result (Stops place trap 1) }
+    ensures { IsMetered number left.old left.new result (Raises place trap 1) }
 {
     if *left == 0 {
         return Err(Halt::Over);

@@ -10,12 +10,12 @@ use Rattle.running_threads.specs.declared.threads.Frame.TheVariants as frame
 use Rattle.running_threads.specs.declared.threads.Focus.{Focus}
 use Rattle.running_threads.specs.declared.frames.NextText.{NextText}
 use Rattle.running_threads.specs.declared.frames.NextText.TheVariants as next
-use Rattle.running_threads.specs.Views.{looping, plugged, focused, threads}
+use Rattle.running_threads.specs.Views.{plain_loop, plugged, focused, threads}
 
 -- a step of a text, seen from outside its frame
 abbrev pub framed_move : Frame → List ℤ → List VarCopy → Move → Move
 framed_move (frame.Rest list) w c m = move_before (plain.Go_on (stmts list.now)) w c m
-framed_move (frame.Again turn) w c m = move_before (plain.Again (looping turn)) w c m
+framed_move (frame.Again turn) w c m = move_before (plain.Again (plain_loop turn)) w c m
 framed_move (frame.Watch weak e) w c m = move_watched weak (expr e.now) w c m
 framed_move frame.Last w c m = move_last w c m
 
@@ -47,8 +47,8 @@ next_text next.Done = plain.Done
 next_text next.Rests = plain.Resting
 next_text (next.Does s) = text_of (stmt s.now)
 next_text (next.DoesAll list) = texts_of (stmts list.now)
-next_text (next.Turns turn) = plain.Turning (looping turn)
-next_text (next.Enters turn) = plain.Then (text_of (stmt turn.body.now)) (plain.Again (looping turn))
+next_text (next.Turns turn) = plain.Turning (plain_loop turn)
+next_text (next.Enters turn) = plain.Then (text_of (stmt turn.body.now)) (plain.Again (plain_loop turn))
 next_text (next.Watches weak e body) = plain.Watch weak (expr e.now) (text_of (stmt body.now))
 next_text (next.Lasts body) = plain.Last (text_of (stmt body.now))
 next_text (next.Forks cs) = plain.Fork (threads cs)

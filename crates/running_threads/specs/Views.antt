@@ -12,8 +12,8 @@ use Rattle.running_threads.specs.declared.threads.Focus.{Focus, Done, Run, Turni
 use Rattle.running_threads.specs.declared.threads.Thread.{Thread}
 use Rattle.running_threads.specs.declared.threads.Children.{Children, Nobody, Child'}
 
-abbrev pub looping : Turn → plain.Loop
-looping t = record { test = expr t.test.now; bound = t.bound; left = t.left; body = stmt t.body.now; place = t.place }
+abbrev pub plain_loop : Turn → plain.Loop
+plain_loop t = record { test = expr t.test.now; bound = t.bound; left = t.left; body = stmt t.body.now; place = t.place }
 
 abbrev pub standing : Status → plain.Status
 standing stands.Running = plain.Running
@@ -25,7 +25,7 @@ standing (stands.Trapped place trap) = plain.Trapped place trap
 -- a text inside a frame
 abbrev pub framed : Frame → plain.Text → plain.Text
 framed (frame.Rest list) R = plain.Then R (plain.Go_on (stmts list.now))
-framed (frame.Again turn) R = plain.Then R (plain.Again (looping turn))
+framed (frame.Again turn) R = plain.Then R (plain.Again (plain_loop turn))
 framed (frame.Watch weak e) R = plain.Watch weak (expr e.now) R
 framed frame.Last R = plain.Last R
 
@@ -38,7 +38,7 @@ abbrev mutual
   pub focused : Focus → plain.Text
   focused Done = plain.Done
   focused (Run s) = plain.Run (stmt s.now)
-  focused (Turning turn) = plain.Turning (looping turn)
+  focused (Turning turn) = plain.Turning (plain_loop turn)
   focused Resting = plain.Resting
   focused (Fork' p cs) = plain.Fork (threads cs)
   focused (Held' p cs) = plain.Held (threads cs)

@@ -12,9 +12,9 @@ use Rattle.copy_slots.specs.declared.view.Role.{Role}
 use Rattle.copy_slots.specs.declared.view.Role.TheVariants.{Idle, Keeper}
 use Rattle.copy_slots.specs.declared.view.View.{View}
 use Rattle.copy_slots.specs.Mail.{new_sender, new_taker}
-use Rattle.copy_slots.specs.Places.{IsBoard, Sits, Watches}
+use Rattle.copy_slots.specs.SeatEnds.{IsBoard, Sits, Watches}
 use Rattle.copy_slots.specs.Ports.{Ends, PortState, sender_in, taker_in, root_of, stored_of, stops_of}
-use Rattle.copy_slots.proofs.Placing.{role_is}
+use Rattle.copy_slots.proofs.SeatEndLemmas.{role_is}
 use Rattle.copy_slots.proofs.Seating.{rewatches, snoc_cases}
 use Rattle.slot_board.specs.declared.seats.EndSeats.{EndSeats}
 use Rattle.slot_board.specs.declared.seats.CoreSeats.{CoreSeats}

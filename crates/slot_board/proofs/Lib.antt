@@ -1,4 +1,4 @@
 pub mod Cutting
 pub mod Pairing
-pub mod Splitting
+pub mod SplitLemmas
 pub mod Uniting

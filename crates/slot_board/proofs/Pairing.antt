@@ -10,10 +10,10 @@ use Rattle.copy_slots.specs.declared.view.Role.TheVariants.{Idle, Keeper, Mailbo
 use Rattle.copy_slots.specs.declared.view.View.{View}
 use Rattle.slot_board.specs.declared.seats.EndSeats.{EndSeats}
 use Rattle.copy_slots.specs.Mail.{role_checked, role_stopped}
-use Rattle.copy_slots.specs.Places.{Sits}
+use Rattle.copy_slots.specs.SeatEnds.{Sits}
 use Rattle.copy_slots.specs.Ports.{Ends, PortState, parent_at, child_at, on_sender, on_taker, on_parent, on_child, IsParent, IsChild, sender_in, taker_in, root_of, stop_word, after_check, after_stop}
 use Rattle.slot_board.specs.Slots.{PairSits, AllPairs, sender_of, taker_of, pair_ends, slot_state, is_watch}
-use Rattle.copy_slots.proofs.Placing.{role_is}
+use Rattle.copy_slots.proofs.SeatEndLemmas.{role_is}
 use Rattle.copy_slots.proofs.Seating.{set_cases}
 
 module _ {A B Q : Type 0} (f : A → B) (h : B → Ends Q) where

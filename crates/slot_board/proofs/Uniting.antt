@@ -8,7 +8,7 @@ use Rattle.atomic_table.specs.declared.shared.Seat.{Seat}
 use Rattle.copy_slots.specs.declared.view.Role.{Role}
 use Rattle.copy_slots.specs.declared.view.Role.TheVariants.{Idle, Keeper, Mailbox}
 use Rattle.copy_slots.specs.declared.view.View.{View}
-use Rattle.copy_slots.specs.Places.{IsBoard}
+use Rattle.copy_slots.specs.SeatEnds.{IsBoard}
 use Rattle.copy_slots.specs.Ports.{Ends, PortState, root_of, stored_of, stops_of}
 use Rattle.slot_board.specs.declared.seats.EndSeats.{EndSeats}
 use Rattle.slot_board.specs.Slots.{PairSits, AllPairs, sender_of, taker_of, pair_ends, slot_state, is_watch}

@@ -8,7 +8,7 @@ use Rattle.copy_slots.specs.declared.view.Role.{Role}
 use Rattle.copy_slots.specs.declared.view.Role.TheVariants.{Idle, Keeper}
 use Rattle.copy_slots.specs.declared.view.View.{View}
 use Rattle.copy_slots.specs.Mail.{new_sender, new_taker}
-use Rattle.copy_slots.specs.Places.{IsBoard, Sits, Watches}
+use Rattle.copy_slots.specs.SeatEnds.{IsBoard, Sits, Watches}
 use Rattle.copy_slots.specs.Ports.{Ends, PortState}
 use Rattle.slot_board.specs.declared.seats.EndSeats.{EndSeats}
 use Rattle.slot_board.specs.declared.seats.CoreSeats.{CoreSeats}

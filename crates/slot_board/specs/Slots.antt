@@ -7,7 +7,7 @@ use Rattle.copy_slots.specs.declared.view.Taker.{Taker}
 use Rattle.copy_slots.specs.declared.view.Role.{Role}
 use Rattle.copy_slots.specs.declared.view.Role.TheVariants.{Mailbox}
 use Rattle.copy_slots.specs.declared.view.View.{View}
-use Rattle.copy_slots.specs.Places.{Sits, Watches}
+use Rattle.copy_slots.specs.SeatEnds.{Sits, Watches}
 use Rattle.copy_slots.specs.Ports.{Ends, PortState, sender_in, taker_in, stops_of, stored_of, root_of}
 use Rattle.slot_board.specs.declared.seats.EndSeats.{EndSeats}
 

@@ -7,7 +7,7 @@ use Rattle.copy_slots.specs.declared.view.Role.{Role}
 use Rattle.copy_slots.specs.declared.view.Role.TheVariants.{Idle, Keeper, Mailbox}
 use Rattle.copy_slots.specs.declared.view.View.{View}
 use Rattle.copy_slots.specs.Mail.{new_sender, new_taker, posed}
-use Rattle.copy_slots.specs.Places.{Sits, Watches}
+use Rattle.copy_slots.specs.SeatEnds.{Sits, Watches}
 use Rattle.copy_slots.specs.Steps.{IsFreshSeat}
 use Rattle.slot_board.specs.Slots.{is_watch}
 

@@ -49,7 +49,7 @@ impl<W: Work> SlotBoard<W> {
     ///
     /// # Errors
     ///
-    /// Want of memory.
+    /// Out of memory.
     pub fn new(
         alloc: Global,
         work: W,
@@ -81,7 +81,7 @@ impl<W: Work> SlotBoard<W> {
     ///
     /// # Errors
     ///
-    /// Want of memory. Then none was given out.
+    /// Out of memory. Then none was given out.
     pub fn ports<'b>(&'b mut self, alloc: Global) -> Result<Vec<SlotPort<'b, W>>, OutOfMemory>
         requires { ⟦<SlotBoard<W> as GivesPorts<W>>⟧.is_whole self.old }
         ensures { IfOk result (λ ps. map ⟦<SlotPort<'b, W> as Port<W>>⟧.state ps.items ≡ ⟦<SlotBoard<W> as GivesPorts<W>>⟧.ports self.old) }

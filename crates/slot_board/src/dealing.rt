@@ -1,6 +1,6 @@
 //! How the ends of all mailboxes are dealt to the cores.
 ghost use Rattle.std.specs.Prelude.{◌≡◌, ℕ, ◌+◌, ◌<◌, ◌^◌, length, None, IfOk};
-ghost use Rattle.copy_slots.specs.Places.{IsBoard};
+ghost use Rattle.copy_slots.specs.SeatEnds.{IsBoard};
 ghost use Rattle.copy_slots.specs.Steps.{CanDeal, CanDealAll, HandsOut, HandsOutAll};
 ghost use Rattle.slot_board.specs.Dealt.{AllNew, CanDealCores, DealsCores, IsCut, IsNew, left_by_core, taken_by_core};
 ghost use Rattle.slot_board.specs.Splits.{pick};

@@ -1,6 +1,6 @@
 //! The port of one core.
 ghost use Rattle.std.specs.Prelude.{◌≡◌, ◌<◌, ◌^◌, length};
-ghost use Rattle.copy_slots.specs.Places.{IsBoard};
+ghost use Rattle.copy_slots.specs.SeatEnds.{IsBoard};
 ghost use Rattle.slot_board.specs.Slots.{AllPairs, IsWatchSeat};
 
 use crate::joining::join_seats;

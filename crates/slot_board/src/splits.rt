@@ -1,6 +1,6 @@
 //! How seats are split off, before the first call of a port, and joined.
 ghost use Rattle.std.specs.Prelude.{◌≡◌, ℕ};
-ghost use Rattle.copy_slots.specs.Places.{IsBoard};
+ghost use Rattle.copy_slots.specs.SeatEnds.{IsBoard};
 ghost use Rattle.copy_slots.specs.Steps.{LooksAtStop};
 ghost use Rattle.slot_board.specs.Splits.{HasBothFresh, PartsEnds, PartsWatch, CanMerge, MergesWatches};
 

@@ -7,7 +7,7 @@ use Rattle.copy_slots.specs.declared.view.PacketAt.{PacketAt}
 use Rattle.copy_slots.specs.declared.view.Sender.{Sender}
 use Rattle.copy_slots.specs.declared.view.Taker.{Taker}
 use Rattle.copy_slots.specs.Ports.{Ends, PortState, child_at, on_parent, on_child, taken_by, on_taker, IsChild, ParentIs, ChildIs}
-use Rattle.copy_slots.proofs.Porting.{parent_moves, child_moves, child_here}
+use Rattle.copy_slots.proofs.PortLemmas.{parent_moves, child_moves, child_here}
 use Rattle.slot_board.specs.Joined.{IsOneBoard}
 
 pub sum_more : (l : List ℕ) (x : ℕ) → sum (l ++ x ∷ []) ≡ sum l + x

@@ -3,16 +3,16 @@ use Rattle.std.proofs.Common.{ℕ, zero, suc, ◌+◌, ◌<◌, ◌≡◌, ◌�
 use Rattle.std.proofs.lemmas.Bool.{eqb-true}
 use Rattle.forec_tree.specs.Terms.{count_terms, Statement, Declare, Nothing, Group, Assign, Invoke, If, While, For, Pause, Par, Abort, Return, Statements, no_statements, more_statements, Perhaps, absent, present, Branches, no_branches, by_call, by_group, Text, PlainFunction}
 use Rattle.forec_tree.specs.Rules.{is_none}
-use Rattle.forec_tree.specs.Pauses.{within, find_function, function_starts, starts, started, all_started, perhaps_started, branches_started}
+use Rattle.forec_tree.specs.Pauses.{within, find_function, function_callees, callees_of, started, all_started, perhaps_started, branches_started}
 use Rattle.forec_tree.specs.Faults.{is_in, Leads}
 use Rattle.forec_tree.proofs.Agrees.{in_left, in_right, in_head, in_tail}
 use Rattle.loop_check.specs.Graph.{IsOrder}
 use Rattle.loop_check.specs.Known.{Read, started_in, is_function, list_at}
-use Rattle.loop_check.proofs.Indexed.{split}
+use Rattle.loop_check.proofs.IndexLemmas.{split}
 use Rattle.loop_check.proofs.Ordered.{other_id}
 use Rattle.loop_check.proofs.Reading.{leads_same}
 use Rattle.forec_check.specs.Table.{Settles, put_at}
-use Rattle.forec_check.proofs.Tables.{settles_by}
+use Rattle.forec_check.proofs.TableLemmas.{settles_by}
 use Rattle.text_chains.specs.declared.tally.Tally.{Tally}
 use Rattle.text_chains.specs.Tallies as of
 use Rattle.text_chains.proofs.Sums.{both}
@@ -99,7 +99,7 @@ module _ (i : ℕ) (value : ℕ → ℕ) (worth : ℕ) (a b : ℕ → Tally) whe
     naming_same (by_group at body rest) w =
         counted_same _ _ _ _ (all_same false body (left a b (all_started body) (branches_started rest) w)) (naming_same rest (right a b (all_started body) (branches_started rest) w))
 
-  body_same : (f : Option PlainFunction) → Agree a b (function_starts f) → of.body_tally i value worth a f ≡ of.body_tally i value worth b f
+  body_same : (f : Option PlainFunction) → Agree a b (function_callees f) → of.body_tally i value worth a f ≡ of.body_tally i value worth b f
   body_same None w = refl
   body_same (Some f) w = all_same (hides_params i false f.params) f.body w
 
@@ -110,12 +110,12 @@ no_function i value worth text a g h = pick (find_function g text) h
     pick None h = refl
     pick (Some f) h = absurd (let q : true ≡ false = h in cc)
 
-started_list : (f : Option PlainFunction) → list_at started_in f ≡ function_starts f
+started_list : (f : Option PlainFunction) → list_at started_in f ≡ function_callees f
 started_list None = refl
 started_list (Some f) = refl
 
 pub tallies_settle : (i : ℕ) (value : ℕ → ℕ) (worth : ℕ) (text : Text) (functions order : List ℕ) (calls : ℕ → List ℕ) → Read started_in text functions calls → IsOrder functions calls order →
-    ((f : ℕ) → Leads (starts text) f f → ⊥) → Settles nothing (tally_step i value worth text) (tally_value i value worth text) order
+    ((f : ℕ) → Leads (callees_of text) f f → ⊥) → Settles nothing (tally_step i value worth text) (tally_value i value worth text) order
 unfolding tally_value
 tallies_settle i value worth text functions order calls r o free =
     let lists = λ (f : ℕ). r.lists f ∙ started_list (find_function f text) in
@@ -123,4 +123,4 @@ tallies_settle i value worth text functions order calls r o free =
     let few = r.few in
     settles_by nothing (tally_step i value worth text) (length text) functions order calls o
     (record { agrees = λ f a b h. body_same i value worth a b (find_function f text) (λ g e. h g (ap (is_in g) (lists f) ∙ e)) })
-    (λ g h a. no_function i value worth text a g (sym (r.stands g) ∙ h)) (λ g l. free g (leads_same calls (starts text) lists l)) (omega (arith, short, few))
+    (λ g h a. no_function i value worth text a g (sym (r.stands g) ∙ h)) (λ g l. free g (leads_same calls (callees_of text) lists l)) (omega (arith, short, few))

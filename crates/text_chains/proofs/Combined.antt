@@ -6,7 +6,7 @@ use Rattle.forec_kernel.specs.Shapes.{PlainKernel}
 use Rattle.forec_kernel.specs.Combining.{contains, variable_of}
 use Rattle.forec_kernel.specs.Texts.{uses_of, words_of, body_of}
 use Rattle.forec_kernel.specs.WellFormed.{greatest, count_up, users, combine_calls, par_calls, thread_calls, stmt_calls, pars_of, all_in}
-use Rattle.loop_check.proofs.Indexed.{split}
+use Rattle.loop_check.proofs.IndexLemmas.{split}
 use Rattle.text_chains.specs.Peaks.{called_words, most_words}
 use Rattle.text_chains.proofs.Parts.{greatest_append, folds, thread_measure}
 

@@ -4,4 +4,4 @@ pub mod Agreeing
 pub mod Sums
 pub mod Combined
 pub mod Reading
-pub mod Peaking
+pub mod PeakLemmas

@@ -21,11 +21,11 @@ use Rattle.text_kernel.specs.declared.names.Stands.{Stands}
 use Rattle.text_kernel.specs.declared.names.Stands.TheVariants as st
 use Rattle.text_kernel.specs.Bindings.{with_locals, params_at, slots_of, number_of, number_among, is_int_function, find_slot}
 use Rattle.text_kernel.specs.Lowering as low
-use Rattle.text_kernel.specs.Lowering.{read_as, element_as, stands, lower_term, lower_terms, sequence, ends_with, operated, assign_to, assign_at, array_values, lower_local, lower_locals, slots_after, set_params, optional_test, lower_target, lower_statement, lower_list, lower_perhaps, lower_branches, scope_after, scope_after_perhaps, after_start, then_step, par_of, par_after, bound_of, or_inferred, params_of, vars_in, vars_all, vars_of, vars_list, vars_launches, vars_made, NextNumbers, Made, Lowered, InPlace, body_in_place, in_place_step, nothing_in_place}
+use Rattle.text_kernel.specs.Lowering.{read_as, element_as, stands, lower_term, lower_terms, sequence, ends_with, operated, assign_to, assign_at, array_values, lower_local, lower_locals, slots_after, set_params, optional_test, lower_target, lower_statement, lower_list, lower_perhaps, lower_branches, scope_after, scope_after_perhaps, after_start, then_step, par_of, par_after, bound_of, or_inferred, params_of, vars_in, vars_all, vars_of, vars_list, vars_launches, vars_made, NextNumbers, Made, Lowered, Inlined, inlined_body, inlined_step, nothing_inlined}
 use Rattle.text_kernel.specs.Kernels.{filter_in}
 use Rattle.text_kernel.proofs.NamedVariables.{in_append, sequence_vars, ends_vars}
 use Rattle.text_kernel.proofs.Covered.{vars_append}
-use Rattle.text_kernel.proofs.Grown.{IsGrown, grows, list_grows, perhaps_grows, in_place_grows, sequence_pars}
+use Rattle.text_kernel.proofs.Grown.{IsGrown, grows, list_grows, perhaps_grows, inlined_grows, sequence_pars}
 use Rattle.text_kernel.proofs.Forks.{threads_grow, at, blank_made}
 use Rattle.text_sizes.proofs.Heights.{made_most}
 use Rattle.text_chains.proofs.Parts.{greatest_append, sequence_calls, ends_calls, ends_pars, crossed, or_none, in_again, in_swap, most_again, most_swap, folds, folds_append, folds_swap, thread_measure, SitsIn, sits_left, sits_right, filtered, made_append, in_behind, most_behind, folds_behind, seen, seen_locals, seen_params, seen_behind, seen_perhaps}
@@ -311,7 +311,7 @@ module _
   -- ---- statements
 
   module _
-      (called : ℕ → InPlace) (known : ℕ → Tally) (grown : (id first t : ℕ) (n : NextNumbers) → IsGrown t n (pars_of (called id first t n).stmt) (called id first t n).made (called id first t n).next)
+      (called : ℕ → Inlined) (known : ℕ → Tally) (grown : (id first t : ℕ) (n : NextNumbers) → IsGrown t n (pars_of (called id first t n).stmt) (called id first t n).made (called id first t n).next)
       (right : (id first t : ℕ) (n : NextNumbers) → SitsIn k count n.thread (called id first t n).made →
       Tells (vars_of (called id first t n).stmt) (stmt_calls (called id first t n).stmt) (pars_of (called id first t n).stmt) (called id first t n).made n.slot (called id first t n).next.slot (known id)) where
     abbrev Branched : List Branch → List Made → ℕ → Tally → Type 0
@@ -543,10 +543,10 @@ module _
 
   -- ---- functions that are put in place
 
-  body_told : (called : ℕ → InPlace) (known : ℕ → Tally) → ((id first t : ℕ) (n : NextNumbers) → IsGrown t n (pars_of (called id first t n).stmt) (called id first t n).made (called id first t n).next) →
+  body_told : (called : ℕ → Inlined) (known : ℕ → Tally) → ((id first t : ℕ) (n : NextNumbers) → IsGrown t n (pars_of (called id first t n).stmt) (called id first t n).made (called id first t n).next) →
       ((id first t : ℕ) (n : NextNumbers) → SitsIn k count n.thread (called id first t n).made →
       Tells (vars_of (called id first t n).stmt) (stmt_calls (called id first t n).stmt) (pars_of (called id first t n).stmt) (called id first t n).made n.slot (called id first t n).next.slot (known id)) →
-      (f : Option PlainFunction) (first t : ℕ) (n : NextNumbers) → let l = body_in_place text called f first t n in
+      (f : Option PlainFunction) (first t : ℕ) (n : NextNumbers) → let l = inlined_body text called f first t n in
       SitsIn k count n.thread l.made → Tells (vars_of l.stmt) (stmt_calls l.stmt) (pars_of l.stmt) l.made n.slot l.next.slot (of.body_tally i value worth known f)
   body_told called known grown right None first t n z = none_told n.slot
   body_told called known grown right (Some f) first t n z =
@@ -554,9 +554,9 @@ module _
       listed _ _ _ _ _ _ l.made n.slot l.next.slot _ (sequence_vars l.list) (sequence_calls l.list) (sequence_pars l.list)
       (list_told called known grown right t (params_at first f.params) n (hides_params i false f.params) f.body (seen_params i f.params first) z)
 
-  pub place_told : (deep id first t : ℕ) (n : NextNumbers) → let l = within nothing_in_place (in_place_step text) deep id first t n in
+  pub place_told : (deep id first t : ℕ) (n : NextNumbers) → let l = within nothing_inlined (inlined_step text) deep id first t n in
       SitsIn k count n.thread l.made → Tells (vars_of l.stmt) (stmt_calls l.stmt) (pars_of l.stmt) l.made n.slot l.next.slot (within nothing (of.tally_step i value worth text) deep id)
   unfolding within
   place_told zero id first t n z = none_told n.slot
   place_told (suc deep) id first t n z =
-      body_told (within nothing_in_place (in_place_step text) deep) (within nothing (of.tally_step i value worth text) deep) (in_place_grows text deep) (place_told deep) (find_function id text) first t n z
+      body_told (within nothing_inlined (inlined_step text) deep) (within nothing (of.tally_step i value worth text) deep) (inlined_grows text deep) (place_told deep) (find_function id text) first t n z

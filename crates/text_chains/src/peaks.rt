@@ -4,10 +4,10 @@
 ghost use Rattle.std.specs.Prelude.{◌≡◌, ◌-◌, ◌^◌, ℕ, min, max, Some, None, IfOk, OnOk};
 ghost use Rattle.forec_tree.specs.Plain.{plain_global};
 ghost use Rattle.forec_tree.specs.Faults.{Leads};
-ghost use Rattle.forec_tree.specs.Pauses.{starts};
+ghost use Rattle.forec_tree.specs.Pauses.{callees_of};
 ghost use Rattle.loop_check.specs.Views.{text_of};
 ghost use Rattle.forec_check.specs.Table.{put_at, Settles};
-ghost use Rattle.forec_check.specs.Checks.{Faultless};
+ghost use Rattle.forec_check.specs.Faultless.{Faultless};
 ghost use Rattle.text_kernel.specs.Bindings.{number_among, is_int_function};
 ghost use Rattle.text_kernel.specs.Items.{globals_of};
 ghost use Rattle.text_kernel.specs.Kernels.{kernel_of, main_id, variable_items};
@@ -129,7 +129,7 @@ pub fn most_words(
     values: &[u64],
     first: u32,
 ) -> Result<u64, OutOfMemory>
-    requires free { (f : ℕ) → Leads (starts (text_of globals.now.index)) f f → ⊥ }
+    requires free { (f : ℕ) → Leads (callees_of (text_of globals.now.index)) f f → ⊥ }
     requires faultless { Faultless (text_of globals.now.index) names.now }
     requires first { first ≡ main_id (text_of globals.now.index) names.now }
     requires variables { globals_of variables.now ≡ variable_items (text_of globals.now.index) names.now (text_of globals.now.index) }

@@ -13,11 +13,11 @@ use Rattle.forec_kernel.specs.WellFormed.{FineStmt}
 use Rattle.text_kernel.specs.declared.names.Slot.{Slot}
 use Rattle.text_kernel.specs.Bindings.{params_at}
 use Rattle.text_kernel.specs.Lowering as low
-use Rattle.text_kernel.specs.Lowering.{sequence, lower_statement, lower_list, lower_perhaps, lower_branches, scope_after, scope_after_perhaps, par_after, params_of, NextNumbers, Made, Lowered, InPlace, body_in_place, in_place_step, nothing_in_place}
+use Rattle.text_kernel.specs.Lowering.{sequence, lower_statement, lower_list, lower_perhaps, lower_branches, scope_after, scope_after_perhaps, par_after, params_of, NextNumbers, Made, Lowered, Inlined, inlined_body, inlined_step, nothing_inlined}
 use Rattle.text_kernel.proofs.Fine.{none_left, none_right, parts_left, parts_right, good_use, Knows}
 use Rattle.text_kernel.proofs.FineStatements.{sequence_fine}
-use Rattle.text_kernel.proofs.Grown.{made_of, in_place_grows, grows, list_grows, perhaps_grows}
-use Rattle.text_kernel.proofs.Forks.{at, Place_of, left, right, place_of, threads_grow}
+use Rattle.text_kernel.proofs.Grown.{made_of, inlined_grows, grows, list_grows, perhaps_grows}
+use Rattle.text_kernel.proofs.Forks.{at, SplitIndex, left, right, place_of, threads_grow}
 use Rattle.text_kernel.proofs.Rises.{place_rises}
 use Rattle.text_kernel.proofs.FineBodies.{Sits, sits_left, sits_right}
 use Rattle.text_kernel.proofs.Runs.{Runnable, runnable, startable, runs, list_runs, no_names}
@@ -32,7 +32,7 @@ AllFine k uses a = (i : ℕ) → i < length a → FineMade k uses (at a i)
 none_fine : (k : PlainKernel) (uses : List ℕ) → AllFine k uses []
 none_fine k uses i l = absurd (omega arith)
 
-fine_at : (k : PlainKernel) (uses : List ℕ) (a b : List Made) (i : ℕ) → AllFine k uses a → AllFine k uses b → Place_of a b i → FineMade k uses (at (a ++ b) i)
+fine_at : (k : PlainKernel) (uses : List ℕ) (a b : List Made) (i : ℕ) → AllFine k uses a → AllFine k uses b → SplitIndex a b i → FineMade k uses (at (a ++ b) i)
 fine_at k uses a b i h g (left l d) = subst (FineMade k uses) (sym d) (h i l)
 fine_at k uses a b i h g (right j w l d) = subst (FineMade k uses) (sym d) (g j l)
 
@@ -54,11 +54,11 @@ module _ (text : Text) (k : PlainKernel) (uses : List ℕ) (names : List (List �
 
   abbrev pub Below : (deep : ℕ) → Type 0
   Below deep = (t n first id : ℕ) (from : NextNumbers) → ((f : PlainFunction) → find_function id text ≡ Some f → Runnable n f) →
-      Sits k from.thread (within nothing_in_place (in_place_step text) deep id first t from).made → AllFine k uses (within nothing_in_place (in_place_step text) deep id first t from).made
+      Sits k from.thread (within nothing_inlined (inlined_step text) deep id first t from).made → AllFine k uses (within nothing_inlined (inlined_step text) deep id first t from).made
 
   module _ (deep : ℕ) (deeper : Below deep) where
-    abbrev called : ℕ → InPlace
-    called = within nothing_in_place (in_place_step text) deep
+    abbrev called : ℕ → Inlined
+    called = within nothing_inlined (inlined_step text) deep
 
     run_of : (sc : Scope) (name : Name) (n : ℕ) → use_faults judging (Runs n) name (meaning text sc name.id) ≡ [] → (f : PlainFunction) → find_function name.id text ≡ Some f → Runnable n f
     run_of sc name n h = runnable false n (find_last name.id None (sc.outer ++ sc.here)) (find_item name.id text) (good_use judging (Runs n) name (meaning text sc name.id) h)
@@ -88,7 +88,7 @@ module _ (text : Text) (k : PlainKernel) (uses : List ℕ) (names : List (List �
           let r = parts_right judging (in_term text sc test) (in_statement text (entered sc) a ++ in_perhaps text (entered sc) b) h in
           let one = lower_statement text called t s n a in
           let two = lower_perhaps text called t s one.next b in
-          let long = threads_grow (grows text called (in_place_grows text deep) t s n a).grown in
+          let long = threads_grow (grows text called (inlined_grows text deep) t s n a).grown in
           all_append k uses one.made two.made
           (made_fine t s n (entered sc) a (parts_left judging (in_statement text (entered sc) a) (in_perhaps text (entered sc) b) r) (sits_left k n.thread one.made two.made z))
           (perhaps_made t s one.next (entered sc) b (parts_right judging (in_statement text (entered sc) a) (in_perhaps text (entered sc) b) r) (sits_right k n.thread one.next.thread one.made two.made long z))
@@ -109,8 +109,8 @@ module _ (text : Text) (k : PlainKernel) (uses : List ℕ) (names : List (List �
           let r2 = in_perhaps text sc1 start ++ r3 in
           let h2 = parts_right judging (in_bound bound) r2 h in
           let h4 = parts_right judging (in_optional text sc2 test) r4 (parts_right judging (in_perhaps text sc1 start) r3 h2) in
-          let long_i = threads_grow (perhaps_grows text called (in_place_grows text deep) t s n start).grown in
-          let long_d = threads_grow (perhaps_grows text called (in_place_grows text deep) t s2 i.next step).grown in
+          let long_i = threads_grow (perhaps_grows text called (inlined_grows text deep) t s n start).grown in
+          let long_d = threads_grow (perhaps_grows text called (inlined_grows text deep) t s2 i.next step).grown in
           let z2 = sits_right k n.thread i.next.thread i.made (d.made ++ last.made) long_i z in
           all_append k uses i.made (d.made ++ last.made)
           (perhaps_made t s n sc1 start (parts_left judging (in_perhaps text sc1 start) r3 h2) (sits_left k n.thread i.made (d.made ++ last.made) z))
@@ -130,7 +130,7 @@ module _ (text : Text) (k : PlainKernel) (uses : List ℕ) (names : List (List �
           let one = lower_statement text called t s n a in
           let s2 = scope_after text s n.slot a in
           let two = lower_list text called t s2 one.next rest in
-          let long = threads_grow (grows text called (in_place_grows text deep) t s n a).grown in
+          let long = threads_grow (grows text called (inlined_grows text deep) t s n a).grown in
           all_append k uses one.made two.made
           (made_fine t s n sc a (parts_left judging (in_statement text sc a) (in_statements text (after sc a) rest) h) (sits_left k n.thread one.made two.made z))
           (list_made t s2 one.next (after sc a) rest (parts_right judging (in_statement text sc a) (in_statements text (after sc a) rest) h) (sits_right k n.thread one.next.thread one.made two.made long z))
@@ -153,7 +153,7 @@ module _ (text : Text) (k : PlainKernel) (uses : List ℕ) (names : List (List �
           let params = length (params_of (find_function name.id text)) in
           let first = low.thread_of t q (Some name.id) params b in
           let others = (lower_branches text called t s q next rest).made in
-          let long = threads_grow (in_place_grows text deep name.id 0 n.thread inside).grown in
+          let long = threads_grow (inlined_grows text deep name.id 0 n.thread inside).grown in
           let up = place_rises text deep name.id 0 n.thread inside in
           let few = param_count (count_terms args) (find_function name.id text) u in
           all_append k uses first others
@@ -170,7 +170,7 @@ module _ (text : Text) (k : PlainKernel) (uses : List ℕ) (names : List (List �
           let hr = parts_right judging (in_statements text no_scope body) (Closes ∷ in_branches text sc rest) h in
           let first = low.thread_of t q None 0 b in
           let others = (lower_branches text called t s q next rest).made in
-          let long = threads_grow (list_grows text called (in_place_grows text deep) n.thread [] inside body).grown in
+          let long = threads_grow (list_grows text called (inlined_grows text deep) n.thread [] inside body).grown in
           all_append k uses first others
           (branch_fine t q n None 0 b (sits_left k n.thread first others z) (omega arith)
           (λ y. sequence_fine false (record { kernel = k; words = l.next.slot; uses = uses }) l.list
@@ -181,7 +181,7 @@ module _ (text : Text) (k : PlainKernel) (uses : List ℕ) (names : List (List �
 
   body_made : (deep : ℕ) → Below deep → (t n first : ℕ) (from : NextNumbers) (o : Option PlainFunction) →
       ((f : PlainFunction) → o ≡ Some f → findings_faults judging (in_function text f) ≡ []) →
-      let l = body_in_place text (within nothing_in_place (in_place_step text) deep) o first t from in Sits k from.thread l.made → AllFine k uses l.made
+      let l = inlined_body text (within nothing_inlined (inlined_step text) deep) o first t from in Sits k from.thread l.made → AllFine k uses l.made
   body_made deep deeper t n first from None c z = none_fine k uses
   body_made deep deeper t n first from (Some f) c z =
       let inside = with_params no_scope f.params in

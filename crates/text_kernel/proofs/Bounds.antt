@@ -5,7 +5,7 @@ use Rattle.forec_tree.specs.declared.tree.Number.{Number}
 use Rattle.forec_tree.specs.Terms.{Term, Statement, For, Perhaps, Text}
 use Rattle.forec_tree.specs.Findings.{in_bound}
 use Rattle.forec_tree.specs.Rules.{Judging, outside, fault_if, findings_faults}
-use Rattle.forec_tree.specs.Turns.{run_of, is_i32, inferred, turns_from, fits_form, signed_step, Pair, Test, PlainStep, start_of, test_of, step_of}
+use Rattle.forec_tree.specs.Turns.{run_of, is_i32, inferred, turns_from, fits_form, signed_step, Pair, Test, PlainLoopStep, start_of, test_of, step_of}
 use Rattle.forec_kernel.specs.WellFormed.{FineBound}
 use Rattle.text_kernel.specs.Lowering.{bound_of, or_inferred}
 use Rattle.text_kernel.proofs.Fine.{none_left, not_broken}
@@ -35,7 +35,7 @@ run_short (suc left) passes step v = pick (is_i32 v) (passes v) (more_turns (run
     pick true false h n e = let same : 0 ≡ n = cc in omega (arith, same)
     pick false b h n e = cc
 
-turns_short : (text : Text) (body : Statement) (a : Option Pair) (t : Option Test) (s : Option PlainStep) → AtMost 1000000 (turns_from text body a t s)
+turns_short : (text : Text) (body : Statement) (a : Option Pair) (t : Option Test) (s : Option PlainLoopStep) → AtMost 1000000 (turns_from text body a t s)
 turns_short text body None t s n e = cc
 turns_short text body (Some a) None s n e = cc
 turns_short text body (Some a) (Some t) None n e = cc

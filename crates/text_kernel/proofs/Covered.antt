@@ -9,7 +9,7 @@ use Rattle.forec_kernel.specs.WellFormed.{all_in}
 use Rattle.text_kernel.specs.Lowering.{Made, vars_of, vars_made}
 use Rattle.text_kernel.specs.Kernels.{filter_in}
 use Rattle.text_kernel.proofs.Grown.{Grown, nothing, both, fork, turned, Branching, branch, Row, no_row, more_row, Fork}
-use Rattle.text_kernel.proofs.Forks.{threads_grow, branch_threads, blank_made, at, Place_of, left, right, place_of}
+use Rattle.text_kernel.proofs.Forks.{threads_grow, branch_threads, blank_made, at, SplitIndex, left, right, place_of}
 
 -- one list of names is in another one
 pub record Within (xs ys : List ℕ) : Type 0 where
@@ -90,7 +90,7 @@ covered_right t m m1 a b i j n h (by_other u k e w) =
 abbrev pub AllCovered : (t m : ℕ) (a : List Made) → Type 0
 AllCovered t m a = (i : ℕ) → i < length a → Covered t m a i
 
-covered_at : (t m m1 : ℕ) (a b : List Made) (i : ℕ) → m1 ≡ m + length a → AllCovered t m a → AllCovered t m1 b → Place_of a b i → Covered t m (a ++ b) i
+covered_at : (t m m1 : ℕ) (a b : List Made) (i : ℕ) → m1 ≡ m + length a → AllCovered t m a → AllCovered t m1 b → SplitIndex a b i → Covered t m (a ++ b) i
 covered_at t m m1 a b i n h k (left l d) = covered_left t m a b i l (h i l)
 covered_at t m m1 a b i n h k (right j w l d) = covered_right t m m1 a b i j n w (k j l)
 

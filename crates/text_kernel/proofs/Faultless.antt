@@ -8,7 +8,7 @@ use Rattle.forec_tree.specs.Scopes.{name_of, find_item}
 use Rattle.forec_tree.specs.Pauses.{find_function}
 use Rattle.forec_tree.specs.Rules.{fault_if, is_none, is_long, some_returns, findings_faults, loop_faults}
 use Rattle.forec_tree.specs.Faults.{in_function, calls_of, Leads, Before, none_before, after_item, item_named, is_start, start_name, main_place, main_faults, function_faults, item_faults, items_faults, text_faults, late_item_faults, late_faults, Member, here, later}
-use Rattle.forec_check.specs.Checks.{Faultless}
+use Rattle.forec_check.specs.Faultless.{Faultless}
 use Rattle.forec_check.proofs.Acyclic.{no_reach}
 use Rattle.text_kernel.specs.Kernels.{main_id}
 use Rattle.text_kernel.proofs.Fine.{none_left, none_right, not_broken}

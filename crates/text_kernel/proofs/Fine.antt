@@ -14,7 +14,7 @@ use Rattle.forec_tree.specs.Scopes.{Scope, find_item, find_last, is_array, local
 use Rattle.forec_tree.specs.Findings.{Finding, in_term, in_terms}
 use Rattle.forec_tree.specs.Rules.{Judging, fault_if, is_constant, is_changing, is_input, is_unknown, means_kind, writes, enters_main, fits_use, arguments, miscounts, use_faults, findings_faults}
 use Rattle.forec_tree.specs.Faults.{Member, here, later}
-use Rattle.forec_tree.proofs.Found.{findings-append}
+use Rattle.forec_tree.proofs.FindingFaults.{findings-append}
 use Rattle.forec_kernel.specs.Terms.{Expr, count_exprs}
 use Rattle.forec_kernel.specs.Shapes.{PlainKernel}
 use Rattle.forec_kernel.specs.Combining.{contains}

@@ -20,7 +20,7 @@ use Rattle.text_kernel.specs.declared.names.Slot.{Slot}
 use Rattle.text_kernel.specs.Bindings as binds
 use Rattle.text_kernel.specs.Bindings.{find_slot}
 use Rattle.text_kernel.specs.Lowering as low
-use Rattle.text_kernel.specs.Lowering.{lower_term, lower_terms, sequence, ends_with, set_params, lower_locals, slots_after, optional_test, bound_of, or_inferred, lower_statement, lower_list, lower_perhaps, lower_branches, scope_after, scope_after_perhaps, after_start, then_step, par_of, par_after, params_of, NextNumbers, Made, InPlace}
+use Rattle.text_kernel.specs.Lowering.{lower_term, lower_terms, sequence, ends_with, set_params, lower_locals, slots_after, optional_test, bound_of, or_inferred, lower_statement, lower_list, lower_perhaps, lower_branches, scope_after, scope_after_perhaps, after_start, then_step, par_of, par_after, params_of, NextNumbers, Made, Inlined}
 use Rattle.text_kernel.proofs.Fine.{none_left, none_right, not_broken, not_not, parts_left, parts_right, GoodUse, seen_option, Matches, Knows, fine_term, fine_terms, count_lowered, use_good}
 use Rattle.text_kernel.proofs.FineStatements.{sequence_fine, ends_fine, target_fine}
 use Rattle.text_kernel.proofs.Unbroken.{Unbroken, unbroken_left, unbroken_right}
@@ -64,7 +64,7 @@ right_if : (gives : Bool) (k : PlainKernel) (m m1 : ℕ) (a b : List Made) → m
 right_if gives k m m1 a b e z = λ d. sits_right k m m1 a b e (z d)
 
 module _
-    (text : Text) (k : PlainKernel) (words : ℕ) (uses : List ℕ) (j : Judging) (knows : Knows text k uses j.gives) (called : ℕ → InPlace)
+    (text : Text) (k : PlainKernel) (words : ℕ) (uses : List ℕ) (j : Judging) (knows : Knows text k uses j.gives) (called : ℕ → Inlined)
     (right : (id first t : ℕ) (n : NextNumbers) → IsGrown t n (pars_of (called id first t n).stmt) (called id first t n).made (called id first t n).next)
     (up : (id first t : ℕ) (n : NextNumbers) → n.slot ≤ (called id first t n).next.slot)
     (runs : (t n first : ℕ) (sc : Scope) (name : Name) (from : NextNumbers) → use_faults j (Runs n) name (meaning text sc name.id) ≡ [] → first + n ≤ from.slot → (called name.id first t from).next.slot ≤ words →

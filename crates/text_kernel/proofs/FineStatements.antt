@@ -16,7 +16,7 @@ use Rattle.forec_kernel.specs.WellFormed.{FineExpr, FineStmt, FineStmts, IsArray
 use Rattle.text_kernel.specs.declared.names.Slot.{Slot}
 use Rattle.text_kernel.specs.declared.names.Stands.TheVariants as st
 use Rattle.text_kernel.specs.Bindings.{find_slot, slot_stands, item_stands, constant_stands, number_among, is_variable}
-use Rattle.text_kernel.specs.Lowering.{lower_term, sequence, ends_with, operated, assign_to, assign_at, lower_target, InPlace}
+use Rattle.text_kernel.specs.Lowering.{lower_term, sequence, ends_with, operated, assign_to, assign_at, lower_target, Inlined}
 use Rattle.text_kernel.proofs.Fine.{none_left, none_right, GoodUse, has_size, long_of, seen_option, GoodSlot, Matches, finds, GoodItem, Knows, place_has, fine_term, slot_good, use_good}
 
 pub sequence_fine : (f : Bool) (s : wf.Scope) (list : Stmts) → FineStmts f s list → FineStmt f s (sequence list)
@@ -80,7 +80,7 @@ module _ (text : Text) (k : PlainKernel) (words : ℕ) (uses : List ℕ) (j : Ju
   name_to_at id None (Some (IsFunction y)) op i value place g w u f h = let bad = u.fits in cc
   name_to_at id None (Some (IsGlobal y)) op i value place g w u f h = global_to_at id y (is_constant y.kind) _ w refl (u.written refl) u.fits
 
-  pub target_fine : (called : ℕ → InPlace) (sc : Scope) (s : List Slot) → Matches words sc s → (name : Name) (index : Option Term) (op : Option OpAt) (value : Expr) → FineExpr scope value →
+  pub target_fine : (called : ℕ → Inlined) (sc : Scope) (s : List Slot) → Matches words sc s → (name : Name) (index : Option Term) (op : Option OpAt) (value : Expr) → FineExpr scope value →
       findings_faults j (in_target text sc (record { name = name; index = index })) ≡ [] → FineStmt j.gives scope (lower_target text s (record { name = name; index = index }) op value)
   target_fine called sc s m name None op value f h =
       name_to name.id (find_slot name.id None s) (find_item name.id text) op value (slot_good text k words uses j knows sc s name.id _ m (finds name.id None s)) (knows.item name.id)

@@ -52,20 +52,20 @@ abbrev pub Low : ℕ → List Made → Type 0
 Low m a = (i : ℕ) → i < length a → (at a i).parent < m + i
 
 -- an element of two lists is one of either
-pub data Place_of (a b : List Made) (i : ℕ) : Type 0 where
-  left : i < length a → at (a ++ b) i ≡ at a i → Place_of a b i
-  right : (j : ℕ) → i ≡ length a + j → j < length b → at (a ++ b) i ≡ at b j → Place_of a b i
+pub data SplitIndex (a b : List Made) (i : ℕ) : Type 0 where
+  left : i < length a → at (a ++ b) i ≡ at a i → SplitIndex a b i
+  right : (j : ℕ) → i ≡ length a + j → j < length b → at (a ++ b) i ≡ at b j → SplitIndex a b i
 
-place_more : (c : Made) (a b : List Made) (i : ℕ) → Place_of a b i → Place_of (c ∷ a) b (suc i)
+place_more : (c : Made) (a b : List Made) (i : ℕ) → SplitIndex a b i → SplitIndex (c ∷ a) b (suc i)
 place_more c a b i (left l e) = left (omega arith) e
 place_more c a b i (right j h l e) = right j (omega arith) l e
 
-pub place_of : (a b : List Made) (i : ℕ) → i < length (a ++ b) → Place_of a b i
+pub place_of : (a b : List Made) (i : ℕ) → i < length (a ++ b) → SplitIndex a b i
 place_of [] b i l = right i (omega arith) l refl
 place_of (c ∷ a) b zero l = left (omega arith) refl
 place_of (c ∷ a) b (suc i) l = place_more c a b i (place_of a b i (omega arith))
 
-low_at : (m m1 : ℕ) (a b : List Made) (i : ℕ) → m1 ≡ m + length a → Low m a → Low m1 b → Place_of a b i → (at (a ++ b) i).parent < m + i
+low_at : (m m1 : ℕ) (a b : List Made) (i : ℕ) → m1 ≡ m + length a → Low m a → Low m1 b → SplitIndex a b i → (at (a ++ b) i).parent < m + i
 low_at m m1 a b i e h k (left l d) = rw d (h i l)
 low_at m m1 a b i e h k (right j w l d) = let g = k j l in rw d (omega (arith, e, w))
 

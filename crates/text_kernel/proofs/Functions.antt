@@ -19,7 +19,7 @@ use Rattle.forec_kernel.specs.Combining.{variable_of}
 use Rattle.forec_kernel.specs.WellFormed as wf
 use Rattle.forec_kernel.specs.WellFormed.{FineStmt, FineFunction, FineVariable, function_params, function_body}
 use Rattle.text_kernel.specs.Bindings.{params_at, number_among, is_int_function}
-use Rattle.text_kernel.specs.Lowering.{NextNumbers, InPlace, lowered, sequence}
+use Rattle.text_kernel.specs.Lowering.{NextNumbers, Inlined, lowered, sequence}
 use Rattle.text_kernel.specs.Kernels as kernels
 use Rattle.text_kernel.specs.Kernels.{kernel_of, int_functions, variable_items, variable_shape, combine_of}
 use Rattle.text_kernel.specs.Limits.{WithinLimits}
@@ -38,7 +38,7 @@ use Rattle.text_kernel.proofs.Returned.{list_returns, sequence_returns}
 use Rattle.text_kernel.proofs.Within.{functions_depth}
 
 -- in an int function nothing is put in place
-abbrev pub nothing : ℕ → InPlace
+abbrev pub nothing : ℕ → Inlined
 nothing id first t n = lowered (sequence no_stmts) n
 
 module _ (text : Text) (names : List (List ℕ)) where

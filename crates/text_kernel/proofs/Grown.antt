@@ -13,7 +13,7 @@ use Rattle.text_kernel.specs.declared.names.Slot.{Slot}
 use Rattle.text_kernel.specs.declared.names.Stands.{Stands}
 use Rattle.text_kernel.specs.declared.names.Stands.TheVariants as st
 use Rattle.text_kernel.specs.Bindings.{with_locals, params_at, slots_of, number_of}
-use Rattle.text_kernel.specs.Lowering.{stands, lower_term, sequence, ends_with, assign_to, assign_at, array_values, lower_local, lower_locals, set_params, lower_target, lower_statement, lower_list, lower_perhaps, lower_branches, scope_after, scope_after_perhaps, after_start, then_step, par_of, params_of, vars_of, vars_made, thread_of, NextNumbers, Made, Lowered, Listed, InPlace, body_in_place, in_place_step, in_place, nothing_in_place}
+use Rattle.text_kernel.specs.Lowering.{stands, lower_term, sequence, ends_with, assign_to, assign_at, array_values, lower_local, lower_locals, set_params, lower_target, lower_statement, lower_list, lower_perhaps, lower_branches, scope_after, scope_after_perhaps, after_start, then_step, par_of, params_of, vars_of, vars_made, thread_of, NextNumbers, Made, Lowered, Listed, Inlined, inlined_body, inlined_step, inlined, nothing_inlined}
 
 -- a par of a body: its number, and the threads that are its branches
 pub record Fork : Type 0 where
@@ -93,17 +93,17 @@ abbrev pub made_of : ℕ → ℕ → Option ℕ → ℕ → Lowered → Made
 made_of t q name params l =
     record { parent = t; par = q; name = name; params = params; words = l.next.slot; behind = l.next.thread; body = l.stmt; named = vars_of l.stmt ++ vars_made l.made }
 
-start_pars : (text : Text) (called : ℕ → InPlace) (t : ℕ) (s : List Slot) (n : NextNumbers) (start : Perhaps) (loop : Stmt) →
+start_pars : (text : Text) (called : ℕ → Inlined) (t : ℕ) (s : List Slot) (n : NextNumbers) (start : Perhaps) (loop : Stmt) →
     let i = lower_perhaps text called t s n start in pars_of (after_start start i.stmt loop) ≡ pars_of i.stmt ++ pars_of loop
 start_pars text called t s n absent loop = refl
 start_pars text called t s n (present a) loop = ap (λ x. pars_of (lower_statement text called t s n a).stmt ++ x) (append-nil (pars_of loop))
 
-step_pars : (text : Text) (called : ℕ → InPlace) (t : ℕ) (s : List Slot) (n : NextNumbers) (step : Perhaps) (body : Stmt) →
+step_pars : (text : Text) (called : ℕ → Inlined) (t : ℕ) (s : List Slot) (n : NextNumbers) (step : Perhaps) (body : Stmt) →
     let j = lower_perhaps text called t s n step in pars_of (then_step step body j.stmt) ≡ pars_of body ++ pars_of j.stmt
 step_pars text called t s n absent body = sym (append-nil (pars_of body))
 step_pars text called t s n (present a) body = ap (λ x. pars_of body ++ x) (append-nil (pars_of (lower_statement text called t s n a).stmt))
 
-module _ (text : Text) (called : ℕ → InPlace) (right : (id first t : ℕ) (n : NextNumbers) → IsGrown t n (pars_of (called id first t n).stmt) (called id first t n).made (called id first t n).next) where
+module _ (text : Text) (called : ℕ → Inlined) (right : (id first t : ℕ) (n : NextNumbers) → IsGrown t n (pars_of (called id first t n).stmt) (called id first t n).made (called id first t n).next) where
   values_pars : (s : List Slot) (slot size k : ℕ) (es : Terms) (place : Place) → pars_in (array_values text s slot size k es place) ≡ []
   values_pars s slot size k no_terms place = refl
   values_pars s slot size k (more_terms e rest) place = values_pars s slot size (suc k) rest place
@@ -238,21 +238,21 @@ module _ (text : Text) (called : ℕ → InPlace) (right : (id first t : ℕ) (n
         let m : NextNumbers = record { slot = n.slot; thread = l.next.thread; par = l.next.par } in
         more_row (group_branch t q n l (list_grows n.thread [] inside body)) (branches_grow t s q m rest)
 
-body_grows : (text : Text) (called : ℕ → InPlace) → ((id first t : ℕ) (n : NextNumbers) → IsGrown t n (pars_of (called id first t n).stmt) (called id first t n).made (called id first t n).next) →
-    (f : Option PlainFunction) (first t : ℕ) (n : NextNumbers) → let l = body_in_place text called f first t n in IsGrown t n (pars_of l.stmt) l.made l.next
+body_grows : (text : Text) (called : ℕ → Inlined) → ((id first t : ℕ) (n : NextNumbers) → IsGrown t n (pars_of (called id first t n).stmt) (called id first t n).made (called id first t n).next) →
+    (f : Option PlainFunction) (first t : ℕ) (n : NextNumbers) → let l = inlined_body text called f first t n in IsGrown t n (pars_of l.stmt) l.made l.next
 body_grows text called right None first t n = still t n n [] refl refl refl
 body_grows text called right (Some f) first t n =
     let l = lower_list text called t (params_at first f.params) n f.body in
     let g = list_grows text called right t (params_at first f.params) n f.body in
     record { forks = g.forks; are = g.are ∙ sym (sequence_pars l.list); grown = g.grown }
 
-pub in_place_grows : (text : Text) (deep id first t : ℕ) (n : NextNumbers) →
-    let l = within nothing_in_place (in_place_step text) deep id first t n in IsGrown t n (pars_of l.stmt) l.made l.next
+pub inlined_grows : (text : Text) (deep id first t : ℕ) (n : NextNumbers) →
+    let l = within nothing_inlined (inlined_step text) deep id first t n in IsGrown t n (pars_of l.stmt) l.made l.next
 unfolding within
-in_place_grows text zero id first t n = still t n n [] refl refl refl
-in_place_grows text (suc deep) id first t n = body_grows text (within nothing_in_place (in_place_step text) deep) (in_place_grows text deep) (find_function id text) first t n
+inlined_grows text zero id first t n = still t n n [] refl refl refl
+inlined_grows text (suc deep) id first t n = body_grows text (within nothing_inlined (inlined_step text) deep) (inlined_grows text deep) (find_function id text) first t n
 
 -- a function that is put in place
 pub place_grows : (text : Text) (id first t : ℕ) (n : NextNumbers) →
-    let l = in_place text id first t n in IsGrown t n (pars_of l.stmt) l.made l.next
-place_grows text id first t n = in_place_grows text (length text) id first t n
+    let l = inlined text id first t n in IsGrown t n (pars_of l.stmt) l.made l.next
+place_grows text id first t n = inlined_grows text (length text) id first t n

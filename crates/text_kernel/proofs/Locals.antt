@@ -19,7 +19,7 @@ use Rattle.forec_kernel.specs.WellFormed.{FineExpr, FineStmt, FineStmts, IsArray
 use Rattle.text_kernel.specs.declared.names.Slot.{Slot}
 use Rattle.text_kernel.specs.Bindings as binds
 use Rattle.text_kernel.specs.Bindings.{number_of, size_of, slots_of, local_slot}
-use Rattle.text_kernel.specs.Lowering.{array_values, lower_local, lower_locals, slots_after, InPlace}
+use Rattle.text_kernel.specs.Lowering.{array_values, lower_local, lower_locals, slots_after, Inlined}
 use Rattle.text_kernel.proofs.Fine.{none_left, none_right, not_broken, parts_left, parts_right, seen_of, has_size, long_of, GoodSlot, Matches, Knows, fine_term}
 use Rattle.text_kernel.proofs.FineStatements.{sequence_fine}
 use Rattle.text_kernel.proofs.Rises.{behind_rises}
@@ -71,7 +71,7 @@ matches_more words sc s x array a m g e = subst (λ t. Matches words t (s ++ x �
           good = λ y h. ⊎_elim (λ k. m.good y k) (λ d. subst (GoodSlot words) (sym d) g) (member_last y x s h);
         }
 
-module _ (text : Text) (k : PlainKernel) (words : ℕ) (uses : List ℕ) (j : Judging) (knows : Knows text k uses j.gives) (called : ℕ → InPlace) where
+module _ (text : Text) (k : PlainKernel) (words : ℕ) (uses : List ℕ) (j : Judging) (knows : Knows text k uses j.gives) (called : ℕ → Inlined) where
   abbrev scope : wf.Scope
   scope = record { kernel = k; words = words; uses = uses }
 

@@ -5,9 +5,9 @@ use Rattle.forec_tree.specs.declared.token.Token.{Token}
 use Rattle.forec_tree.specs.Terms.{Terms, no_terms, more_terms, Declared, Statement, Declare, Nothing, Group, Assign, Invoke, If, While, For, Pause, Par, Abort, Return, Statements, no_statements, more_statements, Perhaps, absent, present, Branches, no_branches, by_call, by_group, Text, PlainItem, PlainGlobal, PlainFunction, IsGlobal, IsFunction}
 use Rattle.forec_tree.specs.Spelling.{Spelt}
 use Rattle.forec_tree.specs.Parts.{in_order, Launch, launched_before, launched, Head}
-use Rattle.forec_tree.specs.SpelledStatements.{Separated, last_part, next_part, Simple, sets, updates, steps_after, steps_ahead, invokes, Declares, bare, valued, array, valued_array, LoopStarts, no_start, simple_start, declared_start, Steps, no_step, some_step, HeadParts, head_parts, Heads, heads, Says, acts, group, declares, if_alone, if_else, loops, counts, pauses, forks, aborts, gives_back, Block, block, Lists, no_more, and_more, Forks, forked, Starting, bare_call, call, blocked, Launches, last_branch, next_branch}
+use Rattle.forec_tree.specs.SpelledStatements.{Separated, last_part, next_part, Simple, sets, updates, steps_after, steps_ahead, invokes, Declares, bare, valued, array, valued_array, ForStarts, no_start, simple_start, declared_start, ForSteps, no_step, some_step, HeadParts, head_parts, Heads, heads, Says, acts, group, declares, if_alone, if_else, loops, counts, pauses, forks, aborts, gives_back, Block, block, Lists, no_more, and_more, Forks, forked, Starting, bare_call, call, blocked, Launches, last_branch, next_branch}
 use Rattle.forec_tree.specs.SpelledStatements as says
-use Rattle.forec_tree.specs.SpelledPrograms.{Introduces, constants, inputs, outputs, globals, shares, function, Programs, no_items, more_items, IsSpelled}
+use Rattle.forec_tree.specs.SpelledPrograms.{Introduces, constants, inputs, outputs, globals, shared_globals, function, Programs, no_items, more_items, IsSpelled}
 use Rattle.forec_tree.specs.Faults.{Member, here, later}
 
 abbrev pub one_at_most : Terms → Bool
@@ -73,12 +73,12 @@ locals_one : {locals : List Declared} {v : ℕ} {ls : List Spelt} → Separated 
 locals_one (last_part d) = (declares_one d, tt)
 locals_one (next_part comma d m rest) = (declares_one d, locals_one rest)
 
-start_one : {s : Perhaps} {v : ℕ} {ls : List Spelt} → LoopStarts s v ls → OneIfPresent s
+start_one : {s : Perhaps} {v : ℕ} {ls : List Spelt} → ForStarts s v ls → OneIfPresent s
 start_one no_start = tt
 start_one (simple_start x) = simple_one x
 start_one (declared_start id w n m e) = (refl, tt)
 
-step_one : {s : Perhaps} {v : ℕ} {ls : List Spelt} → Steps s v ls → OneIfPresent s
+step_one : {s : Perhaps} {v : ℕ} {ls : List Spelt} → ForSteps s v ls → OneIfPresent s
 step_one no_step = tt
 step_one (some_step x) = simple_one x
 
@@ -147,7 +147,7 @@ item_one (constants semicolon {globals = gs} w i s m) f p = absurd (no_function 
 item_one (inputs semicolon {globals = gs} w i s m) f p = absurd (no_function f gs p)
 item_one (outputs semicolon {globals = gs} w i s m) f p = absurd (no_function f gs p)
 item_one (globals semicolon {globals = gs} i s m) f p = absurd (no_function f gs p)
-item_one (shares int semicolon {global = g} s i n c m) f p = absurd (no_function f (g ∷ []) p)
+item_one (shared_globals int semicolon {global = g} s i n c m) f p = absurd (no_function f (g ∷ []) p)
 item_one (function {name = name} {names = names} {body = body} gives id w n ps b) f p =
     let own : PlainFunction = record { name = Rattle.forec_tree.specs.Spelling.name_at id name.place; gives = gives; params = names; body = in_order body } in
     ⊎_elim (λ (e : IsFunction f ≡ IsFunction own). (let same : own ≡ f = cc in subst (λ (x : PlainFunction). OneInAll x.body) same (block_one b))) (λ (q : Member (IsFunction f) []). elim q [ ])

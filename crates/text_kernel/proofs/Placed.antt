@@ -10,7 +10,7 @@ use Rattle.forec_kernel.specs.WellFormed.{branches_of, pars_of, blank_thread}
 use Rattle.text_kernel.specs.Lowering.{Made}
 use Rattle.text_kernel.specs.Kernels.{thread_shape, root, root_shape}
 use Rattle.text_kernel.proofs.Grown.{Grown, nothing, both, fork, turned, Branching, branch, Row, no_row, more_row, Fork, lists, IsGrown, place_grows}
-use Rattle.text_kernel.proofs.Forks.{threads_grow, branch_threads, row_threads, pars_grow, branch_pars, row_pars, blank_made, at, Place_of, left, right, place_of}
+use Rattle.text_kernel.proofs.Forks.{threads_grow, branch_threads, row_threads, pars_grow, branch_pars, row_pars, blank_made, at, SplitIndex, left, right, place_of}
 use Rattle.text_kernel.proofs.Owned.{branches_append, both_empty, outside, branch_outside, row_outside, shaped, Owns, Child, own_fork}
 
 -- no par of these numbers is in a list of threads from k on
@@ -91,7 +91,7 @@ module _ (text : Text) (names : List (List ℕ)) where
   moved_to : (whole : List PlainThread) (t u : ℕ) (xs ys : List (List ℕ)) → t ≡ u → xs ≡ ys → Placed whole t xs → Placed whole u ys
   moved_to whole t u xs ys e d z = subst (λ k. Placed whole k ys) e (record { forks = z.forks; are = z.are ∙ d; fine = z.fine })
 
-  done_at : (whole : List PlainThread) (m m1 : ℕ) (a b : List Made) (i : ℕ) → m1 ≡ m + length a → Done whole m a → Done whole m1 b → Place_of a b i → Placed whole (m + i) (pars_of (at (a ++ b) i).body)
+  done_at : (whole : List PlainThread) (m m1 : ℕ) (a b : List Made) (i : ℕ) → m1 ≡ m + length a → Done whole m a → Done whole m1 b → SplitIndex a b i → Placed whole (m + i) (pars_of (at (a ++ b) i).body)
   done_at whole m m1 a b i e h k (left l d) = moved_to whole (m + i) (m + i) (pars_of (at a i).body) (pars_of (at (a ++ b) i).body) refl (ap (λ x. pars_of x.body) (sym d)) (h i l)
   done_at whole m m1 a b i e h k (right j w l d) =
       moved_to whole (m1 + j) (m + i) (pars_of (at b j).body) (pars_of (at (a ++ b) i).body) (omega (arith, e, w)) (ap (λ x. pars_of x.body) (sym d)) (k j l)

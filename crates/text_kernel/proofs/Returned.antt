@@ -6,7 +6,7 @@ use Rattle.forec_tree.specs.Rules as rule
 use Rattle.forec_kernel.specs.Terms.{Stmts, no_stmts, more_stmts}
 use Rattle.forec_kernel.specs.WellFormed.{returns, some_returns}
 use Rattle.text_kernel.specs.declared.names.Slot.{Slot}
-use Rattle.text_kernel.specs.Lowering.{sequence, lower_statement, lower_list, lower_perhaps, scope_after, NextNumbers, InPlace}
+use Rattle.text_kernel.specs.Lowering.{sequence, lower_statement, lower_list, lower_perhaps, scope_after, NextNumbers, Inlined}
 
 or_none : (b : Bool) → (b || false) ≡ b
 or_none true = refl
@@ -21,7 +21,7 @@ either : (x y u v : Bool) → (x || y) ≡ true → (x ≡ true → u ≡ true) 
 either true y u v h f g = or_left u v (f refl)
 either false y u v h f g = or_right u v (g h)
 
-module _ (text : Text) (called : ℕ → InPlace) where
+module _ (text : Text) (called : ℕ → Inlined) where
   mutual
     pub returns_too : (t : ℕ) (s : List Slot) (n : NextNumbers) (a : Statement) → rule.returns a ≡ true → returns (lower_statement text called t s n a).stmt ≡ true
     returns_too t s n (Nothing at) h = cc

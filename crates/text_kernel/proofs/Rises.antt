@@ -4,13 +4,13 @@ use Rattle.forec_tree.specs.Terms.{count_terms, Declared, Statement, Declare, No
 use Rattle.forec_tree.specs.Pauses.{within, find_function}
 use Rattle.text_kernel.specs.declared.names.Slot.{Slot}
 use Rattle.text_kernel.specs.Bindings.{slots_of, params_at}
-use Rattle.text_kernel.specs.Lowering.{slots_after, lower_statement, lower_list, lower_perhaps, lower_branches, scope_after, scope_after_perhaps, par_after, NextNumbers, InPlace, body_in_place, in_place_step, nothing_in_place}
+use Rattle.text_kernel.specs.Lowering.{slots_after, lower_statement, lower_list, lower_perhaps, lower_branches, scope_after, scope_after_perhaps, par_after, NextNumbers, Inlined, inlined_body, inlined_step, nothing_inlined}
 
-pub behind_rises : (text : Text) (called : ℕ → InPlace) (slot : ℕ) (ls : List Declared) → slot ≤ slots_after text slot ls
+pub behind_rises : (text : Text) (called : ℕ → Inlined) (slot : ℕ) (ls : List Declared) → slot ≤ slots_after text slot ls
 behind_rises text called slot [] = omega arith
 behind_rises text called slot (l ∷ rest) = let g = behind_rises text called (slot + slots_of l.length) rest in omega arith
 
-module _ (text : Text) (called : ℕ → InPlace) (right : (id first t : ℕ) (n : NextNumbers) → n.slot ≤ (called id first t n).next.slot) where
+module _ (text : Text) (called : ℕ → Inlined) (right : (id first t : ℕ) (n : NextNumbers) → n.slot ≤ (called id first t n).next.slot) where
   mutual
     pub rises : (t : ℕ) (s : List Slot) (n : NextNumbers) (a : Statement) → n.slot ≤ (lower_statement text called t s n a).next.slot
     rises t s n (Nothing at) = omega arith
@@ -51,13 +51,13 @@ module _ (text : Text) (called : ℕ → InPlace) (right : (id first t : ℕ) (n
         let l = lower_list text called n.thread [] (record { slot = 0; thread = suc n.thread; par = n.par }) body in
         branches_rise t s q (record { slot = n.slot; thread = l.next.thread; par = l.next.par }) rest
 
-body_rises : (text : Text) (called : ℕ → InPlace) → ((id first t : ℕ) (n : NextNumbers) → n.slot ≤ (called id first t n).next.slot) →
-    (f : Option PlainFunction) (first t : ℕ) (n : NextNumbers) → n.slot ≤ (body_in_place text called f first t n).next.slot
+body_rises : (text : Text) (called : ℕ → Inlined) → ((id first t : ℕ) (n : NextNumbers) → n.slot ≤ (called id first t n).next.slot) →
+    (f : Option PlainFunction) (first t : ℕ) (n : NextNumbers) → n.slot ≤ (inlined_body text called f first t n).next.slot
 body_rises text called right None first t n = omega arith
 body_rises text called right (Some f) first t n =
     list_rises text called right t (params_at first f.params) n f.body
 
-pub place_rises : (text : Text) (deep id first t : ℕ) (n : NextNumbers) → n.slot ≤ (within nothing_in_place (in_place_step text) deep id first t n).next.slot
+pub place_rises : (text : Text) (deep id first t : ℕ) (n : NextNumbers) → n.slot ≤ (within nothing_inlined (inlined_step text) deep id first t n).next.slot
 unfolding within
 place_rises text zero id first t n = omega arith
-place_rises text (suc deep) id first t n = body_rises text (within nothing_in_place (in_place_step text) deep) (place_rises text deep) (find_function id text) first t n
+place_rises text (suc deep) id first t n = body_rises text (within nothing_inlined (inlined_step text) deep) (place_rises text deep) (find_function id text) first t n

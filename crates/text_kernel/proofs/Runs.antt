@@ -15,12 +15,12 @@ use Rattle.forec_kernel.specs.WellFormed as wf
 use Rattle.forec_kernel.specs.WellFormed.{FineStmt, FineStmts}
 use Rattle.text_kernel.specs.declared.names.Slot.{Slot}
 use Rattle.text_kernel.specs.Bindings.{params_at}
-use Rattle.text_kernel.specs.Lowering.{NextNumbers, InPlace, lower_list, body_in_place, in_place_step, nothing_in_place}
+use Rattle.text_kernel.specs.Lowering.{NextNumbers, Inlined, lower_list, inlined_body, inlined_step, nothing_inlined}
 use Rattle.text_kernel.proofs.Fine.{none_left, none_right, not_broken, parts_left, parts_right, GoodUse, good_use, GoodSlot, Matches, Knows}
 use Rattle.text_kernel.proofs.FineStatements.{sequence_fine}
 use Rattle.text_kernel.proofs.Locals.{matches_more, locals_fine}
 use Rattle.text_kernel.proofs.Bounds.{while_bound, for_bound}
-use Rattle.text_kernel.proofs.Grown.{in_place_grows}
+use Rattle.text_kernel.proofs.Grown.{inlined_grows}
 use Rattle.text_kernel.proofs.Rises.{place_rises, list_rises}
 use Rattle.text_kernel.proofs.Unbroken.{Unbroken}
 use Rattle.text_kernel.proofs.FineBodies.{Sits, list_fine}
@@ -82,29 +82,29 @@ module _ (text : Text) (k : PlainKernel) (words : ℕ) (uses : List ℕ) (names 
 
   abbrev pub Run : (deep : ℕ) → Type 0
   Run deep = (t n first id : ℕ) (from : NextNumbers) → ((f : PlainFunction) → find_function id text ≡ Some f → Runnable n f) → first + n ≤ from.slot →
-      (within nothing_in_place (in_place_step text) deep id first t from).next.slot ≤ words → Sits k from.thread (within nothing_in_place (in_place_step text) deep id first t from).made →
-      FineStmt false scope (within nothing_in_place (in_place_step text) deep id first t from).stmt
+      (within nothing_inlined (inlined_step text) deep id first t from).next.slot ≤ words → Sits k from.thread (within nothing_inlined (inlined_step text) deep id first t from).made →
+      FineStmt false scope (within nothing_inlined (inlined_step text) deep id first t from).stmt
 
   -- a list of statements, where what is called is put in place up to so many calls deep
   pub list_runs : (deep : ℕ) → Run deep → (t : ℕ) (s : List Slot) (n : NextNumbers) (sc : Scope) (a : Statements) → Matches words sc s → findings_faults judging (in_statements text sc a) ≡ [] →
-      (lower_list text (within nothing_in_place (in_place_step text) deep) t s n a).next.slot ≤ words →
-      Sits k n.thread (lower_list text (within nothing_in_place (in_place_step text) deep) t s n a).made →
-      FineStmts false scope (lower_list text (within nothing_in_place (in_place_step text) deep) t s n a).list
+      (lower_list text (within nothing_inlined (inlined_step text) deep) t s n a).next.slot ≤ words →
+      Sits k n.thread (lower_list text (within nothing_inlined (inlined_step text) deep) t s n a).made →
+      FineStmts false scope (lower_list text (within nothing_inlined (inlined_step text) deep) t s n a).list
   list_runs deep run t s n sc a m h l z =
-      list_fine text k words uses judging knows (within nothing_in_place (in_place_step text) deep) (in_place_grows text deep) (place_rises text deep)
+      list_fine text k words uses judging knows (within nothing_inlined (inlined_step text) deep) (inlined_grows text deep) (place_rises text deep)
       (λ t n first sc name from broken taken low sits. run t n first name.id from
       (runnable false n (find_last name.id None (sc.outer ++ sc.here)) (find_item name.id text) (good_use judging (Runs n) name (meaning text sc name.id) broken)) taken low (sits refl))
       (λ sc at test bound body broken. while_bound judging bound (parts_left judging (in_bound bound) _ broken.rules))
       (λ sc at start test step bound body broken. for_bound text judging at start test step bound body (parts_left judging (in_bound bound) _ broken.rules))
-      (locals_fine text k words uses judging knows (within nothing_in_place (in_place_step text) deep))
+      (locals_fine text k words uses judging knows (within nothing_inlined (inlined_step text) deep))
       t s n sc a m (in_thread h) l (λ e. z)
 
   body_runs : (deep : ℕ) → Run deep → (t n first : ℕ) (from : NextNumbers) (o : Option PlainFunction) → ((f : PlainFunction) → o ≡ Some f → Runnable n f) →
       ((f : PlainFunction) → o ≡ Some f → findings_faults judging (in_function text f) ≡ []) → first + n ≤ from.slot →
-      let l = body_in_place text (within nothing_in_place (in_place_step text) deep) o first t from in l.next.slot ≤ words → Sits k from.thread l.made → FineStmt false scope l.stmt
+      let l = inlined_body text (within nothing_inlined (inlined_step text) deep) o first t from in l.next.slot ≤ words → Sits k from.thread l.made → FineStmt false scope l.stmt
   body_runs deep run t n first from None u c h l z = tt
   body_runs deep run t n first from (Some f) u c h l z =
-      let called : ℕ → InPlace = within nothing_in_place (in_place_step text) deep in
+      let called : ℕ → Inlined = within nothing_inlined (inlined_step text) deep in
       let r = u f refl in
       let clean = c f refl in
       let inside = with_params no_scope f.params in

@@ -4,7 +4,7 @@ use Rattle.std.proofs.lemmas.List.{take_all, take-append-le, drop-append-le}
 use Rattle.std.proofs.Math.Seq.{drop-append-add}
 use Rattle.text_kernel.specs.Lowering.{Made, vars_of, vars_made}
 use Rattle.text_kernel.proofs.Grown.{Grown, nothing, both, fork, turned, Branching, branch, Row, no_row, more_row, Fork}
-use Rattle.text_kernel.proofs.Forks.{threads_grow, branch_threads, at, Place_of, left, right, place_of}
+use Rattle.text_kernel.proofs.Forks.{threads_grow, branch_threads, at, SplitIndex, left, right, place_of}
 
 abbrev pub part : ℕ → List Made → ℕ → List Made
 part m a i = take ((at a i).behind - (m + i)) (drop i a)
@@ -51,7 +51,7 @@ segment_right m m1 a b i j n w d s =
       named = ap (λ (x : Made). x.named) d ∙ (s.named ∙ ap vars_made (sym cut));
     }
 
-segment_at : (m m1 : ℕ) (a b : List Made) (i : ℕ) → m1 ≡ m + length a → Segments m a → Segments m1 b → Place_of a b i → Segment m (a ++ b) i
+segment_at : (m m1 : ℕ) (a b : List Made) (i : ℕ) → m1 ≡ m + length a → Segments m a → Segments m1 b → SplitIndex a b i → Segment m (a ++ b) i
 segment_at m m1 a b i n h k (left l d) = segment_left m a b i l d (h i l)
 segment_at m m1 a b i n h k (right j w l d) = segment_right m m1 a b i j n w d (k j l)
 

@@ -8,7 +8,7 @@ use Rattle.forec_tree.specs.Pauses.{within, find_function}
 use Rattle.forec_tree.specs.ThreadTree.{Threads, no_threads, thread, followed_by, Placed, nothing, placed, all_placed, perhaps_placed, branches_placed, body_placed, placed_step, count_threads}
 use Rattle.text_kernel.specs.declared.names.Slot.{Slot}
 use Rattle.text_kernel.specs.Bindings.{params_at}
-use Rattle.text_kernel.specs.Lowering.{NextNumbers, Made, from_slot, scope_after, scope_after_perhaps, par_after, lower_statement, lower_list, lower_perhaps, lower_branches, InPlace, body_in_place, in_place_step, nothing_in_place}
+use Rattle.text_kernel.specs.Lowering.{NextNumbers, Made, from_slot, scope_after, scope_after_perhaps, par_after, lower_statement, lower_list, lower_perhaps, lower_branches, Inlined, inlined_body, inlined_step, nothing_inlined}
 use Rattle.text_kernel.specs.Kernels.{kernel_of, root, thread_shape, main_id}
 use Rattle.text_kernel.specs.Instances.{parents, ThreadsOfTree}
 
@@ -66,7 +66,7 @@ branch_first t m m1 m2 x a b named p q e g h =
       next = omega (arith, g.next, h.next);
     }
 
-module _ (text : Text) (called : ℕ → InPlace) (tree : ℕ → Placed)
+module _ (text : Text) (called : ℕ → Inlined) (tree : ℕ → Placed)
     (right : (id first t : ℕ) (n : NextNumbers) → Adds t n.thread (called id first t n).made (called id first t n).next.thread (tree id).below)
   where
     mutual
@@ -121,17 +121,17 @@ module _ (text : Text) (called : ℕ → InPlace) (tree : ℕ → Placed)
           (each t s par (record { slot = n.slot; thread = l.next.thread; par = l.next.par }) sc rest)
 
     in_body : (f : Option PlainFunction) (first t : ℕ) (n : NextNumbers) →
-        Adds t n.thread (body_in_place text called f first t n).made (body_in_place text called f first t n).next.thread (body_placed text tree f).below
+        Adds t n.thread (inlined_body text called f first t n).made (inlined_body text called f first t n).next.thread (body_placed text tree f).below
     in_body None first t n = none t n.thread
     in_body (Some f) first t n = all t (params_at first f.params) n (with_params no_scope f.params) f.body
 
 in_turn : (text : Text) (deep id first t : ℕ) (n : NextNumbers) →
-    Adds t n.thread (within nothing_in_place (in_place_step text) deep id first t n).made (within nothing_in_place (in_place_step text) deep id first t n).next.thread
+    Adds t n.thread (within nothing_inlined (inlined_step text) deep id first t n).made (within nothing_inlined (inlined_step text) deep id first t n).next.thread
     (within nothing (placed_step text) deep id).below
 unfolding within
 in_turn text zero id first t n = none t n.thread
 in_turn text (suc deep) id first t n =
-    in_body text (within nothing_in_place (in_place_step text) deep) (within nothing (placed_step text) deep) (in_turn text deep) (find_function id text) first t n
+    in_body text (within nothing_inlined (inlined_step text) deep) (within nothing (placed_step text) deep) (in_turn text deep) (find_function id text) first t n
 
 module _ (text : Text) (names : List (List ℕ)) where
   abbrev below : Threads

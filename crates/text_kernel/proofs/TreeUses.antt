@@ -17,7 +17,7 @@ use Rattle.forec_kernel.specs.Texts.{uses_of}
 use Rattle.forec_kernel.specs.WellFormed.{count_up}
 use Rattle.text_kernel.specs.declared.names.Slot.{Slot}
 use Rattle.text_kernel.specs.Bindings.{params_at, number_among, is_variable}
-use Rattle.text_kernel.specs.Lowering.{NextNumbers, Made, Listed, from_slot, scope_after, scope_after_perhaps, par_after, par_of, after_start, then_step, optional_test, set_params, lower_term, lower_terms, lower_locals, lower_target, lower_statement, lower_list, lower_perhaps, lower_branches, InPlace, body_in_place, in_place_step, nothing_in_place, sequence, ends_with, vars_in, vars_all, vars_of, vars_list, vars_launches, vars_made}
+use Rattle.text_kernel.specs.Lowering.{NextNumbers, Made, Listed, from_slot, scope_after, scope_after_perhaps, par_after, par_of, after_start, then_step, optional_test, set_params, lower_term, lower_terms, lower_locals, lower_target, lower_statement, lower_list, lower_perhaps, lower_branches, Inlined, inlined_body, inlined_step, nothing_inlined, sequence, ends_with, vars_in, vars_all, vars_of, vars_list, vars_launches, vars_made}
 use Rattle.text_kernel.specs.Kernels.{kernel_of, root, main_id, variable_count, filter_in}
 use Rattle.text_kernel.specs.Laws.{UsesAreThoseOfTheTree}
 use Rattle.text_kernel.specs.Instances.{UsesOfTree}
@@ -127,7 +127,7 @@ module _ (text : Text) (names : List (List ℕ)) (g : PlainGlobal) (is_item : fi
             ∙ (ap (λ l. map tree_named (in_preorder p.below) ++ l) z.each ∙ sym (map-append tree_named (in_preorder p.below) (in_preorder q.below)))));
       }
 
-  module _ (called : ℕ → InPlace) (tree : ℕ → Placed)
+  module _ (called : ℕ → Inlined) (tree : ℕ → Placed)
       (right : (id first t : ℕ) (n : NextNumbers) → ((f : PlainFunction) → find_function id text ≡ Some f → f.gives ≡ false) →
       Names (vars_of (called id first t n).stmt) (called id first t n).made (tree id))
     where
@@ -304,7 +304,7 @@ module _ (text : Text) (names : List (List ℕ)) (g : PlainGlobal) (is_item : fi
 
       in_body : (f : Option PlainFunction) (first t : ℕ) (n : NextNumbers) → ((h : PlainFunction) → f ≡ Some h → findings_faults j (in_function text h) ≡ []) →
           ((h : PlainFunction) → f ≡ Some h → OneInAll h.body) →
-          Names (vars_of (body_in_place text called f first t n).stmt) (body_in_place text called f first t n).made (body_placed text tree f)
+          Names (vars_of (inlined_body text called f first t n).stmt) (inlined_body text called f first t n).made (body_placed text tree f)
       in_body None first t n clean ones = leaf [] [] refl
       in_body (Some f) first t n clean ones =
           let inside = with_params no_scope f.params in
@@ -317,12 +317,12 @@ module _ (text : Text) (names : List (List ℕ)) (g : PlainGlobal) (is_item : fi
       (ones : (id : ℕ) (f : PlainFunction) → find_function id text ≡ Some f → OneInAll f.body)
     where
       in_turn : (deep id first t : ℕ) (n : NextNumbers) → ((f : PlainFunction) → find_function id text ≡ Some f → f.gives ≡ false) →
-          Names (vars_of (within nothing_in_place (in_place_step text) deep id first t n).stmt) (within nothing_in_place (in_place_step text) deep id first t n).made
+          Names (vars_of (within nothing_inlined (inlined_step text) deep id first t n).stmt) (within nothing_inlined (inlined_step text) deep id first t n).made
           (within nothing (placed_step text) deep id)
       unfolding within
       in_turn zero id first t n void = leaf [] [] refl
       in_turn (suc deep) id first t n void =
-          in_body (within nothing_in_place (in_place_step text) deep) (within nothing (placed_step text) deep) (in_turn deep) (find_function id text) first t n
+          in_body (within nothing_inlined (inlined_step text) deep) (within nothing (placed_step text) deep) (in_turn deep) (find_function id text) first t n
           (λ f e. faultless id f e (void f e)) (λ f e. ones id f e)
 
 -- ---- the same at each place

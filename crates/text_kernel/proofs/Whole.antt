@@ -6,12 +6,12 @@ use Rattle.forec_tree.specs.Faults.{is_in}
 use Rattle.forec_kernel.specs.Shapes.{PlainKernel, PlainThread}
 use Rattle.forec_kernel.specs.Texts.{words_in, words_of, uses_of, body_of}
 use Rattle.forec_kernel.specs.WellFormed.{FineStmt, FineThread, WellFormed, thread_of, count_up, ascends}
-use Rattle.forec_check.specs.Checks.{Faultless}
+use Rattle.forec_check.specs.Faultless.{Faultless}
 use Rattle.text_kernel.specs.Lowering.{Made, vars_of, vars_made}
 use Rattle.text_kernel.specs.Kernels.{kernel_of, root, main_id, thread_shape, variable_count, filter_in}
 use Rattle.text_kernel.specs.Limits.{WithinLimits}
 use Rattle.text_kernel.proofs.Grown.{Grown, nothing, both, fork, turned, Branching, branch, Row, no_row, more_row, Fork}
-use Rattle.text_kernel.proofs.Forks.{at, Place_of, left, right, place_of}
+use Rattle.text_kernel.proofs.Forks.{at, SplitIndex, left, right, place_of}
 use Rattle.text_kernel.proofs.Placed.{root_grown}
 use Rattle.text_kernel.proofs.Covered.{in_left}
 use Rattle.text_kernel.proofs.Fields as fields
@@ -34,7 +34,7 @@ use Rattle.text_kernel.proofs.Few.{few_functions, few_inputs, few_outputs}
 abbrev NamesOwn : List Made → Type 0
 NamesOwn a = (i : ℕ) → i < length a → (v : ℕ) → is_in v (vars_of (at a i).body) ≡ true → is_in v (at a i).named ≡ true
 
-own_at : (a b : List Made) (i : ℕ) → NamesOwn a → NamesOwn b → Place_of a b i → (v : ℕ) → is_in v (vars_of (at (a ++ b) i).body) ≡ true → is_in v (at (a ++ b) i).named ≡ true
+own_at : (a b : List Made) (i : ℕ) → NamesOwn a → NamesOwn b → SplitIndex a b i → (v : ℕ) → is_in v (vars_of (at (a ++ b) i).body) ≡ true → is_in v (at (a ++ b) i).named ≡ true
 own_at a b i h g (left l d) v k = ap (λ (x : Made). is_in v x.named) d ∙ h i l v (ap (λ (x : Made). is_in v (vars_of x.body)) (sym d) ∙ k)
 own_at a b i h g (right j w l d) v k = ap (λ (x : Made). is_in v x.named) d ∙ g j l v (ap (λ (x : Made). is_in v (vars_of x.body)) (sym d) ∙ k)
 

@@ -13,7 +13,7 @@ use Rattle.forec_tree.specs.Terms.{Text, PlainGlobal, PlainFunction, IsGlobal, I
 use Rattle.forec_tree.specs.Rules.{bytes_of, is_constant, is_input, is_output}
 use Rattle.forec_tree.specs.Faults.{start_name, is_in}
 use Rattle.text_kernel.specs.Bindings.{params_at, number_of, number_among, is_int_function, first_value}
-use Rattle.text_kernel.specs.Lowering.{Made, Lowered, Listed, lowered, sequence, lower_list, in_place}
+use Rattle.text_kernel.specs.Lowering.{Made, Lowered, Listed, lowered, sequence, lower_list, inlined}
 
 abbrev pub filter_in : List ℕ → List ℕ → List ℕ
 filter_in named [] = []
@@ -76,7 +76,7 @@ module _ (text : Text) (names : List (List ℕ)) where
 
   -- `main` and what stands below it
   abbrev pub root : Lowered
-  root = in_place text main_id 0 0 (record { slot = 0; thread = 1; par = 0 })
+  root = inlined text main_id 0 0 (record { slot = 0; thread = 1; par = 0 })
 
   abbrev pub name_bytes : Option ℕ → Option (List ℕ)
   name_bytes None = None

@@ -4,7 +4,7 @@ use Rattle.forec_tree.specs.declared.token.Token.{Token}
 use Rattle.forec_tree.specs.Terms.{Text}
 use Rattle.forec_tree.specs.SpelledPrograms.{IsSpelled}
 use Rattle.forec_kernel.specs.WellFormed.{WellFormed}
-use Rattle.forec_check.specs.Checks.{Faultless}
+use Rattle.forec_check.specs.Faultless.{Faultless}
 use Rattle.text_kernel.specs.Kernels.{kernel_of, main_id}
 use Rattle.text_kernel.specs.Instances.{ThreadsOfTree, UsesOfTree}
 use Rattle.text_kernel.specs.Limits.{WithinLimits}

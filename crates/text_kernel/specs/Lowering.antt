@@ -267,10 +267,10 @@ module _ (text : Text) where
   ]
 
 -- a call of a void function that is inlined, in a thread: the slots of its parameters, which the caller has taken, and what is free after them
-abbrev pub InPlace : Type 0
-InPlace = (first owner : ℕ) → NextNumbers → Lowered
+abbrev pub Inlined : Type 0
+Inlined = (first owner : ℕ) → NextNumbers → Lowered
 
-module _ (text : Text) (called : ℕ → InPlace) where
+module _ (text : Text) (called : ℕ → Inlined) where
   abbrev mutual
     pub lower_statement : ℕ → List Slot → NextNumbers → Statement → Lowered
     lower_statement t s n (Nothing at) = lowered kernel.Nop n
@@ -341,17 +341,17 @@ module _ (text : Text) (called : ℕ → InPlace) where
           made = thread_of t p None 0 (as_one l) ++ m.made;
         }
 
-abbrev pub body_in_place : Text → (ℕ → InPlace) → Option PlainFunction → InPlace
-body_in_place text called None first t n = lowered kernel.Nop n
-body_in_place text called (Some f) first t n =
+abbrev pub inlined_body : Text → (ℕ → Inlined) → Option PlainFunction → Inlined
+inlined_body text called None first t n = lowered kernel.Nop n
+inlined_body text called (Some f) first t n =
     as_one (lower_list text called t (params_at first f.params) n f.body)
 
-abbrev pub in_place_step : Text → (ℕ → InPlace) → ℕ → InPlace
-in_place_step text called id = body_in_place text called (find_function id text)
+abbrev pub inlined_step : Text → (ℕ → Inlined) → ℕ → Inlined
+inlined_step text called id = inlined_body text called (find_function id text)
 
-abbrev pub nothing_in_place : InPlace
-nothing_in_place first t n = lowered kernel.Nop n
+abbrev pub nothing_inlined : Inlined
+nothing_inlined first t n = lowered kernel.Nop n
 
 -- a function by its name, inlined
-abbrev pub in_place : Text → ℕ → InPlace
-in_place text = within nothing_in_place (in_place_step text) (length text)
+abbrev pub inlined : Text → ℕ → Inlined
+inlined text = within nothing_inlined (inlined_step text) (length text)

@@ -2,7 +2,7 @@
 
 ghost use Rattle.std.specs.Prelude.{◌≡◌, ◌∷◌, [], length, IfOk};
 ghost use Rattle.forec_tree.specs.Plain as plain;
-ghost use Rattle.forec_check.specs.Checks.{IdsBelow};
+ghost use Rattle.forec_check.specs.Faultless.{IdsBelow};
 
 use forec_base::{Labels, OutOfMemory, Place};
 use forec_check::{CheckFault, check};

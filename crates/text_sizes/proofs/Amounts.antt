@@ -11,7 +11,7 @@ use Rattle.text_kernel.specs.Limits.{amount}
 use Rattle.text_kernel.proofs.Functions.{nothing}
 use Rattle.text_sizes.specs.declared.extents.Extent.{Extent}
 use Rattle.text_sizes.specs.Extents.{extent_value, own_at, counts_of}
-use Rattle.text_sizes.proofs.Counted.{sequence_as, all_is, length_is}
+use Rattle.text_sizes.proofs.TermCountLemmas.{sequence_as, all_is, length_is}
 use Rattle.text_sizes.proofs.Sized.{made_terms}
 use Rattle.text_sizes.proofs.Extending.{value_capped, has_terms, nothing_known}
 

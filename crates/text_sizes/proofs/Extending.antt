@@ -3,22 +3,22 @@ use Rattle.std.proofs.Common.{ℕ, zero, suc, ◌-◌, ◌^◌, ◌<◌, ◌≡�
 use Rattle.std.proofs.lemmas.Bool.{eqb-true}
 use Rattle.forec_tree.specs.Terms.{Text, PlainFunction}
 use Rattle.forec_tree.specs.Rules.{is_none}
-use Rattle.forec_tree.specs.Pauses.{within, find_function, function_starts, starts}
+use Rattle.forec_tree.specs.Pauses.{within, find_function, function_callees, callees_of}
 use Rattle.forec_tree.specs.Faults.{is_in, Leads}
 use Rattle.forec_kernel.specs.WellFormed.{stmt_terms}
 use Rattle.loop_check.specs.Graph.{IsOrder}
 use Rattle.loop_check.specs.Known.{Read, started_in, is_function, list_at}
-use Rattle.loop_check.proofs.Indexed.{split}
+use Rattle.loop_check.proofs.IndexLemmas.{split}
 use Rattle.loop_check.proofs.Ordered.{other_id}
 use Rattle.loop_check.proofs.Reading.{leads_same}
 use Rattle.forec_check.specs.Table.{Settles, put_at}
-use Rattle.forec_check.proofs.Tables.{settles_by}
+use Rattle.forec_check.proofs.TableLemmas.{settles_by}
 use Rattle.text_sizes.specs.declared.extents.Extent.{Extent}
 use Rattle.text_kernel.specs.Bindings.{params_at}
-use Rattle.text_sizes.specs.Counts.{sequence_count, statement_count, own_all, under_all}
-use Rattle.text_kernel.specs.Lowering.{NextNumbers, InPlace, in_place_step, nothing_in_place, body_in_place}
+use Rattle.text_sizes.specs.TermCounts.{sequence_count, statement_count, own_all, under_all}
+use Rattle.text_kernel.specs.Lowering.{NextNumbers, Inlined, inlined_step, nothing_inlined, inlined_body}
 use Rattle.text_sizes.specs.Extents.{nothing, extent_at, extent_by, extent_step, exact, capped, extent_value}
-use Rattle.text_sizes.proofs.Counted.{sequence_as, all_is, length_is}
+use Rattle.text_sizes.proofs.TermCountLemmas.{sequence_as, all_is, length_is}
 use Rattle.text_sizes.proofs.Sized.{made_terms, list_under}
 use Rattle.text_sizes.proofs.Nearby.{sequence_near, all_near, list_near}
 
@@ -47,7 +47,7 @@ nothing_known (suc h) = refl
 abbrev of_parts : ℕ → ℕ → Extent
 of_parts a b = record { own = a; under = b }
 
-extent_same : (a b : ℕ → Extent) (f : Option PlainFunction) → ((g : ℕ) → is_in g (function_starts f) ≡ true → a g ≡ b g) → extent_by capped a f ≡ extent_by capped b f
+extent_same : (a b : ℕ → Extent) (f : Option PlainFunction) → ((g : ℕ) → is_in g (function_callees f) ≡ true → a g ≡ b g) → extent_by capped a f ≡ extent_by capped b f
 extent_same a b None h = refl
 extent_same a b (Some f) h =
     let cap = 2 ^ 64 - 1 in
@@ -63,11 +63,11 @@ no_function text a g h = pick (find_function g text) h
     pick None h = refl
     pick (Some f) h = absurd (let q : true ≡ false = h in cc)
 
-started_list : (f : Option PlainFunction) → list_at started_in f ≡ function_starts f
+started_list : (f : Option PlainFunction) → list_at started_in f ≡ function_callees f
 started_list None = refl
 started_list (Some f) = refl
 
-pub extents_settle : (text : Text) (functions order : List ℕ) (calls : ℕ → List ℕ) → Read started_in text functions calls → IsOrder functions calls order → ((f : ℕ) → Leads (starts text) f f → ⊥) →
+pub extents_settle : (text : Text) (functions order : List ℕ) (calls : ℕ → List ℕ) → Read started_in text functions calls → IsOrder functions calls order → ((f : ℕ) → Leads (callees_of text) f f → ⊥) →
     Settles nothing (extent_step capped text) (extent_value text) order
 unfolding extent_value
 extents_settle text functions order calls r o free =
@@ -76,7 +76,7 @@ extents_settle text functions order calls r o free =
     let few = r.few in
     settles_by nothing (extent_step capped text) (length text) functions order calls o
     (record { agrees = λ f a b h. extent_same a b (find_function f text) (λ g e. h g (ap (is_in g) (lists f) ∙ e)) })
-    (λ g h a. no_function text a g (sym (r.stands g) ∙ h)) (λ g l. free g (leads_same calls (starts text) lists l)) (omega (arith, short, few))
+    (λ g h a. no_function text a g (sym (r.stands g) ∙ h)) (λ g l. free g (leads_same calls (callees_of text) lists l)) (omega (arith, short, few))
 
 -- ---- what is exact and what is capped
 
@@ -110,33 +110,33 @@ value_capped text id = within_capped text (length text) id
 -- ---- what is put in place has so many terms
 
 pub record HasTerms (text : Text) (deep id : ℕ) (e : Extent) : Type 0 where
-  pub own : (first t : ℕ) (n : NextNumbers) → stmt_terms (within nothing_in_place (in_place_step text) deep id first t n).stmt ≡ e.own
-  pub under : (first t : ℕ) (n : NextNumbers) → made_terms (within nothing_in_place (in_place_step text) deep id first t n).made ≡ e.under
+  pub own : (first t : ℕ) (n : NextNumbers) → stmt_terms (within nothing_inlined (inlined_step text) deep id first t n).stmt ≡ e.own
+  pub under : (first t : ℕ) (n : NextNumbers) → made_terms (within nothing_inlined (inlined_step text) deep id first t n).made ≡ e.under
 
-body_own : (text : Text) (called : ℕ → InPlace) (sizes : ℕ → Extent) → ((id first t : ℕ) (n : NextNumbers) → stmt_terms (called id first t n).stmt ≡ (sizes id).own) →
-    (f : Option PlainFunction) (first t : ℕ) (n : NextNumbers) → stmt_terms (body_in_place text called f first t n).stmt ≡ (extent_by exact sizes f).own
+body_own : (text : Text) (called : ℕ → Inlined) (sizes : ℕ → Extent) → ((id first t : ℕ) (n : NextNumbers) → stmt_terms (called id first t n).stmt ≡ (sizes id).own) →
+    (f : Option PlainFunction) (first t : ℕ) (n : NextNumbers) → stmt_terms (inlined_body text called f first t n).stmt ≡ (extent_by exact sizes f).own
 body_own text called sizes right None first t n = refl
 body_own text called sizes right (Some f) first t n =
     sequence_as _ _ _ (length_is text called (λ g. (sizes g).own) right t (params_at first f.params) n f.body) (all_is text called (λ g. (sizes g).own) right t (params_at first f.params) n f.body)
 
-body_under : (text : Text) (called : ℕ → InPlace) (sizes : ℕ → Extent) → ((id first t : ℕ) (n : NextNumbers) → stmt_terms (called id first t n).stmt ≡ (sizes id).own) →
+body_under : (text : Text) (called : ℕ → Inlined) (sizes : ℕ → Extent) → ((id first t : ℕ) (n : NextNumbers) → stmt_terms (called id first t n).stmt ≡ (sizes id).own) →
     ((id first t : ℕ) (n : NextNumbers) → made_terms (called id first t n).made ≡ (sizes id).under) →
-    (f : Option PlainFunction) (first t : ℕ) (n : NextNumbers) → made_terms (body_in_place text called f first t n).made ≡ (extent_by exact sizes f).under
+    (f : Option PlainFunction) (first t : ℕ) (n : NextNumbers) → made_terms (inlined_body text called f first t n).made ≡ (extent_by exact sizes f).under
 body_under text called sizes right beneath None first t n = refl
 body_under text called sizes right beneath (Some f) first t n =
     list_under text called (λ g. (sizes g).own) (λ g. (sizes g).under) right beneath t (params_at first f.params) n f.body
 
-place_own : (text : Text) (deep id first t : ℕ) (n : NextNumbers) → stmt_terms (within nothing_in_place (in_place_step text) deep id first t n).stmt ≡ (within nothing (extent_step exact text) deep id).own
+place_own : (text : Text) (deep id first t : ℕ) (n : NextNumbers) → stmt_terms (within nothing_inlined (inlined_step text) deep id first t n).stmt ≡ (within nothing (extent_step exact text) deep id).own
 unfolding within
 place_own text zero id first t n = refl
 place_own text (suc deep) id first t n =
-    body_own text (within nothing_in_place (in_place_step text) deep) (within nothing (extent_step exact text) deep) (place_own text deep) (find_function id text) first t n
+    body_own text (within nothing_inlined (inlined_step text) deep) (within nothing (extent_step exact text) deep) (place_own text deep) (find_function id text) first t n
 
-place_under : (text : Text) (deep id first t : ℕ) (n : NextNumbers) → made_terms (within nothing_in_place (in_place_step text) deep id first t n).made ≡ (within nothing (extent_step exact text) deep id).under
+place_under : (text : Text) (deep id first t : ℕ) (n : NextNumbers) → made_terms (within nothing_inlined (inlined_step text) deep id first t n).made ≡ (within nothing (extent_step exact text) deep id).under
 unfolding within
 place_under text zero id first t n = refl
 place_under text (suc deep) id first t n =
-    body_under text (within nothing_in_place (in_place_step text) deep) (within nothing (extent_step exact text) deep) (place_own text deep) (place_under text deep) (find_function id text) first t n
+    body_under text (within nothing_inlined (inlined_step text) deep) (within nothing (extent_step exact text) deep) (place_own text deep) (place_under text deep) (find_function id text) first t n
 
 pub has_terms : (text : Text) (deep id : ℕ) → HasTerms text deep id (within nothing (extent_step exact text) deep id)
 has_terms text deep id = record { own = place_own text deep id; under = place_under text deep id }

@@ -8,11 +8,11 @@ use Rattle.text_kernel.specs.declared.names.Slot.{Slot}
 use Rattle.text_sizes.specs.declared.span.Span.{Span}
 use Rattle.text_kernel.specs.Bindings.{params_at}
 use Rattle.text_kernel.specs.Lowering as low
-use Rattle.text_kernel.specs.Lowering.{sequence, ends_with, set_params, scope_after, scope_after_perhaps, par_after, after_start, then_step, NextNumbers, Made, InPlace, body_in_place, in_place_step, nothing_in_place, lower_statement, lower_list, lower_perhaps, lower_branches}
-use Rattle.text_sizes.specs.Counts.{slots_all, statement_count}
+use Rattle.text_kernel.specs.Lowering.{sequence, ends_with, set_params, scope_after, scope_after_perhaps, par_after, after_start, then_step, NextNumbers, Made, Inlined, inlined_body, inlined_step, nothing_inlined, lower_statement, lower_list, lower_perhaps, lower_branches}
+use Rattle.text_sizes.specs.TermCounts.{slots_all, statement_count}
 use Rattle.text_sizes.specs.Extents.{exact}
 use Rattle.text_sizes.specs.Spans.{sequence_levels, levels, levels_all, levels_perhaps, block_levels, most, most_all, most_perhaps, most_branches, words_by, levels_by, no_span, span_by, span_step}
-use Rattle.text_sizes.proofs.Counted.{stmts_length}
+use Rattle.text_sizes.proofs.TermCountLemmas.{stmts_length}
 use Rattle.text_sizes.proofs.Sized.{list_slots}
 
 -- ---- sequences
@@ -52,7 +52,7 @@ none_at called a e = ap (levels_perhaps called) e
 
 -- ---- levels
 
-module _ (text : Text) (called : ℕ → InPlace) (known : ℕ → ℕ) (right : (id first t : ℕ) (n : NextNumbers) → known id ≤ stmt_depth (called id first t n).stmt) where
+module _ (text : Text) (called : ℕ → Inlined) (known : ℕ → ℕ) (right : (id first t : ℕ) (n : NextNumbers) → known id ≤ stmt_depth (called id first t n).stmt) where
   list_long : (t : ℕ) (s : List Slot) (n : NextNumbers) (a : Statements) → stmts_length (lower_list text called t s n a).list ≡ statement_count a
   list_long t s n no_statements = refl
   list_long t s n (more_statements a rest) = ap suc (list_long t (scope_after text s n.slot a) (lower_statement text called t s n a).next rest)
@@ -117,7 +117,7 @@ module _ (measure : Made → ℕ) where
   most_append (m ∷ a) b = let e = most_append a b in omega (arith, e)
 
   module _
-      (text : Text) (called : ℕ → InPlace) (by_name : ℕ → ℕ → ℕ) (by_body : Statements → ℕ) (below : ℕ → ℕ)
+      (text : Text) (called : ℕ → Inlined) (by_name : ℕ → ℕ → ℕ) (by_body : Statements → ℕ) (below : ℕ → ℕ)
       (names : (t p thread args : ℕ) (name : Rattle.forec_tree.specs.declared.tree.Name.Name) (n : NextNumbers) (params : ℕ) → n.slot ≡ args →
       by_name name.id args ≤ measure (record {
         parent = t;
@@ -212,7 +212,7 @@ module _ (measure : Made → ℕ) where
           omega (arith, e, f, g, h)
 
   module _
-      (text : Text) (called : ℕ → InPlace) (by_name : ℕ → ℕ → ℕ) (by_body : Statements → ℕ) (below : ℕ → ℕ)
+      (text : Text) (called : ℕ → Inlined) (by_name : ℕ → ℕ → ℕ) (by_body : Statements → ℕ) (below : ℕ → ℕ)
       (names : (t p thread args : ℕ) (name : Rattle.forec_tree.specs.declared.tree.Name.Name) (n : NextNumbers) (params : ℕ) → n.slot ≡ args →
       measure (record {
         parent = t;
@@ -314,21 +314,21 @@ words_in = made_most (λ m. m.words)
 abbrev pub depth_in : List Made → ℕ
 depth_in = made_most (λ m. stmt_depth m.body)
 
-pub record Told (called : ℕ → InPlace) (known : ℕ → Span) : Type 0 where
+pub record Told (called : ℕ → Inlined) (known : ℕ → Span) : Type 0 where
   pub slots : (id first t : ℕ) (n : NextNumbers) → (called id first t n).next.slot ≡ n.slot + (known id).slots
   pub widest : (id first t : ℕ) (n : NextNumbers) → words_in (called id first t n).made ≡ (known id).widest
   pub levels : (id first t : ℕ) (n : NextNumbers) → (known id).levels ≤ stmt_depth (called id first t n).stmt
   pub deepest : (id first t : ℕ) (n : NextNumbers) → (known id).deepest ≤ depth_in (called id first t n).made
 
-module _ (text : Text) (called : ℕ → InPlace) (known : ℕ → Span) (told : Told called known) where
-  taken : (f : Option PlainFunction) (first t : ℕ) (n : NextNumbers) → (body_in_place text called f first t n).next.slot ≡ n.slot + (span_by exact known f).slots
+module _ (text : Text) (called : ℕ → Inlined) (known : ℕ → Span) (told : Told called known) where
+  taken : (f : Option PlainFunction) (first t : ℕ) (n : NextNumbers) → (inlined_body text called f first t n).next.slot ≡ n.slot + (span_by exact known f).slots
   taken None first t n = omega arith
   taken (Some f) first t n = list_slots text called (λ g. (known g).slots) told.slots t (params_at first f.params) n f.body
 
   body_slots_are : (t p thread : ℕ) (n : NextNumbers) (body : Statements) → n.slot ≡ 0 → (lower_list text called thread [] n body).next.slot ≡ slots_all (λ g. (known g).slots) body
   body_slots_are t p thread n body z = let e = list_slots text called (λ g. (known g).slots) told.slots thread [] n body in omega (arith, e, z)
 
-  wide : (f : Option PlainFunction) (first t : ℕ) (n : NextNumbers) → words_in (body_in_place text called f first t n).made ≡ (span_by exact known f).widest
+  wide : (f : Option PlainFunction) (first t : ℕ) (n : NextNumbers) → words_in (inlined_body text called f first t n).made ≡ (span_by exact known f).widest
   wide None first t n = refl
   wide (Some f) first t n =
       let at_least =
@@ -341,21 +341,21 @@ module _ (text : Text) (called : ℕ → InPlace) (known : ℕ → Span) (told :
       (λ id first t n. (let e = told.widest id first t n in omega (arith, e))) t (params_at first f.params) n f.body in
       omega (arith, at_least, at_most)
 
-  stacked : (f : Option PlainFunction) (first t : ℕ) (n : NextNumbers) → (span_by exact known f).levels ≤ stmt_depth (body_in_place text called f first t n).stmt
+  stacked : (f : Option PlainFunction) (first t : ℕ) (n : NextNumbers) → (span_by exact known f).levels ≤ stmt_depth (inlined_body text called f first t n).stmt
   stacked None first t n = omega arith
   stacked (Some f) first t n = list_is text called (λ g. (known g).levels) told.levels t (params_at first f.params) n f.body
 
-  deep_below : (f : Option PlainFunction) (first t : ℕ) (n : NextNumbers) → (span_by exact known f).deepest ≤ depth_in (body_in_place text called f first t n).made
+  deep_below : (f : Option PlainFunction) (first t : ℕ) (n : NextNumbers) → (span_by exact known f).deepest ≤ depth_in (inlined_body text called f first t n).made
   deep_below None first t n = omega arith
   deep_below (Some f) first t n =
       all_least (λ m. stmt_depth m.body) text called (levels_by (λ g. (known g).levels)) (block_levels (λ g. (known g).levels)) (λ g. (known g).deepest) (λ t p thread args name n params z. told.levels name.id 0 thread n)
       (λ t p thread n body z. list_is text called (λ g. (known g).levels) told.levels thread [] n body) told.deepest t (params_at first f.params) n f.body
 
-pub all_told : (text : Text) (deep : ℕ) → Told (within nothing_in_place (in_place_step text) deep) (within no_span (span_step exact text) deep)
+pub all_told : (text : Text) (deep : ℕ) → Told (within nothing_inlined (inlined_step text) deep) (within no_span (span_step exact text) deep)
 unfolding within
 all_told text zero = record { slots = λ id first t n. omega arith; widest = λ id first t n. refl; levels = λ id first t n. omega arith; deepest = λ id first t n. omega arith }
 all_told text (suc deep) =
-    let called = within nothing_in_place (in_place_step text) deep in
+    let called = within nothing_inlined (inlined_step text) deep in
     let known = within no_span (span_step exact text) deep in
     let told = all_told text deep in
     record {

@@ -1,4 +1,4 @@
-pub mod Counted
+pub mod TermCountLemmas
 pub mod Sized
 pub mod Nearby
 pub mod Extending

@@ -4,7 +4,7 @@ use Rattle.forec_tree.specs.Terms.{count_terms, Statement, Declare, Nothing, Gro
 use Rattle.forec_tree.specs.Pauses.{started, all_started, perhaps_started, branches_started}
 use Rattle.forec_tree.specs.Faults.{is_in}
 use Rattle.forec_tree.proofs.Agrees.{in_left, in_right, in_head, in_tail}
-use Rattle.text_sizes.specs.Counts.{sequence_count, sets_count, statement_count, optional_count, own, own_all, own_perhaps, own_start, own_step, under, under_all, under_perhaps, under_branches}
+use Rattle.text_sizes.specs.TermCounts.{sequence_count, sets_count, statement_count, optional_count, own, own_all, own_perhaps, own_start, own_step, under, under_all, under_perhaps, under_branches}
 
 pub sequence_near : (c n x y : ℕ) → min x c ≡ min y c → min (sequence_count n x) c ≡ min (sequence_count n y) c
 sequence_near c zero x y h = refl

@@ -6,11 +6,11 @@ use Rattle.forec_tree.specs.Threads.{below, below_all, below_perhaps, below_bran
 use Rattle.forec_kernel.specs.WellFormed.{stmt_terms}
 use Rattle.text_kernel.specs.declared.names.Slot.{Slot}
 use Rattle.text_kernel.specs.Bindings.{params_at, slots_of}
-use Rattle.text_kernel.specs.Lowering.{sequence, slots_after, scope_after, scope_after_perhaps, par_after, NextNumbers, Made, InPlace, body_in_place, in_place_step, nothing_in_place, lower_statement, lower_list, lower_perhaps, lower_branches}
-use Rattle.text_sizes.specs.Counts.{locals_slots, slots, slots_all, slots_perhaps, under, under_all, under_perhaps, under_branches, sequence_count, statement_count, own_all, body_slots, slots_step}
-use Rattle.text_sizes.proofs.Counted.{sequence_as, all_is, length_is}
+use Rattle.text_kernel.specs.Lowering.{sequence, slots_after, scope_after, scope_after_perhaps, par_after, NextNumbers, Made, Inlined, inlined_body, inlined_step, nothing_inlined, lower_statement, lower_list, lower_perhaps, lower_branches}
+use Rattle.text_sizes.specs.TermCounts.{locals_slots, slots, slots_all, slots_perhaps, under, under_all, under_perhaps, under_branches, sequence_count, statement_count, own_all, body_slots, slots_step}
+use Rattle.text_sizes.proofs.TermCountLemmas.{sequence_as, all_is, length_is}
 
-module _ (text : Text) (called : ℕ → InPlace) (count : ℕ → ℕ) (right : (id first t : ℕ) (n : NextNumbers) → length (called id first t n).made ≡ count id) where
+module _ (text : Text) (called : ℕ → Inlined) (count : ℕ → ℕ) (right : (id first t : ℕ) (n : NextNumbers) → length (called id first t n).made ≡ count id) where
   mutual
     pub threads_are : (t : ℕ) (s : List Slot) (n : NextNumbers) (a : Statement) → length (lower_statement text called t s n a).made ≡ below count a
     threads_are t s n (Nothing at) = refl
@@ -64,18 +64,18 @@ module _ (text : Text) (called : ℕ → InPlace) (count : ℕ → ℕ) (right :
         let m = lower_branches text called t s p next rest in
         let e = length-append l.made m.made in omega (arith, e, list_threads n.thread [] inside body, branches_threads t s p next rest)
 
-body_threads : (text : Text) (called : ℕ → InPlace) (count : ℕ → ℕ) → ((id first t : ℕ) (n : NextNumbers) → length (called id first t n).made ≡ count id) →
-    (f : Option PlainFunction) (first t : ℕ) (n : NextNumbers) → length (body_in_place text called f first t n).made ≡ body_below count f
+body_threads : (text : Text) (called : ℕ → Inlined) (count : ℕ → ℕ) → ((id first t : ℕ) (n : NextNumbers) → length (called id first t n).made ≡ count id) →
+    (f : Option PlainFunction) (first t : ℕ) (n : NextNumbers) → length (inlined_body text called f first t n).made ≡ body_below count f
 body_threads text called count right None first t n = refl
 body_threads text called count right (Some f) first t n = list_threads text called count right t (params_at first f.params) n f.body
 
 -- the threads below a function that is put in place
 pub place_threads : (text : Text) (deep id first t : ℕ) (n : NextNumbers) →
-    length (within nothing_in_place (in_place_step text) deep id first t n).made ≡ within 0 (below_step text) deep id
+    length (within nothing_inlined (inlined_step text) deep id first t n).made ≡ within 0 (below_step text) deep id
 unfolding within
 place_threads text zero id first t n = refl
 place_threads text (suc deep) id first t n =
-    body_threads text (within nothing_in_place (in_place_step text) deep) (within 0 (below_step text) deep) (place_threads text deep) (find_function id text) first t n
+    body_threads text (within nothing_inlined (inlined_step text) deep) (within 0 (below_step text) deep) (place_threads text deep) (find_function id text) first t n
 
 -- ---- slots
 
@@ -83,7 +83,7 @@ behind_is : (text : Text) (slot : ℕ) (ls : List Declared) → slots_after text
 behind_is text slot [] = omega arith
 behind_is text slot (l ∷ rest) = let e = behind_is text (slot + slots_of l.length) rest in omega (arith, e)
 
-module _ (text : Text) (called : ℕ → InPlace) (count : ℕ → ℕ) (right : (id first t : ℕ) (n : NextNumbers) → (called id first t n).next.slot ≡ n.slot + count id) where
+module _ (text : Text) (called : ℕ → Inlined) (count : ℕ → ℕ) (right : (id first t : ℕ) (n : NextNumbers) → (called id first t n).next.slot ≡ n.slot + count id) where
   mutual
     pub slots_are : (t : ℕ) (s : List Slot) (n : NextNumbers) (a : Statement) → (lower_statement text called t s n a).next.slot ≡ n.slot + slots count a
     slots_are t s n (Nothing at) = omega arith
@@ -123,18 +123,18 @@ module _ (text : Text) (called : ℕ → InPlace) (count : ℕ → ℕ) (right :
         let l = lower_list text called n.thread [] (record { slot = 0; thread = suc n.thread; par = n.par }) body in
         branches_slots t s p (record { slot = n.slot; thread = l.next.thread; par = l.next.par }) rest
 
-body_takes : (text : Text) (called : ℕ → InPlace) (count : ℕ → ℕ) → ((id first t : ℕ) (n : NextNumbers) → (called id first t n).next.slot ≡ n.slot + count id) →
-    (f : Option PlainFunction) (first t : ℕ) (n : NextNumbers) → (body_in_place text called f first t n).next.slot ≡ n.slot + body_slots count f
+body_takes : (text : Text) (called : ℕ → Inlined) (count : ℕ → ℕ) → ((id first t : ℕ) (n : NextNumbers) → (called id first t n).next.slot ≡ n.slot + count id) →
+    (f : Option PlainFunction) (first t : ℕ) (n : NextNumbers) → (inlined_body text called f first t n).next.slot ≡ n.slot + body_slots count f
 body_takes text called count right None first t n = omega arith
 body_takes text called count right (Some f) first t n = list_slots text called count right t (params_at first f.params) n f.body
 
 -- the slots that a function takes that is put in place, after its parameters
 pub place_slots : (text : Text) (deep id first t : ℕ) (n : NextNumbers) →
-    (within nothing_in_place (in_place_step text) deep id first t n).next.slot ≡ n.slot + within 0 (slots_step text) deep id
+    (within nothing_inlined (inlined_step text) deep id first t n).next.slot ≡ n.slot + within 0 (slots_step text) deep id
 unfolding within
 place_slots text zero id first t n = omega arith
 place_slots text (suc deep) id first t n =
-    body_takes text (within nothing_in_place (in_place_step text) deep) (within 0 (slots_step text) deep) (place_slots text deep) (find_function id text) first t n
+    body_takes text (within nothing_inlined (inlined_step text) deep) (within 0 (slots_step text) deep) (place_slots text deep) (find_function id text) first t n
 
 -- ---- the terms of the threads below
 
@@ -147,7 +147,7 @@ made_append [] b = omega arith
 made_append (m ∷ a) b = let e = made_append a b in omega (arith, e)
 
 module _
-    (text : Text) (called : ℕ → InPlace) (sizes count : ℕ → ℕ) (right : (id first t : ℕ) (n : NextNumbers) → stmt_terms (called id first t n).stmt ≡ sizes id)
+    (text : Text) (called : ℕ → Inlined) (sizes count : ℕ → ℕ) (right : (id first t : ℕ) (n : NextNumbers) → stmt_terms (called id first t n).stmt ≡ sizes id)
     (beneath : (id first t : ℕ) (n : NextNumbers) → made_terms (called id first t n).made ≡ count id) where
   mutual
     pub under_is : (t : ℕ) (s : List Slot) (n : NextNumbers) (a : Statement) → made_terms (lower_statement text called t s n a).made ≡ under sizes count a

@@ -7,7 +7,7 @@ use Rattle.forec_tree.specs.declared.tree.Stmt.{Stmt}
 use Rattle.forec_tree.specs.Plain as tree_plain
 use Rattle.forec_tree.specs.Terms as tree
 use Rattle.forec_tree.proofs.Rows.{term-call}
-use Rattle.text_sizes.specs.Counts.{sequence_count, statement_count}
+use Rattle.text_sizes.specs.TermCounts.{sequence_count, statement_count}
 use Rattle.text_sizes.proofs.Nearby.{sequence_near}
 
 pub of_tree_call : {A : Type 0} (F : tree.Term → A) (e : tree_expr.Expr) (name : Name) (args slice : List tree_expr.Expr) → e.what ≡ tree_kind.Call name args → slice ≡ args →

@@ -3,18 +3,18 @@ use Rattle.std.proofs.Common.{ℕ, zero, suc, ◌-◌, ◌^◌, ◌<◌, ◌≡�
 use Rattle.std.proofs.lemmas.Bool.{eqb-true}
 use Rattle.forec_tree.specs.Terms.{count_terms, Statement, Declare, Nothing, Group, Assign, Invoke, If, While, For, Pause, Par, Abort, Return, Statements, no_statements, more_statements, Perhaps, absent, present, Branches, no_branches, by_call, by_group, Text, PlainFunction}
 use Rattle.forec_tree.specs.Rules.{is_none}
-use Rattle.forec_tree.specs.Pauses.{within, find_function, function_starts, starts, started, all_started, perhaps_started, branches_started}
+use Rattle.forec_tree.specs.Pauses.{within, find_function, function_callees, callees_of, started, all_started, perhaps_started, branches_started}
 use Rattle.forec_tree.specs.Faults.{is_in, Leads}
 use Rattle.forec_tree.proofs.Agrees.{in_left, in_right, in_head, in_tail}
 use Rattle.loop_check.specs.Graph.{IsOrder}
 use Rattle.loop_check.specs.Known.{Read, started_in, is_function, list_at}
-use Rattle.loop_check.proofs.Indexed.{split}
+use Rattle.loop_check.proofs.IndexLemmas.{split}
 use Rattle.loop_check.proofs.Ordered.{other_id}
 use Rattle.loop_check.proofs.Reading.{leads_same}
 use Rattle.forec_check.specs.Table.{Settles, put_at}
-use Rattle.forec_check.proofs.Tables.{settles_by}
+use Rattle.forec_check.proofs.TableLemmas.{settles_by}
 use Rattle.text_sizes.specs.declared.span.Span.{Span}
-use Rattle.text_sizes.specs.Counts.{slots, slots_all, slots_perhaps, statement_count}
+use Rattle.text_sizes.specs.TermCounts.{slots, slots_all, slots_perhaps, statement_count}
 use Rattle.text_sizes.specs.Extents.{capped, exact}
 use Rattle.text_sizes.specs.Spans.{sequence_levels, levels, levels_all, levels_perhaps, block_levels, most, most_all, most_perhaps, most_branches, words_by, levels_by, no_span, span_at, span_by, span_step, span_value}
 
@@ -222,7 +222,7 @@ module _ (In : ℕ → Type 0) (a b : ℕ → Span) (same : Alike In a b) (f : P
   pub spans_alike : span_by capped a (Some f) ≡ span_by capped b (Some f)
   spans_alike = by_four _ _ _ _ _ _ _ _ slots_same widest_same levels_same deepest_same
 
-span_same : (a b : ℕ → Span) (f : Option PlainFunction) → ((g : ℕ) → is_in g (function_starts f) ≡ true → a g ≡ b g) → span_by capped a f ≡ span_by capped b f
+span_same : (a b : ℕ → Span) (f : Option PlainFunction) → ((g : ℕ) → is_in g (function_callees f) ≡ true → a g ≡ b g) → span_by capped a f ≡ span_by capped b f
 span_same a b None h = refl
 span_same a b (Some f) h =
     spans_alike (λ g. is_in g (all_started f.body) ≡ true) a b
@@ -240,11 +240,11 @@ no_function text a g h = pick (find_function g text) h
     pick None h = refl
     pick (Some f) h = absurd (let q : true ≡ false = h in cc)
 
-started_list : (f : Option PlainFunction) → list_at started_in f ≡ function_starts f
+started_list : (f : Option PlainFunction) → list_at started_in f ≡ function_callees f
 started_list None = refl
 started_list (Some f) = refl
 
-pub spans_settle : (text : Text) (functions order : List ℕ) (calls : ℕ → List ℕ) → Read started_in text functions calls → IsOrder functions calls order → ((f : ℕ) → Leads (starts text) f f → ⊥) →
+pub spans_settle : (text : Text) (functions order : List ℕ) (calls : ℕ → List ℕ) → Read started_in text functions calls → IsOrder functions calls order → ((f : ℕ) → Leads (callees_of text) f f → ⊥) →
     Settles no_span (span_step capped text) (span_value text) order
 unfolding span_value
 spans_settle text functions order calls r o free =
@@ -253,7 +253,7 @@ spans_settle text functions order calls r o free =
     let few = r.few in
     settles_by no_span (span_step capped text) (length text) functions order calls o
     (record { agrees = λ f a b h. span_same a b (find_function f text) (λ g e. h g (ap (is_in g) (lists f) ∙ e)) })
-    (λ g h a. no_function text a g (sym (r.stands g) ∙ h)) (λ g l. free g (leads_same calls (starts text) lists l)) (omega (arith, short, few))
+    (λ g h a. no_function text a g (sym (r.stands g) ∙ h)) (λ g l. free g (leads_same calls (callees_of text) lists l)) (omega (arith, short, few))
 
 -- ---- what is exact and what is capped
 

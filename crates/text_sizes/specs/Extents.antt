@@ -5,7 +5,7 @@ use Rattle.forec_tree.specs.Plain as plain
 use Rattle.forec_tree.specs.Terms.{Text, PlainFunction}
 use Rattle.forec_tree.specs.Pauses.{within, find_function}
 use Rattle.text_sizes.specs.declared.extents.Extent.{Extent}
-use Rattle.text_sizes.specs.Counts.{sequence_count, statement_count, own_all, under_all}
+use Rattle.text_sizes.specs.TermCounts.{sequence_count, statement_count, own_all, under_all}
 
 -- what is inlined where there is no function
 abbrev pub nothing : Extent

@@ -1,3 +1,3 @@
-pub mod Counts
+pub mod TermCounts
 pub mod Extents
 pub mod Spans

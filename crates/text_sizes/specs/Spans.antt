@@ -8,7 +8,7 @@ use Rattle.forec_tree.specs.Plain as plain
 use Rattle.forec_tree.specs.Terms.{count_terms, Statement, Declare, Nothing, Group, Assign, Invoke, If, While, For, Pause, Par, Abort, Return, Statements, no_statements, more_statements, Perhaps, absent, present, Branches, no_branches, by_call, by_group, Text, PlainFunction}
 use Rattle.forec_tree.specs.Pauses.{within, find_function}
 use Rattle.text_sizes.specs.declared.span.Span.{Span}
-use Rattle.text_sizes.specs.Counts.{slots_all, statement_count}
+use Rattle.text_sizes.specs.TermCounts.{slots_all, statement_count}
 use Rattle.text_sizes.specs.Extents.{capped}
 
 -- a sequence of so many statements

@@ -4,11 +4,11 @@
 ghost use Rattle.std.specs.Prelude.{◌≡◌, ◌+◌, ◌-◌, ◌^◌, ℕ, min, map, IfOk, OnOk};
 ghost use Rattle.forec_tree.specs.Plain as plain;
 ghost use Rattle.forec_tree.specs.Faults.{Leads};
-ghost use Rattle.forec_tree.specs.Pauses.{starts};
+ghost use Rattle.forec_tree.specs.Pauses.{callees_of};
 ghost use Rattle.forec_tree.specs.Plain.{perhaps_of};
 ghost use Rattle.loop_check.specs.Views.{text_of};
 ghost use Rattle.forec_check.specs.Table.{put_at, Settles};
-ghost use Rattle.text_sizes.specs.Counts as counts;
+ghost use Rattle.text_sizes.specs.TermCounts as counts;
 ghost use Rattle.text_sizes.specs.Extents.{nothing, extent_at, own_at, under_at, extent_step, capped, extent_value, counts_of, IsBlockTerms};
 ghost use Rattle.text_kernel.specs.Items.{functions_of};
 ghost use Rattle.text_kernel.specs.Kernels.{kernel_of, int_functions, main_id};
@@ -241,7 +241,7 @@ fn table_of(alloc: Global, index: &Index<'_>, order: &[u32]) -> Result<Vec<Exten
 
 /// The extents of the functions of a program in which none reaches itself by statements and branches.
 pub fn extents(alloc: Global, index: &Index<'_>) -> Result<Vec<Extent>, OutOfMemory>
-    requires { (f : ℕ) → Leads (starts (text_of index.now)) f f → ⊥ }
+    requires { (f : ℕ) → Leads (callees_of (text_of index.now)) f f → ⊥ }
     ensures { IfOk result (λ table. (id : ℕ) → extent_at table.items id ≡ extent_value (text_of index.now) id) }
 {
     let calls = read_calls(alloc, index)?;
@@ -270,7 +270,7 @@ pub fn program_terms(
     functions: &[&Function],
     first: u32,
 ) -> Result<u64, OutOfMemory>
-    requires free { (f : ℕ) → Leads (starts (text_of index.now)) f f → ⊥ }
+    requires free { (f : ℕ) → Leads (callees_of (text_of index.now)) f f → ⊥ }
     requires functions { functions_of functions.now ≡ int_functions (text_of index.now) names.now (text_of index.now) }
     requires first { first ≡ main_id (text_of index.now) names.now }
     ensures { IfOk result (λ n. n ≡ min (amount Terms (kernel_of (text_of index.now) names.now)) (2 ^ 64 - 1)) }

@@ -6,7 +6,7 @@ ghost use Rattle.std.specs.Prelude.{◌≡◌, ◌+◌, ◌-◌, ◌^◌, suc, m
 ghost use Rattle.forec_tree.specs.Plain as plain;
 ghost use Rattle.forec_tree.specs.Terms as tree;
 ghost use Rattle.forec_tree.specs.Plain.{perhaps_of};
-ghost use Rattle.text_sizes.specs.Counts as counts;
+ghost use Rattle.text_sizes.specs.TermCounts as counts;
 ghost use Rattle.text_sizes.specs.Spans as of;
 
 use crate::tally::add;

@@ -2,7 +2,7 @@
 
 ghost use Rattle.std.specs.Prelude.{◌≡◌, ◌+◌, ◌-◌, ◌^◌, min, map};
 ghost use Rattle.forec_tree.specs.Plain as plain;
-ghost use Rattle.text_sizes.specs.Counts as counts;
+ghost use Rattle.text_sizes.specs.TermCounts as counts;
 
 use forec_tree::{Branch, Expr, ExprKind, Local, OpAt, Target};
 

@@ -2,7 +2,7 @@
 
 ghost use Rattle.std.specs.Prelude.{◌≡◌, ℕ, IfOk, OnOk};
 ghost use Rattle.forec_tree.specs.Faults.{Leads};
-ghost use Rattle.forec_tree.specs.Pauses.{starts};
+ghost use Rattle.forec_tree.specs.Pauses.{callees_of};
 ghost use Rattle.loop_check.specs.Views.{text_of};
 ghost use Rattle.forec_check.specs.Table.{put_at, Settles};
 ghost use Rattle.text_sizes.specs.Extents.{capped};
@@ -204,7 +204,7 @@ fn table_of(alloc: Global, index: &Index<'_>, order: &[u32]) -> Result<Vec<Span>
 
 /// What is known of the functions of a program in which none reaches itself by statements and branches.
 pub fn spans(alloc: Global, index: &Index<'_>) -> Result<Vec<Span>, OutOfMemory>
-    requires { (f : ℕ) → Leads (starts (text_of index.now)) f f → ⊥ }
+    requires { (f : ℕ) → Leads (callees_of (text_of index.now)) f f → ⊥ }
     ensures { IfOk result (λ table. (id : ℕ) → of.span_at table.items id ≡ of.span_value (text_of index.now) id) }
 {
     let calls = read_calls(alloc, index)?;

@@ -15,7 +15,7 @@ use Rattle.forec_lexer.specs.declared.fault.LexFault.{LexFault}
 use Rattle.forec_lexer.specs.declared.fault.LexFault.TheVariants as lexer
 use Rattle.forec_parser.specs.declared.fault.ParseFault.{ParseFault}
 use Rattle.forec_parser.specs.declared.fault.ParseFault.TheVariants as parser
-use Rattle.forec_parser.specs.Places.{StopsAt, OpensAt}
+use Rattle.forec_parser.specs.ViablePrefixes.{StopsAt, OpensAt}
 use Rattle.text_kernel.specs.Kernels.{kernel_of}
 use Rattle.text_kernel.specs.Limits.{WithinLimits, IsLimit}
 use Rattle.kernel_lower.specs.declared.lower_fault.LowerFault.{LowerFault}

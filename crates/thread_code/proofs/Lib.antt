@@ -9,4 +9,4 @@ pub mod SmallCode
 pub mod Unstuck
 pub mod Sized
 pub mod Answers
-pub mod Fusing
+pub mod FusedLemmas

@@ -13,12 +13,12 @@ use Rattle.forec_kernel.specs.Texts.{params_in, handed_down, put_copy}
 use Rattle.forec_kernel.specs.Combining.{takes_part, variable_of}
 use Rattle.forec_kernel.specs.WellFormed.{branches_of, is_par}
 use Rattle.forec_kernel.specs.Solo.{unmarked_copies, some_reply_over, all_units}
-use Rattle.forec_kernel.specs.Engine.{Job, Start, Wake, Reply, WasPaused, WasEnded, WasTrapped, WasOver, Seed, Starts, Wakes, written, Engine, run_for, Rest, Asleep, Nothing, Exchange, Output, AtEvent, RunsOn, over, event, Either, Serves, Begins, Alone, allowance_of, first_jobs, ends_at}
+use Rattle.forec_kernel.specs.Engine.{Job, Start, Wake, Reply, WasPaused, WasEnded, WasTrapped, WasOver, Seed, Starts, Wakes, written, Engine, run_for, Rest, Asleep, Nothing, Exchange, Output, AtEvent, RunsOn, over, event, IfElse, Serves, Begins, Alone, allowance_of, first_jobs, ends_at}
 use Rattle.thread_code.specs.declared.instruction.Instruction.{Instruction}
 use Rattle.thread_code.specs.declared.instruction.Instruction.TheVariants as instruction
 use Rattle.thread_code.specs.Plain.{PlainBlock, PlainCode}
 use Rattle.thread_code.specs.Valid.{of_shape, branches_in, arguments_of, function_arguments}
-use Rattle.thread_code.specs.Machine.{Point, BranchCopy, Total, Merge, Frame, Caller, Folding, Own, Awaited, Machine, On, Waits, Merges, Fails, Paused, Ended, Trapped, Exceeded, Stuck, onward, with_top, with_arguments, unless_none, turn_taken, put_at, entered, uses_of, settled, folded, merge_step, returned, living, handed, starts, wakes, awaited, waking, act, step, replied, join}
+use Rattle.thread_code.specs.Machine.{Point, BranchCopy, Total, Merge, Frame, Caller, Folding, Own, Awaited, Machine, On, Waits, Merges, Failing, Paused, Ended, Trapped, Exceeded, Stuck, onward, with_top, with_arguments, unless_none, turn_taken, put_at, entered, uses_of, settled, folded, merge_step, returned, living, handed, starts, wakes, awaited, waking, act, step, replied, join}
 use Rattle.thread_code.specs.Alone.{woken, view_of, code_engine}
 use Rattle.thread_code.specs.Laws.{FitsThread, FitsReply, FitBranches, FitForks, JobsFit, OutputsFit, JobsAndRepliesFit}
 
@@ -103,7 +103,7 @@ module _ (c : PlainCode) (t : ℕ) where
   Sized (On p fs o u) = length o.copies ≡ length (uses_of c t)
   Sized (Waits w o u) = (length o.copies ≡ length (uses_of c t)) × All_fit w.seeds
   Sized (Merges m o u) = length o.copies ≡ length (uses_of c t)
-  Sized (Fails place trap u) = Unit {0}
+  Sized (Failing place trap u) = Unit {0}
   Sized (Paused wake o u) = length o.copies ≡ length (uses_of c t)
   Sized (Ended o u) = length o.copies ≡ length (uses_of c t)
   Sized (Trapped place trap u) = Unit {0}
@@ -212,7 +212,7 @@ module _ (c : PlainCode) (t : ℕ) where
   step_sized (On p fs o u) h = act_sized (slice_get p.steps p.at) p fs o u h
   step_sized (Waits w o u) h = h
   step_sized (Merges m o u) h = merge_sized m.left m o u h
-  step_sized (Fails place trap u) h = tt
+  step_sized (Failing place trap u) h = tt
   step_sized (Paused wake o u) h = h
   step_sized (Ended o u) h = h
   step_sized (Trapped place trap u) h = tt
@@ -235,7 +235,7 @@ module _ (c : PlainCode) (t : ℕ) where
   join_sized rs (Waits w o u) h = over_sized (some_reply_over rs) w rs o u h.0
   join_sized rs (On p fs o u) h = h
   join_sized rs (Merges m o u) h = h
-  join_sized rs (Fails place trap u) h = tt
+  join_sized rs (Failing place trap u) h = tt
   join_sized rs (Paused wake o u) h = h
   join_sized rs (Ended o u) h = h
   join_sized rs (Trapped place trap u) h = tt
@@ -250,7 +250,7 @@ module _ (c : PlainCode) (t : ℕ) where
   woken_sized values (On p fs o u) e h = h
   woken_sized values (Waits w o u) e h = h
   woken_sized values (Merges m o u) e h = h
-  woken_sized values (Fails place trap u) e h = tt
+  woken_sized values (Failing place trap u) e h = tt
   woken_sized values (Ended o u) e h = h
   woken_sized values (Trapped place trap u) e h = tt
   woken_sized values (Exceeded u) e h = tt
@@ -288,7 +288,7 @@ module _ (c : PlainCode) (t : ℕ) where
   event_sized (On p fs own u) h fork f o r at = absurd at
   event_sized (Waits w own u) h fork f o r at = f w.seeds h.1 o r at
   event_sized (Merges m own u) h fork f o r at = absurd at
-  event_sized (Fails place trap u) h fork f o r at = absurd at
+  event_sized (Failing place trap u) h fork f o r at = absurd at
   event_sized (Paused wake own u) h fork f o r at = served_as o _ r _ at.0 at.1 (tt, h, h)
   event_sized (Ended own u) h fork f o r at = served_as o _ r _ at.0 at.1 (tt, h, tt)
   event_sized (Trapped place trap u) h fork f o r at = served_as o _ r _ at.0 at.1 (tt, tt, tt)
@@ -315,7 +315,7 @@ module _ (c : PlainCode) (t : ℕ) where
     where
       by_count : (m' : Machine) (seeds : List Seed) → All_fit seeds → (test : Bool) (o : Output) (r : Rest Machine) →
           ((o' : Output) → Serves e a more (join c t rs m') o' r → Served o' r) →
-          Either test ((o' : Output) × Serves e a more (join c t rs m') o' r × (o ≡ first_jobs (map (written (a - e.units m')) seeds) o'))
+          IfElse test ((o' : Output) × Serves e a more (join c t rs m') o' r × (o ≡ first_jobs (map (written (a - e.units m')) seeds) o'))
           ((o ≡ ends_at (map (written (a - e.units m')) seeds)) × (r ≡ Nothing)) → Served o r
       by_count m' seeds fit true o r go x =
           let rest = go x.0 x.1 in

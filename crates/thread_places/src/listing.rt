@@ -112,7 +112,7 @@ fn thread_rows(
 ///
 /// # Errors
 ///
-/// Want of memory.
+/// Out of memory.
 pub fn thread_list(
     alloc: Global,
     kernel: &Kernel,

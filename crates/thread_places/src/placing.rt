@@ -8,7 +8,7 @@ ghost use Rattle.thread_places.specs.Placed.{IsPlacement, RefusedFor, refusal_of
 
 use crate::weighing::weights;
 use command_words::Placing;
-use core_alloc::{PlaceFault, Placement, balance, given};
+use core_alloc::{Placement, PlacementFault, balance, given};
 use forec_kernel::Kernel;
 use std::alloc::Global;
 
@@ -16,8 +16,12 @@ use std::alloc::Global;
 ///
 /// # Errors
 ///
-/// Why the list is refused. Or want of memory.
-pub fn place(alloc: Global, kernel: &Kernel, placing: Placing<'_>) -> Result<Placement, PlaceFault>
+/// Why the list is refused. Or out of memory.
+pub fn place(
+    alloc: Global,
+    kernel: &Kernel,
+    placing: Placing<'_>,
+) -> Result<Placement, PlacementFault>
     requires some { 1 ≤ placing.cores }
     requires few { placing.cores ≤ MAX_CORES }
     ensures placement { IfOk result (λ p. IsPlacement (plain_kernel kernel.now) (plain_placing placing.entry) p) }

@@ -14,7 +14,7 @@ use std::alloc::Global;
 ///
 /// # Errors
 ///
-/// Want of memory.
+/// Out of memory.
 pub fn weights(alloc: Global, kernel: &Kernel) -> Result<Vec<u64>, OutOfMemory>
     ensures weights { IfOk result (λ list. list.items ≡ weights_of (plain_kernel kernel.now)) }
     ensures few { IfOk result (λ list. sum list.items ≤ MAX_TERMS) }

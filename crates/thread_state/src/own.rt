@@ -63,7 +63,7 @@ impl Own {
     ///
     /// # Errors
     ///
-    /// Want of memory.
+    /// Out of memory.
     pub fn new(
         alloc: Global,
         uses: &[u32],

@@ -40,7 +40,7 @@ impl Table {
     ///
     /// # Errors
     ///
-    /// Want of memory.
+    /// Out of memory.
     fn new(alloc: Global, shape: &Shape) -> Result<Table, OutOfMemory>
         requires { FineShape (plain_shape shape.now) }
         ensures { IfOk result (λ p. HavePars (plain_shape shape.now) p) }
@@ -132,7 +132,7 @@ impl Pars {
     ///
     /// # Errors
     ///
-    /// Want of memory.
+    /// Out of memory.
     pub fn new(alloc: Global, shape: &Shape) -> Result<Pars, OutOfMemory>
         requires { FineShape (plain_shape shape.now) }
         ensures { IfOk result (λ p. HavePars (plain_shape shape.now) p) }

@@ -7,7 +7,7 @@ use Rattle.forec_kernel.specs.Shapes.{PlainKernel, plain_kernel}
 use Rattle.forec_kernel.specs.Plain.{stmt}
 use Rattle.forec_kernel.specs.declared.shape.KernelParts.{KernelParts}
 use Rattle.forec_kernel.specs.declared.terms.Statement.{Statement}
-use Rattle.forec_kernel.proofs.Weights.{body_at}
+use Rattle.forec_kernel.proofs.WeightLemmas.{body_at}
 use Rattle.forec_kernel.specs.Values.{function_words}
 use Rattle.forec_kernel.specs.Texts.{uses_of, body_of}
 use Rattle.forec_kernel.specs.Combining.{contains}

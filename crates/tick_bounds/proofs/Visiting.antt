@@ -9,7 +9,7 @@ use Rattle.forec_kernel.specs.declared.terms.Statement.{Statement}
 use Rattle.forec_kernel.specs.Texts.{uses_of, body_of}
 use Rattle.forec_kernel.specs.Combining.{contains}
 use Rattle.forec_kernel.specs.WellFormed.{WellFormed, function_body, stmt_calls}
-use Rattle.forec_kernel.proofs.Weights.{body_read}
+use Rattle.forec_kernel.proofs.WeightLemmas.{body_read}
 use Rattle.tick_bounds.specs.Bound.{stmt_bound, function_bound, thread_bound, worst_case}
 use Rattle.tick_bounds.specs.Capped.{capped, by_tables, as_budget}
 use Rattle.tick_bounds.specs.Known.{Tells, IsRight}

@@ -29,7 +29,7 @@ fn as_budget(bound: u64) -> Option<u64>
 ///
 /// # Errors
 ///
-/// Want of memory.
+/// Out of memory.
 pub fn tick_bound(alloc: Global, kernel: &Kernel) -> Result<Option<u64>, OutOfMemory>
     ensures { IfOk result (λ bound. bound ≡ plain.as_budget (worst_case (plain_kernel kernel.now))) }
 {

@@ -9,7 +9,7 @@ use Rattle.trace_rows.specs.Calls.{IfTold}
 use Rattle.trace_rows.specs.Lines.{is_newline, lines_of}
 use Rattle.trace_rows.specs.Words.{words_of}
 use Rattle.trace_rows.specs.Reader.{Reader, Came, NextSays, NextTakes, first_line}
-use Rattle.trace_rows.specs.Reads.{TakesRow}
+use Rattle.trace_rows.specs.SourceReads.{TakesRow}
 use Rattle.trace_rows.specs.Steps.{FindsNext}
 use Rattle.trace_rows.specs.Trace.{Row, most_bytes, numbers_in, arranged, row_at}
 use Rattle.trace_rows.proofs.Told.{told_of, told_map, end_told, long_told, LongLine, some_told, SomeLine, LineOf, line_told, takes_first}

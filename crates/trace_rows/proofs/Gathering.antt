@@ -3,7 +3,7 @@ use Rattle.std.proofs.Common.{◌≡◌, ◌≤◌, ℕ, Bool, true, false, List
 use Rattle.std.specs.Io.KnownBytes.{Consumes, Keeps}
 use Rattle.forec_base.specs.Outside.{HasCause}
 use Rattle.trace_rows.specs.Reader.{HasLine, Came}
-use Rattle.trace_rows.specs.Reads.{IsRead, Reads, none, more, Lacks, Gathers}
+use Rattle.trace_rows.specs.SourceReads.{IsRead, Reads, none, more, Lacks, Gathers}
 use Rattle.trace_rows.specs.Trace.{most_bytes}
 use Rattle.trace_rows.proofs.Refilling.{consumes_nothing}
 

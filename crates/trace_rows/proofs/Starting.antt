@@ -14,7 +14,7 @@ use Rattle.trace_rows.specs.Calls.{IfTold}
 use Rattle.trace_rows.specs.Lines.{lines_of}
 use Rattle.trace_rows.specs.Words.{words_of}
 use Rattle.trace_rows.specs.Reader.{Reader, Takes, StartSays}
-use Rattle.trace_rows.specs.Reads.{StartTook}
+use Rattle.trace_rows.specs.SourceReads.{StartTook}
 use Rattle.trace_rows.specs.Steps.{TakesHeader, NoHeader}
 use Rattle.trace_rows.specs.Trace.{most_bytes, names_each, places_of, header_at, rows_of_lines, rows_from, stop, trace_of}
 use Rattle.trace_rows.proofs.Told.{told_of, told_map, LineOf, line_told}

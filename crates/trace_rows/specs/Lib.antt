@@ -3,7 +3,7 @@ pub mod Held
 pub mod Lines
 pub mod Numbers
 pub mod Reader
-pub mod Reads
+pub mod SourceReads
 pub mod Report
 pub mod Shown
 pub mod Steps

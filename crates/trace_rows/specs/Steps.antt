@@ -9,7 +9,7 @@ use Rattle.trace_rows.specs.Calls.{IfTold}
 use Rattle.trace_rows.specs.Held.{held}
 use Rattle.trace_rows.specs.Lines.{lines_of}
 use Rattle.trace_rows.specs.Reader.{HasLine, Takes, Waits, first_line}
-use Rattle.trace_rows.specs.Reads.{TakesHead, Reading}
+use Rattle.trace_rows.specs.SourceReads.{TakesHead, Reading}
 use Rattle.trace_rows.specs.Trace.{most_bytes, header_at, rows_of_lines, stop}
 
 -- these lines have no header, whatever the most rows

@@ -6,7 +6,7 @@ ghost use Rattle.forec_base.specs.Outside.{HasCause, Fell};
 ghost use Rattle.trace_rows.specs.Calls.{Faults};
 ghost use Rattle.trace_rows.specs.Lines.{is_newline};
 ghost use Rattle.trace_rows.specs.Reader.{first_line, HasLine, Came};
-ghost use Rattle.trace_rows.specs.Reads.{Gathers, IsRead};
+ghost use Rattle.trace_rows.specs.SourceReads.{Gathers, IsRead};
 ghost use Rattle.trace_rows.specs.declared.lines.TheConstants.{ROOM};
 
 use crate::buffer::{fill, line_end, move_to_front};

@@ -4,7 +4,7 @@ ghost use Rattle.std.specs.Io.KnownBytes.{IsAtEnd};
 ghost use Rattle.forec_base.specs.Outside.{Fell};
 ghost use Rattle.trace_rows.specs.Calls.{IfTold};
 ghost use Rattle.trace_rows.specs.Reader.{HasLine, StartTakes, StartSays, NextTakes, NextSays, NextLeaves};
-ghost use Rattle.trace_rows.specs.Reads.{Reading, StartTook, NextTook};
+ghost use Rattle.trace_rows.specs.SourceReads.{Reading, StartTook, NextTook};
 
 use crate::fault::{Next, RowFault};
 use crate::lines::Lines;

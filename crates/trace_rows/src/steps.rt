@@ -4,7 +4,7 @@ ghost use Rattle.std.specs.Io.KnownBytes.{IsAtEnd};
 ghost use Rattle.forec_base.specs.Outside.{Fell};
 ghost use Rattle.trace_rows.specs.Held.{held};
 ghost use Rattle.trace_rows.specs.Reader.{Came, HasLine};
-ghost use Rattle.trace_rows.specs.Reads.{Gathers};
+ghost use Rattle.trace_rows.specs.SourceReads.{Gathers};
 ghost use Rattle.trace_rows.specs.Steps.{LinesTakeHeader, LinesReadHeader, FindsNext};
 
 use crate::fault::{Next, RowFault};

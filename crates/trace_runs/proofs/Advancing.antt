@@ -10,7 +10,7 @@ use Rattle.trace_rows.specs.declared.fault.RowFault.{RowFault}
 use Rattle.trace_runs.specs.Report.{Report, Pace, most_rows, tick_lines, lines_from, last_outcome, ending, behind_bytes, report_from, with_row, printed_before, advance}
 
 -- a row at which the program goes on
-pub record GoesOn (k : PlainKernel) (budget : ℕ) (places : List ℕ) (s : State) (n : ℕ) (line : List ℕ) (row : Row) : Type 0 where
+pub record PausesAtRow (k : PlainKernel) (budget : ℕ) (places : List ℕ) (s : State) (n : ℕ) (line : List ℕ) (row : Row) : Type 0 where
   pub row_is : row_at most_rows places n line ≡ Ok row
   pub on : goes_on (tick k budget s row).outcome ≡ true
 
@@ -52,7 +52,7 @@ report_step k budget s n m row rest h =
     ap (λ ts. behind_bytes (lines_from k budget n ts) (ending (last_outcome ts) rest.end)) (run_on k budget s row rest.rows h)
     ∙ ticks_on k budget n t (run_from k budget t.state rest.rows) rest h
 
-pub advance_step : (k : PlainKernel) (budget : ℕ) (places : List ℕ) (s : State) (n : ℕ) (line : List ℕ) (lines : List (List ℕ)) (row : Row) → GoesOn k budget places s n line row →
+pub advance_step : (k : PlainKernel) (budget : ℕ) (places : List ℕ) (s : State) (n : ℕ) (line : List ℕ) (lines : List (List ℕ)) (row : Row) → PausesAtRow k budget places s n line row →
     advance k budget places s n (line ∷ lines)
     ≡ (let t = tick k budget s row in option_map (printed_before (tick_lines k budget n t)) (advance k budget places t.state (n + 1) lines))
 advance_step k budget places s n line lines row h = rw (h.row_is, h.on) refl
@@ -60,7 +60,7 @@ advance_step k budget places s n line lines row h = rw (h.row_is, h.on) refl
 -- what an advance over a line and those after it says
 pub record Went (k : PlainKernel) (budget : ℕ) (places : List ℕ) (s : State) (n : ℕ) (line : List ℕ) (lines : List (List ℕ)) (p : Pace) : Type 0 where
   pub row : Row
-  pub goes : GoesOn k budget places s n line row
+  pub goes : PausesAtRow k budget places s n line row
   pub rest : Pace
   pub rest_is : advance k budget places (tick k budget s row).state (n + 1) lines ≡ Some rest
   pub whole : p ≡ printed_before (tick_lines k budget n (tick k budget s row)) rest
@@ -98,15 +98,15 @@ printed_twice k budget a p row =
     ap (λ (bs : List ℕ). Some (record { state = t.state; next = p.next + 1; bytes = bs })) (sym (append_assoc a p.bytes (tick_lines k budget p.next t)))
 
 pub advance_more : (k : PlainKernel) (budget : ℕ) (places : List ℕ) (s : State) (n : ℕ) (lines : List (List ℕ)) (p : Pace) (line : List ℕ) (row : Row) → advance k budget places s n lines ≡ Some p →
-    GoesOn k budget places p.state p.next line row → advance k budget places s n (lines ++ line ∷ []) ≡ Some (pace_after k budget p row)
+    PausesAtRow k budget places p.state p.next line row → advance k budget places s n (lines ++ line ∷ []) ≡ Some (pace_after k budget p row)
 advance_more k budget places s n [] p line row e h =
     let same : record { state = s; next = n; bytes = [] } ≡ p = cc in
-    subst (λ (q : Pace). GoesOn k budget places q.state q.next line row → advance k budget places s n (line ∷ []) ≡ Some (pace_after k budget q row)) same
+    subst (λ (q : Pace). PausesAtRow k budget places q.state q.next line row → advance k budget places s n (line ∷ []) ≡ Some (pace_after k budget q row)) same
     (λ g. advance_step k budget places s n line [] row g ∙ rw append-nil refl) h
 advance_more k budget places s n (first ∷ lines) p line row e h =
     let w = went_of k budget places s n first lines p e in
     let t = tick k budget s w.row in
-    subst (λ (q : Pace). GoesOn k budget places q.state q.next line row → advance k budget places s n (first ∷ (lines ++ line ∷ [])) ≡ Some (pace_after k budget q row)) (sym w.whole)
+    subst (λ (q : Pace). PausesAtRow k budget places q.state q.next line row → advance k budget places s n (first ∷ (lines ++ line ∷ [])) ≡ Some (pace_after k budget q row)) (sym w.whole)
     (λ g. advance_step k budget places s n first (lines ++ line ∷ []) w.row w.goes
     ∙ ap (option_map (printed_before (tick_lines k budget n t))) (advance_more k budget places t.state (n + 1) lines w.rest line row w.rest_is g)
     ∙ printed_twice k budget (tick_lines k budget n t) w.rest row) h

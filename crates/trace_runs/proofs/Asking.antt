@@ -5,7 +5,7 @@ use Rattle.forec_kernel.specs.Shapes.{PlainKernel}
 use Rattle.forec_kernel.specs.Ticks.{State, Fresh, tick, goes_on}
 use Rattle.trace_rows.specs.Lines.{is_newline, whole_lines}
 use Rattle.trace_rows.specs.Reader.{Reader, HasLine, first_line}
-use Rattle.trace_rows.specs.Reads.{Reads, none, more, Lacks, Reading, TakesHead, TakesRow}
+use Rattle.trace_rows.specs.SourceReads.{Reads, none, more, Lacks, Reading, TakesHead, TakesRow}
 use Rattle.trace_rows.specs.Trace.{Row, header_at}
 use Rattle.trace_runs.specs.Ends.{GoesOn, ReadFor}
 use Rattle.trace_runs.specs.KernelNames.{input_names}

@@ -20,7 +20,7 @@ use Rattle.trace_rows.specs.declared.fault.RowFault.TheVariants as fault
 use Rattle.trace_runs.specs.declared.status.Status.{Status}
 use Rattle.trace_runs.specs.declared.status.Status.TheVariants as status
 use Rattle.trace_runs.proofs.Told.{told_both, told_map, told_some, told_some_both, some_map, appends_refl}
-use Rattle.trace_runs.proofs.Endings.{own_not}
+use Rattle.trace_runs.proofs.EndLemmas.{own_not}
 use Rattle.trace_runs.proofs.Splitting.{no_line, whole_lines-line, came_told, takes_told}
 
 trace_reads : (k : PlainKernel) (b : ℕ) (inputs : List (List ℕ)) (x : List ℕ) (t : Trace) → inputs ≡ input_names k → trace_of inputs most_rows x ≡ t → trace_report k b x ≡ report_from k b Fresh 1 t

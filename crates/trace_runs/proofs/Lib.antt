@@ -1,6 +1,6 @@
 mod Advancing
 mod Asking
-pub mod Endings
+pub mod EndLemmas
 mod Fine
 mod Following
 mod Heading
@@ -11,7 +11,7 @@ mod Ranges
 mod Running
 mod Splitting
 mod TickLines
-mod Ticking
+mod TickingLemmas
 pub mod Told
 mod Unrun
 mod WorkedLines

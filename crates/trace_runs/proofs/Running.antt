@@ -25,7 +25,7 @@ use Rattle.trace_rows.specs.declared.fault.Next.TheVariants as next
 use Rattle.trace_rows.specs.declared.fault.RowFault.TheVariants as fault
 use Rattle.trace_runs.specs.declared.status.Status.{Status}
 use Rattle.trace_runs.specs.declared.status.Status.TheVariants as status
-use Rattle.trace_runs.proofs.Endings.{own_not}
+use Rattle.trace_runs.proofs.EndLemmas.{own_not}
 use Rattle.trace_runs.proofs.Told.{appends_both, front_longer, front_behind, told_both, told_refl, told_some, some_map, appends_refl}
 use Rattle.trace_runs.proofs.Advancing.{report_step, behind_twice, advance_more, pace_after, run_stops}
 use Rattle.trace_runs.proofs.Splitting.{Cut, no_line, whole_lines-line, came_told, takes_told}

@@ -1,7 +1,7 @@
 -- A run for which memory was wanting before its first read.
 use Rattle.std.proofs.Common.{◌≡◌, ℕ, Bool, List, [], Option, refl, sym, subst}
 use Rattle.forec_kernel.specs.Shapes.{PlainKernel}
-use Rattle.trace_rows.specs.Reads.{none}
+use Rattle.trace_rows.specs.SourceReads.{none}
 use Rattle.trace_runs.specs.Led.{HasRunRows, HasRunWorkload}
 use Rattle.trace_runs.specs.Report.{Report}
 use Rattle.trace_runs.specs.declared.status.Status.TheVariants as status

@@ -4,13 +4,13 @@ use Rattle.std.specs.Io.KnownBytes.{Appends}
 use Rattle.forec_kernel.specs.Shapes.{PlainKernel}
 use Rattle.trace_rows.specs.Calls.{IfTold}
 use Rattle.trace_rows.specs.Lines.{whole_lines}
-use Rattle.trace_rows.specs.Reads.{Reads}
+use Rattle.trace_rows.specs.SourceReads.{Reads}
 use Rattle.trace_runs.specs.Calls.{AppendsFront}
 use Rattle.trace_runs.specs.Report.{Report, printed_for}
 use Rattle.trace_runs.specs.declared.status.Status.{Status}
 use Rattle.trace_runs.specs.declared.status.Status.TheVariants as status
 
--- a status that a report ends with: neither a fault nor want of memory
+-- a status that a report ends with: neither a fault nor out of memory
 abbrev pub IsOwn : Status → Type 0
 IsOwn status.Done = ⊤
 IsOwn status.Usage = ⊤

@@ -5,7 +5,7 @@ use Rattle.forec_kernel.specs.Ticks.{Fresh}
 use Rattle.trace_rows.specs.Calls.{IfTold}
 use Rattle.trace_rows.specs.Lines.{whole_lines}
 use Rattle.trace_rows.specs.Reader.{Reader, Takes, Waits, ahead}
-use Rattle.trace_rows.specs.Reads.{Reading, NextTook}
+use Rattle.trace_rows.specs.SourceReads.{Reading, NextTook}
 use Rattle.trace_rows.specs.Trace.{Row, header_at, row_at, stop, onto, trace_of}
 use Rattle.trace_runs.specs.Report.{Report, Pace, most_rows, report_from, behind_bytes, advance}
 use Rattle.trace_rows.specs.declared.fault.Next.{Next}

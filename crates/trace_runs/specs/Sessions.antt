@@ -1,4 +1,5 @@
 -- What a run over a trace begins with.
+use Rattle.forec_base.specs.declared.limits.TheConstants.{MAX_BUDGET}
 use Rattle.std.specs.Prelude.{◌≡◌, ◌≤◌, ◌^◌, [], length}
 use Rattle.forec_base.specs.declared.limits.TheConstants.{MAX_INPUTS}
 use Rattle.forec_kernel.specs.Shapes.{PlainKernel}
@@ -8,7 +9,7 @@ use Rattle.trace_runs.specs.declared.session.Session.{Session}
 
 -- it has the names and the places of a kernel's inputs and outputs, no line waits, and there is room for lines
 pub record IsSessionOf (k : PlainKernel) (s : Session) : Type 0 where
-  pub small : s.budget ≤ 2 ^ 62
+  pub small : s.budget ≤ MAX_BUDGET
   pub inputs : s.inputs ≡ input_names k
   pub few : length s.inputs ≤ MAX_INPUTS
   pub image : length s.image.inputs.items ≡ length k.shape.inputs

@@ -7,7 +7,7 @@ ghost use Rattle.core_host.specs.Hosted.{is_here, is_live};
 ghost use Rattle.trace_runs.specs.Hosting.{HostFollows};
 
 use crate::lead::Lead;
-use crate::runner::{Runner, Stop};
+use crate::runner::{Runner, StopWorkers};
 use crate::setting::{Company, Setting};
 use crate::status::Status;
 use crate::ticker::Ticker;
@@ -109,7 +109,7 @@ struct Workers<'a, 'w, H, G, R> {
 
 impl<'a, 'w, H: Runnable + Serve, G: Gate, R: Wait> Workers<'a, 'w, H, G, R> {
     /// What the calling thread does beside the workers: it takes those that have no thread, leads, and stops all.
-    fn lead_beside<T: Ticker + Stop, J: Lead>(
+    fn lead_beside<T: Ticker + StopWorkers, J: Lead>(
         &self,
         others: &mut Others<H>,
         ticker: &mut T,
@@ -142,7 +142,7 @@ impl<'a, 'w, H: Runnable + Serve + Send, G: Gate, R: Threads + Wait + Sync> Work
     R,
 > {
     /// Starts a thread for each worker, and leads beside them.
-    fn lead_all<T: Ticker + Stop, J: Lead>(
+    fn lead_all<T: Ticker + StopWorkers, J: Lead>(
         &self,
         others: &mut Others<H>,
         ticker: &mut T,
@@ -172,8 +172,8 @@ impl<'a, 'w, H: Runnable + Serve + Send, G: Gate, R: Threads + Wait + Sync> Work
     ///
     /// # Errors
     ///
-    /// Want of memory. Then nothing was done.
-    fn lead<T: Ticker + Stop, J: Lead>(
+    /// Out of memory. Then nothing was done.
+    fn lead<T: Ticker + StopWorkers, J: Lead>(
         &self,
         alloc: Global,
         ticker: &mut T,
@@ -196,7 +196,7 @@ impl<'a, 'w, H: Runnable + Serve + Send, G: Gate, R: Threads + Wait + Sync> Work
 ///
 /// # Errors
 ///
-/// Want of memory. Then nothing was done.
+/// Out of memory. Then nothing was done.
 pub fn lead_hosts<
     'c,
     P: Port<ForecWork> + Drop + Send,

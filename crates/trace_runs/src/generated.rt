@@ -1,4 +1,5 @@
 //! The ticks of a workload.
+ghost use Rattle.forec_base.specs.declared.limits.TheConstants.{MAX_BUDGET};
 ghost use Rattle.std.specs.Prelude.{◌≡◌, ◌≢◌, ◌≤◌, ◌+◌, ◌%◌, ◌^◌, true, length};
 ghost use Rattle.forec_kernel.specs.Ticks.{Fresh};
 ghost use Rattle.trace_runs.specs.Ends.{IsOwn};
@@ -44,7 +45,7 @@ pub fn run_workload<T: Ticker, O: Serve, G: Gate, R: Wait>(
     requires ready { T.ready ticker.old ≡ true }
     requires zeros { image.old.inputs.items ≡ zero_row (T.kernel ticker.old) }
     requires outputs { length image.old.outputs.items ≡ length (T.kernel ticker.old).shape.outputs }
-    requires small { budget ≤ 2 ^ 62 }
+    requires small { budget ≤ MAX_BUDGET }
     requires room { HasRoom waiting.old 128 }
     ensures own { IsOwn result }
     ensures usage { result ≢ Status.Usage }

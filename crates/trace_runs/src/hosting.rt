@@ -1,5 +1,6 @@
 //! Runs by hosts, with the threads placed on cores.
 
+ghost use Rattle.forec_base.specs.declared.limits.TheConstants.{MAX_BUDGET};
 ghost use Rattle.std.specs.Prelude.{◌≡◌, ◌≤◌, ◌^◌, length, IfOk, OnErr};
 ghost use Rattle.forec_kernel.specs.Shapes.{plain_kernel};
 ghost use Rattle.thread_code.specs.Alone.{Stands};
@@ -40,7 +41,7 @@ struct Compiled<'c> {
 ///
 /// # Errors
 ///
-/// Want of memory. Then nothing was done.
+/// Out of memory. Then nothing was done.
 fn lead_over<'b, 'c, J: Lead, G: Gate + Sync, R: Threads + Wait + Sync>(
     setting: &Setting<'_, G, R>,
     compiled: Compiled<'c>,
@@ -67,7 +68,7 @@ fn lead_over<'b, 'c, J: Lead, G: Gate + Sync, R: Threads + Wait + Sync>(
 ///
 /// # Errors
 ///
-/// Want of memory. Then nothing was done.
+/// Out of memory. Then nothing was done.
 fn lead_placed<J: Lead, G: Gate + Sync, R: Threads + Wait + Sync>(
     setting: &Setting<'_, G, R>,
     kernel: &Kernel,
@@ -99,7 +100,7 @@ pub fn host_trace<S: Source, K: Sink, G: Gate + Sync, R: Threads + Wait + Sync>(
     out: &mut K,
 ) -> Status
     requires placed { length placement.now.places ≡ length (plain_kernel kernel.now).threads }
-    requires small { budget ≤ 2 ^ 62 }
+    requires small { budget ≤ MAX_BUDGET }
     ensures { RunsRows S.left S.faults S.down K.held K.faults K.down (plain_kernel kernel.now) budget trace.old trace.new out.old out.new result }
 {
     let alloc = setting.alloc;
@@ -128,7 +129,7 @@ pub fn host_workload<K: Sink, G: Gate + Sync, R: Threads + Wait + Sync>(
     out: &mut K,
 ) -> Status
     requires placed { length placement.now.places ≡ length (plain_kernel kernel.now).threads }
-    requires small { budget ≤ 2 ^ 62 }
+    requires small { budget ≤ MAX_BUDGET }
     ensures { RunsWorkload K.held K.faults K.down (ticked_report threads (plain_kernel kernel.now) budget) out.old out.new result }
 {
     let Ok(mut session) = Session::new(setting.alloc, kernel, budget) else {

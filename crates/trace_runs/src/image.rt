@@ -62,7 +62,7 @@ impl Image {
     ///
     /// # Errors
     ///
-    /// Want of memory, but not where the ticker is ready.
+    /// Out of memory, but not where the ticker is ready.
     pub fn tick<T: Ticker, O: Serve, G: Gate, R: Wait>(
         &mut self,
         company: &mut Company<'_, O, G, R>,

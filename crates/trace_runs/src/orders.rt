@@ -14,7 +14,7 @@ const STEPS: u32 = 64;
 ///
 /// # Errors
 ///
-/// Want of memory.
+/// Out of memory.
 pub fn order(alloc: Global, number: u32) -> Result<Vec<u32>, OutOfMemory>
     ensures { IfOk result (λ list. list.items ≡ order_of number) }
 {

@@ -52,7 +52,7 @@ impl<'k> Rewriter<'k> {
     ///
     /// # Errors
     ///
-    /// Want of memory.
+    /// Out of memory.
     fn rewrite(
         &mut self,
         row: &[i32],

@@ -36,12 +36,12 @@ impl<'c, P: Port<ForecWork> + Drop> Runner<'c, P> {
 }
 
 /// A ticker that has workers.
-pub trait Stop {
+pub trait StopWorkers {
     /// Tells the workers to stop.
     fn stop(&mut self);
 }
 
-impl<'c, P: Port<ForecWork> + Drop> Stop for Runner<'c, P> {
+impl<'c, P: Port<ForecWork> + Drop> StopWorkers for Runner<'c, P> {
     fn stop(&mut self) {
         self.host.stop();
     }

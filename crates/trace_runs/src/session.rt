@@ -1,5 +1,6 @@
 //! What a run over a trace needs beside its ticker and its streams.
 
+ghost use Rattle.forec_base.specs.declared.limits.TheConstants.{MAX_BUDGET};
 ghost use Rattle.std.specs.Prelude.{◌≤◌, ◌^◌, ◌≡◌, IfOk};
 ghost use Rattle.forec_kernel.specs.Shapes.{plain_kernel};
 ghost use Rattle.trace_runs.specs.Sessions.{IsSessionOf};
@@ -29,9 +30,9 @@ impl Session {
     ///
     /// # Errors
     ///
-    /// Want of memory.
+    /// Out of memory.
     pub fn new(alloc: Global, kernel: &Kernel, budget: u64) -> Result<Session, OutOfMemory>
-        requires { budget ≤ 2 ^ 62 }
+        requires { budget ≤ MAX_BUDGET }
         ensures session { IfOk result (IsSessionOf (plain_kernel kernel.now)) }
         ensures budget { IfOk result (λ s. s.budget ≡ budget) }
         ensures zeros { IfOk result (λ s. s.image.inputs.items ≡ zero_row (plain_kernel kernel.now)) }

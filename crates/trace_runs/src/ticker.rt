@@ -31,7 +31,7 @@ pub trait Ticker {
     ///
     /// # Errors
     ///
-    /// Want of memory, but not where it has all that its ticks need.
+    /// Out of memory, but not where it has all that its ticks need.
     fn tick<O: Serve, G: Gate, R: Wait>(
         &mut self,
         company: &mut Company<'_, O, G, R>,

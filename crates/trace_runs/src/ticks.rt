@@ -1,11 +1,12 @@
 //! The loop over the rows of a trace.
+ghost use Rattle.forec_base.specs.declared.limits.TheConstants.{MAX_BUDGET};
 ghost use Rattle.std.specs.Prelude.{◌≡◌, ◌≢◌, ◌≤◌, ◌++◌, ◌^◌, true, false, List, ℕ, OnOk, OnErr, IfOk, IfErr, Err, IfSome, [], length};
 ghost use Rattle.std.specs.Io.KnownBytes.{Appends, IsAtEnd};
 ghost use Rattle.forec_base.specs.Outside.{Fell};
 ghost use Rattle.forec_kernel.specs.Ticks.{Fresh};
 ghost use Rattle.trace_rows.specs.Calls.{IfTold, Faults};
 ghost use Rattle.trace_rows.specs.Reader.{HasLine};
-ghost use Rattle.trace_rows.specs.Reads.{Reads, Reading, StartTook};
+ghost use Rattle.trace_rows.specs.SourceReads.{Reads, Reading, StartTook};
 ghost use Rattle.trace_runs.specs.Calls.{AppendsFront};
 ghost use Rattle.trace_runs.specs.Ends.{IsOwn, Given, FrontOf, Wanted, ReadFor};
 ghost use Rattle.trace_runs.specs.Report.{trace_report};
@@ -55,7 +56,7 @@ pub fn run_rows<S: Source, K: Sink, T: Ticker, O: Serve, G: Gate, R: Wait>(
     requires going { T.live ticker.old ≡ true }
     requires image { length session.old.image.inputs.items ≡ length (T.kernel ticker.old).shape.inputs }
     requires outputs { length session.old.image.outputs.items ≡ length (T.kernel ticker.old).shape.outputs }
-    requires small { session.old.budget ≤ 2 ^ 62 }
+    requires small { session.old.budget ≤ MAX_BUDGET }
     requires none { session.old.waiting.bytes.items ≡ [] }
     requires names { session.old.waiting.names ≡ output_names (T.kernel ticker.old) }
     requires limit { rows.old.limit ≡ MAX_ROWS }

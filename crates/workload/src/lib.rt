@@ -84,7 +84,7 @@ fn add_thread(text: &mut Vec<u8>, threads: u32, thread: u32) -> Result<(), OutOf
 ///
 /// # Errors
 ///
-/// Want of memory.
+/// Out of memory.
 pub fn workload_text(alloc: Global, threads: u32) -> Result<Vec<u8>, OutOfMemory>
     requires { threads ≤ 255 }
     ensures { IfOk result (λ text. text.items ≡ text_of threads) }

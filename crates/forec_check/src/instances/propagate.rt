@@ -25,7 +25,7 @@ pub struct SiteTables {
 
 /// The instances whose text is read, and those of the texts round it.
 #[derive(Drop)]
-struct InstanceStack {
+struct OpenInstances {
     here: CallSites,
     round: Vec<CallSites>,
 }
@@ -59,7 +59,7 @@ fn propagate_call(
 fn propagate_effect(
     effect: Effect,
     site: CallSites,
-    around: &mut InstanceStack,
+    around: &mut OpenInstances,
     tables: &mut SiteTables,
 ) -> Result<bool, OutOfMemory>
     ensures same { IfOk result (λ moved. moved ≡ false → SameTables tables.old tables.new) }
@@ -103,7 +103,7 @@ fn propagate_effects(
     ensures settled { IfOk result (λ moved. moved ≡ false → Settled (tables_of tables.old) f 1 (outermost (tables_of tables.old) f) effects.now) }
 {
     let calls = at(&tables.calls, f);
-    let mut around = InstanceStack {
+    let mut around = OpenInstances {
         here: at(&tables.texts, f),
         round: Vec::new(alloc),
     };

@@ -22,7 +22,7 @@ pub struct SingleAccess {
 }
 
 impl SingleAccess {
-    /// Whether it is certain that two instances do not access a global.
+    /// Returns whether it is certain that at most one instance accesses a global.
     pub fn is_single(&self, g: u32) -> bool
         ensures { result ≡ plain.is_single self.now g }
     {

@@ -50,7 +50,7 @@ pub fn too_many(length: Option<Number>, values: usize) -> bool
     }
 }
 
-/// The faults of one declaration.
+/// Judges one declaration, and keeps the least fault.
 pub fn judge_declared(
     context: &Context<'_, '_>,
     name: Name,
@@ -77,7 +77,7 @@ pub fn judge_declared(
     );
 }
 
-/// The faults of a bound.
+/// Judges the bound of a loop, and keeps the least fault.
 pub fn judge_bound(context: &Context<'_, '_>, bound: Option<Number>, least: &mut Option<Fault>)
     ensures { least.new ≡ judged (judging_in context.now) (in_bound bound) least.old }
 {

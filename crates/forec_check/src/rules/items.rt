@@ -80,7 +80,7 @@ fn judge_combine(index: &Index<'_>, combine: Option<Combine>, least: &mut Option
     }
 }
 
-/// An input.
+/// Whether a global is an input.
 pub fn is_input(kind: GlobalKind) -> bool
     ensures { result ≡ rules.is_input kind }
 {
@@ -109,7 +109,7 @@ fn extra(counts: ItemCounts, kind: GlobalKind) -> bool
     is_output(kind) && MAX_OUTPUTS <= counts.outputs
 }
 
-/// The faults of a global.
+/// Judges a global, and keeps the least fault.
 pub fn judge_global(
     index: &Index<'_>,
     names: &Labels,
@@ -148,7 +148,7 @@ pub fn judge_global(
     );
 }
 
-/// The faults of a function but those in its parameters and body.
+/// Judges a function but its parameters and body, and keeps the least fault.
 pub fn judge_head(
     index: &Index<'_>,
     names: &Labels,

@@ -30,7 +30,7 @@ fn is_start(names: &Labels, item: &Item) -> bool
     }
 }
 
-/// The name of the function that a program starts with.
+/// The number of the name of the function that a program starts with; None where it has none.
 pub fn start_name(names: &Labels, items: &[Item]) -> Option<u32>
     ensures { result ≡ faults.start_name names.now (map plain.plain_item items.now) }
 {

@@ -162,7 +162,7 @@ fn runs_void_inside(gives: bool, how: How, means: Meaning) -> bool
     gives && runs_void(how, means)
 }
 
-/// The faults of one use.
+/// Judges one use of a name, and keeps the least fault.
 pub fn judge_use(
     context: &Context<'_, '_>,
     how: How,

@@ -3,7 +3,7 @@
 ghost use Rattle.std.specs.Prelude.{◌≡◌, OnOk};
 ghost use Rattle.forec_check.specs.Views.{scope_of};
 ghost use Rattle.forec_check.specs.Walk.{effect_of};
-ghost use Rattle.forec_check.specs.Walks.{WalksUse, WalksExpression};
+ghost use Rattle.forec_check.specs.WalkParts.{WalksUse, WalksExpression};
 
 use crate::rules::uses::judge_use;
 use crate::scopes::meaning;
@@ -29,7 +29,7 @@ fn effect(how: How, id: u32, means: Meaning) -> Option<Effect>
 }
 
 impl Context<'_, '_> {
-    /// The faults of one use of a name.
+    /// Judges one use of a name: keeps the least fault, and records the effect.
     pub fn use_name(
         &self,
         scope: &Scope,
@@ -47,7 +47,7 @@ impl Context<'_, '_> {
         Ok(())
     }
 
-    /// The faults of an expression.
+    /// Judges the names of an expression, from left to right, as [`Context::use_name`] does.
     pub fn expression(&self, scope: &Scope, e: &Expr, notes: &mut Notes) -> Result<(), OutOfMemory>
         ensures { OnOk result (WalksExpression self.now (scope_of scope.now) e.now notes.old notes.new) }
     {

@@ -4,7 +4,7 @@ ghost use Rattle.std.specs.Prelude.{◌≡◌, OnOk};
 ghost use Rattle.forec_tree.specs.Scopes.{with_params};
 ghost use Rattle.loop_check.specs.Views.{text_of};
 ghost use Rattle.forec_check.specs.Views.{scope_of, ExtendsScope, SameScope};
-ghost use Rattle.forec_check.specs.Walks.{WalksParameters, WalksFunction};
+ghost use Rattle.forec_check.specs.WalkParts.{WalksParameters, WalksFunction};
 
 use crate::rules::declarations::judge_declared;
 use crate::scopes::scope::Scope;
@@ -34,7 +34,7 @@ impl Context<'_, '_> {
     }
 }
 
-/// The faults of a function's parameters and body.
+/// Judges a function's parameters and body: keeps the least fault, and records the effects.
 pub fn body(
     index: &Index<'_>,
     names: &Labels,

@@ -8,7 +8,7 @@ ghost use Rattle.forec_tree.specs.Findings.{in_bound, Synchronous, Gives, Opens,
 ghost use Rattle.forec_tree.specs.Scopes as scopes;
 ghost use Rattle.forec_check.specs.Views.{judging_in, scope_of, ExtendsScope, SameScope};
 ghost use Rattle.forec_check.specs.Walk.{notes_of, walked};
-ghost use Rattle.forec_check.specs.Walks.{WalksExpressions, WalksOptionalExpression, WalksTarget, WalksLocal, WalksLocals, WalksStatement, WalksOptionalStatement, WalksStatements, WalksBranches};
+ghost use Rattle.forec_check.specs.WalkParts.{WalksExpressions, WalksOptionalExpression, WalksTarget, WalksLocal, WalksLocals, WalksStatement, WalksOptionalStatement, WalksStatements, WalksBranches};
 
 use crate::rules::declarations::{judge_bound, judge_declared};
 use crate::rules::least::keep_fault;

@@ -1,4 +1,4 @@
-use Rattle.bell_rows.proofs.Pairing.{one_placement}
+use Rattle.bell_rows.proofs.PairLemmas.{one_placement}
 use Rattle.bell_rows.proofs.hinted.both.Goals as goal
 
 pub returns : goal.returns

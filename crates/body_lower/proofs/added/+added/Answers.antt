@@ -5,7 +5,7 @@ use Rattle.forec_tree.specs.Terms as tree
 use Rattle.forec_tree.specs.Terms.{no_branches}
 use Rattle.forec_tree.proofs.Rows.{of_kind, of_group, of_if, of_for, of_par, of_abort, branch-group}
 use Rattle.body_lower.specs.Additions.{nothing, StatementAdds, PerhapsAdds, BranchesAdd}
-use Rattle.body_lower.proofs.Adding.{nothing_adds, pause_adds, declare_adds, assign_adds, return_adds, kind_adds, group_adds, abort_adds, if_adds, for_adds, while_adds, call_adds, called_adds, block_adds, perhaps_none, par_none, par_adds, list_starts, list_goes, list_ends, branches_start, branches_go, branches_end, by_table}
+use Rattle.body_lower.proofs.AdditionLemmas.{nothing_adds, pause_adds, declare_adds, assign_adds, return_adds, kind_adds, group_adds, abort_adds, if_adds, for_adds, while_adds, call_adds, called_adds, block_adds, perhaps_none, par_none, par_adds, list_starts, list_goes, list_ends, branches_start, branches_go, branches_end, by_table}
 use Rattle.body_lower.proofs.added.+added.Goals as goal
 
 pub of_statement-returns-in-Nothing : goal.of_statement-returns-in-Nothing

@@ -2,7 +2,7 @@ use Rattle.std.proofs.Common.{drop}
 use Rattle.forec_tree.specs.Plain as plain
 use Rattle.forec_tree.specs.Terms.{Text}
 use Rattle.body_lower.specs.Additions.{AllAdd}
-use Rattle.body_lower.proofs.Adding.{ListGoes, BranchesGo}
+use Rattle.body_lower.proofs.AdditionLemmas.{ListGoes, BranchesGo}
 use Rattle.body_lower.proofs.added.+added.Given as goal
 
 abbrev pub invariant-of_list-loop-s : goal.invariant-of_list-loop-s

@@ -1,6 +1,6 @@
 use Rattle.loop_check.specs.Views.{text_of}
 use Rattle.std.proofs.Common.{get_or}
-use Rattle.body_lower.proofs.Adding.{all_put}
+use Rattle.body_lower.proofs.AdditionLemmas.{all_put}
 use Rattle.body_lower.proofs.added.additions.Goals as goal
 
 pub loop-f-preserved : goal.loop-f-preserved

@@ -1,7 +1,7 @@
 use Rattle.std.proofs.Common.{refl, subst}
 use Rattle.forec_tree.specs.Plain.{statements, plain_function}
 use Rattle.body_lower.specs.Additions.{ListAdds}
-use Rattle.body_lower.proofs.Adding.{body_adds}
+use Rattle.body_lower.proofs.AdditionLemmas.{body_adds}
 use Rattle.body_lower.proofs.added.of_function.Goals as goal
 
 pub returns : goal.returns

@@ -1,5 +1,5 @@
 use Rattle.loop_check.specs.Views.{text_of}
-use Rattle.body_lower.proofs.Adding.{function_none}
+use Rattle.body_lower.proofs.AdditionLemmas.{function_none}
 use Rattle.body_lower.proofs.added.of_name.Goals as goal
 
 pub returns-in-None : goal.returns-in-None

@@ -13,7 +13,7 @@ use Rattle.body_lower.specs.Heads.{for_of}
 use Rattle.body_lower.specs.Landings.{called_within}
 use Rattle.body_lower.specs.Views.{context_text, seen, next_of, Does, Done}
 use Rattle.body_lower.proofs.Statements.{kept_then}
-use Rattle.body_lower.proofs.Landed.{if_does, while_does, abort_does, does_boxed, does_shown, inner_lands, ok_then}
+use Rattle.body_lower.proofs.LandingLemmas.{if_does, while_does, abort_does, does_boxed, does_shown, inner_lands, ok_then}
 use Rattle.body_lower.proofs.Doing.{does_as, for_does, call_does, count_args, ends_pushed, same_kept, kept_cut}
 use Rattle.body_lower.proofs.Going.{list_goes, list_ends, as_one_does, same_list, shown_same, place_none, place_unknown, place_known}
 use Rattle.body_lower.proofs.body.+body.Goals as goal
@@ -91,16 +91,16 @@ by_kind-returns-in_ok-k-in-Abort-clause-does t c =
     c.as_slice-body-in-Abort.result.now c.in-Abort.is c.as_slice-body-in-Abort.ensures)
     (c.in_ok-k-in-Abort.ensures.does c.args.s.now.place)
 
-pub in_place-returns-then-context-eq0-clause-does : goal.in_place-returns-then-context-eq0-clause-does
-in_place-returns-then-context-eq0-clause-does t c =
+pub inlined-returns-then-context-eq0-clause-does : goal.inlined-returns-then-context-eq0-clause-does
+inlined-returns-then-context-eq0-clause-does t c =
     place_none (context_text c.args.context.now) c.args.context.now.deep c.args.id c.args.first c.args.context.now.owner c.args.state.now c.if-context-eq0.true
 
-pub in_place-returns-in-None-clause-does : goal.in_place-returns-in-None-clause-does
-in_place-returns-in-None-clause-does t c =
+pub inlined-returns-in-None-clause-does : goal.inlined-returns-in-None-clause-does
+inlined-returns-in-None-clause-does t c =
     place_unknown (context_text c.args.context.now) c.args.context.now.deep c.args.id c.args.first c.args.context.now.owner c.args.state.now c.if-context-eq0.false c.in-None.ensures
 
-pub in_place-returns-in_ok-k-in-Some-clause-does : goal.in_place-returns-in_ok-k-in-Some-clause-does
-in_place-returns-in_ok-k-in-Some-clause-does t c =
+pub inlined-returns-in_ok-k-in-Some-clause-does : goal.inlined-returns-in_ok-k-in-Some-clause-does
+inlined-returns-in_ok-k-in-Some-clause-does t c =
     place_known (context_text c.args.context.now) c.args.context.now.deep (c.args.context.now.deep - 1) c.args.id c.args.first c.args.context.now.owner (plain_function c.in-Some.function.now) (stmt c.in_ok-k-in-Some.k) c.args.state.now c.in_function.new.state
     c.if-context-eq0.false refl c.in-Some.ensures c.in_ok-k-in-Some.ensures.does
 
@@ -110,7 +110,7 @@ call-returns-clause-does t c =
     let old = c.args.state.now in
     let one : State = record old { slot = c.in_ok-after.after } in
     let at = λ (x : Rattle.std.proofs.Common.ℕ). let n : NextNumbers = record { slot = x; thread = (next_of old).thread; par = old.par } in n in
-    call_does text (called_within text c.args.context.now.deep) c.args.context.now.owner (seen old.scope) (next_of old) c.args.place c.args.name (terms c.args.args.now) old one c.in_place.new.state (stmts c.in_ok-list.list.items)
+    call_does text (called_within text c.args.context.now.deep) c.args.context.now.owner (seen old.scope) (next_of old) c.args.place c.args.name (terms c.args.args.now) old one c.inlined.new.state (stmts c.in_ok-list.list.items)
     (stmt c.in_ok-body.body) _ c.in_ok-list.ensures (ap at (c.in_ok-after.ensures.ok ∙ ap (λ n. old.slot + n) (c.in_ok-taken.ensures.ok ∙ count_args c.args.args.now))) refl c.in_ok-body.ensures.does
     (c.sequence.ensures ∙ ap sequence (ap stmts c.in_ok-push.ensures.items ∙ ends_pushed c.in_ok-list.list.items c.in_ok-body.body))
 

@@ -37,8 +37,8 @@ decreases-block l = 12 * l.fuel + 5
 abbrev pub decreases-in_function : goal.decreases-in_function
 decreases-in_function l = 12 * l.fuel + 5
 
-abbrev pub decreases-in_place : goal.decreases-in_place
-decreases-in_place l = 12 * l.fuel + 6
+abbrev pub decreases-inlined : goal.decreases-inlined
+decreases-inlined l = 12 * l.fuel + 6
 
 abbrev pub decreases-if_statement : goal.decreases-if_statement
 decreases-if_statement l = 12 * l.fuel + 5

@@ -2,7 +2,7 @@ use Rattle.std.proofs.Common.{◌∙◌, sym, ap, refl}
 use Rattle.forec_tree.specs.Plain.{statement, statements, plain_function}
 use Rattle.loop_check.specs.Views.{text_of}
 use Rattle.body_lower.specs.Landings.{only}
-use Rattle.body_lower.proofs.Landed.{lands_here, lands_further, no_names}
+use Rattle.body_lower.proofs.LandingLemmas.{lands_here, lands_further, no_names}
 use Rattle.body_lower.proofs.landing.function_landing.Goals as goal
 
 pub returns-in-None-lands : goal.returns-in-None-lands

@@ -1,6 +1,6 @@
 use Rattle.std.proofs.Common.{sym}
 use Rattle.forec_tree.specs.Plain.{statement}
-use Rattle.body_lower.proofs.Landed.{same_step, fewer}
+use Rattle.body_lower.proofs.LandingLemmas.{same_step, fewer}
 use Rattle.body_lower.proofs.landing.innermost.Goals as goal
 
 pub loop-one-preserved : goal.loop-one-preserved

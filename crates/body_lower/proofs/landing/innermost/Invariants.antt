@@ -1,6 +1,6 @@
 use Rattle.forec_tree.specs.Plain.{statement}
 use Rattle.body_lower.specs.Landings.{SameKernel}
-use Rattle.body_lower.proofs.Landed.{groups}
+use Rattle.body_lower.proofs.LandingLemmas.{groups}
 use Rattle.body_lower.proofs.landing.innermost.Given as goal
 
 abbrev pub invariant-loop-one : goal.invariant-loop-one

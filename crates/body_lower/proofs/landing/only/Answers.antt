@@ -1,5 +1,5 @@
 use Rattle.std.proofs.Common.{refl}
-use Rattle.body_lower.proofs.Landed.{only_other}
+use Rattle.body_lower.proofs.LandingLemmas.{only_other}
 use Rattle.body_lower.proofs.landing.only.Goals as goal
 
 pub returns-else-body-eq1 : goal.returns-else-body-eq1

@@ -12,5 +12,5 @@ returns c =
     let text = context_text c.args.context.now in
     let old = c.args.state.now in
     let one : State = record old { slot = c.in_ok-taken.taken } in
-    call_made text c.args.context.now.deep c.args.one.parent c.args.one.par c.args.context.now.owner old.par c.args.name (terms c.args.args.now) c.in_ok-params.params (stmt c.in_ok-body.body) one c.in_place.new.state
+    call_made text c.args.context.now.deep c.args.one.parent c.args.one.par c.args.context.now.owner old.par c.args.name (terms c.args.args.now) c.in_ok-params.params (stmt c.in_ok-body.body) one c.inlined.new.state
     (c.in_ok-taken.ensures.ok ∙ count_args c.args.args.now) c.requires.number refl (ap (threads_in text) c.requires.none) c.in_ok-params.ensures c.in_ok-body.ensures.does

@@ -1,4 +1,4 @@
-use Rattle.copy_slots.proofs.Ruling.{between}
+use Rattle.copy_slots.proofs.RuleLemmas.{between}
 use Rattle.copy_slots.proofs.laws.mailboxes_are_ruled.Goals as goal
 
 pub returns : goal.returns

@@ -3,7 +3,7 @@ use Rattle.copy_slots.specs.declared.view.Role.TheVariants.{Keeper}
 use Rattle.std.specs.Result.{is_ok}
 use Rattle.std.proofs.lemmas.Grind.{common_steps}
 use Rattle.copy_slots.specs.declared.both.BothEnds.{BothEnds}
-use Rattle.copy_slots.specs.Places.{Watches}
+use Rattle.copy_slots.specs.SeatEnds.{Watches}
 use Rattle.copy_slots.specs.Fresh.{AllFresh}
 use Rattle.copy_slots.proofs.Seating.{fresh_more}
 use Rattle.copy_slots.proofs.make.deal_all.Goals as goal

@@ -1,6 +1,6 @@
 use Rattle.std.proofs.Common.{◌≡◌, ◌≤◌, [], length, false, List}
 use Rattle.copy_slots.specs.declared.view.Role.TheVariants.{Keeper}
-use Rattle.copy_slots.specs.Places.{Watches}
+use Rattle.copy_slots.specs.SeatEnds.{Watches}
 use Rattle.copy_slots.specs.Fresh.{AllFresh}
 use Rattle.copy_slots.proofs.make.deal_all.Given as goal
 

@@ -1,8 +1,8 @@
 use Rattle.std.proofs.Common.{arith, ◌<◌, ◌∷◌, sym, refl, ap, ◌∙◌, Some, None}
 use Rattle.atomic_table.specs.Table.{rest}
 use Rattle.copy_slots.specs.Mail.{plain_list, taker_answered}
-use Rattle.copy_slots.proofs.Mailing.{answers_job}
-use Rattle.copy_slots.proofs.Placing.{one_hand, goes, hand_taken, hand_free}
+use Rattle.copy_slots.proofs.MailLemmas.{answers_job}
+use Rattle.copy_slots.proofs.SeatEndLemmas.{one_hand, goes, hand_taken, hand_free}
 use Rattle.copy_slots.proofs.steps.answer.Goals as goal
 
 pub exchange-empty-requires : goal.exchange-empty-requires

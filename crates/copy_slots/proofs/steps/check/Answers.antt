@@ -1,7 +1,7 @@
 use Rattle.std.proofs.Common.{arith, ◌<◌, sym}
 use Rattle.copy_slots.specs.Mail.{plain_list}
 use Rattle.copy_slots.proofs.Dealing.{checks}
-use Rattle.copy_slots.proofs.Placing.{not_spent}
+use Rattle.copy_slots.proofs.SeatEndLemmas.{not_spent}
 use Rattle.copy_slots.proofs.steps.check.Goals as goal
 
 pub load-requires : goal.load-requires

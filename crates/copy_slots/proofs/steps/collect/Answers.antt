@@ -1,9 +1,9 @@
 use Rattle.std.proofs.Common.{rules, arith, ◌≡◌, ◌∷◌, sym, refl, ap, ◌∙◌, subst, Some}
 use Rattle.atomic_table.specs.Table.{rest}
 use Rattle.copy_slots.specs.Mail.{plain_list, sender_got}
-use Rattle.copy_slots.specs.Places.{Sits}
-use Rattle.copy_slots.proofs.Mailing.{collects}
-use Rattle.copy_slots.proofs.Placing.{one_place, comes, hand_got, took_out}
+use Rattle.copy_slots.specs.SeatEnds.{Sits}
+use Rattle.copy_slots.proofs.MailLemmas.{collects}
+use Rattle.copy_slots.proofs.SeatEndLemmas.{one_place, comes, hand_got, took_out}
 use Rattle.copy_slots.proofs.steps.collect.Goals as goal
 
 pub load-requires : goal.load-requires

@@ -1,8 +1,8 @@
 use Rattle.std.proofs.Common.{arith, ◌<◌, ◌∷◌, sym, ap, ◌∙◌, Some, None}
 use Rattle.atomic_table.specs.Table.{rest}
 use Rattle.copy_slots.specs.Mail.{plain_list, sender_sent}
-use Rattle.copy_slots.proofs.Mailing.{offers}
-use Rattle.copy_slots.proofs.Placing.{one_place, goes, hand_held}
+use Rattle.copy_slots.proofs.MailLemmas.{offers}
+use Rattle.copy_slots.proofs.SeatEndLemmas.{one_place, goes, hand_held}
 use Rattle.copy_slots.proofs.steps.offer.Goals as goal
 
 pub exchange-empty-requires : goal.exchange-empty-requires

@@ -1,7 +1,7 @@
 use Rattle.std.proofs.Common.{arith, ◌∷◌, sym, ap, ◌∙◌, Some}
 use Rattle.atomic_table.specs.Table.{rest}
 use Rattle.copy_slots.specs.Mail.{plain_list}
-use Rattle.copy_slots.proofs.Mailing.{opens}
+use Rattle.copy_slots.proofs.MailLemmas.{opens}
 use Rattle.copy_slots.proofs.steps.open.Goals as goal
 
 pub load-requires : goal.load-requires

@@ -1,9 +1,9 @@
 use Rattle.std.proofs.Common.{rules, arith, ◌≡◌, [], ◌∷◌, ◌++◌, sym, refl, ap, ◌∙◌, subst, Some, None}
 use Rattle.atomic_table.specs.Table.{rest}
 use Rattle.copy_slots.specs.Mail.{plain_list, taker_took}
-use Rattle.copy_slots.specs.Places.{Sits}
-use Rattle.copy_slots.proofs.Mailing.{takes_job}
-use Rattle.copy_slots.proofs.Placing.{one_hand, comes, hand_taken, hand_free, took_out}
+use Rattle.copy_slots.specs.SeatEnds.{Sits}
+use Rattle.copy_slots.proofs.MailLemmas.{takes_job}
+use Rattle.copy_slots.proofs.SeatEndLemmas.{one_hand, comes, hand_taken, hand_free, took_out}
 use Rattle.copy_slots.proofs.steps.take.Goals as goal
 
 pub load-requires : goal.load-requires

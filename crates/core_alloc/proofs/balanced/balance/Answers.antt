@@ -1,7 +1,7 @@
 use Rattle.std.proofs.Common.{◌≡◌, ◌∙◌, ap, length, rules, arith}
 use Rattle.core_alloc.specs.Places.{Places}
 use Rattle.core_alloc.specs.Balance.{balance_of}
-use Rattle.core_alloc.proofs.Balancing.{order_length, order_total, order_low}
+use Rattle.core_alloc.proofs.BalanceLemmas.{order_length, order_total, order_low}
 use Rattle.core_alloc.proofs.Loads.{stays_even}
 use Rattle.core_alloc.proofs.balanced.balance.Goals as goal
 

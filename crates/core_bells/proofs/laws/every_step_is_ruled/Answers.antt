@@ -1,4 +1,4 @@
-use Rattle.core_bells.proofs.Counting.{starts, pushes, pops, forks, merges, learns}
+use Rattle.core_bells.proofs.HintLemmas.{starts, pushes, pops, forks, merges, learns}
 use Rattle.core_bells.proofs.laws.every_step_is_ruled.Goals as goal
 
 pub returns : goal.returns

@@ -1,4 +1,4 @@
-use Rattle.core_bells.proofs.Counting.{starts}
+use Rattle.core_bells.proofs.HintLemmas.{starts}
 use Rattle.core_bells.proofs.queue.open.Goals as goal
 
 pub ruled-requires-clause-rule : goal.ruled-requires-clause-rule

@@ -1,5 +1,5 @@
 use Rattle.crossbeam_queue.specs.Passes.{view}
-use Rattle.core_bells.proofs.Counting.{pops, learns}
+use Rattle.core_bells.proofs.HintLemmas.{pops, learns}
 use Rattle.core_bells.proofs.queue.pop.Goals as goal
 
 pub pop_as-requires-clause-rule : goal.pop_as-requires-clause-rule

@@ -1,5 +1,5 @@
 use Rattle.crossbeam_queue.specs.Passes.{view, ruled_capacity}
-use Rattle.core_bells.proofs.Counting.{pushes, learns}
+use Rattle.core_bells.proofs.HintLemmas.{pushes, learns}
 use Rattle.core_bells.proofs.queue.push.Goals as goal
 
 pub push_as-requires-clause-rule : goal.push_as-requires-clause-rule

@@ -1,4 +1,4 @@
-use Rattle.core_host.proofs.Hosting.{same_rope, same_then}
+use Rattle.core_host.proofs.HostedLemmas.{same_rope, same_then}
 use Rattle.core_host.proofs.hints.hint_branches.Goals as goal
 
 pub loop-k-init : goal.loop-k-init

@@ -2,7 +2,7 @@ use Rattle.std.proofs.Common.{◌≡◌, Some, false, take, sym, ap, ◌∙◌, 
 use Rattle.std.specs.Prelude.{slice_index_or}
 use Rattle.std.proofs.lemmas.Option.{slice_get-get_or}
 use Rattle.core_host.specs.Loads.{contains_core}
-use Rattle.core_host.proofs.Loading.{contains_at, contains_not, take_next}
+use Rattle.core_host.proofs.LoadLemmas.{contains_at, contains_not, take_next}
 use Rattle.core_host.proofs.load.is_among.Goals as goal
 
 pub returns-then-other-core : goal.returns-then-other-core

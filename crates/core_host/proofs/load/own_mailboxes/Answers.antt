@@ -1,7 +1,7 @@
 use Rattle.std.proofs.Common.{rules, ◌≡◌, [], ℕ, ◌+◌, ◌<◌, zero, suc, Some, length, sym, ap, ◌∙◌, subst, arith}
 use Rattle.std.specs.Prelude.{slice_get, get_or}
 use Rattle.core_host.specs.Loads.{contains_core}
-use Rattle.core_host.proofs.Loading.{OwnBelow, own_step}
+use Rattle.core_host.proofs.LoadLemmas.{OwnBelow, own_step}
 use Rattle.core_host.proofs.load.own_mailboxes.Goals as goal
 
 pub loop-mailbox-init : goal.loop-mailbox-init

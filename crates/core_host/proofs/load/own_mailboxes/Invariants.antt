@@ -1,4 +1,4 @@
-use Rattle.core_host.proofs.Loading.{OwnBelow}
+use Rattle.core_host.proofs.LoadLemmas.{OwnBelow}
 use Rattle.core_host.proofs.load.own_mailboxes.Given as goal
 
 abbrev pub invariant-loop-mailbox : goal.invariant-loop-mailbox

@@ -1,6 +1,6 @@
 use Rattle.std.proofs.Common.{◌<◌, ◌++◌, ◌∷◌, [], sym, ap, ◌∙◌, subst}
 use Rattle.std.specs.Prelude.{All}
-use Rattle.core_host.proofs.Loading.{all_then, take_next}
+use Rattle.core_host.proofs.LoadLemmas.{all_then, take_next}
 use Rattle.core_host.proofs.load.places_of.Goals as goal
 
 pub loop-thread-preserved : goal.loop-thread-preserved

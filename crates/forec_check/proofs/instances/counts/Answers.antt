@@ -1,8 +1,8 @@
 use Rattle.std.proofs.Common.{◌∙◌, ap, get_or}
 use Rattle.loop_check.specs.Views.{text_of}
 use Rattle.forec_check.specs.Instances.{count_at, count_of, capped_below}
-use Rattle.forec_check.proofs.Tables.{agrees_next, none_agree, all_agree}
-use Rattle.forec_check.proofs.Counted.{nothing_counted}
+use Rattle.forec_check.proofs.TableLemmas.{agrees_next, none_agree, all_agree}
+use Rattle.forec_check.proofs.InstanceCounts.{nothing_counted}
 use Rattle.forec_check.proofs.instances.counts.Goals as goal
 
 pub loop-f-init : goal.loop-f-init

@@ -1,7 +1,7 @@
 use Rattle.std.proofs.Common.{◌∙◌, sym, ap}
 use Rattle.forec_tree.specs.Faults.{start_name}
 use Rattle.loop_check.specs.Views.{text_of}
-use Rattle.forec_check.proofs.Tabled.{plains_none}
+use Rattle.forec_check.proofs.NamingTables.{plains_none}
 use Rattle.forec_check.proofs.rules.judge_accesses.Goals as goal
 
 pub returns-in-None : goal.returns-in-None

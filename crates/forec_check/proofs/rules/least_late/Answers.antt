@@ -1,6 +1,6 @@
 use Rattle.std.proofs.Common.{◌∙◌, sym, ap, subst, map}
 use Rattle.forec_tree.specs.Plain as plain
-use Rattle.forec_tree.specs.Pauses.{starts}
+use Rattle.forec_tree.specs.Pauses.{callees_of}
 use Rattle.forec_tree.specs.Faults.{Leads}
 use Rattle.loop_check.specs.Graph.{callees, IsOrder}
 use Rattle.loop_check.specs.Judges.{judge_text}
@@ -8,7 +8,7 @@ use Rattle.loop_check.specs.Views.{text_of}
 use Rattle.forec_check.specs.AccessCounts.{Orders}
 use Rattle.forec_check.specs.Loops.{all_loops}
 use Rattle.forec_check.proofs.Acyclic.{no_circle, no_reach}
-use Rattle.forec_check.proofs.Tabled.{orders_is}
+use Rattle.forec_check.proofs.NamingTables.{orders_is}
 use Rattle.forec_check.proofs.Lately.{both_late}
 use Rattle.forec_check.proofs.rules.least_late.Goals as goal
 
@@ -23,7 +23,7 @@ judge_accesses-requires-clause-order c =
     subst (λ o. Orders text o) (sym c.deref-4.ensures.value) (orders_is text functions order (callees lists) c.requires.read ordered (no_reach text c.args.names.now c.requires.early))
 
 pub of-requires : goal.of-requires
-of-requires c = λ f l. no_circle (text_of c.args.index.now) c.args.names.now c.requires.early f (subst (λ t. Leads (starts t) f f) c.requires.items l)
+of-requires c = λ f l. no_circle (text_of c.args.index.now) c.args.names.now c.requires.early f (subst (λ t. Leads (callees_of t) f f) c.requires.items l)
 
 pub returns : goal.returns
 returns c =

@@ -3,7 +3,7 @@ use Rattle.forec_kernel.specs.Shapes.{plain_kernel}
 use Rattle.command_words.specs.Requests.{plain_placing}
 use Rattle.forec_engine.specs.Commands.{Of_misplaced, Of_placed, threads_listed}
 use Rattle.forec_engine.specs.Placing.{misplaced, misplacing}
-use Rattle.forec_engine.proofs.Placed.{refused_by}
+use Rattle.forec_engine.proofs.PlacementReports.{refused_by}
 use Rattle.forec_engine.proofs.answering.list_threads.Goals as goal
 
 pub returns-in-Ok-clause-own : goal.returns-in-Ok-clause-own

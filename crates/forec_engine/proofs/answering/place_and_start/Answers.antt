@@ -4,7 +4,7 @@ use Rattle.command_words.specs.Requests.{plain_running}
 use Rattle.trace_runs.specs.Calls.{AppendsFront}
 use Rattle.trace_runs.specs.Ends.{Given}
 use Rattle.forec_engine.specs.Placing.{misplacing}
-use Rattle.forec_engine.proofs.Placed.{refused_by, run_placed, run_misplaced}
+use Rattle.forec_engine.proofs.PlacementReports.{refused_by, run_placed, run_misplaced}
 use Rattle.forec_engine.proofs.answering.place_and_start.Goals as goal
 
 pub returns-in-Ok-clause-own : goal.returns-in-Ok-clause-own

@@ -3,7 +3,7 @@ use Rattle.command_words.specs.Requests.{plain_command, plain_running}
 use Rattle.forec_engine.specs.Commands.{usage, Of_usage, Of_text, Of_workload}
 use Rattle.forec_engine.specs.Ends.{Asks_nothing, Misplaces, Misplaces_workload}
 use Rattle.forec_engine.proofs.Misused.{said}
-use Rattle.trace_runs.proofs.Endings.{own_not, neither_fault}
+use Rattle.trace_runs.proofs.EndLemmas.{own_not, neither_fault}
 use Rattle.forec_engine.proofs.command.forec.Goals as goal
 
 -- the text that the words name

@@ -15,8 +15,8 @@ decreases-nested l = 8 * l.depth + 1
 abbrev pub decreases-one : goal.decreases-one
 decreases-one l = 8 * l.depth + 6
 
-abbrev pub decreases-forking : goal.decreases-forking
-decreases-forking l = 8 * l.depth + 5
+abbrev pub decreases-par_statement : goal.decreases-par_statement
+decreases-par_statement l = 8 * l.depth + 5
 
 abbrev pub decreases-launches : goal.decreases-launches
 decreases-launches l = 8 * l.depth + 4
@@ -24,8 +24,8 @@ decreases-launches l = 8 * l.depth + 4
 abbrev pub decreases-launch : goal.decreases-launch
 decreases-launch l = 8 * l.depth + 3
 
-abbrev pub decreases-aborting : goal.decreases-aborting
-decreases-aborting l = 8 * l.depth + 3
+abbrev pub decreases-abort_statement : goal.decreases-abort_statement
+decreases-abort_statement l = 8 * l.depth + 3
 
 abbrev pub decreases-block : goal.decreases-block
 decreases-block l = 8 * l.depth + 2

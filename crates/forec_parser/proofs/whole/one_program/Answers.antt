@@ -1,4 +1,4 @@
-use Rattle.forec_parser.proofs.Programs.{one_program}
+use Rattle.forec_parser.proofs.ProgramLemmas.{one_program}
 use Rattle.forec_parser.proofs.whole.one_program.Goals as goal
 
 pub returns : goal.returns

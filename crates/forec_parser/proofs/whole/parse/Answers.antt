@@ -2,7 +2,7 @@ use Rattle.std.proofs.Common.{Err, sym, ap, subst}
 use Rattle.forec_tree.specs.Plain.{program}
 use Rattle.forec_parser.specs.declared.fault.ParseFault.{ParseFault}
 use Rattle.forec_parser.specs.Program.{HasCause}
-use Rattle.forec_parser.proofs.Programs.{found_so, only_so}
+use Rattle.forec_parser.proofs.ProgramLemmas.{found_so, only_so}
 use Rattle.forec_parser.proofs.Stops.{is_among, has_cause, only_memory, only_stop, only_opening, found_never_stops, found_never_opens}
 use Rattle.forec_parser.proofs.whole.parse.Goals as goal
 

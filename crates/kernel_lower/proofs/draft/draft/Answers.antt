@@ -10,7 +10,7 @@ use Rattle.text_kernel.specs.Kernels.{kernel_of, variable_count}
 use Rattle.body_lower.specs.Views.{of_thread}
 use Rattle.kernel_lower.specs.Drafts.{function_shape, function_text, root_of, thread_body}
 use Rattle.text_kernel.specs.Items.{globals_of, functions_of}
-use Rattle.kernel_lower.proofs.Drafted.{bodies_are}
+use Rattle.kernel_lower.proofs.DraftLemmas.{bodies_are}
 use Rattle.kernel_lower.proofs.Finishing.{draft_threads, draft_texts, draft_variables, draft_shapes, draft_bodies, as_many, as_many_functions}
 use Rattle.kernel_lower.proofs.draft.draft.Goals as goal
 

@@ -1,10 +1,10 @@
 use Rattle.std.proofs.Common.{◌≡◌, ◌∙◌, ◌-◌, ◌^◌, min, sum, sym, ap, subst, map, inl}
 use Rattle.forec_tree.specs.Plain as plain
-use Rattle.forec_tree.specs.Pauses.{starts}
+use Rattle.forec_tree.specs.Pauses.{callees_of}
 use Rattle.forec_tree.specs.Faults.{Leads}
 use Rattle.forec_kernel.specs.WellFormed.{Ranked}
 use Rattle.forec_check.specs.Checked.{text_of, names_of}
-use Rattle.forec_check.specs.Checks.{Faultless}
+use Rattle.forec_check.specs.Faultless.{Faultless}
 use Rattle.forec_check.proofs.Acyclic.{no_circle}
 use Rattle.loop_check.specs.Views as views
 use Rattle.text_kernel.specs.Kernels.{kernel_of}
@@ -25,13 +25,13 @@ pub of-requires : goal.of-requires
 of-requires c =
     let kept = c.args.checked.now in
     let same = ap (map plain.plain_item) c.as_slice-items.ensures ∙ ap plain.program c.program.ensures in
-    λ f l. no_circle (plain.program kept.program) kept.names.now (λ fault e. kept.faultless fault (inl e)) f (subst (λ t. Leads (starts t) f f) same l)
+    λ f l. no_circle (plain.program kept.program) kept.names.now (λ fault e. kept.faultless fault (inl e)) f (subst (λ t. Leads (callees_of t) f f) same l)
 
 pub program_terms-requires-clause-free : goal.program_terms-requires-clause-free
 program_terms-requires-clause-free c =
     let kept = c.args.checked.now in
     let same = c.in_ok-source.ensures.text ∙ (ap (map plain.plain_item) c.as_slice-items.ensures ∙ ap plain.program c.program.ensures) in
-    λ f l. no_circle (plain.program kept.program) kept.names.now (λ fault e. kept.faultless fault (inl e)) f (subst (λ t. Leads (starts t) f f) same l)
+    λ f l. no_circle (plain.program kept.program) kept.names.now (λ fault e. kept.faultless fault (inl e)) f (subst (λ t. Leads (callees_of t) f f) same l)
 
 pub most-requires-clause-ranked : goal.most-requires-clause-ranked
 most-requires-clause-ranked c =
@@ -92,7 +92,7 @@ pub foresee-requires-clause-free : goal.foresee-requires-clause-free
 foresee-requires-clause-free c =
     let kept = c.args.checked.now in
     let same = c.in_ok-source.ensures.text ∙ (ap (map plain.plain_item) c.as_slice-items.ensures ∙ ap plain.program c.program.ensures) in
-    λ f l. no_circle (plain.program kept.program) kept.names.now (λ fault e. kept.faultless fault (inl e)) f (subst (λ t. Leads (starts t) f f) same l)
+    λ f l. no_circle (plain.program kept.program) kept.names.now (λ fault e. kept.faultless fault (inl e)) f (subst (λ t. Leads (callees_of t) f f) same l)
 
 pub beyond-requires-clause-ranked : goal.beyond-requires-clause-ranked
 beyond-requires-clause-ranked c =
@@ -116,7 +116,7 @@ pub beyond-requires-clause-free : goal.beyond-requires-clause-free
 beyond-requires-clause-free c =
     let kept = c.args.checked.now in
     let same = c.in_ok-source.ensures.text ∙ (ap (map plain.plain_item) c.as_slice-items.ensures ∙ ap plain.program c.program.ensures) in
-    λ f l. no_circle (plain.program kept.program) kept.names.now (λ fault e. kept.faultless fault (inl e)) f (subst (λ t. Leads (starts t) f f) same l)
+    λ f l. no_circle (plain.program kept.program) kept.names.now (λ fault e. kept.faultless fault (inl e)) f (subst (λ t. Leads (callees_of t) f f) same l)
 
 pub beyond-requires-clause-faultless : goal.beyond-requires-clause-faultless
 beyond-requires-clause-faultless c =

@@ -3,7 +3,7 @@ use Rattle.forec_kernel.specs.WellFormed.{count_up}
 use Rattle.loop_check.specs.Graph.{callees, IsOrder}
 use Rattle.forec_check.specs.Table.{Settles}
 use Rattle.kernel_lower.specs.Reach.{chain_step, chain_value}
-use Rattle.kernel_lower.proofs.Reaching.{chains_settle, count_long}
+use Rattle.kernel_lower.proofs.ReachLemmas.{chains_settle, count_long}
 use Rattle.kernel_lower.proofs.reach.chains.Goals as goal
 
 pub sums-requires : goal.sums-requires

@@ -1,7 +1,7 @@
 use Rattle.std.proofs.Common.{◌∙◌, ◌+◌, ◌-◌, ◌^◌, min, ap, get_or}
 use Rattle.forec_kernel.specs.WellFormed.{greatest}
 use Rattle.loop_check.specs.Graph.{callees}
-use Rattle.forec_check.proofs.Tables.{agrees_next}
+use Rattle.forec_check.proofs.TableLemmas.{agrees_next}
 use Rattle.kernel_lower.specs.Reach.{value_at, chain_value}
 use Rattle.kernel_lower.proofs.reach.sums.Goals as goal
 

@@ -7,7 +7,7 @@ use Rattle.forec_tree.proofs.Rows.{of_for}
 use Rattle.loop_check.specs.Forms.{pair_of, test_from, step_from}
 use Rattle.loop_check.proofs.runs.form_of.Goals as goal
 
-parts : (text : Text) (b b' : Stmt) (p p' : Option form.Pair) (t t' : Option form.Test) (s s' : Option form.PlainStep) (r : Option ℕ) →
+parts : (text : Text) (b b' : Stmt) (p p' : Option form.Pair) (t t' : Option form.Test) (s s' : Option form.PlainLoopStep) (r : Option ℕ) →
     b' ≡ b → p' ≡ p → t' ≡ t → s' ≡ s → form.turns_from text (statement b') p' t' s' ≡ r → form.turns_from text (statement b) p t s ≡ r
 parts text b b' p p' t t' s s' r hb hp ht hs h =
     sym (ap (λ x. form.turns_from text (statement x) p' t' s') hb ∙ ap (λ x. form.turns_from text (statement b) x t' s') hp

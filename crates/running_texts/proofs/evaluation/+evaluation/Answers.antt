@@ -8,7 +8,7 @@ use Rattle.forec_kernel.specs.Values.{value_then, more_units, function_words, fr
 use Rattle.running_texts.specs.Metered.{number, flowing, setting_within, sight_of}
 use Rattle.running_texts.proofs.Falls.{expression_within, statement_within, call_falls, call_depth, sequence_depth}
 use Rattle.running_texts.proofs.Tests.{zero_of, nonzero_of, and_zero, and_some, and_err, or_some, or_zero, or_err, choose_no, choose_yes, choose_err, call_ok, call_over, call_err, if_no, if_yes, if_err}
-use Rattle.running_texts.proofs.Metering.{then_ok, then_err, binds_value, adds_number, binds_flow, adds_flow}
+use Rattle.running_texts.proofs.MeteredLemmas.{then_ok, then_err, binds_value, adds_number, binds_flow, adds_flow}
 use Rattle.running_texts.proofs.Onward.{exprs_next, numbers_same, numbers_stop, numbers_more, flow_same, flows_next, flow_returns, flow_stops, flow_goes, turns_end, turns_trap, turns_err, turns_turn}
 use Rattle.running_texts.proofs.evaluation.+evaluation.Goals as goal
 

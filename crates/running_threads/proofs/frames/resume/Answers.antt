@@ -3,7 +3,7 @@ use Rattle.forec_kernel.specs.Plain.{stmts}
 use Rattle.forec_kernel.specs.Texts as plain
 use Rattle.forec_kernel.specs.Texts.{texts_of}
 use Rattle.forec_kernel.specs.Steps.{Moves}
-use Rattle.running_threads.specs.Views.{looping}
+use Rattle.running_threads.specs.Views.{plain_loop}
 use Rattle.running_threads.proofs.Plugs.{resumed_as}
 use Rattle.running_threads.proofs.frames.resume.Goals as goal
 
@@ -19,7 +19,7 @@ returns-in_ok-start_list-in-Some-Rest c =
 pub returns-in-Some-Again : goal.returns-in-Some-Again
 returns-in-Some-Again c =
     record {
-      by = resumed_as c.args.frames.now.items c.pop.new.self.items _ _ (plain.Turning (looping c.in-Some-Again.turn)) c.in-Some-Again.ensures.items
+      by = resumed_as c.args.frames.now.items c.pop.new.self.items _ _ (plain.Turning (plain_loop c.in-Some-Again.turn)) c.in-Some-Again.ensures.items
           c.in-Some-Again.field-0-is (λ w cs. refl);
     }
 

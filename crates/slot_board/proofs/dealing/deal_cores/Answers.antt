@@ -1,7 +1,7 @@
 use Rattle.std.proofs.Common.{rules, arith, ◌≡◌, ◌+◌, ◌++◌, ◌∷◌, [], ℕ, suc, List, length, map, refl, ap, ◌∙◌, sym, subst, true, Some, slice_get, add-one}
 use Rattle.std.specs.Result.{is_ok}
 use Rattle.std.proofs.lemmas.Grind.{common_steps}
-use Rattle.copy_slots.specs.Places.{Watches}
+use Rattle.copy_slots.specs.SeatEnds.{Watches}
 use Rattle.slot_board.specs.declared.seats.CoreSeats.{CoreSeats}
 use Rattle.slot_board.specs.Dealt.{new_ports, seats_state, spare_role}
 use Rattle.slot_board.proofs.Cutting.{cut_waits, core_fits, core_is, fit_more, map_snoc}

@@ -1,6 +1,6 @@
 use Rattle.std.proofs.Common.{◌≡◌, length, map, List, [], false}
 use Rattle.copy_slots.specs.declared.view.Role.TheVariants.{Keeper}
-use Rattle.copy_slots.specs.Places.{Watches}
+use Rattle.copy_slots.specs.SeatEnds.{Watches}
 use Rattle.slot_board.specs.Dealt.{AllFit, Waits, new_ports, seats_state, spare_role}
 use Rattle.slot_board.proofs.dealing.deal_cores.Given as goal
 

@@ -2,7 +2,7 @@ use Rattle.std.proofs.Common.{rules, arith, ◌≡◌, ◌<◌, ℕ, List, lengt
 use Rattle.copy_slots.specs.declared.view.Role.TheVariants.{Keeper}
 use Rattle.std.specs.Result.{is_ok}
 use Rattle.std.proofs.lemmas.Grind.{common_steps}
-use Rattle.copy_slots.specs.Places.{Watches}
+use Rattle.copy_slots.specs.SeatEnds.{Watches}
 use Rattle.slot_board.specs.Dealt.{AllNew}
 use Rattle.slot_board.proofs.Cutting.{new_more}
 use Rattle.slot_board.proofs.dealing.deal_mailboxes.Goals as goal

@@ -1,6 +1,6 @@
 use Rattle.std.proofs.Common.{◌≡◌, ◌≤◌, [], length, false, List}
 use Rattle.copy_slots.specs.declared.view.Role.TheVariants.{Keeper}
-use Rattle.copy_slots.specs.Places.{Watches}
+use Rattle.copy_slots.specs.SeatEnds.{Watches}
 use Rattle.slot_board.specs.Dealt.{AllNew}
 use Rattle.slot_board.proofs.dealing.deal_mailboxes.Given as goal
 

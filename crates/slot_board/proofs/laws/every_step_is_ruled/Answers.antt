@@ -1,8 +1,8 @@
 use Rattle.std.proofs.Common.{refl, map, Some}
-use Rattle.copy_slots.proofs.Mailing.{opens, collects, offers, takes_job, answers_job}
+use Rattle.copy_slots.proofs.MailLemmas.{opens, collects, offers, takes_job, answers_job}
 use Rattle.copy_slots.proofs.Dealing.{checks, stores, deals, starts}
-use Rattle.copy_slots.proofs.Ruling.{between}
-use Rattle.slot_board.proofs.Splitting.{parts, idles, merges}
+use Rattle.copy_slots.proofs.RuleLemmas.{between}
+use Rattle.slot_board.proofs.SplitLemmas.{parts, idles, merges}
 use Rattle.slot_board.proofs.laws.every_step_is_ruled.Goals as goal
 
 pub returns : goal.returns

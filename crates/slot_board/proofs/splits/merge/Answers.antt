@@ -1,8 +1,8 @@
 use Rattle.std.proofs.Common.{arith, ap, ◌∙◌}
 use Rattle.copy_slots.specs.Mail.{plain_list}
-use Rattle.copy_slots.proofs.Placing.{not_spent}
+use Rattle.copy_slots.proofs.SeatEndLemmas.{not_spent}
 use Rattle.slot_board.specs.Slots.{is_watch}
-use Rattle.slot_board.proofs.Splitting.{merges}
+use Rattle.slot_board.proofs.SplitLemmas.{merges}
 use Rattle.slot_board.proofs.splits.merge.Goals as goal
 
 pub join_seat-requires : goal.join_seat-requires

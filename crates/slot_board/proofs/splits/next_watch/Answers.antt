@@ -1,7 +1,7 @@
 use Rattle.std.proofs.Common.{arith}
 use Rattle.copy_slots.specs.Mail.{plain_list}
-use Rattle.copy_slots.proofs.Placing.{not_spent}
-use Rattle.slot_board.proofs.Splitting.{idles}
+use Rattle.copy_slots.proofs.SeatEndLemmas.{not_spent}
+use Rattle.slot_board.proofs.SplitLemmas.{idles}
 use Rattle.slot_board.proofs.splits.next_watch.Goals as goal
 
 pub split_seat-next-requires : goal.split_seat-next-requires

@@ -1,6 +1,6 @@
 use Rattle.std.proofs.Common.{arith, ap}
 use Rattle.copy_slots.specs.Mail.{plain_list, new_sender, new_taker}
-use Rattle.slot_board.proofs.Splitting.{parts}
+use Rattle.slot_board.proofs.SplitLemmas.{parts}
 use Rattle.slot_board.proofs.splits.part.Goals as goal
 
 pub split_seat-requires : goal.split_seat-requires

@@ -9,7 +9,7 @@ use Rattle.text_chains.specs.Tallies.{value_at}
 use Rattle.text_chains.specs.Peaks.{peak_by, peak_over}
 use Rattle.text_chains.specs.Views.{Settled}
 use Rattle.text_chains.proofs.Agreeing.{tallies_settle}
-use Rattle.text_chains.proofs.Peaking.{most_told}
+use Rattle.text_chains.proofs.PeakLemmas.{most_told}
 use Rattle.text_chains.proofs.peaks.most_words.Goals as goal
 
 pub peak-requires : goal.peak-requires

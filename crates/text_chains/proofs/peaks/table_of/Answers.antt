@@ -1,6 +1,6 @@
 use Rattle.std.proofs.Common.{◌∙◌, ap, get_or}
 use Rattle.loop_check.specs.Views.{text_of}
-use Rattle.forec_check.proofs.Tables.{agrees_next, none_agree, all_agree}
+use Rattle.forec_check.proofs.TableLemmas.{agrees_next, none_agree, all_agree}
 use Rattle.text_chains.specs.Tallies.{nothing, tally_at, tally_step, tally_value}
 use Rattle.text_chains.specs.Views.{value_by}
 use Rattle.text_chains.proofs.Agreeing.{tally_unknown}

@@ -2,7 +2,7 @@ use Rattle.std.proofs.Common.{◌≡◌, ◌∙◌, ◌+◌, ◌-◌, ◌^◌, m
 use Rattle.forec_tree.specs.Plain.{term, optional_term, statement, statements, branches}
 use Rattle.forec_tree.proofs.Rows.{of_group, of_for, of_abort, of_par}
 use Rattle.forec_tree.specs.Plain.{perhaps_of}
-use Rattle.text_sizes.specs.Counts.{own, own_start, own_step, optional_count, own_all, sequence_count, statement_count, term_count, branches_count}
+use Rattle.text_sizes.specs.TermCounts.{own, own_start, own_step, optional_count, own_all, sequence_count, statement_count, term_count, branches_count}
 use Rattle.text_sizes.specs.Extents.{own_at}
 use Rattle.text_sizes.proofs.Tallied.{sequence_as_near, statements_length}
 use Rattle.text_sizes.proofs.extents.+own.Goals as goal

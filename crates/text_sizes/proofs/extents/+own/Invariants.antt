@@ -1,6 +1,6 @@
 use Rattle.std.proofs.Common.{◌≡◌, ◌+◌, ◌-◌, ◌^◌, ◌≤◌, min, drop}
 use Rattle.forec_tree.specs.Plain as plain
-use Rattle.text_sizes.specs.Counts.{own_all}
+use Rattle.text_sizes.specs.TermCounts.{own_all}
 use Rattle.text_sizes.specs.Extents.{own_at}
 use Rattle.text_sizes.proofs.extents.+own.Given as goal
 

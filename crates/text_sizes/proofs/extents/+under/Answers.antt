@@ -1,7 +1,7 @@
 use Rattle.std.proofs.Common.{◌≡◌, ◌∙◌, ◌+◌, ◌-◌, ◌^◌, ℕ, min, sym, ap, arith}
 use Rattle.forec_tree.proofs.Rows.{of_group, of_abort, of_par}
 use Rattle.loop_check.proofs.Branches.{call_first, group_first}
-use Rattle.text_sizes.specs.Counts.{under, under_branches}
+use Rattle.text_sizes.specs.TermCounts.{under, under_branches}
 use Rattle.text_sizes.specs.Extents.{own_at, under_at}
 use Rattle.text_sizes.proofs.extents.+under.Goals as goal
 use Rattle.text_sizes.proofs.extents.+under.Goals.{branches_under-in-Call, branches_under-in-Group}

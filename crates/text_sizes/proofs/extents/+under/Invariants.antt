@@ -1,6 +1,6 @@
 use Rattle.std.proofs.Common.{◌≡◌, ◌+◌, ◌-◌, ◌^◌, ◌≤◌, min, drop}
 use Rattle.forec_tree.specs.Plain as plain
-use Rattle.text_sizes.specs.Counts.{under_all, under_branches}
+use Rattle.text_sizes.specs.TermCounts.{under_all, under_branches}
 use Rattle.text_sizes.specs.Extents.{own_at, under_at}
 use Rattle.text_sizes.proofs.extents.+under.Given as goal
 

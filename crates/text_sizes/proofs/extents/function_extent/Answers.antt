@@ -1,7 +1,7 @@
 use Rattle.std.proofs.Common.{◌∙◌, ◌-◌, ◌^◌, ℕ, min, sym, ap}
 use Rattle.forec_tree.specs.Plain.{statements}
 use Rattle.text_sizes.specs.declared.extents.Extent.{Extent}
-use Rattle.text_sizes.specs.Counts.{own_all, under_all, sequence_count, statement_count}
+use Rattle.text_sizes.specs.TermCounts.{own_all, under_all, sequence_count, statement_count}
 use Rattle.text_sizes.specs.Extents.{own_at, under_at, extent_at, extent_by, capped}
 use Rattle.text_sizes.proofs.extents.function_extent.Goals as goal
 

@@ -1,6 +1,6 @@
 use Rattle.std.proofs.Common.{◌∙◌, ap, get_or}
 use Rattle.loop_check.specs.Views.{text_of}
-use Rattle.forec_check.proofs.Tables.{agrees_next, none_agree, all_agree}
+use Rattle.forec_check.proofs.TableLemmas.{agrees_next, none_agree, all_agree}
 use Rattle.text_sizes.specs.Extents.{nothing, extent_at, extent_value, extent_step, capped}
 use Rattle.text_sizes.proofs.Extending.{nothing_known}
 use Rattle.text_sizes.proofs.extents.table_of.Goals as goal

@@ -1,6 +1,6 @@
 use Rattle.std.proofs.Common.{◌∙◌, ◌-◌, ◌^◌, min}
 use Rattle.forec_tree.proofs.Rows.{of_group, of_abort}
-use Rattle.text_sizes.specs.Counts.{slots}
+use Rattle.text_sizes.specs.TermCounts.{slots}
 use Rattle.text_sizes.specs.Spans.{slots_at}
 use Rattle.text_sizes.proofs.span.+slots.Goals as goal
 

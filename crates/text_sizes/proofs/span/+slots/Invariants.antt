@@ -1,6 +1,6 @@
 use Rattle.std.proofs.Common.{◌≡◌, ◌+◌, ◌-◌, ◌^◌, ◌≤◌, min, drop}
 use Rattle.forec_tree.specs.Plain as plain
-use Rattle.text_sizes.specs.Counts.{slots_all}
+use Rattle.text_sizes.specs.TermCounts.{slots_all}
 use Rattle.text_sizes.specs.Spans.{slots_at}
 use Rattle.text_sizes.proofs.span.+slots.Given as goal
 

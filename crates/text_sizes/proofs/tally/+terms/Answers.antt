@@ -1,6 +1,6 @@
 use Rattle.std.proofs.Common.{◌≡◌, ◌∙◌, ◌+◌, ◌-◌, ◌^◌, min, arith}
 use Rattle.forec_tree.specs.Plain.{terms}
-use Rattle.text_sizes.specs.Counts.{term_count, terms_count}
+use Rattle.text_sizes.specs.TermCounts.{term_count, terms_count}
 use Rattle.text_sizes.proofs.Tallied.{of_tree_call}
 use Rattle.text_sizes.proofs.tally.+terms.Goals as goal
 

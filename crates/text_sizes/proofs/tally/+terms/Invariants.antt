@@ -1,6 +1,6 @@
 use Rattle.std.proofs.Common.{◌≡◌, ◌+◌, ◌-◌, ◌^◌, ◌≤◌, min, drop}
 use Rattle.forec_tree.specs.Plain as plain
-use Rattle.text_sizes.specs.Counts as counts
+use Rattle.text_sizes.specs.TermCounts as counts
 use Rattle.text_sizes.proofs.tally.+terms.Given as goal
 
 abbrev pub invariant-all_terms-loop-e : goal.invariant-all_terms-loop-e

@@ -1,7 +1,7 @@
 use Rattle.std.proofs.Common.{◌≡◌, ◌+◌, ◌-◌, ◌^◌, suc, min, length, arith}
 use Rattle.forec_tree.specs.Plain.{terms}
 use Rattle.forec_tree.specs.Terms.{count_terms}
-use Rattle.text_sizes.specs.Counts.{sets_count}
+use Rattle.text_sizes.specs.TermCounts.{sets_count}
 use Rattle.text_sizes.proofs.Tallied.{sequence_as_near, terms_length}
 use Rattle.text_sizes.proofs.tally.call_terms.Goals as goal
 

@@ -2,7 +2,7 @@ use Rattle.std.proofs.Common.{◌≡◌, ◌∙◌, ◌+◌, ◌-◌, ◌^◌, s
 use Rattle.forec_tree.specs.declared.tree.Number.{Number}
 use Rattle.forec_tree.specs.Plain.{terms}
 use Rattle.forec_tree.specs.Terms.{count_terms}
-use Rattle.text_sizes.specs.Counts.{values_count, sequence_count, first_count}
+use Rattle.text_sizes.specs.TermCounts.{values_count, sequence_count, first_count}
 use Rattle.text_sizes.proofs.Tallied.{sequence_as_near, terms_length}
 use Rattle.text_sizes.proofs.tally.local_terms.Goals as goal
 

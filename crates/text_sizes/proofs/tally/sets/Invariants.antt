@@ -1,6 +1,6 @@
 use Rattle.std.proofs.Common.{◌≡◌, ◌+◌, ◌-◌, ◌^◌, ◌≤◌, min, drop}
 use Rattle.forec_tree.specs.Plain as plain
-use Rattle.text_sizes.specs.Counts as counts
+use Rattle.text_sizes.specs.TermCounts as counts
 use Rattle.text_sizes.proofs.tally.sets.Given as goal
 
 abbrev pub invariant-loop-e : goal.invariant-loop-e

@@ -3,7 +3,7 @@ use Rattle.forec_tree.specs.Plain.{terms}
 use Rattle.forec_tree.specs.Terms.{count_terms}
 use Rattle.forec_tree.proofs.Rows.{of_group, of_abort, of_par}
 use Rattle.loop_check.proofs.Branches.{call_first, group_first}
-use Rattle.text_sizes.specs.Counts.{slots_all}
+use Rattle.text_sizes.specs.TermCounts.{slots_all}
 use Rattle.text_sizes.specs.Spans.{most, most_branches, words_by, slots_at, widest_at}
 use Rattle.text_sizes.specs.declared.span.Span.{Span}
 use Rattle.text_sizes.proofs.widths.+widest.Goals as goal

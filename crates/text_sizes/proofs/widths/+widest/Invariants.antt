@@ -1,6 +1,6 @@
 use Rattle.std.proofs.Common.{◌≡◌, ◌-◌, ◌^◌, ◌≤◌, min, max, drop}
 use Rattle.forec_tree.specs.Plain as plain
-use Rattle.text_sizes.specs.Counts.{slots_all}
+use Rattle.text_sizes.specs.TermCounts.{slots_all}
 use Rattle.text_sizes.specs.Spans.{most_all, most_branches, words_by, slots_at, widest_at}
 use Rattle.text_sizes.proofs.widths.+widest.Given as goal
 

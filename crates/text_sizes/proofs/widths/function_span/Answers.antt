@@ -1,6 +1,6 @@
 use Rattle.std.proofs.Common.{◌∙◌, ◌-◌, ◌^◌, min, sym, ap}
 use Rattle.forec_tree.specs.Plain.{statements}
-use Rattle.text_sizes.specs.Counts.{slots_all}
+use Rattle.text_sizes.specs.TermCounts.{slots_all}
 use Rattle.text_sizes.specs.Extents.{capped}
 use Rattle.text_sizes.specs.Spans.{slots_at, widest_at, levels_at, deepest_at, span_at, span_by, most_all, block_levels, words_by, levels_by}
 use Rattle.text_sizes.proofs.Widening.{by_four}

@@ -1,6 +1,6 @@
 use Rattle.std.proofs.Common.{◌∙◌, ap, get_or}
 use Rattle.loop_check.specs.Views.{text_of}
-use Rattle.forec_check.proofs.Tables.{agrees_next, none_agree, all_agree}
+use Rattle.forec_check.proofs.TableLemmas.{agrees_next, none_agree, all_agree}
 use Rattle.text_sizes.specs.Extents.{capped}
 use Rattle.text_sizes.specs.Spans.{no_span, span_at, span_value, span_step}
 use Rattle.text_sizes.proofs.Widening.{span_unknown}

@@ -7,7 +7,7 @@ use Rattle.trace_runs.specs.Report.{Report}
 use Rattle.trace_runs.specs.WaitingRoom.{HasRoom}
 use Rattle.trace_runs.specs.Workload.{workload_line}
 use Rattle.trace_runs.specs.declared.waiting.Waiting.{Waiting}
-use Rattle.trace_runs.proofs.Ticking.{gone_none, gone_more, stopped, number, total_is, ended, same_outcome, same_outputs, same_state, gains_report}
+use Rattle.trace_runs.proofs.TickingLemmas.{gone_none, gone_more, stopped, number, total_is, ended, same_outcome, same_outputs, same_state, gains_report}
 use Rattle.trace_runs.proofs.generated.run_workload.Goals as goal
 
 pub loop-tick-init : goal.loop-tick-init

@@ -1,6 +1,6 @@
 use Rattle.std.proofs.Common.{◌≡◌, true, length}
 use Rattle.trace_runs.specs.Workload.{zero_row}
-use Rattle.trace_runs.proofs.Ticking.{Gone}
+use Rattle.trace_runs.proofs.TickingLemmas.{Gone}
 use Rattle.trace_runs.proofs.generated.run_workload.Given as goal
 
 abbrev pub invariant-loop-tick : goal.invariant-loop-tick

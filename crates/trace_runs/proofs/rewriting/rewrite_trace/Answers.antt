@@ -1,5 +1,5 @@
 use Rattle.std.proofs.Common.{[]}
-use Rattle.trace_rows.specs.Reads.{none}
+use Rattle.trace_rows.specs.SourceReads.{none}
 use Rattle.trace_runs.proofs.rewriting.rewrite_trace.Goals as goal
 
 pub returns-in_default-clause-trace : goal.returns-in_default-clause-trace

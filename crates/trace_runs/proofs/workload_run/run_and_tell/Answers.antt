@@ -1,5 +1,5 @@
 use Rattle.std.proofs.Common.{refl}
-use Rattle.trace_runs.proofs.Ticking.{workload_given, workload_front}
+use Rattle.trace_runs.proofs.TickingLemmas.{workload_given, workload_front}
 use Rattle.trace_runs.proofs.workload_run.run_and_tell.Goals as goal
 
 pub returns-clause-own : goal.returns-clause-own

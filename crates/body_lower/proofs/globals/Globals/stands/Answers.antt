@@ -5,7 +5,7 @@ use Rattle.forec_tree.specs.declared.tree.Item.{Item}
 use Rattle.forec_tree.specs.Plain.{plain_item, plain_global}
 use Rattle.loop_check.specs.Views.{text_of}
 use Rattle.text_kernel.specs.Bindings.{item_stands}
-use Rattle.body_lower.proofs.Numbered.{global_is}
+use Rattle.body_lower.proofs.NumberingLemmas.{global_is}
 use Rattle.body_lower.proofs.globals.Globals.stands.Goals as goal
 
 pub returns-in-Some-Global : goal.returns-in-Some-Global

@@ -1,6 +1,6 @@
 use Rattle.std.proofs.Common.{◌≡◌, ◌∙◌, ap, subst, ◌++◌, ◌∷◌, [], arith}
 use Rattle.body_lower.specs.Trail.{last_of, Chained}
-use Rattle.body_lower.proofs.Trailed.{popped, chained_pop, has_place}
+use Rattle.body_lower.proofs.TrailLemmas.{popped, chained_pop, has_place}
 use Rattle.body_lower.proofs.trail.Trail.pop.Goals as goal
 
 pub invariant_of-self : goal.invariant_of-self

@@ -1,7 +1,7 @@
 use Rattle.std.proofs.Common.{◌≡◌, ◌∙◌, ◌+◌, sym, ap, subst, ℕ, length, get_or, ◌++◌, ◌∷◌, [], arith}
 use Rattle.body_lower.specs.declared.trail.Link.{Link}
 use Rattle.body_lower.specs.Trail.{last_of, Chained, pushed}
-use Rattle.body_lower.proofs.Trailed.{chained_push, latest_push}
+use Rattle.body_lower.proofs.TrailLemmas.{chained_push, latest_push}
 use Rattle.body_lower.proofs.trail.Trail.push.Goals as goal
 
 pub invariant_of-self-in_default : goal.invariant_of-self-in_default

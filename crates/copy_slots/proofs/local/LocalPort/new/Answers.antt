@@ -2,7 +2,7 @@ use Rattle.std.proofs.Common.{rules, arith, ◌≡◌, ◌<◌, ◌^◌, ℕ, Li
 use Rattle.std.proofs.lemmas.Grind.{common_steps}
 use lib.ListN.{length-map}
 use Rattle.copy_slots.specs.declared.view.Role.TheVariants.{Keeper}
-use Rattle.copy_slots.specs.Places.{IsBoard, Watches}
+use Rattle.copy_slots.specs.SeatEnds.{IsBoard, Watches}
 use Rattle.copy_slots.specs.Fresh.{AllFresh, AllSit}
 use Rattle.copy_slots.specs.Ports.{root_of, local_state}
 use Rattle.copy_slots.proofs.Seating.{fresh_sits, fresh_state, rewatches}

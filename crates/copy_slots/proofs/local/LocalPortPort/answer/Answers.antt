@@ -1,9 +1,9 @@
 use Rattle.std.proofs.Common.{arith, ◌<◌, ◌^◌, length, Some, true, sym, subst, length-set}
 use Rattle.copy_slots.specs.declared.both.BothEnds.{BothEnds}
 use Rattle.copy_slots.specs.Mail.{taker_answered}
-use Rattle.copy_slots.specs.Places.{IsBoard}
+use Rattle.copy_slots.specs.SeatEnds.{IsBoard}
 use Rattle.copy_slots.specs.Ports.{IsChild, sender_in, taker_in, taken_by}
-use Rattle.copy_slots.proofs.Placing.{role_is}
+use Rattle.copy_slots.proofs.SeatEndLemmas.{role_is}
 use Rattle.copy_slots.proofs.Seating.{at_index, child_inside, child_is, child_state, resits}
 use Rattle.copy_slots.proofs.local.LocalPortPort.answer.Goals as goal
 

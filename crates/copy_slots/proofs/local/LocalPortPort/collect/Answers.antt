@@ -1,12 +1,12 @@
 use Rattle.std.proofs.Common.{arith, ◌≡◌, ◌<◌, ◌^◌, length, Some, sym, ◌∙◌, subst, length-set}
 use Rattle.copy_slots.specs.declared.view.PacketAt.TheVariants.{Out}
 use Rattle.copy_slots.specs.declared.both.BothEnds.{BothEnds}
-use Rattle.copy_slots.specs.Places.{IsBoard}
+use Rattle.copy_slots.specs.SeatEnds.{IsBoard}
 use Rattle.copy_slots.specs.Ports.{IsParent, sender_in, taker_in, sender_seen, sent_by, turn_of}
-use Rattle.copy_slots.proofs.Placing.{role_is}
+use Rattle.copy_slots.proofs.SeatEndLemmas.{role_is}
 use Rattle.std.proofs.lemmas.Option.{IfSome_then}
 use Rattle.copy_slots.specs.Ports.{in_plain}
-use Rattle.copy_slots.proofs.Porting.{match_then}
+use Rattle.copy_slots.proofs.PortLemmas.{match_then}
 use Rattle.copy_slots.proofs.Seating.{at_index, parent_inside, parent_is, child_is, parent_state, resits}
 use Rattle.copy_slots.proofs.local.LocalPortPort.collect.Goals as goal
 

@@ -2,9 +2,9 @@ use Rattle.std.proofs.Common.{arith, ◌<◌, ◌^◌, ◌++◌, ◌∷◌, [], 
 use Rattle.copy_slots.specs.declared.view.PacketAt.TheVariants.{Held}
 use Rattle.copy_slots.specs.declared.both.BothEnds.{BothEnds}
 use Rattle.copy_slots.specs.Mail.{sender_sent}
-use Rattle.copy_slots.specs.Places.{IsBoard}
+use Rattle.copy_slots.specs.SeatEnds.{IsBoard}
 use Rattle.copy_slots.specs.Ports.{IsParent, sender_in, taker_in, sent_by}
-use Rattle.copy_slots.proofs.Placing.{role_is}
+use Rattle.copy_slots.proofs.SeatEndLemmas.{role_is}
 use Rattle.copy_slots.proofs.Seating.{at_index, parent_inside, parent_is, parent_state, resits}
 use Rattle.copy_slots.proofs.local.LocalPortPort.offer.Goals as goal
 

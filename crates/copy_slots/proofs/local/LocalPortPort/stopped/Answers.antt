@@ -1,7 +1,7 @@
 use Rattle.std.proofs.Common.{map, sym, ap, ◌∙◌, subst}
 use Rattle.copy_slots.specs.Mail.{role_checked}
 use Rattle.copy_slots.specs.Ports.{root_of, stored_of, local_state, stop_word}
-use Rattle.copy_slots.specs.Places.{Watches}
+use Rattle.copy_slots.specs.SeatEnds.{Watches}
 use Rattle.copy_slots.specs.Fresh.{AllSit}
 use Rattle.copy_slots.proofs.Seating.{root_checked, keeper_is, checked_state, rewatches}
 use Rattle.copy_slots.proofs.local.LocalPortPort.stopped.Goals as goal

@@ -1,11 +1,11 @@
 use Rattle.std.proofs.Common.{arith, ◌<◌, ◌^◌, length, set, Some, false, sym, ap, subst, length-set}
 use Rattle.copy_slots.specs.declared.both.BothEnds.{BothEnds}
-use Rattle.copy_slots.specs.Places.{IsBoard}
+use Rattle.copy_slots.specs.SeatEnds.{IsBoard}
 use Rattle.copy_slots.specs.Ports.{IsChild, sender_in, taker_in, taker_seen, sent_by, taken_by, turn_of}
-use Rattle.copy_slots.proofs.Placing.{role_is}
+use Rattle.copy_slots.proofs.SeatEndLemmas.{role_is}
 use Rattle.std.proofs.lemmas.Option.{IfSome_then}
 use Rattle.copy_slots.specs.Ports.{in_plain}
-use Rattle.copy_slots.proofs.Porting.{job_then, turn_then, set_at}
+use Rattle.copy_slots.proofs.PortLemmas.{job_then, turn_then, set_at}
 use Rattle.copy_slots.proofs.Seating.{at_index, child_inside, parent_is, child_is, child_state, resits}
 use Rattle.copy_slots.proofs.local.LocalPortPort.take.Goals as goal
 

@@ -3,7 +3,7 @@ use Rattle.copy_slots.specs.Ports.{ChildIs}
 use Rattle.core_host.specs.Hosted.{Hosted, code_of}
 use Rattle.core_host.specs.Posts.{HasPostedTaken}
 use Rattle.core_host.proofs.TickRun.{root_posted, idle_posted}
-use Rattle.core_host.proofs.Hosting.{idle_between}
+use Rattle.core_host.proofs.HostedLemmas.{idle_between}
 use Rattle.core_host.proofs.host.Host.posts.Goals as goal
 
 pub returns-clause-root : goal.returns-clause-root

@@ -2,8 +2,8 @@ use Rattle.std.proofs.Common.{[], ◌∷◌, ◌++◌, refl, sym, ap, ◌∙◌,
 use Rattle.copy_slots.specs.Ports.{stop_word}
 use Rattle.core_host.specs.Hosted.{Hosted}
 use Rattle.core_host.specs.Hung.{KeepsRope}
-use Rattle.core_host.proofs.Hosting.{rope_same, rope_then}
-use Rattle.core_host.proofs.Keep.{grown_same, grown_then}
+use Rattle.core_host.proofs.HostedLemmas.{rope_same, rope_then}
+use Rattle.core_host.proofs.KeepingLemmas.{grown_same, grown_then}
 use Rattle.core_host.proofs.host.Host.run.Goals as goal
 
 pub loop-init : goal.loop-init

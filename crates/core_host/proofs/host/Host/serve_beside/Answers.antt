@@ -1,7 +1,7 @@
 use Rattle.std.proofs.Common.{◌≡◌, ◌<◌, suc, true, length, sym, subst}
 use Rattle.core_host.specs.Changes.{HasProgressed, IsIdle}
 use Rattle.core_host.specs.Hosted.{Hosted, code_of, is_here}
-use Rattle.core_host.proofs.Hosting.{served_hosted, each_between, its_own, where_own}
+use Rattle.core_host.proofs.HostedLemmas.{served_hosted, each_between, its_own, where_own}
 use Rattle.core_host.proofs.host.Host.serve_beside.Goals as goal
 
 pub serve_sweep-requires-clause-round : goal.serve_sweep-requires-clause-round

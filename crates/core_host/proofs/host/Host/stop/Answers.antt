@@ -6,8 +6,8 @@ use Rattle.core_host.specs.Serving.{KeepsServing}
 use Rattle.core_host.specs.Hosted.{Hosted, hosted, is_here}
 use Rattle.core_host.specs.Runs.{HasJobs, HasRun}
 use Rattle.core_host.proofs.Mails.{extends_same}
-use Rattle.core_host.proofs.Serves.{keeps_watch}
-use Rattle.core_host.proofs.Hosting.{jobs_keep, run_keeps, served_hosted, rope_same}
+use Rattle.core_host.proofs.ServingLemmas.{keeps_watch}
+use Rattle.core_host.proofs.HostedLemmas.{jobs_keep, run_keeps, served_hosted, rope_same}
 use Rattle.core_host.proofs.host.Host.stop.Goals as goal
 
 pub stop-requires : goal.stop-requires

@@ -5,8 +5,8 @@ use Rattle.core_host.specs.Keeping.{State}
 use Rattle.core_host.specs.Serving.{KeepsServing}
 use Rattle.core_host.specs.Hosted.{Hosted, hosted}
 use Rattle.core_host.proofs.Mails.{extends_one}
-use Rattle.core_host.proofs.Serves.{keeps_watch}
-use Rattle.core_host.proofs.Hosting.{served_hosted, rope_same}
+use Rattle.core_host.proofs.ServingLemmas.{keeps_watch}
+use Rattle.core_host.proofs.HostedLemmas.{served_hosted, rope_same}
 use Rattle.core_host.proofs.host.Host.stopped.Goals as goal
 
 pub invariant_of-self : goal.invariant_of-self

@@ -4,14 +4,14 @@ use Rattle.std.proofs.Math.Facts.{Fits-of_lt}
 use Rattle.thread_code.specs.declared.instruction.CodeParts.{CodeParts}
 use Rattle.thread_code.specs.Plain.{plain_code}
 use Rattle.thread_code.specs.Alone.{block_of}
-use Rattle.core_machine.specs.Held.{Loaded, StandsFor, Left_by, CanBegin}
+use Rattle.core_machine.specs.Threads.{Loaded, StandsFor, Left_by, CanBegin}
 use Rattle.forec_kernel.specs.Packed.{HasRoom, IsJob}
 use Rattle.thread_code.specs.Valid.{of_shape}
 use Rattle.combine_tree.specs.declared.packet.Packet.{Packet}
 use Rattle.combine_tree.specs.Plain.{plain_packet}
 use Rattle.core_machine.specs.Forks.{jobs_at}
 use Rattle.core_host.specs.Keeping.{State, code_in, QuietAbove, Leaves, HaveHeard}
-use Rattle.core_host.proofs.Keep.{leaves_same, leaves_then, fitted_keeps}
+use Rattle.core_host.proofs.KeepingLemmas.{leaves_same, leaves_then, fitted_keeps}
 use Rattle.core_host.proofs.Hearing.{past_end}
 use Rattle.core_host.proofs.ChildrenRunLemmas.{consulted_none, some_number, fitted_b, above_m, inside_m, can_send, some_packet, is_called, sent_above, consulted_more, have_heard}
 use Rattle.core_host.proofs.Finishing.{fits_forks, replied_by, job_runs, allowance_is, at_fork, some_at, bound, next}

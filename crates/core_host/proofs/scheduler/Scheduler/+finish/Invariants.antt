@@ -1,7 +1,7 @@
 use Rattle.std.proofs.Common.{◌≡◌, ◌+◌, ◌-◌, ◌*◌, List, length}
 use Rattle.forec_kernel.specs.Engine.{Job, allowance_of}
 use Rattle.thread_code.specs.Alone.{block_of}
-use Rattle.core_machine.specs.Held.{Loaded, CanRun}
+use Rattle.core_machine.specs.Threads.{Loaded, CanRun}
 use Rattle.core_host.specs.Done.{InJob}
 use Rattle.core_host.specs.Keeping.{code_in, QuietAbove, Leaves}
 use Rattle.core_host.specs.ChildrenRun.{Consulted}

@@ -1,14 +1,14 @@
 use Rattle.std.proofs.Common.{rules, ◌<◌, ◌≤◌, ◌+◌, ◌-◌, ◌*◌, suc, length, refl, sym, ap, ◌∙◌, subst, arith}
 use Rattle.std.specs.Prelude.{slice_index_or}
 use Rattle.std.proofs.lemmas.Option.{slice_get_within}
-use Rattle.core_machine.specs.Held.{CanRun, Left_by}
+use Rattle.core_machine.specs.Threads.{CanRun, Left_by}
 use Rattle.core_host.specs.Posts.{Mail}
 use Rattle.core_host.specs.Changes.{HasProgressed}
 use Rattle.core_host.specs.Keeping.{State, code_in, HaveHeard}
 use Rattle.core_host.specs.Waiting.{CanDescend}
 use Rattle.core_host.proofs.Finishing.{replied_by}
 use Rattle.core_host.proofs.Seats.{can_above, it_sits}
-use Rattle.core_host.proofs.Descending.{never, descends_same, descends_then, descends_less, descends_seated, descends_can, branch_at, kept_same, kept_then, runs, the_fork, told_so_far, forked_there, s1_seated, s1_can, s2_seated, still_gathers, s3_descends, waits_still, has_sent, has_all, has_heard, works_on, sent_since, starts, starts_at, finishes, held_on, back_descends, gains_more, taken_up, taken_can, served_whole, served_worked, not_taken}
+use Rattle.core_host.proofs.DescendingLemmas.{never, descends_same, descends_then, descends_less, descends_seated, descends_can, branch_at, kept_same, kept_then, runs, the_fork, told_so_far, forked_there, s1_seated, s1_can, s2_seated, still_gathers, s3_descends, waits_still, has_sent, has_all, has_heard, works_on, sent_since, starts, starts_at, finishes, held_on, back_descends, gains_more, taken_up, taken_can, served_whole, served_worked, not_taken}
 use Rattle.core_host.proofs.scheduler.Scheduler.+serve_down.Goals as goal
 
 -- ---- serve_branches

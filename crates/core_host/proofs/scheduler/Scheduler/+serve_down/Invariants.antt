@@ -1,5 +1,5 @@
 use Rattle.std.proofs.Common.{◌≡◌, ℕ, suc, ◌+◌, ◌-◌, ◌*◌, length}
-use Rattle.core_machine.specs.Held.{Loaded, CanRun}
+use Rattle.core_machine.specs.Threads.{Loaded, CanRun}
 use Rattle.core_host.specs.Descending.{Descends, KeepsRound}
 use Rattle.core_host.specs.Keeping.{code_in}
 use Rattle.core_host.specs.Waiting.{IsWorking}

@@ -1,5 +1,5 @@
 use Rattle.std.proofs.Common.{sym, ap, subst}
-use Rattle.core_machine.specs.Held.{Left_by}
+use Rattle.core_machine.specs.Threads.{Left_by}
 use Rattle.core_host.specs.Posts.{Mail}
 use Rattle.core_host.specs.Changes.{HasWorked}
 use Rattle.core_host.specs.Keeping.{State, code_in}

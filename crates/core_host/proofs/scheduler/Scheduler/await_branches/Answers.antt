@@ -2,8 +2,8 @@ use Rattle.std.proofs.Common.{refl, sym, subst}
 use Rattle.core_host.specs.Descending.{Descends}
 use Rattle.core_host.specs.Waiting.{CanDescend}
 use Rattle.core_host.proofs.Beside.{others_then, others_seated, branches_others, round_others}
-use Rattle.core_host.proofs.Descending.{descends_seated, descends_others, leaves_gathering, kept_round}
-use Rattle.core_host.proofs.Hosting.{round_then}
+use Rattle.core_host.proofs.DescendingLemmas.{descends_seated, descends_others, leaves_gathering, kept_round}
+use Rattle.core_host.proofs.HostedLemmas.{round_then}
 use Rattle.core_host.proofs.scheduler.Scheduler.await_branches.Goals as goal
 
 pub serve_branches-requires-clause-forked : goal.serve_branches-requires-clause-forked

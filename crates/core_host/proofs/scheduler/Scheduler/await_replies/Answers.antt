@@ -1,6 +1,6 @@
-use Rattle.core_host.proofs.Serves.{keeps_seated}
+use Rattle.core_host.proofs.ServingLemmas.{keeps_seated}
 use Rattle.core_host.proofs.Beside.{others_same, others_then, others_seated, serving_others, branches_others, round_others, serving_gathering}
-use Rattle.core_host.proofs.Hosting.{round_same, round_then}
+use Rattle.core_host.proofs.HostedLemmas.{round_same, round_then}
 use Rattle.core_host.proofs.scheduler.Scheduler.await_replies.Goals as goal
 
 pub loop-init : goal.loop-init

@@ -7,7 +7,7 @@ use Rattle.copy_slots.specs.Mail.{sender_got, sender_looked}
 use Rattle.copy_slots.specs.Ports.{sent}
 use Rattle.core_host.specs.Asking.{Replies}
 use Rattle.core_host.specs.Keeping.{State, code_in}
-use Rattle.core_host.specs.Moving.{MovesPacket, HasGot, HasLooked}
+use Rattle.core_host.specs.Moving.{ChangesPacket, HasGot, HasLooked}
 use Rattle.core_host.proofs.Mails.{state, with_parent}
 use Rattle.core_host.proofs.Send.{got_moves, has_got, looked_moves, has_looked}
 use Rattle.core_host.proofs.scheduler.Scheduler.collect.Goals as goal
@@ -29,7 +29,7 @@ replies g c =
 
 pub returns-in-Some-clause-moves : goal.returns-in-Some-clause-moves
 returns-in-Some-clause-moves g c =
-    subst (MovesPacket c.args.mailbox c.args.self.now) (sym (now_is g c))
+    subst (ChangesPacket c.args.mailbox c.args.self.now) (sym (now_is g c))
     (got_moves c.args.self.now c.args.mailbox c.requires.seated c.requires.inside c.requires.lacks c.in-Some.packet (replies g c))
 
 pub returns-in-Some-clause-there : goal.returns-in-Some-clause-there
@@ -47,7 +47,7 @@ missed_is g c =
 
 pub returns-in-None-clause-moves : goal.returns-in-None-clause-moves
 returns-in-None-clause-moves g c =
-    subst (MovesPacket c.args.mailbox c.args.self.now) (sym (missed_is g c)) (looked_moves c.args.self.now c.args.mailbox c.requires.seated c.requires.inside c.requires.lacks)
+    subst (ChangesPacket c.args.mailbox c.args.self.now) (sym (missed_is g c)) (looked_moves c.args.self.now c.args.mailbox c.requires.seated c.requires.inside c.requires.lacks)
 
 pub returns-in-None-clause-awaited : goal.returns-in-None-clause-awaited
 returns-in-None-clause-awaited g c _ =

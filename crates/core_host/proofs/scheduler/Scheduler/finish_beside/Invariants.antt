@@ -1,6 +1,6 @@
 use Rattle.std.proofs.Common.{◌≡◌, List}
 use Rattle.forec_kernel.specs.Engine.{Job}
-use Rattle.core_machine.specs.Held.{Loaded, CanRun}
+use Rattle.core_machine.specs.Threads.{Loaded, CanRun}
 use Rattle.core_host.specs.Keeping.{code_in}
 use Rattle.core_host.specs.Rounds.{IsSameRound}
 use Rattle.core_host.specs.OnJob.{IsOnJob, KeepsOthers}

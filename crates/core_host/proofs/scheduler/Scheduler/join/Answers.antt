@@ -4,7 +4,7 @@ use Rattle.std.proofs.lemmas.Option.{slice_get_within, get_or_from_slice_get}
 use Rattle.thread_code.specs.declared.instruction.CodeParts.{CodeParts}
 use Rattle.thread_code.specs.Plain.{plain_code}
 use Rattle.combine_tree.specs.Plain.{plain_packet}
-use Rattle.core_machine.specs.Held.{Loaded, StandsFor}
+use Rattle.core_machine.specs.Threads.{Loaded, StandsFor}
 use Rattle.core_machine.specs.Forks.{with_replies, branch_at}
 use Rattle.forec_kernel.specs.Packed.{HasRoom, IsReply}
 use Rattle.combine_tree.specs.declared.packet.Packet.{Packet}

@@ -1,6 +1,6 @@
 use Rattle.std.proofs.Common.{◌≡◌, ◌<◌, ◌≤◌, ◌-◌, List, length}
 use Rattle.forec_kernel.specs.Engine.{Reply, Exchange}
-use Rattle.core_machine.specs.Held.{Loaded, StandsFor, HasJoined, CanRun}
+use Rattle.core_machine.specs.Threads.{Loaded, StandsFor, HasJoined, CanRun}
 use Rattle.core_machine.specs.Forks.{with_replies}
 use Rattle.core_host.specs.Keeping.{code_in, HaveHeard}
 use Rattle.core_host.proofs.scheduler.Scheduler.join.Given as goal

@@ -7,7 +7,7 @@ use Rattle.combine_tree.specs.Plain.{plain_packet}
 use Rattle.copy_slots.specs.declared.view.PacketAt.TheVariants.{Held}
 use Rattle.copy_slots.specs.Ports.{ParentIs, sent, got}
 use Rattle.core_host.specs.Keeping.{State}
-use Rattle.core_host.specs.Moving.{MovesPacket}
+use Rattle.core_host.specs.Moving.{ChangesPacket}
 use Rattle.std.specs.Prelude.{slice_index_or, slice_set, slice_get}
 use Rattle.copy_slots.specs.Mail.{sender_opened}
 use Rattle.copy_slots.specs.Ports.{after_first}
@@ -22,7 +22,7 @@ handed_is hands code places mail seats s k now view none =
 
 pub returns-in-Some-clause-moves : goal.returns-in-Some-clause-moves
 returns-in-Some-clause-moves g c =
-    subst (MovesPacket c.args.mailbox c.args.self.now)
+    subst (ChangesPacket c.args.mailbox c.args.self.now)
     (sym (handed_is c.self.inside.hands.items c.self.inside.code.now c.self.inside.places.items (g.P.Port.state c.self.inside.port) c.self.inside.seats.items c.args.self.now c.args.mailbox c.take.new.self c.self.view_is c.take.ensures.after))
     (handed_moves c.args.self.now c.args.mailbox)
 
@@ -56,7 +56,7 @@ now_is g c =
 
 pub returns-in-None-clause-moves : goal.returns-in-None-clause-moves
 returns-in-None-clause-moves g c =
-    subst (MovesPacket c.args.mailbox c.args.self.now) (sym (now_is g c))
+    subst (ChangesPacket c.args.mailbox c.args.self.now) (sym (now_is g c))
     (opened_moves c.args.self.now c.args.mailbox c.requires.seated c.requires.inside c.requires.has c.index_mut.result.now (hand_is g c) (gone g c))
 
 pub returns-in-None-clause-held : goal.returns-in-None-clause-held

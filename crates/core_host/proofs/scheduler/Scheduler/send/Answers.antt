@@ -10,7 +10,7 @@ use Rattle.copy_slots.specs.Ports.{sent}
 use Rattle.core_machine.specs.Forks.{jobs_at, branch_at}
 use Rattle.core_host.specs.Asking.{Asks}
 use Rattle.core_host.specs.Keeping.{State, code_in, LacksPacket}
-use Rattle.core_host.specs.Moving.{MovesPacket, HasSent}
+use Rattle.core_host.specs.Moving.{ChangesPacket, HasSent}
 use Rattle.core_host.proofs.Mails.{state, with_parent}
 use Rattle.core_host.proofs.Send.{asks_now, sent_moves, sent_lacks, has_sent}
 use Rattle.core_host.proofs.scheduler.Scheduler.send.Goals as goal
@@ -43,7 +43,7 @@ now_is g c =
 
 pub returns-clause-moves : goal.returns-clause-moves
 returns-clause-moves g c =
-    subst (MovesPacket c.args.mailbox c.args.self.now) (sym (now_is g c))
+    subst (ChangesPacket c.args.mailbox c.args.self.now) (sym (now_is g c))
     (sent_moves c.args.self.now c.packet-packet.new.self c.args.mailbox c.packet-packet.ensures.moves c.packet-packet.ensures.held c.packet-packet.ensures.empty c.packet-packet.ensures.sent
     c.packet-packet.ensures.got (plain_packet c.job.new.packet))
 

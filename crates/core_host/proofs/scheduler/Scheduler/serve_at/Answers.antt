@@ -4,9 +4,9 @@ use Rattle.core_host.specs.Changes.{IsIdle}
 use Rattle.core_host.specs.Keeping.{code_in}
 use Rattle.core_host.proofs.Mails.{some_once}
 use Rattle.core_host.proofs.Seats.{can_above}
-use Rattle.core_host.proofs.Serves.{missed_one}
-use Rattle.core_host.proofs.Descending.{keeps_down, kept_round}
-use Rattle.core_host.proofs.Hosting.{its_turn, round_then, round_moved}
+use Rattle.core_host.proofs.ServingLemmas.{missed_one}
+use Rattle.core_host.proofs.DescendingLemmas.{keeps_down, kept_round}
+use Rattle.core_host.proofs.HostedLemmas.{its_turn, round_then, round_moved}
 use Rattle.core_host.proofs.scheduler.Scheduler.serve_at.Goals as goal
 
 pub serve_down-requires-clause-inside : goal.serve_down-requires-clause-inside

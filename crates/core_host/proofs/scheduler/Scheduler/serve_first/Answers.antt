@@ -7,7 +7,7 @@ use Rattle.core_host.specs.Changes.{HasWorked}
 use Rattle.core_host.specs.Keeping.{code_in}
 use Rattle.core_host.proofs.Mails.{some_once}
 use Rattle.core_host.proofs.Beginning.{worked_from}
-use Rattle.core_host.proofs.Serves.{HasMissedFirst, missed_none, missed_more, keeps_one, keeps_then, keeps_seated}
+use Rattle.core_host.proofs.ServingLemmas.{HasMissedFirst, missed_none, missed_more, keeps_one, keeps_then, keeps_seated}
 use Rattle.core_host.proofs.scheduler.Scheduler.serve_first.Goals as goal
 
 pub loop-i-init : goal.loop-i-init

@@ -1,4 +1,4 @@
-use Rattle.core_host.proofs.Serves.{HasMissedFirst}
+use Rattle.core_host.proofs.ServingLemmas.{HasMissedFirst}
 use Rattle.core_host.proofs.scheduler.Scheduler.serve_first.Given as goal
 
 abbrev pub invariant-loop-i : goal.invariant-loop-i

@@ -1,6 +1,6 @@
 use Rattle.std.proofs.Common.{ap, ◌∙◌}
-use Rattle.core_host.proofs.Serves.{keeps_same, keeps_then, keeps_seated}
-use Rattle.core_host.proofs.Hosting.{round_same, round_then, round_still, round_moved}
+use Rattle.core_host.proofs.ServingLemmas.{keeps_same, keeps_then, keeps_seated}
+use Rattle.core_host.proofs.HostedLemmas.{round_same, round_then, round_still, round_moved}
 use Rattle.core_host.proofs.Sweeping.{found_none, found_more, found_in}
 use Rattle.core_host.proofs.scheduler.Scheduler.serve_hinted.Goals as goal
 

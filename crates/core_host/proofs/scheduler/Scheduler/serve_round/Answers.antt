@@ -6,7 +6,7 @@ use Rattle.thread_code.specs.Plain.{plain_code}
 use Rattle.core_host.specs.Changes.{HasWorked, IsIdle}
 use Rattle.core_host.specs.Keeping.{code_in}
 use Rattle.core_host.proofs.Beginning.{worked_from}
-use Rattle.core_host.proofs.Serves.{keeps_then, keeps_seated, idle_from, got_behind, got_front, get_behind, get_front, some_both}
+use Rattle.core_host.proofs.ServingLemmas.{keeps_then, keeps_seated, idle_from, got_behind, got_front, get_behind, get_front, some_both}
 use Rattle.core_host.proofs.scheduler.Scheduler.serve_round.Goals as goal
 
 pub serve_first-requires-clause-each : goal.serve_first-requires-clause-each

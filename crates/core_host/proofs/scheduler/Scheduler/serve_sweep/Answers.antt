@@ -1,7 +1,7 @@
 use Rattle.std.proofs.Common.{subst}
 use Rattle.core_host.specs.Rounds.{SomeWorked, AllIdle}
-use Rattle.core_host.proofs.Serves.{keeps_then, keeps_seated}
-use Rattle.core_host.proofs.Hosting.{round_then, round_still}
+use Rattle.core_host.proofs.ServingLemmas.{keeps_then, keeps_seated}
+use Rattle.core_host.proofs.HostedLemmas.{round_then, round_still}
 use Rattle.core_host.proofs.Sweeping.{some_then, some_from, idle_after}
 use Rattle.core_host.proofs.scheduler.Scheduler.serve_sweep.Goals as goal
 

@@ -3,7 +3,7 @@ use Rattle.std.specs.Prelude.{slice_index_or}
 use Rattle.std.proofs.lemmas.Option.{slice_get_within}
 use Rattle.thread_code.specs.declared.instruction.CodeParts.{CodeParts}
 use Rattle.thread_code.specs.Plain.{plain_code}
-use Rattle.core_machine.specs.Held.{Loaded, StandsFor, HasSettled}
+use Rattle.core_machine.specs.Threads.{Loaded, StandsFor, HasSettled}
 use Rattle.core_machine.specs.Forks.{with_replies, IsReplyKind}
 use Rattle.forec_kernel.specs.Packed.{IsReply}
 use Rattle.combine_tree.specs.declared.packet.Packet.{Packet}

@@ -1,7 +1,7 @@
 use Rattle.std.proofs.Common.{rules, ◌≡◌, length, ap, ◌∙◌, arith}
 use Rattle.std.specs.Prelude.{slice_get}
-use Rattle.core_host.proofs.Serves.{keeps_same, keeps_then, keeps_seated}
-use Rattle.core_host.proofs.Hosting.{round_same, round_then, round_still}
+use Rattle.core_host.proofs.ServingLemmas.{keeps_same, keeps_then, keeps_seated}
+use Rattle.core_host.proofs.HostedLemmas.{round_same, round_then, round_still}
 use Rattle.core_host.proofs.Sweeping.{swept_none, swept_more, swept_all, found_in}
 use Rattle.core_host.proofs.scheduler.Scheduler.sweep.Goals as goal
 
@@ -19,11 +19,11 @@ loop-k-preserved g c = record {
   keeps = keeps_then c.args.self.now c.loop-k.self c.serve_at-found.new.self c.loop-k.invariant.keeps c.serve_at-found.ensures.keeps;
   round = round_then c.args.round.now c.loop-k.round c.serve_at-found.new.round c.loop-k.invariant.round c.serve_at-found.ensures.round;
   swept =
-      swept_more c.args.round.now.own.items c.args.self.now c.loop-k.self c.serve_at-found.new.self c.loop-k.found c.serve_at-found.result c.args.round.now.up c.loop-k.k c.place_of.result c.loop-k.invariant.keeps c.serve_at-found.ensures.keeps
+      swept_more c.args.round.now.own.items c.args.self.now c.loop-k.self c.serve_at-found.new.self c.loop-k.found c.serve_at-found.result c.args.round.now.up c.loop-k.k c.index_at.result c.loop-k.invariant.keeps c.serve_at-found.ensures.keeps
       c.loop-k.invariant.swept
       (found_in c.loop-k.round.own.items c.args.round.now.own.items c.loop-k.self c.serve_at-found.new.self c.serve_at-found.result c.loop-k.invariant.round.own
       (record { worked = c.serve_at-found.ensures.worked; missed = c.serve_at-found.ensures.missed }))
-      (λ e k at. c.serve_at-found.ensures.idle e k (ap (λ l. slice_get l c.place_of.result) c.loop-k.invariant.round.own ∙ at)) c.place_of.ensures.up (λ down. let d = c.place_of.ensures.down down in omega (arith, d, c.len-count.ensures, c.args.round.now.own.ok.0));
+      (λ e k at. c.serve_at-found.ensures.idle e k (ap (λ l. slice_get l c.index_at.result) c.loop-k.invariant.round.own ∙ at)) c.index_at.ensures.up (λ down. let d = c.index_at.ensures.down down in omega (arith, d, c.len-count.ensures, c.args.round.now.own.ok.0));
 }
 
 pub returns-clause-idle : goal.returns-clause-idle

@@ -6,7 +6,7 @@ use Rattle.thread_code.specs.Plain.{plain_code}
 use Rattle.thread_code.specs.Valid.{of_shape}
 use Rattle.combine_tree.specs.Plain.{plain_packet}
 use Rattle.core_machine.specs.declared.thread.Thread.{Thread}
-use Rattle.core_machine.specs.Held.{Loaded, StandsFor, CanBegin, IsResting}
+use Rattle.core_machine.specs.Threads.{Loaded, StandsFor, CanBegin, IsResting}
 use Rattle.copy_slots.specs.Ports.{answered}
 use Rattle.core_host.specs.Descending.{IsRunning}
 use Rattle.core_host.specs.Keeping.{State, code_in}

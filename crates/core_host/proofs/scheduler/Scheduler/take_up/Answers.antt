@@ -1,7 +1,7 @@
 use Rattle.std.proofs.Common.{◌+◌, sym, ap, ◌∙◌}
 use Rattle.std.specs.Prelude.{slice_index_or}
 use Rattle.core_host.specs.Keeping.{State}
-use Rattle.core_host.proofs.Serves.{it_waits, it_rests, quiet_waits}
+use Rattle.core_host.proofs.ServingLemmas.{it_waits, it_rests, quiet_waits}
 use Rattle.core_host.proofs.scheduler.Scheduler.take_up.Goals as goal
 
 pub take_job-requires-clause-rests : goal.take_job-requires-clause-rests

@@ -1,6 +1,7 @@
 use Rattle.std.proofs.Common.{refl, sym, subst}
 use Rattle.thread_code.specs.Plain.{plain_code}
-use Rattle.core_machine.specs.Held.{Begun, Runs_in, started_anew, woken_up}
+use Rattle.core_machine.specs.Threads.{Runs_in}
+use Rattle.core_machine.specs.RunParts.{Begun, started_anew, woken_up}
 use Rattle.core_machine.proofs.Jobs.{start_stands, wake_stands, can_wake, is_wake}
 use Rattle.core_machine.proofs.thread.Thread.begin.Goals as goal
 

@@ -1,7 +1,7 @@
 use Rattle.std.proofs.Common.{refl}
 use Rattle.thread_code.specs.Plain.{plain_code}
 use Rattle.core_machine.specs.declared.thread.Event.TheVariants as event
-use Rattle.core_machine.specs.Held.{comes}
+use Rattle.core_machine.specs.RunParts.{comes}
 use Rattle.core_machine.proofs.Outer.{end_moved}
 use Rattle.core_machine.proofs.thread.Thread.end.Goals as goal
 

@@ -4,7 +4,7 @@ use Rattle.core_machine.specs.declared.thread.Thread.{Thread}
 use Rattle.core_machine.specs.declared.thread.Phase.TheVariants as phase
 use Rattle.core_machine.specs.declared.thread.Event.TheVariants as event
 use Rattle.core_machine.specs.Branches.{Gathered}
-use Rattle.core_machine.specs.Held.{over, comes, Comes_to}
+use Rattle.core_machine.specs.RunParts.{over, comes, Comes_to}
 use Rattle.core_machine.proofs.Outer.{fork_here, fork_moved, fork_view}
 use Rattle.core_machine.proofs.thread.Thread.fork.Goals as goal
 

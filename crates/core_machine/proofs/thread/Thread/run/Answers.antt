@@ -1,6 +1,6 @@
 use Rattle.std.proofs.Common.{subst}
 use Rattle.thread_code.specs.Plain.{plain_code}
-use Rattle.core_machine.specs.Held.{Left_by}
+use Rattle.core_machine.specs.Threads.{Left_by}
 use Rattle.core_machine.proofs.Jobs.{tells_exactly, run_stands, run_left, can_run, over_exactly, trap_exactly}
 use Rattle.core_machine.proofs.Asking.{asks, branches_are}
 use Rattle.core_machine.proofs.thread.Thread.run.Goals as goal

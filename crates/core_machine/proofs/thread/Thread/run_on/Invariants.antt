@@ -1,7 +1,7 @@
 use Rattle.std.proofs.Common.{◌≡◌, false}
 use Rattle.thread_code.specs.Plain.{plain_code}
 use Rattle.core_machine.specs.declared.thread.Phase.TheVariants as phase
-use Rattle.core_machine.specs.Held.{Moved, left_for}
+use Rattle.core_machine.specs.RunParts.{Moved, left_for}
 use Rattle.core_machine.proofs.thread.Thread.run_on.Given as goal
 
 abbrev pub invariant-loop-function : goal.invariant-loop-function

@@ -6,7 +6,7 @@ use Rattle.thread_state.specs.Frames.{Frames, started}
 use Rattle.thread_state.specs.Kept.{Kept, begun}
 use Rattle.core_machine.specs.declared.thread.Thread.{Thread}
 use Rattle.core_machine.specs.declared.thread.Phase.TheVariants as phase
-use Rattle.core_machine.specs.Held.{Begun, started_anew}
+use Rattle.core_machine.specs.RunParts.{Begun, started_anew}
 use Rattle.core_machine.proofs.Jobs.{start_args, start_begun}
 use Rattle.core_machine.proofs.thread.Thread.start.Goals as goal
 

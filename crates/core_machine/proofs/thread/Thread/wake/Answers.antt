@@ -4,7 +4,7 @@ use Rattle.thread_code.specs.Plain.{plain_code}
 use Rattle.thread_state.specs.Kept.{Kept, with_copies}
 use Rattle.core_machine.specs.declared.thread.Thread.{Thread}
 use Rattle.core_machine.specs.declared.thread.Phase.TheVariants as phase
-use Rattle.core_machine.specs.Held.{Begun, woken_up}
+use Rattle.core_machine.specs.RunParts.{Begun, woken_up}
 use Rattle.core_machine.proofs.Jobs.{wake_begun}
 use Rattle.core_machine.proofs.thread.Thread.wake.Goals as goal
 

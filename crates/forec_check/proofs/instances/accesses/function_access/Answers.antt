@@ -2,7 +2,7 @@ use Rattle.std.proofs.Common.{◌∙◌, ap}
 use Rattle.forec_check.specs.AccessScan.{start, as_access}
 use Rattle.loop_check.specs.Views.{text_of}
 use Rattle.forec_check.specs.AccessCounts.{capped, called_access, scan_effects}
-use Rattle.forec_check.proofs.Tabled.{step_effects}
+use Rattle.forec_check.proofs.NamingTables.{step_effects}
 use Rattle.forec_check.proofs.instances.accesses.function_access.Goals as goal
 
 pub returns : goal.returns

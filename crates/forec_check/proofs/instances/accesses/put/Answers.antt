@@ -1,7 +1,7 @@
 use Rattle.std.proofs.Common.{◌∙◌, ap, arith}
 use Rattle.forec_check.specs.Table.{put_at}
 use Rattle.forec_check.specs.AccessCounts.{access_at, access_of}
-use Rattle.forec_check.proofs.Tabled.{few_push, few_set}
+use Rattle.forec_check.proofs.NamingTables.{few_push, few_set}
 use Rattle.forec_check.proofs.instances.accesses.put.Goals as goal
 
 pub room-preserved : goal.room-preserved

@@ -2,8 +2,8 @@ use Rattle.std.proofs.Common.{◌∙◌, ap, get_or}
 use Rattle.forec_check.specs.AccessScan.{no_access}
 use Rattle.loop_check.specs.Views.{text_of}
 use Rattle.forec_check.specs.AccessCounts.{capped, capped_step, access_at, called_access, access_of, value_of}
-use Rattle.forec_check.proofs.Tables.{agrees_next, none_agree, all_agree}
-use Rattle.forec_check.proofs.Tabled.{put_capped, nothing_called, two_is}
+use Rattle.forec_check.proofs.TableLemmas.{agrees_next, none_agree, all_agree}
+use Rattle.forec_check.proofs.NamingTables.{put_capped, nothing_called, two_is}
 use Rattle.forec_check.proofs.instances.accesses.two_access.Goals as goal
 
 pub loop-f-init : goal.loop-f-init

@@ -3,7 +3,7 @@ use Rattle.std.specs.Prelude.{slice_get}
 use Rattle.std.specs.Option.{option_copied}
 use Rattle.loop_check.specs.Views.{text_of}
 use Rattle.forec_check.specs.Walk.{item_effects}
-use Rattle.forec_check.proofs.Tabled.{bodied, found_effects}
+use Rattle.forec_check.proofs.NamingTables.{bodied, found_effects}
 use Rattle.forec_check.proofs.instances.propagate.effects_of.Goals as goal
 
 pub returns-in-Some-at : goal.returns-in-Some-at

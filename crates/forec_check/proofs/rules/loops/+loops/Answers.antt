@@ -11,7 +11,7 @@ use Rattle.forec_tree.proofs.Rows.{of_kind, of_group, of_abort, of_par, of_if, o
 use Rattle.forec_tree.specs.Plain.{perhaps_of}
 use Rattle.loop_check.specs.Judges.{judge_text}
 use Rattle.forec_check.specs.Loops.{loops_in, loops_in_perhaps, loops_in_all, loops_in_branches, loops_faults}
-use Rattle.forec_check.proofs.Looping.{none_here, kind_none, two_loops, endless_is, last_loop, next_loops, or_next}
+use Rattle.forec_check.proofs.LoopLemmas.{none_here, kind_none, two_loops, endless_is, last_loop, next_loops, or_next}
 use Rattle.loop_check.proofs.Branches.{call_first, group_first}
 use Rattle.forec_check.proofs.rules.loops.+loops.Goals as goal
 use Rattle.forec_check.proofs.rules.loops.+loops.Goals.{judge_statements-then-judge_statement, judge_statements-else-judge_statement, judge_branches-in-Call, judge_branches-in-Group, judge_branches-then-one, judge_branches-else-one}

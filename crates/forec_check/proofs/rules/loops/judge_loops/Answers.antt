@@ -4,7 +4,7 @@ use Rattle.forec_tree.specs.Plain as plain
 use Rattle.forec_check.specs.Least.{least_from}
 use Rattle.loop_check.specs.Judges.{judge_text}
 use Rattle.forec_check.specs.Loops.{item_loops, loops_in_all, loops_faults}
-use Rattle.forec_check.proofs.Looping.{none_here, item_step, items_end}
+use Rattle.forec_check.proofs.LoopLemmas.{none_here, item_step, items_end}
 use Rattle.forec_check.proofs.rules.loops.judge_loops.Goals as goal
 use Rattle.forec_check.proofs.rules.loops.judge_loops.Goals.{in-Function, in-Global}
 

@@ -1,7 +1,7 @@
 use Rattle.std.proofs.Common.{◌∙◌, sym, ap}
 use Rattle.forec_tree.specs.Plain.{plain_item, plain_global, plain_function}
 use Rattle.loop_check.specs.Views.{text_of}
-use Rattle.forec_check.proofs.Tabled as tabled
+use Rattle.forec_check.proofs.NamingTables as tabled
 use Rattle.forec_check.proofs.rules.plain_globals.judge_plain_global.Goals as goal
 
 pub returns-in-Function : goal.returns-in-Function

@@ -1,6 +1,6 @@
 use Rattle.std.proofs.Common.{sym}
 use Rattle.loop_check.specs.Views.{text_of}
-use Rattle.forec_check.proofs.Tabled.{plains_step, plains_end}
+use Rattle.forec_check.proofs.NamingTables.{plains_step, plains_end}
 use Rattle.forec_check.proofs.rules.plain_globals.judge_plain_globals.Goals as goal
 
 pub loop-item-preserved : goal.loop-item-preserved

@@ -6,7 +6,7 @@ use Rattle.forec_tree.specs.declared.tree.Item.{Item}
 use Rattle.forec_tree.specs.Plain.{plain_item}
 use Rattle.loop_check.specs.Index.{blank}
 use Rattle.loop_check.specs.Views.{text_of}
-use Rattle.loop_check.proofs.Indexed.{absent_is, found_is}
+use Rattle.loop_check.proofs.IndexLemmas.{absent_is, found_is}
 use Rattle.loop_check.proofs.index.Index.find.Goals as goal
 
 pub returns-then-first-eq0 : goal.returns-then-first-eq0

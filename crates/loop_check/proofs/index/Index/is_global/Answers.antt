@@ -1,7 +1,7 @@
 use Rattle.std.proofs.Common.{◌∙◌, ap}
 use Rattle.loop_check.specs.Index.{blank}
 use Rattle.loop_check.specs.Views.{text_of}
-use Rattle.loop_check.proofs.Indexed.{global_is}
+use Rattle.loop_check.proofs.IndexLemmas.{global_is}
 use Rattle.loop_check.proofs.index.Index.is_global.Goals as goal
 
 pub returns : goal.returns

@@ -3,7 +3,7 @@ use Rattle.std.specs.Prelude.{nat_le}
 use Rattle.std.proofs.lemmas.Bool.Decides.{nat_tests}
 use Rattle.loop_check.specs.Index.{blank}
 use Rattle.loop_check.specs.Views.{text_of}
-use Rattle.loop_check.proofs.Indexed.{named_is}
+use Rattle.loop_check.proofs.IndexLemmas.{named_is}
 use Rattle.loop_check.proofs.index.Index.named_before.Goals as goal
 
 pub returns-then-first-ne0 : goal.returns-then-first-ne0

@@ -1,7 +1,7 @@
 use Rattle.std.proofs.Common.{◌∙◌, ◌-◌, sym, ap, refl, arith}
 use Rattle.loop_check.specs.Index.{blank}
 use Rattle.loop_check.specs.Views.{text_of}
-use Rattle.loop_check.proofs.Indexed.{absent_is, found_is}
+use Rattle.loop_check.proofs.IndexLemmas.{absent_is, found_is}
 use Rattle.loop_check.proofs.index.Index.position.Goals as goal
 
 pub returns-then-first-eq0 : goal.returns-then-first-eq0

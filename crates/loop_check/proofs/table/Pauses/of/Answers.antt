@@ -1,6 +1,6 @@
 use Rattle.std.proofs.Common.{subst, length}
 use Rattle.forec_tree.specs.Faults.{Leads}
-use Rattle.forec_tree.specs.Pauses.{starts, certain_step}
+use Rattle.forec_tree.specs.Pauses.{callees_of, certain_step}
 use Rattle.loop_check.specs.Graph.{callees, IsOrder}
 use Rattle.loop_check.specs.Known.{known, Judged}
 use Rattle.loop_check.specs.Views.{text_of}
@@ -19,5 +19,5 @@ invariant_of-result c =
     subst (λ o. Judged (certain_step text) o (length o) (known c.in_ok-called.called.items)) c.deref-3.ensures.value c.in_ok-called.ensures in
     record {
       right = all_judged text functions order (callees lists) (known c.in_ok-called.called.items) c.in_ok-calls.ensures ordered
-          (λ f l. c.requires f (subst (λ t. Leads (starts t) f f) c.in_ok-index.ensures l)) judged;
+          (λ f l. c.requires f (subst (λ t. Leads (callees_of t) f f) c.in_ok-index.ensures l)) judged;
     }

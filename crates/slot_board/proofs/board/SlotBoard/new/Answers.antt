@@ -1,7 +1,7 @@
 use Rattle.std.proofs.Common.{◌≡◌, List, length, map, [], false, sym, ap, ◌∙◌, subst}
 use lib.ListN.{length-map}
 use Rattle.copy_slots.specs.declared.view.Role.TheVariants.{Keeper}
-use Rattle.copy_slots.specs.Places.{Watches}
+use Rattle.copy_slots.specs.SeatEnds.{Watches}
 use Rattle.slot_board.specs.Dealt.{new_ports}
 use Rattle.slot_board.proofs.Cutting.{new_waits}
 use Rattle.slot_board.proofs.board.SlotBoard.new.Goals as goal

@@ -1,6 +1,6 @@
 use Rattle.std.proofs.Common.{◌<◌, ◌^◌, List, length, sym, ap, ◌∙◌, subst}
 use Rattle.atomic_table.specs.Seated.{TableId}
-use Rattle.copy_slots.specs.Places.{IsBoard, Watches}
+use Rattle.copy_slots.specs.SeatEnds.{IsBoard, Watches}
 use Rattle.slot_board.specs.Slots.{AllPairs, is_watch}
 use Rattle.slot_board.specs.Splits.{role_joined}
 use Rattle.copy_slots.proofs.Seating.{rewatches}

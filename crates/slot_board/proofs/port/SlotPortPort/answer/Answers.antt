@@ -1,7 +1,7 @@
 use Rattle.std.proofs.Common.{arith, ◌<◌, ◌^◌, length, Some, None, true, sym, ap, ◌∙◌, subst, length-set}
 use Rattle.slot_board.specs.declared.seats.EndSeats.{EndSeats}
 use Rattle.copy_slots.specs.Mail.{taker_answered}
-use Rattle.copy_slots.specs.Places.{IsBoard}
+use Rattle.copy_slots.specs.SeatEnds.{IsBoard}
 use Rattle.copy_slots.specs.Ports.{IsChild, taker_in, taken_by}
 use Rattle.slot_board.specs.Slots.{pair_ends, taker_of}
 use Rattle.copy_slots.proofs.Seating.{at_index}

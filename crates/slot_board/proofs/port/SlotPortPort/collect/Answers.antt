@@ -2,7 +2,7 @@ use Rattle.std.proofs.Common.{arith, ◌<◌, ◌^◌, length, Some, None, sym, 
 use Rattle.std.proofs.lemmas.Option.{IfSome_then}
 use Rattle.copy_slots.specs.declared.view.PacketAt.TheVariants.{Out}
 use Rattle.slot_board.specs.declared.seats.EndSeats.{EndSeats}
-use Rattle.copy_slots.specs.Places.{IsBoard}
+use Rattle.copy_slots.specs.SeatEnds.{IsBoard}
 use Rattle.copy_slots.specs.Ports.{IsParent, sender_in, sender_seen, in_plain, sent_by}
 use Rattle.slot_board.specs.Slots.{pair_ends, sender_of}
 use Rattle.copy_slots.proofs.Seating.{at_index}

@@ -1,6 +1,6 @@
 use Rattle.std.proofs.Common.{map, sym, ap, ◌∙◌, subst}
 use Rattle.copy_slots.specs.Mail.{role_stopped}
-use Rattle.copy_slots.specs.Places.{Watches}
+use Rattle.copy_slots.specs.SeatEnds.{Watches}
 use Rattle.slot_board.specs.Slots.{AllPairs, slot_state, is_watch}
 use Rattle.copy_slots.proofs.Seating.{rewatches}
 use Rattle.slot_board.proofs.Pairing.{both_of, watch_stopped, stopped_state, root_kept}

@@ -1,6 +1,6 @@
 use Rattle.std.proofs.Common.{map, sym, ap, ◌∙◌, subst}
 use Rattle.copy_slots.specs.Mail.{role_checked}
-use Rattle.copy_slots.specs.Places.{Watches}
+use Rattle.copy_slots.specs.SeatEnds.{Watches}
 use Rattle.copy_slots.specs.Ports.{stored_of, stop_word}
 use Rattle.slot_board.specs.Slots.{AllPairs, slot_state, is_watch}
 use Rattle.copy_slots.proofs.Seating.{rewatches}

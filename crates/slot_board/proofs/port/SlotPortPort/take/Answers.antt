@@ -1,10 +1,10 @@
 use Rattle.std.proofs.Common.{arith, ◌<◌, ◌^◌, length, set, Some, None, false, sym, ap, ◌∙◌, subst, length-set}
 use Rattle.std.proofs.lemmas.Option.{IfSome_then}
 use Rattle.slot_board.specs.declared.seats.EndSeats.{EndSeats}
-use Rattle.copy_slots.specs.Places.{IsBoard}
+use Rattle.copy_slots.specs.SeatEnds.{IsBoard}
 use Rattle.copy_slots.specs.Ports.{IsChild, taker_in, taker_seen, in_plain, taken_by}
 use Rattle.slot_board.specs.Slots.{pair_ends, taker_of}
-use Rattle.copy_slots.proofs.Porting.{job_then, set_at}
+use Rattle.copy_slots.proofs.PortLemmas.{job_then, set_at}
 use Rattle.copy_slots.proofs.Seating.{at_index}
 use Rattle.slot_board.proofs.Pairing.{both_of, child_inside, child_is, child_state, repairs, child_repaired}
 use Rattle.slot_board.proofs.port.SlotPortPort.take.Goals as goal

@@ -3,7 +3,7 @@ use Rattle.std.specs.Io.KnownBytes.{IsAtEnd}
 use Rattle.forec_base.specs.declared.limits.TheConstants.{MAX_LINE_BYTES}
 use Rattle.trace_rows.specs.Held.{held}
 use Rattle.trace_rows.specs.Reader.{HasLine, Came}
-use Rattle.trace_rows.specs.Reads.{Gathers}
+use Rattle.trace_rows.specs.SourceReads.{Gathers}
 use Rattle.trace_rows.proofs.lines.Lines.find.Given as goal
 
 abbrev pub invariant-pieces : goal.invariant-pieces

@@ -4,7 +4,7 @@ use Rattle.trace_rows.specs.declared.fault.RowFault.TheVariants as fault
 use Rattle.trace_rows.specs.Calls.{IfTold}
 use Rattle.trace_rows.specs.Held.{held}
 use Rattle.trace_rows.specs.Reader.{Reader, NextSays, NextTakes}
-use Rattle.trace_rows.specs.Reads.{Reading, TakesRow}
+use Rattle.trace_rows.specs.SourceReads.{Reading, TakesRow}
 use Rattle.trace_rows.specs.Shown.{reader_of}
 use Rattle.trace_rows.specs.Steps.{FindsNext}
 use Rattle.trace_rows.specs.Trace.{numbers_in, arranged}

@@ -1,7 +1,7 @@
 use Rattle.std.proofs.Common.{sym}
 use Rattle.forec_check.specs.Views.{judging_in, text_in, scope_of}
 use Rattle.forec_check.specs.Walk.{notes_of}
-use Rattle.forec_check.proofs.Walked.{walked-none}
+use Rattle.forec_check.proofs.WalkLemmas.{walked-none}
 use Rattle.forec_check.proofs.Parts.{two, three, then, part, of_kind, call_begins, terms_step, terms_end}
 use Rattle.forec_check.proofs.walk.context.Context.+expression.Goals as goal
 

@@ -7,10 +7,10 @@ use Rattle.forec_tree.proofs.Rows.{of_kind, of_group, of_abort, of_if, of_for, o
 use Rattle.forec_tree.specs.Plain.{perhaps_of}
 use Rattle.forec_check.specs.Views.{judging_in, text_in, scope_of}
 use Rattle.forec_check.specs.Walk.{notes_of, walked}
-use Rattle.forec_check.proofs.Walked.{walked-none}
+use Rattle.forec_check.proofs.WalkLemmas.{walked-none}
 use Rattle.forec_check.proofs.Parts.{two, three, then}
 use Rattle.forec_check.proofs.Statements.{of_statement, group_is, declare_is, run_is, inside, abort_is, while_is, statements_step, statements_end}
-use Rattle.forec_check.proofs.Branching.{no_statement, perhaps_in, optional_in, body_in, for_is, branch_call, branch_block, branches_step, branches_end}
+use Rattle.forec_check.proofs.WalkBranches.{no_statement, perhaps_in, optional_in, body_in, for_is, branch_call, branch_block, branches_step, branches_end}
 use Rattle.forec_check.proofs.ScopeLaws.{framed_on, framed_none, same_framed, same_on, same_scope}
 use Rattle.forec_check.proofs.walk.context.Context.+statement.Goals as goal
 

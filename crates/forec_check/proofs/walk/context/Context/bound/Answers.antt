@@ -2,7 +2,7 @@ use Rattle.std.proofs.Common.{refl}
 use Rattle.forec_tree.specs.Findings.{in_bound}
 use Rattle.forec_check.specs.Views.{judging_in}
 use Rattle.forec_check.specs.Walk.{notes_of}
-use Rattle.forec_check.proofs.Walked.{walked_early, bound_effects}
+use Rattle.forec_check.proofs.WalkLemmas.{walked_early, bound_effects}
 use Rattle.forec_check.proofs.walk.context.Context.bound.Goals as goal
 
 pub returns : goal.returns

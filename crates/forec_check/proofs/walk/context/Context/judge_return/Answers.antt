@@ -3,7 +3,7 @@ use Rattle.forec_tree.specs.Findings.{Gives}
 use Rattle.forec_check.specs.Views.{judging_in}
 use Rattle.forec_check.specs.Walk.{notes_of}
 use Rattle.forec_check.proofs.UseRules.{single}
-use Rattle.forec_check.proofs.Walked.{walked_one}
+use Rattle.forec_check.proofs.WalkLemmas.{walked_one}
 use Rattle.forec_check.proofs.walk.context.Context.judge_return.Goals as goal
 
 pub returns : goal.returns

@@ -2,7 +2,7 @@ use Rattle.std.proofs.Common.{refl, ◌∷◌, []}
 use Rattle.forec_tree.specs.Findings.{Declares}
 use Rattle.forec_check.specs.Views.{judging_in, text_in, scope_of}
 use Rattle.forec_check.specs.Walk.{notes_of}
-use Rattle.forec_check.proofs.Walked.{walked_early}
+use Rattle.forec_check.proofs.WalkLemmas.{walked_early}
 use Rattle.forec_check.proofs.Statements.{local_is}
 use Rattle.forec_check.proofs.walk.context.Context.local.Goals as goal
 

@@ -3,7 +3,7 @@ use Rattle.forec_tree.specs.Plain as plain
 use Rattle.forec_tree.specs.Findings.{in_optional}
 use Rattle.forec_check.specs.Views.{judging_in, text_in, scope_of}
 use Rattle.forec_check.specs.Walk.{notes_of, walked}
-use Rattle.forec_check.proofs.Walked.{walked-none}
+use Rattle.forec_check.proofs.WalkLemmas.{walked-none}
 use Rattle.forec_check.proofs.walk.context.Context.optional_expression.Goals as goal
 
 pub returns-in-None : goal.returns-in-None

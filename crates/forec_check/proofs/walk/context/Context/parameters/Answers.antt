@@ -2,7 +2,7 @@ use Rattle.std.proofs.Common.{refl, ◌∷◌, [], None}
 use Rattle.forec_tree.specs.Findings.{Declares}
 use Rattle.forec_check.specs.Views.{judging_in, text_in, scope_of, ExtendsScope}
 use Rattle.forec_check.specs.Walk.{notes_of}
-use Rattle.forec_check.proofs.Walked.{walked_early}
+use Rattle.forec_check.proofs.WalkLemmas.{walked_early}
 use Rattle.forec_check.proofs.ItemRules.{params_step, params_scope, params_end}
 use Rattle.forec_check.proofs.ScopeLaws.{framed_on}
 use Rattle.forec_check.proofs.walk.context.Context.parameters.Goals as goal

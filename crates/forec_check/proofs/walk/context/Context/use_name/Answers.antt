@@ -2,7 +2,7 @@ use Rattle.std.proofs.Common.{◌∙◌, sym, ap, append-nil, ◌++◌}
 use Rattle.forec_tree.specs.Findings.{use_at}
 use Rattle.forec_check.specs.Views.{judging_in, text_in, scope_of}
 use Rattle.forec_check.specs.Walk.{notes_of, as_list, effect_of}
-use Rattle.forec_check.proofs.Walked.{walked_one, use_least}
+use Rattle.forec_check.proofs.WalkLemmas.{walked_one, use_least}
 use Rattle.forec_check.proofs.walk.context.Context.use_name.Goals as goal
 
 pub returns-in_ok-push : goal.returns-in_ok-push

@@ -4,10 +4,10 @@ use Rattle.std.specs.Prelude.{replicate}
 use Rattle.forec_kernel.specs.Engine.{Job, Start, Wake, allowance_of, Reply, WasOver, Seed, Written, written, AtFork, Engine, run_for, IsStopped, Rest, Asleep, Nothing, Exchange, Output, Begins, Serves, Answered, pair_up, pair_forks, pair_all, AllReply}
 use Rattle.forec_kernel.specs.Reached.{Position, AtRest, Inside, Reached, none, begun, stepped, joined, answered, exceeded, Closes, AloneTo}
 use Rattle.forec_kernel.proofs.Same.{IsSteady, one_stop}
-use Rattle.forec_kernel.proofs.Reach.{Went, alone_snoc, went_answer, went_over}
+use Rattle.forec_kernel.proofs.ReachedLemmas.{Went, alone_snoc, went_answer, went_over}
 use Rattle.thread_code.specs.Plain.{PlainCode}
 use Rattle.thread_code.specs.Valid.{IsValidCode}
-use Rattle.thread_code.specs.Machine.{Machine, On, Waits, Merges, Fails, Paused, Ended, Trapped, Exceeded, Stuck}
+use Rattle.thread_code.specs.Machine.{Machine, On, Waits, Merges, Failing, Paused, Ended, Trapped, Exceeded, Stuck}
 use Rattle.thread_code.specs.Alone.{block_of, view_of, units_of, code_engine}
 use Rattle.thread_code.proofs.Unstuck.{reached_good}
 use Rattle.core_host.specs.Writing.{Wrote}
@@ -92,7 +92,7 @@ module _ (c : PlainCode) (valid : IsValidCode c) (t : ℕ) (lt : t < length c.th
   closes_rested n past (On p fs w u) o r h f = absurd h
   closes_rested n past (Waits a w u) o r h f = absurd h
   closes_rested n past (Merges m w u) o r h f = absurd h
-  closes_rested n past (Fails place trap u) o r h f = absurd h
+  closes_rested n past (Failing place trap u) o r h f = absurd h
   closes_rested n past (Paused wake w u) o r h f = subst (Rested past) (sym h.1) f
   closes_rested n past (Ended w u) o r h f = subst (Rested past) (sym h.1) tt
   closes_rested n past (Trapped place trap u) o r h f = subst (Rested past) (sym h.1) tt
@@ -112,7 +112,7 @@ module _ (c : PlainCode) (valid : IsValidCode c) (t : ℕ) (lt : t < length c.th
   begins_fine past (Wake values a) (Asleep (On p fs o u)) s h b = absurd h
   begins_fine past (Wake values a) (Asleep (Waits w o u)) s h b = absurd h
   begins_fine past (Wake values a) (Asleep (Merges m o u)) s h b = absurd h
-  begins_fine past (Wake values a) (Asleep (Fails place trap u)) s h b = absurd h
+  begins_fine past (Wake values a) (Asleep (Failing place trap u)) s h b = absurd h
   begins_fine past (Wake values a) (Asleep (Ended o u)) s h b = absurd h
   begins_fine past (Wake values a) (Asleep (Trapped place trap u)) s h b = absurd h
   begins_fine past (Wake values a) (Asleep (Exceeded u)) s h b = absurd h

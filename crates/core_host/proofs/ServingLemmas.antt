@@ -16,8 +16,8 @@ use Rattle.core_host.specs.Keeping.{State, code_in, Alike, IsSeated, Quiet}
 use Rattle.core_host.specs.Waiting.{HasChild, IsAtRest, WaitsAt, IsBetween, IsVacant, rests, waits}
 use Rattle.core_host.specs.Serving.{Touches, OnlyLooks, HasMissed, AllMissed, KeepsServing}
 use Rattle.core_host.proofs.Mails.{by_equal, some_once, alike_then, extends_same}
-use Rattle.core_host.proofs.Keep.{grown_same, grown_then, seated_by, same_child, quiet_keeps}
-use Rattle.core_host.proofs.Waits.{between_keeps, between_still}
+use Rattle.core_host.proofs.KeepingLemmas.{grown_same, grown_then, seated_by, same_child, quiet_keeps}
+use Rattle.core_host.proofs.WaitingLemmas.{between_keeps, between_still}
 use Rattle.core_host.proofs.Seats.{vacant_by, not_vacant}
 
 -- ---- a thread at rest has no job in its hand, and one that waits has

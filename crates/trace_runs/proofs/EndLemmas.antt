@@ -1,4 +1,4 @@
--- A run ends with a report, a fault or want of memory.
+-- A run ends with a report, a fault or out of memory.
 use Rattle.std.proofs.Common.{◌≡◌, ◌⊎◌, inl, inr, refl, subst}
 use Rattle.trace_runs.specs.declared.status.Status.{Status}
 use Rattle.trace_runs.specs.declared.status.Status.TheVariants as status

@@ -11,7 +11,7 @@ use Rattle.copy_slots.specs.declared.view.Role.{Role}
 use Rattle.copy_slots.specs.declared.view.Role.TheVariants.{Idle, Keeper, Mailbox}
 use Rattle.copy_slots.specs.declared.view.View.{View}
 use Rattle.atomic_table.specs.Table.{State}
-use Rattle.copy_slots.specs.Mail.{Stage, fresh, with_parent, at_child, with_child, at_parent, Mail, End, parent_of, child_of, root, owner_of, IsPlaced, IsHeld, SendsAt, TakesAt, Knows, Has, IsEnd, BoxAt, Past, spent, Kept}
+use Rattle.copy_slots.specs.Mail.{Stage, fresh, with_parent, at_child, with_child, at_parent, Mail, End, parent_of, child_of, root, owner_of, IsAtStage, IsHeld, SendsAt, TakesAt, Knows, Has, IsEnd, BoxAt, Past, spent, Kept}
 use Rattle.copy_slots.specs.Ports.{stored_of}
 use Rattle.copy_slots.specs.Rule.{IsAtHome, IsInHand, SaysParent, SaysChild, IsRuled, HasView, ParentSays, ChildSays, Between}
 
@@ -51,7 +51,7 @@ holds_at : Stage → Bool
 holds_at with_child = true
 holds_at _ = false
 
-place_is : (p : PacketAt) (g : Stage) → IsPlaced p g → p ≡ place_at g
+place_is : (p : PacketAt) (g : Stage) → IsAtStage p g → p ≡ place_at g
 unfolding place_at
 place_is Fresh g h = ap place_at (sym h)
 place_is Held g h = ap place_at (sym h)

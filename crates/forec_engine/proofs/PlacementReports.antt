@@ -2,8 +2,8 @@
 use Rattle.std.proofs.Common.{◌≡◌, ◌≢◌, ◌⊎◌, inl, inr, ℕ, List, Option, None, Some, sym, ap, subst}
 use Rattle.std.specs.Option.{IfSome}
 use Rattle.forec_kernel.specs.Shapes.{PlainKernel}
-use Rattle.core_alloc.specs.declared.fault.PlaceFault.{PlaceFault}
-use Rattle.core_alloc.specs.declared.fault.PlaceFault.TheVariants as fault
+use Rattle.core_alloc.specs.declared.fault.PlacementFault.{PlacementFault}
+use Rattle.core_alloc.specs.declared.fault.PlacementFault.TheVariants as fault
 use Rattle.command_words.specs.Requests.{PlainRunning}
 use Rattle.forec_engine.specs.Commands.{run_report}
 use Rattle.forec_engine.specs.Placing.{misplaced, misplacing, unless_misplaced}
@@ -13,14 +13,14 @@ use Rattle.trace_runs.specs.Workload.{ticked_report}
 use Rattle.trace_runs.proofs.Told.{some_map}
 
 -- why a list is refused, where memory isn't wanting
-pub refused_by : (o : Option PlaceFault) (why : PlaceFault) → why ≢ fault.OutOfMemory → (why ≡ fault.OutOfMemory) ⊎ (o ≡ Some why) → o ≡ Some why
+pub refused_by : (o : Option PlacementFault) (why : PlacementFault) → why ≢ fault.OutOfMemory → (why ≡ fault.OutOfMemory) ⊎ (o ≡ Some why) → o ≡ Some why
 refused_by o why not (inl e) = absurd (not e)
 refused_by o why not (inr e) = e
 
-unmisplaced : (o : Option PlaceFault) (r : Report) → o ≡ None → r ≡ unless_misplaced o r
+unmisplaced : (o : Option PlacementFault) (r : Report) → o ≡ None → r ≡ unless_misplaced o r
 unmisplaced o r e = sym (ap (λ x. unless_misplaced x r) e)
 
-is_misplaced : (o : Option PlaceFault) (why : PlaceFault) (r : Report) → o ≡ Some why → misplaced why ≡ unless_misplaced o r
+is_misplaced : (o : Option PlacementFault) (why : PlacementFault) (r : Report) → o ≡ Some why → misplaced why ≡ unless_misplaced o r
 is_misplaced o why r e = sym (ap (λ x. unless_misplaced x r) e)
 
 any_trace : (o : Option (List ℕ)) (P : List ℕ → Type 0) → ((x : List ℕ) → P x) → IfSome o P
@@ -34,7 +34,7 @@ module _ (k : PlainKernel) (running : PlainRunning) (trace : Option (List ℕ)) 
       some_map trace (λ x. Q (trace_report k running.budget x)) (λ x. Q (run_report k running x)) h
       (λ x q. subst Q (unmisplaced (misplacing k running.placing) (trace_report k running.budget x) e) q)
 
-  pub run_misplaced : (why : PlaceFault) → misplacing k running.placing ≡ Some why → Q (misplaced why) → IfSome trace (λ x. Q (run_report k running x))
+  pub run_misplaced : (why : PlacementFault) → misplacing k running.placing ≡ Some why → Q (misplaced why) → IfSome trace (λ x. Q (run_report k running x))
   run_misplaced why e q = any_trace trace (λ x. Q (run_report k running x)) (λ x. subst Q (is_misplaced (misplacing k running.placing) why (trace_report k running.budget x) e) q)
 
 -- a workload
@@ -42,5 +42,5 @@ module _ (threads : ℕ) (k : PlainKernel) (running : PlainRunning) (Q : Report 
   pub workload_placed : misplacing k running.placing ≡ None → Q (ticked_report threads k running.budget) → Q (workload_report threads running k)
   workload_placed e q = subst Q (unmisplaced (misplacing k running.placing) (ticked_report threads k running.budget) e) q
 
-  pub workload_misplaced : (why : PlaceFault) → misplacing k running.placing ≡ Some why → Q (misplaced why) → Q (workload_report threads running k)
+  pub workload_misplaced : (why : PlacementFault) → misplacing k running.placing ≡ Some why → Q (misplaced why) → Q (workload_report threads running k)
   workload_misplaced why e q = subst Q (is_misplaced (misplacing k running.placing) why (ticked_report threads k running.budget) e) q

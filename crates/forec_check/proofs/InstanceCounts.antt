@@ -4,20 +4,20 @@ use Rattle.std.proofs.lemmas.Bool.{eqb-true}
 use Rattle.std.proofs.lemmas.Bool.Decides.{nat_tests}
 use Rattle.forec_tree.specs.Terms.{Statement, Declare, Nothing, Group, Assign, Invoke, If, While, For, Pause, Par, Abort, Return, Statements, no_statements, more_statements, Perhaps, absent, present, Branches, no_branches, by_call, by_group, Text, PlainFunction}
 use Rattle.forec_tree.specs.Rules.{is_none}
-use Rattle.forec_tree.specs.Pauses.{within, find_function, started, all_started, perhaps_started, branches_started, function_starts, starts}
+use Rattle.forec_tree.specs.Pauses.{within, find_function, started, all_started, perhaps_started, branches_started, function_callees, callees_of}
 use Rattle.forec_tree.specs.Threads.{below, below_all, below_perhaps, below_branches, body_below, below_step, instances}
 use Rattle.forec_tree.specs.Faults.{is_in, Leads}
 use Rattle.forec_tree.proofs.Fixed.{IsLocal}
-use Rattle.forec_tree.proofs.Counts.{below_all_capped}
+use Rattle.forec_tree.proofs.CappedSums.{below_all_capped}
 use Rattle.loop_check.specs.Graph.{IsOrder}
 use Rattle.loop_check.specs.Known.{Read, started_in, is_function, list_at}
-use Rattle.loop_check.proofs.Indexed.{split}
+use Rattle.loop_check.proofs.IndexLemmas.{split}
 use Rattle.loop_check.proofs.Ordered.{other_id}
 use Rattle.loop_check.proofs.Reading.{leads_same}
 use Rattle.forec_check.specs.Table.{Settles, put_at}
 use Rattle.forec_check.specs.Instances.{count_at, capped_below, count_of}
 use Rattle.forec_check.proofs.Started.{in_left, in_right}
-use Rattle.forec_check.proofs.Tables.{settles_by}
+use Rattle.forec_check.proofs.TableLemmas.{settles_by}
 
 pub count_push : (xs : List ℕ) (k : ℕ) → count_at (xs ++ 0 ∷ []) k ≡ count_at xs k
 count_push [] zero = refl
@@ -92,7 +92,7 @@ module _ (a b : ℕ → ℕ) where
         ap (λ n. suc n + below_branches a rest) (all_same body (on_left (all_started body) (branches_started rest) h))
         ∙ ap (λ n. suc (below_all b body) + n) (branches_same rest (on_right (all_started body) (branches_started rest) h))
 
-  body_same : (f : Option PlainFunction) → Agree a b (function_starts f) → body_below a f ≡ body_below b f
+  body_same : (f : Option PlainFunction) → Agree a b (function_callees f) → body_below a f ≡ body_below b f
   body_same None h = refl
   body_same (Some f) h = all_same f.body h
 
@@ -123,11 +123,11 @@ no_function text a g h = pick (find_function g text) h
     pick None h = refl
     pick (Some f) h = absurd (let q : true ≡ false = h in cc)
 
-started_list : (f : Option PlainFunction) → list_at started_in f ≡ function_starts f
+started_list : (f : Option PlainFunction) → list_at started_in f ≡ function_callees f
 started_list None = refl
 started_list (Some f) = refl
 
-pub counts_settle : (text : Text) (functions order : List ℕ) (calls : ℕ → List ℕ) → Read started_in text functions calls → IsOrder functions calls order → ((f : ℕ) → Leads (starts text) f f → ⊥) →
+pub counts_settle : (text : Text) (functions order : List ℕ) (calls : ℕ → List ℕ) → Read started_in text functions calls → IsOrder functions calls order → ((f : ℕ) → Leads (callees_of text) f f → ⊥) →
     Settles 0 (capped_below text) (count_of text) order
 unfolding count_of
 counts_settle text functions order calls r o free =
@@ -136,4 +136,4 @@ counts_settle text functions order calls r o free =
     let few = r.few in
     settles_by 0 (capped_below text) (length text) functions order calls o
     (record { agrees = λ f a b h. ap (λ m. min m (2 ^ 64 - 1)) (body_same a b (find_function f text) (λ g e. h g (ap (is_in g) (lists f) ∙ e))) })
-    (λ g h a. no_function text a g (sym (r.stands g) ∙ h)) (λ g l. free g (leads_same calls (starts text) lists l)) (omega (arith, short, few))
+    (λ g h a. no_function text a g (sym (r.stands g) ∙ h)) (λ g l. free g (leads_same calls (callees_of text) lists l)) (omega (arith, short, few))

@@ -10,7 +10,7 @@ use Rattle.thread_code.specs.Plain.{PlainCode, plain_code}
 use Rattle.thread_code.specs.Valid.{of_shape}
 use Rattle.combine_tree.specs.Plain.{plain_packet}
 use Rattle.core_machine.specs.declared.thread.Thread.{Thread}
-use Rattle.core_machine.specs.Held.{Loaded, StandsFor, HasSettled, HasReply}
+use Rattle.core_machine.specs.Threads.{Loaded, StandsFor, HasSettled, HasReply}
 use Rattle.core_machine.specs.Forks.{jobs_at, with_replies}
 use Rattle.copy_slots.specs.Ports.{answered, ChildIs}
 use Rattle.core_host.specs.declared.active.Active.{Active}
@@ -22,19 +22,19 @@ use Rattle.core_host.specs.Descending.{Descends, IsActive, IsRunning, HasFinishe
 use Rattle.core_host.specs.Keeping.{State, code_in, IsSeated, Leaves, AtFork, HaveHeard, Quiet}
 use Rattle.core_host.specs.OnJob.{KeepsOthers}
 use Rattle.core_host.specs.Rounds.{IsSameRound}
-use Rattle.core_host.specs.Serving.{MovesBranches, Touches, OnlyLooks, KeepsServing}
+use Rattle.core_host.specs.Serving.{ChangesBranches, Touches, OnlyLooks, KeepsServing}
 use Rattle.core_host.specs.Waiting.{HasTold, HasChild, IsFor, IsForked, IsGathering, HasReplies, IsAtWork, IsWorking, IsWaiting, IsBetween, IsVacant, CanDescend}
 use Rattle.core_host.proofs.Mails.{by_equal}
-use Rattle.core_host.proofs.Keep.{parent_once, grown_then, leaves_same, leaves_then, leaves_less, seated_keeps}
+use Rattle.core_host.proofs.KeepingLemmas.{parent_once, grown_then, leaves_same, leaves_then, leaves_less, seated_keeps}
 use Rattle.core_host.proofs.Send.{at_map}
 use Rattle.core_host.proofs.OneMoreExchange.{changed, changed_is}
-use Rattle.core_host.proofs.Waits.{work_keeps, gathering_keeps, waiting_keeps, between_keeps, between_still, between_moves}
+use Rattle.core_host.proofs.WaitingLemmas.{work_keeps, gathering_keeps, waiting_keeps, between_keeps, between_still, between_moves}
 use Rattle.core_host.proofs.Seats.{vacant_by, not_vacant, can_keep}
 use Rattle.core_host.proofs.Advancing.{forked_gathering, has_run, its_fork, it_forks, fork_worked}
 use Rattle.core_host.proofs.Resuming.{HasAll, waits_on, waits_all, goes_on}
-use Rattle.core_host.proofs.Serves.{between_child, child_keeps, quiet_looks}
+use Rattle.core_host.proofs.ServingLemmas.{between_child, child_keeps, quiet_looks}
 use Rattle.core_host.proofs.Sweeping.{progress_one, progress_from, progress_then}
-use Rattle.core_host.proofs.Hosting.{rope_same, rope_then, round_moved}
+use Rattle.core_host.proofs.HostedLemmas.{rope_same, rope_then, round_moved}
 
 pub never : {A : Type 0} → true ≡ false → A
 never e = absurd (apart e)
@@ -112,7 +112,7 @@ touches_descends m a b before after t = record {
     apart : (k p : ℕ) → IsBranchOf (code_in a).shape p k → p < suc m → IsBranchOf (code_in a).shape (suc m) k → ⊥
     apart k p mine lt is = let same = parent_once (code_in a) p (suc m) k mine is in omega (arith, same, lt)
 
-pub moves_descends : (m t : ℕ) (a b : State) → t ≡ suc m → MovesBranches t a b → Descends m (suc m) a b
+pub moves_descends : (m t : ℕ) (a b : State) → t ≡ suc m → ChangesBranches t a b → Descends m (suc m) a b
 moves_descends m t a b number moves = record {
   leaves = record {
     code = moves.code;
@@ -244,7 +244,7 @@ module _ (s : State) (m : ℕ) (seated : IsSeated s) (h h1 : Thread) (number : h
     pub told_so_far : (pairs : List Answered) × HasTold s h1.number pairs []
     told_so_far = (pairs, runs.told)
 
-    module _ (s1 : State) (moves : MovesBranches h1.number s s1) (told1 : (pairs : List Answered) → HasTold s h1.number pairs [] → HasTold s1 h1.number pairs (jobs_at (code_in s) h1)) where
+    module _ (s1 : State) (moves : ChangesBranches h1.number s s1) (told1 : (pairs : List Answered) → HasTold s h1.number pairs [] → HasTold s1 h1.number pairs (jobs_at (code_in s) h1)) where
       abbrev s1' : State
       s1' = changed s s1.mail s1.seats s1.hands
 
@@ -290,7 +290,7 @@ module _ (s : State) (m : ℕ) (seated : IsSeated s) (h h1 : Thread) (number : h
         pub s2_seated : IsSeated s2
         s2_seated = descends_seated m (suc m) s s2 s2_descends seated
 
-        module _ (s3 : State) (gathers : MovesBranches h1.number s2 s3) where
+        module _ (s3 : State) (gathers : ChangesBranches h1.number s2 s3) where
           pub s3_descends : Descends m (suc m) s s3
           s3_descends = descends_then m (suc m) s s2 s3 s2_descends (moves_descends m h1.number s2 s3 at_m gathers)
 

@@ -7,7 +7,7 @@ use Rattle.forec_tree.specs.Pauses.{within}
 use Rattle.forec_tree.specs.Faults.{is_in, Leads}
 use Rattle.forec_tree.proofs.Fixed.{IsLocal}
 use Rattle.loop_check.specs.Graph.{IsOrder}
-use Rattle.loop_check.proofs.Indexed.{split}
+use Rattle.loop_check.proofs.IndexLemmas.{split}
 use Rattle.loop_check.proofs.Ordered.{is_in_snoc}
 use Rattle.loop_check.proofs.Settled.{settle, out, all_ordered}
 use Rattle.forec_check.specs.Table.{Agrees, Settles, put_at}

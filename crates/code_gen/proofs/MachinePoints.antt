@@ -306,7 +306,7 @@ module _ (k : PlainKernel) (t : ℕ) (s : List Instruction) where
   -- ---- what a step or a waking of a text leads to
 
   -- the machine comes to a place that has this text before it
-  pub record GoesOn (woke : Bool) (a : Around) (R : Text) (q : ℕ) (st : Store) (c : List ℕ) (f : Marks) (m : Machine) (u : ℕ) : Type 0 where
+  pub record ReachesText (woke : Bool) (a : Around) (R : Text) (q : ℕ) (st : Store) (c : List ℕ) (f : Marks) (m : Machine) (u : ℕ) : Type 0 where
     pub at : Where
     pub c' : List ℕ
     pub f' : Marks
@@ -314,19 +314,19 @@ module _ (k : PlainKernel) (t : ℕ) (s : List Instruction) where
     pub here : At a R at q c' f'
     pub below : SameBelow (loops a) (weaks a) c c' f f'
 
-  pub goes : (woke : Bool) (a : Around) (R : Text) (p q : ℕ) (st : Store) (c : List ℕ) (f : Marks) (m : Machine) (u : ℕ) → At a R (Here p) q c f → Comes (kernel_code k) t m (on p st c f u) → GoesOn woke a R q st c f m u
+  pub goes : (woke : Bool) (a : Around) (R : Text) (p q : ℕ) (st : Store) (c : List ℕ) (f : Marks) (m : Machine) (u : ℕ) → At a R (Here p) q c f → Comes (kernel_code k) t m (on p st c f u) → ReachesText woke a R q st c f m u
   goes woke a R p q st c f m u h g = record { at = Here p; c' = c; f' = f; comes = g; here = h; below = same_below (loops a) (weaks a) c f }
 
-  pub goes_from : {woke : Bool} {a : Around} {R : Text} {q : ℕ} {st : Store} {c : List ℕ} {f : Marks} {m m1 : Machine} {u : ℕ} → Comes (kernel_code k) t m m1 → GoesOn woke a R q st c f m1 u → GoesOn woke a R q st c f m u
+  pub goes_from : {woke : Bool} {a : Around} {R : Text} {q : ℕ} {st : Store} {c : List ℕ} {f : Marks} {m m1 : Machine} {u : ℕ} → Comes (kernel_code k) t m m1 → ReachesText woke a R q st c f m1 u → ReachesText woke a R q st c f m u
   goes_from h g = record { at = g.at; c' = g.c'; f' = g.f'; comes = comes_on (kernel_code k) t h g.comes; here = g.here; below = g.below }
 
   -- from other counters and flags of what is inside
-  pub goes_under : {woke : Bool} {a : Around} {R : Text} {q : ℕ} {st : Store} {c c1 : List ℕ} {f f1 : Marks} {m : Machine} {u : ℕ} → SameBelow (loops a) (weaks a) c c1 f f1 → GoesOn woke a R q st c1 f1 m u → GoesOn woke a R q st c f m u
+  pub goes_under : {woke : Bool} {a : Around} {R : Text} {q : ℕ} {st : Store} {c c1 : List ℕ} {f f1 : Marks} {m : Machine} {u : ℕ} → SameBelow (loops a) (weaks a) c c1 f f1 → ReachesText woke a R q st c1 f1 m u → ReachesText woke a R q st c f m u
   goes_under b g = record { at = g.at; c' = g.c'; f' = g.f'; comes = g.comes; here = g.here; below = then_below b g.below }
 
   -- the same units, written otherwise
-  pub goes_at : {woke : Bool} {a : Around} {R : Text} {q : ℕ} {st : Store} {c : List ℕ} {f : Marks} {m : Machine} {u u' : ℕ} → u ≡ u' → GoesOn woke a R q st c f m u → GoesOn woke a R q st c f m u'
-  goes_at {woke = woke} {a = a} {R = R} {q = q} {st = st} {c = c} {f = f} {m = m} e g = subst (λ n. GoesOn woke a R q st c f m n) e g
+  pub goes_at : {woke : Bool} {a : Around} {R : Text} {q : ℕ} {st : Store} {c : List ℕ} {f : Marks} {m : Machine} {u u' : ℕ} → u ≡ u' → ReachesText woke a R q st c f m u → ReachesText woke a R q st c f m u'
+  goes_at {woke = woke} {a = a} {R = R} {q = q} {st = st} {c = c} {f = f} {m = m} e g = subst (λ n. ReachesText woke a R q st c f m n) e g
 
   pub none_more : (p : ℕ) (st : Store) (c : List ℕ) (f : Marks) (m : Machine) (u : ℕ) → Comes (kernel_code k) t m (on p st c f u) → Comes (kernel_code k) t m (on p st c f (u + 0))
   none_more p st c f m u h = let e : u ≡ u + 0 = omega arith in comes_at (kernel_code k) t (ap (λ n. on p st c f n) e) h
@@ -351,7 +351,7 @@ module _ (k : PlainKernel) (t : ℕ) (s : List Instruction) where
   turns_kept (Go_on list) a c c' f f' h l = tt
   turns_kept (Again loop) a c c' f f' h l = left_kept loop.bound loop.left a c c' f f' h l
 
-  pub goes_then : (woke : Bool) (b : After) (a : Around) (R : Text) (m q : ℕ) (st : Store) (c : List ℕ) (f : Marks) (mach : Machine) (u : ℕ) → BehindAt a b m q → Turns_left a b c → GoesOn woke (inside a b) R m st c f mach u → GoesOn woke a (Then R b) q st c f mach u
+  pub goes_then : (woke : Bool) (b : After) (a : Around) (R : Text) (m q : ℕ) (st : Store) (c : List ℕ) (f : Marks) (mach : Machine) (u : ℕ) → BehindAt a b m q → Turns_left a b c → ReachesText woke (inside a b) R m st c f mach u → ReachesText woke a (Then R b) q st c f mach u
   goes_then woke b a R m q st c f mach u h l g = record {
     at = g.at;
     c' = g.c';
@@ -369,7 +369,7 @@ module _ (k : PlainKernel) (t : ℕ) (s : List Instruction) where
   below_abort false e x a c c' f f' b = b
   below_abort true e x a c c' f f' b = record { counters = b.counters; flags = λ i lt. b.flags i (omega arith) }
 
-  pub goes_watch : (woke weak : Bool) (e : Expr) (a : Around) (R : Text) (x q : ℕ) (st : Store) (c : List ℕ) (f : Marks) (mach : Machine) (u : ℕ) → Ends x q → Fits (kernel_code k) (ok k) e → Unset weak (weaks a) f → GoesOn woke (InAbort weak e x a) R x st c f mach u → GoesOn woke a (Watch weak e R) q st c f mach u
+  pub goes_watch : (woke weak : Bool) (e : Expr) (a : Around) (R : Text) (x q : ℕ) (st : Store) (c : List ℕ) (f : Marks) (mach : Machine) (u : ℕ) → Ends x q → Fits (kernel_code k) (ok k) e → Unset weak (weaks a) f → ReachesText woke (InAbort weak e x a) R x st c f mach u → ReachesText woke a (Watch weak e R) q st c f mach u
   goes_watch woke weak e a R x q st c f mach u ends fit unset g = record {
     at = g.at;
     c' = g.c';
@@ -379,7 +379,7 @@ module _ (k : PlainKernel) (t : ℕ) (s : List Instruction) where
     below = below_abort weak e x a c g.c' f g.f' g.below;
   }
 
-  pub goes_last : (woke : Bool) (e : Expr) (a : Around) (R : Text) (x q : ℕ) (st : Store) (c : List ℕ) (f : Marks) (mach : Machine) (u : ℕ) → Ends x q → get_or f.flags (weaks a) false ≡ true → GoesOn woke (InAbort true e x a) R x st c f mach u → GoesOn woke a (Last R) q st c f mach u
+  pub goes_last : (woke : Bool) (e : Expr) (a : Around) (R : Text) (x q : ℕ) (st : Store) (c : List ℕ) (f : Marks) (mach : Machine) (u : ℕ) → Ends x q → get_or f.flags (weaks a) false ≡ true → ReachesText woke (InAbort true e x a) R x st c f mach u → ReachesText woke a (Last R) q st c f mach u
   goes_last woke e a R x q st c f mach u ends set g = record {
     at = g.at;
     c' = g.c';

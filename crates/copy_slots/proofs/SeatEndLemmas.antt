@@ -11,7 +11,7 @@ use Rattle.copy_slots.specs.declared.view.Role.{Role}
 use Rattle.copy_slots.specs.declared.view.Role.TheVariants.{Mailbox}
 use Rattle.copy_slots.specs.declared.view.View.{View}
 use Rattle.copy_slots.specs.Mail.{posed, spent}
-use Rattle.copy_slots.specs.Places.{hand_in, hand_if, parent_hand, child_hand, hand, Sits, Watches}
+use Rattle.copy_slots.specs.SeatEnds.{hand_in, hand_if, parent_hand, child_hand, hand, Sits, Watches}
 
 module _ {Q : Type 0} where
   abbrev place_of : Role Q → PacketAt

@@ -6,7 +6,7 @@ use Rattle.std.proofs.lemmas.List.{take-append-le, get_or_append_left}
 use Rattle.std.proofs.Math.Seq.{take-append_seam, get_or-append_seam}
 use Rattle.body_lower.specs.declared.trail.Link.{Link}
 use Rattle.body_lower.specs.Trail.{blank, last_from, last_of, Chained, put_at, pushed}
-use Rattle.loop_check.proofs.Indexed.{split}
+use Rattle.loop_check.proofs.IndexLemmas.{split}
 
 pub last_append : (id at f : ℕ) (xs ys : List Link) → last_from id at f (xs ++ ys) ≡ last_from id (at + length xs) (last_from id at f xs) ys
 last_append id at f [] ys = let e : at + 0 ≡ at = omega arith in ap (λ n. last_from id n f ys) (sym e)

@@ -13,8 +13,8 @@ use Rattle.text_kernel.specs.declared.names.Stands.{Stands}
 use Rattle.text_kernel.specs.declared.names.Stands.TheVariants as st
 use Rattle.text_kernel.specs.Bindings.{with_locals, slots_of, number_of}
 use Rattle.text_kernel.specs.Lowering as low
-use Rattle.text_kernel.specs.Lowering.{read_as, element_as, stands, lower_term, lower_terms, sequence, ends_with, operated, assign_to, assign_at, array_values, lower_local, lower_locals, set_params, optional_test, lower_target, lower_statement, lower_list, lower_perhaps, lower_branches, scope_after, scope_after_perhaps, after_start, then_step, par_of, par_after, NextNumbers, InPlace}
-use Rattle.text_sizes.specs.Counts.{term_count, terms_count, sequence_count, values_count, first_count, local_count, locals_count, operated_count, assign_count, sets_count, optional_count, branches_count, statement_count, own, own_all, own_perhaps, own_start, own_step}
+use Rattle.text_kernel.specs.Lowering.{read_as, element_as, stands, lower_term, lower_terms, sequence, ends_with, operated, assign_to, assign_at, array_values, lower_local, lower_locals, set_params, optional_test, lower_target, lower_statement, lower_list, lower_perhaps, lower_branches, scope_after, scope_after_perhaps, after_start, then_step, par_of, par_after, NextNumbers, Inlined}
+use Rattle.text_sizes.specs.TermCounts.{term_count, terms_count, sequence_count, values_count, first_count, local_count, locals_count, operated_count, assign_count, sets_count, optional_count, branches_count, statement_count, own, own_all, own_perhaps, own_start, own_step}
 
 read_weight : (x : Stands) → expr_weight (read_as x) ≡ 1
 read_weight (st.AtSlot slot) = refl
@@ -100,7 +100,7 @@ pub par_terms : (bs : List Branch) → stmt_terms (par_of bs) ≡ suc (branches_
 par_terms [] = refl
 par_terms (b ∷ rest) = omega arith
 
-module _ (text : Text) (called : ℕ → InPlace) (sizes : ℕ → ℕ) (right : (id first t : ℕ) (n : NextNumbers) → stmt_terms (called id first t n).stmt ≡ sizes id) where
+module _ (text : Text) (called : ℕ → Inlined) (sizes : ℕ → ℕ) (right : (id first t : ℕ) (n : NextNumbers) → stmt_terms (called id first t n).stmt ≡ sizes id) where
   values_length : (s : List Slot) (slot size k : ℕ) (es : Terms) (place : Place) → stmts_length (array_values text s slot size k es place) ≡ count_terms es
   values_length s slot size k no_terms place = refl
   values_length s slot size k (more_terms e rest) place = ap suc (values_length s slot size (suc k) rest place)

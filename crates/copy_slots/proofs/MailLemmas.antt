@@ -15,7 +15,7 @@ use Rattle.copy_slots.specs.declared.view.Taker.{Taker}
 use Rattle.copy_slots.specs.declared.view.Role.{Role}
 use Rattle.copy_slots.specs.declared.view.Role.TheVariants.{Idle, Keeper, Mailbox}
 use Rattle.copy_slots.specs.declared.view.View.{View}
-use Rattle.copy_slots.specs.Mail.{Stage, fresh, with_parent, at_child, with_child, at_parent, Mail, End, parent_of, child_of, root, owner_of, IsOut, IsPlaced, IsHeld, SendsAt, TakesAt, KnowsParent, KnowsChild, Knows, Has, IsFresh, IsWithParent, IsAtChild, IsWithChild, IsAtParent, BoxAt, Past, spent, Seated, Kept, posed, sender_opened, sender_got, sender_looked, sender_sent, taker_took, taker_looked, taker_answered, turn_between, opened, collected, offered, took, answered}
+use Rattle.copy_slots.specs.Mail.{Stage, fresh, with_parent, at_child, with_child, at_parent, Mail, End, parent_of, child_of, root, owner_of, IsOut, IsAtStage, IsHeld, SendsAt, TakesAt, KnowsParent, KnowsChild, Knows, Has, IsFresh, IsWithParent, IsAtChild, IsWithChild, IsAtParent, BoxAt, Past, spent, Seated, Kept, posed, sender_opened, sender_got, sender_looked, sender_sent, taker_took, taker_looked, taker_answered, turn_between, opened, collected, offered, took, answered}
 
 module _ {A : Type 0} where
   abbrev pick : {X : Type 0} → Dec X → A → A → A
@@ -193,7 +193,7 @@ module _ {W P Q : Type 0} (plain : P → Q) (asks : W → ℕ → List Q → Typ
   held_moves true g g' n n' h = absurd (n h)
   held_moves false g g' n n' h = n'
 
-  placed_moves : (p : PacketAt) (g g' : Stage) → IsOut g → IsOut g' → IsPlaced p g → IsPlaced p g'
+  placed_moves : (p : PacketAt) (g g' : Stage) → IsOut g → IsOut g' → IsAtStage p g → IsAtStage p g'
   placed_moves Fresh g g' o o' h = absurd (subst IsOut h o)
   placed_moves Held g g' o o' h = absurd (subst IsOut h o)
   placed_moves Out g g' o o' h = o'
@@ -202,7 +202,7 @@ module _ {W P Q : Type 0} (plain : P → Q) (asks : W → ℕ → List Q → Typ
   pub opens : (slots id : ℕ) (me : Me (Option P) (View W Q)) (k : ℕ) (x : Sender Q) (c : Option (Taker Q)) → me.0.role ≡ Mailbox k (Some x) c → x.place ≡ Fresh
       → Allows Rule slots id me k (λ n. n) (opened plain (step slots k 0 0 none) me)
   opens slots id me k x c is place s r deep at _ = let h = knows s r id me.0 (Mailbox k (Some x) c) at is tt in let at_k = h.2.1.1 in
-      let stage : (r.mail k).stage ≡ fresh = subst (λ (z : PacketAt). IsPlaced z (r.mail k).stage) place at_k.place in
+      let stage : (r.mail k).stage ≡ fresh = subst (λ (z : PacketAt). IsAtStage z (r.mail k).stage) place at_k.place in
       let box : IsFresh plain asks answers work blanks k (r.mail k) (get_or s.words k 0) (get_elem? s.homes k) = subst (λ (z : Stage). BoxAt plain asks answers work blanks z k (r.mail k) (get_or s.words k 0) (get_elem? s.homes k)) stage (r.each_box k h.2.0) in
       let m : Mail Q = record { stage = with_parent; sent = []; got = []; taken = []; answered = [] } in
       let low : get_or s.words k 0 < 2 = let w = box.word_is in omega arith in
@@ -280,7 +280,7 @@ module _ {W P Q : Type 0} (plain : P → Q) (asks : W → ℕ → List Q → Typ
       h = knows s r id me.0 (Mailbox k (Some x) c) at is tt
 
       out : (g : Stage) → (r.mail k).stage ≡ g → IsOut g
-      out g e = subst (λ (z : PacketAt). IsPlaced z g) place (subst (IsPlaced x.place) e h.2.1.1.place)
+      out g e = subst (λ (z : PacketAt). IsAtStage z g) place (subst (IsAtStage x.place) e h.2.1.1.place)
 
       Goal : Type 0
       Goal = (w : View W Q) × (a : Act (Option P)) × Valid s.homes me.1 a × Rule (stepped s k (get_or s.words k 0) id me.1 w a) × collected plain answers (step slots k 0 0 none) me (get_or s.words k 0) (w, carried_after me.1 a)
@@ -344,7 +344,7 @@ module _ {W P Q : Type 0} (plain : P → Q) (asks : W → ℕ → List Q → Typ
   pub offers : (slots id : ℕ) (me : Me (Option P) (View W Q)) (k : ℕ) (x : Sender Q) (c : Option (Taker Q)) (p : P) → me.0.role ≡ Mailbox k (Some x) c → x.place ≡ Held → (tail : List (ℕ × Option P)) → me.1 ≡ (k, Some p) ∷ tail
       → (w : W) → me.0.work ≡ Some w → asks w k (x.sent ++ plain p ∷ []) → Allows Rule slots id me k (λ _. 1) (λ _. offered plain (step slots k 1 0 none) me 1)
   offers slots id me k x c p is place tail carried w at_work allowed s r deep at _ = let h = knows s r id me.0 (Mailbox k (Some x) c) at is tt in let at_k = h.2.1.1 in let old = r.mail k in let q = plain p in
-      let stage : old.stage ≡ with_parent = subst (λ (z : PacketAt). IsPlaced z old.stage) place at_k.place in
+      let stage : old.stage ≡ with_parent = subst (λ (z : PacketAt). IsAtStage z old.stage) place at_k.place in
       let b : IsWithParent plain asks answers work blanks k old (get_or s.words k 0) (get_elem? s.homes k) = box_of s r k with_parent h.2.0 stage in let past = r.each_past k h.2.0 in
       let m : Mail Q = record { stage = at_child; sent = old.sent ++ q ∷ []; got = old.got; taken = old.taken; answered = old.answered } in
       let asked : asks work k (old.sent ++ q ∷ []) = subst (λ (z : W × List Q). asks z.0 k (z.1 ++ q ∷ [])) (λ i. (some_is w work (sym at_work ∙ h.0) i, at_k.sent i)) allowed in

@@ -15,7 +15,7 @@ use Rattle.thread_code.specs.Valid.{called, steps_of, deep_within}
 use Rattle.code_gen.specs.Expressions.{expression_code, expressions_code}
 use Rattle.code_gen.specs.Statements.{Around, Outside, loops, inner, fill_code, turn_code, statement_code, statements_code}
 use Rattle.code_gen.specs.Blocks.{function_block, kernel_code}
-use Rattle.code_gen.proofs.Blocks.{block_at}
+use Rattle.code_gen.proofs.BlockLemmas.{block_at}
 use Rattle.code_gen.proofs.Each.{Each, each_front, each_back, each_map, each_test, test_each}
 use Rattle.code_gen.proofs.Deep.{deep, statement_named}
 

@@ -20,11 +20,11 @@ use Rattle.forec_kernel.specs.Plain.{stmt}
 use Rattle.forec_kernel.specs.declared.terms.Statement as rust
 use Rattle.text_kernel.specs.declared.names.Slot.{Slot}
 use Rattle.text_kernel.specs.Bindings.{params_at}
-use Rattle.text_kernel.specs.Lowering.{NextNumbers, Lowered, InPlace, scope_after, from_slot, as_one, bound_of, lower_term, lower_statement, lower_list, lower_perhaps, body_in_place}
+use Rattle.text_kernel.specs.Lowering.{NextNumbers, Lowered, Inlined, scope_after, from_slot, as_one, bound_of, lower_term, lower_statement, lower_list, lower_perhaps, inlined_body}
 use Rattle.body_lower.specs.declared.landing.Landing.{Landing}
 use Rattle.body_lower.specs.declared.state.State.{State}
 use Rattle.body_lower.specs.Landings.{only, inside, SameKernel, called_within, FunctionLands, AllLand, CallLands, put_at}
-use Rattle.loop_check.proofs.Indexed.{split}
+use Rattle.loop_check.proofs.IndexLemmas.{split}
 use Rattle.body_lower.specs.Views.{seen, Same, next_of, threads_of, bare, Does}
 use Rattle.body_lower.proofs.Doing.{does_as, threads_two, same_seen}
 
@@ -108,7 +108,7 @@ called_one : (text : Text) (id : ℕ) (f : PlainFunction) (a : Statement) (d fir
 unfolding within
 called_one text id f a d first t n e p b =
     let called = called_within text d in
-    ap (λ o. body_in_place text called o first t n) e
+    ap (λ o. inlined_body text called o first t n) e
     ∙ (ap (λ ps. as_one (lower_list text called t (params_at first ps) n f.body)) p
     ∙ (ap (λ q. as_one (lower_list text called t [] n q)) b ∙ one_alone (lower_statement text called t [] n a)))
 
@@ -171,7 +171,7 @@ does_shown text F k s old one two new h e d n w =
 pub does_boxed : {text : Text} (l : Lowered) (k b : rust.Statement) → b ≡ k → {old : State} (new : State) → Does text l (stmt k) old new → Does text l (stmt b) old new
 does_boxed {text} l k b e {old} new d = subst (λ x. Does text l (stmt x) old new) (sym e) d
 
-module _ (text : Text) (called : ℕ → InPlace) (t : ℕ) where
+module _ (text : Text) (called : ℕ → Inlined) (t : ℕ) where
   pub if_does : (at : Place) (test : Term) (a : Statement) (b : Perhaps) (old one two : State) (k1 k2 : Stmt) (kt : kernel.Expr) → Same old.scope one.scope → Same one.scope two.scope →
       Does text (lower_statement text called t (seen old.scope) (next_of old) a) k1 old one → Does text (lower_perhaps text called t (seen one.scope) (next_of one) b) k2 one two →
       kt ≡ lower_term text (seen two.scope) test → Does text (lower_statement text called t (seen old.scope) (next_of old) (If at test a b)) (kernel.If kt k1 k2) old two

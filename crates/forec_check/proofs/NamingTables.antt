@@ -22,11 +22,11 @@ use Rattle.forec_tree.proofs.Fixed.{IsLocal}
 use Rattle.forec_check.proofs.LeastLaws.{least-append}
 use Rattle.loop_check.specs.Graph.{IsOrder}
 use Rattle.loop_check.specs.Known.{Read, is_function}
-use Rattle.loop_check.proofs.Indexed.{split}
+use Rattle.loop_check.proofs.IndexLemmas.{split}
 use Rattle.loop_check.proofs.Ordered.{is_in_snoc, other_id}
 use Rattle.loop_check.proofs.Settled.{all_ordered}
 use Rattle.forec_check.specs.Table.{put_at}
-use Rattle.forec_check.proofs.Tables.{settles_by}
+use Rattle.forec_check.proofs.TableLemmas.{settles_by}
 use Rattle.loop_check.proofs.Reading.{leads_same}
 use Rattle.forec_check.specs.declared.walk.effects.Effect.{Effect}
 use Rattle.forec_check.specs.declared.instances.access_count.AccessCount.{AccessCount}
@@ -34,7 +34,7 @@ use Rattle.forec_check.specs.Walk.{effects_of, item_effects}
 use Rattle.forec_check.specs.Early.{calls_in, improves}
 use Rattle.forec_check.specs.AccessCounts.{capped, access_of, no_access_count, access_at, called_access, effects_in, scan_effects, capped_step, value_of, Orders, access_fault, access_faults}
 use Rattle.forec_check.proofs.Recursion.{graph_is}
-use Rattle.forec_check.proofs.AccessCounting.{effects_tell, capped_local, capped_within, two_instances, counted, capped_twice}
+use Rattle.forec_check.proofs.AccessCountLemmas.{effects_tell, capped_local, capped_within, two_instances, counted, capped_twice}
 
 pub few_push : (xs : List AccessCount) (k : ℕ) → access_at (xs ++ no_access_count ∷ []) k ≡ access_at xs k
 few_push [] zero = refl

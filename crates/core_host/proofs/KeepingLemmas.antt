@@ -9,7 +9,7 @@ use Rattle.thread_code.specs.Valid.{of_shape, IsValidCode}
 use Rattle.combine_tree.specs.declared.packet.Packet.{Packet}
 use Rattle.combine_tree.specs.Plain.{plain_packet}
 use Rattle.core_machine.specs.declared.thread.Thread.{Thread}
-use Rattle.core_machine.specs.Held.{Loaded}
+use Rattle.core_machine.specs.Threads.{Loaded}
 use Rattle.copy_slots.specs.declared.view.PacketAt.TheVariants.{Fresh, Held}
 use Rattle.copy_slots.specs.declared.view.Sender.{Sender}
 use Rattle.copy_slots.specs.declared.view.Taker.{Taker}
@@ -18,7 +18,7 @@ use Rattle.core_host.specs.Posts.{Mail, IsBranchOf, AreReplies, replies_to}
 use Rattle.core_host.specs.Changes.{Extends, Grown}
 use Rattle.core_host.specs.Done.{Posts, HasDone}
 use Rattle.core_host.specs.Keeping.{State, code_in, Alike, Leaves, IsSeated, IsFitted, LastReply, Idle, Ready, blank, reply, HasPacket, Quiet}
-use Rattle.core_host.specs.Moving.{MovesPacket}
+use Rattle.core_host.specs.Moving.{ChangesPacket}
 use Rattle.core_host.proofs.Mails.{by_equal, alike_then, extends_same, extends_then}
 
 -- ---- the tree of threads
@@ -129,7 +129,7 @@ quiet_keeps k a b s t q = record {
 
 -- ---- changes of one parent's end
 
-module _ (a b : State) (k : ℕ) (moves : MovesPacket k a b) where
+module _ (a b : State) (k : ℕ) (moves : ChangesPacket k a b) where
   moved_thread : (j : ℕ) → (IsBranchOf (code_in a).shape (suc j) k → ⊥) → SameThread j a b
   moved_thread j other = record {
     code = moves.code;
@@ -262,7 +262,7 @@ seated_by a b code places alike seats hands f =
 pub seated_keeps : (t u : ℕ) (a b : State) → Leaves t u a b → IsSeated a → IsSeated b
 seated_keeps t u a b h f = seated_by a b h.code h.places h.alike h.seat_count h.hand_count f
 
-pub moved_seated : (a b : State) (k : ℕ) → MovesPacket k a b → IsSeated a → IsSeated b
+pub moved_seated : (a b : State) (k : ℕ) → ChangesPacket k a b → IsSeated a → IsSeated b
 moved_seated a b k h f = seated_by a b h.code h.places h.alike (ap length h.seats) h.hand_count f
 
 pub fitted_keeps : (t u : ℕ) (a b : State) → Leaves t u a b → IsFitted a → IsFitted b

@@ -7,10 +7,10 @@ use Rattle.std.specs.declared.alloc.Global.{Global}
 use Rattle.forec_tree.specs.Faults.{is_in, Leads}
 use Rattle.forec_kernel.specs.WellFormed.{greatest, count_up}
 use Rattle.loop_check.specs.Graph.{IsOrder, callees}
-use Rattle.loop_check.proofs.Indexed.{split}
+use Rattle.loop_check.proofs.IndexLemmas.{split}
 use Rattle.loop_check.proofs.Ordered.{other_id}
 use Rattle.forec_check.specs.Table.{Settles, put_at}
-use Rattle.forec_check.proofs.Tables.{settles_by}
+use Rattle.forec_check.proofs.TableLemmas.{settles_by}
 use Rattle.kernel_lower.specs.Reach.{value_at, chain_step, chain_value}
 
 pub value_push : (xs : List ℕ) (k : ℕ) → value_at (xs ++ 0 ∷ []) k ≡ value_at xs k

@@ -3,7 +3,7 @@ use Rattle.std.proofs.Common.{◌≡◌, ◌≢◌, ◌∙◌, ℕ, zero, suc, �
 use Rattle.forec_base.specs.Numbers.{is_zero}
 use Rattle.forec_base.specs.declared.Place.{Place}
 use Rattle.forec_base.specs.declared.Trap.{Trap}
-use Rattle.forec_kernel.specs.Values.{Value, Gives, Stops, more_units, value_then, Values, AllGive, OneStops, values_then, Flow, Goes, Returns, Breaks, more_flow, flow_with}
+use Rattle.forec_kernel.specs.Values.{Value, Gives, Raises, more_units, value_then, Values, AllGive, OneRaises, values_then, Flow, Goes, Returns, Breaks, more_flow, flow_with}
 use Rattle.running_texts.specs.declared.meter.Halt.{Halt}
 use Rattle.running_texts.specs.declared.meter.Halt.TheVariants.{Trapped, Over, OutOfMemory}
 use Rattle.running_texts.specs.declared.functions.Ran.{Ran}
@@ -71,7 +71,7 @@ tested_gives old mid x (Gives n u) m =
     let units_same : u + 1 ≡ m.by.units = cc in
     let l = m.by.left in
     record { units = u; is = ap (λ k. Gives k u) number_same; left = omega arith }
-tested_gives old mid x (Stops place trap u) m = let e : Stops place trap u ≡ Gives x m.by.units = m.by.is in absurd (cc)
+tested_gives old mid x (Raises place trap u) m = let e : Raises place trap u ≡ Gives x m.by.units = m.by.is in absurd (cc)
 
 pub test_ok : {Y W : Type 0} (b : Kind Y W) (bind : Value → (ℤ → W) → W) (more : ℕ → W → W) →
     Binds number b (λ x. x) bind more → Adds b more → (old mid new : ℕ) (x : ℤ) (r : Result Y Halt) (v : Value) (go : ℤ → W) (w : W) →
@@ -86,23 +86,23 @@ pub test_err : {Y W : Type 0} (b : Kind Y W) (bind : Value → (ℤ → W) → W
     Binds number b (λ x. x) bind more → Adds b more → (old new : ℕ) (h : Halt) (v : Value) (go : ℤ → W) → ((x : ℤ) → 1 ≤ b.units (go x)) →
     IsMetered number old new (Err h) (value_then v (λ x. Gives x 1)) → IsMetered b old new (Err h) (bind v go)
 test_err b bind more binds adds old new (Trapped place trap) (Gives n u) go least m =
-    let e : Gives n (u + 1) ≡ Stops place trap m.by.units = m.by.is in absurd (cc)
-test_err b bind more binds adds old new (Trapped place trap) (Stops p t u) go least m =
-    then_err number b (λ x. x) bind more binds old new (Trapped place trap) (Stops p t u) go
+    let e : Gives n (u + 1) ≡ Raises place trap m.by.units = m.by.is in absurd (cc)
+test_err b bind more binds adds old new (Trapped place trap) (Raises p t u) go least m =
+    then_err number b (λ x. x) bind more binds old new (Trapped place trap) (Raises p t u) go
     (record { by = record { units = m.by.units; is = m.by.is; left = m.by.left } })
 test_err b bind more binds adds old new Over (Gives n u) go least m =
     let h : old < u + 1 = m.by in
     let whole = ap b.units (binds.gives n u go) ∙ adds.units u (go n) in
     record { by = omega (arith, least n) }
-test_err b bind more binds adds old new Over (Stops p t u) go least m =
-    let h : old < u = m.by in record { by = omega (arith, binds.least (Stops p t u) go) }
+test_err b bind more binds adds old new Over (Raises p t u) go least m =
+    let h : old < u = m.by in record { by = omega (arith, binds.least (Raises p t u) go) }
 test_err b bind more binds adds old new OutOfMemory v go least m = record { by = tt }
 
 -- ---- the kinds
 
 value_more : (u : ℕ) (w : Value) → value_units (more_units u w) ≡ u + value_units w
 value_more u (Gives n w) = refl
-value_more u (Stops place trap w) = refl
+value_more u (Raises place trap w) = refl
 
 pub adds_number : Adds number more_units
 adds_number = record { gives = λ u w y. refl; stops = λ u w p t. refl; units = value_more }
@@ -121,21 +121,21 @@ adds_flow = record { gives = flow_gives; stops = λ u w p t. refl; units = flow_
 
 value_least : (v : Value) (go : ℤ → Value) → value_units v ≤ value_units (value_then v go)
 value_least (Gives n u) go = let e = value_more u (go n) in omega arith
-value_least (Stops place trap u) go = omega arith
+value_least (Raises place trap u) go = omega arith
 
 pub binds_value : Binds number number (λ x. x) value_then more_units
 binds_value = record { gives = λ x u go. refl; stops = λ p t u go. refl; least = value_least }
 
 values_least : (v : Values) (go : List ℤ → Value) → numbers.units v ≤ value_units (values_then v go)
 values_least (AllGive ns u) go = let e = value_more u (go ns) in omega arith
-values_least (OneStops place trap u) go = omega arith
+values_least (OneRaises place trap u) go = omega arith
 
 pub binds_values : Binds numbers number (λ v. v.items) values_then more_units
 binds_values = record { gives = λ x u go. refl; stops = λ p t u go. refl; least = values_least }
 
 flow_least : (v : Value) (go : ℤ → Flow) → value_units v ≤ flowing.units (flow_with v go)
 flow_least (Gives n u) go = let e = flow_more u (go n) in omega arith
-flow_least (Stops place trap u) go = omega arith
+flow_least (Raises place trap u) go = omega arith
 
 pub binds_flow : Binds number flowing (λ x. x) flow_with more_flow
 binds_flow = record { gives = λ x u go. refl; stops = λ p t u go. refl; least = flow_least }

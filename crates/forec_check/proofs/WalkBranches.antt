@@ -22,7 +22,7 @@ use Rattle.forec_tree.specs.Rules.{Judging}
 use Rattle.forec_tree.proofs.Rows.{branch-group}
 use Rattle.forec_tree.specs.Plain.{perhaps_of}
 use Rattle.forec_check.specs.Walk.{NotesView, walked}
-use Rattle.forec_check.proofs.Walked.{walked-append, walked-none, passed_loop}
+use Rattle.forec_check.proofs.WalkLemmas.{walked-append, walked-none, passed_loop}
 use Rattle.forec_check.proofs.Parts.{two, three, then, count_is}
 
 module _ (j : Judging) (text : Text) (s : Scope) where

@@ -15,7 +15,7 @@ use Rattle.forec_kernel.specs.Combining.{contains, variable_of}
 use Rattle.forec_kernel.specs.Texts.{uses_of, words_of, words_in, body_of}
 use Rattle.forec_kernel.specs.WellFormed.{greatest, count_up, stmt_calls, pars_of, all_in, blank_thread, thread_of}
 use Rattle.forec_kernel.specs.declared.shape.Variable.{Variable}
-use Rattle.loop_check.proofs.Indexed.{split}
+use Rattle.loop_check.proofs.IndexLemmas.{split}
 use Rattle.text_kernel.specs.Bindings.{number_among, is_variable, is_int_function}
 use Rattle.text_kernel.specs.Lowering.{stands, read_as, vars_in, NextNumbers, Made}
 use Rattle.text_kernel.specs.declared.names.Slot.{Slot}

@@ -13,8 +13,8 @@ use Rattle.core_host.specs.declared.seat.Seat.{Seat}
 use Rattle.core_host.specs.Posts.{Mail, IsBranchOf, AreReplies, replies_to}
 use Rattle.core_host.specs.Keeping.{State, code_in, Alike, HasPacket, HasHeard}
 use Rattle.core_host.specs.Waiting.{jobs_out, HasTold, IsForked, IsGathering, IsAtWork, IsWaiting, IsAtRest, WaitsAt, IsBetween, rests, waits}
-use Rattle.core_host.specs.Serving.{MovesBranches, Touches}
-use Rattle.core_host.proofs.Keep.{same_child, idle_keeps, packet_keeps, parent_once}
+use Rattle.core_host.specs.Serving.{ChangesBranches, Touches}
+use Rattle.core_host.proofs.KeepingLemmas.{same_child, idle_keeps, packet_keeps, parent_once}
 use Rattle.core_host.proofs.Send.{at_map}
 use Rattle.core_host.proofs.OneMoreExchange.{changed, changed_is, lacks_keeps}
 
@@ -125,7 +125,7 @@ between_still a b k touches j other =
     apart i mine is = let same = parent_once (code_in a) (suc j) (suc k) i mine is in other (omega (arith, same))
 
 -- the branches of thread t were looked at, or told jobs
-pub between_moves : (a b : State) (t : ℕ) → MovesBranches t a b → (j : ℕ) → suc j ≢ t → IsBetween a j → IsBetween b j
+pub between_moves : (a b : State) (t : ℕ) → ChangesBranches t a b → (j : ℕ) → suc j ≢ t → IsBetween a j → IsBetween b j
 between_moves a b t moves j other =
     between_keeps a b moves.code moves.places moves.alike j (ap (λ l. slice_get l (suc j)) moves.seats) (moves.children j) (λ i mine. moves.parents i (apart i mine)) (λ i mine. moves.hands i (apart i mine))
   where

@@ -6,7 +6,7 @@ use Rattle.std.proofs.lemmas.Option.{slice_get-get_or}
 use Rattle.forec_kernel.specs.Combining.{contains}
 use Rattle.forec_kernel.specs.Packed.{HasRoom}
 use Rattle.forec_kernel.specs.Engine.{Job}
-use Rattle.forec_kernel.specs.Composed.{Turn}
+use Rattle.forec_kernel.specs.Composed.{TickInput}
 use Rattle.thread_code.specs.declared.instruction.CodeParts.{CodeParts}
 use Rattle.thread_code.specs.Plain.{plain_code}
 use Rattle.thread_code.specs.Valid.{of_shape}
@@ -15,7 +15,7 @@ use Rattle.thread_code.specs.Laws.{EachFits}
 use Rattle.combine_tree.specs.declared.packet.Packet.{Packet}
 use Rattle.combine_tree.specs.Plain.{plain_packet}
 use Rattle.core_machine.specs.declared.thread.Thread.{Thread}
-use Rattle.core_machine.specs.Held.{Loaded}
+use Rattle.core_machine.specs.Threads.{Loaded}
 use Rattle.core_bells.specs.Ropes.{RopeState, IsSameRope, rooms_of}
 use Rattle.copy_slots.specs.Ports.{child_at, ChildIs}
 use Rattle.core_alloc.specs.Places.{Places}
@@ -31,8 +31,8 @@ use Rattle.core_host.specs.declared.round.Round.{Round}
 use Rattle.core_host.specs.Hosted.{Hosted, hosted, is_here, IsWhole}
 use Rattle.core_host.specs.Rests.{RootRests, IsHosted}
 use Rattle.core_host.specs.Runs.{HasJobs, HasRun}
-use Rattle.core_host.proofs.Keep.{done_keeps, packet_keeps}
-use Rattle.core_host.proofs.Serves.{keeps_seated, both_held}
+use Rattle.core_host.proofs.KeepingLemmas.{done_keeps, packet_keeps}
+use Rattle.core_host.proofs.ServingLemmas.{keeps_seated, both_held}
 use Rattle.core_host.proofs.Seats.{can_keep}
 
 -- ---- lists
@@ -161,7 +161,7 @@ module _ (s0 s1 : State) (cores : List ℕ) (root : Packet) (live : Bool) (rope0
     done = done_still j.thread jobs j.sits.number j.done;
   }
 
-  pub run_keeps : (turns : List Turn) → HasRun h0 turns → HasRun h1 turns
+  pub run_keeps : (turns : List TickInput) → HasRun h0 turns → HasRun h1 turns
   unfolding HasRun
   run_keeps turns run k fine stands =
       let t = run k fine (subst (λ x. Stands (plain_code x) k) keeps.code stands) in record { jobs = jobs_keep _ t.jobs; keeps = t.keeps }

@@ -12,7 +12,7 @@ use Rattle.copy_slots.specs.declared.view.Role.{Role}
 use Rattle.copy_slots.specs.declared.view.Role.TheVariants.{Idle, Keeper, Mailbox}
 use Rattle.copy_slots.specs.declared.view.View.{View}
 use Rattle.copy_slots.specs.Mail.{Mail, End, parent_of, child_of, root, owner_of, KnowsParent, KnowsChild, Knows, Has, IsEnd, spent, Seated, Kept}
-use Rattle.copy_slots.proofs.Mailing.{put, put_here, put_else, knows, below}
+use Rattle.copy_slots.proofs.MailLemmas.{put, put_here, put_else, knows, below}
 use Rattle.copy_slots.proofs.Dealing.{resplit}
 use Rattle.slot_board.specs.Slots.{is_watch}
 use Rattle.slot_board.specs.Splits.{parent_alone, child_alone, role_joined, parent_part, child_part, idle, joined}

@@ -13,9 +13,9 @@ use Rattle.forec_tree.specs.Plain.{statement, statements, branches, branch_with}
 use Rattle.forec_tree.specs.Terms as tree
 use Rattle.forec_tree.specs.Terms.{Text, Term, Terms, count_terms, Declared, Written, Statement, Statements, no_statements, more_statements, Perhaps, absent, present, Branches, no_branches, by_call, by_group, PlainFunction}
 use Rattle.forec_tree.specs.Pauses.{within, find_function}
-use Rattle.loop_check.proofs.Indexed.{split}
+use Rattle.loop_check.proofs.IndexLemmas.{split}
 use Rattle.text_kernel.specs.Bindings.{params_at}
-use Rattle.text_kernel.specs.Lowering.{NextNumbers, Lowered, Started, from_slot, scope_after, scope_after_perhaps, par_after, body_in_place, lower_statement, lower_list, lower_perhaps, lower_branches}
+use Rattle.text_kernel.specs.Lowering.{NextNumbers, Lowered, Started, from_slot, scope_after, scope_after_perhaps, par_after, inlined_body, lower_statement, lower_list, lower_perhaps, lower_branches}
 use Rattle.body_lower.specs.declared.added.Added.{Added}
 use Rattle.body_lower.specs.Additions.{nothing, Adds, StatementAdds, PerhapsAdds, ListAdds, BranchesAdd, BodyAdds, FunctionAdds, AllAdd, Joins, put_at}
 use Rattle.body_lower.specs.Landings.{called_within}
@@ -188,7 +188,7 @@ module _ (text : Text) where
   none_adds : (id deep first t : ℕ) (n : NextNumbers) → find_function id text ≡ None → Adds nothing n (called_within text deep id first t n).next
   unfolding within
   none_adds id zero first t n e = still n
-  none_adds id (suc deep) first t n e = subst (Adds nothing n) (ap (λ (o : Option PlainFunction). (body_in_place text (called_within text deep) o first t n).next) (sym e)) (still n)
+  none_adds id (suc deep) first t n e = subst (Adds nothing n) (ap (λ (o : Option PlainFunction). (inlined_body text (called_within text deep) o first t n).next) (sym e)) (still n)
 
   pub function_none : (id : ℕ) (a : Added) → a ≡ nothing → find_function id text ≡ None → FunctionAdds text id (Some a)
   function_none id a z e = λ deep first t n h. subst (λ x. Adds x n (called_within text deep id first t n).next) (sym z) (none_adds id deep first t n e)
@@ -198,7 +198,7 @@ module _ (text : Text) where
       let m = g (deep - 1) t (params_at first f.params) n (omega (arith, h, z)) in
       let moved : Adds c n (lower_list text (called_within text (deep - 1)) t (params_at first f.params) n f.body).next = record { thread = omega (arith, m.thread, x); par = omega (arith, m.par, y) } in
       subst (Adds c n)
-      (ap (λ (l : Lowered). l.next) (sym (place_is text deep id first t n (λ q. absurd (omega (arith, q, h, z))) ∙ ap (λ (o : Option PlainFunction). body_in_place text (called_within text (deep - 1)) o first t n) e)))
+      (ap (λ (l : Lowered). l.next) (sym (place_is text deep id first t n (λ q. absurd (omega (arith, q, h, z))) ∙ ap (λ (o : Option PlainFunction). inlined_body text (called_within text (deep - 1)) o first t n) e)))
       moved
 
 -- a statement whose kind is known

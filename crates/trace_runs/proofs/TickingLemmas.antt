@@ -14,7 +14,7 @@ use Rattle.trace_runs.specs.Calls.{AppendsFront}
 use Rattle.trace_runs.specs.Ends.{IsOwn, Given}
 use Rattle.trace_runs.specs.declared.status.Status.{Status}
 use Rattle.trace_runs.specs.declared.status.Status.TheVariants as status
-use Rattle.trace_runs.proofs.Endings.{own_not}
+use Rattle.trace_runs.proofs.EndLemmas.{own_not}
 use Rattle.trace_runs.specs.Report.{Report, last_outcome}
 use Rattle.trace_runs.specs.Workload.{zero_row, workload_ticks, values_sum, outputs_sum, ticks_report, ticked_report}
 use Rattle.trace_runs.proofs.Advancing.{run_on, run_stops}

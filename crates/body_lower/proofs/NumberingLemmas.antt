@@ -3,13 +3,13 @@ use Rattle.std.proofs.Common.{ℕ, suc, ◌+◌, ◌==◌, ◌≡◌, ◌∙◌,
 use Rattle.forec_tree.specs.Terms.{Text, PlainItem, PlainGlobal, IsGlobal}
 use Rattle.forec_tree.specs.Scopes.{is_constant}
 use Rattle.text_kernel.specs.declared.names.Stands.TheVariants as st
-use Rattle.body_lower.specs.declared.globals.ItemCounts.{ItemCounts}
+use Rattle.body_lower.specs.declared.globals.KernelIndices.{KernelIndices}
 use Rattle.text_kernel.specs.Bindings.{item_id, is_variable, is_table, is_int_function, number_among, first_value, constant_stands, item_stands}
 use Rattle.body_lower.specs.Numbering.{none, counted, before_name, given, noted, global_stands}
 
 -- one count of the three
-module _ (sort : PlainItem → Bool) (of : ItemCounts → ℕ) (next : (c : ItemCounts) (i : PlainItem) → of (counted c i) ≡ of c + cond (sort i) 1 0) where
-  count_is : (id : ℕ) (c : ItemCounts) (text : Text) → of (before_name id c text) ≡ of c + number_among sort id text
+module _ (sort : PlainItem → Bool) (of : KernelIndices → ℕ) (next : (c : KernelIndices) (i : PlainItem) → of (counted c i) ≡ of c + cond (sort i) 1 0) where
+  count_is : (id : ℕ) (c : KernelIndices) (text : Text) → of (before_name id c text) ≡ of c + number_among sort id text
   count_is id c [] = omega arith
   count_is id c (i ∷ rest) = pick (item_id i == id) (sort i) refl (count_is id (counted c i) rest)
     where
@@ -29,13 +29,13 @@ pub functions_are : (id : ℕ) (text : Text) → (before_name id none text).func
 functions_are id text = let e = count_is is_int_function (λ c. c.functions) (λ c i. refl) id none text in omega (arith, e)
 
 -- one more item is noted
-pub noted_step : (g : ℕ) (c : ItemCounts) (i : PlainItem) (rest : Text) (old : Option ItemCounts) →
+pub noted_step : (g : ℕ) (c : KernelIndices) (i : PlainItem) (rest : Text) (old : Option KernelIndices) →
     given (noted (item_id i) g c old) (before_name g (counted c i) rest) ≡ given old (before_name g c (i ∷ rest))
 noted_step g c i rest None = elim (item_id i == g) as (λ b. given (cond b (Some c) None) (before_name g (counted c i) rest) ≡ cond b c (before_name g (counted c i) rest)) [ true ↦ refl | false ↦ refl ]
 noted_step g c i rest (Some d) = elim (item_id i == g) as (λ b. given (cond b (Some d) (Some d)) (before_name g (counted c i) rest) ≡ d) [ true ↦ refl | false ↦ refl ]
 
 -- what a global stands for
-pub global_is : (c : ItemCounts) (text : Text) (g : PlainGlobal) → c ≡ before_name g.name.id none text → global_stands c g ≡ item_stands text (Some (IsGlobal g))
+pub global_is : (c : KernelIndices) (text : Text) (g : PlainGlobal) → c ≡ before_name g.name.id none text → global_stands c g ≡ item_stands text (Some (IsGlobal g))
 global_is c text g e =
     ap (λ x. global_stands x g) e
     ∙ (ap (λ n. cond (is_constant g.kind) (elim g.length [ None ↦ st.AsNumber (first_value g.values) | Some k ↦ st.AsTable n ]) (st.AsVariable (before_name g.name.id none text).variables)) (tables_are g.name.id text)
