@@ -34,7 +34,6 @@ use Rattle.core_host.proofs.OneMoreExchange.{changed_is, told_posts, posts_told}
 use Rattle.core_host.proofs.WaitingLemmas.{gathering_keeps, between_keeps, between_moves}
 use Rattle.core_host.proofs.Seats.{vacant_by, can_keep}
 use Rattle.core_host.proofs.GatherReplies.{all_heard}
-use Rattle.core_host.proofs.Advancing.{forked_gathering}
 use Rattle.core_host.proofs.Resuming.{job_goes_on}
 use Rattle.core_host.proofs.Rooted.{raw1_is, number_1, in_job1, root_replies, root_rests}
 
@@ -150,36 +149,28 @@ module _ (a : State) (seated : IsSeated a) (h h1 : Thread) (loaded1 : Loaded (co
   pub fork_now : AtFork a h1
   fork_now = fork_at a seated.valid h1 loaded1 settled numbers jobs job (on_job a h1 jobs job on_now)
 
-  forked_now : IsForked (code_in a) h1
+  pub forked_now : IsForked (code_in a) h1
   forked_now = is_forked (code_in a) seated.valid h1 loaded1 settled numbers a.mail jobs job (on_job a h1 jobs job on_now)
 
-  module _ (b : State) (moves : ChangesBranches h1.number a b) (told1 : (pairs : List Answered) → HasTold a h1.number pairs [] → HasTold b h1.number pairs (jobs_at (code_in a) h1)) where
-    pub gathering_now : IsGathering b h1 pairs_now
-    gathering_now =
-        forked_gathering b h1 pairs_now (subst (λ x. IsForked (plain_code x) h1) (sym moves.code) forked_now)
-        (subst (λ x. HasTold b h1.number pairs_now (jobs_at (plain_code x) h1)) (sym moves.code) (told1 pairs_now told_now))
+  -- its branches were served, and have replied
+  module _ (d : State) (keeps : KeepsOthers a d) (all : (pairs : List Answered) → HasTold a h1.number pairs [] → HasReplies d h1 pairs) where
+    pub replies_now : HasReplies d h1 pairs_now
+    replies_now = all pairs_now told_now
 
-    module _ (d : State) (keeps : KeepsOthers b d) (all : (pairs : List Answered) → IsGathering b h1 pairs → HasReplies d h1 pairs) where
-      pub replies_now : HasReplies d h1 pairs_now
-      replies_now = all pairs_now gathering_now
+    pub heard_now : HaveHeard d h1.branches.numbers replies_now.gathering.replies
+    heard_now = all_heard d h1 pairs_now replies_now
 
-      pub heard_now : HaveHeard d h1.branches.numbers replies_now.gathering.replies
-      heard_now = all_heard d h1 pairs_now replies_now
+    seated_d : IsSeated d
+    seated_d = others_seated a d keeps seated
 
-      code_d : d.code ≡ a.code
-      code_d = keeps.code ∙ moves.code
-
-      seated_d : IsSeated d
-      seated_d = others_seated b d keeps (seated_by a b moves.code moves.places moves.alike (ap length moves.seats) moves.hand_count seated)
-
-      module _ (h2 h3 : Thread) (number2 : h2.number ≡ h1.number) (number3 : h3.number ≡ h2.number) (branches2 : h2.branches.numbers ≡ h1.branches.numbers)
-          (settles : (rs : List Reply) (xs : List Exchange) → HaveHeard d h1.branches.numbers rs → StandsFor (code_in d) h1 (with_replies xs []) → StandsFor (code_in d) h2 (with_replies xs rs))
-          (joins : (rs : List Reply) (xs : List Exchange) → HaveHeard d h2.branches.numbers rs → StandsFor (code_in d) h2 (with_replies xs rs) → StandsFor (code_in d) h3 (with_replies xs rs)) where
-        pub on_next : IsOnJob d h3 jobs job
-        on_next =
-            subst
-            (λ (x : CodeParts). (log : Log (plain_code x) h1.number jobs job) → StandsFor (plain_code x) h1 (heard (plain_code x) h1.number jobs job log) → HasReplies d h1 (told (plain_code x) h1.number jobs job log) → Loaded (plain_code x) h1 → IsOnJob d h3 jobs job)
-            code_d (λ log stands replies loaded. job_goes_on d seated_d h1 loaded jobs job log stands replies h2 h3 number2 number3 branches2 settles joins) on_now.log on_now.stands replies_now loaded1
+    module _ (h2 h3 : Thread) (number2 : h2.number ≡ h1.number) (number3 : h3.number ≡ h2.number) (branches2 : h2.branches.numbers ≡ h1.branches.numbers)
+        (settles : (rs : List Reply) (xs : List Exchange) → HaveHeard d h1.branches.numbers rs → StandsFor (code_in d) h1 (with_replies xs []) → StandsFor (code_in d) h2 (with_replies xs rs))
+        (joins : (rs : List Reply) (xs : List Exchange) → HaveHeard d h2.branches.numbers rs → StandsFor (code_in d) h2 (with_replies xs rs) → StandsFor (code_in d) h3 (with_replies xs rs)) where
+      pub on_next : IsOnJob d h3 jobs job
+      on_next =
+          subst
+          (λ (x : CodeParts). (log : Log (plain_code x) h1.number jobs job) → StandsFor (plain_code x) h1 (heard (plain_code x) h1.number jobs job log) → HasReplies d h1 (told (plain_code x) h1.number jobs job log) → Loaded (plain_code x) h1 → IsOnJob d h3 jobs job)
+          keeps.code (λ log stands replies loaded. job_goes_on d seated_d h1 loaded jobs job log stands replies h2 h3 number2 number3 branches2 settles joins) on_now.log on_now.stands replies_now loaded1
 
 -- ---- thread 0 out of its seat
 

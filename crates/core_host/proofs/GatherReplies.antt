@@ -23,8 +23,9 @@ use Rattle.core_host.proofs.KeepingLemmas.{packet_keeps}
 use Rattle.core_host.proofs.LoadLemmas.{get_then, length_then}
 use Rattle.core_host.proofs.Send.{at_map}
 use Rattle.core_host.proofs.RunChildren.{pairs_more}
-use Rattle.core_host.proofs.OneMoreExchange.{changed, changed_is, lacks_keeps, told_back, answers}
-use Rattle.core_host.proofs.SendJobs.{JobBetween, branches_same, branches_then, branches_seated, branch_moves}
+use Rattle.core_host.proofs.OneMoreExchange.{changed, changed_is, told_still, told_back, answers}
+use Rattle.core_host.proofs.NextJob.{JobBetween}
+use Rattle.core_host.proofs.SendJobs.{branches_same, branches_then, branches_seated, branch_moves}
 
 -- ---- places in the list of jobs
 
@@ -138,24 +139,7 @@ module _ (s : State) (mail : Mail) (seats : List Seat) (hands : List (Option Pac
     module _ (missed : HasLooked s s' m) where
       told_same : HasTold s' h.number (pairs ++ pair_up ws rs) (drop (length rs) ws)
       told_same =
-          let t = w.gathered.told in
-          record {
-            above = t.above;
-            allowed = t.allowed;
-            sent = λ k is. subst (λ l. AreJobs l (jobs_to (suc k) (pairs ++ pair_up ws rs) ++ jobs_out (suc k) (drop (length rs) ws))) (sym (same_sent k)) (t.sent k is);
-            got = λ k is. subst (λ l. AreReplies l (replies_to (suc k) (pairs ++ pair_up ws rs))) (sym (same_got k)) (t.got k is);
-            lacks = λ k is o. by_equal k m (λ n. lacks_keeps k s s' (moves.parents k n) (moves.hands k n) (t.lacks k is o)) (λ e. subst (LacksPacket s') (sym e) missed.lacks);
-            has = λ k lt is n.
-                let other = λ (e : k ≡ m). n (subst (λ i. IsOut (suc i) (drop (length rs) ws)) (sym e) (subst (IsOut (suc m)) (sym rest_is) (inl job.2))) in
-                let count = moves.alike.count in
-                packet_keeps k s s' refl (record { parent = moves.parents k other; hand = moves.hands k other; blanks = moves.alike.blanks }) (t.has k (omega (arith, lt, count)) is n);
-          }
-        where
-          same_sent : (k : ℕ) → sent mail k ≡ sent s.mail k
-          same_sent k = by_equal k m (λ n. ap sent_by (moves.parents k n)) (λ e. subst (λ i. sent mail i ≡ sent s.mail i) (sym e) missed.sent)
-
-          same_got : (k : ℕ) → got mail k ≡ got s.mail k
-          same_got k = by_equal k m (λ n. ap got_by (moves.parents k n)) (λ e. subst (λ i. got mail i ≡ got s.mail i) (sym e) missed.got)
+          told_still s mail seats hands h.number m mine moves (pairs ++ pair_up ws rs) (drop (length rs) ws) w.gathered.told (subst (IsOut (suc m)) (sym rest_is) (inl job.2)) missed
 
       pub waits_on : IsGathering s' h pairs
       waits_on = record { forked = w.forked; replies = rs; gathered = record { within = w.gathered.within; heard = kept; told = told_same } }

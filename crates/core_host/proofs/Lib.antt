@@ -20,6 +20,7 @@ pub mod Rooted
 pub mod OneMoreExchange
 pub mod WaitingLemmas
 pub mod Seats
+pub mod NextJob
 pub mod SendJobs
 pub mod GatherReplies
 pub mod Holding
@@ -30,6 +31,8 @@ pub mod ServingLemmas
 pub mod Sweeping
 pub mod Beside
 pub mod DescendingLemmas
+pub mod CallingLemmas
+pub mod GoingOn
 pub mod HostedLemmas
 pub mod TickOutcome
 pub mod TickRun

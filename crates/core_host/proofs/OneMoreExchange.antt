@@ -15,7 +15,7 @@ use Rattle.core_host.specs.declared.seat.Seat.{Seat}
 use Rattle.core_host.specs.Posts.{Mail, IsBranchOf, AreReplies, replies_to}
 use Rattle.core_host.specs.Done.{AreAbove, Posts}
 use Rattle.core_host.specs.Keeping.{State, code_in, HasPacket, LacksPacket}
-use Rattle.core_host.specs.Moving.{ChangesPacket, HasSent, HasGot}
+use Rattle.core_host.specs.Moving.{ChangesPacket, HasSent, HasGot, HasLooked}
 use Rattle.core_host.specs.Waiting.{jobs_out, IsOut, HasTold}
 use Rattle.core_host.proofs.Mails.{by_equal}
 use Rattle.core_host.proofs.KeepingLemmas.{packet_keeps}
@@ -135,6 +135,24 @@ module _ (s : State) (mail : Mail) (seats : List Seat) (hands : List (Option Pac
         has = λ k lt is n.
             let other = λ (e : k ≡ m). n (out_here (suc k) out w (ap suc (sym e))) in
             kept_has k other (h.has k (within k lt) is (λ o. n (out_before (suc k) out w o)));
+      }
+
+    -- its reply was looked for, and is not there
+    module _ (out : List Written) (h : HasTold s t pairs out) (is_out : IsOut (suc m) out) (missed : HasLooked s s' m) where
+      still_sent : (k : ℕ) → sent mail k ≡ sent s.mail k
+      still_sent k = by_equal k m (kept_sent k) (λ e. subst (λ i. sent mail i ≡ sent s.mail i) (sym e) missed.sent)
+
+      still_got : (k : ℕ) → got mail k ≡ got s.mail k
+      still_got k = by_equal k m (kept_got k) (λ e. subst (λ i. got mail i ≡ got s.mail i) (sym e) missed.got)
+
+      pub told_still : HasTold s' t pairs out
+      told_still = record {
+        above = h.above;
+        allowed = h.allowed;
+        sent = λ k is. subst (λ l. AreJobs l (jobs_to (suc k) pairs ++ jobs_out (suc k) out)) (sym (still_sent k)) (h.sent k is);
+        got = λ k is. subst (λ l. AreReplies l (replies_to (suc k) pairs)) (sym (still_got k)) (h.got k is);
+        lacks = λ k is o. by_equal k m (λ n. lacks_keeps k s s' (moves.parents k n) (moves.hands k n) (h.lacks k is o)) (λ e. subst (LacksPacket s') (sym e) missed.lacks);
+        has = λ k lt is n. kept_has k (λ e. n (subst (λ i. IsOut (suc i) out) (sym e) is_out)) (h.has k (within k lt) is n);
       }
 
     module _ (w : Written) (is_m : w.branch ≡ suc m) (out : List Written) (h : HasTold s t pairs (w ∷ out)) (above : t < suc m) (alone : IsOut (suc m) out → ⊥) (got_now : HasGot s s' m) where

@@ -1,25 +1,25 @@
 -- The jobs of a fork are sent, branch by branch.
-use Rattle.std.proofs.Common.{◌≡◌, ◌≢◌, ℕ, zero, suc, ◌+◌, ◌-◌, ◌<◌, ◌≤◌, Some, List, [], ◌∷◌, ◌++◌, length, take, refl, sym, ap, ◌∙◌, subst, ⊎_elim, arith}
+use Rattle.std.proofs.Common.{◌≡◌, ℕ, suc, ◌+◌, ◌-◌, ◌≤◌, Some, List, [], ◌∷◌, ◌++◌, length, take, refl, sym, ap, ◌∙◌, subst, arith}
 use Rattle.std.specs.Prelude.{slice_get}
 use Rattle.std.proofs.lemmas.List.{length-map}
 use Rattle.std.proofs.lemmas.Option.{slice_get_within}
 use Rattle.forec_kernel.specs.Engine.{Answered, Written}
 use Rattle.thread_code.specs.Plain.{plain_code}
 use Rattle.core_machine.specs.declared.thread.Thread.{Thread}
-use Rattle.core_machine.specs.Threads.{Loaded}
 use Rattle.core_machine.specs.Forks.{jobs_at}
 use Rattle.copy_slots.specs.Ports.{sent_by, sent, got}
 use Rattle.core_host.specs.Posts.{IsBranchOf}
 use Rattle.core_host.specs.Changes.{Extends}
-use Rattle.core_host.specs.Keeping.{State, code_in, IsSeated, HasPacket, LacksPacket, MayAsk, IsJobFor, AtFork, CanSend}
+use Rattle.core_host.specs.Keeping.{State, code_in, IsSeated, HasPacket, LacksPacket, IsJobFor, AtFork, CanSend}
 use Rattle.core_host.specs.Moving.{ChangesPacket, HasSent}
-use Rattle.core_host.specs.Waiting.{IsOut, HasTold}
+use Rattle.core_host.specs.Waiting.{HasTold}
 use Rattle.core_host.specs.Serving.{ChangesBranches}
 use Rattle.core_host.proofs.Mails.{alike_then, extends_one, extends_same}
 use Rattle.core_host.proofs.KeepingLemmas.{grown_same, grown_then, moved_grown, seated_by}
 use Rattle.core_host.proofs.Hearing.{take_all}
 use Rattle.core_host.proofs.LoadLemmas.{take_next}
-use Rattle.core_host.proofs.Send.{at_map}
+use Rattle.core_host.proofs.NextJob.{job, is_suc, mine_b, inside_m, not_yet, apart}
+use Rattle.core_host.proofs.NextJob as next
 use Rattle.core_host.proofs.ChildrenRunLemmas.{may_keeps}
 use Rattle.core_host.proofs.OneMoreExchange.{changed_is, told_one}
 
@@ -72,24 +72,6 @@ branch_moves t m a b mine moves grown =
       hand_count = moves.hand_count;
     }
 
--- ---- places in the list of jobs
-
-pub record JobBetween (b : ℕ) (ws : List Written) (from to : ℕ) : Type 0 where
-  pub index : ℕ
-  pub job : Written
-  pub low : from ≤ index
-  pub high : index < to
-  pub at : slice_get ws index ≡ Some job
-  pub is : job.branch ≡ b
-
-pub out_taken : (b : ℕ) (ws : List Written) (k : ℕ) → IsOut b (take k ws) → JobBetween b ws 0 k
-out_taken b [] zero h = absurd h
-out_taken b [] (suc k) h = absurd h
-out_taken b (w ∷ ws) zero h = absurd h
-out_taken b (w ∷ ws) (suc k) h =
-    ⊎_elim (λ e. record { index = 0; job = w; low = omega arith; high = omega arith; at = refl; is = e })
-    (λ o. let p = out_taken b ws k o in record { index = suc p.index; job = p.job; low = omega arith; high = let x = p.high in omega (arith, x); at = p.at; is = p.is }) h
-
 -- ---- one job after the other
 
 -- the first k jobs of the fork were sent
@@ -115,91 +97,50 @@ module _ (a b : State) (h : Thread) (k number : ℕ) (seated : IsSeated a) (fork
   abbrev ws : List Written
   ws = jobs_at (code_in a) h
 
-  job : (w : Written) × (slice_get (jobs_at (code_in a) h) k ≡ Some w) × (w.branch ≡ number)
-  job = at_map (λ w. w.branch) (jobs_at (code_in a) h) k number (ap (λ l. slice_get l k) (sym fork.numbers) ∙ at)
-
-  for_it : IsJobFor (code_in a) b.mail h.number job.0
-  for_it = done.rest k job.0 (omega arith) job.1
-
   abbrev pub m : ℕ
   m = number - 1
-
-  number_is : number ≡ suc for_it.mailbox
-  number_is = sym job.2 ∙ for_it.branch
-
-  m_is : m ≡ for_it.mailbox
-  m_is = let e = number_is in omega (arith, e)
-
-  pub some_number : 1 ≤ number
-  some_number = let e = number_is in omega (arith, e)
-
-  is_suc : number ≡ suc m
-  is_suc = let e = some_number in omega (arith, e)
-
-  mine : IsBranchOf (code_in a).shape h.number m
-  mine = subst (IsBranchOf (code_in a).shape h.number) (sym m_is) for_it.mine
-
-  mine_b : IsBranchOf (code_in b).shape h.number m
-  mine_b = subst (λ x. IsBranchOf (plain_code x).shape h.number m) (sym done.moves.code) mine
 
   pub seated_b : IsSeated b
   seated_b = branches_seated h.number a b done.moves seated
 
-  inside_m : m < length b.mail.ends
-  inside_m =
-      let e = m_is in
-      let f = for_it.inside in
-      let n = seated_b.mailboxes in
-      let same = ap (λ x. length (plain_code x).threads) done.moves.code in omega (arith, e, f, n, same)
+  the_job : (w : Written) × (slice_get (jobs_at (code_in a) h) k ≡ Some w) × (w.branch ≡ number)
+  the_job = job a b done.moves.code seated_b h k number fork done.rest at
+
+  mine : IsBranchOf (code_in b).shape h.number m
+  mine = mine_b a b done.moves.code seated_b h k number fork done.rest at
+
+  number_is : number ≡ suc m
+  number_is = is_suc a b done.moves.code seated_b h k number fork done.rest at
+
+  pub some_number : 1 ≤ number
+  some_number = next.some_number a b done.moves.code seated_b h k number fork done.rest at
 
   pub can_send : CanSend b h k m
-  can_send = record {
-    loaded = subst (λ x. Loaded (plain_code x) h) (sym done.moves.code) fork.loaded;
-    settled = fork.settled;
-    number = at ∙ ap Some is_suc;
-    job = job.0;
-    at = subst (λ x. slice_get (jobs_at (plain_code x) h) k ≡ Some job.0) (sym done.moves.code) job.1;
-    may = subst (λ x. MayAsk (plain_code x) b.mail m job.0.job) (sym done.moves.code) (subst (λ i. MayAsk (code_in a) b.mail i job.0.job) (sym m_is) for_it.may);
-    inside = inside_m;
-  }
-
-  -- none of the jobs before is for this branch
-  not_yet : IsOut (suc m) (take k ws) → ⊥
-  not_yet o =
-      let p = out_taken (suc m) ws k o in
-      let less = fork.order p.index k p.job job.0 p.high p.at job.1 in
-      let x = p.is in
-      let y = job.2 in
-      let z = is_suc in absurd (omega (arith, less, x, y, z))
+  can_send = next.can_send a b done.moves.code seated_b h k number fork done.rest at
 
   pub its_packet : HasPacket b m
-  its_packet = (done.told some.0 some.1).has m inside_m mine_b not_yet
+  its_packet =
+      (done.told some.0 some.1).has m (inside_m a b done.moves.code seated_b h k number fork done.rest at) mine (not_yet a b done.moves.code seated_b h k number fork done.rest at)
 
   module _ (s1 : State) (moves : ChangesPacket m b s1) (lacks : LacksPacket s1 m) (sent_now : (w : Written) → slice_get (jobs_at (code_in b) h) k ≡ Some w → HasSent b s1 m w.job) where
-    sent1 : HasSent b s1 m job.0.job
-    sent1 = sent_now job.0 (subst (λ x. slice_get (jobs_at (plain_code x) h) k ≡ Some job.0) (sym done.moves.code) job.1)
+    sent1 : HasSent b s1 m the_job.0.job
+    sent1 = sent_now the_job.0 (subst (λ x. slice_get (jobs_at (plain_code x) h) k ≡ Some the_job.0) (sym done.moves.code) the_job.1)
 
     told1 : (pairs : List Answered) → HasTold a h.number pairs [] → HasTold s1 h.number pairs (take (k + 1) ws)
     told1 pairs before =
         let path = changed_is b s1 moves.code moves.places in
         let old = done.told pairs before in
-        let new = told_one b s1.mail s1.seats s1.hands h.number m mine_b (subst (ChangesPacket m b) (sym path) moves) pairs (take k ws) old job.0.job (subst (λ x. HasSent b x m job.0.job) (sym path) sent1)
+        let new = told_one b s1.mail s1.seats s1.hands h.number m mine (subst (ChangesPacket m b) (sym path) moves) pairs (take k ws) old the_job.0.job (subst (λ x. HasSent b x m the_job.0.job) (sym path) sent1)
         (subst (λ x. LacksPacket x m) (sym path) lacks) in
-        let named : take k ws ++ record { branch = suc m; job = job.0.job } ∷ [] ≡ take (k + 1) ws =
-        ap (λ n. take k ws ++ record { branch = n; job = job.0.job } ∷ []) (sym is_suc ∙ sym job.2) ∙ take_next ws k job.0 job.1 in
-        subst (HasTold s1 h.number pairs) named (subst (λ x. HasTold x h.number pairs (take k ws ++ record { branch = suc m; job = job.0.job } ∷ [])) path new)
-
-    apart : (i j : ℕ) (w : Written) → k < i → slice_get (jobs_at (code_in a) h) i ≡ Some w → w.branch ≡ suc j → j ≢ m
-    apart i j w less at' is e =
-        let o = fork.order k i job.0 w less job.1 at' in
-        let s = is_suc in
-        let b1 = job.2 in omega (arith, o, is, e, s, b1)
+        let named : take k ws ++ record { branch = suc m; job = the_job.0.job } ∷ [] ≡ take (k + 1) ws =
+        ap (λ n. take k ws ++ record { branch = n; job = the_job.0.job } ∷ []) (sym number_is ∙ sym the_job.2) ∙ take_next ws k the_job.0 the_job.1 in
+        subst (HasTold s1 h.number pairs) named (subst (λ x. HasTold x h.number pairs (take k ws ++ record { branch = suc m; job = the_job.0.job } ∷ [])) path new)
 
     pub sent_more : HasSentFirst a s1 h (k + 1)
     sent_more = record {
       within = let lt = slice_get_within h.branches.numbers k number at in omega (arith, lt);
       moves = branches_then h.number a b s1 done.moves
-          (branch_moves h.number m b s1 mine_b moves (extends_one (sent b.mail m) (sent s1.mail m) sent1.packet sent1.sent, extends_same (got b.mail m) (got s1.mail m) sent1.got));
+          (branch_moves h.number m b s1 mine moves (extends_one (sent b.mail m) (sent s1.mail m) sent1.packet sent1.sent, extends_same (got b.mail m) (got s1.mail m) sent1.got));
       told = told1;
       rest = λ i w le at'.
           let it = done.rest i w (omega (arith, le)) at' in
@@ -209,7 +150,7 @@ module _ (a b : State) (h : Thread) (k number : ℕ) (seated : IsSeated a) (fork
             mine = it.mine;
             inside = it.inside;
             above = it.above;
-            may = may_keeps (code_in a) b.mail s1.mail it.mailbox w.job (ap sent_by (moves.parents it.mailbox (apart i it.mailbox w (omega (arith, le)) at' it.branch))) it.may;
+            may = may_keeps (code_in a) b.mail s1.mail it.mailbox w.job (ap sent_by (moves.parents it.mailbox (apart a b done.moves.code seated_b h k number fork done.rest at i it.mailbox w (omega (arith, le)) at' it.branch))) it.may;
           };
     }
 

@@ -59,7 +59,7 @@ module _ (a : State) (mail : Mail) (seats : List Seat) (hands : List (Option Pac
         }
 
   module _ (h : Thread) (parents : (j : ℕ) → IsBranchOf (code_in a).shape h.number j → parent_at mail.ends j ≡ parent_at a.mail.ends j) (hand : (j : ℕ) → IsBranchOf (code_in a).shape h.number j → slice_get hands j ≡ slice_get a.hands j) where
-    heard_keeps : (f : IsForked (code_in a) h) (i n : ℕ) (r : Reply) → slice_get h.branches.numbers i ≡ Some n → HasHeard a n r → HasHeard b n r
+    pub heard_keeps : (f : IsForked (code_in a) h) (i n : ℕ) (r : Reply) → slice_get h.branches.numbers i ≡ Some n → HasHeard a n r → HasHeard b n r
     heard_keeps f i n r at old =
         let w = at_map (λ w. w.branch) (jobs_at (code_in a) h) i n (ap (λ l. slice_get l i) (sym f.numbers) ∙ at) in
         let it = f.each i w.0 w.1 in

@@ -1,11 +1,14 @@
 //! A thread is served with those below it.
-ghost use Rattle.std.specs.Prelude.{◌≡◌, ◌<◌, ℕ, suc, length, true, false};
+ghost use Rattle.std.specs.Prelude.{◌≡◌, ◌<◌, [], ℕ, suc, List, length, true, false};
+ghost use Rattle.forec_kernel.specs.Engine.{Answered};
 ghost use Rattle.core_machine.specs.Threads.{CanRun, HasReply};
+ghost use Rattle.core_host.specs.Calling.{HasCalled, HasServedFork};
 ghost use Rattle.core_host.specs.Changes.{HasProgressed};
 ghost use Rattle.core_host.specs.Descending.{Descends, IsRunning, KeepsRound};
-ghost use Rattle.core_host.specs.Keeping.{code_in, IsSeated, Quiet};
+ghost use Rattle.core_host.specs.Keeping.{code_in, IsSeated, HasPacket, AtFork, CanSend, Quiet};
+ghost use Rattle.core_host.specs.Posts.{IsBranchOf};
 ghost use Rattle.core_host.specs.Serving.{Touches, OnlyLooks, HasMissed};
-ghost use Rattle.core_host.specs.Waiting.{IsForked, IsWorking, IsWaiting, IsBetween, CanDescend};
+ghost use Rattle.core_host.specs.Waiting.{HasTold, IsForked, IsWorking, IsWaiting, IsBetween, CanDescend};
 
 use crate::active::Active;
 use crate::round::Round;
@@ -59,6 +62,91 @@ impl<'c, P: Port<ForecWork> + Drop> Scheduler<'c, P> {
         }
     }
 
+    /// Tells the k-th branch of the thread's fork its job, and serves it if it is here. Returns whether its reply is in hand.
+    #[cycle(serve_down)]
+    #[inline(always)]
+    fn call<R: Wait, G: Gate>(
+        &mut self,
+        rt: &R,
+        gate: &G,
+        thread: &Thread,
+        k: usize,
+        mailbox: u32,
+        round: &mut Round<'c>,
+    ) -> bool
+        requires seated { IsSeated self.old }
+        requires job { CanSend self.old thread.now k mailbox }
+        requires has { HasPacket self.old mailbox }
+        requires mine { IsBranchOf (code_in self.old).shape thread.now.number mailbox }
+        requires above { CanDescend self.old mailbox }
+        ensures called { HasCalled self.old self.new thread.now k mailbox result }
+        ensures round { KeepsRound round.old round.new }
+    {
+        self.send(thread, k, mailbox);
+        self.serve_here(rt, gate, mailbox, round);
+        self.collect(mailbox)
+    }
+
+    /// Tells the branches of the thread's fork their jobs. Where they are `here` each is served before the next one is told its job, until one
+    /// has to wait. Returns whether all have replied.
+    #[cycle(serve_down)]
+    fn call_branches<R: Wait, G: Gate>(
+        &mut self,
+        rt: &R,
+        gate: &G,
+        thread: &Thread,
+        here: bool,
+        round: &mut Round<'c>,
+    ) -> bool
+        requires seated { IsSeated self.old }
+        requires fork { AtFork self.old thread.now }
+        requires forked { IsForked (code_in self.old) thread.now }
+        requires told { (pairs : List Answered) × HasTold self.old thread.now.number pairs [] }
+        requires above { CanDescend self.old thread.now.number }
+        ensures served { HasServedFork self.old self.new thread.now result }
+        ensures round { KeepsRound round.old round.new }
+    {
+        let mut replied = here;
+        let mut k = 0;
+        while let Some(branch) = thread.active(self.code, k) {
+            if replied {
+                replied = self.call(rt, gate, thread, k, branch - 1, round);
+            } else {
+                self.send(thread, k, branch - 1);
+            }
+            k += 1;
+        }
+        replied
+    }
+
+    /// Tells the branches of the thread's fork their jobs, and serves those that are here. Returns whether all have replied; the replies
+    /// are then in hand.
+    #[cycle(serve_down)]
+    pub(crate) fn serve_fork<R: Wait, G: Gate>(
+        &mut self,
+        rt: &R,
+        gate: &G,
+        thread: &Thread,
+        round: &mut Round<'c>,
+    ) -> bool
+        requires seated { IsSeated self.old }
+        requires fork { AtFork self.old thread.now }
+        requires forked { IsForked (code_in self.old) thread.now }
+        requires told { (pairs : List Answered) × HasTold self.old thread.now.number pairs [] }
+        requires above { CanDescend self.old thread.now.number }
+        ensures served { HasServedFork self.old self.new thread.now result }
+        ensures round { KeepsRound round.old round.new }
+    {
+        let here = self.are_here(thread, round);
+        let replied = self.call_branches(rt, gate, thread, here, round);
+        self.hint_fork(rt, thread, round);
+        if replied {
+            return true;
+        }
+        self.serve_branches(rt, gate, thread, round);
+        self.gather_replies(thread)
+    }
+
     /// Runs a thread until it has its reply, or waits for branches of other cores. Returns whether it has its reply.
     #[cycle(serve_down)]
     fn run_down<R: Wait, G: Gate>(
@@ -84,9 +172,7 @@ impl<'c, P: Port<ForecWork> + Drop> Scheduler<'c, P> {
             let Event::Fork = thread.run(self.code) else {
                 return true;
             };
-            self.send_jobs_and_hint(rt, thread, round);
-            self.serve_branches(rt, gate, thread, round);
-            if !self.gather_replies(thread) {
+            if !self.serve_fork(rt, gate, thread, round) {
                 return false;
             }
             self.settle(thread);

@@ -31,6 +31,42 @@ pub(crate) fn hint_branches<R: Wait>(rt: &R, code: &Code, thread: &Thread, rope:
 }
 
 impl<'c, P: Port<ForecWork> + Drop> Scheduler<'c, P> {
+    /// Whether a thread is in its seat.
+    fn is_seated(&self, thread: u32) -> bool {
+        match self.seats.get(thread as usize) {
+            Some(seat) => seat.thread.is_some(),
+            None => false,
+        }
+    }
+
+    /// Whether all branches of the thread's fork are here, or there is no other core to hint to.
+    pub(crate) fn are_here(&self, thread: &Thread, round: &Round<'c>) -> bool {
+        if round.rope.is_none() {
+            return true;
+        }
+        for k in 0..MAX_THREADS as usize {
+            let Some(branch) = thread.active(self.code, k) else {
+                return true;
+            };
+            if !self.is_seated(branch) {
+                return false;
+            }
+        }
+        true
+    }
+
+    /// Hints to the cores of the branches that were told jobs at the thread's fork. The next sweep goes upwards, to them.
+    pub(crate) fn hint_fork<R: Wait>(&self, rt: &R, thread: &Thread, round: &mut Round<'c>)
+        ensures own { round.new.own ≡ round.old.own }
+        ensures next { round.new.next ≡ round.old.next }
+        ensures rope { KeepsRope round.old.rope round.new.rope }
+    {
+        round.up = true;
+        if let Some(rope) = &mut round.rope {
+            hint_branches(rt, self.code, thread, rope);
+        }
+    }
+
     /// Hints to the parent of a thread that was served, where it has answered. Where it waits at a fork its branches were hinted to
     /// when they were told their jobs.
     pub(crate) fn hint<R: Wait>(&self, rt: &R, mailbox: u32, round: &mut Round<'c>)

@@ -159,6 +159,7 @@ impl<'c, P: Port<ForecWork> + Drop> Scheduler<'c, P> {
     }
 
     /// Settles the replies of the thread's branches.
+    #[inline(always)]
     pub(crate) fn settle(&self, thread: &mut Thread)
         requires loaded { Loaded (code_in self.now) thread.old }
         requires fork { HasSettled thread.old 0 }

@@ -48,6 +48,17 @@ impl<'c, P: Port<ForecWork> + Drop> Scheduler<'c, P> {
         self.seats[number as usize] = seat;
     }
 
+    /// Puts a thread that has no job in its hand back into its seat. It writes the two parts of the seat in place.
+    #[inline(always)]
+    fn seat_thread(&mut self, number: u32, thread: Boxed<Thread>)
+        requires { number < length self.old.seats }
+        ensures { self.new ≡ record self.old { seats = slice_set self.old.seats number (record { thread = Some thread; job = None }) } }
+    {
+        let seat = &mut self.seats[number as usize];
+        seat.thread = Some(thread);
+        seat.job = None;
+    }
+
     /// Looks for a job.
     fn take(&mut self, mailbox: u32) -> Option<Boxed<Packet>>
         requires { ChildIs self.old.mail mailbox false }
@@ -169,13 +180,7 @@ impl<'c, P: Port<ForecWork> + Drop> Scheduler<'c, P> {
         } = active;
         let number = mailbox + 1;
         thread.reply(self.code, &mut packet);
-        self.put_thread(
-            number,
-            Seat {
-                thread: Some(thread),
-                job: None,
-            },
-        );
+        self.seat_thread(number, thread);
         self.answer(mailbox, packet);
         gate.pass(self.places[number as usize], number, Point::Answered);
     }

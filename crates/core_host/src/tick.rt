@@ -25,10 +25,9 @@ ghost use Rattle.core_host.specs.Posts.{IsBranchOf};
 ghost use Rattle.core_host.specs.Rests.{RootRests};
 ghost use Rattle.core_host.specs.Rounds.{AllIdle, CanServe, IsIdleAt, IsSameRound, SomeWorked};
 ghost use Rattle.core_host.specs.Runs.{HasJobMore, HasJobs, HasRun};
-ghost use Rattle.core_host.specs.Serving.{AllMissed, ChangesBranches, KeepsServing};
-ghost use Rattle.core_host.specs.Waiting.{HasChild, HasTold, TellsAll, IsBetween, IsVacant, IsGathering, HasReplies};
+ghost use Rattle.core_host.specs.Serving.{AllMissed, KeepsServing};
+ghost use Rattle.core_host.specs.Waiting.{HasChild, HasTold, IsForked, IsBetween, IsVacant, IsGathering, HasReplies};
 
-use crate::hints::hint_branches;
 use crate::host::Host;
 use crate::job::write_job;
 use crate::outcome::write_outcome;
@@ -179,8 +178,8 @@ impl<'c, P: Port<ForecWork> + Drop> Scheduler<'c, P> {
         unreachable!()
     }
 
-    /// Serves the branches of the thread's fork that are here, and waits until all have replied.
-    fn await_branches<R: Wait, O: Serve, G: Gate>(
+    /// Serves the thread's fork, and waits until all branches have replied.
+    fn await_fork<R: Wait, O: Serve, G: Gate>(
         &mut self,
         rt: &R,
         gate: &G,
@@ -191,37 +190,15 @@ impl<'c, P: Port<ForecWork> + Drop> Scheduler<'c, P> {
         requires seated { IsSeated self.old }
         requires round { CanServe self.old round.old }
         requires root { thread.now.number ≡ 0 }
-        requires gathering { (pairs : List Answered) × IsGathering self.old thread.now pairs }
+        requires fork { AtFork self.old thread.now }
+        requires forked { IsForked (code_in self.old) thread.now }
+        requires told { (pairs : List Answered) × HasTold self.old thread.now.number pairs [] }
         ensures keeps { KeepsOthers self.old self.new }
         ensures round { IsSameRound round.old round.new }
-        ensures all { (pairs : List Answered) → IsGathering self.old thread.now pairs → HasReplies self.new thread.now pairs }
+        ensures all { (pairs : List Answered) → HasTold self.old thread.now.number pairs [] → HasReplies self.new thread.now pairs }
     {
-        self.serve_branches(rt, gate, thread, round);
-        if !self.gather_replies(thread) {
+        if !self.serve_fork(rt, gate, thread, round) {
             self.await_replies(rt, gate, round, others, thread);
-        }
-    }
-
-    /// Sends the branches of the thread's fork their jobs, and hints to their cores.
-    pub(crate) fn send_jobs_and_hint<R: Wait>(
-        &mut self,
-        rt: &R,
-        thread: &Thread,
-        round: &mut Round<'c>,
-    )
-        requires seated { IsSeated self.old }
-        requires fork { AtFork self.old thread.now }
-        requires told { (pairs : List Answered) × HasTold self.old thread.now.number pairs [] }
-        ensures moves { ChangesBranches thread.now.number self.old self.new }
-        ensures told { TellsAll self.old self.new thread.now }
-        ensures own { round.new.own ≡ round.old.own }
-        ensures next { round.new.next ≡ round.old.next }
-        ensures rope { KeepsRope round.old.rope round.new.rope }
-    {
-        self.send_jobs(thread);
-        round.up = true;
-        if let Some(rope) = &mut round.rope {
-            hint_branches(rt, self.code, thread, rope);
         }
     }
 
@@ -251,8 +228,7 @@ impl<'c, P: Port<ForecWork> + Drop> Scheduler<'c, P> {
             let Event::Fork = thread.run(self.code) else {
                 return;
             };
-            self.send_jobs_and_hint(rt, thread, round);
-            self.await_branches(rt, gate, round, others, thread);
+            self.await_fork(rt, gate, round, others, thread);
             self.settle(thread);
             self.join(thread);
         }

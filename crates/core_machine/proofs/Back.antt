@@ -21,7 +21,7 @@ use Rattle.thread_state.specs.Frames.{Frames, arguments, without, dropped}
 use Rattle.thread_state.specs.Pars.{HavePars}
 use Rattle.thread_state.specs.Kept.{Kept, own_of, place_in, place_of, no_copy, with_live_at, HavePlaces, Serves}
 use Rattle.thread_steps.specs.BlockRun.{Comes, next, work, point_of}
-use Rattle.core_machine.specs.Branches.{trap_of, verdict_of}
+use Rattle.core_machine.specs.Branches.{instruction_of, trap_of, verdict_of}
 use Rattle.core_machine.specs.declared.branches.Verdict.TheVariants as verdict
 use Rattle.core_machine.specs.declared.thread.Thread.{Thread}
 use Rattle.core_machine.specs.declared.thread.Phase.TheVariants as phase
@@ -52,7 +52,7 @@ module _ (c : PlainCode) (h : Thread) (l : Loaded c h) {n : ℕ} (at : HasSettle
       omega (arith, slice_get_within w0.works.at.sound.depths (h.at + 1) _ f.1.0, w0.works.at.sound.valid.long)
 
   pub fork_next : h.at + 1 < 2 ^ 32
-  fork_next = omega (arith, next_by w0.instruction w0.is (fork_kind c h.own w0.instruction w0.forks), l.short None)
+  fork_next = omega (arith, next_by (instruction_of h.branches.fork) w0.is (fork_kind c h.own (instruction_of h.branches.fork) w0.forks), l.short None)
 
 -- ---- what the thread waits for
 

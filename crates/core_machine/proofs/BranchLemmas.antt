@@ -46,7 +46,7 @@ member (s ∷ ss) i j b h = by_par (is_par s.par j) refl h (member ss (suc i) j 
 
 -- ---- those that live
 
-few_living : (live : List Bool) (bs : List ℕ) → length (living live bs) ≤ length bs
+pub few_living : (live : List Bool) (bs : List ℕ) → length (living live bs) ≤ length bs
 few_living live [] = omega arith
 few_living live (b ∷ bs) = by_live (get_or live b false) (few_living live bs)
   where

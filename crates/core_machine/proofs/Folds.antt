@@ -61,15 +61,16 @@ combined_end folds vs i k le = ap (λ l. combined_uses folds l k) (drop_past vs 
 pub record Alike (k k' : Kept) : Type 0 where
   pub places : k'.places ≡ k.places
   pub copies : length k'.copies ≡ length k.copies
+  pub pars : k'.pars ≡ k.pars
 
 pub alike_same : (k : Kept) → Alike k k
-alike_same k = record { places = refl; copies = refl }
+alike_same k = record { places = refl; copies = refl; pars = refl }
 
 pub alike_then : (a b c : Kept) → Alike a b → Alike b c → Alike a c
-alike_then a b c x y = record { places = y.places ∙ x.places; copies = y.copies ∙ x.copies }
+alike_then a b c x y = record { places = y.places ∙ x.places; copies = y.copies ∙ x.copies; pars = y.pars ∙ x.pars }
 
 pub alike_set : (k : Kept) (at : ℕ) (x : VarCopy) → Alike k (with_copy_at at x k)
-alike_set k at x = record { places = refl; copies = length-set k.copies at x }
+alike_set k at x = record { places = refl; copies = length-set k.copies at x; pars = refl }
 
 pub alike_uses : (folds : List Fold) (vs : List ℕ) (k : Kept) → Alike k (combined_uses folds vs k)
 alike_uses folds [] k = alike_same k

@@ -1,8 +1,10 @@
 -- The branches of a fork are gathered, and their replies counted.
-use Rattle.std.proofs.Common.{◌≡◌, ℕ, suc, ◌+◌, ◌-◌, ◌<◌, ◌≤◌, ◌^◌, List, [], ◌∷◌, ◌++◌, length, drop, take, map, get_or, Bool, true, false, cond, refl, sym, ap, ◌∙◌, subst, ⊎_elim, inl, inr, arith, add-one, drop-cons, append_assoc}
-use Rattle.std.specs.Prelude.{◌⊎◌, ◌&&◌, ◌||◌, min, slice_set}
-use Rattle.std.specs.List.{list_all}
+use Rattle.std.proofs.Common.{◌≡◌, ℕ, suc, ◌+◌, ◌-◌, ◌<◌, ◌≤◌, ◌^◌, List, [], ◌∷◌, ◌++◌, length, take, map, get_or, Bool, true, false, not, cond, refl, sym, ap, ◌∙◌, subst, ⊎_elim, inl, inr, arith, append_assoc}
+use Rattle.std.specs.Prelude.{◌⊎◌, ◌==◌, ◌||◌, min, slice_set}
+use Rattle.std.specs.List.{count_by, list_all}
 use Rattle.std.proofs.lemmas.Bool.{cases_lt}
+use Rattle.std.proofs.lemmas.Bool.Decides.{nat_tests}
+use Rattle.std.proofs.lemmas.List.Sums.{sum_by-cons, count_by-le-length}
 use Rattle.forec_base.specs.declared.Place.{Place}
 use Rattle.forec_base.specs.declared.Trap.{Trap}
 use Rattle.forec_kernel.specs.Engine.{Reply, WasPaused, WasEnded, WasTrapped, WasOver}
@@ -21,12 +23,30 @@ use Rattle.core_machine.specs.Branches.{Gathered, chosen, with_verdict, first_tr
 
 -- ---- all of a list
 
-module _ (d : Bool) where
-  pub all_next : (es : List Bool) (i : ℕ) → i < length es → get_or es i d ≡ true → list_all (λ e. e) (drop i es) ≡ list_all (λ e. e) (drop (i + 1) es)
-  all_next es i lt h = ap (list_all (λ e. e)) (drop-cons es i d lt) ∙ ap (λ b. b && list_all (λ e. e) (drop (suc i) es)) h ∙ ap (λ k. list_all (λ e. e) (drop k es)) (sym (add-one i))
+same_more : (a b : ℕ) → (1 + a == suc b) ≡ (a == b)
+same_more a b = grind (arith, nat_tests)
 
-  pub all_not : (es : List Bool) (i : ℕ) → i < length es → get_or es i d ≡ false → list_all (λ e. e) (drop i es) ≡ false
-  all_not es i lt h = ap (list_all (λ e. e)) (drop-cons es i d lt) ∙ ap (λ b. b && list_all (λ e. e) (drop (suc i) es)) h
+not_more : (a b : ℕ) → a ≤ b → (0 + a == suc b) ≡ false
+not_more a b le = grind (arith, nat_tests)
+
+-- all have ended where their count is that of all
+pub all_counted : (es : List Bool) → (count_by (λ e. e) es == length es) ≡ list_all (λ e. e) es
+all_counted [] = refl
+all_counted (true ∷ es) =
+    ap (λ n. n == suc (length es)) (sum_by-cons (λ (e : Bool). cond e 1 0) true es) ∙ same_more (count_by (λ e. e) es) (length es) ∙ all_counted es
+all_counted (false ∷ es) =
+    ap (λ n. n == suc (length es)) (sum_by-cons (λ (e : Bool). cond e 1 0) false es) ∙ not_more (count_by (λ e. e) es) (length es) (count_by-le-length (λ e. e) es)
+
+not_none : (n : ℕ) → (1 + n == 0) ≡ false
+not_none n = grind (arith, nat_tests)
+
+-- none has ended where their count is 0
+pub none_counted : (es : List Bool) → (count_by (λ e. e) es == 0) ≡ list_all (λ e. not e) es
+none_counted [] = refl
+none_counted (true ∷ es) = ap (λ n. n == 0) (sum_by-cons (λ (e : Bool). cond e 1 0) true es) ∙ not_none (count_by (λ e. e) es)
+none_counted (false ∷ es) =
+    let none : 0 + count_by (λ e. e) es ≡ count_by (λ e. e) es = omega arith in
+    ap (λ n. n == 0) (sum_by-cons (λ (e : Bool). cond e 1 0) false es ∙ none) ∙ none_counted es
 
 -- ---- the branches that are asked for
 
@@ -179,7 +199,7 @@ module _ (g : Gathered) (p : Packet) where
       says_plain g (counted p.units (noted e g)) rs s r not none (ap (λ b. g.ended ++ b ∷ []) (sym ended)) (ap (λ n. min (g.units + n) (2 ^ 64 - 1)) units) refl
 
   pub settles_ended : p.kind ≡ kind.Ended → Settles g p (counted p.units (noted true g))
-  settles_ended k = record { numbers = refl; joined = refl; room = refl; count = count_one g.ended true; says = by_reply }
+  settles_ended k = record { fork = refl; numbers = refl; joined = refl; room = refl; count = count_one g.ended true; says = by_reply }
     where
       by_reply : (rs : List Reply) (r : Reply) → IsReply (plain_packet p) r → Says g rs → Says (counted p.units (noted true g)) (rs ++ r ∷ [])
       by_reply rs (WasPaused copies u) is s = let e = sym is.0 ∙ ap (λ k. plain_kind k) k in cc
@@ -188,7 +208,7 @@ module _ (g : Gathered) (p : Packet) where
       by_reply rs WasOver is s = let e = sym is ∙ ap (λ k. plain_kind k) k in cc
 
   pub settles_over : p.kind ≡ kind.Over → Settles g p (with_verdict verdict.Over (noted false g))
-  settles_over k = record { numbers = refl; joined = refl; room = refl; count = count_one g.ended false; says = by_reply }
+  settles_over k = record { fork = refl; numbers = refl; joined = refl; room = refl; count = count_one g.ended false; says = by_reply }
     where
       by_reply : (rs : List Reply) (r : Reply) → IsReply (plain_packet p) r → Says g rs → Says (with_verdict verdict.Over (noted false g)) (rs ++ r ∷ [])
       by_reply rs (WasPaused copies u) is s = let e = sym is.0 ∙ ap (λ k. plain_kind k) k in cc
@@ -197,7 +217,7 @@ module _ (g : Gathered) (p : Packet) where
       by_reply rs WasOver is s = says_over g (with_verdict verdict.Over (noted false g)) rs s refl refl refl
 
   pub settles_trap : (place : Place) (trap : Trap) → p.kind ≡ kind.Trapped place trap → Settles g p (with_verdict (first_trap g.verdict (verdict.Trap place trap)) (counted p.units (noted false g)))
-  settles_trap place trap k = record { numbers = refl; joined = refl; room = refl; count = count_one g.ended false; says = by_reply }
+  settles_trap place trap k = record { fork = refl; numbers = refl; joined = refl; room = refl; count = count_one g.ended false; says = by_reply }
     where
       g' : Gathered
       g' = with_verdict (first_trap g.verdict (verdict.Trap place trap)) (counted p.units (noted false g))
@@ -214,7 +234,7 @@ module _ (g : Gathered) (p : Packet) where
       by_reply rs WasOver is s = let e = sym is ∙ ap (λ k. plain_kind k) k in cc
 
   pub settles_else : (p.kind ≡ kind.Ended → ⊥) → ((place : Place) (trap : Trap) → p.kind ≡ kind.Trapped place trap → ⊥) → (p.kind ≡ kind.Over → ⊥) → Settles g p (counted p.units (noted false g))
-  settles_else no_end no_trap no_over = record { numbers = refl; joined = refl; room = refl; count = count_one g.ended false; says = by_reply }
+  settles_else no_end no_trap no_over = record { fork = refl; numbers = refl; joined = refl; room = refl; count = count_one g.ended false; says = by_reply }
     where
       by_reply : (rs : List Reply) (r : Reply) → IsReply (plain_packet p) r → Says g rs → Says (counted p.units (noted false g)) (rs ++ r ∷ [])
       by_reply rs (WasPaused copies u) is s = plain_by false rs (WasPaused copies u) refl refl refl is.2 s

@@ -21,3 +21,5 @@ pub mod Begun
 pub mod Starting
 pub mod Finishing
 pub mod Joined
+pub mod NextStep
+pub mod Living

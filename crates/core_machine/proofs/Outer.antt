@@ -22,10 +22,9 @@ use Rattle.core_machine.specs.Held.{work_of, callers, machine_in, machine_of, br
 use Rattle.core_machine.specs.Threads.{Loaded, event_of}
 use Rattle.core_machine.specs.RunParts.{callers_over, Has_machine, Moved, RunsBlock}
 use Rattle.core_machine.specs.Room.{EnoughToCombine}
-use Rattle.core_machine.specs.Branches.{chosen, with_branches}
+use Rattle.core_machine.specs.Branches.{instruction_of, chosen, with_branches}
 use Rattle.core_machine.specs.declared.fork.ForkAt.{ForkAt}
 use Rattle.core_machine.specs.Forks.{IsFork, IsForkStep}
-use Rattle.core_machine.specs.Merging.{instruction_of}
 use Rattle.core_machine.proofs.BranchLemmas.{starts_name, wakes_name, chosen_are, chosen_few}
 use Rattle.thread_steps.proofs.Steps.{fine}
 
@@ -372,7 +371,7 @@ module _ (c : PlainCode) (h : Thread) (l : Loaded c h) (run : h.phase ≡ phase.
       waits = waits_by c h.number h.allowance (work_of h) works_own.at s.1.within f.par f.to f.again is (some_by c h.own f.par f.to f.again forks)
 
       abbrev forked : Thread
-      forked = record { number = h.number; phase = phase.Forked h.units; function = h.function; at = h.at; stack = h.stack; own = h.own; units = units; allowance = h.allowance; branches = with_branches bs h.branches; joining = h.joining }
+      forked = record { number = h.number; phase = phase.Forked h.units; function = h.function; at = h.at; stack = h.stack; own = h.own; units = units; allowance = h.allowance; branches = with_branches f bs h.branches; joining = h.joining }
 
       stepped : step c h.number (machine_at (block_of c h.number) [] (work_of h)) ≡ Waits waits.for (own_of h.own) (h.units + cost (instruction_of f))
       stepped = ap (λ i. act c h.number i (point_of (block_of c h.number) h.at h.stack) [] (own_of h.own) h.units) is ∙ waits.steps
@@ -402,7 +401,6 @@ module _ (c : PlainCode) (h : Thread) (l : Loaded c h) (run : h.phase ≡ phase.
               placed = record {
                 works = works_own;
                 own = fork_is_own;
-                instruction = instruction_of f;
                 is = is;
                 forks = forks;
                 units = ap units_of stepped ∙ sym counted;

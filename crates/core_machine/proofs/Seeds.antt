@@ -25,6 +25,7 @@ use Rattle.forec_kernel.specs.Packets.{PlainPacket}
 use Rattle.forec_kernel.specs.Packed.{IsJob}
 use Rattle.combine_tree.specs.declared.packet.Packet.{Packet}
 use Rattle.combine_tree.specs.Plain.{plain_kind}
+use Rattle.core_machine.specs.Branches.{instruction_of}
 use Rattle.core_machine.specs.Forks.{branch_at, jobs_at, args_at, HasKind}
 use Rattle.core_machine.proofs.Args.{args_are, sum_within}
 use Rattle.core_machine.proofs.Asking.{waits, jobs_are}
@@ -146,9 +147,9 @@ module _ (c : PlainCode) (h : Thread) (l : Loaded c h) {n : ℕ} (at : HasSettle
     living_ones = living h.own.live (branches_in c.shape j)
 
     pub again_some : living_ones ≢ []
-    again_some = by (fork_kind c h.own w0.instruction w0.forks)
+    again_some = by (fork_kind c h.own (instruction_of h.branches.fork) w0.forks)
       where
-        by : Fork_kind c h.own w0.instruction → living h.own.live (branches_in c.shape j) ≢ []
+        by : Fork_kind c h.own (instruction_of h.branches.fork) → living h.own.live (branches_in c.shape j) ≢ []
         by (is_fork j' to' e) = let k = sym is ∙ w0.is ∙ ap Some e in cc
         by (is_again j' to' some e) = let k : instruction.Again j to ≡ instruction.Again j' to' = let f = sym is ∙ w0.is ∙ ap Some e in cc in let q : j' ≡ j = cc in subst (λ j. living h.own.live (branches_in c.shape j) ≢ []) q some
 
@@ -181,9 +182,9 @@ module _ (c : PlainCode) (h : Thread) (l : Loaded c h) {n : ℕ} (at : HasSettle
 
     pub job_by : (p p' : Packet) → HasKind c h k p p' → (q : PlainPacket) → q.kind ≡ plain_kind p'.kind → q.args ≡ p'.args.items → q.copies ≡ handed_by h.own (uses_of c b) → q.allowance ≡ h.allowance - h.units →
         (w : Written) → slice_get (jobs_at c h) k ≡ Some w → (w.branch ≡ b) × IsJob q w.job
-    job_by p p' kinds q qk qa qc ql w e = by (fork_kind c h.own w0.instruction w0.forks)
+    job_by p p' kinds q qk qa qc ql w e = by (fork_kind c h.own (instruction_of h.branches.fork) w0.forks)
       where
-        by : Fork_kind c h.own w0.instruction → (w.branch ≡ branch_at h k) × IsJob q w.job
+        by : Fork_kind c h.own (instruction_of h.branches.fork) → (w.branch ≡ branch_at h k) × IsJob q w.job
         by (is_fork j to i) =
             let is = w0.is ∙ ap Some i in
             let s = kinds.start j to is in

@@ -1,18 +1,26 @@
 -- The branches of a thread's present fork, and what their replies say together.
-use Rattle.std.specs.Prelude.{ℕ, ◌≡◌, ◌<◌, ◌+◌, ◌-◌, ◌^◌, ◌⊎◌, ◌++◌, min, Bool, cond, List, [], ◌∷◌, length, map, take}
+use Rattle.std.specs.Prelude.{ℕ, ◌≡◌, ◌<◌, ◌+◌, ◌-◌, ◌^◌, ◌⊎◌, ◌++◌, min, Bool, false, cond, List, [], ◌∷◌, length, map, take}
 use Rattle.forec_base.specs.declared.limits.TheConstants.{MAX_BUDGET}
 use Rattle.forec_kernel.specs.Packed.{IsReply}
 use Rattle.combine_tree.specs.declared.packet.Packet.{Packet}
 use Rattle.combine_tree.specs.Plain.{plain_packet}
 use Rattle.forec_kernel.specs.Engine.{Reply, WasTrapped}
 use Rattle.forec_kernel.specs.Solo.{all_units, some_reply_over}
+use Rattle.thread_code.specs.declared.instruction.Instruction.{Instruction}
+use Rattle.thread_code.specs.declared.instruction.Instruction.TheVariants as instruction
 use Rattle.thread_code.specs.Machine.{is_ended, living}
 use Rattle.core_machine.specs.declared.branches.Verdict.{Verdict}
 use Rattle.core_machine.specs.declared.branches.Verdict.TheVariants as verdict
+use Rattle.core_machine.specs.declared.fork.ForkAt.{ForkAt}
 
--- the branches that run in this tick, in the order of the par; of each that has replied, whether it has ended; how many have been joined;
+-- the instruction at which the branches wait
+abbrev pub instruction_of : ForkAt → Instruction
+instruction_of f = cond f.again (instruction.Again f.par f.to) (instruction.Fork f.par f.to)
+
+-- the fork; its branches that run in this tick, in the order of the par; of each that has replied, whether it has ended; how many have been joined;
 -- the units of the replies, and what comes of them; and how many branches there is room for
 pub record Gathered : Type 0 where
+  pub fork : ForkAt
   pub numbers : List ℕ
   pub ended : List Bool
   pub joined : ℕ
@@ -21,22 +29,26 @@ pub record Gathered : Type 0 where
   pub room : ℕ
 
 -- the first `count` of the numbers, and the first `settled` of the notes, count
-abbrev pub gathered_of : List ℕ → ℕ → List Bool → ℕ → ℕ → ℕ → Verdict → Gathered
-gathered_of numbers count ended settled joined units verdict =
-    record { numbers = take count numbers; ended = take settled ended; joined = joined; units = units; verdict = verdict; room = length numbers }
+abbrev pub gathered_of : ForkAt → List ℕ → ℕ → List Bool → ℕ → ℕ → ℕ → Verdict → Gathered
+gathered_of fork numbers count ended settled joined units verdict =
+    record { fork = fork; numbers = take count numbers; ended = take settled ended; joined = joined; units = units; verdict = verdict; room = length numbers }
+
+-- (any fork will do before the first)
+abbrev pub no_fork : ForkAt
+no_fork = record { par = 0; to = 0; again = false }
 
 abbrev pub no_branches : ℕ → Gathered
-no_branches room = record { numbers = []; ended = []; joined = 0; units = 0; verdict = verdict.Combine; room = room }
+no_branches room = record { fork = no_fork; numbers = []; ended = []; joined = 0; units = 0; verdict = verdict.Combine; room = room }
 
--- these branches, none of which has replied
-abbrev pub with_branches : List ℕ → Gathered → Gathered
-with_branches bs g = record { numbers = bs; ended = []; joined = 0; units = 0; verdict = verdict.Combine; room = g.room }
+-- these branches of a fork, none of which has replied
+abbrev pub with_branches : ForkAt → List ℕ → Gathered → Gathered
+with_branches f bs g = record { fork = f; numbers = bs; ended = []; joined = 0; units = 0; verdict = verdict.Combine; room = g.room }
 
 abbrev pub with_verdict : Verdict → Gathered → Gathered
-with_verdict v g = record { numbers = g.numbers; ended = g.ended; joined = g.joined; units = g.units; verdict = v; room = g.room }
+with_verdict v g = record { fork = g.fork; numbers = g.numbers; ended = g.ended; joined = g.joined; units = g.units; verdict = v; room = g.room }
 
 abbrev pub one_joined : Gathered → Gathered
-one_joined g = record { numbers = g.numbers; ended = g.ended; joined = g.joined + 1; units = g.units; verdict = g.verdict; room = g.room }
+one_joined g = record { fork = g.fork; numbers = g.numbers; ended = g.ended; joined = g.joined + 1; units = g.units; verdict = g.verdict; room = g.room }
 
 -- these branches, or of those of a held fork the ones that live
 abbrev pub chosen : Bool → List Bool → List ℕ → List ℕ
@@ -51,10 +63,10 @@ first_trap (verdict.Trap place trap) v = verdict.Trap place trap
 first_trap verdict.Over v = verdict.Over
 
 abbrev pub noted : Bool → Gathered → Gathered
-noted e g = record { numbers = g.numbers; ended = g.ended ++ e ∷ []; joined = g.joined; units = g.units; verdict = g.verdict; room = g.room }
+noted e g = record { fork = g.fork; numbers = g.numbers; ended = g.ended ++ e ∷ []; joined = g.joined; units = g.units; verdict = g.verdict; room = g.room }
 
 abbrev pub counted : ℕ → Gathered → Gathered
-counted n g = record { numbers = g.numbers; ended = g.ended; joined = g.joined; units = min (g.units + n) (2 ^ 64 - 1); verdict = g.verdict; room = g.room }
+counted n g = record { fork = g.fork; numbers = g.numbers; ended = g.ended; joined = g.joined; units = min (g.units + n) (2 ^ 64 - 1); verdict = g.verdict; room = g.room }
 
 -- ---- what the replies say
 
@@ -80,6 +92,7 @@ pub record Says (g : Gathered) (rs : List Reply) : Type 0 where
 
 -- one more reply was settled
 pub record Settles (g : Gathered) (p : Packet) (g' : Gathered) : Type 0 where
+  pub fork : g'.fork ≡ g.fork
   pub numbers : g'.numbers ≡ g.numbers
   pub joined : g'.joined ≡ g.joined
   pub room : g'.room ≡ g.room

@@ -1,6 +1,6 @@
 //! The branches of a thread's present fork, and what their replies say together.
 
-ghost use Rattle.std.specs.Prelude.{◌≡◌, ◌≢◌, ◌+◌, ◌<◌, ◌≤◌, ◌++◌, ◌∷◌, [], List, length, slice_get, get_or, take, ◌&&◌, false, true, cond, IfOk};
+ghost use Rattle.std.specs.Prelude.{◌≡◌, ◌≢◌, ◌+◌, ◌<◌, ◌≤◌, ◌++◌, ◌∷◌, [], List, length, slice_get, get_or, take, ◌&&◌, false, true, not, cond, IfOk};
 ghost use Rattle.std.specs.List.{list_all};
 ghost use Rattle.forec_kernel.specs.Engine.{Reply};
 ghost use Rattle.forec_kernel.specs.Packed.{IsReply};
@@ -10,6 +10,7 @@ ghost use Rattle.thread_code.specs.Valid.{branches_in};
 ghost use Rattle.thread_state.specs.Pars.{HavePars};
 ghost use Rattle.core_machine.specs.Branches.{no_branches, with_branches, with_verdict, one_joined, first_trap, noted, counted, chosen, Settles};
 
+use crate::fork::ForkAt;
 use combine_tree::{Packet, PacketKind};
 use forec_base::{OutOfMemory, Place, Trap};
 use forec_kernel::Shape;
@@ -28,39 +29,32 @@ pub enum Verdict {
     Over,
 }
 
-/// The first `count` numbers are those of the branches that run in this tick. The first `settled` notes
-/// tell which of them have ended.
+/// The fork at which the branches wait. The first `count` numbers are those of its branches that run in this
+/// tick. The first `settled` notes tell which of them have ended; so many are `ended_count`.
 #[derive(Drop)]
 pub struct Branches {
+    fork: ForkAt,
     numbers: Vec<u32>,
     count: usize,
     ended: Vec<bool>,
     settled: usize,
+    ended_count: usize,
     joined: usize,
     units: u64,
     verdict: Verdict,
 }
 
 impl Model for Branches {
-    ghost use Rattle.std.specs.Prelude.{◌≡◌, ◌≤◌, length};
+    ghost use Rattle.std.specs.Prelude.{◌≡◌, ◌≤◌, length, take};
+    ghost use Rattle.std.specs.List.{count_by};
     ghost use Rattle.core_machine.specs.Branches.{Gathered, gathered_of};
 
     ghost Value = { Gathered };
 
-    ghost view = { λ b. gathered_of b.numbers.items b.count b.ended.items b.settled b.joined b.units b.verdict };
+    ghost view = { λ b. gathered_of b.fork b.numbers.items b.count b.ended.items b.settled b.joined b.units b.verdict };
 
-    ghost invariant = { λ b. (b.count ≤ length b.numbers.items) × (length b.ended.items ≡ length b.numbers.items) × (b.settled ≤ b.count) };
-}
-
-fn are_all(notes: &[bool]) -> bool
-    ensures { result ≡ list_all (λ e. e) notes.now }
-{
-    for note in notes {
-        if !*note {
-            return false;
-        }
-    }
-    true
+    ghost invariant = { λ b. (b.count ≤ length b.numbers.items) × (length b.ended.items ≡ length b.numbers.items) × (b.settled ≤ b.count)
+        × (b.ended_count ≡ count_by (λ e. e) (take b.settled b.ended.items)) };
 }
 
 /// Whether a branch is asked for: each is, or those that live.
@@ -103,14 +97,27 @@ impl Branches {
         ensures { IfOk result (λ b. b ≡ no_branches threads) }
     {
         Ok(Branches {
+            fork: ForkAt {
+                par: 0,
+                to: 0,
+                again: false,
+            },
             numbers: vec![in alloc; 0; threads]?,
             count: 0,
             ended: vec![in alloc; false; threads]?,
             settled: 0,
+            ended_count: 0,
             joined: 0,
             units: 0,
             verdict: Verdict::Combine,
         })
+    }
+
+    /// The fork at which they wait.
+    pub fn fork(&self) -> ForkAt
+        ensures { result ≡ self.now.fork }
+    {
+        self.fork
     }
 
     /// How many branches run in this tick.
@@ -151,7 +158,14 @@ impl Branches {
     pub fn all_ended(&self) -> bool
         ensures { result ≡ list_all (λ e. e) self.now.ended }
     {
-        are_all(&self.ended[..self.settled])
+        self.ended_count == self.settled
+    }
+
+    /// Whether none that has replied has ended.
+    pub fn none_ended(&self) -> bool
+        ensures { result ≡ list_all (λ e. not e) self.now.ended }
+    {
+        self.ended_count == 0
     }
 
     /// Whether all but one have been joined.
@@ -190,15 +204,17 @@ impl Branches {
         self.joined += 1;
     }
 
-    /// The branches of a par, or of a held one those that live, in order. None has replied.
-    pub fn gather(&mut self, shape: &Shape, par: u32, own: &Own, again: bool)
+    /// The branches of a fork, or of a held one those that live, in order. None has replied.
+    pub fn gather(&mut self, shape: &Shape, fork: ForkAt, own: &Own)
         requires room { length (plain_shape shape.now).threads ≤ self.old.room }
         requires live { length own.now.live ≡ length (plain_shape shape.now).threads }
         requires pars { HavePars (plain_shape shape.now) own.now.pars }
-        ensures { self.new ≡ with_branches (chosen again own.now.live (branches_in (plain_shape shape.now) par)) self.old }
+        ensures { self.new ≡ with_branches fork (chosen fork.again own.now.live (branches_in (plain_shape shape.now) fork.par)) self.old }
     {
-        self.count = fill(shape, par, own, again, &mut self.numbers);
+        self.fork = fork;
+        self.count = fill(shape, fork.par, own, fork.again, &mut self.numbers);
         self.settled = 0;
+        self.ended_count = 0;
         self.joined = 0;
         self.units = 0;
         self.verdict = Verdict::Combine;
@@ -237,6 +253,9 @@ impl Branches {
     {
         self.ended[self.settled] = ended;
         self.settled += 1;
+        if ended {
+            self.ended_count += 1;
+        }
     }
 
     fn count(&mut self, units: u64)

@@ -3,7 +3,7 @@
 ghost use Rattle.std.specs.Prelude.{◌≡◌, ◌≤◌, ◌<◌, Some, length, slice_get};
 ghost use Rattle.thread_code.specs.Plain.{plain_code};
 ghost use Rattle.thread_code.specs.Alone.{block_of};
-ghost use Rattle.core_machine.specs.Merging.{instruction_of};
+ghost use Rattle.core_machine.specs.Branches.{instruction_of};
 ghost use Rattle.core_machine.specs.Forks.{IsFork, args_from};
 
 use thread_code::{CodeParts, Instruction};

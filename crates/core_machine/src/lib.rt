@@ -8,6 +8,7 @@ mod laws;
 mod merging;
 mod operators;
 mod room;
+mod running;
 mod thread;
 
 pub use laws::replies_answer_jobs;

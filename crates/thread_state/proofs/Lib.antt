@@ -3,5 +3,7 @@ pub mod Indexed
 pub mod Lists
 pub mod Living
 pub mod Links
+pub mod PartLemmas
 pub mod Starts
 pub mod Shapes
+pub mod Taken

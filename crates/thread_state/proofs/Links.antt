@@ -1,13 +1,13 @@
 -- The links from each branch of a par to the next, made from the last thread to the first.
-use Rattle.std.proofs.Common.{◌≡◌, ◌≢◌, ℕ, zero, suc, ◌+◌, ◌-◌, ◌*◌, ◌<◌, ◌≤◌, ◌==◌, List, [], ◌∷◌, length, drop, get_or, replicate, Option, Some, None, Bool, true, false, cond, refl, sym, ap, ◌∙◌, subst, arith, add-one, drop-cons, length-set, get_or-set_same, get_or-set_other}
+use Rattle.std.proofs.Common.{◌≡◌, ◌≢◌, ℕ, zero, suc, ◌+◌, ◌-◌, ◌*◌, ◌<◌, ◌≤◌, ◌==◌, List, [], ◌∷◌, length, drop, map, get_or, replicate, Option, Some, None, Bool, true, false, cond, refl, sym, ap, ◌∙◌, subst, arith, add-one, drop-cons, length-set, get_or-set_same, get_or-set_other}
 use Rattle.std.specs.Prelude.{IsTrue, IfSome, slice_set, nat_lt, ◌&&◌, ◌||◌}
-use Rattle.std.proofs.lemmas.List.{length-replicate}
+use Rattle.std.proofs.lemmas.List.{length-map, length-replicate}
 use Rattle.forec_kernel.specs.Shapes.{PlainShape, PlainThread}
-use Rattle.forec_kernel.specs.Texts.{params_in}
+use Rattle.forec_kernel.specs.Texts.{params_in, uses_in}
 use Rattle.forec_kernel.specs.WellFormed.{branches_of, is_par, blank_thread, numbered}
 use Rattle.thread_code.specs.Valid.{FineShape, branches_in, arguments_of}
 use Rattle.thread_state.specs.declared.pars.Sibling.{Sibling}
-use Rattle.thread_state.specs.Pars.{Links, first_of, sibling_at, arguments_from, with_first, IsLink, Lead, HavePars}
+use Rattle.thread_state.specs.Pars.{Links, first_of, sibling_at, used_by, arguments_from, with_first, IsLink, Lead, HavePars}
 use Rattle.thread_state.proofs.Lists.{drop_past}
 use Rattle.thread_state.proofs.Indexed.{equal_of, differs_of}
 
@@ -25,8 +25,8 @@ same_all zero j x = refl
 same_all (suc n) zero x = refl
 same_all (suc n) (suc j) x = same_all n j x
 
-pub linked_none : (s : PlainShape) (n : ℕ) (x : Sibling) → n ≡ length s.threads → LinkedFrom s (record { firsts = replicate n None; siblings = replicate n x }) n
-linked_none s n x e = record {
+pub linked_none : (s : PlainShape) (n : ℕ) (x : Sibling) (uses : List (List ℕ)) → n ≡ length s.threads → LinkedFrom s (record { firsts = replicate n None; siblings = replicate n x; uses = uses }) n
+linked_none s n x uses e = record {
   firsts = length-replicate n None ∙ e;
   siblings = length-replicate n x ∙ e;
   from = λ j. subst (λ o. IfSome o (λ t. n ≤ t)) (sym (same_all {A = Option ℕ} n j None)) tt;
@@ -188,8 +188,8 @@ module _ (s : PlainShape) (p : Links) (i : ℕ) (lt : i < length s.threads) (l :
       lead = λ k. lead_by k (j == k) refl;
     }
 
-pub linked_all : (s : PlainShape) (p : Links) → LinkedFrom s p 0 → HavePars s p
-linked_all s p l = record { threads = l.siblings; lead = l.lead }
+pub linked_all : (s : PlainShape) (p : Links) → LinkedFrom s p 0 → p.uses ≡ map (λ t. t.uses) s.threads → HavePars s p
+linked_all s p l uses = record { threads = l.siblings; lead = l.lead; uses = uses }
 
 -- ---- from link to link
 
@@ -234,3 +234,17 @@ pub fork_arguments : (s : PlainShape) (p : Links) → HavePars s p → (bs : Lis
 fork_arguments s p h bs j e k lt =
     subst (λ bs. (get_or bs k 0 < length p.siblings) × (arguments_from p.siblings (Some (get_or bs k 0)) ≡ arguments_of s (drop k bs))) (sym e)
     (lead_at s p.siblings (first_of p j) (branches_in s j) k (h.lead j) (subst (λ bs. k < length bs) e lt))
+
+-- ---- the variables that each thread uses
+
+uses_at : (ss : List PlainThread) (t : ℕ) → get_or (map (λ x. x.uses) ss) t [] ≡ uses_in ss t
+uses_at [] t = refl
+uses_at (s ∷ ss) zero = refl
+uses_at (s ∷ ss) (suc t) = uses_at ss t
+
+module _ (s : PlainShape) (p : Links) (h : HavePars s p) where
+  pub used_is : (t : ℕ) → used_by p t ≡ uses_in s.threads t
+  used_is t = ap (λ ls. get_or ls t []) h.uses ∙ uses_at s.threads t
+
+  pub used_count : length p.uses ≡ length s.threads
+  used_count = ap length h.uses ∙ length-map s.threads (λ x. x.uses)

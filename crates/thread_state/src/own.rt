@@ -3,6 +3,7 @@
 
 ghost use Rattle.std.specs.Prelude.{◌≡◌, ◌<◌, ◌≤◌, length, get_or, true, false, cond, IfOk};
 ghost use Rattle.thread_state.specs.Kept.{Kept, AreIndexed, place_in, no_copy, with_copy, with_copy_at, with_flag, with_live_at, without_branches, begun, with_copies, HavePlaces, handed_by};
+ghost use Rattle.thread_state.specs.Pars.{used_by};
 
 use crate::pars::Pars;
 use forec_base::OutOfMemory;
@@ -178,12 +179,14 @@ impl Own {
         &self.copies
     }
 
-    /// Writes the present values of these variables, unmarked.
-    pub fn hand_down(&self, uses: &[u32], copies: &mut [VarCopy])
-        requires places { HavePlaces self.now uses.now }
-        requires room { length copies.old ≡ length uses.now }
-        ensures { copies.new ≡ handed_by self.now uses.now }
+    /// Writes the present values of the variables that a branch uses, unmarked.
+    pub fn hand_down(&self, branch: u32, copies: &mut [VarCopy])
+        requires branch { branch < length self.now.pars.uses }
+        requires places { HavePlaces self.now (used_by self.now.pars branch) }
+        requires room { length copies.old ≡ length (used_by self.now.pars branch) }
+        ensures { copies.new ≡ handed_by self.now (used_by self.now.pars branch) }
     {
+        let uses = self.pars.uses(branch);
         for i in 0..uses.len() {
             copies[i] = VarCopy {
                 value: self.copy(uses[i]),

@@ -1,10 +1,12 @@
-//! The branches of each par, linked so that those of one are found without a look at other threads.
+//! The branches of each par, linked so that those of one are found without a look at other threads, and the
+//! variables that each thread uses.
 
-ghost use Rattle.std.specs.Prelude.{◌≡◌, ◌+◌, ◌<◌, ◌^◌, length, IfSome, IfOk};
+ghost use Rattle.std.specs.Prelude.{◌≡◌, ◌+◌, ◌<◌, ◌^◌, length, get_or, IfSome, IfOk};
 ghost use Rattle.forec_kernel.specs.Shapes.{plain_shape};
 ghost use Rattle.thread_code.specs.Valid.{FineShape};
-ghost use Rattle.thread_state.specs.Pars.{HavePars, first_of, sibling_at, arguments_from, with_first};
+ghost use Rattle.thread_state.specs.Pars.{HavePars, first_of, sibling_at, used_by, arguments_from, with_first};
 
+use crate::uses::Uses;
 use forec_base::OutOfMemory;
 use forec_kernel::Shape;
 use std::alloc::Global;
@@ -20,11 +22,12 @@ pub struct Sibling {
     arguments: u32,
 }
 
-/// The first branch of each par, and for each thread what stands after it in its par.
+/// The first branch of each par, and for each thread what stands after it in its par and what it uses.
 #[derive(Drop)]
 struct Table {
     firsts: Vec<Option<u32>>,
     siblings: Vec<Sibling>,
+    uses: Uses,
 }
 
 impl Model for Table {
@@ -32,7 +35,7 @@ impl Model for Table {
 
     ghost Value = { Links };
 
-    ghost view = { λ p. links_of p.firsts.items p.siblings.items };
+    ghost view = { λ p. links_of p.firsts.items p.siblings.items p.uses };
 }
 
 impl Table {
@@ -53,6 +56,7 @@ impl Table {
         let mut pars = Table {
             firsts: vec![in alloc; None; count]?,
             siblings: vec![in alloc; none; count]?,
+            uses: Uses::new(alloc, &shape.threads)?,
         };
         let mut thread = count as u32;
         while thread > 0 {
@@ -177,5 +181,21 @@ impl Pars {
         ensures { result ≡ (sibling_at self.now.siblings branch).next }
     {
         self.table.next(branch)
+    }
+
+    /// The variables that a thread uses.
+    pub fn uses(&self, thread: u32) -> &[u32]
+        requires { thread < length self.now.uses }
+        ensures { result.now ≡ used_by self.now thread }
+    {
+        self.table.uses.of(thread)
+    }
+
+    /// The variable at a place among those that a thread uses.
+    pub fn use_at(&self, thread: u32, place: usize) -> u32
+        requires { place < length (used_by self.now thread) }
+        ensures { result ≡ get_or (used_by self.now thread) place 0 }
+    {
+        self.table.uses.at(thread, place)
     }
 }

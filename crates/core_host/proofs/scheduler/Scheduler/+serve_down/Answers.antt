@@ -1,14 +1,21 @@
-use Rattle.std.proofs.Common.{rules, ◌<◌, ◌≤◌, ◌+◌, ◌-◌, ◌*◌, suc, length, refl, sym, ap, ◌∙◌, subst, arith}
+use Rattle.std.proofs.Common.{rules, ◌<◌, ◌≤◌, ◌+◌, ◌-◌, ◌*◌, suc, false, length, refl, sym, ap, ◌∙◌, subst, arith}
 use Rattle.std.specs.Prelude.{slice_index_or}
 use Rattle.std.proofs.lemmas.Option.{slice_get_within}
+use Rattle.thread_code.specs.declared.instruction.CodeParts.{CodeParts}
+use Rattle.thread_code.specs.Plain.{plain_code}
 use Rattle.core_machine.specs.Threads.{CanRun, Left_by}
 use Rattle.core_host.specs.Posts.{Mail}
 use Rattle.core_host.specs.Changes.{HasProgressed}
+use Rattle.core_host.specs.Descending.{KeepsRound}
 use Rattle.core_host.specs.Keeping.{State, code_in, HaveHeard}
-use Rattle.core_host.specs.Waiting.{CanDescend}
+use Rattle.core_host.specs.Waiting.{IsForked, CanDescend}
 use Rattle.core_host.proofs.Finishing.{replied_by}
 use Rattle.core_host.proofs.Seats.{can_above, it_sits}
-use Rattle.core_host.proofs.DescendingLemmas.{never, descends_same, descends_then, descends_less, descends_seated, descends_can, branch_at, kept_same, kept_then, runs, the_fork, told_so_far, forked_there, s1_seated, s1_can, s2_seated, still_gathers, s3_descends, waits_still, has_sent, has_all, has_heard, works_on, sent_since, starts, starts_at, finishes, held_on, back_descends, gains_more, taken_up, taken_can, served_whole, served_worked, not_taken}
+use Rattle.core_host.proofs.Hearing.{past_end}
+use Rattle.core_host.proofs.CallingLemmas.{told_at, served_at, called_none, some_number, seated_b, can_call, its_packet, calls_at, calls_by, called_more, sent_first, served_all, stays_seated, stays_can}
+use Rattle.core_host.proofs.DescendingLemmas.{never, descends_same, descends_then, descends_less, descends_seated, descends_can, branch_at, kept_same, kept_then, sent_since, starts, starts_at, finishes, held_on, back_descends, gains_more, taken_up, taken_can, served_whole, served_worked, not_taken}
+use Rattle.core_host.proofs.GoingOn.{runs, the_fork, forked_here, told_so_far, s1_descends, waits_there, has_sent, has_all, has_heard, works_on, served_again, gathers_there, gathers_still}
+use Rattle.core_host.proofs.scheduler.Scheduler.+serve_down.Goals.{call_branches-then-replied, call_branches-else-replied}
 use Rattle.core_host.proofs.scheduler.Scheduler.+serve_down.Goals as goal
 
 -- ---- serve_branches
@@ -32,7 +39,7 @@ serve_branches-serve_here-requires g t c κs within =
     let boxes = c.requires.seated.mailboxes in
     let d = c.loop-branch.invariant.descends in
     let count = d.leaves.alike.count in
-    let smaller : 5 * (256 - (c.in-Some.branch - 1)) + 4 < 5 * (257 - c.args.thread.now.number) = omega (arith, is, up, lt, few, same, boxes) in
+    let smaller : 8 * (256 - (c.in-Some.branch - 1)) + 5 < 8 * (257 - c.args.thread.now.number) = omega (arith, is, up, lt, few, same, boxes) in
     let inside : c.in-Some.branch - 1 < length c.loop-branch.self.mail.ends = omega (arith, is, lt, boxes, count) in
     let seated = descends_seated c.args.thread.now.number c.args.thread.now.number c.args.self.now c.loop-branch.self d c.requires.seated in
     let low : c.args.thread.now.number ≤ c.in-Some.branch - 1 = omega (arith, is, up) in
@@ -59,7 +66,7 @@ serve_branches-loop-branch-preserved g t c =
 pub serve_here-serve_down-requires : goal.serve_here-serve_down-requires
 serve_here-serve_down-requires g t c κs within =
     let x = c.index.result.now in
-    let smaller : 5 * (256 - c.args.mailbox) + 3 < 5 * (256 - c.args.mailbox) + 4 = omega arith in
+    let smaller : 8 * (256 - c.args.mailbox) + 4 < 8 * (256 - c.args.mailbox) + 5 = omega arith in
     let between =
     it_sits c.args.self.now c.args.mailbox c.args.mailbox (c.args.mailbox + 1) x c.requires.above (omega arith) c.requires.inside (omega arith)
     (c.index.ensures ∙ ap (λ (s : State). slice_index_or s.seats (c.args.mailbox + 1) x) c.self.view_is) (sym c.is_some.ensures ∙ c.if-is_some.true) in
@@ -95,82 +102,55 @@ run_down-returns-in_default g t c =
       round = c.loop.invariant.round;
     }
 
-pub run_down-send_jobs_and_hint-requires-clause-seated : goal.run_down-send_jobs_and_hint-requires-clause-seated
-run_down-send_jobs_and_hint-requires-clause-seated g t c =
-    descends_seated c.requires.working.work.mailbox (suc c.requires.working.work.mailbox) c.args.self.now c.loop.self (c.loop.invariant.descends c.requires.working.work.mailbox c.requires.working.work.number) c.requires.seated
-
-pub run_down-send_jobs_and_hint-requires-clause-fork : goal.run_down-send_jobs_and_hint-requires-clause-fork
-run_down-send_jobs_and_hint-requires-clause-fork g t c =
-    the_fork c.loop.self c.requires.working.work.mailbox (descends_seated c.requires.working.work.mailbox (suc c.requires.working.work.mailbox) c.args.self.now c.loop.self (c.loop.invariant.descends c.requires.working.work.mailbox c.requires.working.work.number) c.requires.seated) c.loop.thread c.run.new.self (c.loop.invariant.number ∙ c.requires.working.work.number) c.loop.invariant.working c.self.inside.code.now (ap (λ (s : State). s.code) c.self.view_is) c.run.ensures.loaded c.run.ensures.number c.run.ensures.stands
-    (subst (Left_by c.run.new.self) c.in-Fork.is c.run.ensures.left) (c.run.ensures.branches c.in-Fork.is)
-
-pub run_down-send_jobs_and_hint-requires-clause-told : goal.run_down-send_jobs_and_hint-requires-clause-told
-run_down-send_jobs_and_hint-requires-clause-told g t c =
-    told_so_far c.loop.self c.requires.working.work.mailbox (descends_seated c.requires.working.work.mailbox (suc c.requires.working.work.mailbox) c.args.self.now c.loop.self (c.loop.invariant.descends c.requires.working.work.mailbox c.requires.working.work.number) c.requires.seated) c.loop.thread c.run.new.self (c.loop.invariant.number ∙ c.requires.working.work.number) c.loop.invariant.working c.self.inside.code.now (ap (λ (s : State). s.code) c.self.view_is) c.run.ensures.loaded c.run.ensures.number c.run.ensures.stands
-    (subst (Left_by c.run.new.self) c.in-Fork.is c.run.ensures.left) (c.run.ensures.branches c.in-Fork.is)
-
-pub run_down-serve_branches-requires : goal.run_down-serve_branches-requires
-run_down-serve_branches-requires g t c κs within =
+pub run_down-serve_fork-requires : goal.run_down-serve_fork-requires
+run_down-serve_fork-requires g t c κs within =
     let number = c.run.ensures.number ∙ c.loop.invariant.number in
-    let smaller : 5 * (257 - c.run.new.self.number) < 5 * (257 - c.args.thread.now.number) + 1 = omega (arith, number) in
-    let seated = s1_seated c.loop.self c.requires.working.work.mailbox (descends_seated c.requires.working.work.mailbox (suc c.requires.working.work.mailbox) c.args.self.now c.loop.self (c.loop.invariant.descends c.requires.working.work.mailbox c.requires.working.work.number) c.requires.seated) c.loop.thread c.run.new.self (c.loop.invariant.number ∙ c.requires.working.work.number) c.loop.invariant.working c.self.inside.code.now (ap (λ (s : State). s.code) c.self.view_is) c.run.ensures.loaded c.run.ensures.number c.run.ensures.stands
-    (subst (Left_by c.run.new.self) c.in-Fork.is c.run.ensures.left) (c.run.ensures.branches c.in-Fork.is)
-    c.send_jobs_and_hint.new.self c.send_jobs_and_hint.ensures.moves c.send_jobs_and_hint.ensures.told in
-    let forked = forked_there c.loop.self c.requires.working.work.mailbox (descends_seated c.requires.working.work.mailbox (suc c.requires.working.work.mailbox) c.args.self.now c.loop.self (c.loop.invariant.descends c.requires.working.work.mailbox c.requires.working.work.number) c.requires.seated) c.loop.thread c.run.new.self (c.loop.invariant.number ∙ c.requires.working.work.number) c.loop.invariant.working c.self.inside.code.now (ap (λ (s : State). s.code) c.self.view_is) c.run.ensures.loaded c.run.ensures.number c.run.ensures.stands
-    (subst (Left_by c.run.new.self) c.in-Fork.is c.run.ensures.left) (c.run.ensures.branches c.in-Fork.is)
-    c.send_jobs_and_hint.new.self c.send_jobs_and_hint.ensures.moves c.send_jobs_and_hint.ensures.told in
-    let can = descends_can c.requires.working.work.mailbox (suc c.requires.working.work.mailbox) (suc c.requires.working.work.mailbox) c.args.self.now c.loop.self (omega arith) (c.loop.invariant.descends c.requires.working.work.mailbox c.requires.working.work.number) (subst (CanDescend c.args.self.now) c.requires.working.work.number c.requires.above) in
-    let above = s1_can c.loop.self c.requires.working.work.mailbox (descends_seated c.requires.working.work.mailbox (suc c.requires.working.work.mailbox) c.args.self.now c.loop.self (c.loop.invariant.descends c.requires.working.work.mailbox c.requires.working.work.number) c.requires.seated) c.loop.thread c.run.new.self (c.loop.invariant.number ∙ c.requires.working.work.number) c.loop.invariant.working c.self.inside.code.now (ap (λ (s : State). s.code) c.self.view_is) c.run.ensures.loaded c.run.ensures.number c.run.ensures.stands
-    (subst (Left_by c.run.new.self) c.in-Fork.is c.run.ensures.left) (c.run.ensures.branches c.in-Fork.is)
-    c.send_jobs_and_hint.new.self c.send_jobs_and_hint.ensures.moves c.send_jobs_and_hint.ensures.told can in
-    (search rules, (within.0, (within.1.0, (within.1.1, (seated, (forked, above))))))
+    let smaller : 8 * (257 - c.run.new.self.number) + 1 < 8 * (257 - c.args.thread.now.number) + 2 = omega (arith, number) in
+    let d = c.loop.invariant.descends c.requires.working.work.mailbox c.requires.working.work.number in
+    let seated = descends_seated c.requires.working.work.mailbox (suc c.requires.working.work.mailbox) c.args.self.now c.loop.self d c.requires.seated in
+    let fork = the_fork c.loop.self c.requires.working.work.mailbox (descends_seated c.requires.working.work.mailbox (suc c.requires.working.work.mailbox) c.args.self.now c.loop.self (c.loop.invariant.descends c.requires.working.work.mailbox c.requires.working.work.number) c.requires.seated) c.loop.thread c.run.new.self (c.loop.invariant.number ∙ c.requires.working.work.number) c.loop.invariant.working c.self.inside.code.now (ap (λ (s : State). s.code) c.self.view_is) c.run.ensures.loaded c.run.ensures.number c.run.ensures.stands
+    (subst (Left_by c.run.new.self) c.in-Fork.is c.run.ensures.left) (c.run.ensures.branches c.in-Fork.is) in
+    let forked = forked_here c.loop.self c.requires.working.work.mailbox (descends_seated c.requires.working.work.mailbox (suc c.requires.working.work.mailbox) c.args.self.now c.loop.self (c.loop.invariant.descends c.requires.working.work.mailbox c.requires.working.work.number) c.requires.seated) c.loop.thread c.run.new.self (c.loop.invariant.number ∙ c.requires.working.work.number) c.loop.invariant.working c.self.inside.code.now (ap (λ (s : State). s.code) c.self.view_is) c.run.ensures.loaded c.run.ensures.number c.run.ensures.stands
+    (subst (Left_by c.run.new.self) c.in-Fork.is c.run.ensures.left) (c.run.ensures.branches c.in-Fork.is) in
+    let told = told_so_far c.loop.self c.requires.working.work.mailbox (descends_seated c.requires.working.work.mailbox (suc c.requires.working.work.mailbox) c.args.self.now c.loop.self (c.loop.invariant.descends c.requires.working.work.mailbox c.requires.working.work.number) c.requires.seated) c.loop.thread c.run.new.self (c.loop.invariant.number ∙ c.requires.working.work.number) c.loop.invariant.working c.self.inside.code.now (ap (λ (s : State). s.code) c.self.view_is) c.run.ensures.loaded c.run.ensures.number c.run.ensures.stands
+    (subst (Left_by c.run.new.self) c.in-Fork.is c.run.ensures.left) (c.run.ensures.branches c.in-Fork.is) in
+    let can = descends_can c.requires.working.work.mailbox (suc c.requires.working.work.mailbox) (suc c.requires.working.work.mailbox) c.args.self.now c.loop.self (omega arith) d (subst (CanDescend c.args.self.now) c.requires.working.work.number c.requires.above) in
+    let above = subst (CanDescend c.loop.self) (sym (number ∙ c.requires.working.work.number)) can in
+    (search rules, (within.0, (within.1.0, (within.1.1, (seated, (fork, (forked, (told, above))))))))
 
-pub run_down-gather_replies-requires-clause-seated : goal.run_down-gather_replies-requires-clause-seated
-run_down-gather_replies-requires-clause-seated g t c =
-    s2_seated c.loop.self c.requires.working.work.mailbox (descends_seated c.requires.working.work.mailbox (suc c.requires.working.work.mailbox) c.args.self.now c.loop.self (c.loop.invariant.descends c.requires.working.work.mailbox c.requires.working.work.number) c.requires.seated) c.loop.thread c.run.new.self (c.loop.invariant.number ∙ c.requires.working.work.number) c.loop.invariant.working c.self.inside.code.now (ap (λ (s : State). s.code) c.self.view_is) c.run.ensures.loaded c.run.ensures.number c.run.ensures.stands
-    (subst (Left_by c.run.new.self) c.in-Fork.is c.run.ensures.left) (c.run.ensures.branches c.in-Fork.is)
-    c.send_jobs_and_hint.new.self c.send_jobs_and_hint.ensures.moves c.send_jobs_and_hint.ensures.told c.serve_branches.new.self c.serve_branches.ensures.descends
-
-pub run_down-gather_replies-requires-clause-gathering : goal.run_down-gather_replies-requires-clause-gathering
-run_down-gather_replies-requires-clause-gathering g t c =
-    still_gathers c.loop.self c.requires.working.work.mailbox (descends_seated c.requires.working.work.mailbox (suc c.requires.working.work.mailbox) c.args.self.now c.loop.self (c.loop.invariant.descends c.requires.working.work.mailbox c.requires.working.work.number) c.requires.seated) c.loop.thread c.run.new.self (c.loop.invariant.number ∙ c.requires.working.work.number) c.loop.invariant.working c.self.inside.code.now (ap (λ (s : State). s.code) c.self.view_is) c.run.ensures.loaded c.run.ensures.number c.run.ensures.stands
-    (subst (Left_by c.run.new.self) c.in-Fork.is c.run.ensures.left) (c.run.ensures.branches c.in-Fork.is)
-    c.send_jobs_and_hint.new.self c.send_jobs_and_hint.ensures.moves c.send_jobs_and_hint.ensures.told c.serve_branches.new.self c.serve_branches.ensures.descends
-
-pub run_down-returns-then-not-gather_replies-clause-number : goal.run_down-returns-then-not-gather_replies-clause-number
-run_down-returns-then-not-gather_replies-clause-number g t c =
+pub run_down-returns-then-not-serve_fork-clause-number : goal.run_down-returns-then-not-serve_fork-clause-number
+run_down-returns-then-not-serve_fork-clause-number g t c =
     c.run.ensures.number ∙ c.loop.invariant.number
 
-pub run_down-returns-then-not-gather_replies-clause-descends : goal.run_down-returns-then-not-gather_replies-clause-descends
-run_down-returns-then-not-gather_replies-clause-descends g t c m n =
-    descends_then m (suc m) c.args.self.now c.loop.self c.gather_replies.new.self (c.loop.invariant.descends m n)
-    (s3_descends c.loop.self m (descends_seated m (suc m) c.args.self.now c.loop.self (c.loop.invariant.descends m n) c.requires.seated) c.loop.thread c.run.new.self (c.loop.invariant.number ∙ n) c.loop.invariant.working c.self.inside.code.now (ap (λ (s : State). s.code) c.self.view_is) c.run.ensures.loaded c.run.ensures.number c.run.ensures.stands
+pub run_down-returns-then-not-serve_fork-clause-descends : goal.run_down-returns-then-not-serve_fork-clause-descends
+run_down-returns-then-not-serve_fork-clause-descends g t c m n =
+    descends_then m (suc m) c.args.self.now c.loop.self c.serve_fork.new.self (c.loop.invariant.descends m n)
+    (s1_descends c.loop.self m (descends_seated m (suc m) c.args.self.now c.loop.self (c.loop.invariant.descends m n) c.requires.seated) c.loop.thread c.run.new.self (c.loop.invariant.number ∙ n) c.loop.invariant.working c.self.inside.code.now (ap (λ (s : State). s.code) c.self.view_is) c.run.ensures.loaded c.run.ensures.number c.run.ensures.stands
     (subst (Left_by c.run.new.self) c.in-Fork.is c.run.ensures.left) (c.run.ensures.branches c.in-Fork.is)
-    c.send_jobs_and_hint.new.self c.send_jobs_and_hint.ensures.moves c.send_jobs_and_hint.ensures.told c.serve_branches.new.self c.serve_branches.ensures.descends c.gather_replies.new.self c.gather_replies.ensures.moves)
+    c.serve_fork.new.self c.serve_fork.result c.serve_fork.ensures.served)
 
-pub run_down-returns-then-not-gather_replies-clause-waiting : goal.run_down-returns-then-not-gather_replies-clause-waiting
-run_down-returns-then-not-gather_replies-clause-waiting g t c _ =
-    waits_still c.loop.self c.requires.working.work.mailbox (descends_seated c.requires.working.work.mailbox (suc c.requires.working.work.mailbox) c.args.self.now c.loop.self (c.loop.invariant.descends c.requires.working.work.mailbox c.requires.working.work.number) c.requires.seated) c.loop.thread c.run.new.self (c.loop.invariant.number ∙ c.requires.working.work.number) c.loop.invariant.working c.self.inside.code.now (ap (λ (s : State). s.code) c.self.view_is) c.run.ensures.loaded c.run.ensures.number c.run.ensures.stands
+pub run_down-returns-then-not-serve_fork-clause-waiting : goal.run_down-returns-then-not-serve_fork-clause-waiting
+run_down-returns-then-not-serve_fork-clause-waiting g t c _ =
+    waits_there c.loop.self c.requires.working.work.mailbox (descends_seated c.requires.working.work.mailbox (suc c.requires.working.work.mailbox) c.args.self.now c.loop.self (c.loop.invariant.descends c.requires.working.work.mailbox c.requires.working.work.number) c.requires.seated) c.loop.thread c.run.new.self (c.loop.invariant.number ∙ c.requires.working.work.number) c.loop.invariant.working c.self.inside.code.now (ap (λ (s : State). s.code) c.self.view_is) c.run.ensures.loaded c.run.ensures.number c.run.ensures.stands
     (subst (Left_by c.run.new.self) c.in-Fork.is c.run.ensures.left) (c.run.ensures.branches c.in-Fork.is)
-    c.send_jobs_and_hint.new.self c.send_jobs_and_hint.ensures.moves c.send_jobs_and_hint.ensures.told c.serve_branches.new.self c.serve_branches.ensures.descends c.gather_replies.new.self c.gather_replies.ensures.moves (c.gather_replies.ensures.gathering c.if-not-gather_replies.true)
+    c.serve_fork.new.self c.serve_fork.result c.serve_fork.ensures.served
 
-pub run_down-returns-then-not-gather_replies-clause-sent : goal.run_down-returns-then-not-gather_replies-clause-sent
-run_down-returns-then-not-gather_replies-clause-sent g t c _ m n =
-    sent_since c.args.self.now c.loop.self c.gather_replies.new.self m m (suc m) (c.loop.invariant.descends m n)
+pub run_down-returns-then-not-serve_fork-clause-sent : goal.run_down-returns-then-not-serve_fork-clause-sent
+run_down-returns-then-not-serve_fork-clause-sent g t c _ m n =
+    sent_since c.args.self.now c.loop.self c.serve_fork.new.self m m (suc m) (c.loop.invariant.descends m n)
     (has_sent c.loop.self m (descends_seated m (suc m) c.args.self.now c.loop.self (c.loop.invariant.descends m n) c.requires.seated) c.loop.thread c.run.new.self (c.loop.invariant.number ∙ n) c.loop.invariant.working c.self.inside.code.now (ap (λ (s : State). s.code) c.self.view_is) c.run.ensures.loaded c.run.ensures.number c.run.ensures.stands
     (subst (Left_by c.run.new.self) c.in-Fork.is c.run.ensures.left) (c.run.ensures.branches c.in-Fork.is)
-    c.send_jobs_and_hint.new.self c.send_jobs_and_hint.ensures.moves c.send_jobs_and_hint.ensures.told c.serve_branches.new.self c.serve_branches.ensures.descends c.gather_replies.new.self c.gather_replies.ensures.moves)
+    c.serve_fork.new.self c.serve_fork.result c.serve_fork.ensures.served)
 
-pub run_down-returns-then-not-gather_replies-clause-round : goal.run_down-returns-then-not-gather_replies-clause-round
-run_down-returns-then-not-gather_replies-clause-round g t c =
-    kept_then c.args.round.now c.loop.round c.serve_branches.new.round c.loop.invariant.round
-    (kept_then c.loop.round c.send_jobs_and_hint.new.round c.serve_branches.new.round (record { own = c.send_jobs_and_hint.ensures.own; next = c.send_jobs_and_hint.ensures.next; rope = c.send_jobs_and_hint.ensures.rope }) c.serve_branches.ensures.round)
+pub run_down-returns-then-not-serve_fork-clause-round : goal.run_down-returns-then-not-serve_fork-clause-round
+run_down-returns-then-not-serve_fork-clause-round g t c =
+    kept_then c.args.round.now c.loop.round c.serve_fork.new.round c.loop.invariant.round c.serve_fork.ensures.round
 
 pub run_down-settle-requires-clause-loaded : goal.run_down-settle-requires-clause-loaded
 run_down-settle-requires-clause-loaded g t c =
     (has_all c.loop.self c.requires.working.work.mailbox (descends_seated c.requires.working.work.mailbox (suc c.requires.working.work.mailbox) c.args.self.now c.loop.self (c.loop.invariant.descends c.requires.working.work.mailbox c.requires.working.work.number) c.requires.seated) c.loop.thread c.run.new.self (c.loop.invariant.number ∙ c.requires.working.work.number) c.loop.invariant.working c.self.inside.code.now (ap (λ (s : State). s.code) c.self.view_is) c.run.ensures.loaded c.run.ensures.number c.run.ensures.stands
     (subst (Left_by c.run.new.self) c.in-Fork.is c.run.ensures.left) (c.run.ensures.branches c.in-Fork.is)
-    c.send_jobs_and_hint.new.self c.send_jobs_and_hint.ensures.moves c.send_jobs_and_hint.ensures.told c.serve_branches.new.self c.serve_branches.ensures.descends c.gather_replies.new.self c.gather_replies.ensures.moves (c.gather_replies.ensures.all c.if-not-gather_replies.false)).waiting.work.loaded
+    c.serve_fork.new.self c.serve_fork.result c.serve_fork.ensures.served c.if-not-serve_fork.false).waiting.work.loaded
 
 pub run_down-settle-requires-clause-fork : goal.run_down-settle-requires-clause-fork
 run_down-settle-requires-clause-fork g t c =
@@ -180,40 +160,40 @@ pub run_down-settle-requires-clause-few : goal.run_down-settle-requires-clause-f
 run_down-settle-requires-clause-few g t c =
     (has_all c.loop.self c.requires.working.work.mailbox (descends_seated c.requires.working.work.mailbox (suc c.requires.working.work.mailbox) c.args.self.now c.loop.self (c.loop.invariant.descends c.requires.working.work.mailbox c.requires.working.work.number) c.requires.seated) c.loop.thread c.run.new.self (c.loop.invariant.number ∙ c.requires.working.work.number) c.loop.invariant.working c.self.inside.code.now (ap (λ (s : State). s.code) c.self.view_is) c.run.ensures.loaded c.run.ensures.number c.run.ensures.stands
     (subst (Left_by c.run.new.self) c.in-Fork.is c.run.ensures.left) (c.run.ensures.branches c.in-Fork.is)
-    c.send_jobs_and_hint.new.self c.send_jobs_and_hint.ensures.moves c.send_jobs_and_hint.ensures.told c.serve_branches.new.self c.serve_branches.ensures.descends c.gather_replies.new.self c.gather_replies.ensures.moves (c.gather_replies.ensures.all c.if-not-gather_replies.false)).waiting.gathering.forked.few
+    c.serve_fork.new.self c.serve_fork.result c.serve_fork.ensures.served c.if-not-serve_fork.false).waiting.gathering.forked.few
 
 pub run_down-settle-requires-clause-heard : goal.run_down-settle-requires-clause-heard
 run_down-settle-requires-clause-heard g t c = (
   (has_all c.loop.self c.requires.working.work.mailbox (descends_seated c.requires.working.work.mailbox (suc c.requires.working.work.mailbox) c.args.self.now c.loop.self (c.loop.invariant.descends c.requires.working.work.mailbox c.requires.working.work.number) c.requires.seated) c.loop.thread c.run.new.self (c.loop.invariant.number ∙ c.requires.working.work.number) c.loop.invariant.working c.self.inside.code.now (ap (λ (s : State). s.code) c.self.view_is) c.run.ensures.loaded c.run.ensures.number c.run.ensures.stands
       (subst (Left_by c.run.new.self) c.in-Fork.is c.run.ensures.left) (c.run.ensures.branches c.in-Fork.is)
-      c.send_jobs_and_hint.new.self c.send_jobs_and_hint.ensures.moves c.send_jobs_and_hint.ensures.told c.serve_branches.new.self c.serve_branches.ensures.descends c.gather_replies.new.self c.gather_replies.ensures.moves (c.gather_replies.ensures.all c.if-not-gather_replies.false)).waiting.gathering.replies,
+      c.serve_fork.new.self c.serve_fork.result c.serve_fork.ensures.served c.if-not-serve_fork.false).waiting.gathering.replies,
   has_heard c.loop.self c.requires.working.work.mailbox (descends_seated c.requires.working.work.mailbox (suc c.requires.working.work.mailbox) c.args.self.now c.loop.self (c.loop.invariant.descends c.requires.working.work.mailbox c.requires.working.work.number) c.requires.seated) c.loop.thread c.run.new.self (c.loop.invariant.number ∙ c.requires.working.work.number) c.loop.invariant.working c.self.inside.code.now (ap (λ (s : State). s.code) c.self.view_is) c.run.ensures.loaded c.run.ensures.number c.run.ensures.stands
       (subst (Left_by c.run.new.self) c.in-Fork.is c.run.ensures.left) (c.run.ensures.branches c.in-Fork.is)
-      c.send_jobs_and_hint.new.self c.send_jobs_and_hint.ensures.moves c.send_jobs_and_hint.ensures.told c.serve_branches.new.self c.serve_branches.ensures.descends c.gather_replies.new.self c.gather_replies.ensures.moves (c.gather_replies.ensures.all c.if-not-gather_replies.false),
+      c.serve_fork.new.self c.serve_fork.result c.serve_fork.ensures.served c.if-not-serve_fork.false,
 )
 
 pub run_down-join-requires-clause-some : goal.run_down-join-requires-clause-some
 run_down-join-requires-clause-some g t c =
     subst (λ l. 0 < length l) (sym c.settle.ensures.branches) (has_all c.loop.self c.requires.working.work.mailbox (descends_seated c.requires.working.work.mailbox (suc c.requires.working.work.mailbox) c.args.self.now c.loop.self (c.loop.invariant.descends c.requires.working.work.mailbox c.requires.working.work.number) c.requires.seated) c.loop.thread c.run.new.self (c.loop.invariant.number ∙ c.requires.working.work.number) c.loop.invariant.working c.self.inside.code.now (ap (λ (s : State). s.code) c.self.view_is) c.run.ensures.loaded c.run.ensures.number c.run.ensures.stands
     (subst (Left_by c.run.new.self) c.in-Fork.is c.run.ensures.left) (c.run.ensures.branches c.in-Fork.is)
-    c.send_jobs_and_hint.new.self c.send_jobs_and_hint.ensures.moves c.send_jobs_and_hint.ensures.told c.serve_branches.new.self c.serve_branches.ensures.descends c.gather_replies.new.self c.gather_replies.ensures.moves (c.gather_replies.ensures.all c.if-not-gather_replies.false)).waiting.gathering.forked.some
+    c.serve_fork.new.self c.serve_fork.result c.serve_fork.ensures.served c.if-not-serve_fork.false).waiting.gathering.forked.some
 
 pub run_down-join-requires-clause-few : goal.run_down-join-requires-clause-few
 run_down-join-requires-clause-few g t c =
     subst (λ l. length l ≤ 256) (sym c.settle.ensures.branches) (has_all c.loop.self c.requires.working.work.mailbox (descends_seated c.requires.working.work.mailbox (suc c.requires.working.work.mailbox) c.args.self.now c.loop.self (c.loop.invariant.descends c.requires.working.work.mailbox c.requires.working.work.number) c.requires.seated) c.loop.thread c.run.new.self (c.loop.invariant.number ∙ c.requires.working.work.number) c.loop.invariant.working c.self.inside.code.now (ap (λ (s : State). s.code) c.self.view_is) c.run.ensures.loaded c.run.ensures.number c.run.ensures.stands
     (subst (Left_by c.run.new.self) c.in-Fork.is c.run.ensures.left) (c.run.ensures.branches c.in-Fork.is)
-    c.send_jobs_and_hint.new.self c.send_jobs_and_hint.ensures.moves c.send_jobs_and_hint.ensures.told c.serve_branches.new.self c.serve_branches.ensures.descends c.gather_replies.new.self c.gather_replies.ensures.moves (c.gather_replies.ensures.all c.if-not-gather_replies.false)).waiting.gathering.forked.few
+    c.serve_fork.new.self c.serve_fork.result c.serve_fork.ensures.served c.if-not-serve_fork.false).waiting.gathering.forked.few
 
 pub run_down-join-requires-clause-heard : goal.run_down-join-requires-clause-heard
 run_down-join-requires-clause-heard g t c = (
   (has_all c.loop.self c.requires.working.work.mailbox (descends_seated c.requires.working.work.mailbox (suc c.requires.working.work.mailbox) c.args.self.now c.loop.self (c.loop.invariant.descends c.requires.working.work.mailbox c.requires.working.work.number) c.requires.seated) c.loop.thread c.run.new.self (c.loop.invariant.number ∙ c.requires.working.work.number) c.loop.invariant.working c.self.inside.code.now (ap (λ (s : State). s.code) c.self.view_is) c.run.ensures.loaded c.run.ensures.number c.run.ensures.stands
       (subst (Left_by c.run.new.self) c.in-Fork.is c.run.ensures.left) (c.run.ensures.branches c.in-Fork.is)
-      c.send_jobs_and_hint.new.self c.send_jobs_and_hint.ensures.moves c.send_jobs_and_hint.ensures.told c.serve_branches.new.self c.serve_branches.ensures.descends c.gather_replies.new.self c.gather_replies.ensures.moves (c.gather_replies.ensures.all c.if-not-gather_replies.false)).waiting.gathering.replies,
-  subst (λ l. HaveHeard c.gather_replies.new.self l (has_all c.loop.self c.requires.working.work.mailbox (descends_seated c.requires.working.work.mailbox (suc c.requires.working.work.mailbox) c.args.self.now c.loop.self (c.loop.invariant.descends c.requires.working.work.mailbox c.requires.working.work.number) c.requires.seated) c.loop.thread c.run.new.self (c.loop.invariant.number ∙ c.requires.working.work.number) c.loop.invariant.working c.self.inside.code.now (ap (λ (s : State). s.code) c.self.view_is) c.run.ensures.loaded c.run.ensures.number c.run.ensures.stands
+      c.serve_fork.new.self c.serve_fork.result c.serve_fork.ensures.served c.if-not-serve_fork.false).waiting.gathering.replies,
+  subst (λ l. HaveHeard c.serve_fork.new.self l (has_all c.loop.self c.requires.working.work.mailbox (descends_seated c.requires.working.work.mailbox (suc c.requires.working.work.mailbox) c.args.self.now c.loop.self (c.loop.invariant.descends c.requires.working.work.mailbox c.requires.working.work.number) c.requires.seated) c.loop.thread c.run.new.self (c.loop.invariant.number ∙ c.requires.working.work.number) c.loop.invariant.working c.self.inside.code.now (ap (λ (s : State). s.code) c.self.view_is) c.run.ensures.loaded c.run.ensures.number c.run.ensures.stands
       (subst (Left_by c.run.new.self) c.in-Fork.is c.run.ensures.left) (c.run.ensures.branches c.in-Fork.is)
-      c.send_jobs_and_hint.new.self c.send_jobs_and_hint.ensures.moves c.send_jobs_and_hint.ensures.told c.serve_branches.new.self c.serve_branches.ensures.descends c.gather_replies.new.self c.gather_replies.ensures.moves (c.gather_replies.ensures.all c.if-not-gather_replies.false)).waiting.gathering.replies) (sym c.settle.ensures.branches) (has_heard c.loop.self c.requires.working.work.mailbox (descends_seated c.requires.working.work.mailbox (suc c.requires.working.work.mailbox) c.args.self.now c.loop.self (c.loop.invariant.descends c.requires.working.work.mailbox c.requires.working.work.number) c.requires.seated) c.loop.thread c.run.new.self (c.loop.invariant.number ∙ c.requires.working.work.number) c.loop.invariant.working c.self.inside.code.now (ap (λ (s : State). s.code) c.self.view_is) c.run.ensures.loaded c.run.ensures.number c.run.ensures.stands
+      c.serve_fork.new.self c.serve_fork.result c.serve_fork.ensures.served c.if-not-serve_fork.false).waiting.gathering.replies) (sym c.settle.ensures.branches) (has_heard c.loop.self c.requires.working.work.mailbox (descends_seated c.requires.working.work.mailbox (suc c.requires.working.work.mailbox) c.args.self.now c.loop.self (c.loop.invariant.descends c.requires.working.work.mailbox c.requires.working.work.number) c.requires.seated) c.loop.thread c.run.new.self (c.loop.invariant.number ∙ c.requires.working.work.number) c.loop.invariant.working c.self.inside.code.now (ap (λ (s : State). s.code) c.self.view_is) c.run.ensures.loaded c.run.ensures.number c.run.ensures.stands
       (subst (Left_by c.run.new.self) c.in-Fork.is c.run.ensures.left) (c.run.ensures.branches c.in-Fork.is)
-      c.send_jobs_and_hint.new.self c.send_jobs_and_hint.ensures.moves c.send_jobs_and_hint.ensures.told c.serve_branches.new.self c.serve_branches.ensures.descends c.gather_replies.new.self c.gather_replies.ensures.moves (c.gather_replies.ensures.all c.if-not-gather_replies.false)),
+      c.serve_fork.new.self c.serve_fork.result c.serve_fork.ensures.served c.if-not-serve_fork.false),
 )
 
 pub run_down-loop-preserved : goal.run_down-loop-preserved
@@ -224,21 +204,136 @@ run_down-loop-preserved g t c =
       running = c.join.ensures.running;
       working = works_on c.loop.self c.requires.working.work.mailbox (descends_seated c.requires.working.work.mailbox (suc c.requires.working.work.mailbox) c.args.self.now c.loop.self (c.loop.invariant.descends c.requires.working.work.mailbox c.requires.working.work.number) c.requires.seated) c.loop.thread c.run.new.self (c.loop.invariant.number ∙ c.requires.working.work.number) c.loop.invariant.working c.self.inside.code.now (ap (λ (s : State). s.code) c.self.view_is) c.run.ensures.loaded c.run.ensures.number c.run.ensures.stands
           (subst (Left_by c.run.new.self) c.in-Fork.is c.run.ensures.left) (c.run.ensures.branches c.in-Fork.is)
-          c.send_jobs_and_hint.new.self c.send_jobs_and_hint.ensures.moves c.send_jobs_and_hint.ensures.told c.serve_branches.new.self c.serve_branches.ensures.descends c.gather_replies.new.self c.gather_replies.ensures.moves (c.gather_replies.ensures.all c.if-not-gather_replies.false) c.settle.new.thread c.join.new.thread c.join.ensures.loaded c.settle.ensures.number c.join.ensures.number c.settle.ensures.branches c.settle.ensures.stands c.join.ensures.stands;
-      descends = λ m n. descends_then m (suc m) c.args.self.now c.loop.self c.gather_replies.new.self (c.loop.invariant.descends m n)
-          (s3_descends c.loop.self m (descends_seated m (suc m) c.args.self.now c.loop.self (c.loop.invariant.descends m n) c.requires.seated) c.loop.thread c.run.new.self (c.loop.invariant.number ∙ n) c.loop.invariant.working c.self.inside.code.now (ap (λ (s : State). s.code) c.self.view_is) c.run.ensures.loaded c.run.ensures.number c.run.ensures.stands
+          c.serve_fork.new.self c.serve_fork.result c.serve_fork.ensures.served c.if-not-serve_fork.false c.settle.new.thread c.join.new.thread c.join.ensures.loaded c.settle.ensures.number c.join.ensures.number c.settle.ensures.branches c.settle.ensures.stands c.join.ensures.stands;
+      descends = λ m n. descends_then m (suc m) c.args.self.now c.loop.self c.serve_fork.new.self (c.loop.invariant.descends m n)
+          (s1_descends c.loop.self m (descends_seated m (suc m) c.args.self.now c.loop.self (c.loop.invariant.descends m n) c.requires.seated) c.loop.thread c.run.new.self (c.loop.invariant.number ∙ n) c.loop.invariant.working c.self.inside.code.now (ap (λ (s : State). s.code) c.self.view_is) c.run.ensures.loaded c.run.ensures.number c.run.ensures.stands
           (subst (Left_by c.run.new.self) c.in-Fork.is c.run.ensures.left) (c.run.ensures.branches c.in-Fork.is)
-          c.send_jobs_and_hint.new.self c.send_jobs_and_hint.ensures.moves c.send_jobs_and_hint.ensures.told c.serve_branches.new.self c.serve_branches.ensures.descends c.gather_replies.new.self c.gather_replies.ensures.moves);
-      round = kept_then c.args.round.now c.loop.round c.serve_branches.new.round c.loop.invariant.round
-          (kept_then c.loop.round c.send_jobs_and_hint.new.round c.serve_branches.new.round (record { own = c.send_jobs_and_hint.ensures.own; next = c.send_jobs_and_hint.ensures.next; rope = c.send_jobs_and_hint.ensures.rope }) c.serve_branches.ensures.round);
+          c.serve_fork.new.self c.serve_fork.result c.serve_fork.ensures.served);
+      round = kept_then c.args.round.now c.loop.round c.serve_fork.new.round c.loop.invariant.round c.serve_fork.ensures.round;
     }
+
+-- ---- call
+
+pub call-serve_here-requires : goal.call-serve_here-requires
+call-serve_here-requires g t c κs within =
+    let smaller : 8 * (256 - c.args.mailbox) + 5 < 8 * (256 - c.args.mailbox) + 6 = omega arith in
+    let at = told_at c.args.self.now c.send.new.self c.args.thread.now c.args.k c.args.mailbox c.requires.seated c.requires.job c.requires.mine c.requires.above c.send.ensures.moves c.send.ensures.sent in
+    (search rules, (within.0, (within.1.0, (within.1.1, (at.inside, (at.seated, at.above))))))
+
+pub call-collect-requires-clause-inside : goal.call-collect-requires-clause-inside
+call-collect-requires-clause-inside g t c =
+    (served_at c.args.self.now c.send.new.self c.args.thread.now c.args.k c.args.mailbox c.requires.seated c.requires.job c.requires.mine c.requires.above c.send.ensures.moves c.send.ensures.sent c.serve_here.new.self c.serve_here.ensures.descends c.send.ensures.lacks).inside
+
+pub call-collect-requires-clause-seated : goal.call-collect-requires-clause-seated
+call-collect-requires-clause-seated g t c =
+    (served_at c.args.self.now c.send.new.self c.args.thread.now c.args.k c.args.mailbox c.requires.seated c.requires.job c.requires.mine c.requires.above c.send.ensures.moves c.send.ensures.sent c.serve_here.new.self c.serve_here.ensures.descends c.send.ensures.lacks).seated
+
+pub call-collect-requires-clause-lacks : goal.call-collect-requires-clause-lacks
+call-collect-requires-clause-lacks g t c =
+    (served_at c.args.self.now c.send.new.self c.args.thread.now c.args.k c.args.mailbox c.requires.seated c.requires.job c.requires.mine c.requires.above c.send.ensures.moves c.send.ensures.sent c.serve_here.new.self c.serve_here.ensures.descends c.send.ensures.lacks).lacks
+
+pub call-returns-clause-called : goal.call-returns-clause-called
+call-returns-clause-called g t c =
+    record {
+      told = c.send.new.self;
+      served = c.serve_here.new.self;
+      sends = c.send.ensures.moves;
+      lacks = c.send.ensures.lacks;
+      job = c.send.ensures.sent;
+      serves = c.serve_here.ensures.descends;
+      looks = c.collect.ensures.moves;
+      got = c.collect.ensures.there;
+      missed = c.collect.ensures.awaited;
+    }
+
+-- ---- call_branches
+
+pub call_branches-loop-branch-init : goal.call_branches-loop-branch-init
+call_branches-loop-branch-init g t c = record { calls = called_none c.args.self.now c.args.thread.now c.args.here c.requires.fork; round = kept_same c.args.round.now }
+
+pub call_branches-overflow_sub-branch : goal.call_branches-overflow_sub-branch
+call_branches-overflow_sub-branch g t c =
+    some_number c.args.self.now c.loop-branch.self c.args.thread.now c.loop-branch.k c.in-Some.branch c.requires.seated c.requires.fork c.requires.forked c.requires.told c.loop-branch.replied c.loop-branch.invariant.calls (sym c.active.ensures ∙ c.in-Some.is)
+
+pub call_branches-overflow_sub-branch-else-replied : goal.call_branches-overflow_sub-branch-else-replied
+call_branches-overflow_sub-branch-else-replied g t c =
+    some_number c.args.self.now c.loop-branch.self c.args.thread.now c.loop-branch.k c.in-Some.branch c.requires.seated c.requires.fork c.requires.forked c.requires.told c.loop-branch.replied c.loop-branch.invariant.calls (sym c.active.ensures ∙ c.in-Some.is)
+
+pub call_branches-call-replied-requires : goal.call_branches-call-replied-requires
+call_branches-call-replied-requires g t c κs within =
+    let at = calls_at c.args.self.now c.loop-branch.self c.args.thread.now c.loop-branch.k c.in-Some.branch c.requires.seated c.requires.fork c.requires.forked c.requires.told c.loop-branch.replied c.loop-branch.invariant.calls (sym c.active.ensures ∙ c.in-Some.is) in
+    let up = at.low in
+    let lt = at.inside in
+    let few = at.few in
+    let smaller : 8 * (256 - (c.in-Some.branch - 1)) + 6 < 8 * (257 - c.args.thread.now.number) = omega (arith, up, lt, few) in
+    (search rules, (within.0, (within.1.0, (within.1.1, (at.ready, (at.can, (at.packet, (at.mine, at.above c.requires.above))))))))
+
+pub call_branches-send-requires-clause-job : goal.call_branches-send-requires-clause-job
+call_branches-send-requires-clause-job g t c =
+    can_call c.args.self.now c.loop-branch.self c.args.thread.now c.loop-branch.k c.in-Some.branch c.requires.seated c.requires.fork c.requires.forked c.requires.told c.loop-branch.replied c.loop-branch.invariant.calls (sym c.active.ensures ∙ c.in-Some.is)
+
+pub call_branches-send-requires-clause-has : goal.call_branches-send-requires-clause-has
+call_branches-send-requires-clause-has g t c =
+    its_packet c.args.self.now c.loop-branch.self c.args.thread.now c.loop-branch.k c.in-Some.branch c.requires.seated c.requires.fork c.requires.forked c.requires.told c.loop-branch.replied c.loop-branch.invariant.calls (sym c.active.ensures ∙ c.in-Some.is)
+
+pub call_branches-send-requires-clause-seated : goal.call_branches-send-requires-clause-seated
+call_branches-send-requires-clause-seated g t c =
+    seated_b c.args.self.now c.loop-branch.self c.args.thread.now c.loop-branch.k c.in-Some.branch c.requires.seated c.requires.fork c.requires.forked c.requires.told c.loop-branch.replied c.loop-branch.invariant.calls (sym c.active.ensures ∙ c.in-Some.is)
+
+pub call_branches-loop-branch-smaller : goal.call_branches-loop-branch-smaller
+call_branches-loop-branch-smaller g t c =
+    let lt = slice_get_within c.args.thread.now.branches.numbers c.loop-branch.k c.in-Some.branch (sym c.active.ensures ∙ c.in-Some.is) in omega (arith, lt)
+
+pub call_branches-loop-branch-preserved : goal.call_branches-loop-branch-preserved
+call_branches-loop-branch-preserved g t c =
+    elim c.if-replied.branch [
+      | call_branches-then-replied w ↦ record {
+        calls = calls_by c.args.self.now w.call-replied.new.self c.if-replied.self c.args.thread.now (c.loop-branch.k + 1) w.call-replied.result c.if-replied.replied w.self-is w.replied-is
+            (called_more c.args.self.now c.loop-branch.self c.args.thread.now c.loop-branch.k c.in-Some.branch c.requires.seated c.requires.fork c.requires.forked c.requires.told c.loop-branch.replied c.loop-branch.invariant.calls (sym c.active.ensures ∙ c.in-Some.is) w.call-replied.new.self w.call-replied.result w.call-replied.ensures.called w.if-replied.true);
+        round = subst (KeepsRound c.args.round.now) (sym w.round-is) (kept_then c.args.round.now c.loop-branch.round w.call-replied.new.round c.loop-branch.invariant.round w.call-replied.ensures.round);
+      }
+      | call_branches-else-replied w ↦ record {
+        calls = calls_by c.args.self.now w.send.new.self c.if-replied.self c.args.thread.now (c.loop-branch.k + 1) false c.if-replied.replied w.self-is (w.replied-is ∙ w.if-replied.false)
+            (sent_first c.args.self.now c.loop-branch.self c.args.thread.now c.loop-branch.k c.in-Some.branch c.requires.seated c.requires.fork c.requires.forked c.requires.told c.loop-branch.replied c.loop-branch.invariant.calls (sym c.active.ensures ∙ c.in-Some.is) w.send.new.self w.send.ensures.moves w.send.ensures.lacks w.send.ensures.sent);
+        round = subst (KeepsRound c.args.round.now) (sym w.round-is) c.loop-branch.invariant.round;
+      }
+    ]
+
+pub call_branches-returns-clause-served : goal.call_branches-returns-clause-served
+call_branches-returns-clause-served g t c =
+    served_all c.args.self.now c.loop-branch.self c.args.thread.now c.loop-branch.k c.loop-branch.replied c.requires.forked c.loop-branch.invariant.calls (past_end c.args.thread.now.branches.numbers c.loop-branch.k (sym c.active.ensures ∙ c.in_default.is))
+
+-- ---- serve_fork
+
+pub serve_fork-serve_branches-requires : goal.serve_fork-serve_branches-requires
+serve_fork-serve_branches-requires g t c κs within =
+    let smaller : 8 * (257 - c.args.thread.now.number) < 8 * (257 - c.args.thread.now.number) + 1 = omega arith in
+    let stays = c.call_branches-replied.ensures.served.stays in
+    let seated = stays_seated c.args.thread.now.number c.args.self.now c.call_branches-replied.new.self stays c.requires.seated in
+    let forked = subst (λ (x : CodeParts). IsForked (plain_code x) c.args.thread.now) (sym stays.leaves.code) c.requires.forked in
+    let above = stays_can c.args.thread.now.number c.args.self.now c.call_branches-replied.new.self stays c.requires.above in
+    (search rules, (within.0, (within.1.0, (within.1.1, (seated, (forked, above))))))
+
+pub serve_fork-gather_replies-requires-clause-seated : goal.serve_fork-gather_replies-requires-clause-seated
+serve_fork-gather_replies-requires-clause-seated g t c =
+    descends_seated c.args.thread.now.number c.args.thread.now.number c.call_branches-replied.new.self c.serve_branches.new.self c.serve_branches.ensures.descends
+    (stays_seated c.args.thread.now.number c.args.self.now c.call_branches-replied.new.self c.call_branches-replied.ensures.served.stays c.requires.seated)
+
+pub serve_fork-gather_replies-requires-clause-gathering : goal.serve_fork-gather_replies-requires-clause-gathering
+serve_fork-gather_replies-requires-clause-gathering g t c =
+    gathers_still c.call_branches-replied.new.self c.serve_branches.new.self c.args.thread.now c.serve_branches.ensures.descends
+    (gathers_there c.args.self.now c.call_branches-replied.new.self c.args.thread.now c.call_branches-replied.result c.call_branches-replied.ensures.served c.requires.told)
+
+pub serve_fork-returns-clause-served : goal.serve_fork-returns-clause-served
+serve_fork-returns-clause-served g t c =
+    served_again c.args.self.now c.call_branches-replied.new.self c.serve_branches.new.self c.gather_replies.new.self c.args.thread.now c.call_branches-replied.result c.call_branches-replied.ensures.served c.serve_branches.ensures.descends c.gather_replies.ensures.moves c.gather_replies.result c.gather_replies.ensures.gathering c.gather_replies.ensures.all
 
 -- ---- advance_down
 
 pub advance_down-run_down-requires : goal.advance_down-run_down-requires
 advance_down-run_down-requires g t c κs within =
     let at = starts_at c.args.self.now c.args.active c.requires.running c.deref_mut-thread.result.now c.deref_mut-thread.ensures.value in
-    let smaller : 5 * (257 - c.deref_mut-thread.result.now.number) + 1 < 5 * (256 - c.args.active.mailbox) + 2 = omega (arith, at) in
+    let smaller : 8 * (257 - c.deref_mut-thread.result.now.number) + 2 < 8 * (256 - c.args.active.mailbox) + 3 = omega (arith, at) in
     let working = starts c.args.self.now c.args.active c.requires.running c.deref_mut-thread.result.now c.deref_mut-thread.ensures.value in
     let running = subst CanRun (sym c.deref_mut-thread.ensures.value) c.requires.running.running in
     let above = subst (CanDescend c.args.self.now) (sym at) c.requires.above in
@@ -282,7 +377,7 @@ advance_down-returns-else-run_down-clause-worked g t c =
 pub serve_down-advance_down-requires : goal.serve_down-advance_down-requires
 serve_down-advance_down-requires g t c κs within =
     let same = c.in-Some.ensures.running.0 in
-    let smaller : 5 * (256 - c.in-Some.active.mailbox) + 2 < 5 * (256 - c.args.mailbox) + 3 = omega (arith, same) in
+    let smaller : 8 * (256 - c.in-Some.active.mailbox) + 3 < 8 * (256 - c.args.mailbox) + 4 = omega (arith, same) in
     let seated = descends_seated c.args.mailbox (suc c.args.mailbox) c.args.self.now c.take_up.new.self (taken_up c.args.self.now c.args.mailbox c.requires.between c.take_up.new.self c.take_up.ensures.touches c.in-Some.active c.in-Some.ensures.running.0 c.in-Some.ensures.running.1) c.requires.seated in
     let above = taken_can c.args.self.now c.args.mailbox c.requires.between c.take_up.new.self c.take_up.ensures.touches c.in-Some.active c.in-Some.ensures.running.0 c.in-Some.ensures.running.1 c.requires.above in
     (search rules, (within.0, (within.1.0, (within.1.1, (seated, (c.in-Some.ensures.running.1, above))))))

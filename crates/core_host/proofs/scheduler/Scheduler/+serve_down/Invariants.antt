@@ -3,22 +3,32 @@ use Rattle.core_machine.specs.Threads.{Loaded, CanRun}
 use Rattle.core_host.specs.Descending.{Descends, KeepsRound}
 use Rattle.core_host.specs.Keeping.{code_in}
 use Rattle.core_host.specs.Waiting.{IsWorking}
+use Rattle.core_host.proofs.CallingLemmas.{CallsFirst}
 use Rattle.core_host.proofs.scheduler.Scheduler.+serve_down.Given as goal
 
 abbrev pub decreases-serve_branches : goal.decreases-serve_branches
-decreases-serve_branches g l = 5 * (257 - l.thread.now.number)
+decreases-serve_branches g l = 8 * (257 - l.thread.now.number)
+
+abbrev pub decreases-call_branches : goal.decreases-call_branches
+decreases-call_branches g l = 8 * (257 - l.thread.now.number)
+
+abbrev pub decreases-serve_fork : goal.decreases-serve_fork
+decreases-serve_fork g l = 8 * (257 - l.thread.now.number) + 1
 
 abbrev pub decreases-run_down : goal.decreases-run_down
-decreases-run_down g l = 5 * (257 - l.thread.now.number) + 1
+decreases-run_down g l = 8 * (257 - l.thread.now.number) + 2
 
 abbrev pub decreases-advance_down : goal.decreases-advance_down
-decreases-advance_down g l = 5 * (256 - l.active.mailbox) + 2
+decreases-advance_down g l = 8 * (256 - l.active.mailbox) + 3
 
 abbrev pub decreases-serve_down : goal.decreases-serve_down
-decreases-serve_down g l = 5 * (256 - l.mailbox) + 3
+decreases-serve_down g l = 8 * (256 - l.mailbox) + 4
 
 abbrev pub decreases-serve_here : goal.decreases-serve_here
-decreases-serve_here g l = 5 * (256 - l.mailbox) + 4
+decreases-serve_here g l = 8 * (256 - l.mailbox) + 5
+
+abbrev pub decreases-call : goal.decreases-call
+decreases-call g l = 8 * (256 - l.mailbox) + 6
 
 abbrev pub invariant-run_down-loop : goal.invariant-run_down-loop
 invariant-run_down-loop g l = record {
@@ -35,3 +45,9 @@ invariant-serve_branches-loop-branch g l = record { descends : Descends l.fn.thr
 
 abbrev pub decreases-serve_branches-loop-branch : goal.decreases-serve_branches-loop-branch
 decreases-serve_branches-loop-branch g l = length l.fn.thread.branches.numbers - l.k
+
+abbrev pub invariant-call_branches-loop-branch : goal.invariant-call_branches-loop-branch
+invariant-call_branches-loop-branch g l = record { calls : CallsFirst l.fn.self l.self l.fn.thread l.k l.replied; round : KeepsRound l.fn.round l.round }
+
+abbrev pub decreases-call_branches-loop-branch : goal.decreases-call_branches-loop-branch
+decreases-call_branches-loop-branch g l = length l.fn.thread.branches.numbers - l.k

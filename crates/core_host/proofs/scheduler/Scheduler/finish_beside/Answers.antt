@@ -5,8 +5,8 @@ use Rattle.core_machine.specs.Threads.{Loaded, StandsFor, Left_by}
 use Rattle.core_machine.specs.Forks.{jobs_at}
 use Rattle.core_host.specs.Keeping.{State, HaveHeard}
 use Rattle.core_host.proofs.Finishing.{replied_by}
-use Rattle.core_host.proofs.Beside.{others_same, others_then, others_seated, branches_others, round_others, on_runs, told_now, fork_now, gathering_now, replies_now, heard_now, on_next, pairs_now}
-use Rattle.core_host.proofs.HostedLemmas.{round_same, round_then, round_moved}
+use Rattle.core_host.proofs.Beside.{others_same, others_then, others_seated, round_others, on_runs, told_now, fork_now, forked_now, replies_now, heard_now, on_next, pairs_now}
+use Rattle.core_host.proofs.HostedLemmas.{round_same, round_then}
 use Rattle.core_host.proofs.scheduler.Scheduler.finish_beside.Goals as goal
 
 pub loop-init : goal.loop-init
@@ -19,18 +19,31 @@ loop-init g c = record {
   done = λ jobs job on. on;
 }
 
-pub send_jobs_and_hint-requires-clause-seated : goal.send_jobs_and_hint-requires-clause-seated
-send_jobs_and_hint-requires-clause-seated g c = others_seated c.args.self.now c.loop.self c.loop.invariant.keeps c.requires.seated
+pub await_fork-requires-clause-seated : goal.await_fork-requires-clause-seated
+await_fork-requires-clause-seated g c = others_seated c.args.self.now c.loop.self c.loop.invariant.keeps c.requires.seated
 
-pub send_jobs_and_hint-requires-clause-fork : goal.send_jobs_and_hint-requires-clause-fork
-send_jobs_and_hint-requires-clause-fork g c =
+pub await_fork-requires-clause-round : goal.await_fork-requires-clause-round
+await_fork-requires-clause-round g c = round_others c.args.self.now c.loop.self c.args.round.now c.loop.round c.loop.invariant.keeps c.loop.invariant.round c.requires.round
+
+pub await_fork-requires-clause-root : goal.await_fork-requires-clause-root
+await_fork-requires-clause-root g c = c.run.ensures.number ∙ c.loop.invariant.root
+
+pub await_fork-requires-clause-fork : goal.await_fork-requires-clause-fork
+await_fork-requires-clause-fork g c =
     let code : c.self.inside.code.now ≡ c.loop.self.code = ap (λ (s : State). s.code) c.self.view_is in
     fork_now c.loop.self (others_seated c.args.self.now c.loop.self c.loop.invariant.keeps c.requires.seated) c.loop.thread c.run.new.self (subst (λ (x : CodeParts). Loaded (plain_code x) c.run.new.self) code c.run.ensures.loaded) c.run.ensures.number
     (λ xs st. subst (λ (x : CodeParts). StandsFor (plain_code x) c.run.new.self xs) code (c.run.ensures.stands xs (subst (λ (x : CodeParts). StandsFor (plain_code x) c.loop.thread xs) (sym code) st)))
     (subst (λ e. Left_by c.run.new.self e) c.in-Fork.is c.run.ensures.left) (subst (λ (x : CodeParts). c.run.new.self.branches.numbers ≡ map (λ w. w.branch) (jobs_at (plain_code x) c.run.new.self)) code (c.run.ensures.branches c.in-Fork.is)) c.requires.begun.0 c.requires.begun.1 (c.loop.invariant.done c.requires.begun.0 c.requires.begun.1 c.requires.begun.2)
 
-pub send_jobs_and_hint-requires-clause-told : goal.send_jobs_and_hint-requires-clause-told
-send_jobs_and_hint-requires-clause-told g c =
+pub await_fork-requires-clause-forked : goal.await_fork-requires-clause-forked
+await_fork-requires-clause-forked g c =
+    let code : c.self.inside.code.now ≡ c.loop.self.code = ap (λ (s : State). s.code) c.self.view_is in
+    forked_now c.loop.self (others_seated c.args.self.now c.loop.self c.loop.invariant.keeps c.requires.seated) c.loop.thread c.run.new.self (subst (λ (x : CodeParts). Loaded (plain_code x) c.run.new.self) code c.run.ensures.loaded) c.run.ensures.number
+    (λ xs st. subst (λ (x : CodeParts). StandsFor (plain_code x) c.run.new.self xs) code (c.run.ensures.stands xs (subst (λ (x : CodeParts). StandsFor (plain_code x) c.loop.thread xs) (sym code) st)))
+    (subst (λ e. Left_by c.run.new.self e) c.in-Fork.is c.run.ensures.left) (subst (λ (x : CodeParts). c.run.new.self.branches.numbers ≡ map (λ w. w.branch) (jobs_at (plain_code x) c.run.new.self)) code (c.run.ensures.branches c.in-Fork.is)) c.requires.begun.0 c.requires.begun.1 (c.loop.invariant.done c.requires.begun.0 c.requires.begun.1 c.requires.begun.2)
+
+pub await_fork-requires-clause-told : goal.await_fork-requires-clause-told
+await_fork-requires-clause-told g c =
     let code : c.self.inside.code.now ≡ c.loop.self.code = ap (λ (s : State). s.code) c.self.view_is in (
       pairs_now c.loop.self (others_seated c.args.self.now c.loop.self c.loop.invariant.keeps c.requires.seated) c.loop.thread c.run.new.self (subst (λ (x : CodeParts). Loaded (plain_code x) c.run.new.self) code c.run.ensures.loaded) c.run.ensures.number
           (λ xs st. subst (λ (x : CodeParts). StandsFor (plain_code x) c.run.new.self xs) code (c.run.ensures.stands xs (subst (λ (x : CodeParts). StandsFor (plain_code x) c.loop.thread xs) (sym code) st)))
@@ -40,35 +53,10 @@ send_jobs_and_hint-requires-clause-told g c =
           (subst (λ e. Left_by c.run.new.self e) c.in-Fork.is c.run.ensures.left) (subst (λ (x : CodeParts). c.run.new.self.branches.numbers ≡ map (λ w. w.branch) (jobs_at (plain_code x) c.run.new.self)) code (c.run.ensures.branches c.in-Fork.is)) c.requires.begun.0 c.requires.begun.1 (c.loop.invariant.done c.requires.begun.0 c.requires.begun.1 c.requires.begun.2),
     )
 
-pub await_branches-requires-clause-seated : goal.await_branches-requires-clause-seated
-await_branches-requires-clause-seated g c =
-    others_seated c.loop.self c.send_jobs_and_hint.new.self (branches_others c.loop.self c.send_jobs_and_hint.new.self c.run.new.self.number (c.run.ensures.number ∙ c.loop.invariant.root) c.send_jobs_and_hint.ensures.moves) (others_seated c.args.self.now c.loop.self c.loop.invariant.keeps c.requires.seated)
-
-pub await_branches-requires-clause-round : goal.await_branches-requires-clause-round
-await_branches-requires-clause-round g c =
-    round_others c.loop.self c.send_jobs_and_hint.new.self c.loop.round c.send_jobs_and_hint.new.round (branches_others c.loop.self c.send_jobs_and_hint.new.self c.run.new.self.number (c.run.ensures.number ∙ c.loop.invariant.root) c.send_jobs_and_hint.ensures.moves)
-    (round_moved c.loop.round c.send_jobs_and_hint.new.round c.loop.invariant.round.next c.send_jobs_and_hint.ensures.own c.send_jobs_and_hint.ensures.next c.send_jobs_and_hint.ensures.rope)
-    (round_others c.args.self.now c.loop.self c.args.round.now c.loop.round c.loop.invariant.keeps c.loop.invariant.round c.requires.round)
-
-pub await_branches-requires-clause-root : goal.await_branches-requires-clause-root
-await_branches-requires-clause-root g c = c.run.ensures.number ∙ c.loop.invariant.root
-
-pub await_branches-requires-clause-gathering : goal.await_branches-requires-clause-gathering
-await_branches-requires-clause-gathering g c =
-    let code : c.self.inside.code.now ≡ c.loop.self.code = ap (λ (s : State). s.code) c.self.view_is in (
-      pairs_now c.loop.self (others_seated c.args.self.now c.loop.self c.loop.invariant.keeps c.requires.seated) c.loop.thread c.run.new.self (subst (λ (x : CodeParts). Loaded (plain_code x) c.run.new.self) code c.run.ensures.loaded) c.run.ensures.number
-          (λ xs st. subst (λ (x : CodeParts). StandsFor (plain_code x) c.run.new.self xs) code (c.run.ensures.stands xs (subst (λ (x : CodeParts). StandsFor (plain_code x) c.loop.thread xs) (sym code) st)))
-          (subst (λ e. Left_by c.run.new.self e) c.in-Fork.is c.run.ensures.left) (subst (λ (x : CodeParts). c.run.new.self.branches.numbers ≡ map (λ w. w.branch) (jobs_at (plain_code x) c.run.new.self)) code (c.run.ensures.branches c.in-Fork.is)) c.requires.begun.0 c.requires.begun.1 (c.loop.invariant.done c.requires.begun.0 c.requires.begun.1 c.requires.begun.2),
-      gathering_now c.loop.self (others_seated c.args.self.now c.loop.self c.loop.invariant.keeps c.requires.seated) c.loop.thread c.run.new.self (subst (λ (x : CodeParts). Loaded (plain_code x) c.run.new.self) code c.run.ensures.loaded) c.run.ensures.number
-          (λ xs st. subst (λ (x : CodeParts). StandsFor (plain_code x) c.run.new.self xs) code (c.run.ensures.stands xs (subst (λ (x : CodeParts). StandsFor (plain_code x) c.loop.thread xs) (sym code) st)))
-          (subst (λ e. Left_by c.run.new.self e) c.in-Fork.is c.run.ensures.left) (subst (λ (x : CodeParts). c.run.new.self.branches.numbers ≡ map (λ w. w.branch) (jobs_at (plain_code x) c.run.new.self)) code (c.run.ensures.branches c.in-Fork.is)) c.requires.begun.0 c.requires.begun.1 (c.loop.invariant.done c.requires.begun.0 c.requires.begun.1 c.requires.begun.2)
-          c.send_jobs_and_hint.new.self c.send_jobs_and_hint.ensures.moves c.send_jobs_and_hint.ensures.told,
-    )
-
 pub settle-requires-clause-loaded : goal.settle-requires-clause-loaded
 settle-requires-clause-loaded g c =
     let code : c.self.inside.code.now ≡ c.loop.self.code = ap (λ (s : State). s.code) c.self.view_is in
-    subst (λ (x : CodeParts). Loaded (plain_code x) c.run.new.self) (sym (c.await_branches.ensures.keeps.code ∙ c.send_jobs_and_hint.ensures.moves.code)) (subst (λ (x : CodeParts). Loaded (plain_code x) c.run.new.self) code c.run.ensures.loaded)
+    subst (λ (x : CodeParts). Loaded (plain_code x) c.run.new.self) (sym c.await_fork.ensures.keeps.code) (subst (λ (x : CodeParts). Loaded (plain_code x) c.run.new.self) code c.run.ensures.loaded)
 
 pub settle-requires-clause-fork : goal.settle-requires-clause-fork
 settle-requires-clause-fork g c = subst (λ e. Left_by c.run.new.self e) c.in-Fork.is c.run.ensures.left
@@ -86,12 +74,12 @@ settle-requires-clause-heard g c =
     let r = replies_now c.loop.self (others_seated c.args.self.now c.loop.self c.loop.invariant.keeps c.requires.seated) c.loop.thread c.run.new.self (subst (λ (x : CodeParts). Loaded (plain_code x) c.run.new.self) code c.run.ensures.loaded) c.run.ensures.number
     (λ xs st. subst (λ (x : CodeParts). StandsFor (plain_code x) c.run.new.self xs) code (c.run.ensures.stands xs (subst (λ (x : CodeParts). StandsFor (plain_code x) c.loop.thread xs) (sym code) st)))
     (subst (λ e. Left_by c.run.new.self e) c.in-Fork.is c.run.ensures.left) (subst (λ (x : CodeParts). c.run.new.self.branches.numbers ≡ map (λ w. w.branch) (jobs_at (plain_code x) c.run.new.self)) code (c.run.ensures.branches c.in-Fork.is)) c.requires.begun.0 c.requires.begun.1 (c.loop.invariant.done c.requires.begun.0 c.requires.begun.1 c.requires.begun.2)
-    c.send_jobs_and_hint.new.self c.send_jobs_and_hint.ensures.moves c.send_jobs_and_hint.ensures.told c.await_branches.new.self c.await_branches.ensures.keeps c.await_branches.ensures.all in (
+    c.await_fork.new.self c.await_fork.ensures.keeps c.await_fork.ensures.all in (
       r.gathering.replies,
       heard_now c.loop.self (others_seated c.args.self.now c.loop.self c.loop.invariant.keeps c.requires.seated) c.loop.thread c.run.new.self (subst (λ (x : CodeParts). Loaded (plain_code x) c.run.new.self) code c.run.ensures.loaded) c.run.ensures.number
           (λ xs st. subst (λ (x : CodeParts). StandsFor (plain_code x) c.run.new.self xs) code (c.run.ensures.stands xs (subst (λ (x : CodeParts). StandsFor (plain_code x) c.loop.thread xs) (sym code) st)))
           (subst (λ e. Left_by c.run.new.self e) c.in-Fork.is c.run.ensures.left) (subst (λ (x : CodeParts). c.run.new.self.branches.numbers ≡ map (λ w. w.branch) (jobs_at (plain_code x) c.run.new.self)) code (c.run.ensures.branches c.in-Fork.is)) c.requires.begun.0 c.requires.begun.1 (c.loop.invariant.done c.requires.begun.0 c.requires.begun.1 c.requires.begun.2)
-          c.send_jobs_and_hint.new.self c.send_jobs_and_hint.ensures.moves c.send_jobs_and_hint.ensures.told c.await_branches.new.self c.await_branches.ensures.keeps c.await_branches.ensures.all,
+          c.await_fork.new.self c.await_fork.ensures.keeps c.await_fork.ensures.all,
     )
 
 pub join-requires-clause-some : goal.join-requires-clause-some
@@ -100,7 +88,7 @@ join-requires-clause-some g c =
     let r = replies_now c.loop.self (others_seated c.args.self.now c.loop.self c.loop.invariant.keeps c.requires.seated) c.loop.thread c.run.new.self (subst (λ (x : CodeParts). Loaded (plain_code x) c.run.new.self) code c.run.ensures.loaded) c.run.ensures.number
     (λ xs st. subst (λ (x : CodeParts). StandsFor (plain_code x) c.run.new.self xs) code (c.run.ensures.stands xs (subst (λ (x : CodeParts). StandsFor (plain_code x) c.loop.thread xs) (sym code) st)))
     (subst (λ e. Left_by c.run.new.self e) c.in-Fork.is c.run.ensures.left) (subst (λ (x : CodeParts). c.run.new.self.branches.numbers ≡ map (λ w. w.branch) (jobs_at (plain_code x) c.run.new.self)) code (c.run.ensures.branches c.in-Fork.is)) c.requires.begun.0 c.requires.begun.1 (c.loop.invariant.done c.requires.begun.0 c.requires.begun.1 c.requires.begun.2)
-    c.send_jobs_and_hint.new.self c.send_jobs_and_hint.ensures.moves c.send_jobs_and_hint.ensures.told c.await_branches.new.self c.await_branches.ensures.keeps c.await_branches.ensures.all in
+    c.await_fork.new.self c.await_fork.ensures.keeps c.await_fork.ensures.all in
     subst (λ l. 0 < length l) (sym c.settle.ensures.branches) r.gathering.forked.some
 
 pub join-requires-clause-few : goal.join-requires-clause-few
@@ -109,7 +97,7 @@ join-requires-clause-few g c =
     let r = replies_now c.loop.self (others_seated c.args.self.now c.loop.self c.loop.invariant.keeps c.requires.seated) c.loop.thread c.run.new.self (subst (λ (x : CodeParts). Loaded (plain_code x) c.run.new.self) code c.run.ensures.loaded) c.run.ensures.number
     (λ xs st. subst (λ (x : CodeParts). StandsFor (plain_code x) c.run.new.self xs) code (c.run.ensures.stands xs (subst (λ (x : CodeParts). StandsFor (plain_code x) c.loop.thread xs) (sym code) st)))
     (subst (λ e. Left_by c.run.new.self e) c.in-Fork.is c.run.ensures.left) (subst (λ (x : CodeParts). c.run.new.self.branches.numbers ≡ map (λ w. w.branch) (jobs_at (plain_code x) c.run.new.self)) code (c.run.ensures.branches c.in-Fork.is)) c.requires.begun.0 c.requires.begun.1 (c.loop.invariant.done c.requires.begun.0 c.requires.begun.1 c.requires.begun.2)
-    c.send_jobs_and_hint.new.self c.send_jobs_and_hint.ensures.moves c.send_jobs_and_hint.ensures.told c.await_branches.new.self c.await_branches.ensures.keeps c.await_branches.ensures.all in
+    c.await_fork.new.self c.await_fork.ensures.keeps c.await_fork.ensures.all in
     subst (λ l. length l ≤ 256) (sym c.settle.ensures.branches) r.gathering.forked.few
 
 pub join-requires-clause-heard : goal.join-requires-clause-heard
@@ -118,21 +106,20 @@ join-requires-clause-heard g c =
     let r = replies_now c.loop.self (others_seated c.args.self.now c.loop.self c.loop.invariant.keeps c.requires.seated) c.loop.thread c.run.new.self (subst (λ (x : CodeParts). Loaded (plain_code x) c.run.new.self) code c.run.ensures.loaded) c.run.ensures.number
     (λ xs st. subst (λ (x : CodeParts). StandsFor (plain_code x) c.run.new.self xs) code (c.run.ensures.stands xs (subst (λ (x : CodeParts). StandsFor (plain_code x) c.loop.thread xs) (sym code) st)))
     (subst (λ e. Left_by c.run.new.self e) c.in-Fork.is c.run.ensures.left) (subst (λ (x : CodeParts). c.run.new.self.branches.numbers ≡ map (λ w. w.branch) (jobs_at (plain_code x) c.run.new.self)) code (c.run.ensures.branches c.in-Fork.is)) c.requires.begun.0 c.requires.begun.1 (c.loop.invariant.done c.requires.begun.0 c.requires.begun.1 c.requires.begun.2)
-    c.send_jobs_and_hint.new.self c.send_jobs_and_hint.ensures.moves c.send_jobs_and_hint.ensures.told c.await_branches.new.self c.await_branches.ensures.keeps c.await_branches.ensures.all in (
+    c.await_fork.new.self c.await_fork.ensures.keeps c.await_fork.ensures.all in (
       r.gathering.replies,
-      subst (λ l. HaveHeard c.await_branches.new.self l r.gathering.replies) (sym c.settle.ensures.branches) (heard_now c.loop.self (others_seated c.args.self.now c.loop.self c.loop.invariant.keeps c.requires.seated) c.loop.thread c.run.new.self (subst (λ (x : CodeParts). Loaded (plain_code x) c.run.new.self) code c.run.ensures.loaded) c.run.ensures.number
+      subst (λ l. HaveHeard c.await_fork.new.self l r.gathering.replies) (sym c.settle.ensures.branches) (heard_now c.loop.self (others_seated c.args.self.now c.loop.self c.loop.invariant.keeps c.requires.seated) c.loop.thread c.run.new.self (subst (λ (x : CodeParts). Loaded (plain_code x) c.run.new.self) code c.run.ensures.loaded) c.run.ensures.number
           (λ xs st. subst (λ (x : CodeParts). StandsFor (plain_code x) c.run.new.self xs) code (c.run.ensures.stands xs (subst (λ (x : CodeParts). StandsFor (plain_code x) c.loop.thread xs) (sym code) st)))
           (subst (λ e. Left_by c.run.new.self e) c.in-Fork.is c.run.ensures.left) (subst (λ (x : CodeParts). c.run.new.self.branches.numbers ≡ map (λ w. w.branch) (jobs_at (plain_code x) c.run.new.self)) code (c.run.ensures.branches c.in-Fork.is)) c.requires.begun.0 c.requires.begun.1 (c.loop.invariant.done c.requires.begun.0 c.requires.begun.1 c.requires.begun.2)
-          c.send_jobs_and_hint.new.self c.send_jobs_and_hint.ensures.moves c.send_jobs_and_hint.ensures.told c.await_branches.new.self c.await_branches.ensures.keeps c.await_branches.ensures.all),
+          c.await_fork.new.self c.await_fork.ensures.keeps c.await_fork.ensures.all),
     )
 
 pub loop-preserved : goal.loop-preserved
 loop-preserved g c =
     let code : c.self.inside.code.now ≡ c.loop.self.code = ap (λ (s : State). s.code) c.self.view_is in
     record {
-      keeps = others_then c.args.self.now c.loop.self c.await_branches.new.self c.loop.invariant.keeps
-          (others_then c.loop.self c.send_jobs_and_hint.new.self c.await_branches.new.self (branches_others c.loop.self c.send_jobs_and_hint.new.self c.run.new.self.number (c.run.ensures.number ∙ c.loop.invariant.root) c.send_jobs_and_hint.ensures.moves) c.await_branches.ensures.keeps);
-      round = round_then c.args.round.now c.loop.round c.await_branches.new.round c.loop.invariant.round (round_then c.loop.round c.send_jobs_and_hint.new.round c.await_branches.new.round (round_moved c.loop.round c.send_jobs_and_hint.new.round c.loop.invariant.round.next c.send_jobs_and_hint.ensures.own c.send_jobs_and_hint.ensures.next c.send_jobs_and_hint.ensures.rope) c.await_branches.ensures.round);
+      keeps = others_then c.args.self.now c.loop.self c.await_fork.new.self c.loop.invariant.keeps c.await_fork.ensures.keeps;
+      round = round_then c.args.round.now c.loop.round c.await_fork.new.round c.loop.invariant.round c.await_fork.ensures.round;
       root = c.join.ensures.number ∙ c.settle.ensures.number ∙ c.run.ensures.number ∙ c.loop.invariant.root;
       loaded = c.join.ensures.loaded;
       running = c.join.ensures.running;
@@ -140,7 +127,7 @@ loop-preserved g c =
           on_next c.loop.self (others_seated c.args.self.now c.loop.self c.loop.invariant.keeps c.requires.seated) c.loop.thread c.run.new.self (subst (λ (x : CodeParts). Loaded (plain_code x) c.run.new.self) code c.run.ensures.loaded) c.run.ensures.number
           (λ xs st. subst (λ (x : CodeParts). StandsFor (plain_code x) c.run.new.self xs) code (c.run.ensures.stands xs (subst (λ (x : CodeParts). StandsFor (plain_code x) c.loop.thread xs) (sym code) st)))
           (subst (λ e. Left_by c.run.new.self e) c.in-Fork.is c.run.ensures.left) (subst (λ (x : CodeParts). c.run.new.self.branches.numbers ≡ map (λ w. w.branch) (jobs_at (plain_code x) c.run.new.self)) code (c.run.ensures.branches c.in-Fork.is)) jobs job (c.loop.invariant.done jobs job on)
-          c.send_jobs_and_hint.new.self c.send_jobs_and_hint.ensures.moves c.send_jobs_and_hint.ensures.told c.await_branches.new.self c.await_branches.ensures.keeps c.await_branches.ensures.all c.settle.new.thread c.join.new.thread c.settle.ensures.number c.join.ensures.number c.settle.ensures.branches c.settle.ensures.stands c.join.ensures.stands;
+          c.await_fork.new.self c.await_fork.ensures.keeps c.await_fork.ensures.all c.settle.new.thread c.join.new.thread c.settle.ensures.number c.join.ensures.number c.settle.ensures.branches c.settle.ensures.stands c.join.ensures.stands;
     }
 
 pub returns-in_default : goal.returns-in_default

@@ -12,13 +12,12 @@ pub returns-clause-stands : goal.returns-clause-stands
 returns-clause-stands c =
     let h = c.args.self.now in
     let code = plain_code c.args.code.now in
-    let same = c.parts-code.ensures.same in
+    let same = c.parts-parts.ensures.same in
     let h1 = c.prepare.new.self in
     let h2 = c.combine.new.self in
     let prepared = subst (λ k. Prepared (plain_code k) h h1 c.args.k) same c.prepare.ensures in
     let on = λ (e : h1.branches.verdict ≡ verdict.Combine).
-    subst (λ k. Combined (plain_code k) h1 h2 (shares_of (uses_of (plain_code k) (branch_at h1 c.args.k)) c.args.packet.now.copies.items)) same
-    (subst (λ cs. Combined (plain_code c.parts-code.result.now) h1 h2 (shares_of (uses_of (plain_code c.parts-code.result.now) (branch_at h1 c.args.k)) cs)) c.deref.ensures.value (c.combine.ensures.on e)) in
+    subst (λ cs. Combined code h1 h2 (shares_of (uses_of code (branch_at h1 c.args.k)) cs)) c.deref.ensures.value (c.combine.ensures.on e) in
     let s = subst (λ k. Steps_on (plain_code k) h2 c.end_join.new.self) same c.end_join.ensures in
     joined_stands code h h1 h2 c.end_join.new.self c.requires.loaded c.args.k c.requires.order prepared (plain_packet c.args.packet.now) on c.combine.ensures.stays s
 
@@ -26,11 +25,9 @@ pub returns-clause-loaded : goal.returns-clause-loaded
 returns-clause-loaded c =
     let h = c.args.self.now in
     let code = plain_code c.args.code.now in
-    let same = c.parts-code.ensures.same in
+    let same = c.parts-parts.ensures.same in
     let h1 = c.prepare.new.self in
     let h2 = c.combine.new.self in
     let prepared = subst (λ k. Prepared (plain_code k) h h1 c.args.k) same c.prepare.ensures in
-    let on = λ (e : h1.branches.verdict ≡ verdict.Combine).
-    subst (λ k. Combined (plain_code k) h1 h2 (shares_of (uses_of (plain_code k) (branch_at h1 c.args.k)) c.deref.result.now)) same (c.combine.ensures.on e) in
     let s = subst (λ k. Steps_on (plain_code k) h2 c.end_join.new.self) same c.end_join.ensures in
-    joined_loaded code h h1 h2 c.end_join.new.self c.requires.loaded c.args.k c.requires.order prepared (shares_of (uses_of code (branch_at h1 c.args.k)) c.deref.result.now) on c.combine.ensures.stays s
+    joined_loaded code h h1 h2 c.end_join.new.self c.requires.loaded c.args.k c.requires.order prepared (shares_of (uses_of code (branch_at h1 c.args.k)) c.deref.result.now) c.combine.ensures.on c.combine.ensures.stays s

@@ -6,10 +6,10 @@ use Rattle.core_machine.proofs.thread.Thread.write_kind.Goals as goal
 
 pub write_args-requires-clause-branches : goal.write_args-requires-clause-branches
 write_args-requires-clause-branches c =
-    let f = c.fork_at.result in (
+    let f = c.fork_here.result in (
       f.par,
       fork_numbers (plain_code c.args.code.now) c.args.self.now c.requires.loaded c.requires.fork f.par f.to
-          (c.fork_at.ensures ∙ ap (λ b. Some (cond b (instruction.Again f.par f.to) (instruction.Fork f.par f.to))) c.if-fork_at.false),
+          (c.fork_here.ensures ∙ ap (λ b. Some (cond b (instruction.Again f.par f.to) (instruction.Fork f.par f.to))) c.if-fork_here.false),
     )
 
 pub write_args-requires-clause-pars : goal.write_args-requires-clause-pars
@@ -17,6 +17,6 @@ write_args-requires-clause-pars c = c.requires.loaded.serves.pars
 
 pub write_args-requires-clause-stack : goal.write_args-requires-clause-stack
 write_args-requires-clause-stack c =
-    let f = c.fork_at.result in
+    let f = c.fork_here.result in
     numbers_room (plain_code c.args.code.now) c.args.self.now c.requires.loaded c.requires.fork f.par f.to
-    (c.fork_at.ensures ∙ ap (λ b. Some (cond b (instruction.Again f.par f.to) (instruction.Fork f.par f.to))) c.if-fork_at.false)
+    (c.fork_here.ensures ∙ ap (λ b. Some (cond b (instruction.Again f.par f.to) (instruction.Fork f.par f.to))) c.if-fork_here.false)

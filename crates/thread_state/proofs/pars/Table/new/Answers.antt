@@ -1,12 +1,13 @@
-use Rattle.std.proofs.Common.{◌≡◌, ◌+◌, ◌-◌, ◌<◌, ◌∙◌, length, drop, subst, sym, ap, arith}
+use Rattle.std.proofs.Common.{rules, ◌≡◌, ◌+◌, ◌-◌, ◌<◌, ◌∙◌, ℕ, List, None, length, map, drop, replicate, subst, sym, ap, arith}
 use Rattle.std.proofs.lemmas.List.{length-map, length-drop}
+use Rattle.forec_kernel.specs.declared.shape.ThreadShape.{ThreadShape}
 use Rattle.forec_kernel.specs.Shapes.{PlainThread, plain_shape, plain_thread}
 use Rattle.forec_kernel.specs.Texts.{params_in}
 use Rattle.forec_kernel.specs.WellFormed.{blank_thread, branches_of}
-use Rattle.thread_state.specs.Pars.{first_of, with_first}
-use Rattle.thread_state.proofs.Shapes.{read_params}
-use Rattle.thread_state.proofs.Shapes.{few_branches}
-use Rattle.thread_state.proofs.Links.{LinkedFrom, linked_root, linked_branch, par_below, lead_small, lead_within, lead_arguments}
+use Rattle.thread_state.specs.declared.pars.Sibling.{Sibling}
+use Rattle.thread_state.specs.Pars.{Links, links_of, first_of, with_first}
+use Rattle.thread_state.proofs.Shapes.{read_params, few_branches, all_uses}
+use Rattle.thread_state.proofs.Links.{LinkedFrom, linked_none, linked_root, linked_branch, par_below, lead_small, lead_within, lead_arguments}
 use Rattle.thread_state.proofs.Living.{read_plain}
 use Rattle.thread_state.proofs.pars.Table.new.Goals as goal
 
@@ -70,6 +71,7 @@ loop-thread-preserved-in-Some c =
     record {
       within = omega (arith, lt);
       linked = subst (λ p. LinkedFrom s p i) (ap (λ n. with_first j i n p) params ∙ sym c.put_first.ensures) one;
+      uses = ap (λ (p : Links). p.uses) c.put_first.ensures ∙ c.loop-thread.invariant.uses;
     }
 
 pub loop-thread-preserved : goal.loop-thread-preserved
@@ -85,4 +87,24 @@ loop-thread-preserved c =
     record {
       within = omega (arith, lt);
       linked = linked_root s p i (omega (arith, lt, n)) (subst (LinkedFrom s p) e c.loop-thread.invariant.linked) par;
+      uses = c.loop-thread.invariant.uses;
+    }
+
+pub loop-thread-init : goal.loop-thread-init
+loop-thread-init c =
+    let s = plain_shape c.args.shape.now in
+    let threads = c.args.shape.now.threads.items in
+    let n = c.len-count.result in
+    let uses = c.in_ok-new.field-0 in
+    let used : ThreadShape → List ℕ = λ t. t.uses.items in
+    let none : Sibling = record { next = None; arguments = 0 } in
+    let long : n ≡ length threads = search rules in
+    let firsts : c.in_ok-vec.field-0.items ≡ replicate n None = search rules in
+    let siblings = c.in_ok-vec-2.ensures.items_if_clones_equal (λ y e. e) in
+    let linked = linked_none s n none uses (long ∙ sym (length-map threads plain_thread)) in
+    record {
+      within = omega (arith, long);
+      linked = subst (λ fs. LinkedFrom s (links_of fs c.in_ok-vec-2.field-0.items uses) n) (sym firsts)
+          (subst (λ ss. LinkedFrom s (links_of (replicate n None) ss uses) n) (sym siblings) linked);
+      uses = c.in_ok-new.ensures ∙ ap (map used) c.deref.ensures.value ∙ all_uses threads;
     }
