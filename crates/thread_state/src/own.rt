@@ -213,6 +213,29 @@ impl Own {
         self.forget_branches();
     }
 
+    /// Takes the present values of the variables that it uses, as branch `branch` of the thread with `parent`, unmarked.
+    #[inline(always)]
+    pub fn receive_from(&mut self, parent: &Own, branch: u32)
+        requires branch { branch < length parent.now.pars.uses }
+        requires places { HavePlaces parent.now (used_by parent.now.pars branch) }
+        requires room { length self.old.copies ≡ length (used_by parent.now.pars branch) }
+        ensures { self.new ≡ with_copies (handed_by parent.now (used_by parent.now.pars branch)) self.old }
+    {
+        parent.hand_down(branch, &mut self.copies);
+    }
+
+    /// The same, sets no flag, and has no branch.
+    pub fn restart_from(&mut self, parent: &Own, branch: u32)
+        requires branch { branch < length parent.now.pars.uses }
+        requires places { HavePlaces parent.now (used_by parent.now.pars branch) }
+        requires room { length self.old.copies ≡ length (used_by parent.now.pars branch) }
+        ensures { self.new ≡ begun (handed_by parent.now (used_by parent.now.pars branch)) self.old }
+    {
+        self.receive_from(parent, branch);
+        self.flags.fill(false);
+        self.forget_branches();
+    }
+
     /// No branch lives: another start begins.
     fn forget_branches(&mut self)
         ensures { self.new ≡ without_branches self.old }
