@@ -6,8 +6,8 @@ use Rattle.forec_kernel.specs.Shapes.{PlainShape}
 use Rattle.forec_kernel.specs.Texts.{params_in}
 use Rattle.forec_kernel.specs.Values.{word}
 use Rattle.thread_code.specs.Valid.{arguments_of}
-use Rattle.thread_state.specs.Frames.{arguments}
-use Rattle.core_machine.specs.Forks.{AreThreads, args_from}
+use Rattle.thread_state.specs.Frames.{arguments, args_from}
+use Rattle.core_machine.specs.Forks.{AreThreads}
 use Rattle.thread_state.proofs.Lists.{take_next}
 
 -- ---- how many arguments there are
@@ -41,11 +41,6 @@ all_taken (b ∷ bs) = ap (λ l. b ∷ l) (all_taken bs)
 
 -- ---- reading them
 
-pub args_read : (total first n : ℕ) (stack : List ℤ) (i : ℕ) → i < n → get_or (args_from total first n stack) i (pos 0) ≡ word stack (total - 1 - (first + i))
-args_read total first zero stack i lt = absurd (omega arith)
-args_read total first (suc n) stack zero lt = let e : first ≡ first + zero = omega arith in ap (λ k. word stack (total - 1 - k)) e
-args_read total first (suc n) stack (suc i) lt = let e : suc first + i ≡ first + suc i = omega arith in args_read total (suc first) n stack i (omega arith) ∙ ap (λ k. word stack (total - 1 - k)) e
-
 -- arguments that lie so much deeper
 pub args_shift : (n total first deeper : ℕ) (stack : List ℤ) → args_from (deeper + total) (deeper + first) n stack ≡ args_from total first n stack
 args_shift zero total first deeper stack = refl
@@ -63,10 +58,6 @@ args_behind s bs k n stack =
     let count = arguments_of s (drop k bs) in
     let z : first ≡ first + 0 = omega arith in
     ap (λ total. args_from total first n stack) (sum_parts s bs k) ∙ ap (λ from. args_from (first + count) from n stack) z ∙ args_shift n count 0 first stack
-
-pub length_args : (total first n : ℕ) (stack : List ℤ) → length (args_from total first n stack) ≡ n
-length_args total first zero stack = refl
-length_args total first (suc n) stack = ap suc (length_args total (suc first) n stack)
 
 -- what lies after the topmost numbers
 argument_past : (n : ℕ) (stack args : List ℤ) (i : ℕ) → n ≤ length stack → get_or (arguments n stack args) (n + i) (pos 0) ≡ get_or args i (pos 0)

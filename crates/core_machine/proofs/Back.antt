@@ -30,7 +30,7 @@ use Rattle.core_machine.specs.Threads.{Loaded, HasSettled}
 use Rattle.core_machine.specs.Merging.{AreBelow, HaveUses, marked_live, begun_uses, begun_branches}
 use Rattle.core_machine.proofs.Asking.{waits, machine_is}
 use Rattle.core_machine.proofs.BranchLemmas.{same_self}
-use Rattle.core_machine.proofs.Calls.{length_without}
+use Rattle.core_machine.proofs.CallRuns.{length_without}
 use Rattle.thread_state.proofs.Indexed.{equal_of}
 use Rattle.core_machine.proofs.Offering.{same_or_not}
 use Rattle.core_machine.proofs.Outer.{Fork_kind, is_fork, is_again, fork_kind, args_act}

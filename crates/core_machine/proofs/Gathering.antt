@@ -188,7 +188,7 @@ module _ (k : PacketKind) where
       by_kind (kind.Trapped q r) e = let a : q ≡ place = cc in let b : r ≡ trap = cc in ap (λ x. kind.Trapped x r) a ∙ ap (kind.Trapped place) b
       by_kind kind.Over e = cc
 
-count_one : (es : List Bool) (e : Bool) → length (es ++ e ∷ []) ≡ length es + 1
+pub count_one : (es : List Bool) (e : Bool) → length (es ++ e ∷ []) ≡ length es + 1
 count_one [] e = omega arith
 count_one (x ∷ es) e = omega (arith, count_one es e)
 

@@ -12,6 +12,7 @@ use Rattle.forec_kernel.specs.Shapes.{plain_thread}
 use Rattle.forec_kernel.specs.Values.{fresh_words}
 use Rattle.forec_kernel.specs.Texts.{params_in, words_in, uses_in}
 use Rattle.forec_kernel.specs.Packets.{PlainPacket}
+use Rattle.forec_kernel.specs.Packets as plain
 use Rattle.forec_kernel.specs.Packed.{HasRoom, IsJob, IsReply}
 use Rattle.forec_kernel.specs.Engine.{Job, Start, Wake, allowance_of, Reply, WasPaused, WasEnded, WasTrapped, WasOver, Written, View, Going, AtFork, Pausing, Ending, Trapping, Exceeding, Engine, run_for, IsStopped, Rest, Asleep, Nothing, Exchange, Output, Serves as Serves_by, last_reply}
 use Rattle.forec_kernel.specs.Reached.{Reached, AtRest, Inside, none, begun, stepped, answered, exceeded, Closes}
@@ -23,10 +24,8 @@ use Rattle.thread_code.specs.Machine.{Own, Machine, On, Trapped, Stuck, step}
 use Rattle.thread_code.specs.Alone.{block_of, started, woken, view_of, units_of, code_engine}
 use Rattle.thread_code.proofs.Steady.{code_steady}
 use Rattle.thread_code.proofs.Unstuck.{never_stuck}
-use Rattle.combine_tree.specs.declared.packet.Packet.{Packet}
 use Rattle.combine_tree.specs.declared.packet.PacketKind.{PacketKind}
 use Rattle.combine_tree.specs.declared.packet.PacketKind.TheVariants as kind
-use Rattle.combine_tree.specs.Plain.{plain_kind, plain_packet}
 use Rattle.thread_state.specs.Frames.{Frames, started as started_frames}
 use Rattle.core_machine.specs.Branches.{Says}
 use Rattle.thread_state.specs.Kept.{Kept, begun as begun_kept, with_copies, Serves}
@@ -38,7 +37,8 @@ use Rattle.core_machine.specs.declared.thread.Event.{Event}
 use Rattle.core_machine.specs.declared.thread.Event.TheVariants as event
 use Rattle.core_machine.specs.Held.{callers, machine_in, machine_of, Works, Placed}
 use Rattle.core_machine.specs.Threads.{Loaded, Exceeds, Stands_in, Stands_at, Waits_for, StandsFor, never, since, settling, joining, event_of, Tells, passes, reaches, IsResting, Rests_in, HasReply, HasPaused, Runs_in, CanRun, Left_by, CanBegin, Gives}
-use Rattle.core_machine.specs.RunParts.{Has_machine, CanStop, started_anew, woken_up, Begun, Moved, Shown, over, comes, Comes_to}
+use Rattle.core_machine.specs.Direct.{RepliesIn, RepliesBy, GivesFor}
+use Rattle.core_machine.specs.RunParts.{Has_machine, CanStop, started_by, woken_by, Begun, Moved, Shown, over, comes, Comes_to}
 use Rattle.core_machine.proofs.Outer.{empty_of}
 use Rattle.core_machine.proofs.Told.{all_then, told}
 
@@ -51,27 +51,27 @@ length_fresh (x ∷ args) w h =
 
 -- ---- a Start
 
-module _ (c : PlainCode) (valid : IsValidCode c) (h : Thread) (l : Loaded c h) (p : Packet) (room : HasRoom (of_shape c.shape) h.number (plain_packet p)) where
+module _ (c : PlainCode) (valid : IsValidCode c) (h : Thread) (l : Loaded c h) (p : PlainPacket) (room : HasRoom (of_shape c.shape) h.number p) where
   abbrev b : PlainBlock
   b = block_of c h.number
 
-  is_block : IsBlock (thread_scope c h.number) (params_in c.shape.threads h.number) (words_in c.shape.threads h.number) b
+  pub is_block : IsBlock (thread_scope c h.number) (params_in c.shape.threads h.number) (words_in c.shape.threads h.number) b
   is_block = valid.each_thread h.number b (slice_get-get_or c.threads h.number _ l.thread)
 
-  pub start_args : length p.args.items ≤ b.words
+  pub start_args : length p.args ≤ b.words
   start_args = omega (arith, room.args, is_block.enough, (valid.shape.each_thread h.number (omega (arith, l.thread, valid.threads))).params)
 
   pub start_room : b.words + b.counters ≤ h.stack.room
   start_room = omega (arith, l.own.own, l.room)
 
-  pub start_copies : length p.copies.items ≡ length h.own.copies
+  pub start_copies : length p.copies ≡ length h.own.copies
   start_copies = room.copies ∙ sym l.serves.copies
 
   abbrev frames : Frames
-  frames = started_frames p.args.items b.words b.counters h.stack.room h.stack.most
+  frames = started_frames p.args b.words b.counters h.stack.room h.stack.most
 
   abbrev kept : Kept
-  kept = begun_kept p.copies.items h.own
+  kept = begun_kept p.copies h.own
 
   abbrev started_thread : Thread
   started_thread = record { number = h.number; phase = phase.Running false; function = None; at = 0; stack = frames; own = kept; units = 0; allowance = p.allowance; branches = h.branches; joining = h.joining }
@@ -87,7 +87,7 @@ module _ (c : PlainCode) (valid : IsValidCode c) (h : Thread) (l : Loaded c h) (
 
   start_works : Works false c h.number l.needs None (work 0 frames kept 0)
   start_works =
-      let w = length_fresh p.args.items b.words start_args in
+      let w = length_fresh p.args b.words start_args in
       let k = length-replicate {A = ℕ} b.counters 0 in
       record {
         at = record {
@@ -114,12 +114,12 @@ module _ (c : PlainCode) (valid : IsValidCode c) (h : Thread) (l : Loaded c h) (
   abbrev make : ℕ → ℕ → Machine
   make n k =
       On
-      (record { steps = b.steps; at = 0; stack = []; words = fresh_words p.args.items b.words; counters = replicate b.counters 0 })
+      (record { steps = b.steps; at = 0; stack = []; words = fresh_words p.args b.words; counters = replicate b.counters 0 })
       []
-      (record { copies = p.copies.items; flags = replicate n false; live = replicate k false })
+      (record { copies = p.copies; flags = replicate n false; live = replicate k false })
       0
 
-  pub start_begun : p.allowance ≤ 2 ^ 62 → Begun c h started_thread (started_anew c h p) p.allowance
+  pub start_begun : p.allowance ≤ 2 ^ 62 → Begun c h started_thread (started_by c h p) p.allowance
   start_begun small = record {
     loaded = record {
       thread = l.thread;
@@ -146,17 +146,17 @@ module _ (c : PlainCode) (valid : IsValidCode c) (h : Thread) (l : Loaded c h) (
 
 -- ---- a Wake
 
-module _ (c : PlainCode) (h : Thread) (l : Loaded c h) (asleep : HasPaused h) (p : Packet) (room : HasRoom (of_shape c.shape) h.number (plain_packet p)) where
+module _ (c : PlainCode) (h : Thread) (l : Loaded c h) (asleep : HasPaused h) (p : PlainPacket) (room : HasRoom (of_shape c.shape) h.number p) where
   abbrev woken_thread : Thread
-  woken_thread = record { number = h.number; phase = phase.Running false; function = h.function; at = h.at; stack = h.stack; own = with_copies p.copies.items h.own; units = 0; allowance = p.allowance; branches = h.branches; joining = h.joining }
+  woken_thread = record { number = h.number; phase = phase.Running false; function = h.function; at = h.at; stack = h.stack; own = with_copies p.copies h.own; units = 0; allowance = p.allowance; branches = h.branches; joining = h.joining }
 
   placed_here : Placed c l.needs h phase.Paused
   placed_here = subst (Placed c l.needs h) asleep.phase l.placed
 
-  woken_serves : Serves c h.number (with_copies p.copies.items h.own)
+  woken_serves : Serves c h.number (with_copies p.copies h.own)
   woken_serves = record { copies = room.copies; places = l.serves.places; flags = l.serves.flags; live = l.serves.live; pars = l.serves.pars }
 
-  woken_works : Works false c h.number l.needs None (work h.at h.stack (with_copies p.copies.items h.own) 0)
+  woken_works : Works false c h.number l.needs None (work h.at h.stack (with_copies p.copies h.own) 0)
   woken_works =
       let w = placed_here.0 in
       record {
@@ -181,11 +181,11 @@ module _ (c : PlainCode) (h : Thread) (l : Loaded c h) (asleep : HasPaused h) (p
         below = w.below;
       }
 
-  pub wake_begun : p.allowance ≤ 2 ^ 62 → Begun c h woken_thread (woken_up c h p) p.allowance
+  pub wake_begun : p.allowance ≤ 2 ^ 62 → Begun c h woken_thread (woken_by c h p) p.allowance
   wake_begun small =
       let own = placed_here.1 in
       let nothing = empty_of h.stack.below woken_works.chained in
-      let o : Own = record { copies = p.copies.items; flags = h.own.flags; live = h.own.live } in
+      let o : Own = record { copies = p.copies; flags = h.own.flags; live = h.own.live } in
       record {
         loaded = record {
           thread = l.thread;
@@ -202,7 +202,7 @@ module _ (c : PlainCode) (h : Thread) (l : Loaded c h) (asleep : HasPaused h) (p
           space = l.space;
           small = small;
           units = omega arith;
-          placed = subst (λ g. Works false c h.number l.needs g (work h.at h.stack (with_copies p.copies.items h.own) 0)) (sym own) woken_works;
+          placed = subst (λ g. Works false c h.number l.needs g (work h.at h.stack (with_copies p.copies h.own) 0)) (sym own) woken_works;
         };
         running = refl;
         number = refl;
@@ -321,11 +321,11 @@ module _ (c : PlainCode) (valid : IsValidCode c) (h : Thread) (l : Loaded c h) w
   finds rests xs (settling ys job before rs al reached w some says) = absurd (no_settling h rests w)
   finds rests xs (joining ys job before rs m al reached e n st) = absurd (no_joining h rests e)
 
--- the packet that a reply fills
+-- what is told of the reply
 module _ (c : PlainCode) (h : Thread) (l : Loaded c h) where
-  gives_by : (xs : List Exchange) (job : Job) (before : List (List Reply)) (m : Machine) (o : Reply) (r : Rest Machine) → h.allowance ≡ allowance_of job → Reached (code_engine c h.number) xs (Inside job before m) → Concludes c h m o r →
-      (p : PlainPacket) → IsReply p o → Gives c h.number (xs ++ record { job = job; replies = before } ∷ []) p
-  gives_by ys job before m o r al reached k p is =
+  gives_for : (xs : List Exchange) (job : Job) (before : List (List Reply)) (m : Machine) (o : Reply) (r : Rest Machine) → h.allowance ≡ allowance_of job → Reached (code_engine c h.number) xs (Inside job before m) → Concludes c h m o r →
+      (is : Reply → Type 0) → is o → GivesFor c h.number (xs ++ record { job = job; replies = before } ∷ []) is
+  gives_for ys job before m o r al reached k P is =
       let e = code_engine c h.number in
       let t = told Machine e ys (Inside job before m) reached in
       let serves = serves_by k in
@@ -347,20 +347,51 @@ module _ (c : PlainCode) (h : Thread) (l : Loaded c h) where
           (subst (λ r. Serves_by (code_engine c h.number) (allowance_of job) before s0 (record { jobs = js; reply = Some WasOver }) r) (sym er)
           (went_over Machine (code_engine c h.number) (allowance_of job) before s0 js m went (omega (arith, past, al))))
 
+  module _ (done : HasReply h) (P : Reply → Type 0) where
+    reply_for : (h.units ≤ h.allowance) → P (reply_in h h.phase) → (xs : List Exchange) → StandsFor c h xs → GivesFor c h.number xs P
+    reply_for le is xs (never fresh) = absurd (done.started fresh)
+    reply_for le is xs (since ys job before m al reached st) =
+        gives_for ys job before m (reply_in h h.phase) (rest_in c h h.phase) al reached (concludes_in c h l m h.phase done.started l.placed done.resting st le) P is
+    reply_for le is xs (settling ys job before rs al reached w some says) = absurd (no_settling h done.resting w)
+    reply_for le is xs (joining ys job before rs m al reached e n st) = absurd (no_joining h done.resting e)
+
+    over_for : (h.allowance < h.units) → P WasOver → (xs : List Exchange) → StandsFor c h xs → GivesFor c h.number xs P
+    over_for past is xs (never fresh) = absurd (done.started fresh)
+    over_for past is xs (since ys job before m al reached st) =
+        gives_for ys job before m WasOver Nothing al reached (past_in c h l m h.phase done.started l.placed done.resting st past) P is
+    over_for past is xs (settling ys job before rs al reached w some says) = absurd (no_settling h done.resting w)
+    over_for past is xs (joining ys job before rs m al reached e n st) = absurd (no_joining h done.resting e)
+
+  by_packet : (xs : List Exchange) (p : PlainPacket) → GivesFor c h.number xs (IsReply p) → Gives c h.number xs p
+  by_packet xs p g = record { outputs = g.outputs; runs = g.runs; complete = g.complete; reply = g.reply; last = g.last; is = g.is }
+
+  -- the packet that a reply fills
   module _ (done : HasReply h) (p : PlainPacket) where
     pub gives_reply : (h.units ≤ h.allowance) → IsReply p (reply_in h h.phase) → (xs : List Exchange) → StandsFor c h xs → Gives c h.number xs p
-    gives_reply le is xs (never fresh) = absurd (done.started fresh)
-    gives_reply le is xs (since ys job before m al reached st) =
-        gives_by ys job before m (reply_in h h.phase) (rest_in c h h.phase) al reached (concludes_in c h l m h.phase done.started l.placed done.resting st le) p is
-    gives_reply le is xs (settling ys job before rs al reached w some says) = absurd (no_settling h done.resting w)
-    gives_reply le is xs (joining ys job before rs m al reached e n st) = absurd (no_joining h done.resting e)
+    gives_reply le is xs stands = by_packet xs p (reply_for done (IsReply p) le is xs stands)
 
     pub gives_over : (h.allowance < h.units) → IsReply p WasOver → (xs : List Exchange) → StandsFor c h xs → Gives c h.number xs p
-    gives_over past is xs (never fresh) = absurd (done.started fresh)
-    gives_over past is xs (since ys job before m al reached st) =
-        gives_by ys job before m WasOver Nothing al reached (past_in c h l m h.phase done.started l.placed done.resting st past) p is
-    gives_over past is xs (settling ys job before rs al reached w some says) = absurd (no_settling h done.resting w)
-    gives_over past is xs (joining ys job before rs m al reached e n st) = absurd (no_joining h done.resting e)
+    gives_over past is xs stands = by_packet xs p (over_for done (IsReply p) past is xs stands)
+
+  -- ---- the reply of the thread itself
+
+  replies_in : (p : Phase) → p ≢ phase.Fresh → Rests_in h p → h.units ≤ h.allowance → RepliesIn h p (reply_in h p)
+  replies_in phase.Fresh some rests le = absurd (some refl)
+  replies_in (phase.Running folding) some rests le = absurd (omega (arith, rests.0, le))
+  replies_in (phase.Forked before) some rests le = absurd (omega (arith, rests, le))
+  replies_in phase.Joining some rests le = absurd rests
+  replies_in phase.Paused some rests le = refl
+  replies_in phase.Ended some rests le = refl
+  replies_in (phase.Trapped place trap) some rests le = refl
+  replies_in phase.Over some rests le = refl
+
+  -- the thread gives the reply that it holds
+  pub gives_own : HasReply h → (xs : List Exchange) → StandsFor c h xs → GivesFor c h.number xs (RepliesBy h)
+  gives_own done xs stands =
+      ⊎_elim
+      (λ past. over_for done (RepliesBy h) past (inl (past, refl)) xs stands)
+      (λ le. reply_for done (RepliesBy h) le (inr (le, replies_in h.phase done.started done.resting le)) xs stands)
+      (cases_lt h.allowance h.units)
 
 -- ---- a job begins
 
@@ -405,19 +436,19 @@ pub stands_after : (c : PlainCode) (t : ℕ) (h : Thread) → h.number ≡ t →
     Reached (code_engine c t) xs (Inside job before m) → StandsFor c h (xs ++ record { job = job; replies = before } ∷ [])
 stands_after c t h e xs job before m al st r = since xs job before m al (subst (λ t. Reached (code_engine c t) xs (Inside job before m)) (sym e) r) st
 
-module _ (c : PlainCode) (valid : IsValidCode c) (h : Thread) (l : Loaded c h) (rests : IsResting h) (p : Packet) (h' : Thread) where
-  pub start_stands : Begun c h h' (started_anew c h p) p.allowance → p.kind ≡ kind.Start → (xs : List Exchange) (job : Job) → IsJob (plain_packet p) job → StandsFor c h xs → StandsFor c h' (xs ++ record { job = job; replies = [] } ∷ [])
+module _ (c : PlainCode) (valid : IsValidCode c) (h : Thread) (l : Loaded c h) (rests : IsResting h) (p : PlainPacket) (h' : Thread) where
+  pub start_stands : Begun c h h' (started_by c h p) p.allowance → p.kind ≡ plain.Start → (xs : List Exchange) (job : Job) → IsJob p job → StandsFor c h xs → StandsFor c h' (xs ++ record { job = job; replies = [] } ∷ [])
   start_stands b k xs (Start args values a) is stands =
       let f = finds c valid h l rests xs stands in
       let make : List ℤ → List VarCopy → Machine = λ ns cs.
       On (record { steps = (block_of c h.number).steps; at = 0; stack = []; words = fresh_words ns (block_of c h.number).words; counters = replicate (block_of c h.number).counters 0 })
       [] (record { copies = cs; flags = replicate (block_of c h.number).flags false; live = replicate (length c.shape.threads) false }) 0 in
-      let m : machine_of c h' ≡ started c (block_of c h.number) args values = b.machine ∙ ap (λ ns. make ns p.copies.items) is.1 ∙ ap (make args) is.2 in
+      let m : machine_of c h' ≡ started c (block_of c h.number) args values = b.machine ∙ ap (λ ns. make ns p.copies) is.1 ∙ ap (make args) is.2 in
       stands_after c h.number h' b.number xs (Start args values a) [] (machine_of c h') (b.allowance ∙ is.3) (at_running c h' false b.running) (begun xs (Start args values a) f.rest (machine_of c h') f.reached m)
-  start_stands b k xs (Wake values a) is stands = let e = sym is.0 ∙ ap (λ k. plain_kind k) k in cc
+  start_stands b k xs (Wake values a) is stands = let e = sym is.0 ∙ k in cc
 
-  pub wake_stands : Begun c h h' (woken_up c h p) p.allowance → HasPaused h → p.kind ≡ kind.Wake → (xs : List Exchange) (job : Job) → IsJob (plain_packet p) job → StandsFor c h xs → StandsFor c h' (xs ++ record { job = job; replies = [] } ∷ [])
-  wake_stands b asleep k xs (Start args values a) is stands = let e = sym is.0 ∙ ap (λ k. plain_kind k) k in cc
+  pub wake_stands : Begun c h h' (woken_by c h p) p.allowance → HasPaused h → p.kind ≡ plain.Wake → (xs : List Exchange) (job : Job) → IsJob p job → StandsFor c h xs → StandsFor c h' (xs ++ record { job = job; replies = [] } ∷ [])
+  wake_stands b asleep k xs (Start args values a) is stands = let e = sym is.0 ∙ k in cc
   wake_stands b asleep k xs (Wake values a) is stands =
       let f = finds c valid h l rests xs stands in
       let make : List VarCopy → Machine = λ cs. On (point_of (block_of c h.number) h.at h.stack) [] (record { copies = cs; flags = h.own.flags; live = h.own.live }) 0 in

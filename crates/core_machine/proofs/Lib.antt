@@ -1,7 +1,7 @@
 pub mod Told
 pub mod Outer
 pub mod Spreading
-pub mod Calls
+pub mod CallRuns
 pub mod Moving
 pub mod Jobs
 pub mod Gathering
@@ -23,3 +23,4 @@ pub mod Finishing
 pub mod Joined
 pub mod NextStep
 pub mod Living
+pub mod Direct

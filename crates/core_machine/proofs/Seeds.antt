@@ -177,7 +177,7 @@ module _ (c : PlainCode) (h : Thread) (l : Loaded c h) {n : ℕ} (at : HasSettle
     pub is_branch : IsBranch c h.number b
     is_branch = branch_in c h.number bs k w0.branches lt
 
-    values_are : handed_by h.own (uses_of c b) ≡ unmarked_copies (handed c h.number h.own.copies b)
+    pub values_are : handed_by h.own (uses_of c b) ≡ unmarked_copies (handed c h.number h.own.copies b)
     values_are = handed_are c h.number h.own l.serves (uses_of c b) is_branch.uses
 
     pub job_by : (p p' : Packet) → HasKind c h k p p' → (q : PlainPacket) → q.kind ≡ plain_kind p'.kind → q.args ≡ p'.args.items → q.copies ≡ handed_by h.own (uses_of c b) → q.allowance ≡ h.allowance - h.units →

@@ -90,11 +90,15 @@ pub record Says (g : Gathered) (rs : List Reply) : Type 0 where
   pub units : SaturatesTo g.units (all_units rs)
   pub verdict : g.verdict ≡ verdict_of rs
 
--- one more reply was settled
-pub record Settles (g : Gathered) (p : Packet) (g' : Gathered) : Type 0 where
+-- one more reply was settled, of which this is known
+pub record Adds (g : Gathered) (is : Reply → Type 0) (g' : Gathered) : Type 0 where
   pub fork : g'.fork ≡ g.fork
   pub numbers : g'.numbers ≡ g.numbers
   pub joined : g'.joined ≡ g.joined
   pub room : g'.room ≡ g.room
   pub count : length g'.ended ≡ length g.ended + 1
-  pub says : (rs : List Reply) (r : Reply) → IsReply (plain_packet p) r → Says g rs → Says g' (rs ++ r ∷ [])
+  pub says : (rs : List Reply) (r : Reply) → is r → Says g rs → Says g' (rs ++ r ∷ [])
+
+-- that of a packet
+abbrev pub Settles : Gathered → Packet → Gathered → Type 0
+Settles g p g' = Adds g (IsReply (plain_packet p)) g'

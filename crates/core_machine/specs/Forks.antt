@@ -2,11 +2,11 @@
 use Rattle.std.specs.Prelude.{ℕ, zero, suc, ◌-◌, ◌≡◌, ◌<◌, ℤ, Some, None, List, [], ◌∷◌, ◌++◌, length, map, get_or, slice_get, take}
 use Rattle.forec_kernel.specs.Engine.{Reply, Written, written, View, Going, AtFork, Pausing, Ending, Trapping, Exceeding, Seed, Exchange, Output}
 use Rattle.forec_kernel.specs.Shapes.{PlainShape}
-use Rattle.forec_kernel.specs.Values.{word}
 use Rattle.thread_code.specs.declared.instruction.Instruction.{Instruction}
 use Rattle.thread_code.specs.declared.instruction.Instruction.TheVariants as instruction
 use Rattle.forec_kernel.specs.Texts.{params_in}
 use Rattle.thread_code.specs.Plain.{PlainCode}
+use Rattle.thread_state.specs.Frames.{args_from}
 use Rattle.thread_code.specs.Valid.{arguments_of}
 use Rattle.thread_code.specs.Alone.{block_of, view_of, CodeAlone}
 use Rattle.combine_tree.specs.declared.packet.Packet.{Packet}
@@ -71,11 +71,6 @@ IsFork c t at = (i : Instruction) × (slice_get (block_of c t).steps at ≡ Some
 abbrev pub AreThreads : PlainShape → List ℕ → Type 0
 AreThreads s [] = Unit {0}
 AreThreads s (b ∷ bs) = (b < length s.threads) × AreThreads s bs
-
--- of the `total` topmost numbers of a stack, n from the `first` one on, the deepest being number 0
-abbrev pub args_from : (total first n : ℕ) → List ℤ → List ℤ
-args_from total first zero stack = []
-args_from total first (suc n) stack = word stack (total - 1 - first) ∷ args_from total (suc first) n stack
 
 -- the arguments of the k-th branch of a new fork
 abbrev pub args_at : PlainCode → Thread → ℕ → List ℤ

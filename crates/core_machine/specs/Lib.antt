@@ -7,3 +7,4 @@ pub mod Threads
 pub mod Forks
 pub mod Merging
 pub mod Replies
+pub mod Direct

@@ -247,7 +247,7 @@ impl Branches {
     }
 
     /// One more has replied.
-    fn note(&mut self, ended: bool)
+    pub(crate) fn note(&mut self, ended: bool)
         requires { length self.old.ended < length self.old.numbers }
         ensures { self.new ≡ noted ended self.old }
     {
@@ -258,14 +258,14 @@ impl Branches {
         }
     }
 
-    fn count(&mut self, units: u64)
+    pub(crate) fn count(&mut self, units: u64)
         ensures { self.new ≡ counted units self.old }
     {
         self.units = self.units.saturating_add(units);
     }
 
     /// A trap tells where none has come before it.
-    fn judge_trap(&mut self, place: Place, trap: Trap)
+    pub(crate) fn judge_trap(&mut self, place: Place, trap: Trap)
         ensures { self.new ≡ with_verdict (first_trap self.old.verdict (Verdict.Trap place trap)) self.old }
     {
         if self.verdict == Verdict::Combine {

@@ -4,7 +4,8 @@ ghost use Rattle.std.specs.Prelude.{◌≡◌, ◌≤◌, ◌<◌, Some, length,
 ghost use Rattle.thread_code.specs.Plain.{plain_code};
 ghost use Rattle.thread_code.specs.Alone.{block_of};
 ghost use Rattle.core_machine.specs.Branches.{instruction_of};
-ghost use Rattle.core_machine.specs.Forks.{IsFork, args_from};
+ghost use Rattle.core_machine.specs.Forks.{IsFork};
+ghost use Rattle.thread_state.specs.Frames.{args_from};
 
 use thread_code::{CodeParts, Instruction};
 use thread_state::Stack;

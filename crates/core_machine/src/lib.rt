@@ -2,6 +2,7 @@
 #![tactic(auto)]
 
 mod branches;
+mod calls;
 mod depths;
 mod fork;
 mod laws;

@@ -156,6 +156,7 @@ impl Thread {
     }
 
     /// Runs frame after frame to the next event.
+    #[inline(always)]
     fn run_frames(&mut self, code: &Code) -> Event
         requires loaded { Loaded (plain_code code.now) self.old }
         requires running { self.old.phase ≡ Phase.Running false }
@@ -177,6 +178,7 @@ impl Thread {
     }
 
     /// Runs to the next event.
+    #[inline(always)]
     pub(crate) fn run_on(&mut self, code: &Code) -> Event
         requires loaded { Loaded (plain_code code.now) self.old }
         requires running { self.old.phase ≡ Phase.Running false }

@@ -1,7 +1,7 @@
 use Rattle.std.proofs.Common.{rules, ◌≡◌, ◌+◌, ◌-◌, ◌∙◌, sym, ap, arith, length, length-set, pos, w32, to_z, of_z}
 use Rattle.forec_kernel.specs.Values.{word}
-use Rattle.core_machine.specs.Forks.{args_from}
-use Rattle.core_machine.proofs.Args.{args_read, length_args}
+use Rattle.thread_state.specs.Frames.{args_from}
+use Rattle.thread_state.proofs.FrameLemmas.{args_read, length_args}
 use Rattle.thread_state.proofs.Lists.{front_next, all_front}
 use Rattle.core_machine.proofs.fork.write_args.Goals as goal
 

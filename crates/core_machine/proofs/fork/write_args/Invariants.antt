@@ -1,5 +1,5 @@
 use Rattle.std.proofs.Common.{◌≡◌, length, take}
-use Rattle.core_machine.specs.Forks.{args_from}
+use Rattle.thread_state.specs.Frames.{args_from}
 use Rattle.core_machine.proofs.fork.write_args.Given as goal
 
 abbrev pub invariant-loop-i : goal.invariant-loop-i

@@ -3,7 +3,7 @@ use Rattle.thread_code.specs.Plain.{PlainBlock, plain_code}
 use Rattle.thread_state.specs.Frames.{entered}
 use Rattle.thread_state.specs.declared.stack.Resume.{Resume}
 use Rattle.core_machine.specs.RunParts.{Calls}
-use Rattle.core_machine.proofs.Calls.{known, call_args, call_words, call_next, call_frames, call_room, call_goes}
+use Rattle.core_machine.proofs.CallRuns.{known, call_args, call_words, call_next, call_frames, call_room, call_goes}
 use Rattle.core_machine.proofs.thread.Thread.call.Goals as goal
 
 pub block_at-block-requires-clause-function : goal.block_at-block-requires-clause-function

@@ -5,7 +5,7 @@ use Rattle.thread_state.specs.declared.stack.Resume.{Resume}
 use Rattle.core_machine.specs.declared.thread.Thread.{Thread}
 use Rattle.core_machine.specs.declared.thread.Phase.TheVariants as phase
 use Rattle.core_machine.specs.RunParts.{Returns}
-use Rattle.core_machine.proofs.Calls.{return_top, return_below, return_room, return_same_room, return_goes}
+use Rattle.core_machine.proofs.CallRuns.{return_top, return_below, return_room, return_same_room, return_goes}
 use Rattle.core_machine.proofs.thread.Thread.return_to_caller.Goals as goal
 
 pub pop-value-requires : goal.pop-value-requires

@@ -7,12 +7,13 @@ use Rattle.thread_state.specs.Kept.{Kept, begun}
 use Rattle.core_machine.specs.declared.thread.Thread.{Thread}
 use Rattle.core_machine.specs.declared.thread.Phase.TheVariants as phase
 use Rattle.core_machine.specs.RunParts.{Begun, started_anew}
+use Rattle.combine_tree.specs.Plain.{plain_packet}
 use Rattle.core_machine.proofs.Jobs.{start_args, start_begun}
 use Rattle.core_machine.proofs.thread.Thread.start.Goals as goal
 
 pub restart-requires-clause-args : goal.restart-requires-clause-args
 restart-requires-clause-args c =
-    let n = start_args (plain_code c.args.code.now) c.requires.valid c.args.self.now c.requires.loaded c.args.packet.now c.requires.room in
+    let n = start_args (plain_code c.args.code.now) c.requires.valid c.args.self.now c.requires.loaded (plain_packet c.args.packet.now) c.requires.room in
     let w = ap (λ (b : PlainBlock). b.words) c.block_at-block.ensures in
     let l = ap (λ (xs : List ℤ). length xs) c.deref.ensures.value in
     omega (arith, n, w, l)
@@ -30,4 +31,4 @@ returns c =
     let k : c.restart-2.new.self ≡ begun p.copies.items h.own = c.restart-2.ensures ∙ ap (λ (xs : List VarCopy). begun xs h.own) c.deref-2.ensures.value in
     subst (λ f. Begun code h (make f c.restart-2.new.self) (started_anew code h p) p.allowance) (sym f)
     (subst (λ k. Begun code h (make (started p.args.items b.words b.counters h.stack.room h.stack.most) k) (started_anew code h p) p.allowance) (sym k)
-    (start_begun code c.requires.valid h c.requires.loaded p c.requires.room c.requires.small))
+    (start_begun code c.requires.valid h c.requires.loaded (plain_packet p) c.requires.room c.requires.small))

@@ -5,6 +5,7 @@ use Rattle.thread_state.specs.Kept.{Kept, with_copies}
 use Rattle.core_machine.specs.declared.thread.Thread.{Thread}
 use Rattle.core_machine.specs.declared.thread.Phase.TheVariants as phase
 use Rattle.core_machine.specs.RunParts.{Begun, woken_up}
+use Rattle.combine_tree.specs.Plain.{plain_packet}
 use Rattle.core_machine.proofs.Jobs.{wake_begun}
 use Rattle.core_machine.proofs.thread.Thread.wake.Goals as goal
 
@@ -15,4 +16,4 @@ returns c =
     let p = c.args.packet.now in
     let make : Kept → Thread = λ k. record { number = h.number; phase = phase.Running false; function = h.function; at = h.at; stack = h.stack; own = k; units = 0; allowance = p.allowance; branches = h.branches; joining = h.joining } in
     let k : c.receive.new.self ≡ with_copies p.copies.items h.own = c.receive.ensures ∙ ap (λ (xs : List VarCopy). with_copies xs h.own) c.deref.ensures.value in
-    subst (λ k. Begun code h (make k) (woken_up code h p) p.allowance) (sym k) (wake_begun code h c.requires.loaded c.requires.paused p c.requires.room c.requires.small)
+    subst (λ k. Begun code h (make k) (woken_up code h p) p.allowance) (sym k) (wake_begun code h c.requires.loaded c.requires.paused (plain_packet p) c.requires.room c.requires.small)

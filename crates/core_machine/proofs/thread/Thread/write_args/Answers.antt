@@ -2,7 +2,7 @@ use Rattle.std.proofs.Common.{◌≡◌, ◌∙◌, Some, length, drop, take, sy
 use Rattle.thread_code.specs.Plain.{plain_code}
 use Rattle.thread_code.specs.Valid.{arguments_of}
 use Rattle.thread_state.specs.Pars.{Links, arguments_from}
-use Rattle.core_machine.specs.Forks.{args_from}
+use Rattle.thread_state.specs.Frames.{args_from}
 use Rattle.core_machine.proofs.Args.{sum_within, sum_parts, args_behind}
 use Rattle.thread_state.proofs.Links.{fork_arguments}
 use Rattle.core_machine.proofs.thread.Thread.write_args.Goals as goal
