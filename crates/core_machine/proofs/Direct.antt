@@ -1,17 +1,16 @@
 -- A parent and its branch that share no packet.
-use Rattle.std.proofs.Common.{◌≡◌, ◌≢◌, ℕ, ◌+◌, ◌-◌, ◌<◌, ◌≤◌, ◌^◌, List, [], ◌∷◌, ◌++◌, length, get_or, Some, Bool, true, false, refl, sym, ap, ◌∙◌, subst, ⊎_elim, inl, inr, arith}
-use Rattle.std.specs.Prelude.{slice_get, min}
+use Rattle.std.proofs.Common.{◌≡◌, ℕ, ◌+◌, ◌-◌, ◌<◌, ◌≤◌, List, [], ◌∷◌, ◌++◌, length, get_or, Some, true, false, refl, sym, ap, ◌∙◌, subst, inl, inr, arith}
+use Rattle.std.specs.Prelude.{slice_get}
 use Rattle.std.proofs.lemmas.List.{length-map}
 use Rattle.std.proofs.lemmas.Option.{slice_get-get_or}
 use Rattle.forec_base.specs.declared.Place.{Place}
 use Rattle.forec_base.specs.declared.Trap.{Trap}
 use Rattle.forec_kernel.specs.declared.shape.VarCopy.{VarCopy}
-use Rattle.forec_kernel.specs.Engine.{Wake, Reply, WasPaused, WasEnded, WasTrapped, WasOver, Written, written}
+use Rattle.forec_kernel.specs.Engine.{Wake, Reply, WasPaused, WasEnded, WasOver, Written, written}
 use Rattle.forec_kernel.specs.Packets.{PlainPacket, IsPaused, IsEnded, IsTrapped, IsOver}
 use Rattle.forec_kernel.specs.Packed.{HasRoom, IsJob, IsReply}
-use Rattle.forec_kernel.specs.Texts.{params_in}
 use Rattle.thread_code.specs.Plain.{PlainCode}
-use Rattle.thread_code.specs.Valid.{of_shape, arguments_of}
+use Rattle.thread_code.specs.Valid.{of_shape}
 use Rattle.thread_code.specs.Machine.{uses_of}
 use Rattle.thread_state.specs.Kept.{place_in, no_copy, handed_by}
 use Rattle.thread_state.proofs.FrameLemmas.{length_args}
@@ -22,7 +21,7 @@ use Rattle.core_machine.specs.declared.thread.Phase.TheVariants as phase
 use Rattle.core_machine.specs.Branches.{Gathered, with_verdict, first_trap, noted, counted, Says, Adds}
 use Rattle.core_machine.specs.Held.{branch_of}
 use Rattle.core_machine.specs.Threads.{Loaded, IsAtFork, HasPaused}
-use Rattle.core_machine.specs.Forks.{branch_at, jobs_at, args_at}
+use Rattle.core_machine.specs.Forks.{branch_at, jobs_at}
 use Rattle.core_machine.specs.Direct.{CanTake, IsNewFork, IsHeldFork, start_packet, wake_packet, RepliesIn, RepliesBy}
 use Rattle.core_machine.proofs.Asking.{waits, jobs_are}
 use Rattle.core_machine.proofs.Seeds.{fork_job, again_job, values_are}

@@ -13,6 +13,7 @@ use Rattle.core_machine.specs.declared.thread.Phase.{Phase}
 use Rattle.core_machine.specs.declared.thread.Phase.TheVariants as phase
 use Rattle.core_machine.specs.Threads.{HasPaused}
 use Rattle.core_machine.specs.Forks.{branch_at, args_at}
+use Rattle.core_machine.specs.RunParts.{Begun, started_by, woken_by}
 
 -- ---- jobs
 
@@ -37,6 +38,13 @@ start_packet c h k =
 abbrev pub wake_packet : PlainCode → Thread → ℕ → PlainPacket
 wake_packet c h k =
     record { kind = plain.Wake; args = args_at c h k; copies = handed_by h.own (uses_of c (branch_at h k)); allowance = h.allowance - h.units; units = 0 }
+
+-- how the k-th branch begins its job
+abbrev pub StartsBranch : PlainCode → Thread → ℕ → Thread → Thread → Type 0
+StartsBranch c h k b b' = Begun c b b' (started_by c b (start_packet c h k)) (h.allowance - h.units)
+
+abbrev pub WakesBranch : PlainCode → Thread → ℕ → Thread → Thread → Type 0
+WakesBranch c h k b b' = Begun c b b' (woken_by c b (wake_packet c h k)) (h.allowance - h.units)
 
 -- ---- replies
 

@@ -1,5 +1,5 @@
 -- What a thread at a fork asks of its branches, and what it makes of their replies.
-use Rattle.std.specs.Prelude.{ℕ, zero, suc, ◌-◌, ◌≡◌, ◌<◌, ℤ, Some, None, List, [], ◌∷◌, ◌++◌, length, map, get_or, slice_get, take}
+use Rattle.std.specs.Prelude.{ℕ, ◌-◌, ◌≡◌, ◌<◌, ℤ, Some, None, List, [], ◌∷◌, ◌++◌, length, map, get_or, slice_get, take}
 use Rattle.forec_kernel.specs.Engine.{Reply, Written, written, View, Going, AtFork, Pausing, Ending, Trapping, Exceeding, Seed, Exchange, Output}
 use Rattle.forec_kernel.specs.Shapes.{PlainShape}
 use Rattle.thread_code.specs.declared.instruction.Instruction.{Instruction}

@@ -1,15 +1,14 @@
 //! A thread calls the branches of its fork by itself, with no packet between: what `job`, `begin`, `reply`, `settle`
 //! and `joined` do with packets.
 
-ghost use Rattle.std.specs.Prelude.{◌≡◌, ◌+◌, ◌-◌, ◌<◌, ◌≤◌, ◌++◌, ◌∷◌, [], List, Some, length, slice_get};
+ghost use Rattle.std.specs.Prelude.{◌≡◌, ◌+◌, ◌<◌, ◌++◌, ◌∷◌, [], List, Some, length, slice_get};
 ghost use Rattle.forec_kernel.specs.Engine.{Exchange, Reply, Written};
 ghost use Rattle.thread_code.specs.Plain.{plain_code};
 ghost use Rattle.thread_code.specs.Valid.{IsValidCode};
 ghost use Rattle.core_machine.specs.Branches.{Adds};
 ghost use Rattle.core_machine.specs.Threads.{Loaded, StandsFor, CanRun, IsResting, HasReply, HasPaused, HasSettled, IsAtFork, HasJoined};
-ghost use Rattle.core_machine.specs.RunParts.{Begun, started_by, woken_by};
 ghost use Rattle.core_machine.specs.Forks.{branch_at, jobs_at, with_replies};
-ghost use Rattle.core_machine.specs.Direct.{CanTake, IsNewFork, IsHeldFork, start_packet, wake_packet, RepliesBy};
+ghost use Rattle.core_machine.specs.Direct.{CanTake, IsNewFork, StartsBranch, WakesBranch, RepliesBy};
 
 use crate::branches::{Branches, Verdict};
 use crate::thread::{Phase, Thread};
@@ -84,7 +83,7 @@ impl Thread {
         requires index { k < length self.now.branches.numbers }
         requires branch { Loaded (plain_code code.now) branch.old }
         requires number { branch.old.number ≡ branch_at self.now k }
-        ensures { Begun (plain_code code.now) branch.old branch.new (started_by (plain_code code.now) branch.old (start_packet (plain_code code.now) self.now k)) (self.now.allowance - self.now.units) }
+        ensures { StartsBranch (plain_code code.now) self.now k branch.old branch.new }
     {
         let number = self.branches.at(k);
         let block = block_at(code, branch.number, None);
@@ -112,7 +111,7 @@ impl Thread {
         requires branch { Loaded (plain_code _code.now) branch.old }
         requires number { branch.old.number ≡ branch_at self.now k }
         requires paused { HasPaused branch.old }
-        ensures { Begun (plain_code _code.now) branch.old branch.new (woken_by (plain_code _code.now) branch.old (wake_packet (plain_code _code.now) self.now k)) (self.now.allowance - self.now.units) }
+        ensures { WakesBranch (plain_code _code.now) self.now k branch.old branch.new }
     {
         branch.own.receive_from(&self.own, self.branches.at(k));
         branch.phase = Phase::Running { folding: false };

@@ -1,4 +1,4 @@
-use Rattle.std.proofs.Common.{◌≡◌, ◌∙◌, ◌-◌, Some, true, false, cond, refl, sym, ap, subst}
+use Rattle.std.proofs.Common.{◌∙◌, ◌-◌, Some, cond, refl, sym, ap, subst}
 use Rattle.thread_code.specs.Plain.{plain_code}
 use Rattle.thread_code.specs.declared.instruction.Instruction.TheVariants as instruction
 use Rattle.core_machine.specs.Threads.{Runs_in}

@@ -1,4 +1,4 @@
-use Rattle.std.proofs.Common.{false, ◌≡◌, ◌∙◌, ◌-◌, ◌+◌, ◌<◌, sym, ap, subst, arith, length, take, drop, None, Some, ℕ}
+use Rattle.std.proofs.Common.{false, ◌≡◌, ◌∙◌, ◌-◌, sym, ap, subst, arith, length, drop, None, Some}
 use Rattle.forec_kernel.specs.Texts.{params_in}
 use Rattle.thread_code.specs.Plain.{PlainBlock, plain_code}
 use Rattle.thread_code.specs.Valid.{arguments_of}
@@ -7,10 +7,10 @@ use Rattle.thread_code.specs.Alone.{block_of}
 use Rattle.thread_state.specs.Frames.{Frames, started, args_from}
 use Rattle.thread_state.specs.Kept.{Kept, HavePlaces, handed_by, begun}
 use Rattle.thread_state.specs.Pars.{Links, used_by, arguments_from}
-use Rattle.thread_state.proofs.Links.{used_is, used_count, fork_arguments}
+use Rattle.thread_state.proofs.Links.{used_is, fork_arguments}
 use Rattle.core_machine.specs.declared.thread.Thread.{Thread}
 use Rattle.core_machine.specs.declared.thread.Phase.TheVariants as phase
-use Rattle.core_machine.specs.Forks.{branch_at, args_at}
+use Rattle.core_machine.specs.Forks.{branch_at}
 use Rattle.core_machine.specs.RunParts.{Begun, started_by}
 use Rattle.core_machine.specs.Direct.{start_packet}
 use Rattle.core_machine.proofs.Args.{sum_within, sum_parts, args_behind}
