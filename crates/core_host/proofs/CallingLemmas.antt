@@ -18,7 +18,7 @@ use Rattle.core_host.specs.Keeping.{State, code_in, IsSeated, HasPacket, LacksPa
 use Rattle.core_host.specs.Moving.{ChangesPacket, HasSent, HasGot, HasLooked}
 use Rattle.core_host.specs.OnJob.{KeepsOthers}
 use Rattle.core_host.specs.Serving.{ChangesBranches}
-use Rattle.core_host.specs.Waiting.{IsOut, HasTold, IsForked, IsGathering, HasReplies, IsBetween, CanDescend}
+use Rattle.core_host.specs.Waiting.{IsOut, HasTold, IsForked, IsGathering, CanDescend}
 use Rattle.core_host.proofs.Mails.{extends_one, extends_same, extends_then, some_once}
 use Rattle.core_host.proofs.KeepingLemmas.{branch_above, parent_once, leaves_same, leaves_then, leaves_less, seated_keeps}
 use Rattle.core_host.proofs.LoadLemmas.{get_then, length_then, take_next, take_end}

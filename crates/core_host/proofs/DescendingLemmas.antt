@@ -1,39 +1,36 @@
 -- A thread is served together with the threads that it forks: what stays.
-use Rattle.std.proofs.Common.{◌≡◌, ℕ, suc, ◌<◌, ◌≤◌, true, false, Some, List, [], ◌∷◌, length, map, refl, sym, ap, ◌∙◌, subst, ⊎_elim, arith}
+use Rattle.std.proofs.Common.{◌≡◌, ℕ, suc, ◌<◌, ◌≤◌, true, false, Some, List, [], ◌∷◌, length, refl, sym, ap, ◌∙◌, subst, ⊎_elim, arith}
 use Rattle.std.specs.Prelude.{slice_get}
 use Rattle.std.proofs.lemmas.Bool.{cases_lt}
 use Rattle.std.proofs.lemmas.List.{length-append}
 use Rattle.forec_kernel.specs.Packed.{HasRoom}
-use Rattle.forec_kernel.specs.Engine.{Reply, Exchange, Answered}
+use Rattle.forec_kernel.specs.Engine.{Answered}
 use Rattle.thread_code.specs.declared.instruction.CodeParts.{CodeParts}
 use Rattle.thread_code.specs.Plain.{PlainCode, plain_code}
 use Rattle.thread_code.specs.Valid.{of_shape}
 use Rattle.combine_tree.specs.Plain.{plain_packet}
 use Rattle.core_machine.specs.declared.thread.Thread.{Thread}
-use Rattle.core_machine.specs.Threads.{Loaded, StandsFor, HasSettled, HasReply}
-use Rattle.core_machine.specs.Forks.{jobs_at, with_replies}
+use Rattle.core_machine.specs.Threads.{Loaded, HasReply}
+use Rattle.core_machine.specs.Forks.{jobs_at}
 use Rattle.copy_slots.specs.Ports.{answered, ChildIs}
 use Rattle.core_host.specs.declared.active.Active.{Active}
 use Rattle.core_host.specs.declared.round.Round.{Round}
 use Rattle.core_host.specs.Posts.{Mail, IsBranchOf}
 use Rattle.core_host.specs.Changes.{Grown, Gains, HasProgressed, answered_more}
-use Rattle.core_host.specs.Writing.{told}
 use Rattle.core_host.specs.Descending.{Descends, IsActive, IsRunning, HasFinished, IsHeld, KeepsRound}
-use Rattle.core_host.specs.Keeping.{State, code_in, IsSeated, Leaves, AtFork, HaveHeard, Quiet}
+use Rattle.core_host.specs.Keeping.{State, code_in, IsSeated, Leaves, Quiet}
 use Rattle.core_host.specs.OnJob.{KeepsOthers}
 use Rattle.core_host.specs.Rounds.{IsSameRound}
-use Rattle.core_host.specs.Serving.{ChangesBranches, Touches, OnlyLooks, KeepsServing}
-use Rattle.core_host.specs.Waiting.{HasTold, HasChild, IsFor, IsForked, IsGathering, HasReplies, IsAtWork, IsWorking, IsWaiting, IsBetween, IsVacant, CanDescend}
+use Rattle.core_host.specs.Serving.{Touches, OnlyLooks, KeepsServing}
+use Rattle.core_host.specs.Waiting.{HasChild, IsFor, IsForked, IsGathering, IsAtWork, IsWorking, IsWaiting, IsBetween, IsVacant, CanDescend}
 use Rattle.core_host.proofs.Mails.{by_equal}
-use Rattle.core_host.proofs.KeepingLemmas.{parent_once, grown_then, leaves_same, leaves_then, leaves_less, seated_keeps}
+use Rattle.core_host.proofs.KeepingLemmas.{parent_once, leaves_same, leaves_then, leaves_less, seated_keeps}
 use Rattle.core_host.proofs.Send.{at_map}
 use Rattle.core_host.proofs.OneMoreExchange.{changed, changed_is}
-use Rattle.core_host.proofs.WaitingLemmas.{work_keeps, gathering_keeps, waiting_keeps, between_keeps, between_still, between_moves}
+use Rattle.core_host.proofs.WaitingLemmas.{gathering_keeps, between_keeps, between_still}
 use Rattle.core_host.proofs.Seats.{vacant_by, not_vacant, can_keep}
-use Rattle.core_host.proofs.Advancing.{forked_gathering, has_run, its_fork, it_forks, fork_worked}
-use Rattle.core_host.proofs.Resuming.{HasAll, waits_on, waits_all, goes_on}
 use Rattle.core_host.proofs.ServingLemmas.{between_child, child_keeps, quiet_looks}
-use Rattle.core_host.proofs.Sweeping.{progress_one, progress_from, progress_then}
+use Rattle.core_host.proofs.Sweeping.{progress_from}
 use Rattle.core_host.proofs.HostedLemmas.{rope_same, rope_then, round_moved}
 
 pub never : {A : Type 0} → true ≡ false → A
@@ -112,29 +109,6 @@ touches_descends m a b before after t = record {
     apart : (k p : ℕ) → IsBranchOf (code_in a).shape p k → p < suc m → IsBranchOf (code_in a).shape (suc m) k → ⊥
     apart k p mine lt is = let same = parent_once (code_in a) p (suc m) k mine is in omega (arith, same, lt)
 
-pub moves_descends : (m t : ℕ) (a b : State) → t ≡ suc m → ChangesBranches t a b → Descends m (suc m) a b
-moves_descends m t a b number moves = record {
-  leaves = record {
-    code = moves.code;
-    places = moves.places;
-    alike = moves.alike;
-    grown = moves.grown;
-    seats = λ j lt. ap (λ l. slice_get l j) moves.seats;
-    seat_count = ap length moves.seats;
-    hands = λ k p mine lt. moves.hands k (apart k p mine lt);
-    hand_count = moves.hand_count;
-    parents = λ k p mine lt. moves.parents k (apart k p mine lt);
-    children = λ k lt. moves.children k;
-  };
-  here = λ j h. child_keeps a.mail b.mail j (moves.children j) h;
-  was_here = λ j h. child_keeps b.mail a.mail j (sym (moves.children j)) h;
-  between = λ j le x. between_moves a b t moves j (λ e. omega (arith, e, number, le)) x;
-  vacant = λ j le v. vacant_by a b (suc j) (ap (λ l. slice_get l (suc j)) moves.seats) v;
-}
-  where
-    apart : (k p : ℕ) → IsBranchOf (code_in a).shape p k → p < suc m → IsBranchOf (code_in a).shape t k → ⊥
-    apart k p mine lt is = let same = parent_once (code_in a) p t k mine is in omega (arith, same, lt, number)
-
 -- ---- a thread in hand
 
 module _ (t u : ℕ) (a b : State) (l : Leaves (suc t) u a b) (h : Thread) (number : h.number ≡ t) where
@@ -148,13 +122,6 @@ module _ (t u : ℕ) (a b : State) (l : Leaves (suc t) u a b) (h : Thread) (numb
   leaves_gathering pairs w =
       subst (λ x. IsGathering x h pairs) path
       (gathering_keeps a b.mail b.seats b.hands l.alike.blanks l.alike.count h (λ j mine. l.parents j h.number mine (omega (arith, number))) (λ j mine. l.hands j h.number mine (omega (arith, number))) pairs w)
-
-  pub leaves_waiting : (m : ℕ) → m < u → t ≡ suc m → IsWaiting a h → IsWaiting b h
-  leaves_waiting m lt at w =
-      let n = w.work.number in
-      subst (λ x. IsWaiting x h) path
-      (waiting_keeps a b.mail b.seats b.hands l.alike.blanks l.alike.count h (λ j mine. l.parents j h.number mine (omega (arith, number))) (λ j mine. l.hands j h.number mine (omega (arith, number))) w
-      (l.children w.work.mailbox (omega (arith, n, number, at, lt))))
 
 -- ---- the branches of a fork
 

@@ -3,23 +3,21 @@ use Rattle.std.proofs.Common.{◌≡◌, ◌≢◌, ℕ, zero, suc, ◌+◌, ◌
 use Rattle.std.specs.Prelude.{slice_get, drop, ◌⊎◌}
 use Rattle.std.proofs.lemmas.Bool.{cases_lt}
 use Rattle.std.proofs.lemmas.Option.{slice_get_within}
-use Rattle.forec_kernel.specs.Packed.{AreJobs}
-use Rattle.forec_kernel.specs.Engine.{Answered, Reply, Written, jobs_to, pair_up}
+use Rattle.forec_kernel.specs.Engine.{Answered, Reply, Written, pair_up}
 use Rattle.thread_code.specs.Plain.{plain_code}
 use Rattle.combine_tree.specs.declared.packet.Packet.{Packet}
 use Rattle.combine_tree.specs.Plain.{plain_packet}
 use Rattle.core_machine.specs.declared.thread.Thread.{Thread}
 use Rattle.core_machine.specs.Forks.{jobs_at}
-use Rattle.copy_slots.specs.Ports.{sent_by, got_by, sent, got}
+use Rattle.copy_slots.specs.Ports.{sent, got}
 use Rattle.core_host.specs.declared.seat.Seat.{Seat}
-use Rattle.core_host.specs.Posts.{Mail, IsBranchOf, AreReplies, replies_to}
+use Rattle.core_host.specs.Posts.{Mail, IsBranchOf}
 use Rattle.core_host.specs.Changes.{Extends, Awaits}
 use Rattle.core_host.specs.Keeping.{State, code_in, IsSeated, LacksPacket, HasHeard, HaveHeard}
 use Rattle.core_host.specs.Moving.{ChangesPacket, HasGot, HasLooked}
-use Rattle.core_host.specs.Waiting.{jobs_out, IsOut, HasTold, IsFor, IsGathering, HasReplies}
+use Rattle.core_host.specs.Waiting.{IsOut, HasTold, IsFor, IsGathering, HasReplies}
 use Rattle.core_host.specs.Serving.{ChangesBranches}
-use Rattle.core_host.proofs.Mails.{by_equal, extends_one, extends_same, some_once}
-use Rattle.core_host.proofs.KeepingLemmas.{packet_keeps}
+use Rattle.core_host.proofs.Mails.{extends_one, extends_same, some_once}
 use Rattle.core_host.proofs.LoadLemmas.{get_then, length_then}
 use Rattle.core_host.proofs.Send.{at_map}
 use Rattle.core_host.proofs.RunChildren.{pairs_more}

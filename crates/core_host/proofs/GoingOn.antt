@@ -1,27 +1,26 @@
 -- A thread at work comes to a fork, its branches are served, and it goes on.
-use Rattle.std.proofs.Common.{◌≡◌, ℕ, suc, ◌<◌, ◌≤◌, Bool, true, false, List, [], ◌∷◌, length, map, refl, sym, ap, ◌∙◌, subst, arith}
+use Rattle.std.proofs.Common.{◌≡◌, ℕ, suc, ◌<◌, Bool, true, false, List, [], length, map, refl, sym, ◌∙◌, subst, arith}
 use Rattle.forec_kernel.specs.Engine.{Reply, Exchange, Answered}
 use Rattle.thread_code.specs.declared.instruction.CodeParts.{CodeParts}
 use Rattle.thread_code.specs.Plain.{plain_code}
 use Rattle.core_machine.specs.declared.thread.Thread.{Thread}
 use Rattle.core_machine.specs.Threads.{Loaded, StandsFor, HasSettled}
 use Rattle.core_machine.specs.Forks.{jobs_at, with_replies}
-use Rattle.core_host.specs.Calling.{ServesFork, HasServedFork}
+use Rattle.core_host.specs.Calling.{HasServedFork}
 use Rattle.core_host.specs.Changes.{HasProgressed, sent_more}
 use Rattle.core_host.specs.Writing.{told}
 use Rattle.core_host.specs.Descending.{Descends}
 use Rattle.core_host.specs.Keeping.{State, code_in, IsSeated, AtFork, HaveHeard}
 use Rattle.core_host.specs.Posts.{IsBranchOf}
 use Rattle.core_host.specs.Serving.{ChangesBranches}
-use Rattle.core_host.specs.Waiting.{HasTold, IsForked, IsGathering, HasReplies, IsAtWork, IsWorking, IsWaiting, CanDescend}
+use Rattle.core_host.specs.Waiting.{HasTold, IsForked, IsGathering, HasReplies, IsAtWork, IsWorking, IsWaiting}
 use Rattle.core_host.proofs.OneMoreExchange.{changed, changed_is}
 use Rattle.core_host.proofs.WaitingLemmas.{work_keeps}
 use Rattle.core_host.proofs.Advancing.{has_run, its_fork, it_forks}
 use Rattle.core_host.proofs.Resuming.{HasAll, goes_on}
 use Rattle.core_host.proofs.KeepingLemmas.{grown_then}
-use Rattle.core_host.proofs.GatherReplies.{all_heard}
-use Rattle.core_host.proofs.DescendingLemmas.{descends_seated, leaves_gathering}
-use Rattle.core_host.proofs.CallingLemmas.{stays_then, branches_stay, down_stays, stays_descends, stays_seated, stays_can, extends_long}
+use Rattle.core_host.proofs.DescendingLemmas.{leaves_gathering}
+use Rattle.core_host.proofs.CallingLemmas.{stays_then, branches_stay, down_stays, stays_descends, stays_seated, extends_long}
 
 -- ---- a fork is served
 

@@ -20,6 +20,8 @@ mod worker;
 
 pub use boxed::Boxed;
 pub use host::{Host, Served};
+pub use job::write_job;
 pub use local::{blanks, local_port};
+pub use outcome::write_outcome;
 pub use work::{ForecWork, Told};
 pub use worker::{Crew, Serve, Worker};

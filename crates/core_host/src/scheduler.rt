@@ -85,6 +85,7 @@ impl<'c, P: Port<ForecWork> + Drop> Scheduler<'c, P> {
     }
 
     /// Looks for the reply of a branch that was told a job. Returns whether it is there.
+    #[inline(always)]
     pub(crate) fn collect(&mut self, mailbox: u32) -> bool
         requires inside { mailbox < length self.old.mail.ends }
         requires seated { IsSeated self.old }

@@ -1,4 +1,4 @@
-use Rattle.std.proofs.Common.{refl, sym, subst}
+use Rattle.std.proofs.Common.{sym, subst}
 use Rattle.core_host.specs.Waiting.{CanDescend}
 use Rattle.core_host.proofs.Beside.{others_then, others_seated, round_others}
 use Rattle.core_host.proofs.CallingLemmas.{stays_others}
