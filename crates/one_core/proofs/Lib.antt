@@ -1,0 +1,6 @@
+mod Mailed
+mod TellLemmas
+mod JobLemmas
+mod StubLemmas
+mod CallLemmas
+mod ConsultLemmas
