@@ -4,3 +4,6 @@ mod JobLemmas
 mod StubLemmas
 mod CallLemmas
 mod ConsultLemmas
+mod HearingLemmas
+mod FinishLemmas
+mod RootLemmas
