@@ -178,6 +178,7 @@ module _ (code : CodeParts) (seats : List (Option Thread)) (fitted : IsFitted (s
             its_reply = given.reply
 
             pub it_replies : RepliesBy h2 its_reply
+            unfolding its_reply given
             it_replies = given.is
 
             code2_is : code2 ≡ code
@@ -307,6 +308,7 @@ module _ (code : CodeParts) (seats : List (Option Thread)) (fitted : IsFitted (s
     one_reply = its_reply some.0 some.1 x read child is y h1 number1 stands s3 leaves3 h2 number2 loaded2 replied done3 code2 seats2 view2
 
     by_it : RepliesBy h2 one_reply
+    unfolding one_reply its_reply
     by_it = it_replies some.0 some.1 x read child is y h1 number1 stands s3 leaves3 h2 number2 loaded2 replied done3 code2 seats2 view2
 
     pub has_called : HasCalled s0 (seated code2 (slice_set seats2 branch z)) h k branch

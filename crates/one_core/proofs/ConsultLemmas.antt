@@ -69,6 +69,7 @@ module _ (a b : Seated) (h : Thread) (k number : ℕ) (fork : IsForked (code_in 
 
   module _ (some : (book : Book) × CanTell a h book) (d : Seated) (leaves : Leaves number b d) (calls : HasCalled b d h k number) where
     low : h.number < number
+    unfolding job can_call
     low = let x = (can_call some.0 some.1).is.above in let y = job.2 in subst (λ n. h.number < n) job.2 x
 
     -- an earlier branch has a smaller number
@@ -117,6 +118,7 @@ module _ (a b : Seated) (h : Thread) (k number : ℕ) (fork : IsForked (code_in 
       w = done.called book can
 
       abbrev now : WasCalled b d h w.after job.0 calls.reply
+      unfolding job can_call
       now = calls.called w.after (can_call book can)
 
       its : IsJobFor c w.after h.number job.0

@@ -11,10 +11,10 @@ use Rattle.core_host.specs.Posts.{IsBranchOf}
 use Rattle.core_host.specs.Writing.{told}
 use Rattle.one_core.specs.Seats.{Seated, code_in, IsFitted, Leaves}
 use Rattle.one_core.specs.Told.{Book, HasTold, InJob, Keeps}
-use Rattle.one_core.specs.Resting.{RestAbove, Works}
+use Rattle.one_core.specs.Resting.{RestAbove, HasBegun, Works}
 use Rattle.one_core.specs.Called.{IsJobFor, IsForked, CanTell, HaveCalled, Consulted}
 use Rattle.one_core.proofs.TellLemmas.{keeps_same, keeps_then}
-use Rattle.one_core.proofs.JobLemmas.{Counted, forked, each_job, some_at, bound, next, runs_on}
+use Rattle.one_core.proofs.JobLemmas.{Counted, allowance_is, forked, each_job, some_at, bound, next, runs_on}
 use Rattle.one_core.proofs.ConsultLemmas.{have_heard}
 
 -- a thread at a job has come to so many more forks since
@@ -26,6 +26,13 @@ pub record Going (a : Seated) (h0 : Thread) (b : Seated) (h : Thread) (n : ℕ) 
 
 pub going_none : (a : Seated) (h : Thread) (book : Book) (jobs : List Job) (job : Job) (w : Works a h book jobs job) → Going a h a h 0 book jobs job w
 going_none a h book jobs job w = record { after = book; above = w.above; keeps = keeps_same (code_in a) h.number book; counted = (w.in_job, omega arith) }
+
+-- what a thread that has begun its job is at
+abbrev pub begun_works : (a : Seated) (h : Thread) (b : HasBegun a h) → Works a h b.book b.jobs b.job
+begun_works a h b = record { above = b.above; in_job = b.in_job }
+
+pub begun_allowance : (a : Seated) (h : Thread) (b : HasBegun a h) → allowance_of b.job ≡ h.allowance
+begun_allowance a h b = sym (allowance_is (code_in a) h b.book b.jobs b.job b.in_job)
 
 -- the thread runs on
 module _ (a b : Seated) (h0 h h1 : Thread) (number : h.number ≡ h0.number) (number1 : h1.number ≡ h.number) (stands1 : (xs : List Exchange) → StandsFor (code_in a) h xs → StandsFor (code_in a) h1 xs)

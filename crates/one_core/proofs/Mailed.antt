@@ -91,7 +91,7 @@ no_parent (x ∷ l) (suc j) t e = let ih = no_parent l j t e in omega (arith, ih
 abbrev pub mail_of : CodeParts → Book → List Answered → Mail
 mail_of code book pairs = record {
   board = None;
-  work = record { code = record { value = code } };
+  work = record { code = record { marker = record {}; value = code } };
   blanks = [];
   ends = boxes book pairs 0 (length (plain_code code).shape.threads);
   tells = true;
@@ -131,7 +131,7 @@ module _ (code : CodeParts) where
 
   -- ---- threads
 
-  pub host_done : (h : Thread) (book : Book) (jobs : List Job) (d : HasDone c h book jobs) → host.HasDone c h (mail_of code book (pair_all d.exchanges d.outputs)) jobs
+  abbrev pub host_done : (h : Thread) (book : Book) (jobs : List Job) (d : HasDone c h book jobs) → host.HasDone c h (mail_of code book (pair_all d.exchanges d.outputs)) jobs
   host_done h book jobs d = record {
     exchanges = d.exchanges;
     outputs = d.outputs;
@@ -153,7 +153,7 @@ module _ (code : CodeParts) where
     told = told_of h.number book (pair_all d.exchanges d.outputs) qs d.posts;
   }
 
-  pub host_job : (h : Thread) (book : Book) (jobs : List Job) (job : Job) (i : InJob c h book jobs job) → host.InJob c h (mail_of code book (told c h.number jobs job i.log)) jobs job
+  abbrev pub host_job : (h : Thread) (book : Book) (jobs : List Job) (job : Job) (i : InJob c h book jobs job) → host.InJob c h (mail_of code book (told c h.number jobs job i.log)) jobs job
   host_job h book jobs job i = record { log = i.log; stands = i.stands; posts = posts_of h.number book (told c h.number jobs job i.log) i.tells }
 
   pub job_of : (h : Thread) (book : Book) (jobs : List Job) (job : Job) (qs : List Answered) (i : host.InJob c h (mail_of code book qs) jobs job) →

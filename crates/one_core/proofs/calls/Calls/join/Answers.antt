@@ -13,28 +13,28 @@ use Rattle.one_core.proofs.HearingLemmas.{reply_at, in_seats, not_empty, it_repl
 use Rattle.one_core.proofs.calls.Calls.join.Goals as goal
 
 pub index-requires : goal.index-requires
-index-requires g c =
+index-requires c =
     let at = ap (λ l. slice_get l c.loop-branch.k) (sym c.loop-branch.invariant.branches) ∙ sym c.active.ensures ∙ c.in-Some.is in
     let lt = in_seats c.args.self.now c.args.thread.now.branches.numbers c.requires.heard.0 c.requires.heard.1 c.loop-branch.k c.in-Some.branch at in
     let less : c.in-Some.branch < length c.self.inside.seats.items = subst (λ (s : Seated). c.in-Some.branch < length s.threads) (sym c.self.view_is) lt in
     subst (λ n. c.in-Some.branch < n) (sym c.self.inside.seats.ok.0) less
 
 pub unreachable-requires : goal.unreachable-requires
-unreachable-requires g c =
+unreachable-requires c =
     let at = ap (λ l. slice_get l c.loop-branch.k) (sym c.loop-branch.invariant.branches) ∙ sym c.active.ensures ∙ c.in-Some.is in
     not_empty c.args.self.now c.args.thread.now.branches.numbers c.requires.heard.0 c.requires.heard.1 c.loop-branch.k c.in-Some.branch at c.index.result.now
     (c.index.ensures ∙ ap (λ (s : Seated). slice_index_or s.threads c.in-Some.branch c.index.result.now) c.self.view_is) c.in_default-index.is
 
 pub join_call-requires-clause-order : goal.join_call-requires-clause-order
-join_call-requires-clause-order g c =
+join_call-requires-clause-order c =
     let at = ap (λ l. slice_get l c.loop-branch.k) (sym c.loop-branch.invariant.branches) ∙ sym c.active.ensures ∙ c.in-Some.is in
     c.loop-branch.invariant.order (slice_get_within c.args.thread.now.branches.numbers c.loop-branch.k c.in-Some.branch at)
 
 pub join_call-requires-clause-index : goal.join_call-requires-clause-index
-join_call-requires-clause-index g c = slice_get_within c.loop-branch.thread.branches.numbers c.loop-branch.k c.in-Some.branch (sym c.active.ensures ∙ c.in-Some.is)
+join_call-requires-clause-index c = slice_get_within c.loop-branch.thread.branches.numbers c.loop-branch.k c.in-Some.branch (sym c.active.ensures ∙ c.in-Some.is)
 
 pub join_call-requires-clause-branch : goal.join_call-requires-clause-branch
-join_call-requires-clause-branch g c =
+join_call-requires-clause-branch c =
     let at = ap (λ l. slice_get l c.loop-branch.k) (sym c.loop-branch.invariant.branches) ∙ sym c.active.ensures ∙ c.in-Some.is in
     let code = ap (λ (s : Seated). s.code) c.self.view_is in
     subst (λ (p : Thread). Loaded (plain_code c.self.inside.code.now) p) (sym c.deref.ensures)
@@ -43,7 +43,7 @@ join_call-requires-clause-branch g c =
     (c.index.ensures ∙ ap (λ (s : Seated). slice_index_or s.threads c.in-Some.branch c.index.result.now) c.self.view_is) c.in-Some-index.called c.in-Some-index.is))
 
 pub join_call-requires-clause-number : goal.join_call-requires-clause-number
-join_call-requires-clause-number g c =
+join_call-requires-clause-number c =
     let at = ap (λ l. slice_get l c.loop-branch.k) (sym c.loop-branch.invariant.branches) ∙ sym c.active.ensures ∙ c.in-Some.is in
     let number = its_number c.args.self.now c.args.thread.now.branches.numbers c.requires.heard.0 c.requires.heard.1 c.loop-branch.k c.in-Some.branch at c.index.result.now
     (c.index.ensures ∙ ap (λ (s : Seated). slice_index_or s.threads c.in-Some.branch c.index.result.now) c.self.view_is) c.in-Some-index.called c.in-Some-index.is in
@@ -51,20 +51,20 @@ join_call-requires-clause-number g c =
     ap (λ (p : Thread). p.number) c.deref.ensures ∙ number ∙ sym branch
 
 pub join_call-requires-clause-reply : goal.join_call-requires-clause-reply
-join_call-requires-clause-reply g c =
+join_call-requires-clause-reply c =
     let at = ap (λ l. slice_get l c.loop-branch.k) (sym c.loop-branch.invariant.branches) ∙ sym c.active.ensures ∙ c.in-Some.is in
     subst HasReply (sym c.deref.ensures)
     (it_replied c.args.self.now c.args.thread.now.branches.numbers c.requires.heard.0 c.requires.heard.1 c.loop-branch.k c.in-Some.branch at c.index.result.now
     (c.index.ensures ∙ ap (λ (s : Seated). slice_index_or s.threads c.in-Some.branch c.index.result.now) c.self.view_is) c.in-Some-index.called c.in-Some-index.is)
 
 pub loop-branch-smaller : goal.loop-branch-smaller
-loop-branch-smaller g c =
+loop-branch-smaller c =
     let at = ap (λ l. slice_get l c.loop-branch.k) (sym c.loop-branch.invariant.branches) ∙ sym c.active.ensures ∙ c.in-Some.is in
     let lt = slice_get_within c.args.thread.now.branches.numbers c.loop-branch.k c.in-Some.branch at in
     omega (arith, lt)
 
 pub loop-branch-init : goal.loop-branch-init
-loop-branch-init g c = record {
+loop-branch-init c = record {
   within = omega arith;
   loaded = c.requires.loaded;
   number = refl;
@@ -75,7 +75,7 @@ loop-branch-init g c = record {
 }
 
 pub loop-branch-preserved : goal.loop-branch-preserved
-loop-branch-preserved g c =
+loop-branch-preserved c =
     let at = ap (λ l. slice_get l c.loop-branch.k) (sym c.loop-branch.invariant.branches) ∙ sym c.active.ensures ∙ c.in-Some.is in
     let code = ap (λ (s : Seated). s.code) c.self.view_is in
     let lt = slice_get_within c.args.thread.now.branches.numbers c.loop-branch.k c.in-Some.branch at in
@@ -97,7 +97,7 @@ loop-branch-preserved g c =
     }
 
 pub returns-clause-running : goal.returns-clause-running
-returns-clause-running g c =
+returns-clause-running c =
     let past = past_end c.loop-branch.thread.branches.numbers c.loop-branch.k (sym c.active.ensures ∙ c.in_default.is) in
     let count = ap length c.loop-branch.invariant.branches in
     c.loop-branch.invariant.running (omega (arith, past, count, c.loop-branch.invariant.within))

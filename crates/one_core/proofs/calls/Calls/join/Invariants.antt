@@ -7,7 +7,7 @@ use Rattle.one_core.specs.Called.{HaveHeard}
 use Rattle.one_core.proofs.calls.Calls.join.Given as goal
 
 abbrev pub invariant-loop-branch : goal.invariant-loop-branch
-invariant-loop-branch g l = record {
+invariant-loop-branch l = record {
   within : l.k ≤ length l.fn.thread.branches.numbers;
   loaded : Loaded (code_in l.fn.self) l.thread;
   number : l.thread.number ≡ l.fn.thread.number;
@@ -18,4 +18,4 @@ invariant-loop-branch g l = record {
 }
 
 abbrev pub decreases-loop-branch : goal.decreases-loop-branch
-decreases-loop-branch g l = length l.fn.thread.branches.numbers - l.k
+decreases-loop-branch l = length l.fn.thread.branches.numbers - l.k

@@ -13,30 +13,30 @@ use Rattle.one_core.proofs.HearingLemmas.{reply_at, in_seats, not_empty, it_repl
 use Rattle.one_core.proofs.calls.Calls.settle.Goals as goal
 
 pub index-requires : goal.index-requires
-index-requires g c =
+index-requires c =
     let at = ap (λ l. slice_get l c.loop-branch.k) (sym c.loop-branch.invariant.branches) ∙ sym c.active.ensures ∙ c.in-Some.is in
     let lt = in_seats c.args.self.now c.args.thread.now.branches.numbers c.requires.heard.0 c.requires.heard.1 c.loop-branch.k c.in-Some.branch at in
     let less : c.in-Some.branch < length c.self.inside.seats.items = subst (λ (s : Seated). c.in-Some.branch < length s.threads) (sym c.self.view_is) lt in
     subst (λ n. c.in-Some.branch < n) (sym c.self.inside.seats.ok.0) less
 
 pub unreachable-requires : goal.unreachable-requires
-unreachable-requires g c =
+unreachable-requires c =
     let at = ap (λ l. slice_get l c.loop-branch.k) (sym c.loop-branch.invariant.branches) ∙ sym c.active.ensures ∙ c.in-Some.is in
     not_empty c.args.self.now c.args.thread.now.branches.numbers c.requires.heard.0 c.requires.heard.1 c.loop-branch.k c.in-Some.branch at c.index.result.now
     (c.index.ensures ∙ ap (λ (s : Seated). slice_index_or s.threads c.in-Some.branch c.index.result.now) c.self.view_is) c.in_default-index.is
 
 pub settle_call-requires-clause-branch : goal.settle_call-requires-clause-branch
-settle_call-requires-clause-branch g c = slice_get_within c.loop-branch.thread.branches.numbers c.loop-branch.k c.in-Some.branch (sym c.active.ensures ∙ c.in-Some.is)
+settle_call-requires-clause-branch c = slice_get_within c.loop-branch.thread.branches.numbers c.loop-branch.k c.in-Some.branch (sym c.active.ensures ∙ c.in-Some.is)
 
 pub settle_call-requires-clause-reply : goal.settle_call-requires-clause-reply
-settle_call-requires-clause-reply g c =
+settle_call-requires-clause-reply c =
     let at = ap (λ l. slice_get l c.loop-branch.k) (sym c.loop-branch.invariant.branches) ∙ sym c.active.ensures ∙ c.in-Some.is in
     subst HasReply (sym c.deref.ensures)
     (it_replied c.args.self.now c.args.thread.now.branches.numbers c.requires.heard.0 c.requires.heard.1 c.loop-branch.k c.in-Some.branch at c.index.result.now
     (c.index.ensures ∙ ap (λ (s : Seated). slice_index_or s.threads c.in-Some.branch c.index.result.now) c.self.view_is) c.in-Some-index.called c.in-Some-index.is)
 
 pub loop-branch-preserved : goal.loop-branch-preserved
-loop-branch-preserved g c =
+loop-branch-preserved c =
     let at = ap (λ l. slice_get l c.loop-branch.k) (sym c.loop-branch.invariant.branches) ∙ sym c.active.ensures ∙ c.in-Some.is in
     let code = ap (λ (s : Seated). s.code) c.self.view_is in
     let lt = slice_get_within c.args.thread.now.branches.numbers c.loop-branch.k c.in-Some.branch at in
@@ -59,14 +59,14 @@ loop-branch-preserved g c =
     }
 
 pub returns-clause-order : goal.returns-clause-order
-returns-clause-order g c =
+returns-clause-order c =
     let past = past_end c.loop-branch.thread.branches.numbers c.loop-branch.k (sym c.active.ensures ∙ c.in_default.is) in
     let count = ap length c.loop-branch.invariant.branches in
     let same : c.loop-branch.k ≡ length c.loop-branch.thread.branches.numbers = omega (arith, past, count, c.loop-branch.invariant.within) in
     subst (HasSettled c.loop-branch.thread) same c.loop-branch.invariant.order
 
 pub returns-clause-stands : goal.returns-clause-stands
-returns-clause-stands g c rs xs heard before =
+returns-clause-stands c rs xs heard before =
     let past = past_end c.loop-branch.thread.branches.numbers c.loop-branch.k (sym c.active.ensures ∙ c.in_default.is) in
     let count = ap length c.loop-branch.invariant.branches in
     subst (λ l. StandsFor (code_in c.args.self.now) c.loop-branch.thread (with_replies xs l)) (take_all rs c.loop-branch.k (omega (arith, past, count, heard.count)))
