@@ -33,6 +33,10 @@ use Rattle.one_core.proofs.StubLemmas.{replies, replies_once, has_paused}
 abbrev pub seated : CodeParts → List (Option Thread) → Seated
 seated code threads = record { code = code; threads = threads }
 
+-- another thread in a seat
+pub fitted_set : (code : CodeParts) (seats : List (Option Thread)) → IsFitted (seated code seats) → (t : ℕ) (y : Option Thread) → IsFitted (seated code (slice_set seats t y))
+fitted_set code seats f t y = record { valid = f.valid; seats = length-set seats t y ∙ f.seats }
+
 -- ---- a Wake comes to a thread that has paused
 
 no_answer : (c : PlainCode) (t n : ℕ) (r : Reply) → Answers (CodeAlone c) n t [] r → ⊥
@@ -310,6 +314,9 @@ module _ (code : CodeParts) (seats : List (Option Thread)) (fitted : IsFitted (s
     by_it : RepliesBy h2 one_reply
     unfolding one_reply its_reply
     by_it = it_replies some.0 some.1 x read child is y h1 number1 stands s3 leaves3 h2 number2 loaded2 replied done3 code2 seats2 view2
+
+    pub has_left : Leaves branch s0 (seated code2 (slice_set seats2 branch z))
+    has_left = leaves4 some.0 some.1 x read child is y h1 number1 stands s3 leaves3 h2 number2 loaded2 replied done3 code2 seats2 view2 one_reply by_it z sitting
 
     pub has_called : HasCalled s0 (seated code2 (slice_set seats2 branch z)) h k branch
     has_called = record {

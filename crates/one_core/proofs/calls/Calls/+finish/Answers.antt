@@ -1,5 +1,5 @@
 use Rattle.std.proofs.Common.{rules, ◌≡◌, ◌≤◌, ◌^◌, ◌<◌, ◌+◌, ◌-◌, ◌*◌, Some, None, List, length, map, refl, sym, ap, ◌∙◌, subst, arith}
-use Rattle.std.specs.Prelude.{slice_index_or}
+use Rattle.std.specs.Prelude.{slice_set}
 use Rattle.std.proofs.lemmas.Option.{slice_get_within}
 use Rattle.std.proofs.Math.Facts.{Fits-of_lt}
 use Rattle.forec_kernel.specs.Engine.{Exchange}
@@ -12,9 +12,11 @@ use Rattle.core_machine.specs.Forks.{jobs_at, with_replies}
 use Rattle.core_host.proofs.Hearing.{past_end}
 use Rattle.core_host.proofs.Finishing.{fits_forks, replied_by}
 use Rattle.one_core.specs.Seats.{Seated, code_in, IsFitted, Leaves}
+use Rattle.one_core.specs.Told.{Book}
 use Rattle.one_core.specs.Called.{IsForked, CanTell, CanCall, HasCalled, Consulted, HaveHeard}
 use Rattle.one_core.proofs.TellLemmas.{fitted_keeps, leaves_same, leaves_then}
 use Rattle.one_core.proofs.JobLemmas.{allowance_is}
+use Rattle.one_core.proofs.CallLemmas.{seated, fitted_set, in_branches, not_empty, child_loaded, child_at, child_rests, child_takes, number_is, has_begun, has_left, has_called}
 use Rattle.one_core.proofs.ConsultLemmas.{consulted_none, some_call, consulted_more, have_heard}
 use Rattle.one_core.proofs.FinishLemmas.{begun_works, begun_allowance, going_none, stays, its_fork, can_tell, some_branch, its_bound, goes_on}
 use Rattle.one_core.proofs.calls.Calls.+finish.Goals as goal
@@ -56,7 +58,7 @@ pub finish-call_branches-requires : goal.finish-call_branches-requires
 finish-call_branches-requires g t c κs within =
     let code : c.self.inside.code.now ≡ c.args.self.now.code = ap (λ (s : Seated). s.code) c.self.view_is ∙ c.loop-self.invariant.leaves.code in
     let loaded = subst (λ (x : CodeParts). Loaded (plain_code x) c.run.new.self) code c.run.ensures.loaded in
-    let stands = λ xs st. subst (λ (x : CodeParts). StandsFor (plain_code x) c.run.new.self xs) code (c.run.ensures.stands xs (subst (λ (x : CodeParts). StandsFor (plain_code x) c.loop-self.thread xs) (sym code) st)) in
+    let stands : (xs : List Exchange) → StandsFor (code_in c.args.self.now) c.loop-self.thread xs → StandsFor (code_in c.args.self.now) c.run.new.self xs = λ xs st. subst (λ (x : CodeParts). StandsFor (plain_code x) c.run.new.self xs) code (c.run.ensures.stands xs (subst (λ (x : CodeParts). StandsFor (plain_code x) c.loop-self.thread xs) (sym code) st)) in
     let settled = subst (λ e. Left_by c.run.new.self e) c.in-Fork.is c.run.ensures.left in
     let numbers = subst (λ (x : CodeParts). c.run.new.self.branches.numbers ≡ map (λ w. w.branch) (jobs_at (plain_code x) c.run.new.self)) code (c.run.ensures.branches c.in-Fork.is) in
     let w = begun_works c.args.self.now c.args.thread.now c.requires.begun in
@@ -74,7 +76,7 @@ pub finish-join-requires-clause-some : goal.finish-join-requires-clause-some
 finish-join-requires-clause-some g t c =
     let code : c.self.inside.code.now ≡ c.args.self.now.code = ap (λ (s : Seated). s.code) c.self.view_is ∙ c.loop-self.invariant.leaves.code in
     let loaded = subst (λ (x : CodeParts). Loaded (plain_code x) c.run.new.self) code c.run.ensures.loaded in
-    let stands = λ xs st. subst (λ (x : CodeParts). StandsFor (plain_code x) c.run.new.self xs) code (c.run.ensures.stands xs (subst (λ (x : CodeParts). StandsFor (plain_code x) c.loop-self.thread xs) (sym code) st)) in
+    let stands : (xs : List Exchange) → StandsFor (code_in c.args.self.now) c.loop-self.thread xs → StandsFor (code_in c.args.self.now) c.run.new.self xs = λ xs st. subst (λ (x : CodeParts). StandsFor (plain_code x) c.run.new.self xs) code (c.run.ensures.stands xs (subst (λ (x : CodeParts). StandsFor (plain_code x) c.loop-self.thread xs) (sym code) st)) in
     let settled = subst (λ e. Left_by c.run.new.self e) c.in-Fork.is c.run.ensures.left in
     let numbers = subst (λ (x : CodeParts). c.run.new.self.branches.numbers ≡ map (λ w. w.branch) (jobs_at (plain_code x) c.run.new.self)) code (c.run.ensures.branches c.in-Fork.is) in
     let w = begun_works c.args.self.now c.args.thread.now c.requires.begun in
@@ -87,7 +89,7 @@ pub finish-overflow_add-forks : goal.finish-overflow_add-forks
 finish-overflow_add-forks g t c =
     let code : c.self.inside.code.now ≡ c.args.self.now.code = ap (λ (s : Seated). s.code) c.self.view_is ∙ c.loop-self.invariant.leaves.code in
     let loaded = subst (λ (x : CodeParts). Loaded (plain_code x) c.run.new.self) code c.run.ensures.loaded in
-    let stands = λ xs st. subst (λ (x : CodeParts). StandsFor (plain_code x) c.run.new.self xs) code (c.run.ensures.stands xs (subst (λ (x : CodeParts). StandsFor (plain_code x) c.loop-self.thread xs) (sym code) st)) in
+    let stands : (xs : List Exchange) → StandsFor (code_in c.args.self.now) c.loop-self.thread xs → StandsFor (code_in c.args.self.now) c.run.new.self xs = λ xs st. subst (λ (x : CodeParts). StandsFor (plain_code x) c.run.new.self xs) code (c.run.ensures.stands xs (subst (λ (x : CodeParts). StandsFor (plain_code x) c.loop-self.thread xs) (sym code) st)) in
     let settled = subst (λ e. Left_by c.run.new.self e) c.in-Fork.is c.run.ensures.left in
     let numbers = subst (λ (x : CodeParts). c.run.new.self.branches.numbers ≡ map (λ w. w.branch) (jobs_at (plain_code x) c.run.new.self)) code (c.run.ensures.branches c.in-Fork.is) in
     let w = begun_works c.args.self.now c.args.thread.now c.requires.begun in
@@ -101,7 +103,7 @@ pub finish-loop-self-smaller : goal.finish-loop-self-smaller
 finish-loop-self-smaller g t c =
     let code : c.self.inside.code.now ≡ c.args.self.now.code = ap (λ (s : Seated). s.code) c.self.view_is ∙ c.loop-self.invariant.leaves.code in
     let loaded = subst (λ (x : CodeParts). Loaded (plain_code x) c.run.new.self) code c.run.ensures.loaded in
-    let stands = λ xs st. subst (λ (x : CodeParts). StandsFor (plain_code x) c.run.new.self xs) code (c.run.ensures.stands xs (subst (λ (x : CodeParts). StandsFor (plain_code x) c.loop-self.thread xs) (sym code) st)) in
+    let stands : (xs : List Exchange) → StandsFor (code_in c.args.self.now) c.loop-self.thread xs → StandsFor (code_in c.args.self.now) c.run.new.self xs = λ xs st. subst (λ (x : CodeParts). StandsFor (plain_code x) c.run.new.self xs) code (c.run.ensures.stands xs (subst (λ (x : CodeParts). StandsFor (plain_code x) c.loop-self.thread xs) (sym code) st)) in
     let settled = subst (λ e. Left_by c.run.new.self e) c.in-Fork.is c.run.ensures.left in
     let numbers = subst (λ (x : CodeParts). c.run.new.self.branches.numbers ≡ map (λ w. w.branch) (jobs_at (plain_code x) c.run.new.self)) code (c.run.ensures.branches c.in-Fork.is) in
     let w = begun_works c.args.self.now c.args.thread.now c.requires.begun in
@@ -114,7 +116,7 @@ pub finish-loop-self-preserved : goal.finish-loop-self-preserved
 finish-loop-self-preserved g t c =
     let code : c.self.inside.code.now ≡ c.args.self.now.code = ap (λ (s : Seated). s.code) c.self.view_is ∙ c.loop-self.invariant.leaves.code in
     let loaded = subst (λ (x : CodeParts). Loaded (plain_code x) c.run.new.self) code c.run.ensures.loaded in
-    let stands = λ xs st. subst (λ (x : CodeParts). StandsFor (plain_code x) c.run.new.self xs) code (c.run.ensures.stands xs (subst (λ (x : CodeParts). StandsFor (plain_code x) c.loop-self.thread xs) (sym code) st)) in
+    let stands : (xs : List Exchange) → StandsFor (code_in c.args.self.now) c.loop-self.thread xs → StandsFor (code_in c.args.self.now) c.run.new.self xs = λ xs st. subst (λ (x : CodeParts). StandsFor (plain_code x) c.run.new.self xs) code (c.run.ensures.stands xs (subst (λ (x : CodeParts). StandsFor (plain_code x) c.loop-self.thread xs) (sym code) st)) in
     let settled = subst (λ e. Left_by c.run.new.self e) c.in-Fork.is c.run.ensures.left in
     let numbers = subst (λ (x : CodeParts). c.run.new.self.branches.numbers ≡ map (λ w. w.branch) (jobs_at (plain_code x) c.run.new.self)) code (c.run.ensures.branches c.in-Fork.is) in
     let number = c.run.ensures.number ∙ c.loop-self.invariant.number in
@@ -137,7 +139,7 @@ finish-loop-self-preserved g t c =
 pub finish-returns : goal.finish-returns
 finish-returns g t c =
     let code : c.self.inside.code.now ≡ c.args.self.now.code = ap (λ (s : Seated). s.code) c.self.view_is ∙ c.loop-self.invariant.leaves.code in
-    let stands = λ xs st. subst (λ (x : CodeParts). StandsFor (plain_code x) c.run.new.self xs) code (c.run.ensures.stands xs (subst (λ (x : CodeParts). StandsFor (plain_code x) c.loop-self.thread xs) (sym code) st)) in
+    let stands : (xs : List Exchange) → StandsFor (code_in c.args.self.now) c.loop-self.thread xs → StandsFor (code_in c.args.self.now) c.run.new.self xs = λ xs st. subst (λ (x : CodeParts). StandsFor (plain_code x) c.run.new.self xs) code (c.run.ensures.stands xs (subst (λ (x : CodeParts). StandsFor (plain_code x) c.loop-self.thread xs) (sym code) st)) in
     record {
       loaded = subst (λ (x : CodeParts). Loaded (plain_code x) c.run.new.self) code c.run.ensures.loaded;
       number = c.run.ensures.number ∙ c.loop-self.invariant.number;
@@ -147,6 +149,68 @@ finish-returns g t c =
           stays c.args.self.now c.loop-self.self c.args.thread.now c.loop-self.thread c.run.new.self c.loop-self.invariant.number c.run.ensures.number stands c.loop-self.forks book jobs job w (c.loop-self.invariant.at book jobs job w)
           c.loop-self.invariant.leaves.code;
     }
+
+-- ---- call_branch
+
+pub call_branch-unreachable-requires : goal.call_branch-unreachable-requires
+call_branch-unreachable-requires g t c =
+    let some : (book : Book) × CanCall (seated c.self.inside.code.now c.self.inside.seats.items) c.args.thread.now c.args.k c.args.branch book = subst (λ s. (book : Book) × CanCall s c.args.thread.now c.args.k c.args.branch book) (sym c.self.view_is) c.requires.job in
+    not_empty c.self.inside.code.now c.self.inside.seats.items (subst IsFitted (sym c.self.view_is) c.requires.fitted) c.args.thread.now c.args.k c.args.branch c.requires.branch some.0 some.1 c.index_mut.result.now c.index_mut.ensures.value (sym c.take.ensures.value ∙ c.in_default.is)
+
+pub call_branch-call_branch-requires-clause-index : goal.call_branch-call_branch-requires-clause-index
+call_branch-call_branch-requires-clause-index g t c =
+    in_branches c.self.inside.code.now c.self.inside.seats.items (subst IsFitted (sym c.self.view_is) c.requires.fitted) c.args.thread.now c.args.k c.args.branch c.requires.branch
+
+pub call_branch-call_branch-requires-clause-branch : goal.call_branch-call_branch-requires-clause-branch
+call_branch-call_branch-requires-clause-branch g t c =
+    let some : (book : Book) × CanCall (seated c.self.inside.code.now c.self.inside.seats.items) c.args.thread.now c.args.k c.args.branch book = subst (λ s. (book : Book) × CanCall s c.args.thread.now c.args.k c.args.branch book) (sym c.self.view_is) c.requires.job in
+    child_loaded c.self.inside.code.now c.self.inside.seats.items (subst IsFitted (sym c.self.view_is) c.requires.fitted) c.args.thread.now c.args.k c.args.branch c.requires.branch some.0 some.1 c.index_mut.result.now c.index_mut.ensures.value
+    c.deref_mut-called.result.now (sym c.take.ensures.value ∙ c.in-Some.is ∙ ap Some (sym c.deref_mut-called.ensures.value))
+
+pub call_branch-call_branch-requires-clause-number : goal.call_branch-call_branch-requires-clause-number
+call_branch-call_branch-requires-clause-number g t c =
+    let some : (book : Book) × CanCall (seated c.self.inside.code.now c.self.inside.seats.items) c.args.thread.now c.args.k c.args.branch book = subst (λ s. (book : Book) × CanCall s c.args.thread.now c.args.k c.args.branch book) (sym c.self.view_is) c.requires.job in
+    child_at c.self.inside.code.now c.self.inside.seats.items (subst IsFitted (sym c.self.view_is) c.requires.fitted) c.args.thread.now c.args.k c.args.branch c.requires.branch some.0 some.1 c.index_mut.result.now c.index_mut.ensures.value
+    c.deref_mut-called.result.now (sym c.take.ensures.value ∙ c.in-Some.is ∙ ap Some (sym c.deref_mut-called.ensures.value))
+
+pub call_branch-call_branch-requires-clause-resting : goal.call_branch-call_branch-requires-clause-resting
+call_branch-call_branch-requires-clause-resting g t c =
+    let some : (book : Book) × CanCall (seated c.self.inside.code.now c.self.inside.seats.items) c.args.thread.now c.args.k c.args.branch book = subst (λ s. (book : Book) × CanCall s c.args.thread.now c.args.k c.args.branch book) (sym c.self.view_is) c.requires.job in
+    child_rests c.self.inside.code.now c.self.inside.seats.items (subst IsFitted (sym c.self.view_is) c.requires.fitted) c.args.thread.now c.args.k c.args.branch c.requires.branch some.0 some.1 c.index_mut.result.now c.index_mut.ensures.value
+    c.deref_mut-called.result.now (sym c.take.ensures.value ∙ c.in-Some.is ∙ ap Some (sym c.deref_mut-called.ensures.value))
+
+pub call_branch-call_branch-requires-clause-job : goal.call_branch-call_branch-requires-clause-job
+call_branch-call_branch-requires-clause-job g t c =
+    let some : (book : Book) × CanCall (seated c.self.inside.code.now c.self.inside.seats.items) c.args.thread.now c.args.k c.args.branch book = subst (λ s. (book : Book) × CanCall s c.args.thread.now c.args.k c.args.branch book) (sym c.self.view_is) c.requires.job in
+    child_takes c.self.inside.code.now c.self.inside.seats.items (subst IsFitted (sym c.self.view_is) c.requires.fitted) c.args.thread.now c.args.k c.args.branch c.requires.branch some.0 some.1 c.index_mut.result.now c.index_mut.ensures.value
+    c.deref_mut-called.result.now (sym c.take.ensures.value ∙ c.in-Some.is ∙ ap Some (sym c.deref_mut-called.ensures.value))
+
+pub call_branch-returns-clause-leaves : goal.call_branch-returns-clause-leaves
+call_branch-returns-clause-leaves g t c =
+    let some : (book : Book) × CanCall (seated c.self.inside.code.now c.self.inside.seats.items) c.args.thread.now c.args.k c.args.branch book = subst (λ s. (book : Book) × CanCall s c.args.thread.now c.args.k c.args.branch book) (sym c.self.view_is) c.requires.job in
+    subst (λ s. Leaves c.args.branch s (seated c.self-2.inside.code.now (slice_set c.self-2.inside.seats.items c.args.branch (Some c.finish.new.thread)))) c.self.view_is
+    (has_left c.self.inside.code.now c.self.inside.seats.items (subst IsFitted (sym c.self.view_is) c.requires.fitted) c.args.thread.now c.args.k c.args.branch c.requires.branch some c.index_mut.result.now c.index_mut.ensures.value c.deref_mut-called.result.now (sym c.take.ensures.value ∙ c.in-Some.is ∙ ap Some (sym c.deref_mut-called.ensures.value))
+    c.take.new.self c.call_branch.new.branch c.call_branch.ensures.number c.call_branch.ensures.stands
+    c.finish.new.self c.finish.ensures.leaves c.finish.new.thread c.finish.ensures.number c.finish.ensures.loaded c.finish.ensures.reply c.finish.ensures.done c.self-2.inside.code.now c.self-2.inside.seats.items c.self-2.view_is (Some c.finish.new.thread) refl)
+
+pub call_branch-returns-clause-called : goal.call_branch-returns-clause-called
+call_branch-returns-clause-called g t c =
+    let some : (book : Book) × CanCall (seated c.self.inside.code.now c.self.inside.seats.items) c.args.thread.now c.args.k c.args.branch book = subst (λ s. (book : Book) × CanCall s c.args.thread.now c.args.k c.args.branch book) (sym c.self.view_is) c.requires.job in
+    subst (λ s. HasCalled s (seated c.self-2.inside.code.now (slice_set c.self-2.inside.seats.items c.args.branch (Some c.finish.new.thread))) c.args.thread.now c.args.k c.args.branch) c.self.view_is
+    (has_called c.self.inside.code.now c.self.inside.seats.items (subst IsFitted (sym c.self.view_is) c.requires.fitted) c.args.thread.now c.args.k c.args.branch c.requires.branch some c.index_mut.result.now c.index_mut.ensures.value c.deref_mut-called.result.now (sym c.take.ensures.value ∙ c.in-Some.is ∙ ap Some (sym c.deref_mut-called.ensures.value))
+    c.take.new.self c.call_branch.new.branch c.call_branch.ensures.number c.call_branch.ensures.stands
+    c.finish.new.self c.finish.ensures.leaves c.finish.new.thread c.finish.ensures.number c.finish.ensures.loaded c.finish.ensures.reply c.finish.ensures.done c.self-2.inside.code.now c.self-2.inside.seats.items c.self-2.view_is (Some c.finish.new.thread) refl)
+
+pub call_branch-finish-requires : goal.call_branch-finish-requires
+call_branch-finish-requires g t c κs within =
+    let some : (book : Book) × CanCall (seated c.self.inside.code.now c.self.inside.seats.items) c.args.thread.now c.args.k c.args.branch book = subst (λ s. (book : Book) × CanCall s c.args.thread.now c.args.k c.args.branch book) (sym c.self.view_is) c.requires.job in
+    let number = number_is c.self.inside.code.now c.self.inside.seats.items (subst IsFitted (sym c.self.view_is) c.requires.fitted) c.args.thread.now c.args.k c.args.branch c.requires.branch some.0 some.1 c.index_mut.result.now c.index_mut.ensures.value
+    c.deref_mut-called.result.now (sym c.take.ensures.value ∙ c.in-Some.is ∙ ap Some (sym c.deref_mut-called.ensures.value)) c.take.new.self c.call_branch.new.branch c.call_branch.ensures.number c.call_branch.ensures.stands in
+    let begun = has_begun c.self.inside.code.now c.self.inside.seats.items (subst IsFitted (sym c.self.view_is) c.requires.fitted) c.args.thread.now c.args.k c.args.branch c.requires.branch some.0 some.1 c.index_mut.result.now c.index_mut.ensures.value
+    c.deref_mut-called.result.now (sym c.take.ensures.value ∙ c.in-Some.is ∙ ap Some (sym c.deref_mut-called.ensures.value)) c.take.new.self c.call_branch.new.branch c.call_branch.ensures.number c.call_branch.ensures.stands in
+    let fitted = fitted_set c.self.inside.code.now c.self.inside.seats.items (subst IsFitted (sym c.self.view_is) c.requires.fitted) c.args.branch c.take.new.self in
+    let smaller : 3 * (257 - c.call_branch.new.branch.number) + 2 < 3 * (257 - c.args.branch) + 3 = omega (arith, number) in
+    (search rules, (within.0, (within.1, (fitted, (c.call_branch.ensures.loaded, (c.call_branch.ensures.running, begun))))))
 
 -- ---- call_branches calls
 
@@ -161,4 +225,4 @@ call_branches-call_branch-requires g t c κs within =
     let lt = subst (λ n. n < length (code_in c.loop-branch.self).threads) some.1.number some.1.is.inside in
     let above = subst (λ n. c.args.thread.now.number < n) some.1.number some.1.is.above in
     let smaller : 3 * (257 - c.in-Some.branch) + 3 < 3 * (257 - c.args.thread.now.number) + 1 = omega (arith, few, same, lt, above) in
-    (search rules, (within.0, (within.1, (fitted, (loaded, (c.requires.fork.settled, (at, some)))))))
+    (search rules, (within, (fitted, (loaded, (c.requires.fork.settled, (at, some))))))
