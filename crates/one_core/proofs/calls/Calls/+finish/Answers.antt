@@ -70,7 +70,7 @@ finish-call_branches-requires g t c κs within =
     let fitted = fitted_keeps c.args.thread.now.number c.args.self.now c.loop-self.self c.loop-self.invariant.leaves c.requires.fitted in
     let number = c.run.ensures.number ∙ c.loop-self.invariant.number in
     let smaller : 3 * (257 - c.run.new.self.number) + 1 < 3 * (257 - c.args.thread.now.number) + 2 = omega (arith, number) in
-    (search rules, (within.0, (within.1, (fitted, (fork, (going.after, tell))))))
+    (search rules, (within, (fitted, (fork, (going.after, tell)))))
 
 pub finish-join-requires-clause-some : goal.finish-join-requires-clause-some
 finish-join-requires-clause-some g t c =
@@ -120,7 +120,7 @@ finish-loop-self-preserved g t c =
     let settled = subst (λ e. Left_by c.run.new.self e) c.in-Fork.is c.run.ensures.left in
     let numbers = subst (λ (x : CodeParts). c.run.new.self.branches.numbers ≡ map (λ w. w.branch) (jobs_at (plain_code x) c.run.new.self)) code (c.run.ensures.branches c.in-Fork.is) in
     let number = c.run.ensures.number ∙ c.loop-self.invariant.number in
-    let done = c.call_branches.ensures in
+    let done = c.call_branches.ensures.called in
     let le : length c.run.new.self.branches.numbers ≤ length c.run.new.self.branches.numbers = omega arith in
     let all = have_heard c.loop-self.self c.call_branches.new.self c.run.new.self (length c.run.new.self.branches.numbers) done le in
     let there = done.leaves.code ∙ c.loop-self.invariant.leaves.code in
@@ -210,7 +210,7 @@ call_branch-finish-requires g t c κs within =
     c.deref_mut-called.result.now (sym c.take.ensures.value ∙ c.in-Some.is ∙ ap Some (sym c.deref_mut-called.ensures.value)) c.take.new.self c.call_branch.new.branch c.call_branch.ensures.number c.call_branch.ensures.stands in
     let fitted = fitted_set c.self.inside.code.now c.self.inside.seats.items (subst IsFitted (sym c.self.view_is) c.requires.fitted) c.args.branch c.take.new.self in
     let smaller : 3 * (257 - c.call_branch.new.branch.number) + 2 < 3 * (257 - c.args.branch) + 3 = omega (arith, number) in
-    (search rules, (within.0, (within.1, (fitted, (c.call_branch.ensures.loaded, (c.call_branch.ensures.running, begun))))))
+    (search rules, (within, (fitted, (c.call_branch.ensures.loaded, (c.call_branch.ensures.running, begun)))))
 
 -- ---- call_branches calls
 
