@@ -1,0 +1,9 @@
+mod Mailed
+mod TellLemmas
+mod JobLemmas
+mod StubLemmas
+mod CallLemmas
+mod ConsultLemmas
+mod HearingLemmas
+mod FinishLemmas
+mod RootLemmas

@@ -1,0 +1,5 @@
+pub mod Seats
+pub mod Told
+pub mod Resting
+pub mod Stub
+pub mod Called

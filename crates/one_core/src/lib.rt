@@ -1,0 +1,5 @@
+//! How all threads of a code run on one core, by plain calls, without mailboxes.
+#![tactic(auto)]
+
+mod calls;
+mod stub;
