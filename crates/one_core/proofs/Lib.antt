@@ -1,0 +1,3 @@
+pub mod Newly
+pub mod Sitting
+pub mod TickRun
