@@ -1,3 +1,2 @@
 pub mod Newly
-pub mod Sitting
 pub mod TickRun

@@ -12,8 +12,10 @@ use Rattle.combine_tree.specs.Plain.{plain_packet}
 use Rattle.core_machine.specs.declared.thread.Thread.{Thread}
 use Rattle.core_host.specs.Rests.{IsReady}
 use Rattle.one_core.specs.Loads.{AreNew, IsNew}
-use Rattle.one_core.specs.Seats.{Seated, Sits, AllRest, HasDone}
-use Rattle.one_core.specs.Single.{Single, single, IsSingle, HasJobs, HasRun}
+use Rattle.one_core.specs.Seats.{Seated, Sits, IsFitted}
+use Rattle.one_core.specs.Told.{Book, HasDone}
+use Rattle.one_core.specs.Resting.{none, Rests, HasWorked}
+use Rattle.one_core.specs.Single.{single, IsSingle, HasRun}
 
 module _ (v : Seated) (valid : IsValidCode (plain_code v.code)) (count : length v.threads ≡ length (plain_code v.code).threads) (each : AreNew (plain_code v.code) v.threads)
     (root : Packet) (room : HasRoom (of_shape (plain_code v.code).shape) 0 (plain_packet root)) (is_blank : root.kind ≡ kind.Blank) where
@@ -33,18 +35,38 @@ module _ (v : Seated) (valid : IsValidCode (plain_code v.code)) (count : length 
         new = n.2;
       }
 
-  new_done : (t : ℕ) (n : NewThread t) → HasDone v n.thread []
-  new_done t n = record { exchanges = []; outputs = []; stands = n.new.stands; jobs_are = refl; runs = tt; complete = tt; allowed = tt }
+  -- nothing was told to anyone
+  abbrev no_book : Book
+  no_book t = []
 
-  pub new_rest : AllRest v
-  new_rest = record { count = count; each = λ t lt. let n = thread_at t lt in (n.thread, n.sits, n.new.resting, ([], new_done t n)) }
+  new_done : (t : ℕ) (n : NewThread t) → HasDone (plain_code v.code) n.thread no_book []
+  new_done t n = record {
+    exchanges = [];
+    outputs = [];
+    stands = n.new.stands;
+    jobs_are = refl;
+    runs = tt;
+    complete = tt;
+    told = record { above = tt; allowed = tt; jobs = λ k mine. refl };
+  }
+
+  new_rests : (t : ℕ) → t < length v.threads → Rests v no_book t
+  new_rests t lt =
+      let n = thread_at t (omega (arith, lt, count)) in record { thread = n.thread; sits = n.sits; resting = n.new.resting; done = new_done t n; last = none refl }
+
+  new_worked : HasWorked v []
+  new_worked =
+      let r = new_rests 0 (omega (arith, count, valid.shape.some, valid.threads)) in
+      record { book = no_book; above = λ j less lt. new_rests j lt; thread = r.thread; sits = r.sits; resting = r.resting; done = r.done }
 
   pub new_single : IsSingle (single v root true)
-  new_single = record { valid = valid; rest = new_rest; room = room; ready = λ e t sits. subst (IsReady t) (sym is_blank) tt }
-
-  pub new_jobs : HasJobs (single v root true) []
-  new_jobs = let n = thread_at 0 (omega (arith, valid.shape.some, valid.threads)) in record { thread = n.thread; sits = n.sits; fit = tt; done = new_done 0 n }
+  new_single = record {
+    fitted = record { valid = valid; seats = count };
+    worked = ([], new_worked);
+    room = room;
+    ready = λ e t sits. subst (IsReady t) (sym is_blank) tt;
+  }
 
   pub new_run : HasRun (single v root true) []
   unfolding HasRun
-  new_run k fine stands = record { jobs = new_jobs; keeps = λ e. is_blank }
+  new_run k fine stands = record { jobs = record { fit = tt; worked = new_worked }; keeps = λ e. is_blank }

@@ -10,13 +10,14 @@ use Rattle.thread_code.specs.declared.instruction.CodeParts.{CodeParts}
 use Rattle.thread_code.specs.Plain.{PlainCode, plain_code}
 use Rattle.thread_code.specs.Alone.{Stands}
 use Rattle.thread_code.specs.Laws.{EachFits}
-use Rattle.thread_code.specs.Valid.{IsValidCode, of_shape}
+use Rattle.thread_code.specs.Valid.{of_shape}
 use Rattle.combine_tree.specs.declared.packet.Packet.{Packet}
 use Rattle.combine_tree.specs.Plain.{plain_packet}
 use Rattle.core_machine.specs.declared.thread.Thread.{Thread}
 use Rattle.core_host.specs.Rests.{IsReady}
 use Rattle.core_host.specs.Runs.{Keeps}
-use Rattle.one_core.specs.Seats.{Seated, Sits, AllRest, HasDone}
+use Rattle.one_core.specs.Seats.{Seated, Sits, IsFitted}
+use Rattle.one_core.specs.Resting.{HasWorked}
 
 -- `threads`: each in its seat. `root`: the packet of thread 0, in a tick its job, between ticks its reply. `live`: each tick so far has paused
 pub record Single : Type 0 where
@@ -41,8 +42,8 @@ is_live o = o.live
 
 -- what holds between ticks: each thread rests, and thread 0 can be given the job of the next tick where there is one
 pub record IsSingle (o : Single) : Type 0 where
-  pub valid : IsValidCode (code_of o)
-  pub rest : AllRest (seated_in o)
+  pub fitted : IsFitted (seated_in o)
+  pub worked : (jobs : List Job) × HasWorked (seated_in o) jobs
   pub room : HasRoom (of_shape (code_of o).shape) 0 (plain_packet o.root)
   pub ready : o.live ≡ true → (t : Thread) → Sits (seated_in o) 0 t → IsReady t o.root.kind
 
@@ -50,10 +51,8 @@ pub record IsSingle (o : Single) : Type 0 where
 
 -- thread 0 was given these jobs by the ticks so far, and has replied to each
 pub record HasJobs (o : Single) (jobs : List Job) : Type 0 where
-  pub thread : Thread
-  pub sits : Sits (seated_in o) 0 thread
   pub fit : EachFits (code_of o).shape 0 jobs
-  pub done : HasDone (seated_in o) thread jobs
+  pub worked : HasWorked (seated_in o) jobs
 
 pub record HasTicked (o : Single) (k : PlainKernel) (turns : List TickInput) : Type 0 where
   pub jobs : HasJobs o (tick_jobs k Fresh turns)

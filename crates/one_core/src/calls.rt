@@ -1,27 +1,31 @@
-//! The threads of a code call each other.
-
-ghost use Rattle.std.specs.Prelude.{◌≡◌, ◌≤◌};
-ghost use Rattle.forec_base.specs.declared.limits.TheConstants.{MAX_BUDGET};
-ghost use Rattle.forec_kernel.specs.Engine.{Job};
+//! The threads of a code at work on one core: a thread that forks calls its branches one after the other.
+ghost use Rattle.std.specs.Prelude.{◌≡◌, ◌≤◌, ◌<◌, ◌+◌, List, Some, length, slice_get};
+ghost use Rattle.forec_base.specs.declared.limits.TheConstants.{MAX_BUDGET, MAX_THREADS};
+ghost use Rattle.forec_kernel.specs.Engine.{Job, Reply};
 ghost use Rattle.forec_kernel.specs.Packed.{HasRoom, IsJob};
-ghost use Rattle.thread_code.specs.Valid.{of_shape, IsValidCode};
+ghost use Rattle.thread_code.specs.Valid.{of_shape};
 ghost use Rattle.combine_tree.specs.Plain.{plain_packet};
+ghost use Rattle.core_machine.specs.Threads.{Loaded, CanBegin, CanRun, HasReply, HasSettled, HasJoined};
 ghost use Rattle.core_machine.specs.declared.thread.Thread.{Thread as PlainThread};
-ghost use Rattle.core_machine.specs.Threads.{CanBegin};
 ghost use Rattle.core_machine.specs.Replies.{Replies_by};
-ghost use Rattle.one_core.specs.Seats.{code_in, Sits, AllRest, HasRepliedTo};
+ghost use Rattle.one_core.specs.Seats.{code_in, IsFitted, Sits, Leaves};
+ghost use Rattle.one_core.specs.Told.{Book};
+ghost use Rattle.one_core.specs.Resting.{HasBegun, StaysAtWork, HasWorked, HasRepliedTo};
+ghost use Rattle.one_core.specs.Called.{IsForked, CanTell, CanCall, HasCalled, Consulted, HaveHeard, SettlesReplies, JoinsReplies};
 
+use crate::stub::{call_branch, join_call, settle_call};
 use combine_tree::Packet;
 use core_host::Boxed;
-use core_machine::Thread;
-use forec_base::Gate;
+use core_machine::{Event, Thread};
+use forec_base::{Gate, Point};
 use std::marker::Model;
 use thread_code::Code;
 
 /// The threads of a code, all on one core, each in its seat but while it is at work.
 #[derive(Drop)]
-pub(crate) struct Calls<'c> {
+pub struct Calls<'c> {
     pub code: &'c Code,
+    /// The number of the core, which passes the gate.
     pub core: u32,
     pub seats: Vec<Option<Boxed<Thread>>>,
 }
@@ -31,24 +35,137 @@ impl<'c> Model for Calls<'c> {
 
     ghost Value = { Seated };
 
-    ghost view = { λ v. record { code = v.code.now; threads = v.seats.items } };
+    ghost view = { λ d. record { code = d.code.now; threads = d.seats.items } };
 }
 
 impl<'c> Calls<'c> {
-    /// Has thread 0, with all threads below it, do the job in this packet. The packet is then its reply.
-    pub fn work<G: Gate>(&mut self, _gate: &G, _packet: &mut Packet)
-        requires valid { IsValidCode (code_in self.old) }
-        requires rest { AllRest self.old }
-        requires job { (t : PlainThread) → Sits self.old 0 t → CanBegin t _packet.old.kind }
-        requires is { (job : Job) × IsJob (plain_packet _packet.old) job }
-        requires room { HasRoom (of_shape (code_in self.old).shape) 0 (plain_packet _packet.old) }
-        requires small { _packet.old.allowance ≤ MAX_BUDGET }
-        ensures code { self.new.code ≡ self.old.code }
-        ensures rest { AllRest self.new }
-        ensures room { HasRoom (of_shape (code_in self.old).shape) 0 (plain_packet _packet.new) }
-        ensures kind { (t : PlainThread) → Sits self.new 0 t → Replies_by t _packet.new.kind }
-        ensures replied { HasRepliedTo self.old self.new (plain_packet _packet.old) (plain_packet _packet.new) }
+    /// Gives the k-th branch of the thread's fork its job, and runs it until it has its reply.
+    #[inline(always)]
+    #[cycle(finish)]
+    fn call_branch<G: Gate>(&mut self, gate: &G, thread: &Thread, k: usize, branch: u32)
+        requires fitted { IsFitted self.old }
+        requires loaded { Loaded (code_in self.old) thread.now }
+        requires fork { HasSettled thread.now 0 }
+        requires branch { slice_get thread.now.branches.numbers k ≡ Some branch }
+        requires job { (book : Book) × CanCall self.old thread.now k branch book }
+        ensures leaves { Leaves branch self.old self.new }
+        ensures called { HasCalled self.old self.new thread.now k branch }
     {
-        unreachable!()
+        let Some(mut seated) = self.seats[branch as usize].take() else {
+            unreachable!()
+        };
+        let called: &mut Thread = &mut seated;
+        call_branch(thread, self.code, k, called);
+        gate.pass(self.core, branch, Point::Begun);
+        self.finish(gate, called);
+        self.seats[branch as usize] = Some(seated);
+        gate.pass(self.core, branch, Point::Answered);
+    }
+
+    /// Has the branches of the thread's fork do their jobs, one after the other.
+    #[cycle(finish)]
+    fn call_branches<G: Gate>(&mut self, gate: &G, thread: &Thread)
+        requires fitted { IsFitted self.old }
+        requires fork { IsForked (code_in self.old) thread.now }
+        requires jobs { (book : Book) × CanTell self.old thread.now book }
+        ensures called { Consulted self.old self.new thread.now (length thread.now.branches.numbers) }
+    {
+        let mut k = 0;
+        while let Some(branch) = thread.active(self.code, k) {
+            self.call_branch(gate, thread, k, branch);
+            k += 1;
+        }
+    }
+
+    /// Settles the replies of the thread's branches.
+    #[inline(always)]
+    fn settle(&self, thread: &mut Thread)
+        requires loaded { Loaded (code_in self.now) thread.old }
+        requires fork { HasSettled thread.old 0 }
+        requires few { length thread.old.branches.numbers ≤ MAX_THREADS }
+        requires heard { (rs : List Reply) × HaveHeard self.now thread.old.branches.numbers rs }
+        ensures loaded { Loaded (code_in self.now) thread.new }
+        ensures number { thread.new.number ≡ thread.old.number }
+        ensures branches { thread.new.branches.numbers ≡ thread.old.branches.numbers }
+        ensures order { HasJoined thread.new 0 }
+        ensures stands { SettlesReplies self.now thread.old thread.new }
+    {
+        let mut k = 0;
+        while let Some(branch) = thread.active(self.code, k) {
+            let Some(called) = &self.seats[branch as usize] else {
+                unreachable!()
+            };
+            settle_call(thread, self.code, k, called);
+            k += 1;
+        }
+    }
+
+    /// Joins the thread's branches.
+    fn join(&self, thread: &mut Thread)
+        requires loaded { Loaded (code_in self.now) thread.old }
+        requires some { 0 < length thread.old.branches.numbers }
+        requires few { length thread.old.branches.numbers ≤ MAX_THREADS }
+        requires order { HasJoined thread.old 0 }
+        requires heard { (rs : List Reply) × HaveHeard self.now thread.old.branches.numbers rs }
+        ensures loaded { Loaded (code_in self.now) thread.new }
+        ensures number { thread.new.number ≡ thread.old.number }
+        ensures running { CanRun thread.new }
+        ensures stands { JoinsReplies self.now thread.old thread.new }
+    {
+        let mut k = 0;
+        while let Some(branch) = thread.active(self.code, k) {
+            let Some(called) = &self.seats[branch as usize] else {
+                unreachable!()
+            };
+            join_call(thread, self.code, k, called);
+            k += 1;
+        }
+    }
+
+    /// Runs a thread that has begun a job until it has its reply.
+    #[cycle(finish)]
+    pub fn finish<G: Gate>(&mut self, gate: &G, thread: &mut Thread)
+        requires fitted { IsFitted self.old }
+        requires loaded { Loaded (code_in self.old) thread.old }
+        requires running { CanRun thread.old }
+        requires begun { HasBegun self.old thread.old }
+        ensures loaded { Loaded (code_in self.old) thread.new }
+        ensures number { thread.new.number ≡ thread.old.number }
+        ensures reply { HasReply thread.new }
+        ensures leaves { Leaves thread.old.number self.old self.new }
+        ensures done { StaysAtWork self.old thread.old self.new thread.new }
+    {
+        // For the proof alone, which counts the forks down.
+        let mut forks: u128 = 0;
+        while let Event::Fork = thread.run(self.code) {
+            self.call_branches(gate, thread);
+            self.settle(thread);
+            self.join(thread);
+            forks += 1;
+        }
+    }
+
+    /// Has thread 0, with all threads below it, do the job in this packet. The packet is then its reply.
+    pub fn work<G: Gate>(&mut self, gate: &G, packet: &mut Packet)
+        requires fitted { IsFitted self.old }
+        requires worked { (jobs : List Job) × HasWorked self.old jobs }
+        requires job { (t : PlainThread) → Sits self.old 0 t → CanBegin t packet.old.kind }
+        requires is { (job : Job) × IsJob (plain_packet packet.old) job }
+        requires room { HasRoom (of_shape (code_in self.old).shape) 0 (plain_packet packet.old) }
+        requires small { packet.old.allowance ≤ MAX_BUDGET }
+        ensures fitted { IsFitted self.new }
+        ensures code { self.new.code ≡ self.old.code }
+        ensures room { HasRoom (of_shape (code_in self.old).shape) 0 (plain_packet packet.new) }
+        ensures kind { (t : PlainThread) → Sits self.new 0 t → Replies_by t packet.new.kind }
+        ensures replied { HasRepliedTo self.old self.new (plain_packet packet.old) (plain_packet packet.new) }
+    {
+        let Some(mut seated) = self.seats[0].take() else {
+            unreachable!()
+        };
+        let thread: &mut Thread = &mut seated;
+        thread.begin(self.code, packet);
+        self.finish(gate, thread);
+        thread.reply(self.code, packet);
+        self.seats[0] = Some(seated);
     }
 }

@@ -1,4 +1,4 @@
-//! All threads of a code on one core: a thread at a fork calls its branches, and there are no mailboxes.
+//! How all threads of a code run on one core, by plain calls, without mailboxes.
 #![tactic(auto)]
 
 mod calls;
@@ -6,5 +6,6 @@ mod job;
 mod load;
 mod outcome;
 mod single;
+mod stub;
 
 pub use single::OneCore;

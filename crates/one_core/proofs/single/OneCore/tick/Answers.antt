@@ -12,7 +12,6 @@ use Rattle.core_host.specs.Jobs.{job_of}
 use Rattle.core_host.specs.Outcomes.{HasOutputs}
 use Rattle.one_core.specs.Seats.{Seated, code_in}
 use Rattle.one_core.specs.Single.{Single, single, code_of, HasTicked, HasRun}
-use Rattle.one_core.proofs.Sitting.{the_root}
 use Rattle.one_core.proofs.TickRun.{is_between, can_begin, it_replied, now_single, told_now, ticked_now}
 use Rattle.one_core.proofs.single.OneCore.tick.Goals as goal
 
@@ -26,7 +25,7 @@ work-requires-clause-job g c t sits =
 
 pub write_outcome-outcome-requires-clause-replied : goal.write_outcome-outcome-requires-clause-replied
 write_outcome-outcome-requires-clause-replied g c =
-    it_replied c.work.new.self c.work.new.packet (the_root c.work.new.self (search rules) c.work.ensures.rest) c.work.ensures.kind
+    it_replied (single c.self.inside.calls c.self.inside.root c.self.inside.live) c.self.invariant c.work.new.self c.write_job.new.packet c.work.new.packet _ c.write_job.ensures.job c.work.ensures.replied c.work.ensures.kind
 
 pub invariant_of-self : goal.invariant_of-self
 invariant_of-self g c =
@@ -34,7 +33,7 @@ invariant_of-self g c =
     let live : c.match-matches.live ≡ goes_on c.write_outcome-outcome.result = search rules in
     now_single c.self.inside.calls c.work.new.self c.self.inside.root c.work.new.packet c.write_job.new.packet c.self.inside.live c.match-matches.live c.self.invariant (ap (λ (o : Single). o.live) c.self.view_is ∙ c.requires.live) c.args.row.now c.args.budget
     (subst (λ s. IsJob (plain_packet c.write_job.new.packet) (job_of s c.self.inside.root c.args.row.now c.args.budget)) shape c.write_job.ensures.job)
-    c.work.ensures.code c.work.ensures.rest c.work.ensures.room c.work.ensures.kind c.work.ensures.replied c.write_outcome-outcome.result c.write_outcome-outcome.ensures.outcome live
+    c.work.ensures.code c.work.ensures.fitted c.work.ensures.room c.work.ensures.kind c.work.ensures.replied c.write_outcome-outcome.result c.write_outcome-outcome.ensures.outcome live
 
 pub returns-clause-turns : goal.returns-clause-turns
 unfolding HasRun
@@ -45,7 +44,7 @@ returns-clause-turns g c turns run k fine stands =
     let before = subst (λ o. HasTicked o k turns) (sym c.self.view_is) (run k fine (subst (λ (o : Single). Stands (code_of o) k) c.self.view_is here)) in
     ticked_now c.self.inside.calls c.work.new.self c.self.inside.root c.work.new.packet c.write_job.new.packet c.self.inside.live c.match-matches.live c.self.invariant (ap (λ (o : Single). o.live) c.self.view_is ∙ c.requires.live) c.args.row.now c.args.budget
     (subst (λ s. IsJob (plain_packet c.write_job.new.packet) (job_of s c.self.inside.root c.args.row.now c.args.budget)) shape c.write_job.ensures.job)
-    c.work.ensures.code c.work.ensures.rest c.work.ensures.room c.work.ensures.kind c.work.ensures.replied c.write_outcome-outcome.result c.write_outcome-outcome.ensures.outcome live k turns fine here before
+    c.work.ensures.code c.work.ensures.fitted c.work.ensures.room c.work.ensures.kind c.work.ensures.replied c.write_outcome-outcome.result c.write_outcome-outcome.ensures.outcome live k turns fine here before
 
 pub returns-clause-outcome : goal.returns-clause-outcome
 unfolding HasRun
@@ -56,7 +55,7 @@ returns-clause-outcome g c k turns fine stands run =
     let before = subst (λ o. HasTicked o k turns) (sym c.self.view_is) (run k fine stands) in
     c.write_outcome-outcome.ensures.outcome ∙ (told_now c.self.inside.calls c.work.new.self c.self.inside.root c.work.new.packet c.write_job.new.packet c.self.inside.live c.match-matches.live c.self.invariant (ap (λ (o : Single). o.live) c.self.view_is ∙ c.requires.live) c.args.row.now c.args.budget
     (subst (λ s. IsJob (plain_packet c.write_job.new.packet) (job_of s c.self.inside.root c.args.row.now c.args.budget)) shape c.write_job.ensures.job)
-    c.work.ensures.code c.work.ensures.rest c.work.ensures.room c.work.ensures.kind c.work.ensures.replied c.write_outcome-outcome.result c.write_outcome-outcome.ensures.outcome live k turns fine here before).outcome
+    c.work.ensures.code c.work.ensures.fitted c.work.ensures.room c.work.ensures.kind c.work.ensures.replied c.write_outcome-outcome.result c.write_outcome-outcome.ensures.outcome live k turns fine here before).outcome
 
 pub returns-clause-outputs : goal.returns-clause-outputs
 unfolding HasRun
@@ -71,4 +70,4 @@ returns-clause-outputs g c k turns fine stands run has =
     ∙ ap (λ (s : PlainShape). values_of (uses_in s.threads 0) copies s.outputs) shape2
     ∙ (told_now c.self.inside.calls c.work.new.self c.self.inside.root c.work.new.packet c.write_job.new.packet c.self.inside.live c.match-matches.live c.self.invariant (ap (λ (o : Single). o.live) c.self.view_is ∙ c.requires.live) c.args.row.now c.args.budget
     (subst (λ s. IsJob (plain_packet c.write_job.new.packet) (job_of s c.self.inside.root c.args.row.now c.args.budget)) shape c.write_job.ensures.job)
-    c.work.ensures.code c.work.ensures.rest c.work.ensures.room c.work.ensures.kind c.work.ensures.replied c.write_outcome-outcome.result c.write_outcome-outcome.ensures.outcome live k turns fine here before).outputs (subst HasOutputs c.write_outcome-outcome.ensures.outcome has)
+    c.work.ensures.code c.work.ensures.fitted c.work.ensures.room c.work.ensures.kind c.work.ensures.replied c.write_outcome-outcome.result c.write_outcome-outcome.ensures.outcome live k turns fine here before).outputs (subst HasOutputs c.write_outcome-outcome.ensures.outcome has)

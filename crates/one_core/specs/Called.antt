@@ -1,0 +1,110 @@
+-- A thread at a fork calls its branches.
+use Rattle.std.specs.Prelude.{ℕ, suc, ◌≡◌, ◌<◌, ◌≤◌, Some, List, ◌∷◌, [], ◌++◌, map, length, slice_get}
+use Rattle.forec_base.specs.declared.limits.TheConstants.{MAX_THREADS}
+use Rattle.forec_kernel.specs.declared.shape.VarCopy.{VarCopy}
+use Rattle.forec_kernel.specs.Engine.{Job, Start, Wake, Reply, WasPaused, Written, Answered, Exchange, pair_up, Answers}
+use Rattle.thread_code.specs.Plain.{PlainCode}
+use Rattle.thread_code.specs.Alone.{CodeAlone}
+use Rattle.core_machine.specs.declared.thread.Thread.{Thread}
+use Rattle.core_machine.specs.Threads.{Loaded, HasSettled, HasReply, StandsFor}
+use Rattle.core_machine.specs.Forks.{jobs_at, with_replies}
+use Rattle.core_host.specs.Posts.{IsBranchOf}
+use Rattle.one_core.specs.Seats.{Seated, code_in, Sits, Leaves}
+use Rattle.one_core.specs.Told.{Book, tell, HasTold, Keeps}
+use Rattle.one_core.specs.Resting.{RestAbove}
+use Rattle.one_core.specs.Stub.{RepliesBy}
+
+-- thread t answered the last of what it was told by Paused
+pub record IsAsleep (c : PlainCode) (t : ℕ) (jobs : List Job) : Type 0 where
+  pub copies : List VarCopy
+  pub units : ℕ
+  pub answers : Answers (CodeAlone c) (length c.threads) t jobs (WasPaused copies units)
+
+-- a Wake comes only after that
+abbrev pub MayTell : PlainCode → Book → ℕ → Job → Type 0
+MayTell c book t (Start args values a) = Unit {0}
+MayTell c book t (Wake values a) = IsAsleep c t (book t)
+
+-- this job is for a branch of thread t, and it may be told
+pub record IsJobFor (c : PlainCode) (book : Book) (t : ℕ) (w : Written) : Type 0 where
+  pub place : ℕ
+  pub branch : w.branch ≡ suc place
+  pub mine : IsBranchOf c.shape t place
+  pub inside : w.branch < length c.threads
+  pub above : t < w.branch
+  pub may : MayTell c book w.branch w.job
+
+-- the fork of a thread
+pub record IsForked (c : PlainCode) (h : Thread) : Type 0 where
+  pub loaded : Loaded c h
+  pub settled : HasSettled h 0
+  pub few : length h.branches.numbers ≤ MAX_THREADS
+  pub numbers : h.branches.numbers ≡ map (λ w. w.branch) (jobs_at c h)
+  pub order : (i j : ℕ) (v w : Written) → i < j → slice_get (jobs_at c h) i ≡ Some v → slice_get (jobs_at c h) j ≡ Some w → v.branch < w.branch
+
+-- each of its jobs may be told, and all threads above it rest
+pub record CanTell (s : Seated) (h : Thread) (book : Book) : Type 0 where
+  pub above : RestAbove s book h.number
+  pub each : (i : ℕ) (w : Written) → slice_get (jobs_at (code_in s) h) i ≡ Some w → IsJobFor (code_in s) book h.number w
+
+-- the k-th of its branches may be told its job, and all threads above rest
+pub record CanCall (s : Seated) (h : Thread) (k branch : ℕ) (book : Book) : Type 0 where
+  pub above : RestAbove s book h.number
+  pub job : Written
+  pub at : slice_get (jobs_at (code_in s) h) k ≡ Some job
+  pub number : job.branch ≡ branch
+  pub is : IsJobFor (code_in s) book h.number job
+
+-- this branch has this reply
+pub record HasHeard (s : Seated) (branch : ℕ) (r : Reply) : Type 0 where
+  pub thread : Thread
+  pub sits : Sits s branch thread
+  pub replied : HasReply thread
+  pub reply : RepliesBy thread r
+
+-- the branch was told the job, and answers by this reply
+pub record WasCalled (a b : Seated) (h : Thread) (book : Book) (w : Written) (r : Reply) : Type 0 where
+  pub after : Book
+  pub above : RestAbove b after h.number
+  pub told : after w.branch ≡ book w.branch ++ w.job ∷ []
+  pub answers : Answers (CodeAlone (code_in a)) (length (code_in a).threads) w.branch (after w.branch) r
+  pub keeps : Keeps (code_in a) h.number book after
+  pub others : (k : ℕ) → IsBranchOf (code_in a).shape h.number k → (suc k ≡ w.branch → ⊥) → after (suc k) ≡ book (suc k)
+
+-- the k-th branch has replied
+pub record HasCalled (a b : Seated) (h : Thread) (k branch : ℕ) : Type 0 where
+  pub reply : Reply
+  pub heard : HasHeard b branch reply
+  pub called : (book : Book) (can : CanCall a h k branch book) → WasCalled a b h book can.job reply
+
+-- each of these branches has its reply
+pub record HaveHeard (s : Seated) (branches : List ℕ) (rs : List Reply) : Type 0 where
+  pub count : length rs ≡ length branches
+  pub each : (i b : ℕ) (r : Reply) → slice_get branches i ≡ Some b → slice_get rs i ≡ Some r → HasHeard s b r
+
+-- the first k branches were called: they have these replies, and were told this fork's jobs
+pub record HaveCalled (a b : Seated) (h : Thread) (k : ℕ) (book : Book) (rs : List Reply) : Type 0 where
+  pub after : Book
+  pub above : RestAbove b after h.number
+  pub keeps : Keeps (code_in a) h.number book after
+  pub told : (pairs : List Answered) → HasTold (code_in a) h.number book pairs → HasTold (code_in a) h.number after (pairs ++ pair_up (jobs_at (code_in a) h) rs)
+  pub rest : (i : ℕ) (w : Written) → k ≤ i → slice_get (jobs_at (code_in a) h) i ≡ Some w → IsJobFor (code_in a) after h.number w
+
+-- the replies are there, and for whatever the threads had been told it is so
+pub record Consulted (a b : Seated) (h : Thread) (k : ℕ) : Type 0 where
+  pub within : k ≤ length h.branches.numbers
+  pub leaves : Leaves h.number a b
+  pub replies : List Reply
+  pub count : length replies ≡ k
+  pub heard : (i number : ℕ) (r : Reply) → slice_get h.branches.numbers i ≡ Some number → slice_get replies i ≡ Some r → HasHeard b number r
+  pub called : (book : Book) → CanTell a h book → HaveCalled a b h k book replies
+
+-- ---- replies are settled and joined
+
+-- where the thread stood for exchanges with no replies in the last, it stands for them with those that were heard
+abbrev pub SettlesReplies : Seated → Thread → Thread → Type 0
+SettlesReplies s h h1 = (rs : List Reply) (xs : List Exchange) → HaveHeard s h.branches.numbers rs → StandsFor (code_in s) h (with_replies xs []) → StandsFor (code_in s) h1 (with_replies xs rs)
+
+-- where it stood for them with these, it still does
+abbrev pub JoinsReplies : Seated → Thread → Thread → Type 0
+JoinsReplies s h h1 = (rs : List Reply) (xs : List Exchange) → HaveHeard s h.branches.numbers rs → StandsFor (code_in s) h (with_replies xs rs) → StandsFor (code_in s) h1 (with_replies xs rs)
