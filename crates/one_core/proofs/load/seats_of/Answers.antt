@@ -1,4 +1,4 @@
-use Rattle.std.proofs.Common.{◌≡◌, ◌+◌, Some, length, refl, sym, ap, ◌∙◌, subst, ⊎_elim}
+use Rattle.std.proofs.Common.{◌+◌, Some, length, sym, ap, ◌∙◌, subst, ⊎_elim}
 use Rattle.std.specs.Prelude.{slice_get}
 use Rattle.thread_code.specs.Plain.{plain_code}
 use Rattle.core_host.proofs.LoadLemmas.{get_then, length_then}
