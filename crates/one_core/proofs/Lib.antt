@@ -1,2 +1,11 @@
-pub mod Newly
-pub mod TickRun
+mod Mailed
+mod TellLemmas
+mod JobLemmas
+mod StubLemmas
+mod CallLemmas
+mod ConsultLemmas
+mod HearingLemmas
+mod FinishLemmas
+mod RootLemmas
+mod Newly
+mod TickRun

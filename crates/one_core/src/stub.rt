@@ -24,7 +24,6 @@ pub fn call_branch(thread: &Thread, code: &Code, k: usize, branch: &mut Thread)
     ensures stands { (w : Written) (xs : List Exchange) → slice_get (jobs_at (plain_code code.now) thread.now) k ≡ Some w
         → StandsFor (plain_code code.now) branch.old xs → StandsFor (plain_code code.now) branch.new (xs ++ record { job = w.job; replies = [] } ∷ []) }
 {
-    let _ = (thread, code, k, branch);
     unreachable!()
 }
 
@@ -41,7 +40,6 @@ pub fn settle_call(thread: &mut Thread, code: &Code, k: usize, branch: &Thread)
     ensures stands { (xs : List Exchange) (rs : List Reply) (r : Reply) → length rs ≡ k → RepliesBy branch.now r
         → StandsFor (plain_code code.now) thread.old (with_replies xs rs) → StandsFor (plain_code code.now) thread.new (with_replies xs (rs ++ r ∷ [])) }
 {
-    let _ = (thread, code, k, branch);
     unreachable!()
 }
 
@@ -62,6 +60,5 @@ pub fn join_call(thread: &mut Thread, code: &Code, k: usize, branch: &Thread)
         → RepliesBy branch.now r → StandsFor (plain_code code.now) thread.old (with_replies xs rs)
         → StandsFor (plain_code code.now) thread.new (with_replies xs rs) }
 {
-    let _ = (thread, code, k, branch);
     unreachable!()
 }

@@ -1,0 +1,228 @@
+use Rattle.std.proofs.Common.{rules, ◌≡◌, ◌≤◌, ◌^◌, ◌<◌, ◌+◌, ◌-◌, ◌*◌, Some, None, List, length, map, refl, sym, ap, ◌∙◌, subst, arith}
+use Rattle.std.specs.Prelude.{slice_set}
+use Rattle.std.proofs.lemmas.Option.{slice_get_within}
+use Rattle.std.proofs.Math.Facts.{Fits-of_lt}
+use Rattle.forec_kernel.specs.Engine.{Exchange}
+use Rattle.thread_code.specs.declared.instruction.CodeParts.{CodeParts}
+use Rattle.thread_code.specs.Plain.{plain_code}
+use Rattle.thread_code.specs.Alone.{block_of}
+use Rattle.core_machine.specs.declared.thread.Thread.{Thread}
+use Rattle.core_machine.specs.Threads.{Loaded, StandsFor, Left_by, HasSettled}
+use Rattle.core_machine.specs.Forks.{jobs_at, with_replies}
+use Rattle.core_host.proofs.Hearing.{past_end}
+use Rattle.core_host.proofs.Finishing.{fits_forks, replied_by}
+use Rattle.one_core.specs.Seats.{Seated, code_in, IsFitted, Leaves}
+use Rattle.one_core.specs.Told.{Book}
+use Rattle.one_core.specs.Called.{IsForked, CanTell, CanCall, HasCalled, Consulted, HaveHeard}
+use Rattle.one_core.proofs.TellLemmas.{fitted_keeps, leaves_same, leaves_then}
+use Rattle.one_core.proofs.JobLemmas.{allowance_is}
+use Rattle.one_core.proofs.CallLemmas.{seated, fitted_set, in_branches, not_empty, child_loaded, child_at, child_rests, child_takes, number_is, has_begun, has_left, has_called}
+use Rattle.one_core.proofs.ConsultLemmas.{consulted_none, some_call, consulted_more, have_heard}
+use Rattle.one_core.proofs.FinishLemmas.{begun_works, begun_allowance, going_none, stays, its_fork, can_tell, some_branch, its_bound, goes_on}
+use Rattle.one_core.proofs.calls.Calls.+finish.Goals as goal
+
+-- ---- call_branches
+
+pub call_branches-loop-branch-init : goal.call_branches-loop-branch-init
+call_branches-loop-branch-init g t c = consulted_none c.args.self.now c.args.thread.now
+
+pub call_branches-loop-branch-smaller : goal.call_branches-loop-branch-smaller
+call_branches-loop-branch-smaller g t c =
+    let lt = slice_get_within c.args.thread.now.branches.numbers c.loop-branch.k c.in-Some.branch (sym c.active.ensures ∙ c.in-Some.is) in omega (arith, lt)
+
+pub call_branches-loop-branch-preserved : goal.call_branches-loop-branch-preserved
+call_branches-loop-branch-preserved g t c =
+    consulted_more c.args.self.now c.loop-branch.self c.args.thread.now c.loop-branch.k c.in-Some.branch c.requires.fork c.loop-branch.invariant (sym c.active.ensures ∙ c.in-Some.is)
+    c.requires.jobs c.call_branch.new.self c.call_branch.ensures.leaves c.call_branch.ensures.called
+
+pub call_branches-returns : goal.call_branches-returns
+call_branches-returns g t c =
+    let past = past_end c.args.thread.now.branches.numbers c.loop-branch.k (sym c.active.ensures ∙ c.in_default.is) in
+    let within = c.loop-branch.invariant.within in
+    let same : c.loop-branch.k ≡ length c.args.thread.now.branches.numbers = omega (arith, past, within) in
+    record { called = subst (Consulted c.args.self.now c.loop-branch.self c.args.thread.now) same c.loop-branch.invariant }
+
+-- ---- finish
+
+pub finish-loop-self-init : goal.finish-loop-self-init
+finish-loop-self-init g t c =
+    record {
+      loaded = c.requires.loaded;
+      number = refl;
+      running = c.requires.running;
+      leaves = leaves_same c.args.thread.now.number c.args.self.now;
+      at = going_none c.args.self.now c.args.thread.now;
+    }
+
+pub finish-call_branches-requires : goal.finish-call_branches-requires
+finish-call_branches-requires g t c κs within =
+    let code : c.self.inside.code.now ≡ c.args.self.now.code = ap (λ (s : Seated). s.code) c.self.view_is ∙ c.loop-self.invariant.leaves.code in
+    let loaded = subst (λ (x : CodeParts). Loaded (plain_code x) c.run.new.self) code c.run.ensures.loaded in
+    let stands : (xs : List Exchange) → StandsFor (code_in c.args.self.now) c.loop-self.thread xs → StandsFor (code_in c.args.self.now) c.run.new.self xs = λ xs st. subst (λ (x : CodeParts). StandsFor (plain_code x) c.run.new.self xs) code (c.run.ensures.stands xs (subst (λ (x : CodeParts). StandsFor (plain_code x) c.loop-self.thread xs) (sym code) st)) in
+    let settled = subst (λ e. Left_by c.run.new.self e) c.in-Fork.is c.run.ensures.left in
+    let numbers = subst (λ (x : CodeParts). c.run.new.self.branches.numbers ≡ map (λ w. w.branch) (jobs_at (plain_code x) c.run.new.self)) code (c.run.ensures.branches c.in-Fork.is) in
+    let w = begun_works c.args.self.now c.args.thread.now c.requires.begun in
+    let going = c.loop-self.invariant.at c.requires.begun.book c.requires.begun.jobs c.requires.begun.job w in
+    let fork = its_fork c.args.self.now c.loop-self.self c.args.thread.now c.loop-self.thread c.run.new.self c.loop-self.invariant.number c.run.ensures.number stands c.loop-self.forks c.requires.begun.book c.requires.begun.jobs c.requires.begun.job w going
+    c.requires.fitted c.loop-self.invariant.leaves loaded settled numbers in
+    let tell = can_tell c.args.self.now c.loop-self.self c.args.thread.now c.loop-self.thread c.run.new.self c.loop-self.invariant.number c.run.ensures.number stands c.loop-self.forks c.requires.begun.book c.requires.begun.jobs c.requires.begun.job w going
+    c.requires.fitted c.loop-self.invariant.leaves loaded settled numbers in
+    let fitted = fitted_keeps c.args.thread.now.number c.args.self.now c.loop-self.self c.loop-self.invariant.leaves c.requires.fitted in
+    let number = c.run.ensures.number ∙ c.loop-self.invariant.number in
+    let smaller : 3 * (257 - c.run.new.self.number) + 1 < 3 * (257 - c.args.thread.now.number) + 2 = omega (arith, number) in
+    (search rules, (within.0, (within.1, (fitted, (fork, (going.after, tell))))))
+
+pub finish-join-requires-clause-some : goal.finish-join-requires-clause-some
+finish-join-requires-clause-some g t c =
+    let code : c.self.inside.code.now ≡ c.args.self.now.code = ap (λ (s : Seated). s.code) c.self.view_is ∙ c.loop-self.invariant.leaves.code in
+    let loaded = subst (λ (x : CodeParts). Loaded (plain_code x) c.run.new.self) code c.run.ensures.loaded in
+    let stands : (xs : List Exchange) → StandsFor (code_in c.args.self.now) c.loop-self.thread xs → StandsFor (code_in c.args.self.now) c.run.new.self xs = λ xs st. subst (λ (x : CodeParts). StandsFor (plain_code x) c.run.new.self xs) code (c.run.ensures.stands xs (subst (λ (x : CodeParts). StandsFor (plain_code x) c.loop-self.thread xs) (sym code) st)) in
+    let settled = subst (λ e. Left_by c.run.new.self e) c.in-Fork.is c.run.ensures.left in
+    let numbers = subst (λ (x : CodeParts). c.run.new.self.branches.numbers ≡ map (λ w. w.branch) (jobs_at (plain_code x) c.run.new.self)) code (c.run.ensures.branches c.in-Fork.is) in
+    let w = begun_works c.args.self.now c.args.thread.now c.requires.begun in
+    let going = c.loop-self.invariant.at c.requires.begun.book c.requires.begun.jobs c.requires.begun.job w in
+    subst (λ l. 0 < length l) (sym c.settle.ensures.branches)
+    (some_branch c.args.self.now c.loop-self.self c.args.thread.now c.loop-self.thread c.run.new.self c.loop-self.invariant.number c.run.ensures.number stands c.loop-self.forks c.requires.begun.book c.requires.begun.jobs c.requires.begun.job w going
+    c.requires.fitted c.loop-self.invariant.leaves loaded settled numbers)
+
+pub finish-overflow_add-forks : goal.finish-overflow_add-forks
+finish-overflow_add-forks g t c =
+    let code : c.self.inside.code.now ≡ c.args.self.now.code = ap (λ (s : Seated). s.code) c.self.view_is ∙ c.loop-self.invariant.leaves.code in
+    let loaded = subst (λ (x : CodeParts). Loaded (plain_code x) c.run.new.self) code c.run.ensures.loaded in
+    let stands : (xs : List Exchange) → StandsFor (code_in c.args.self.now) c.loop-self.thread xs → StandsFor (code_in c.args.self.now) c.run.new.self xs = λ xs st. subst (λ (x : CodeParts). StandsFor (plain_code x) c.run.new.self xs) code (c.run.ensures.stands xs (subst (λ (x : CodeParts). StandsFor (plain_code x) c.loop-self.thread xs) (sym code) st)) in
+    let settled = subst (λ e. Left_by c.run.new.self e) c.in-Fork.is c.run.ensures.left in
+    let numbers = subst (λ (x : CodeParts). c.run.new.self.branches.numbers ≡ map (λ w. w.branch) (jobs_at (plain_code x) c.run.new.self)) code (c.run.ensures.branches c.in-Fork.is) in
+    let w = begun_works c.args.self.now c.args.thread.now c.requires.begun in
+    let going = c.loop-self.invariant.at c.requires.begun.book c.requires.begun.jobs c.requires.begun.job w in
+    let b = its_bound c.args.self.now c.loop-self.self c.args.thread.now c.loop-self.thread c.run.new.self c.loop-self.invariant.number c.run.ensures.number stands c.loop-self.forks c.requires.begun.book c.requires.begun.jobs c.requires.begun.job w going
+    c.requires.fitted c.loop-self.invariant.leaves loaded settled numbers (begun_allowance c.args.self.now c.args.thread.now c.requires.begun) c.requires.begun.first in
+    let short = c.requires.loaded.short None in
+    Fits-of_lt (fits_forks c.loop-self.forks (length (block_of (code_in c.args.self.now) c.args.thread.now.number).steps) c.args.thread.now.allowance b short c.requires.loaded.small)
+
+pub finish-loop-self-smaller : goal.finish-loop-self-smaller
+finish-loop-self-smaller g t c =
+    let code : c.self.inside.code.now ≡ c.args.self.now.code = ap (λ (s : Seated). s.code) c.self.view_is ∙ c.loop-self.invariant.leaves.code in
+    let loaded = subst (λ (x : CodeParts). Loaded (plain_code x) c.run.new.self) code c.run.ensures.loaded in
+    let stands : (xs : List Exchange) → StandsFor (code_in c.args.self.now) c.loop-self.thread xs → StandsFor (code_in c.args.self.now) c.run.new.self xs = λ xs st. subst (λ (x : CodeParts). StandsFor (plain_code x) c.run.new.self xs) code (c.run.ensures.stands xs (subst (λ (x : CodeParts). StandsFor (plain_code x) c.loop-self.thread xs) (sym code) st)) in
+    let settled = subst (λ e. Left_by c.run.new.self e) c.in-Fork.is c.run.ensures.left in
+    let numbers = subst (λ (x : CodeParts). c.run.new.self.branches.numbers ≡ map (λ w. w.branch) (jobs_at (plain_code x) c.run.new.self)) code (c.run.ensures.branches c.in-Fork.is) in
+    let w = begun_works c.args.self.now c.args.thread.now c.requires.begun in
+    let going = c.loop-self.invariant.at c.requires.begun.book c.requires.begun.jobs c.requires.begun.job w in
+    let b = its_bound c.args.self.now c.loop-self.self c.args.thread.now c.loop-self.thread c.run.new.self c.loop-self.invariant.number c.run.ensures.number stands c.loop-self.forks c.requires.begun.book c.requires.begun.jobs c.requires.begun.job w going
+    c.requires.fitted c.loop-self.invariant.leaves loaded settled numbers (begun_allowance c.args.self.now c.args.thread.now c.requires.begun) c.requires.begun.first in
+    omega (arith, b)
+
+pub finish-loop-self-preserved : goal.finish-loop-self-preserved
+finish-loop-self-preserved g t c =
+    let code : c.self.inside.code.now ≡ c.args.self.now.code = ap (λ (s : Seated). s.code) c.self.view_is ∙ c.loop-self.invariant.leaves.code in
+    let loaded = subst (λ (x : CodeParts). Loaded (plain_code x) c.run.new.self) code c.run.ensures.loaded in
+    let stands : (xs : List Exchange) → StandsFor (code_in c.args.self.now) c.loop-self.thread xs → StandsFor (code_in c.args.self.now) c.run.new.self xs = λ xs st. subst (λ (x : CodeParts). StandsFor (plain_code x) c.run.new.self xs) code (c.run.ensures.stands xs (subst (λ (x : CodeParts). StandsFor (plain_code x) c.loop-self.thread xs) (sym code) st)) in
+    let settled = subst (λ e. Left_by c.run.new.self e) c.in-Fork.is c.run.ensures.left in
+    let numbers = subst (λ (x : CodeParts). c.run.new.self.branches.numbers ≡ map (λ w. w.branch) (jobs_at (plain_code x) c.run.new.self)) code (c.run.ensures.branches c.in-Fork.is) in
+    let number = c.run.ensures.number ∙ c.loop-self.invariant.number in
+    let done = c.call_branches.ensures in
+    let le : length c.run.new.self.branches.numbers ≤ length c.run.new.self.branches.numbers = omega arith in
+    let all = have_heard c.loop-self.self c.call_branches.new.self c.run.new.self (length c.run.new.self.branches.numbers) done le in
+    let there = done.leaves.code ∙ c.loop-self.invariant.leaves.code in
+    record {
+      loaded = subst (λ (x : CodeParts). Loaded (plain_code x) c.join.new.thread) there c.join.ensures.loaded;
+      number = c.join.ensures.number ∙ c.settle.ensures.number ∙ number;
+      running = c.join.ensures.running;
+      leaves = leaves_then c.args.thread.now.number c.run.new.self.number c.args.self.now c.loop-self.self c.call_branches.new.self (omega (arith, number)) c.loop-self.invariant.leaves done.leaves;
+      at = λ book jobs job w.
+          goes_on c.args.self.now c.loop-self.self c.args.thread.now c.loop-self.thread c.run.new.self c.loop-self.invariant.number c.run.ensures.number stands c.loop-self.forks book jobs job w (c.loop-self.invariant.at book jobs job w)
+          c.requires.fitted c.loop-self.invariant.leaves loaded settled numbers c.call_branches.new.self done c.settle.new.thread c.join.new.thread c.settle.ensures.number c.join.ensures.number
+          (λ xs st. c.settle.ensures.stands done.replies xs all st)
+          (λ xs st. c.join.ensures.stands done.replies xs (subst (λ l. HaveHeard c.call_branches.new.self l done.replies) (sym c.settle.ensures.branches) all) st);
+    }
+
+pub finish-returns : goal.finish-returns
+finish-returns g t c =
+    let code : c.self.inside.code.now ≡ c.args.self.now.code = ap (λ (s : Seated). s.code) c.self.view_is ∙ c.loop-self.invariant.leaves.code in
+    let stands : (xs : List Exchange) → StandsFor (code_in c.args.self.now) c.loop-self.thread xs → StandsFor (code_in c.args.self.now) c.run.new.self xs = λ xs st. subst (λ (x : CodeParts). StandsFor (plain_code x) c.run.new.self xs) code (c.run.ensures.stands xs (subst (λ (x : CodeParts). StandsFor (plain_code x) c.loop-self.thread xs) (sym code) st)) in
+    record {
+      loaded = subst (λ (x : CodeParts). Loaded (plain_code x) c.run.new.self) code c.run.ensures.loaded;
+      number = c.run.ensures.number ∙ c.loop-self.invariant.number;
+      reply = replied_by c.run.new.self c.run.result c.run.ensures.left c.in_default.not-Fork;
+      leaves = c.loop-self.invariant.leaves;
+      done = λ book jobs job w.
+          stays c.args.self.now c.loop-self.self c.args.thread.now c.loop-self.thread c.run.new.self c.loop-self.invariant.number c.run.ensures.number stands c.loop-self.forks book jobs job w (c.loop-self.invariant.at book jobs job w)
+          c.loop-self.invariant.leaves.code;
+    }
+
+-- ---- call_branch
+
+pub call_branch-unreachable-requires : goal.call_branch-unreachable-requires
+call_branch-unreachable-requires g t c =
+    let some : (book : Book) × CanCall (seated c.self.inside.code.now c.self.inside.seats.items) c.args.thread.now c.args.k c.args.branch book = subst (λ s. (book : Book) × CanCall s c.args.thread.now c.args.k c.args.branch book) (sym c.self.view_is) c.requires.job in
+    not_empty c.self.inside.code.now c.self.inside.seats.items (subst IsFitted (sym c.self.view_is) c.requires.fitted) c.args.thread.now c.args.k c.args.branch c.requires.branch some.0 some.1 c.index_mut.result.now c.index_mut.ensures.value (sym c.take.ensures.value ∙ c.in_default.is)
+
+pub call_branch-call_branch-requires-clause-index : goal.call_branch-call_branch-requires-clause-index
+call_branch-call_branch-requires-clause-index g t c =
+    in_branches c.self.inside.code.now c.self.inside.seats.items (subst IsFitted (sym c.self.view_is) c.requires.fitted) c.args.thread.now c.args.k c.args.branch c.requires.branch
+
+pub call_branch-call_branch-requires-clause-branch : goal.call_branch-call_branch-requires-clause-branch
+call_branch-call_branch-requires-clause-branch g t c =
+    let some : (book : Book) × CanCall (seated c.self.inside.code.now c.self.inside.seats.items) c.args.thread.now c.args.k c.args.branch book = subst (λ s. (book : Book) × CanCall s c.args.thread.now c.args.k c.args.branch book) (sym c.self.view_is) c.requires.job in
+    child_loaded c.self.inside.code.now c.self.inside.seats.items (subst IsFitted (sym c.self.view_is) c.requires.fitted) c.args.thread.now c.args.k c.args.branch c.requires.branch some.0 some.1 c.index_mut.result.now c.index_mut.ensures.value
+    c.deref_mut-called.result.now (sym c.take.ensures.value ∙ c.in-Some.is ∙ ap Some (sym c.deref_mut-called.ensures.value))
+
+pub call_branch-call_branch-requires-clause-number : goal.call_branch-call_branch-requires-clause-number
+call_branch-call_branch-requires-clause-number g t c =
+    let some : (book : Book) × CanCall (seated c.self.inside.code.now c.self.inside.seats.items) c.args.thread.now c.args.k c.args.branch book = subst (λ s. (book : Book) × CanCall s c.args.thread.now c.args.k c.args.branch book) (sym c.self.view_is) c.requires.job in
+    child_at c.self.inside.code.now c.self.inside.seats.items (subst IsFitted (sym c.self.view_is) c.requires.fitted) c.args.thread.now c.args.k c.args.branch c.requires.branch some.0 some.1 c.index_mut.result.now c.index_mut.ensures.value
+    c.deref_mut-called.result.now (sym c.take.ensures.value ∙ c.in-Some.is ∙ ap Some (sym c.deref_mut-called.ensures.value))
+
+pub call_branch-call_branch-requires-clause-resting : goal.call_branch-call_branch-requires-clause-resting
+call_branch-call_branch-requires-clause-resting g t c =
+    let some : (book : Book) × CanCall (seated c.self.inside.code.now c.self.inside.seats.items) c.args.thread.now c.args.k c.args.branch book = subst (λ s. (book : Book) × CanCall s c.args.thread.now c.args.k c.args.branch book) (sym c.self.view_is) c.requires.job in
+    child_rests c.self.inside.code.now c.self.inside.seats.items (subst IsFitted (sym c.self.view_is) c.requires.fitted) c.args.thread.now c.args.k c.args.branch c.requires.branch some.0 some.1 c.index_mut.result.now c.index_mut.ensures.value
+    c.deref_mut-called.result.now (sym c.take.ensures.value ∙ c.in-Some.is ∙ ap Some (sym c.deref_mut-called.ensures.value))
+
+pub call_branch-call_branch-requires-clause-job : goal.call_branch-call_branch-requires-clause-job
+call_branch-call_branch-requires-clause-job g t c =
+    let some : (book : Book) × CanCall (seated c.self.inside.code.now c.self.inside.seats.items) c.args.thread.now c.args.k c.args.branch book = subst (λ s. (book : Book) × CanCall s c.args.thread.now c.args.k c.args.branch book) (sym c.self.view_is) c.requires.job in
+    child_takes c.self.inside.code.now c.self.inside.seats.items (subst IsFitted (sym c.self.view_is) c.requires.fitted) c.args.thread.now c.args.k c.args.branch c.requires.branch some.0 some.1 c.index_mut.result.now c.index_mut.ensures.value
+    c.deref_mut-called.result.now (sym c.take.ensures.value ∙ c.in-Some.is ∙ ap Some (sym c.deref_mut-called.ensures.value))
+
+pub call_branch-returns-clause-leaves : goal.call_branch-returns-clause-leaves
+call_branch-returns-clause-leaves g t c =
+    let some : (book : Book) × CanCall (seated c.self.inside.code.now c.self.inside.seats.items) c.args.thread.now c.args.k c.args.branch book = subst (λ s. (book : Book) × CanCall s c.args.thread.now c.args.k c.args.branch book) (sym c.self.view_is) c.requires.job in
+    subst (λ s. Leaves c.args.branch s (seated c.self-2.inside.code.now (slice_set c.self-2.inside.seats.items c.args.branch (Some c.finish.new.thread)))) c.self.view_is
+    (has_left c.self.inside.code.now c.self.inside.seats.items (subst IsFitted (sym c.self.view_is) c.requires.fitted) c.args.thread.now c.args.k c.args.branch c.requires.branch some c.index_mut.result.now c.index_mut.ensures.value c.deref_mut-called.result.now (sym c.take.ensures.value ∙ c.in-Some.is ∙ ap Some (sym c.deref_mut-called.ensures.value))
+    c.take.new.self c.call_branch.new.branch c.call_branch.ensures.number c.call_branch.ensures.stands
+    c.finish.new.self c.finish.ensures.leaves c.finish.new.thread c.finish.ensures.number c.finish.ensures.loaded c.finish.ensures.reply c.finish.ensures.done c.self-2.inside.code.now c.self-2.inside.seats.items c.self-2.view_is (Some c.finish.new.thread) refl)
+
+pub call_branch-returns-clause-called : goal.call_branch-returns-clause-called
+call_branch-returns-clause-called g t c =
+    let some : (book : Book) × CanCall (seated c.self.inside.code.now c.self.inside.seats.items) c.args.thread.now c.args.k c.args.branch book = subst (λ s. (book : Book) × CanCall s c.args.thread.now c.args.k c.args.branch book) (sym c.self.view_is) c.requires.job in
+    subst (λ s. HasCalled s (seated c.self-2.inside.code.now (slice_set c.self-2.inside.seats.items c.args.branch (Some c.finish.new.thread))) c.args.thread.now c.args.k c.args.branch) c.self.view_is
+    (has_called c.self.inside.code.now c.self.inside.seats.items (subst IsFitted (sym c.self.view_is) c.requires.fitted) c.args.thread.now c.args.k c.args.branch c.requires.branch some c.index_mut.result.now c.index_mut.ensures.value c.deref_mut-called.result.now (sym c.take.ensures.value ∙ c.in-Some.is ∙ ap Some (sym c.deref_mut-called.ensures.value))
+    c.take.new.self c.call_branch.new.branch c.call_branch.ensures.number c.call_branch.ensures.stands
+    c.finish.new.self c.finish.ensures.leaves c.finish.new.thread c.finish.ensures.number c.finish.ensures.loaded c.finish.ensures.reply c.finish.ensures.done c.self-2.inside.code.now c.self-2.inside.seats.items c.self-2.view_is (Some c.finish.new.thread) refl)
+
+pub call_branch-finish-requires : goal.call_branch-finish-requires
+call_branch-finish-requires g t c κs within =
+    let some : (book : Book) × CanCall (seated c.self.inside.code.now c.self.inside.seats.items) c.args.thread.now c.args.k c.args.branch book = subst (λ s. (book : Book) × CanCall s c.args.thread.now c.args.k c.args.branch book) (sym c.self.view_is) c.requires.job in
+    let number = number_is c.self.inside.code.now c.self.inside.seats.items (subst IsFitted (sym c.self.view_is) c.requires.fitted) c.args.thread.now c.args.k c.args.branch c.requires.branch some.0 some.1 c.index_mut.result.now c.index_mut.ensures.value
+    c.deref_mut-called.result.now (sym c.take.ensures.value ∙ c.in-Some.is ∙ ap Some (sym c.deref_mut-called.ensures.value)) c.take.new.self c.call_branch.new.branch c.call_branch.ensures.number c.call_branch.ensures.stands in
+    let begun = has_begun c.self.inside.code.now c.self.inside.seats.items (subst IsFitted (sym c.self.view_is) c.requires.fitted) c.args.thread.now c.args.k c.args.branch c.requires.branch some.0 some.1 c.index_mut.result.now c.index_mut.ensures.value
+    c.deref_mut-called.result.now (sym c.take.ensures.value ∙ c.in-Some.is ∙ ap Some (sym c.deref_mut-called.ensures.value)) c.take.new.self c.call_branch.new.branch c.call_branch.ensures.number c.call_branch.ensures.stands in
+    let fitted = fitted_set c.self.inside.code.now c.self.inside.seats.items (subst IsFitted (sym c.self.view_is) c.requires.fitted) c.args.branch c.take.new.self in
+    let smaller : 3 * (257 - c.call_branch.new.branch.number) + 2 < 3 * (257 - c.args.branch) + 3 = omega (arith, number) in
+    (search rules, (within.0, (within.1, (fitted, (c.call_branch.ensures.loaded, (c.call_branch.ensures.running, begun))))))
+
+-- ---- call_branches calls
+
+pub call_branches-call_branch-requires : goal.call_branches-call_branch-requires
+call_branches-call_branch-requires g t c κs within =
+    let at = sym c.active.ensures ∙ c.in-Some.is in
+    let some = some_call c.args.self.now c.loop-branch.self c.args.thread.now c.loop-branch.k c.in-Some.branch c.requires.fork c.loop-branch.invariant at c.requires.jobs in
+    let fitted = fitted_keeps c.args.thread.now.number c.args.self.now c.loop-branch.self c.loop-branch.invariant.leaves c.requires.fitted in
+    let loaded = subst (λ (x : CodeParts). Loaded (plain_code x) c.args.thread.now) (sym c.loop-branch.invariant.leaves.code) c.requires.fork.loaded in
+    let few = fitted.valid.shape.few_threads in
+    let same = fitted.valid.threads in
+    let lt = subst (λ n. n < length (code_in c.loop-branch.self).threads) some.1.number some.1.is.inside in
+    let above = subst (λ n. c.args.thread.now.number < n) some.1.number some.1.is.above in
+    let smaller : 3 * (257 - c.in-Some.branch) + 3 < 3 * (257 - c.args.thread.now.number) + 1 = omega (arith, few, same, lt, above) in
+    (search rules, (within, (fitted, (loaded, (c.requires.fork.settled, (at, some))))))

@@ -1,0 +1,38 @@
+use Rattle.std.proofs.Common.{◌≡◌, ◌+◌, ◌-◌, ◌*◌, List, length}
+use Rattle.forec_kernel.specs.Engine.{Job}
+use Rattle.thread_code.specs.Alone.{block_of}
+use Rattle.core_machine.specs.Threads.{Loaded, CanRun}
+use Rattle.one_core.specs.Seats.{code_in, Leaves}
+use Rattle.one_core.specs.Told.{Book}
+use Rattle.one_core.specs.Resting.{Works}
+use Rattle.one_core.specs.Called.{Consulted}
+use Rattle.one_core.proofs.FinishLemmas.{Going}
+use Rattle.one_core.proofs.calls.Calls.+finish.Given as goal
+
+abbrev pub decreases-call_branches : goal.decreases-call_branches
+decreases-call_branches g l = 3 * (257 - l.thread.now.number) + 1
+
+abbrev pub decreases-call_branch : goal.decreases-call_branch
+decreases-call_branch g l = 3 * (257 - l.branch) + 3
+
+abbrev pub decreases-finish : goal.decreases-finish
+decreases-finish g l = 3 * (257 - l.thread.now.number) + 2
+
+abbrev pub invariant-call_branches-loop-branch : goal.invariant-call_branches-loop-branch
+invariant-call_branches-loop-branch g l = Consulted l.fn.self l.self l.fn.thread l.k
+
+abbrev pub decreases-call_branches-loop-branch : goal.decreases-call_branches-loop-branch
+decreases-call_branches-loop-branch g l = length l.fn.thread.branches.numbers - l.k
+
+abbrev pub invariant-finish-loop-self : goal.invariant-finish-loop-self
+invariant-finish-loop-self g l = record {
+  loaded : Loaded (code_in l.fn.self) l.thread;
+  number : l.thread.number ≡ l.fn.thread.number;
+  running : CanRun l.thread;
+  leaves : Leaves l.fn.thread.number l.fn.self l.self;
+  at : (book : Book) (jobs : List Job) (job : Job) (w : Works l.fn.self l.fn.thread book jobs job) → Going l.fn.self l.fn.thread l.self l.thread l.forks book jobs job w;
+}
+
+abbrev pub decreases-finish-loop-self : goal.decreases-finish-loop-self
+decreases-finish-loop-self g l =
+    (length (block_of (code_in l.fn.self) l.fn.thread.number).steps + 2) * l.fn.thread.allowance + (length (block_of (code_in l.fn.self) l.fn.thread.number).steps + 2) - l.forks
