@@ -7,3 +7,5 @@ mod ConsultLemmas
 mod HearingLemmas
 mod FinishLemmas
 mod RootLemmas
+mod Newly
+mod TickRun

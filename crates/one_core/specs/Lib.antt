@@ -3,3 +3,5 @@ pub mod Told
 pub mod Resting
 pub mod Stub
 pub mod Called
+pub mod Loads
+pub mod Single

@@ -2,4 +2,10 @@
 #![tactic(auto)]
 
 mod calls;
+mod job;
+mod load;
+mod outcome;
+mod single;
 mod stub;
+
+pub use single::OneCore;

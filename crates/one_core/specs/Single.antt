@@ -1,0 +1,63 @@
+-- All threads of a code on one core, as callers see them.
+use Rattle.std.specs.Prelude.{◌≡◌, Bool, true, Option, List}
+use Rattle.forec_kernel.specs.Composed.{TickInput, tick_jobs, state_after}
+use Rattle.forec_kernel.specs.Engine.{Job}
+use Rattle.forec_kernel.specs.Packed.{HasRoom}
+use Rattle.forec_kernel.specs.Shapes.{PlainKernel}
+use Rattle.forec_kernel.specs.Ticks.{Fresh}
+use Rattle.forec_kernel.specs.WellFormed.{WellFormed}
+use Rattle.thread_code.specs.declared.instruction.CodeParts.{CodeParts}
+use Rattle.thread_code.specs.Plain.{PlainCode, plain_code}
+use Rattle.thread_code.specs.Alone.{Stands}
+use Rattle.thread_code.specs.Laws.{EachFits}
+use Rattle.thread_code.specs.Valid.{of_shape}
+use Rattle.combine_tree.specs.declared.packet.Packet.{Packet}
+use Rattle.combine_tree.specs.Plain.{plain_packet}
+use Rattle.core_machine.specs.declared.thread.Thread.{Thread}
+use Rattle.core_host.specs.Rests.{IsReady}
+use Rattle.core_host.specs.Runs.{Keeps}
+use Rattle.one_core.specs.Seats.{Seated, Sits, IsFitted}
+use Rattle.one_core.specs.Resting.{HasWorked}
+
+-- `threads`: each in its seat. `root`: the packet of thread 0, in a tick its job, between ticks its reply. `live`: each tick so far has paused
+pub record Single : Type 0 where
+  pub code : CodeParts
+  pub threads : List (Option Thread)
+  pub root : Packet
+  pub live : Bool
+
+abbrev pub single : Seated → Packet → Bool → Single
+single v root live = record { code = v.code; threads = v.threads; root = root; live = live }
+
+abbrev pub seated_in : Single → Seated
+seated_in o = record { code = o.code; threads = o.threads }
+
+-- the code whose threads they are
+abbrev pub code_of : Single → PlainCode
+code_of o = plain_code o.code
+
+-- each tick so far has paused
+abbrev pub is_live : Single → Bool
+is_live o = o.live
+
+-- what holds between ticks: each thread rests, and thread 0 can be given the job of the next tick where there is one
+pub record IsSingle (o : Single) : Type 0 where
+  pub fitted : IsFitted (seated_in o)
+  pub worked : (jobs : List Job) × HasWorked (seated_in o) jobs
+  pub room : HasRoom (of_shape (code_of o).shape) 0 (plain_packet o.root)
+  pub ready : o.live ≡ true → (t : Thread) → Sits (seated_in o) 0 t → IsReady t o.root.kind
+
+-- ---- what was run
+
+-- thread 0 was given these jobs by the ticks so far, and has replied to each
+pub record HasJobs (o : Single) (jobs : List Job) : Type 0 where
+  pub fit : EachFits (code_of o).shape 0 jobs
+  pub worked : HasWorked (seated_in o) jobs
+
+pub record HasTicked (o : Single) (k : PlainKernel) (turns : List TickInput) : Type 0 where
+  pub jobs : HasJobs o (tick_jobs k Fresh turns)
+  pub keeps : o.live ≡ true → Keeps (state_after k Fresh turns) o.root
+
+-- these ticks were run, each with its row and its budget, as each kernel for which the code stands runs them
+unfoldable pub HasRun : Single → List TickInput → Type 0
+HasRun o turns = (k : PlainKernel) → WellFormed k → Stands (code_of o) k → HasTicked o k turns
