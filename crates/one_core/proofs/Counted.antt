@@ -35,12 +35,13 @@ all_then : (n : ℕ) (l : List ℕ) → AreAll n l → AreAll (n + 1) (l ++ n �
 all_then n l all v less =
     contains_then v l n
     ∙ ⊎_elim
-      (λ same. ap (λ b. cond (contains v l) true b) same.0 ∙ either (contains v l))
-      (λ other. ap (λ b. cond b true (n == v)) (all v (before other.1))) (eqb_tells n v)
+    (λ same. ap (λ b. cond (contains v l) true b) same.0 ∙ either (contains v l))
+    (λ other. ap (λ b. cond b true (n == v)) (all v (before other.1))) (eqb_tells n v)
   where
     either : (t : Bool) → cond t true true ≡ true
     either true = refl
     either false = refl
+
     before : n ≢ v → v < n
     before other = omega (arith, less, other)
 

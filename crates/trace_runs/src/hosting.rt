@@ -1,4 +1,4 @@
-//! Runs by hosts, with the threads placed on cores.
+//! Runs with the threads placed on cores: by hosts, or on one core alone.
 
 ghost use Rattle.forec_base.specs.declared.limits.TheConstants.{MAX_BUDGET};
 ghost use Rattle.std.specs.Prelude.{◌≡◌, ◌≤◌, ◌^◌, length, IfOk, OnErr};
@@ -70,7 +70,7 @@ fn lead_over<'b, 'c, J: Lead, G: Gate + Sync, R: Threads + Wait + Sync>(
 /// # Errors
 ///
 /// Out of memory. Then nothing was done.
-fn lead_beside<J: Lead, G: Gate + Sync, R: Threads + Wait + Sync>(
+fn lead_on_cores<J: Lead, G: Gate + Sync, R: Threads + Wait + Sync>(
     setting: &Setting<'_, G, R>,
     compiled: Compiled<'_>,
     placement: &Placement,
@@ -122,10 +122,10 @@ fn lead_placed<J: Lead, G: Gate + Sync, R: Threads + Wait + Sync>(
         kernel,
         code: &code,
     };
-    lead_beside(setting, compiled, placement, job)
+    lead_on_cores(setting, compiled, placement, job)
 }
 
-/// Runs a kernel over a trace by hosts, with the threads placed so. A tick may have so many units.
+/// Runs a kernel over a trace, with the threads placed so. A tick may have so many units.
 pub fn host_trace<S: Source, K: Sink, G: Gate + Sync, R: Threads + Wait + Sync>(
     setting: &Setting<'_, G, R>,
     kernel: &Kernel,
@@ -154,7 +154,7 @@ pub fn host_trace<S: Source, K: Sink, G: Gate + Sync, R: Threads + Wait + Sync>(
     }
 }
 
-/// Runs a workload of so many threads by hosts, with the threads of its kernel placed so. A tick may have so many units.
+/// Runs a workload of so many threads, with the threads of its kernel placed so. A tick may have so many units.
 pub fn host_workload<K: Sink, G: Gate + Sync, R: Threads + Wait + Sync>(
     setting: &Setting<'_, G, R>,
     kernel: &Kernel,
