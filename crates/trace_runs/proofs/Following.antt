@@ -1,15 +1,12 @@
 -- A tick more of a program that runs.
-use Rattle.std.proofs.Common.{◌≡◌, ℕ, ℤ, List, [], ◌∷◌, ◌++◌, refl, sym, ap, subst, ◌∙◌}
+use Rattle.std.proofs.Common.{◌≡◌, ℕ, ℤ, List, [], ◌∷◌, ◌++◌, refl, sym, subst, ◌∙◌}
 use Rattle.forec_kernel.specs.declared.shape.Outcome.{Outcome}
 use Rattle.forec_kernel.specs.Composed.{TickInput, next_state, state_after}
 use Rattle.forec_kernel.specs.Shapes.{PlainKernel}
 use Rattle.forec_kernel.specs.Ticks.{State, Fresh, tick}
-use Rattle.thread_code.specs.declared.instruction.CodeParts.{CodeParts}
 use Rattle.thread_code.specs.Alone.{Stands}
-use Rattle.thread_code.specs.Plain.{PlainCode, plain_code}
-use Rattle.core_host.specs.Hosted.{Hosted}
-use Rattle.core_host.specs.Runs.{HasRun}
-use Rattle.trace_runs.specs.Hosting.{HostFollows}
+use Rattle.thread_code.specs.Plain.{PlainCode}
+use Rattle.trace_runs.specs.Hosting.{CodeFollows}
 
 state_then : (k : PlainKernel) (turns : List TickInput) (last : TickInput) (old : State) → state_after k old (turns ++ last ∷ []) ≡ next_state k (state_after k old turns) last
 state_then k [] last old = refl
@@ -29,10 +26,10 @@ module _ (k : PlainKernel) (budget : ℕ) (given row : List ℤ) (same : given �
       subst (λ (r : List ℤ). (tick k budget s r).state ≡ state_after k Fresh (turns ++ last ∷ [])) same
       (subst (λ (x : State). next_state k x last ≡ next_state k (state_after k Fresh turns) last) (sym led) refl ∙ sym (state_then k turns last Fresh))
 
--- a host of a code that stands for a kernel, before its first tick
-pub at_start : (k : PlainKernel) (code : CodeParts) (h : Hosted) → h.code ≡ code → Stands (plain_code code) k → HasRun h [] → HostFollows k h Fresh
-at_start k code h is stands none = record {
-  stands = subst (λ (p : PlainCode). Stands p k) (sym (ap plain_code is)) stands;
+-- a code that stands for a kernel, before its first tick
+pub at_start : (k : PlainKernel) (c now : PlainCode) (Ran : List TickInput → Type 0) → now ≡ c → Stands c k → Ran [] → CodeFollows k now Ran Fresh
+at_start k c now Ran is stands none = record {
+  stands = subst (λ (p : PlainCode). Stands p k) (sym is) stands;
   turns = [];
   ran = none;
   state = refl;

@@ -1,4 +1,4 @@
-//! Runs by hosts, with the threads placed on cores.
+//! Runs with the threads placed on cores: by hosts, or on one core alone.
 
 ghost use Rattle.forec_base.specs.declared.limits.TheConstants.{MAX_BUDGET};
 ghost use Rattle.std.specs.Prelude.{◌≡◌, ◌≤◌, ◌^◌, length, IfOk, OnErr};
@@ -15,6 +15,7 @@ use crate::lead::Lead;
 use crate::loading::{make_bells, make_board};
 use crate::session::Session;
 use crate::setting::Setting;
+use crate::solo::lead_alone;
 use crate::status::Status;
 use crate::trace_run::TraceRun;
 use crate::workload_run::WorkloadRun;
@@ -64,7 +65,40 @@ fn lead_over<'b, 'c, J: Lead, G: Gate + Sync, R: Threads + Wait + Sync>(
     lead_hosts(setting, kernel, root, others, job)
 }
 
-/// Makes a code of a kernel, and all that its hosts share, and leads by them.
+/// Makes all that the hosts of several cores share, and leads by them.
+///
+/// # Errors
+///
+/// Out of memory. Then nothing was done.
+fn lead_on_cores<J: Lead, G: Gate + Sync, R: Threads + Wait + Sync>(
+    setting: &Setting<'_, G, R>,
+    compiled: Compiled<'_>,
+    placement: &Placement,
+    job: &mut J,
+) -> Result<Status, OutOfMemory>
+    requires stands { Stands (plain_code compiled.code.now) (plain_kernel compiled.kernel.now) }
+    requires placed { length placement.now.places ≡ length (plain_kernel compiled.kernel.now).threads }
+    requires can { J.can job.old (plain_kernel compiled.kernel.now) }
+    ensures ok { IfOk result (J.did job.old job.new (plain_kernel compiled.entry.kernel.now)) }
+    ensures err { OnErr result (job.new ≡ job.old) }
+{
+    let Compiled { kernel, code } = compiled;
+    let mut board = make_board(setting.alloc, kernel, code, placement)?;
+    let mut bells = make_bells(setting.alloc, kernel, code, placement)?;
+    lead_over(setting, compiled, placement, &mut board, &mut bells, job)
+}
+
+/// Whether all threads have the same core.
+fn has_one_core(placement: &Placement) -> bool {
+    for thread in 0..placement.threads() {
+        if placement.core(thread) != placement.core(0) {
+            return false;
+        }
+    }
+    true
+}
+
+/// Makes a code of a kernel, and leads by its threads: all on one core where they have the same one, else by hosts.
 ///
 /// # Errors
 ///
@@ -81,16 +115,17 @@ fn lead_placed<J: Lead, G: Gate + Sync, R: Threads + Wait + Sync>(
     ensures err { OnErr result (job.new ≡ job.old) }
 {
     let code = generate(setting.alloc, kernel)?;
-    let mut board = make_board(setting.alloc, kernel, &code, placement)?;
-    let mut bells = make_bells(setting.alloc, kernel, &code, placement)?;
+    if has_one_core(placement) {
+        return lead_alone(setting, kernel, &code, placement, job);
+    }
     let compiled = Compiled {
         kernel,
         code: &code,
     };
-    lead_over(setting, compiled, placement, &mut board, &mut bells, job)
+    lead_on_cores(setting, compiled, placement, job)
 }
 
-/// Runs a kernel over a trace by hosts, with the threads placed so. A tick may have so many units.
+/// Runs a kernel over a trace, with the threads placed so. A tick may have so many units.
 pub fn host_trace<S: Source, K: Sink, G: Gate + Sync, R: Threads + Wait + Sync>(
     setting: &Setting<'_, G, R>,
     kernel: &Kernel,
@@ -119,7 +154,7 @@ pub fn host_trace<S: Source, K: Sink, G: Gate + Sync, R: Threads + Wait + Sync>(
     }
 }
 
-/// Runs a workload of so many threads by hosts, with the threads of its kernel placed so. A tick may have so many units.
+/// Runs a workload of so many threads, with the threads of its kernel placed so. A tick may have so many units.
 pub fn host_workload<K: Sink, G: Gate + Sync, R: Threads + Wait + Sync>(
     setting: &Setting<'_, G, R>,
     kernel: &Kernel,

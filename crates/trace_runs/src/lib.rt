@@ -15,6 +15,7 @@ mod runner;
 mod session;
 mod setting;
 mod sink;
+mod solo;
 mod status;
 mod ticker;
 mod ticks;

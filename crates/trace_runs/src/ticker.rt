@@ -12,7 +12,7 @@ use forec_base::{Gate, OutOfMemory};
 use forec_kernel::Outcome;
 use std::sync::Wait;
 
-/// What runs a kernel from its start, tick by tick: a host of its threads, or the rewriting of its texts.
+/// What runs a kernel from its start, tick by tick: a host of its threads, all of them on one core, or the rewriting of its texts.
 pub trait Ticker {
     /// The kernel that runs.
     ghost kernel: { Self → PlainKernel };
