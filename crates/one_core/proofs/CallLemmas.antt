@@ -24,11 +24,13 @@ use Rattle.one_core.specs.Seats.{Seated, code_in, IsFitted, Sits, Leaves}
 use Rattle.one_core.specs.Told.{Book, tell, HasDone, InJob, Keeps}
 use Rattle.one_core.specs.Resting.{LastReply, none, last, Rests, RestAbove, HasBegun, Works, StaysAtWork}
 use Rattle.one_core.specs.Called.{IsAsleep, MayTell, IsJobFor, CanCall, HasHeard, WasCalled, HasCalled}
-use Rattle.one_core.specs.Stub.{RepliesBy, CanTake, GivesReply}
+use Rattle.core_machine.specs.Direct.{RepliesBy, CanTake, GivesFor}
 use Rattle.one_core.proofs.Mailed.{reply_packet, is_reply, reply_once}
 use Rattle.one_core.proofs.TellLemmas.{tell_here, tell_else, done_keeps, rests_keeps}
 use Rattle.one_core.proofs.JobLemmas.{begins, Ended, ends}
-use Rattle.one_core.proofs.StubLemmas.{replies, replies_once, has_paused}
+use Rattle.core_machine.proofs.Jobs.{gives_own}
+use Rattle.core_machine.proofs.Direct.{reply_paused}
+use Rattle.core_machine.proofs.Direct as direct
 
 abbrev pub seated : CodeParts → List (Option Thread) → Seated
 seated code threads = record { code = code; threads = threads }
@@ -175,8 +177,8 @@ module _ (code : CodeParts) (seats : List (Option Thread)) (fitted : IsFitted (s
             number3 : h2.number ≡ branch
             number3 = number2 ∙ number_is
 
-            given : GivesReply c h2 (heard c h2.number (book branch) job in3.log)
-            given = replies c h2 loaded2 replied (heard c h2.number (book branch) job in3.log) in3.stands
+            given : GivesFor c h2.number (heard c h2.number (book branch) job in3.log) (RepliesBy h2)
+            given = gives_own c h2 loaded2 replied (heard c h2.number (book branch) job in3.log) in3.stands
 
             pub its_reply : Reply
             its_reply = given.reply
@@ -221,8 +223,8 @@ module _ (code : CodeParts) (seats : List (Option Thread)) (fitted : IsFitted (s
 
               gives : (xs : List Exchange) → StandsFor c h2 xs → Gives c h2.number xs (reply_packet r)
               gives xs st =
-                  let g = replies c h2 loaded2 replied xs st in
-                  record { outputs = g.outputs; runs = g.runs; complete = g.complete; reply = g.reply; last = g.last; is = subst (IsReply (reply_packet r)) (replies_once h2 r g.reply by g.is) (is_reply r) }
+                  let g = gives_own c h2 loaded2 replied xs st in
+                  record { outputs = g.outputs; runs = g.runs; complete = g.complete; reply = g.reply; last = g.last; is = subst (IsReply (reply_packet r)) (direct.one_reply h2 r g.reply by g.is) (is_reply r) }
 
               ended : Ended code h2 after3 (book branch ++ job ∷ []) (reply_packet r)
               ended = let n = number3 in let i = inside in ends code h2 after3 (book branch) job (reply_packet r) (omega (arith, n, i)) in3 gives
@@ -255,7 +257,7 @@ module _ (code : CodeParts) (seats : List (Option Thread)) (fitted : IsFitted (s
                     (done_keeps c h2 after3 after (book branch ++ job ∷ [])
                     (λ j own. let n = number3 in let a = above in tell_else after3 branch job (suc j) (other h2.number j own (λ e. omega (arith, e, n, a)))) ended.done));
                 last = subst (λ x. LastReply (plain_code x) branch (after branch) h2) (sym code2_is)
-                    (subst (λ js. LastReply c branch js h2) (sym told_now) (last r answers (λ copies units e. has_paused h2 r copies units by e)));
+                    (subst (λ js. LastReply c branch js h2) (sym told_now) (last r answers (λ copies units e. reply_paused h2 copies units (subst (RepliesBy h2) e by))));
               }
 
               above4 : RestAbove s4 after h.number

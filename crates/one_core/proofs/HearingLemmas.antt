@@ -8,7 +8,7 @@ use Rattle.core_machine.specs.Threads.{Loaded, HasReply}
 use Rattle.core_host.proofs.Mails.{some_once}
 use Rattle.one_core.specs.Seats.{Seated, code_in}
 use Rattle.one_core.specs.Called.{HasHeard, HaveHeard}
-use Rattle.one_core.specs.Stub.{RepliesBy}
+use Rattle.core_machine.specs.Direct.{RepliesBy}
 
 module _ (s : Seated) (branches : List ℕ) (rs : List Reply) (heard : HaveHeard s branches rs) (k b : ℕ) (at : slice_get branches k ≡ Some b) where
   pub reply_at : (r : Reply) × (slice_get rs k ≡ Some r)

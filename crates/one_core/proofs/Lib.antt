@@ -1,7 +1,6 @@
 mod Mailed
 mod TellLemmas
 mod JobLemmas
-mod StubLemmas
 mod CallLemmas
 mod ConsultLemmas
 mod HearingLemmas

@@ -12,7 +12,7 @@ use Rattle.core_host.specs.Posts.{IsBranchOf}
 use Rattle.one_core.specs.Seats.{Seated, code_in, Sits, Leaves}
 use Rattle.one_core.specs.Told.{Book, tell, HasTold, Keeps}
 use Rattle.one_core.specs.Resting.{RestAbove}
-use Rattle.one_core.specs.Stub.{RepliesBy}
+use Rattle.core_machine.specs.Direct.{RepliesBy}
 
 -- thread t answered the last of what it was told by Paused
 pub record IsAsleep (c : PlainCode) (t : ℕ) (jobs : List Job) : Type 0 where

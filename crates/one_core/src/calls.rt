@@ -13,7 +13,6 @@ ghost use Rattle.one_core.specs.Told.{Book};
 ghost use Rattle.one_core.specs.Resting.{HasBegun, StaysAtWork, HasWorked, HasRepliedTo};
 ghost use Rattle.one_core.specs.Called.{IsForked, CanTell, CanCall, HasCalled, Consulted, HaveHeard, SettlesReplies, JoinsReplies};
 
-use crate::stub::{call_branch, join_call, settle_call};
 use combine_tree::Packet;
 use core_host::Boxed;
 use core_machine::{Event, Thread};
@@ -55,7 +54,7 @@ impl<'c> Calls<'c> {
             unreachable!()
         };
         let called: &mut Thread = &mut seated;
-        call_branch(thread, self.code, k, called);
+        thread.call_branch(self.code, k, called);
         gate.pass(self.core, branch, Point::Begun);
         self.finish(gate, called);
         self.seats[branch as usize] = Some(seated);
@@ -95,7 +94,7 @@ impl<'c> Calls<'c> {
             let Some(called) = &self.seats[branch as usize] else {
                 unreachable!()
             };
-            settle_call(thread, self.code, k, called);
+            thread.settle_call(self.code, k, called);
             k += 1;
         }
     }
@@ -117,7 +116,7 @@ impl<'c> Calls<'c> {
             let Some(called) = &self.seats[branch as usize] else {
                 unreachable!()
             };
-            join_call(thread, self.code, k, called);
+            thread.join_call(self.code, k, called);
             k += 1;
         }
     }

@@ -2,10 +2,7 @@
 #![tactic(auto)]
 
 mod calls;
-mod job;
 mod load;
-mod outcome;
 mod single;
-mod stub;
 
 pub use single::OneCore;

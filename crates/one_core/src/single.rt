@@ -11,11 +11,10 @@ ghost use Rattle.thread_code.specs.Plain.{plain_code};
 ghost use Rattle.core_host.specs.Outcomes.{HasOutputs, LacksOutputs};
 
 use crate::calls::Calls;
-use crate::job::write_job;
 use crate::load::seats_of;
-use crate::outcome::write_outcome;
 use combine_tree::Packet;
 use core_alloc::Placement;
+use core_host::{write_job, write_outcome};
 use forec_base::{Gate, OutOfMemory};
 use forec_kernel::Outcome;
 use std::alloc::Global;

@@ -8,7 +8,7 @@ use Rattle.core_machine.specs.Threads.{Loaded, StandsFor, HasReply}
 use Rattle.core_machine.specs.Forks.{with_replies, branch_at}
 use Rattle.core_host.proofs.Hearing.{past_end}
 use Rattle.one_core.specs.Seats.{Seated, code_in}
-use Rattle.one_core.specs.Stub.{RepliesBy}
+use Rattle.core_machine.specs.Direct.{RepliesBy}
 use Rattle.one_core.proofs.HearingLemmas.{reply_at, in_seats, not_empty, it_replied, it_loaded, its_number, its_reply}
 use Rattle.one_core.proofs.calls.Calls.join.Goals as goal
 

@@ -8,7 +8,7 @@ use Rattle.core_machine.specs.Threads.{Loaded, StandsFor, HasSettled, HasReply}
 use Rattle.core_machine.specs.Forks.{with_replies}
 use Rattle.core_host.proofs.Hearing.{take_more, take_count, take_all, past_end}
 use Rattle.one_core.specs.Seats.{Seated, code_in}
-use Rattle.one_core.specs.Stub.{RepliesBy}
+use Rattle.core_machine.specs.Direct.{RepliesBy}
 use Rattle.one_core.proofs.HearingLemmas.{reply_at, in_seats, not_empty, it_replied, its_reply}
 use Rattle.one_core.proofs.calls.Calls.settle.Goals as goal
 
