@@ -1,5 +1,5 @@
 -- A branch is told its job, does it, and has its reply.
-use Rattle.std.proofs.Common.{◌≡◌, ◌≢◌, ℕ, zero, suc, ◌-◌, ◌<◌, ◌≤◌, Option, Some, None, List, [], ◌∷◌, ◌++◌, length, map, refl, sym, ap, ◌∙◌, subst, ⊎_elim, arith}
+use Rattle.std.proofs.Common.{◌≡◌, ◌≢◌, ℕ, zero, suc, ◌-◌, ◌<◌, Option, Some, None, List, [], ◌∷◌, ◌++◌, length, map, refl, sym, ap, ◌∙◌, subst, ⊎_elim, arith}
 use Rattle.std.specs.Prelude.{slice_get, slice_set, slice_index_or}
 use Rattle.std.proofs.lemmas.Bool.{cases_lt}
 use Rattle.std.proofs.lemmas.List.{length-set}
@@ -7,7 +7,6 @@ use Rattle.std.proofs.lemmas.Option.{slice_get_within, get_or_from_slice_get}
 use Rattle.forec_kernel.specs.Engine.{Job, Start, Wake, Reply, WasPaused, Written, Exchange, Output, last_reply, answers_within, Answers}
 use Rattle.thread_code.specs.declared.instruction.CodeParts.{CodeParts}
 use Rattle.thread_code.specs.Plain.{PlainCode, plain_code}
-use Rattle.thread_code.specs.Valid.{IsValidCode}
 use Rattle.thread_code.specs.Machine.{Machine}
 use Rattle.thread_code.specs.Alone.{CodeAlone, code_engine}
 use Rattle.thread_code.proofs.Steady.{code_steady}
@@ -17,13 +16,13 @@ use Rattle.core_machine.specs.Forks.{branch_at, jobs_at}
 use Rattle.forec_kernel.specs.Packed.{IsReply}
 use Rattle.core_host.specs.Posts.{IsBranchOf}
 use Rattle.core_host.specs.Writing.{heard}
-use Rattle.core_host.proofs.Mails.{get_set, get_set_else, some_once, by_equal}
+use Rattle.core_host.proofs.Mails.{get_set, get_set_else, some_once}
 use Rattle.core_host.proofs.KeepingLemmas.{branch_above, parent_once, has_parent}
 use Rattle.core_host.proofs.Once.{answers_once}
-use Rattle.one_core.specs.Seats.{Seated, code_in, IsFitted, Sits, Leaves}
+use Rattle.one_core.specs.Seats.{Seated, IsFitted, Sits, Leaves}
 use Rattle.one_core.specs.Told.{Book, tell, HasDone, InJob, Keeps}
 use Rattle.one_core.specs.Resting.{LastReply, none, last, Rests, RestAbove, HasBegun, Works, StaysAtWork}
-use Rattle.one_core.specs.Called.{IsAsleep, MayTell, IsJobFor, CanCall, HasHeard, WasCalled, HasCalled}
+use Rattle.one_core.specs.Called.{IsAsleep, MayTell, CanCall, HasHeard, WasCalled, HasCalled}
 use Rattle.core_machine.specs.Direct.{RepliesBy, CanTake, GivesFor}
 use Rattle.one_core.proofs.Mailed.{reply_packet, is_reply, reply_once}
 use Rattle.one_core.proofs.TellLemmas.{tell_here, tell_else, done_keeps, rests_keeps}

@@ -1,7 +1,6 @@
 -- The branches of a fork are called one by one.
-use Rattle.std.proofs.Common.{◌≡◌, ◌≢◌, ℕ, zero, suc, ◌+◌, ◌<◌, ◌≤◌, Some, List, [], ◌∷◌, ◌++◌, length, refl, sym, ap, ◌∙◌, subst, append_assoc, append-nil, ⊎_elim, inl, inr, arith}
+use Rattle.std.proofs.Common.{◌≡◌, ℕ, zero, suc, ◌+◌, ◌<◌, ◌≤◌, Some, List, [], ◌∷◌, ◌++◌, length, refl, sym, ap, ◌∙◌, subst, append_assoc, append-nil, ⊎_elim, inl, inr, arith}
 use Rattle.std.specs.Prelude.{slice_get, ◌⊎◌}
-use Rattle.std.proofs.lemmas.Bool.{cases_lt}
 use Rattle.std.proofs.lemmas.Option.{slice_get_within}
 use Rattle.forec_kernel.specs.Engine.{Job, Start, Wake, Reply, Written, Answered, pair_up, Answers}
 use Rattle.thread_code.specs.Plain.{PlainCode, plain_code}
@@ -15,8 +14,7 @@ use Rattle.core_host.proofs.Send.{at_map}
 use Rattle.core_host.proofs.RunChildren.{pairs_more}
 use Rattle.core_host.proofs.ChildrenRunLemmas.{no_pairs}
 use Rattle.one_core.specs.Seats.{Seated, code_in, Leaves}
-use Rattle.one_core.specs.Told.{Book, HasTold, Keeps}
-use Rattle.one_core.specs.Resting.{RestAbove}
+use Rattle.one_core.specs.Told.{Book, HasTold}
 use Rattle.one_core.specs.Called.{IsAsleep, MayTell, IsJobFor, IsForked, CanTell, CanCall, HasHeard, WasCalled, HasCalled, HaveHeard, HaveCalled, Consulted}
 use Rattle.one_core.proofs.TellLemmas.{keeps_same, keeps_then, leaves_same, leaves_then, told_more}
 

@@ -1,8 +1,8 @@
 -- A job goes on, fork by fork.
-use Rattle.std.proofs.Common.{◌≡◌, ℕ, zero, suc, ◌+◌, ◌*◌, ◌<◌, ◌≤◌, Some, List, [], ◌++◌, map, length, refl, sym, ap, ◌∙◌, subst, arith}
+use Rattle.std.proofs.Common.{◌≡◌, ℕ, ◌+◌, ◌*◌, ◌<◌, ◌≤◌, Some, List, [], ◌++◌, map, length, sym, ap, ◌∙◌, subst, arith}
 use Rattle.std.specs.Prelude.{slice_get}
 use Rattle.forec_kernel.specs.Engine.{Job, allowance_of, Exchange, pair_up}
-use Rattle.thread_code.specs.Plain.{PlainCode, plain_code}
+use Rattle.thread_code.specs.Plain.{plain_code}
 use Rattle.thread_code.specs.Alone.{block_of}
 use Rattle.core_machine.specs.declared.thread.Thread.{Thread}
 use Rattle.core_machine.specs.Threads.{Loaded, StandsFor, HasSettled}

@@ -1,5 +1,5 @@
 -- A job begins, comes to forks, and ends.
-use Rattle.std.proofs.Common.{◌≡◌, ℕ, zero, suc, ◌+◌, ◌*◌, ◌<◌, ◌≤◌, Some, List, [], ◌∷◌, ◌++◌, map, length, refl, sym, ap, ◌∙◌, subst, arith}
+use Rattle.std.proofs.Common.{◌≡◌, ℕ, zero, suc, ◌+◌, ◌*◌, ◌<◌, ◌≤◌, Some, List, [], ◌∷◌, ◌++◌, map, length, refl, sym, ◌∙◌, subst, arith}
 use Rattle.std.specs.Prelude.{slice_get}
 use Rattle.forec_kernel.specs.Packets.{PlainPacket, IsPaused}
 use Rattle.forec_kernel.specs.Packed.{AreJobs, IsReply}
@@ -12,7 +12,6 @@ use Rattle.core_machine.specs.declared.thread.Thread.{Thread}
 use Rattle.core_machine.specs.Threads.{Loaded, StandsFor, HasSettled, Gives}
 use Rattle.core_machine.specs.Forks.{jobs_at, with_replies}
 use Rattle.copy_slots.specs.Ports.{sent}
-use Rattle.core_host.specs.Asking.{ArePaused}
 use Rattle.core_host.specs.Posts.{IsBranchOf}
 use Rattle.core_host.specs.Writing.{heard, told}
 use Rattle.core_host.specs.Keeping as host
@@ -21,7 +20,7 @@ use Rattle.core_host.proofs.Logs.{job_begins, job_ends, allowance_in}
 use Rattle.core_host.proofs.AfterFork.{in_job_by, inside, few_branches, its_order, its_jobs, some_branches, forks_bound, units_within, in_job_now, with_none}
 use Rattle.one_core.specs.Told.{Book, HasTold, HasDone, InJob}
 use Rattle.one_core.specs.Called.{IsAsleep, MayTell, IsJobFor, IsForked}
-use Rattle.one_core.proofs.Mailed.{reply_packet, is_reply, reply_once, are_jobs, mail_of, sent_is, posts_of, told_of, host_done, done_of, host_job, job_of}
+use Rattle.one_core.proofs.Mailed.{are_jobs, mail_of, sent_is, posts_of, told_of, host_done, done_of, host_job, job_of}
 
 times_grow : (m u v : ℕ) → u ≤ v → m * u ≤ m * v
 times_grow zero u v le = omega arith

@@ -1,10 +1,10 @@
 -- What threads told their branches and heard of them, as packets that went through mailboxes.
-use Rattle.std.proofs.Common.{◌≡◌, ℕ, zero, suc, ◌+◌, ◌<◌, true, false, Option, Some, None, List, [], ◌∷◌, ◌++◌, length, map, get_or, refl, sym, ap, ◌∙◌, subst, arith}
+use Rattle.std.proofs.Common.{◌≡◌, ℕ, zero, suc, ◌+◌, ◌<◌, true, false, Some, None, List, [], ◌∷◌, length, map, get_or, refl, sym, ap, subst, arith}
 use Rattle.forec_kernel.specs.Packets.{PlainPacket}
 use Rattle.forec_kernel.specs.Packets as packet
 use Rattle.forec_kernel.specs.Packed.{IsJob, AreJobs, IsReply}
 use Rattle.forec_kernel.specs.Solo.{unmarked_copies}
-use Rattle.forec_kernel.specs.Shapes.{PlainShape, PlainThread}
+use Rattle.forec_kernel.specs.Shapes.{PlainThread}
 use Rattle.forec_kernel.specs.WellFormed.{blank_thread}
 use Rattle.forec_kernel.specs.Engine.{Job, Start, Wake, Reply, WasPaused, WasEnded, WasTrapped, WasOver, Answered, pair_all, jobs_to}
 use Rattle.thread_code.specs.declared.instruction.CodeParts.{CodeParts}

@@ -1,9 +1,8 @@
 -- Threads that were just made.
-use Rattle.std.proofs.Common.{◌≡◌, ℕ, ◌<◌, true, Option, Some, None, List, [], length, get_or, refl, sym, subst, arith}
+use Rattle.std.proofs.Common.{◌≡◌, ℕ, ◌<◌, true, Option, Some, None, [], length, get_or, refl, sym, subst, arith}
 use Rattle.std.specs.Prelude.{slice_get}
 use Rattle.std.proofs.lemmas.Option.{slice_get-get_or}
 use Rattle.forec_kernel.specs.Packed.{HasRoom}
-use Rattle.thread_code.specs.declared.instruction.CodeParts.{CodeParts}
 use Rattle.thread_code.specs.Plain.{plain_code}
 use Rattle.thread_code.specs.Valid.{of_shape, IsValidCode}
 use Rattle.combine_tree.specs.declared.packet.Packet.{Packet}
@@ -12,7 +11,7 @@ use Rattle.combine_tree.specs.Plain.{plain_packet}
 use Rattle.core_machine.specs.declared.thread.Thread.{Thread}
 use Rattle.core_host.specs.Rests.{IsReady}
 use Rattle.one_core.specs.Loads.{AreNew, IsNew}
-use Rattle.one_core.specs.Seats.{Seated, Sits, IsFitted}
+use Rattle.one_core.specs.Seats.{Seated, Sits}
 use Rattle.one_core.specs.Told.{Book, HasDone}
 use Rattle.one_core.specs.Resting.{none, Rests, HasWorked}
 use Rattle.one_core.specs.Single.{single, IsSingle, HasRun}

@@ -1,8 +1,8 @@
 -- Thread 0 does a job.
-use Rattle.std.proofs.Common.{◌≡◌, ℕ, suc, ◌<◌, Option, Some, None, List, [], ◌∷◌, ◌++◌, length, refl, sym, ap, ◌∙◌, subst, arith}
+use Rattle.std.proofs.Common.{◌≡◌, ◌<◌, Option, Some, None, List, [], ◌∷◌, ◌++◌, length, refl, sym, ap, ◌∙◌, subst, arith}
 use Rattle.std.specs.Prelude.{slice_get, slice_set, slice_index_or}
 use Rattle.std.proofs.lemmas.List.{length-set}
-use Rattle.std.proofs.lemmas.Option.{slice_get_within, get_or_from_slice_get}
+use Rattle.std.proofs.lemmas.Option.{get_or_from_slice_get}
 use Rattle.forec_kernel.specs.Packets.{PlainPacket}
 use Rattle.forec_kernel.specs.Packed.{IsJob}
 use Rattle.forec_kernel.specs.Engine.{Job, Exchange, Answers}
@@ -13,7 +13,7 @@ use Rattle.combine_tree.specs.declared.packet.PacketKind.{PacketKind}
 use Rattle.core_machine.specs.declared.thread.Thread.{Thread}
 use Rattle.core_machine.specs.Threads.{Loaded, CanBegin, StandsFor, IsResting, HasReply, Gives}
 use Rattle.core_host.proofs.Mails.{some_once, get_set, get_set_else}
-use Rattle.one_core.specs.Seats.{Seated, code_in, IsFitted, Sits, Leaves}
+use Rattle.one_core.specs.Seats.{Seated, IsFitted, Sits, Leaves}
 use Rattle.one_core.specs.Told.{Book, HasDone, InJob, Keeps}
 use Rattle.one_core.specs.Resting.{RestAbove, HasBegun, Works, StaysAtWork, HasWorked, HasReplied}
 use Rattle.one_core.proofs.TellLemmas.{rests_keeps}

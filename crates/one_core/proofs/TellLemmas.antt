@@ -1,7 +1,7 @@
 -- A thread is told one job more.
-use Rattle.std.proofs.Common.{◌≡◌, ◌≢◌, ℕ, suc, ◌<◌, ◌==◌, true, false, cond, Some, List, [], ◌∷◌, ◌++◌, length, refl, sym, ap, ◌∙◌, subst, append-nil, arith}
+use Rattle.std.proofs.Common.{◌≡◌, ◌≢◌, ℕ, suc, ◌<◌, cond, List, [], ◌∷◌, ◌++◌, length, refl, sym, ap, ◌∙◌, subst, append-nil, arith}
 use Rattle.std.specs.Prelude.{slice_get}
-use Rattle.forec_kernel.specs.Engine.{Job, Reply, Answered, Answers, Allowed, pair_all, jobs_to}
+use Rattle.forec_kernel.specs.Engine.{Job, Reply, Answered, Answers, pair_all, jobs_to}
 use Rattle.thread_code.specs.Plain.{PlainCode, plain_code}
 use Rattle.thread_code.specs.Valid.{IsValidCode}
 use Rattle.thread_code.specs.Alone.{CodeAlone}
@@ -13,7 +13,7 @@ use Rattle.core_host.proofs.Mails.{by_equal}
 use Rattle.core_host.proofs.RunChildren.{jobs_then, same_test, other_test, allowed_more}
 use Rattle.one_core.specs.Seats.{Seated, code_in, IsFitted, Leaves}
 use Rattle.one_core.specs.Told.{Book, tell, HasTold, HasDone, Keeps}
-use Rattle.one_core.specs.Resting.{LastReply, Rests, RestAbove}
+use Rattle.one_core.specs.Resting.{LastReply, Rests}
 
 pub tell_here : (book : Book) (t : ℕ) (job : Job) → tell book t job t ≡ book t ++ job ∷ []
 tell_here book t job = ap (λ b. cond b (book t ++ job ∷ []) (book t)) (same_test t t refl)

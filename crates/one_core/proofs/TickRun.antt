@@ -25,7 +25,7 @@ use Rattle.core_host.proofs.TickOutcome.{Told, told, keeps_now, jobs_are, goes_o
 use Rattle.core_host.proofs.TickRun.{replied_of}
 use Rattle.one_core.specs.Seats.{Seated, code_in, Sits, IsFitted}
 use Rattle.one_core.specs.Resting.{HasWorked, HasReplied, HasRepliedTo}
-use Rattle.one_core.specs.Single.{Single, single, seated_in, code_of, IsSingle, HasJobs, HasTicked}
+use Rattle.one_core.specs.Single.{Single, single, seated_in, IsSingle, HasJobs, HasTicked}
 
 -- ---- before
 

@@ -10,7 +10,7 @@ use Rattle.core_machine.specs.Threads.{Loaded, HasSettled, HasReply, StandsFor}
 use Rattle.core_machine.specs.Forks.{jobs_at, with_replies}
 use Rattle.core_host.specs.Posts.{IsBranchOf}
 use Rattle.one_core.specs.Seats.{Seated, code_in, Sits, Leaves}
-use Rattle.one_core.specs.Told.{Book, tell, HasTold, Keeps}
+use Rattle.one_core.specs.Told.{Book, HasTold, Keeps}
 use Rattle.one_core.specs.Resting.{RestAbove}
 use Rattle.core_machine.specs.Direct.{RepliesBy}
 

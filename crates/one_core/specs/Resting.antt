@@ -1,5 +1,5 @@
 -- Threads that rest in their seats, and have done what they were told.
-use Rattle.std.specs.Prelude.{ℕ, zero, ◌≡◌, ◌<◌, List, [], ◌∷◌, ◌++◌, length}
+use Rattle.std.specs.Prelude.{ℕ, ◌≡◌, ◌<◌, List, [], ◌∷◌, ◌++◌, length}
 use Rattle.forec_kernel.specs.declared.shape.VarCopy.{VarCopy}
 use Rattle.forec_kernel.specs.Packets.{PlainPacket}
 use Rattle.forec_kernel.specs.Packed.{IsJob, IsReply}

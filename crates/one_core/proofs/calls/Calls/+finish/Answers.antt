@@ -1,4 +1,4 @@
-use Rattle.std.proofs.Common.{rules, ◌≡◌, ◌≤◌, ◌^◌, ◌<◌, ◌+◌, ◌-◌, ◌*◌, Some, None, List, length, map, refl, sym, ap, ◌∙◌, subst, arith}
+use Rattle.std.proofs.Common.{rules, ◌≡◌, ◌≤◌, ◌<◌, ◌+◌, ◌-◌, ◌*◌, Some, None, List, length, map, refl, sym, ap, ◌∙◌, subst, arith}
 use Rattle.std.specs.Prelude.{slice_set}
 use Rattle.std.proofs.lemmas.Option.{slice_get_within}
 use Rattle.std.proofs.Math.Facts.{Fits-of_lt}
@@ -6,16 +6,14 @@ use Rattle.forec_kernel.specs.Engine.{Exchange}
 use Rattle.thread_code.specs.declared.instruction.CodeParts.{CodeParts}
 use Rattle.thread_code.specs.Plain.{plain_code}
 use Rattle.thread_code.specs.Alone.{block_of}
-use Rattle.core_machine.specs.declared.thread.Thread.{Thread}
-use Rattle.core_machine.specs.Threads.{Loaded, StandsFor, Left_by, HasSettled}
-use Rattle.core_machine.specs.Forks.{jobs_at, with_replies}
+use Rattle.core_machine.specs.Threads.{Loaded, StandsFor, Left_by}
+use Rattle.core_machine.specs.Forks.{jobs_at}
 use Rattle.core_host.proofs.Hearing.{past_end}
 use Rattle.core_host.proofs.Finishing.{fits_forks, replied_by}
 use Rattle.one_core.specs.Seats.{Seated, code_in, IsFitted, Leaves}
 use Rattle.one_core.specs.Told.{Book}
-use Rattle.one_core.specs.Called.{IsForked, CanTell, CanCall, HasCalled, Consulted, HaveHeard}
+use Rattle.one_core.specs.Called.{CanCall, HasCalled, Consulted, HaveHeard}
 use Rattle.one_core.proofs.TellLemmas.{fitted_keeps, leaves_same, leaves_then}
-use Rattle.one_core.proofs.JobLemmas.{allowance_is}
 use Rattle.one_core.proofs.CallLemmas.{seated, fitted_set, in_branches, not_empty, child_loaded, child_at, child_rests, child_takes, number_is, has_begun, has_left, has_called}
 use Rattle.one_core.proofs.ConsultLemmas.{consulted_none, some_call, consulted_more, have_heard}
 use Rattle.one_core.proofs.FinishLemmas.{begun_works, begun_allowance, going_none, stays, its_fork, can_tell, some_branch, its_bound, goes_on}

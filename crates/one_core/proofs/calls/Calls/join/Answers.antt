@@ -1,13 +1,13 @@
-use Rattle.std.proofs.Common.{◌≡◌, ◌<◌, ◌+◌, ◌-◌, length, slice_get, refl, sym, ap, ◌∙◌, subst, arith}
+use Rattle.std.proofs.Common.{◌<◌, ◌-◌, length, slice_get, refl, sym, ap, ◌∙◌, subst, arith}
 use Rattle.std.specs.Prelude.{slice_index_or}
 use Rattle.std.proofs.lemmas.Option.{slice_get_within, get_or_from_slice_get}
 use Rattle.thread_code.specs.declared.instruction.CodeParts.{CodeParts}
 use Rattle.thread_code.specs.Plain.{plain_code}
 use Rattle.core_machine.specs.declared.thread.Thread.{Thread}
 use Rattle.core_machine.specs.Threads.{Loaded, StandsFor, HasReply}
-use Rattle.core_machine.specs.Forks.{with_replies, branch_at}
+use Rattle.core_machine.specs.Forks.{with_replies}
 use Rattle.core_host.proofs.Hearing.{past_end}
-use Rattle.one_core.specs.Seats.{Seated, code_in}
+use Rattle.one_core.specs.Seats.{Seated}
 use Rattle.core_machine.specs.Direct.{RepliesBy}
 use Rattle.one_core.proofs.HearingLemmas.{reply_at, in_seats, not_empty, it_replied, it_loaded, its_number, its_reply}
 use Rattle.one_core.proofs.calls.Calls.join.Goals as goal

@@ -1,13 +1,11 @@
 use Rattle.std.proofs.Common.{◌≡◌, Some, List, refl, sym, ap, ◌∙◌, subst}
-use Rattle.std.specs.Prelude.{slice_set}
 use Rattle.forec_kernel.specs.Engine.{Exchange}
 use Rattle.thread_code.specs.declared.instruction.CodeParts.{CodeParts}
 use Rattle.thread_code.specs.Plain.{plain_code}
 use Rattle.combine_tree.specs.Plain.{plain_packet}
 use Rattle.core_machine.specs.Threads.{StandsFor, Gives}
 use Rattle.one_core.specs.Seats.{Seated, IsFitted}
-use Rattle.one_core.specs.Resting.{HasWorked, HasReplied}
-use Rattle.one_core.proofs.CallLemmas.{seated}
+use Rattle.one_core.specs.Resting.{HasWorked}
 use Rattle.one_core.proofs.RootLemmas.{has_begun, root_replied}
 use Rattle.one_core.proofs.calls.Calls.work.Goals as goal
 

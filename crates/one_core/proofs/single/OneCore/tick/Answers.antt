@@ -1,4 +1,4 @@
-use Rattle.std.proofs.Common.{rules, ◌≡◌, length, ◌++◌, ◌∷◌, [], sym, ap, ◌∙◌, subst}
+use Rattle.std.proofs.Common.{rules, ◌≡◌, sym, ap, ◌∙◌, subst}
 use Rattle.forec_kernel.specs.Shapes.{PlainShape, plain_shape}
 use Rattle.forec_kernel.specs.Texts.{uses_in}
 use Rattle.forec_kernel.specs.Ticks.{goes_on, values_of}
