@@ -1,6 +1,6 @@
 -- What a run over a trace begins with.
 use Rattle.forec_base.specs.declared.limits.TheConstants.{MAX_BUDGET}
-use Rattle.std.specs.Prelude.{◌≡◌, ◌≤◌, ◌^◌, [], length}
+use Rattle.std.specs.Prelude.{◌≡◌, ◌≤◌, [], length}
 use Rattle.forec_base.specs.declared.limits.TheConstants.{MAX_INPUTS}
 use Rattle.forec_kernel.specs.Shapes.{PlainKernel}
 use Rattle.trace_runs.specs.KernelNames.{input_names, output_names}
