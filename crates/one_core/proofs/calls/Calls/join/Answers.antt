@@ -82,7 +82,7 @@ loop-branch-preserved c =
     let count = ap length c.loop-branch.invariant.branches in
     record {
       within = omega (arith, lt);
-      loaded = subst (λ (x : CodeParts). Loaded (plain_code x) c.join_call.new.thread) code c.join_call.ensures.loaded;
+      loaded = subst (λ (x : CodeParts). Loaded (plain_code x) c.join_call.new.self) code c.join_call.ensures.loaded;
       number = c.join_call.ensures.number ∙ c.loop-branch.invariant.number;
       branches = c.join_call.ensures.branches ∙ c.loop-branch.invariant.branches;
       order = λ less. c.join_call.ensures.order (omega (arith, less, count));
@@ -93,7 +93,7 @@ loop-branch-preserved c =
           (c.index.ensures ∙ ap (λ (s : Seated). slice_index_or s.threads c.in-Some.branch c.index.result.now) c.self.view_is) c.in-Some-index.called c.in-Some-index.is in
           let old = subst (λ (x : CodeParts). StandsFor (plain_code x) c.loop-branch.thread (with_replies xs rs)) (sym code) (c.loop-branch.invariant.stands rs xs heard before) in
           let new = c.join_call.ensures.stands xs rs r.0 (heard.count ∙ sym count) r.1 (subst (λ (p : Thread). RepliesBy p r.0) (sym c.deref.ensures) is) old in
-          subst (λ (x : CodeParts). StandsFor (plain_code x) c.join_call.new.thread (with_replies xs rs)) code new;
+          subst (λ (x : CodeParts). StandsFor (plain_code x) c.join_call.new.self (with_replies xs rs)) code new;
     }
 
 pub returns-clause-running : goal.returns-clause-running

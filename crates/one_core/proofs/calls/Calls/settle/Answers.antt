@@ -42,7 +42,7 @@ loop-branch-preserved c =
     let lt = slice_get_within c.args.thread.now.branches.numbers c.loop-branch.k c.in-Some.branch at in
     record {
       within = omega (arith, lt);
-      loaded = subst (λ (x : CodeParts). Loaded (plain_code x) c.settle_call.new.thread) code c.settle_call.ensures.loaded;
+      loaded = subst (λ (x : CodeParts). Loaded (plain_code x) c.settle_call.new.self) code c.settle_call.ensures.loaded;
       number = c.settle_call.ensures.number ∙ c.loop-branch.invariant.number;
       branches = c.settle_call.ensures.branches ∙ c.loop-branch.invariant.branches;
       order = c.settle_call.ensures.order;
@@ -54,8 +54,8 @@ loop-branch-preserved c =
           let new = c.settle_call.ensures.stands xs (take c.loop-branch.k rs) r.0 (take_count rs c.loop-branch.k (omega (arith, lt, heard.count))) (subst (λ (p : Thread). RepliesBy p r.0) (sym c.deref.ensures) is) old in
           let one : suc c.loop-branch.k ≡ c.loop-branch.k + 1 = omega arith in
           let more = sym (take_more rs c.loop-branch.k r.0 r.1) ∙ ap (λ n. take n rs) one in
-          subst (λ l. StandsFor (code_in c.args.self.now) c.settle_call.new.thread (with_replies xs l)) more
-          (subst (λ (x : CodeParts). StandsFor (plain_code x) c.settle_call.new.thread (with_replies xs (take c.loop-branch.k rs ++ r.0 ∷ []))) code new);
+          subst (λ l. StandsFor (code_in c.args.self.now) c.settle_call.new.self (with_replies xs l)) more
+          (subst (λ (x : CodeParts). StandsFor (plain_code x) c.settle_call.new.self (with_replies xs (take c.loop-branch.k rs ++ r.0 ∷ []))) code new);
     }
 
 pub returns-clause-order : goal.returns-clause-order
