@@ -1,5 +1,5 @@
 -- Combining the copies of one variable, one copy after the other.
-use Rattle.std.specs.Prelude.{ℕ, ℤ, pos, Bool, true, false, cond, ◌||◌, Option, Some, None, option_map, unwrap_or, List, get_or}
+use Rattle.std.specs.Prelude.{ℕ, ℤ, pos, Bool, true, false, cond, ◌||◌, Option, Some, None, is_some, option_map, unwrap_or, List, get_or}
 use Rattle.forec_base.specs.declared.Policy.{Policy}
 use Rattle.forec_kernel.specs.declared.shape.VarCopy.{VarCopy}
 use Rattle.forec_kernel.specs.Combining.{takes_part}
@@ -33,6 +33,10 @@ offered policy copy fold =
 
 abbrev pub folded : ℤ → Fold → Fold
 folded value fold = record fold { total = Some value; waits = false }
+
+-- a value took part, or a copy was marked
+abbrev pub is_touched : Fold → Bool
+is_touched fold = fold.marked || is_some fold.total
 
 -- the parent's copy afterwards: the base where no value took part
 abbrev pub result_of : Fold → VarCopy

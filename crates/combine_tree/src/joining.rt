@@ -2,7 +2,7 @@
 
 ghost use Rattle.std.specs.Prelude.{◌≡◌, ◌<◌, false, true, length, map, replicate, slice_set, IfOk};
 ghost use Rattle.forec_kernel.specs.Combining.{takes_part};
-ghost use Rattle.combine_tree.specs.Joins.{blank_fold, fold_at, begun, offered, pair_of, folded, result_of};
+ghost use Rattle.combine_tree.specs.Joins.{blank_fold, fold_at, begun, offered, pair_of, folded, is_touched, result_of};
 
 use forec_base::{OutOfMemory, Policy};
 use forec_kernel::VarCopy;
@@ -134,6 +134,16 @@ impl Joining {
         let fold = &mut self.folds[at];
         fold.total = Some(value);
         fold.waits = false;
+    }
+
+    /// Whether a copy that was offered has taken part or was marked. Where none has, the result is the parent's copy.
+    pub fn is_touched(&self, at: usize) -> bool
+        requires { at < length self.now }
+        ensures touched { result ≡ is_touched (fold_at self.now at) }
+        ensures same { result ≡ false → result_of (fold_at self.now at) ≡ (fold_at self.now at).base }
+    {
+        let fold = &self.folds[at];
+        fold.marked || fold.total.is_some()
     }
 
     /// The parent's copy of a variable, combined with all that were offered.

@@ -1,6 +1,8 @@
 -- One copy of a branch is combined with those before it.
 use Rattle.std.proofs.Common.{◌≡◌, ◌≢◌, ℕ, zero, suc, ◌+◌, ◌<◌, ◌≤◌, ◌==◌, List, [], ◌∷◌, length, get_or, Option, Some, None, Bool, true, false, cond, refl, sym, ap, ◌∙◌, subst, ⊎_elim, inl, inr, arith, length-set, get_or-set_same, get_or-set_other}
 use Rattle.std.specs.Prelude.{ℤ, slice_set, slice_get, IsTrue, ◌||◌, ◌⊎◌, option_map}
+use Rattle.std.proofs.lemmas.List.{set-get_or}
+use Rattle.forec_base.specs.declared.Policy.TheVariants as policy
 use Rattle.forec_kernel.specs.declared.shape.VarCopy.{VarCopy}
 use Rattle.forec_kernel.specs.declared.shape.Variable.{Variable}
 use Rattle.forec_kernel.specs.Engine.{run_for}
@@ -264,6 +266,19 @@ module _ (c : PlainCode) (h : Thread) (l : Loaded c h) (joining : h.phase ≡ ph
   pub no_pair : pair_of x.policy copy F ≡ None → Combined c h (after h.units (offered x.policy copy F)) (share ∷ [])
   no_pair e =
       let f = no_pair_in (takes_part x.policy F.base.value copy) F.total refl refl e in f
+
+  -- nothing is to be done for a copy that isn't marked, where the marked ones take part
+  pub passes : x.policy ≡ policy.Mod → copy.modified ≡ false → Combined c h h (share ∷ [])
+  passes marks unmarked =
+      let none : takes_part x.policy F.base.value copy ≡ false = ap (λ q. takes_part q F.base.value copy) marks ∙ unmarked in
+      let mark : M ≡ F = ap (λ b. record F { marked = F.marked || b }) unmarked ∙ ap (λ b. record F { marked = b }) (or_none F.marked) in
+      let same : slice_set h.joining p M ≡ h.joining = ap (slice_set h.joining p) mark ∙ set-get_or h.joining p _ in
+      let with_folds : List Fold → Thread = λ js. record { number = h.number; phase = h.phase; function = h.function; at = h.at; stack = h.stack; own = h.own; units = h.units; allowance = h.allowance; branches = h.branches; joining = js } in
+      subst (λ js. Combined c h (with_folds js) (share ∷ [])) same (comes_one M refl free (λ rest. one_step rest ∙ by_part rest false none))
+    where
+      or_none : (b : Bool) → (b || false) ≡ b
+      or_none true = refl
+      or_none false = refl
 
   -- ---- a pair
 
