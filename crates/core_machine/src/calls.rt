@@ -130,6 +130,7 @@ impl Thread {
         ensures number { self.new.number ≡ self.old.number }
         ensures branches { self.new.branches.numbers ≡ self.old.branches.numbers }
         ensures order { HasSettled self.new (_k + 1) }
+        ensures jobs { jobs_at (plain_code _code.now) self.new ≡ jobs_at (plain_code _code.now) self.old }
         ensures stands { (xs : List Exchange) (rs : List Reply) (r : Reply) → length rs ≡ _k → RepliesBy branch.now r
             → StandsFor (plain_code _code.now) self.old (with_replies xs rs) → StandsFor (plain_code _code.now) self.new (with_replies xs (rs ++ r ∷ [])) }
     {

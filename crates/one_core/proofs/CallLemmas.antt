@@ -38,6 +38,15 @@ seated code threads = record { code = code; threads = threads }
 pub fitted_set : (code : CodeParts) (seats : List (Option Thread)) → IsFitted (seated code seats) → (t : ℕ) (y : Option Thread) → IsFitted (seated code (slice_set seats t y))
 fitted_set code seats f t y = record { valid = f.valid; seats = length-set seats t y ∙ f.seats }
 
+-- it has heard what the thread in the seat replies
+pub gave : (code : CodeParts) (seats : List (Option Thread)) (branch : ℕ) (h : Thread) (r : Reply) → HasHeard (seated code (slice_set seats branch (Some h))) branch r → RepliesBy h r
+gave code seats branch h r heard =
+    let lt = slice_get_within (slice_set seats branch (Some h)) branch (Some heard.thread) heard.sits.at in
+    let count = length-set seats branch (Some h) in
+    let at = get_set seats branch (Some h) (omega (arith, lt, count)) in
+    let same = some_once heard.thread h (some_once (Some heard.thread) (Some h) (sym heard.sits.at ∙ at)) in
+    subst (λ t. RepliesBy t r) same heard.reply
+
 -- ---- a Wake comes to a thread that has paused
 
 no_answer : (c : PlainCode) (t n : ℕ) (r : Reply) → Answers (CodeAlone c) n t [] r → ⊥
@@ -68,7 +77,7 @@ module _ (code : CodeParts) (seats : List (Option Thread)) (fitted : IsFitted (s
   abbrev s0 : Seated
   s0 = seated code seats
 
-  pub at_fork : HasSettled h 0 → IsAtFork h
+  pub at_fork : HasSettled h k → IsAtFork h
   at_fork settled = subst (HasSettled h) (sym settled.count) settled
 
   pub in_branches : k < length h.branches.numbers

@@ -6,8 +6,8 @@ use Rattle.forec_kernel.specs.Engine.{Job, Start, Wake, Reply, Written, Answered
 use Rattle.thread_code.specs.Plain.{PlainCode, plain_code}
 use Rattle.thread_code.specs.Alone.{CodeAlone}
 use Rattle.core_machine.specs.declared.thread.Thread.{Thread}
-use Rattle.core_machine.specs.Threads.{Loaded}
-use Rattle.core_machine.specs.Forks.{jobs_at}
+use Rattle.core_machine.specs.Threads.{Loaded, StandsFor}
+use Rattle.core_machine.specs.Forks.{jobs_at, with_replies}
 use Rattle.core_host.specs.Posts.{IsBranchOf}
 use Rattle.core_host.proofs.Mails.{some_once}
 use Rattle.core_host.proofs.Send.{at_map}
@@ -15,10 +15,11 @@ use Rattle.core_host.proofs.RunChildren.{pairs_more}
 use Rattle.core_host.proofs.ChildrenRunLemmas.{no_pairs}
 use Rattle.one_core.specs.Seats.{Seated, code_in, Leaves}
 use Rattle.one_core.specs.Told.{Book, HasTold}
-use Rattle.one_core.specs.Called.{IsAsleep, MayTell, IsJobFor, IsForked, CanTell, CanCall, HasHeard, WasCalled, HasCalled, HaveHeard, HaveCalled, Consulted}
+use Rattle.one_core.specs.Resting.{RestAbove}
+use Rattle.one_core.specs.Called.{IsAsleep, MayTell, IsJobFor, IsForked, CanTell, CanCall, HasHeard, WasCalled, HasCalled, SettlesReply, HaveHeard, HaveCalled, Consulted}
 use Rattle.one_core.proofs.TellLemmas.{keeps_same, keeps_then, leaves_same, leaves_then, told_more}
 
-pub consulted_none : (a : Seated) (h : Thread) → Consulted a a h 0
+pub consulted_none : (a : Seated) (h : Thread) → Consulted a a h h 0
 consulted_none a h = record {
   within = omega arith;
   leaves = leaves_same h.number a;
@@ -32,6 +33,7 @@ consulted_none a h = record {
     told = λ pairs told. subst (HasTold (code_in a) h.number book) (sym (append-nil pairs) ∙ ap (λ l. pairs ++ l) (sym (no_pairs (jobs_at (code_in a) h)))) told;
     rest = λ i w le at. can.each i w at;
   };
+  settled = λ xs before. before;
 }
   where
     none_there : {A : Type 0} (i : ℕ) (r : Reply) → slice_get [] i ≡ Some r → A
@@ -43,7 +45,8 @@ job_keeps c a b t (Start args values n) e h = tt
 job_keeps c a b t (Wake values n) e h = subst (IsAsleep c t) (sym e) h
 
 -- the next branch
-module _ (a b : Seated) (h : Thread) (k number : ℕ) (fork : IsForked (code_in a) h) (done : Consulted a b h k) (at : slice_get h.branches.numbers k ≡ Some number) where
+module _ (a b : Seated) (h h1 : Thread) (k number : ℕ) (fork : IsForked (code_in a) h) (done : Consulted a b h h1 k) (number1 : h1.number ≡ h.number) (jobs1 : jobs_at (code_in a) h1 ≡ jobs_at (code_in a) h)
+    (at : slice_get h.branches.numbers k ≡ Some number) where
   abbrev c : PlainCode
   c = code_in a
 
@@ -51,24 +54,24 @@ module _ (a b : Seated) (h : Thread) (k number : ℕ) (fork : IsForked (code_in 
   job = at_map (λ w. w.branch) (jobs_at c h) k number (ap (λ l. slice_get l k) (sym fork.numbers) ∙ at)
 
   -- it can be called
-  pub can_call : (book : Book) (can : CanTell a h book) → CanCall b h k number (done.called book can).after
+  pub can_call : (book : Book) (can : CanTell a h book) → CanCall b h1 k number (done.called book can).after
   can_call book can =
       let w = done.called book can in
       record {
-        above = w.above;
+        above = subst (RestAbove b w.after) (sym number1) w.above;
         job = job.0;
-        at = subst (λ x. slice_get (jobs_at (plain_code x) h) k ≡ Some job.0) (sym done.leaves.code) job.1;
+        at = subst (λ x. slice_get (jobs_at (plain_code x) h1) k ≡ Some job.0) (sym done.leaves.code) (ap (λ l. slice_get l k) jobs1 ∙ job.1);
         number = job.2;
-        is = subst (λ x. IsJobFor (plain_code x) w.after h.number job.0) (sym done.leaves.code) (w.rest k job.0 (omega arith) job.1);
+        is = subst (λ x. IsJobFor (plain_code x) w.after h1.number job.0) (sym done.leaves.code) (subst (λ t. IsJobFor c w.after t job.0) (sym number1) (w.rest k job.0 (omega arith) job.1));
       }
 
-  pub some_call : (book : Book) × CanTell a h book → (book : Book) × CanCall b h k number book
+  pub some_call : (book : Book) × CanTell a h book → (book : Book) × CanCall b h1 k number book
   some_call some = ((done.called some.0 some.1).after, can_call some.0 some.1)
 
-  module _ (some : (book : Book) × CanTell a h book) (d : Seated) (leaves : Leaves number b d) (calls : HasCalled b d h k number) where
+  module _ (some : (book : Book) × CanTell a h book) (d : Seated) (leaves : Leaves number b d) (calls : HasCalled b d h1 k number) where
     low : h.number < number
     unfolding job can_call
-    low = let x = (can_call some.0 some.1).is.above in let y = job.2 in subst (λ n. h.number < n) job.2 x
+    low = let x = (can_call some.0 some.1).is.above in let y = job.2 in subst (λ t. t < number) number1 (subst (λ n. h1.number < n) job.2 x)
 
     -- an earlier branch has a smaller number
     earlier : (i n : ℕ) → i < k → slice_get h.branches.numbers i ≡ Some n → n < number
@@ -115,7 +118,7 @@ module _ (a b : Seated) (h : Thread) (k number : ℕ) (fork : IsForked (code_in 
       abbrev w : HaveCalled a b h k book done.replies
       w = done.called book can
 
-      abbrev now : WasCalled b d h w.after job.0 calls.reply
+      abbrev now : WasCalled b d h1 w.after job.0 calls.reply
       unfolding job can_call
       now = calls.called w.after (can_call book can)
 
@@ -126,7 +129,7 @@ module _ (a b : Seated) (h : Thread) (k number : ℕ) (fork : IsForked (code_in 
       in_b p j own = subst (λ x. IsBranchOf (plain_code x).shape p j) (sym done.leaves.code) own
 
       others : (j : ℕ) → IsBranchOf c.shape h.number j → (suc j ≡ suc its.place → ⊥) → now.after (suc j) ≡ w.after (suc j)
-      others j own n = now.others j (in_b h.number j own) (λ e. n (e ∙ its.branch))
+      others j own n = now.others j (subst (λ t. IsBranchOf (code_in b).shape t j) (sym number1) (in_b h.number j own)) (λ e. n (e ∙ its.branch))
 
       told : (pairs : List Answered) → HasTold c h.number book pairs → HasTold c h.number now.after (pairs ++ pair_up (jobs_at c h) (done.replies ++ calls.reply ∷ []))
       told pairs before =
@@ -163,21 +166,24 @@ module _ (a b : Seated) (h : Thread) (k number : ℕ) (fork : IsForked (code_in 
       called_more : HaveCalled a d h (k + 1) book (done.replies ++ calls.reply ∷ [])
       called_more = record {
         after = now.after;
-        above = now.above;
-        keeps = keeps_then c h.number book w.after now.after w.keeps (λ p j own lt. now.keeps p j (in_b p j own) lt);
+        above = subst (RestAbove d now.after) number1 now.above;
+        keeps = keeps_then c h.number book w.after now.after w.keeps (λ p j own lt. now.keeps p j (in_b p j own) (omega (arith, lt, number1)));
         told = told;
         rest = later;
       }
 
-    pub consulted_more : Consulted a d h (k + 1)
-    consulted_more = record {
+    pub consulted_more : (h2 : Thread) → SettlesReply b d number h1 k h2 → Consulted a d h h2 (k + 1)
+    consulted_more h2 settles = record {
       within = let lt = slice_get_within h.branches.numbers k number at in omega (arith, lt);
       leaves = leaves_then h.number number a b d (let l = low in omega (arith, l)) done.leaves leaves;
       replies = done.replies ++ calls.reply ∷ [];
       count = count_then done.replies calls.reply ∙ ap (λ n. n + 1) done.count;
       heard = more_heard;
       called = called_more;
+      settled = λ xs before.
+          let old = subst (λ x. StandsFor (plain_code x) h1 (with_replies xs done.replies)) (sym done.leaves.code) (done.settled xs before) in
+          subst (λ x. StandsFor (plain_code x) h2 (with_replies xs (done.replies ++ calls.reply ∷ []))) done.leaves.code (settles xs done.replies calls.reply done.count calls.heard old);
     }
 
-pub have_heard : (a b : Seated) (h : Thread) (k : ℕ) (done : Consulted a b h k) → length h.branches.numbers ≤ k → HaveHeard b h.branches.numbers done.replies
-have_heard a b h k done le = record { count = omega (arith, done.count, done.within, le); each = done.heard }
+pub have_heard : (a b : Seated) (h h1 : Thread) (k : ℕ) (done : Consulted a b h h1 k) → length h.branches.numbers ≤ k → HaveHeard b h.branches.numbers done.replies
+have_heard a b h h1 k done le = record { count = omega (arith, done.count, done.within, le); each = done.heard }

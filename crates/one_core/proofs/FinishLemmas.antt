@@ -69,8 +69,7 @@ module _ (a b : Seated) (h0 h h1 : Thread) (number : h.number ≡ h0.number) (nu
         (bound a.code fitted.valid h1 loaded1 settled numbers g.after jobs job now.0 h0.allowance allow) in
         let none = ap length first in omega (arith, most, now.1, none)
 
-    module _ (d : Seated) (done : Consulted b d h1 (length h1.branches.numbers)) (h2 h3 : Thread) (number2 : h2.number ≡ h1.number) (number3 : h3.number ≡ h2.number)
-        (settles : (xs : List Exchange) → StandsFor (code_in d) h1 (with_replies xs []) → StandsFor (code_in d) h2 (with_replies xs done.replies))
+    module _ (d : Seated) (h2 h3 : Thread) (done : Consulted b d h1 h2 (length h1.branches.numbers)) (number2 : h2.number ≡ h1.number) (number3 : h3.number ≡ h2.number)
         (joins : (xs : List Exchange) → StandsFor (code_in d) h2 (with_replies xs done.replies) → StandsFor (code_in d) h3 (with_replies xs done.replies)) where
       called : HaveCalled b d h1 (length h1.branches.numbers) g.after done.replies
       called = done.called g.after can_tell
@@ -81,7 +80,8 @@ module _ (a b : Seated) (h0 h h1 : Thread) (number : h.number ≡ h0.number) (nu
       goes : (xs : List Exchange) → StandsFor (code_in a) h1 (with_replies xs []) → StandsFor (code_in a) h3 (with_replies xs done.replies)
       goes xs st =
           subst (λ x. StandsFor (plain_code x) h3 (with_replies xs done.replies)) code_is
-          (joins xs (settles xs (subst (λ x. StandsFor (plain_code x) h1 (with_replies xs [])) (sym code_is) st)))
+          (joins xs (subst (λ x. StandsFor (plain_code x) h2 (with_replies xs done.replies)) (sym done.leaves.code)
+          (done.settled xs (subst (λ x. StandsFor (plain_code x) h1 (with_replies xs [])) (sym leaves.code) st))))
 
       tells : HasTold (code_in a) h1.number called.after (told (code_in a) h1.number jobs job now.0.log ++ pair_up (jobs_at (code_in a) h1) done.replies)
       tells =
@@ -92,7 +92,7 @@ module _ (a b : Seated) (h0 h h1 : Thread) (number : h.number ≡ h0.number) (nu
       pub goes_on : Going a h0 d h3 (n + 1) book jobs job w
       goes_on =
           let le : length h1.branches.numbers ≤ length h1.branches.numbers = omega arith in
-          let count = (have_heard b d h1 (length h1.branches.numbers) done le).count in
+          let count = (have_heard b d h1 h2 (length h1.branches.numbers) done le).count in
           let i = next a.code fitted.valid h1 loaded1 settled numbers g.after jobs job now.0 called.after done.replies count tells h3 (number3 ∙ number2) goes in
           let same = number1 ∙ number in
           record {

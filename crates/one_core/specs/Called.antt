@@ -90,21 +90,25 @@ pub record HaveCalled (a b : Seated) (h : Thread) (k : ℕ) (book : Book) (rs : 
   pub told : (pairs : List Answered) → HasTold (code_in a) h.number book pairs → HasTold (code_in a) h.number after (pairs ++ pair_up (jobs_at (code_in a) h) rs)
   pub rest : (i : ℕ) (w : Written) → k ≤ i → slice_get (jobs_at (code_in a) h) i ≡ Some w → IsJobFor (code_in a) after h.number w
 
--- the replies are there, and for whatever the threads had been told it is so
-pub record Consulted (a b : Seated) (h : Thread) (k : ℕ) : Type 0 where
+-- the thread has settled the reply of this branch, its k-th: where it stood for exchanges with the replies before it, it stands for them with that one too
+abbrev pub SettlesReply : Seated → Seated → ℕ → Thread → ℕ → Thread → Type 0
+SettlesReply a b branch h k h1 =
+    (xs : List Exchange) (rs : List Reply) (r : Reply) → length rs ≡ k → HasHeard b branch r →
+    StandsFor (code_in a) h (with_replies xs rs) → StandsFor (code_in a) h1 (with_replies xs (rs ++ r ∷ []))
+
+-- The replies are there, and for whatever the threads had been told it is so. The thread, which is now `h1`, has settled them:
+-- where it stood for exchanges with no replies in the last, it stands for them with these.
+pub record Consulted (a b : Seated) (h h1 : Thread) (k : ℕ) : Type 0 where
   pub within : k ≤ length h.branches.numbers
   pub leaves : Leaves h.number a b
   pub replies : List Reply
   pub count : length replies ≡ k
   pub heard : (i number : ℕ) (r : Reply) → slice_get h.branches.numbers i ≡ Some number → slice_get replies i ≡ Some r → HasHeard b number r
   pub called : (book : Book) → CanTell a h book → HaveCalled a b h k book replies
+  pub settled : (xs : List Exchange) → StandsFor (code_in a) h (with_replies xs []) → StandsFor (code_in a) h1 (with_replies xs replies)
 
--- ---- replies are settled and joined
+-- ---- replies are joined
 
--- where the thread stood for exchanges with no replies in the last, it stands for them with those that were heard
-abbrev pub SettlesReplies : Seated → Thread → Thread → Type 0
-SettlesReplies s h h1 = (rs : List Reply) (xs : List Exchange) → HaveHeard s h.branches.numbers rs → StandsFor (code_in s) h (with_replies xs []) → StandsFor (code_in s) h1 (with_replies xs rs)
-
--- where it stood for them with these, it still does
+-- where the thread stood for exchanges with the replies that were heard, it still does
 abbrev pub JoinsReplies : Seated → Thread → Thread → Type 0
 JoinsReplies s h h1 = (rs : List Reply) (xs : List Exchange) → HaveHeard s h.branches.numbers rs → StandsFor (code_in s) h (with_replies xs rs) → StandsFor (code_in s) h1 (with_replies xs rs)

@@ -6,12 +6,13 @@ ghost use Rattle.forec_kernel.specs.Packed.{HasRoom, IsJob};
 ghost use Rattle.thread_code.specs.Valid.{of_shape};
 ghost use Rattle.combine_tree.specs.Plain.{plain_packet};
 ghost use Rattle.core_machine.specs.Threads.{Loaded, CanBegin, CanRun, HasReply, HasSettled, HasJoined};
+ghost use Rattle.core_machine.specs.Forks.{jobs_at};
 ghost use Rattle.core_machine.specs.declared.thread.Thread.{Thread as PlainThread};
 ghost use Rattle.core_machine.specs.Replies.{Replies_by};
 ghost use Rattle.one_core.specs.Seats.{code_in, IsFitted, Sits, Leaves};
 ghost use Rattle.one_core.specs.Told.{Book};
 ghost use Rattle.one_core.specs.Resting.{HasBegun, StaysAtWork, HasWorked, HasRepliedTo};
-ghost use Rattle.one_core.specs.Called.{IsForked, CanTell, CanCall, HasCalled, Consulted, HaveHeard, SettlesReplies, JoinsReplies};
+ghost use Rattle.one_core.specs.Called.{IsForked, CanTell, CanCall, HasCalled, SettlesReply, Consulted, HaveHeard, JoinsReplies};
 
 use combine_tree::Packet;
 use core_host::Boxed;
@@ -38,17 +39,23 @@ impl<'c> Model for Calls<'c> {
 }
 
 impl<'c> Calls<'c> {
-    /// Gives the k-th branch of the thread's fork its job, and runs it until it has its reply.
+    /// Gives the k-th branch of the thread's fork its job, runs it until it has its reply, and settles that.
     #[inline(always)]
     #[cycle(finish)]
-    fn call_branch<G: Gate>(&mut self, gate: &G, thread: &Thread, k: usize, branch: u32)
+    fn call_branch<G: Gate>(&mut self, gate: &G, thread: &mut Thread, k: usize, branch: u32)
         requires fitted { IsFitted self.old }
-        requires loaded { Loaded (code_in self.old) thread.now }
-        requires fork { HasSettled thread.now 0 }
-        requires branch { slice_get thread.now.branches.numbers k ≡ Some branch }
-        requires job { (book : Book) × CanCall self.old thread.now k branch book }
+        requires loaded { Loaded (code_in self.old) thread.old }
+        requires fork { HasSettled thread.old k }
+        requires branch { slice_get thread.old.branches.numbers k ≡ Some branch }
+        requires job { (book : Book) × CanCall self.old thread.old k branch book }
         ensures leaves { Leaves branch self.old self.new }
-        ensures called { HasCalled self.old self.new thread.now k branch }
+        ensures called { HasCalled self.old self.new thread.old k branch }
+        ensures loaded { Loaded (code_in self.old) thread.new }
+        ensures number { thread.new.number ≡ thread.old.number }
+        ensures branches { thread.new.branches.numbers ≡ thread.old.branches.numbers }
+        ensures order { HasSettled thread.new (k + 1) }
+        ensures jobs { jobs_at (code_in self.old) thread.new ≡ jobs_at (code_in self.old) thread.old }
+        ensures stands { SettlesReply self.old self.new branch thread.old k thread.new }
     {
         let Some(mut seated) = self.seats[branch as usize].take() else {
             unreachable!()
@@ -57,44 +64,26 @@ impl<'c> Calls<'c> {
         thread.call_branch(self.code, k, called);
         gate.pass(self.core, branch, Point::Begun);
         self.finish(gate, called);
+        thread.settle_call(self.code, k, called);
         self.seats[branch as usize] = Some(seated);
         gate.pass(self.core, branch, Point::Answered);
     }
 
-    /// Has the branches of the thread's fork do their jobs, one after the other.
+    /// Has the branches of the thread's fork do their jobs, one after the other, and settles each one's reply.
     #[cycle(finish)]
-    fn call_branches<G: Gate>(&mut self, gate: &G, thread: &Thread)
+    fn call_branches<G: Gate>(&mut self, gate: &G, thread: &mut Thread)
         requires fitted { IsFitted self.old }
-        requires fork { IsForked (code_in self.old) thread.now }
-        requires jobs { (book : Book) × CanTell self.old thread.now book }
-        ensures called { Consulted self.old self.new thread.now (length thread.now.branches.numbers) }
+        requires fork { IsForked (code_in self.old) thread.old }
+        requires jobs { (book : Book) × CanTell self.old thread.old book }
+        ensures called { Consulted self.old self.new thread.old thread.new (length thread.old.branches.numbers) }
+        ensures loaded { Loaded (code_in self.new) thread.new }
+        ensures number { thread.new.number ≡ thread.old.number }
+        ensures branches { thread.new.branches.numbers ≡ thread.old.branches.numbers }
+        ensures order { HasJoined thread.new 0 }
     {
         let mut k = 0;
         while let Some(branch) = thread.active(self.code, k) {
             self.call_branch(gate, thread, k, branch);
-            k += 1;
-        }
-    }
-
-    /// Settles the replies of the thread's branches.
-    #[inline(always)]
-    fn settle(&self, thread: &mut Thread)
-        requires loaded { Loaded (code_in self.now) thread.old }
-        requires fork { HasSettled thread.old 0 }
-        requires few { length thread.old.branches.numbers ≤ MAX_THREADS }
-        requires heard { (rs : List Reply) × HaveHeard self.now thread.old.branches.numbers rs }
-        ensures loaded { Loaded (code_in self.now) thread.new }
-        ensures number { thread.new.number ≡ thread.old.number }
-        ensures branches { thread.new.branches.numbers ≡ thread.old.branches.numbers }
-        ensures order { HasJoined thread.new 0 }
-        ensures stands { SettlesReplies self.now thread.old thread.new }
-    {
-        let mut k = 0;
-        while let Some(branch) = thread.active(self.code, k) {
-            let Some(called) = &self.seats[branch as usize] else {
-                unreachable!()
-            };
-            thread.settle_call(self.code, k, called);
             k += 1;
         }
     }
@@ -138,7 +127,6 @@ impl<'c> Calls<'c> {
         let mut forks: u128 = 0;
         while let Event::Fork = thread.run(self.code) {
             self.call_branches(gate, thread);
-            self.settle(thread);
             self.join(thread);
             forks += 1;
         }

@@ -1,4 +1,4 @@
-use Rattle.std.proofs.Common.{rules, ◌≡◌, ◌≤◌, ◌<◌, ◌+◌, ◌-◌, ◌*◌, Some, None, List, length, map, refl, sym, ap, ◌∙◌, subst, arith}
+use Rattle.std.proofs.Common.{rules, ◌≡◌, ◌≤◌, ◌<◌, ◌+◌, ◌-◌, ◌*◌, ◌++◌, ◌∷◌, [], Some, None, List, length, slice_get, map, refl, sym, ap, ◌∙◌, subst, arith}
 use Rattle.std.specs.Prelude.{slice_set}
 use Rattle.std.proofs.lemmas.Option.{slice_get_within}
 use Rattle.std.proofs.Math.Facts.{Fits-of_lt}
@@ -6,15 +6,15 @@ use Rattle.forec_kernel.specs.Engine.{Exchange}
 use Rattle.thread_code.specs.declared.instruction.CodeParts.{CodeParts}
 use Rattle.thread_code.specs.Plain.{plain_code}
 use Rattle.thread_code.specs.Alone.{block_of}
-use Rattle.core_machine.specs.Threads.{Loaded, StandsFor, Left_by}
-use Rattle.core_machine.specs.Forks.{jobs_at}
+use Rattle.core_machine.specs.Threads.{Loaded, StandsFor, HasSettled, Left_by}
+use Rattle.core_machine.specs.Forks.{jobs_at, with_replies}
 use Rattle.core_host.proofs.Hearing.{past_end}
 use Rattle.core_host.proofs.Finishing.{fits_forks, replied_by}
 use Rattle.one_core.specs.Seats.{Seated, code_in, IsFitted, Leaves}
 use Rattle.one_core.specs.Told.{Book}
 use Rattle.one_core.specs.Called.{CanCall, HasCalled, Consulted, HaveHeard}
 use Rattle.one_core.proofs.TellLemmas.{fitted_keeps, leaves_same, leaves_then}
-use Rattle.one_core.proofs.CallLemmas.{seated, fitted_set, in_branches, not_empty, child_loaded, child_at, child_rests, child_takes, number_is, has_begun, has_left, has_called}
+use Rattle.one_core.proofs.CallLemmas.{seated, fitted_set, in_branches, not_empty, child_loaded, child_at, child_rests, child_takes, number_is, has_begun, has_left, has_called, gave}
 use Rattle.one_core.proofs.ConsultLemmas.{consulted_none, some_call, consulted_more, have_heard}
 use Rattle.one_core.proofs.FinishLemmas.{begun_works, begun_allowance, going_none, stays, its_fork, can_tell, some_branch, its_bound, goes_on}
 use Rattle.one_core.proofs.calls.Calls.+finish.Goals as goal
@@ -22,23 +22,50 @@ use Rattle.one_core.proofs.calls.Calls.+finish.Goals as goal
 -- ---- call_branches
 
 pub call_branches-loop-branch-init : goal.call_branches-loop-branch-init
-call_branches-loop-branch-init g t c = consulted_none c.args.self.now c.args.thread.now
+call_branches-loop-branch-init g t c =
+    record {
+      called = consulted_none c.args.self.now c.args.thread.now;
+      loaded = c.requires.fork.loaded;
+      number = refl;
+      branches = refl;
+      order = c.requires.fork.settled;
+      jobs = refl;
+    }
 
 pub call_branches-loop-branch-smaller : goal.call_branches-loop-branch-smaller
 call_branches-loop-branch-smaller g t c =
-    let lt = slice_get_within c.args.thread.now.branches.numbers c.loop-branch.k c.in-Some.branch (sym c.active.ensures ∙ c.in-Some.is) in omega (arith, lt)
+    let at = ap (λ l. slice_get l c.loop-branch.k) (sym c.loop-branch.invariant.branches) ∙ sym c.active.ensures ∙ c.in-Some.is in
+    let lt = slice_get_within c.args.thread.now.branches.numbers c.loop-branch.k c.in-Some.branch at in
+    omega (arith, lt)
 
 pub call_branches-loop-branch-preserved : goal.call_branches-loop-branch-preserved
 call_branches-loop-branch-preserved g t c =
-    consulted_more c.args.self.now c.loop-branch.self c.args.thread.now c.loop-branch.k c.in-Some.branch c.requires.fork c.loop-branch.invariant (sym c.active.ensures ∙ c.in-Some.is)
-    c.requires.jobs c.call_branch.new.self c.call_branch.ensures.leaves c.call_branch.ensures.called
+    let i = c.loop-branch.invariant in
+    let code = i.called.leaves.code in
+    let at = ap (λ l. slice_get l c.loop-branch.k) (sym i.branches) ∙ sym c.active.ensures ∙ c.in-Some.is in
+    record {
+      called = consulted_more c.args.self.now c.loop-branch.self c.args.thread.now c.loop-branch.thread c.loop-branch.k c.in-Some.branch c.requires.fork i.called i.number i.jobs at
+          c.requires.jobs c.call_branch.new.self c.call_branch.ensures.leaves c.call_branch.ensures.called c.call_branch.new.thread c.call_branch.ensures.stands;
+      loaded = subst (λ (x : CodeParts). Loaded (plain_code x) c.call_branch.new.thread) code c.call_branch.ensures.loaded;
+      number = c.call_branch.ensures.number ∙ i.number;
+      branches = c.call_branch.ensures.branches ∙ i.branches;
+      order = c.call_branch.ensures.order;
+      jobs = subst (λ (x : CodeParts). jobs_at (plain_code x) c.call_branch.new.thread ≡ jobs_at (plain_code x) c.loop-branch.thread) code c.call_branch.ensures.jobs ∙ i.jobs;
+    }
 
 pub call_branches-returns : goal.call_branches-returns
 call_branches-returns g t c =
-    let past = past_end c.args.thread.now.branches.numbers c.loop-branch.k (sym c.active.ensures ∙ c.in_default.is) in
-    let within = c.loop-branch.invariant.within in
-    let same : c.loop-branch.k ≡ length c.args.thread.now.branches.numbers = omega (arith, past, within) in
-    record { called = subst (Consulted c.args.self.now c.loop-branch.self c.args.thread.now) same c.loop-branch.invariant }
+    let i = c.loop-branch.invariant in
+    let past = past_end c.loop-branch.thread.branches.numbers c.loop-branch.k (sym c.active.ensures ∙ c.in_default.is) in
+    let count = ap length i.branches in
+    let same : c.loop-branch.k ≡ length c.args.thread.now.branches.numbers = omega (arith, past, count, i.called.within) in
+    record {
+      called = subst (Consulted c.args.self.now c.loop-branch.self c.args.thread.now c.loop-branch.thread) same i.called;
+      loaded = subst (λ (x : CodeParts). Loaded (plain_code x) c.loop-branch.thread) (sym i.called.leaves.code) i.loaded;
+      number = i.number;
+      branches = i.branches;
+      order = subst (HasSettled c.loop-branch.thread) (same ∙ sym count) i.order;
+    }
 
 -- ---- finish
 
@@ -79,7 +106,7 @@ finish-join-requires-clause-some g t c =
     let numbers = subst (λ (x : CodeParts). c.run.new.self.branches.numbers ≡ map (λ w. w.branch) (jobs_at (plain_code x) c.run.new.self)) code (c.run.ensures.branches c.in-Fork.is) in
     let w = begun_works c.args.self.now c.args.thread.now c.requires.begun in
     let going = c.loop-self.invariant.at c.requires.begun.book c.requires.begun.jobs c.requires.begun.job w in
-    subst (λ l. 0 < length l) (sym c.settle.ensures.branches)
+    subst (λ l. 0 < length l) (sym c.call_branches.ensures.branches)
     (some_branch c.args.self.now c.loop-self.self c.args.thread.now c.loop-self.thread c.run.new.self c.loop-self.invariant.number c.run.ensures.number stands c.loop-self.forks c.requires.begun.book c.requires.begun.jobs c.requires.begun.job w going
     c.requires.fitted c.loop-self.invariant.leaves loaded settled numbers)
 
@@ -120,18 +147,17 @@ finish-loop-self-preserved g t c =
     let number = c.run.ensures.number ∙ c.loop-self.invariant.number in
     let done = c.call_branches.ensures.called in
     let le : length c.run.new.self.branches.numbers ≤ length c.run.new.self.branches.numbers = omega arith in
-    let all = have_heard c.loop-self.self c.call_branches.new.self c.run.new.self (length c.run.new.self.branches.numbers) done le in
+    let all = have_heard c.loop-self.self c.call_branches.new.self c.run.new.self c.call_branches.new.thread (length c.run.new.self.branches.numbers) done le in
     let there = done.leaves.code ∙ c.loop-self.invariant.leaves.code in
     record {
       loaded = subst (λ (x : CodeParts). Loaded (plain_code x) c.join.new.thread) there c.join.ensures.loaded;
-      number = c.join.ensures.number ∙ c.settle.ensures.number ∙ number;
+      number = c.join.ensures.number ∙ c.call_branches.ensures.number ∙ number;
       running = c.join.ensures.running;
       leaves = leaves_then c.args.thread.now.number c.run.new.self.number c.args.self.now c.loop-self.self c.call_branches.new.self (omega (arith, number)) c.loop-self.invariant.leaves done.leaves;
       at = λ book jobs job w.
           goes_on c.args.self.now c.loop-self.self c.args.thread.now c.loop-self.thread c.run.new.self c.loop-self.invariant.number c.run.ensures.number stands c.loop-self.forks book jobs job w (c.loop-self.invariant.at book jobs job w)
-          c.requires.fitted c.loop-self.invariant.leaves loaded settled numbers c.call_branches.new.self done c.settle.new.thread c.join.new.thread c.settle.ensures.number c.join.ensures.number
-          (λ xs st. c.settle.ensures.stands done.replies xs all st)
-          (λ xs st. c.join.ensures.stands done.replies xs (subst (λ l. HaveHeard c.call_branches.new.self l done.replies) (sym c.settle.ensures.branches) all) st);
+          c.requires.fitted c.loop-self.invariant.leaves loaded settled numbers c.call_branches.new.self c.call_branches.new.thread c.join.new.thread done c.call_branches.ensures.number c.join.ensures.number
+          (λ xs st. c.join.ensures.stands done.replies xs (subst (λ l. HaveHeard c.call_branches.new.self l done.replies) (sym c.call_branches.ensures.branches) all) st);
     }
 
 pub finish-returns : goal.finish-returns
@@ -210,17 +236,47 @@ call_branch-finish-requires g t c κs within =
     let smaller : 3 * (257 - c.call_branch.new.branch.number) + 2 < 3 * (257 - c.args.branch) + 3 = omega (arith, number) in
     (search rules, (within, (fitted, (c.call_branch.ensures.loaded, (c.call_branch.ensures.running, begun)))))
 
+-- ---- call_branch settles
+
+pub call_branch-settle_call-requires-clause-loaded : goal.call_branch-settle_call-requires-clause-loaded
+call_branch-settle_call-requires-clause-loaded g t c =
+    let code : c.self-2.inside.code.now ≡ c.args.self.now.code = ap (λ (s : Seated). s.code) c.self-2.view_is ∙ c.finish.ensures.leaves.code ∙ ap (λ (s : Seated). s.code) c.self.view_is in
+    subst (λ (x : CodeParts). Loaded (plain_code x) c.args.thread.now) (sym code) c.requires.loaded
+
+pub call_branch-settle_call-requires-clause-branch : goal.call_branch-settle_call-requires-clause-branch
+call_branch-settle_call-requires-clause-branch g t c = slice_get_within c.args.thread.now.branches.numbers c.args.k c.args.branch c.requires.branch
+
+pub call_branch-returns-clause-loaded : goal.call_branch-returns-clause-loaded
+call_branch-returns-clause-loaded g t c =
+    let code : c.self-2.inside.code.now ≡ c.args.self.now.code = ap (λ (s : Seated). s.code) c.self-2.view_is ∙ c.finish.ensures.leaves.code ∙ ap (λ (s : Seated). s.code) c.self.view_is in
+    subst (λ (x : CodeParts). Loaded (plain_code x) c.settle_call.new.self) code c.settle_call.ensures.loaded
+
+pub call_branch-returns-clause-jobs : goal.call_branch-returns-clause-jobs
+call_branch-returns-clause-jobs g t c =
+    let code : c.self-2.inside.code.now ≡ c.args.self.now.code = ap (λ (s : Seated). s.code) c.self-2.view_is ∙ c.finish.ensures.leaves.code ∙ ap (λ (s : Seated). s.code) c.self.view_is in
+    subst (λ (x : CodeParts). jobs_at (plain_code x) c.settle_call.new.self ≡ jobs_at (plain_code x) c.args.thread.now) code c.settle_call.ensures.jobs
+
+pub call_branch-returns-clause-stands : goal.call_branch-returns-clause-stands
+call_branch-returns-clause-stands g t c xs rs r count heard before =
+    let code : c.self-2.inside.code.now ≡ c.args.self.now.code = ap (λ (s : Seated). s.code) c.self-2.view_is ∙ c.finish.ensures.leaves.code ∙ ap (λ (s : Seated). s.code) c.self.view_is in
+    let by = gave c.self-2.inside.code.now c.self-2.inside.seats.items c.args.branch c.finish.new.thread r heard in
+    let old = subst (λ (x : CodeParts). StandsFor (plain_code x) c.args.thread.now (with_replies xs rs)) (sym code) before in
+    subst (λ (x : CodeParts). StandsFor (plain_code x) c.settle_call.new.self (with_replies xs (rs ++ r ∷ []))) code (c.settle_call.ensures.stands xs rs r count by old)
+
 -- ---- call_branches calls
 
 pub call_branches-call_branch-requires : goal.call_branches-call_branch-requires
 call_branches-call_branch-requires g t c κs within =
-    let at = sym c.active.ensures ∙ c.in-Some.is in
-    let some = some_call c.args.self.now c.loop-branch.self c.args.thread.now c.loop-branch.k c.in-Some.branch c.requires.fork c.loop-branch.invariant at c.requires.jobs in
-    let fitted = fitted_keeps c.args.thread.now.number c.args.self.now c.loop-branch.self c.loop-branch.invariant.leaves c.requires.fitted in
-    let loaded = subst (λ (x : CodeParts). Loaded (plain_code x) c.args.thread.now) (sym c.loop-branch.invariant.leaves.code) c.requires.fork.loaded in
+    let i = c.loop-branch.invariant in
+    let here = sym c.active.ensures ∙ c.in-Some.is in
+    let at = ap (λ l. slice_get l c.loop-branch.k) (sym i.branches) ∙ here in
+    let some = some_call c.args.self.now c.loop-branch.self c.args.thread.now c.loop-branch.thread c.loop-branch.k c.in-Some.branch c.requires.fork i.called i.number i.jobs at c.requires.jobs in
+    let fitted = fitted_keeps c.args.thread.now.number c.args.self.now c.loop-branch.self i.called.leaves c.requires.fitted in
+    let loaded = subst (λ (x : CodeParts). Loaded (plain_code x) c.loop-branch.thread) (sym i.called.leaves.code) i.loaded in
     let few = fitted.valid.shape.few_threads in
     let same = fitted.valid.threads in
     let lt = subst (λ n. n < length (code_in c.loop-branch.self).threads) some.1.number some.1.is.inside in
-    let above = subst (λ n. c.args.thread.now.number < n) some.1.number some.1.is.above in
-    let smaller : 3 * (257 - c.in-Some.branch) + 3 < 3 * (257 - c.args.thread.now.number) + 1 = omega (arith, few, same, lt, above) in
-    (search rules, (within, (fitted, (loaded, (c.requires.fork.settled, (at, some))))))
+    let above = subst (λ n. c.loop-branch.thread.number < n) some.1.number some.1.is.above in
+    let number = i.number in
+    let smaller : 3 * (257 - c.in-Some.branch) + 3 < 3 * (257 - c.args.thread.now.number) + 1 = omega (arith, few, same, lt, above, number) in
+    (search rules, (within, (fitted, (loaded, (i.order, (here, some))))))

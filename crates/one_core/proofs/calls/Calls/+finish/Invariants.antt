@@ -1,7 +1,8 @@
 use Rattle.std.proofs.Common.{◌≡◌, ◌+◌, ◌-◌, ◌*◌, List, length}
 use Rattle.forec_kernel.specs.Engine.{Job}
 use Rattle.thread_code.specs.Alone.{block_of}
-use Rattle.core_machine.specs.Threads.{Loaded, CanRun}
+use Rattle.core_machine.specs.Threads.{Loaded, CanRun, HasSettled}
+use Rattle.core_machine.specs.Forks.{jobs_at}
 use Rattle.one_core.specs.Seats.{code_in, Leaves}
 use Rattle.one_core.specs.Told.{Book}
 use Rattle.one_core.specs.Resting.{Works}
@@ -19,7 +20,14 @@ abbrev pub decreases-finish : goal.decreases-finish
 decreases-finish g l = 3 * (257 - l.thread.now.number) + 2
 
 abbrev pub invariant-call_branches-loop-branch : goal.invariant-call_branches-loop-branch
-invariant-call_branches-loop-branch g l = Consulted l.fn.self l.self l.fn.thread l.k
+invariant-call_branches-loop-branch g l = record {
+  called : Consulted l.fn.self l.self l.fn.thread l.thread l.k;
+  loaded : Loaded (code_in l.fn.self) l.thread;
+  number : l.thread.number ≡ l.fn.thread.number;
+  branches : l.thread.branches.numbers ≡ l.fn.thread.branches.numbers;
+  order : HasSettled l.thread l.k;
+  jobs : jobs_at (code_in l.fn.self) l.thread ≡ jobs_at (code_in l.fn.self) l.fn.thread;
+}
 
 abbrev pub decreases-call_branches-loop-branch : goal.decreases-call_branches-loop-branch
 decreases-call_branches-loop-branch g l = length l.fn.thread.branches.numbers - l.k
