@@ -25,6 +25,10 @@ impl Thread {
         requires running { self.now.phase ≡ Phase.Running false }
         ensures { IfSome result (λ stop. HasStopped (plain_code code.now) self.now stop) }
     {
+        // A thread that has had no fork seldom stands before a pause, and never before a held fork.
+        if self.branches.len() == 0 {
+            return None;
+        }
         if self.function.is_some() || self.units > self.allowance {
             return None;
         }
