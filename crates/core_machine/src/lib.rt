@@ -7,7 +7,6 @@ mod depths;
 mod fork;
 mod laws;
 mod merging;
-mod operators;
 mod room;
 mod running;
 mod thread;
