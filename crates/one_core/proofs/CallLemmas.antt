@@ -11,7 +11,7 @@ use Rattle.thread_code.specs.Machine.{Machine}
 use Rattle.thread_code.specs.Alone.{CodeAlone, code_engine}
 use Rattle.thread_code.proofs.Steady.{code_steady}
 use Rattle.core_machine.specs.declared.thread.Thread.{Thread}
-use Rattle.core_machine.specs.Threads.{Loaded, StandsFor, IsResting, HasReply, HasPaused, HasSettled, IsAtFork, Gives}
+use Rattle.core_machine.specs.Threads.{Loaded, StandsFor, IsResting, HasReply, HasPaused, Gives}
 use Rattle.core_machine.specs.Forks.{branch_at, jobs_at}
 use Rattle.forec_kernel.specs.Packed.{IsReply}
 use Rattle.core_host.specs.Posts.{IsBranchOf}
@@ -76,9 +76,6 @@ module _ (code : CodeParts) (seats : List (Option Thread)) (fitted : IsFitted (s
 
   abbrev s0 : Seated
   s0 = seated code seats
-
-  pub at_fork : HasSettled h k → IsAtFork h
-  at_fork settled = subst (HasSettled h) (sym settled.count) settled
 
   pub in_branches : k < length h.branches.numbers
   in_branches = slice_get_within h.branches.numbers k branch number
