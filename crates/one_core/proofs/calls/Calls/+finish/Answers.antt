@@ -122,6 +122,87 @@ serve_forks-loop-smaller g t c =
     c.requires.fitted i.leaves i.loaded i.fork i.branches (begun_allowance c.args.self.now c.args.thread.now c.requires.begun) c.requires.begun.first in
     omega (arith, b)
 
+pub serve_forks-loop-preserved : goal.serve_forks-loop-preserved
+serve_forks-loop-preserved g t c =
+    let i = c.loop.invariant in
+    let done = c.call_branches.ensures.called in
+    let same = done.leaves.code ∙ i.leaves.code in
+    let code : c.self.inside.code.now ≡ c.args.self.now.code = ap (λ (s : Seated). s.code) c.self.view_is ∙ same in
+    let stands : (xs : List Exchange) → StandsFor (code_in c.args.self.now) c.join.new.thread xs → StandsFor (code_in c.args.self.now) c.run.new.self xs = λ xs st. subst (λ (x : CodeParts). StandsFor (plain_code x) c.run.new.self xs) code (c.run.ensures.stands xs (subst (λ (x : CodeParts). StandsFor (plain_code x) c.join.new.thread xs) (sym code) st)) in
+    let le : length c.loop.thread.branches.numbers ≤ length c.loop.thread.branches.numbers = omega arith in
+    let all = have_heard c.loop.self c.call_branches.new.self c.loop.thread c.call_branches.new.thread (length c.loop.thread.branches.numbers) done le in
+    let number = c.run.ensures.number ∙ c.join.ensures.number ∙ c.call_branches.ensures.number ∙ i.number in
+    let there = i.number in
+    record {
+      loaded = subst (λ (x : CodeParts). Loaded (plain_code x) c.run.new.self) code c.run.ensures.loaded;
+      fork = subst (λ e. Left_by c.run.new.self e) c.in-Fork.is c.run.ensures.left;
+      branches = subst (λ (x : CodeParts). c.run.new.self.branches.numbers ≡ map (λ w. w.branch) (jobs_at (plain_code x) c.run.new.self)) code (c.run.ensures.branches c.in-Fork.is);
+      number = number;
+      leaves = leaves_then c.args.thread.now.number c.loop.thread.number c.args.self.now c.loop.self c.call_branches.new.self (omega (arith, there)) i.leaves done.leaves;
+      at = λ book jobs job w.
+          going_on c.args.self.now c.join.new.thread c.run.new.self c.run.ensures.number stands c.args.thread.now c.call_branches.new.self (c.loop.forks + 1) book jobs job w
+          (goes_on c.args.self.now c.loop.self c.args.thread.now c.loop.thread i.number c.loop.forks book jobs job w (i.at book jobs job w)
+          c.requires.fitted i.leaves i.loaded i.fork i.branches c.call_branches.new.self c.call_branches.new.thread c.join.new.thread done c.call_branches.ensures.number c.join.ensures.number
+          (λ xs st. c.join.ensures.stands done.replies xs (subst (λ l. HaveHeard c.call_branches.new.self l done.replies) (sym c.call_branches.ensures.branches) all) st));
+    }
+
+pub serve_forks-returns-in_default : goal.serve_forks-returns-in_default
+serve_forks-returns-in_default g t c =
+    let i = c.loop.invariant in
+    let done = c.call_branches.ensures.called in
+    let same = done.leaves.code ∙ i.leaves.code in
+    let code : c.self.inside.code.now ≡ c.args.self.now.code = ap (λ (s : Seated). s.code) c.self.view_is ∙ same in
+    let stands : (xs : List Exchange) → StandsFor (code_in c.args.self.now) c.join.new.thread xs → StandsFor (code_in c.args.self.now) c.run.new.self xs = λ xs st. subst (λ (x : CodeParts). StandsFor (plain_code x) c.run.new.self xs) code (c.run.ensures.stands xs (subst (λ (x : CodeParts). StandsFor (plain_code x) c.join.new.thread xs) (sym code) st)) in
+    let le : length c.loop.thread.branches.numbers ≤ length c.loop.thread.branches.numbers = omega arith in
+    let all = have_heard c.loop.self c.call_branches.new.self c.loop.thread c.call_branches.new.thread (length c.loop.thread.branches.numbers) done le in
+    let number = c.run.ensures.number ∙ c.join.ensures.number ∙ c.call_branches.ensures.number ∙ i.number in
+    let there = i.number in
+    record {
+      loaded = subst (λ (x : CodeParts). Loaded (plain_code x) c.run.new.self) code c.run.ensures.loaded;
+      number = number;
+      reply = replied_by c.run.new.self c.run.result c.run.ensures.left c.in_default.not-Fork;
+      leaves = leaves_then c.args.thread.now.number c.loop.thread.number c.args.self.now c.loop.self c.call_branches.new.self (omega (arith, there)) i.leaves done.leaves;
+      done = λ book jobs job w.
+          stays c.args.self.now c.call_branches.new.self c.args.thread.now c.run.new.self number (c.loop.forks + 1) book jobs job w
+          (going_on c.args.self.now c.join.new.thread c.run.new.self c.run.ensures.number stands c.args.thread.now c.call_branches.new.self (c.loop.forks + 1) book jobs job w
+          (goes_on c.args.self.now c.loop.self c.args.thread.now c.loop.thread i.number c.loop.forks book jobs job w (i.at book jobs job w)
+          c.requires.fitted i.leaves i.loaded i.fork i.branches c.call_branches.new.self c.call_branches.new.thread c.join.new.thread done c.call_branches.ensures.number c.join.ensures.number
+          (λ xs st. c.join.ensures.stands done.replies xs (subst (λ l. HaveHeard c.call_branches.new.self l done.replies) (sym c.call_branches.ensures.branches) all) st)))
+          same;
+    }
+
+-- ---- finish
+
+pub finish-serve_forks-requires : goal.finish-serve_forks-requires
+finish-serve_forks-requires g t c κs within =
+    let code : c.self.inside.code.now ≡ c.args.self.now.code = ap (λ (s : Seated). s.code) c.self.view_is in
+    let stands : (xs : List Exchange) → StandsFor (code_in c.args.self.now) c.args.thread.now xs → StandsFor (code_in c.args.self.now) c.run.new.self xs = λ xs st. subst (λ (x : CodeParts). StandsFor (plain_code x) c.run.new.self xs) code (c.run.ensures.stands xs (subst (λ (x : CodeParts). StandsFor (plain_code x) c.args.thread.now xs) (sym code) st)) in
+    let loaded = subst (λ (x : CodeParts). Loaded (plain_code x) c.run.new.self) code c.run.ensures.loaded in
+    let fork = subst (λ e. Left_by c.run.new.self e) c.in-Fork.is c.run.ensures.left in
+    let branches = subst (λ (x : CodeParts). c.run.new.self.branches.numbers ≡ map (λ w. w.branch) (jobs_at (plain_code x) c.run.new.self)) code (c.run.ensures.branches c.in-Fork.is) in
+    let begun = begun_on c.args.self.now c.args.thread.now c.run.new.self c.run.ensures.number stands c.requires.begun in
+    let number = c.run.ensures.number in
+    let smaller : 4 * (257 - c.run.new.self.number) + 2 < 4 * (257 - c.args.thread.now.number) + 3 = omega (arith, number) in
+    (search rules, (within, (c.requires.fitted, (loaded, (fork, (branches, begun))))))
+
+pub finish-returns-in-Fork-clause-done : goal.finish-returns-in-Fork-clause-done
+finish-returns-in-Fork-clause-done g t c =
+    let code : c.self.inside.code.now ≡ c.args.self.now.code = ap (λ (s : Seated). s.code) c.self.view_is in
+    let stands : (xs : List Exchange) → StandsFor (code_in c.args.self.now) c.args.thread.now xs → StandsFor (code_in c.args.self.now) c.run.new.self xs = λ xs st. subst (λ (x : CodeParts). StandsFor (plain_code x) c.run.new.self xs) code (c.run.ensures.stands xs (subst (λ (x : CodeParts). StandsFor (plain_code x) c.args.thread.now xs) (sym code) st)) in
+    stays_after c.args.self.now c.args.thread.now c.run.new.self c.run.ensures.number stands c.serve_forks.new.self c.serve_forks.new.thread c.serve_forks.ensures.done
+
+pub finish-returns-in_default : goal.finish-returns-in_default
+finish-returns-in_default g t c =
+    let code : c.self.inside.code.now ≡ c.args.self.now.code = ap (λ (s : Seated). s.code) c.self.view_is in
+    let stands : (xs : List Exchange) → StandsFor (code_in c.args.self.now) c.args.thread.now xs → StandsFor (code_in c.args.self.now) c.run.new.self xs = λ xs st. subst (λ (x : CodeParts). StandsFor (plain_code x) c.run.new.self xs) code (c.run.ensures.stands xs (subst (λ (x : CodeParts). StandsFor (plain_code x) c.args.thread.now xs) (sym code) st)) in
+    record {
+      loaded = subst (λ (x : CodeParts). Loaded (plain_code x) c.run.new.self) code c.run.ensures.loaded;
+      number = c.run.ensures.number;
+      reply = replied_by c.run.new.self c.run.result c.run.ensures.left c.in_default.not-Fork;
+      leaves = leaves_same c.args.thread.now.number c.args.self.now;
+      done = stays_here c.args.self.now c.args.thread.now c.run.new.self c.run.ensures.number stands;
+    }
+
 -- ---- call_branch
 
 pub call_branch-unreachable-requires : goal.call_branch-unreachable-requires
