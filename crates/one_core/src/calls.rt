@@ -111,6 +111,7 @@ impl<'c> Calls<'c> {
     }
 
     /// Serves the forks of a thread that has come to the first one of its job, until it has its reply.
+    // Apart from `finish`, so that a thread that comes to no fork costs no call.
     #[inline(never)]
     #[cycle(finish)]
     fn serve_forks<G: Gate>(&mut self, gate: &G, thread: &mut Thread)
