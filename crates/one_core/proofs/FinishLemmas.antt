@@ -7,11 +7,12 @@ use Rattle.thread_code.specs.Alone.{block_of}
 use Rattle.core_machine.specs.declared.thread.Thread.{Thread}
 use Rattle.core_machine.specs.Threads.{Loaded, StandsFor, HasSettled}
 use Rattle.core_machine.specs.Forks.{jobs_at, with_replies}
+use Rattle.core_machine.proofs.Outer.{empty_of}
 use Rattle.core_host.specs.Posts.{IsBranchOf}
 use Rattle.core_host.specs.Writing.{told}
 use Rattle.one_core.specs.Seats.{Seated, code_in, IsFitted, Leaves}
 use Rattle.one_core.specs.Told.{Book, HasTold, InJob, Keeps}
-use Rattle.one_core.specs.Resting.{RestAbove, HasBegun, Works}
+use Rattle.one_core.specs.Resting.{RestAbove, HasBegun, Works, StaysAtWork}
 use Rattle.one_core.specs.Called.{IsJobFor, IsForked, CanTell, HaveCalled, Consulted}
 use Rattle.one_core.proofs.TellLemmas.{keeps_same, keeps_then}
 use Rattle.one_core.proofs.JobLemmas.{Counted, allowance_is, forked, each_job, some_at, bound, next, runs_on}
@@ -35,70 +36,95 @@ pub begun_allowance : (a : Seated) (h : Thread) (b : HasBegun a h) → allowance
 begun_allowance a h b = sym (allowance_is (code_in a) h b.book b.jobs b.job b.in_job)
 
 -- the thread runs on
-module _ (a b : Seated) (h0 h h1 : Thread) (number : h.number ≡ h0.number) (number1 : h1.number ≡ h.number) (stands1 : (xs : List Exchange) → StandsFor (code_in a) h xs → StandsFor (code_in a) h1 xs)
-    (n : ℕ) (book : Book) (jobs : List Job) (job : Job) (w : Works a h0 book jobs job) (g : Going a h0 b h n book jobs job w) where
-  now : Counted (code_in a) h1 g.after jobs job (length w.in_job.log.before + n)
-  now = let i = runs_on a.code h h1 g.after jobs job number1 stands1 g.counted.0 in (i.0, i.1 ∙ g.counted.1)
+module _ (a : Seated) (h h1 : Thread) (number1 : h1.number ≡ h.number) (stands1 : (xs : List Exchange) → StandsFor (code_in a) h xs → StandsFor (code_in a) h1 xs) where
+  runs : (book : Book) (jobs : List Job) (job : Job) (w : Works a h book jobs job) → Counted (code_in a) h1 book jobs job (length w.in_job.log.before)
+  runs book jobs job w = runs_on a.code h h1 book jobs job number1 stands1 w.in_job
 
-  above1 : RestAbove b g.after h1.number
-  above1 = subst (RestAbove b g.after) (sym (number1 ∙ number)) g.above
+  pub works_on : (book : Book) (jobs : List Job) (job : Job) → Works a h book jobs job → Works a h1 book jobs job
+  works_on book jobs job w = record { above = subst (RestAbove a book) (sym number1) w.above; in_job = (runs book jobs job w).0 }
 
-  -- and has its reply
-  pub stays : b.code ≡ a.code → (after : Book) × Works b h1 after jobs job × Keeps (code_in a) h0.number book after
-  stays code = (g.after, record { above = above1; in_job = subst (λ x. InJob (plain_code x) h1 g.after jobs job) (sym code) now.0 }, g.keeps)
+  pub begun_on : HasBegun a h → HasBegun a h1
+  begun_on b =
+      let i = runs b.book b.jobs b.job (begun_works a h b) in
+      record { book = b.book; above = subst (RestAbove a b.book) (sym number1) b.above; jobs = b.jobs; job = b.job; in_job = i.0; first = empty_of i.0.log.before (i.1 ∙ ap length b.first) }
 
-  -- or comes to a fork
-  module _ (fitted : IsFitted a) (leaves : Leaves h0.number a b) (loaded1 : Loaded (code_in a) h1) (settled : HasSettled h1 0) (numbers : h1.branches.numbers ≡ map (λ w. w.branch) (jobs_at (code_in a) h1)) where
-    pub its_fork : IsForked (code_in b) h1
-    its_fork = subst (λ x. IsForked (plain_code x) h1) (sym leaves.code) (forked a.code fitted.valid h1 loaded1 settled numbers g.after jobs job now.0)
+  -- its reply comes at once
+  pub stays_here : StaysAtWork a h a h1
+  stays_here book jobs job w = (book, works_on book jobs job w, keeps_same (code_in a) h.number book)
 
-    pub can_tell : CanTell b h1 g.after
+  -- or after its forks
+  pub stays_after : (b : Seated) (h2 : Thread) → StaysAtWork a h1 b h2 → StaysAtWork a h b h2
+  stays_after b h2 done book jobs job w =
+      let d = done book jobs job (works_on book jobs job w) in
+      (d.0, d.1, subst (λ t. Keeps (code_in a) t book d.0) number1 d.2)
+
+  pub going_on : (h0 : Thread) (b : Seated) (n : ℕ) (book : Book) (jobs : List Job) (job : Job) (w : Works a h0 book jobs job) → Going a h0 b h n book jobs job w → Going a h0 b h1 n book jobs job w
+  going_on h0 b n book jobs job w g =
+      let i = runs_on a.code h h1 g.after jobs job number1 stands1 g.counted.0 in
+      record { after = g.after; above = g.above; keeps = g.keeps; counted = (i.0, i.1 ∙ g.counted.1) }
+
+module _ (a b : Seated) (h0 h : Thread) (number : h.number ≡ h0.number) (n : ℕ) (book : Book) (jobs : List Job) (job : Job) (w : Works a h0 book jobs job) (g : Going a h0 b h n book jobs job w) where
+  now : Counted (code_in a) h g.after jobs job (length w.in_job.log.before + n)
+  now = g.counted
+
+  rest_above : RestAbove b g.after h.number
+  rest_above = subst (RestAbove b g.after) (sym number) g.above
+
+  -- it has its reply
+  pub stays : b.code ≡ a.code → (after : Book) × Works b h after jobs job × Keeps (code_in a) h0.number book after
+  stays code = (g.after, record { above = rest_above; in_job = subst (λ x. InJob (plain_code x) h g.after jobs job) (sym code) now.0 }, g.keeps)
+
+  -- or is at a fork
+  module _ (fitted : IsFitted a) (leaves : Leaves h0.number a b) (loaded : Loaded (code_in a) h) (settled : HasSettled h 0) (numbers : h.branches.numbers ≡ map (λ w. w.branch) (jobs_at (code_in a) h)) where
+    pub its_fork : IsForked (code_in b) h
+    its_fork = subst (λ x. IsForked (plain_code x) h) (sym leaves.code) (forked a.code fitted.valid h loaded settled numbers g.after jobs job now.0)
+
+    pub can_tell : CanTell b h g.after
     can_tell = record {
-      above = above1;
+      above = rest_above;
       each = λ i v at.
-          subst (λ x. IsJobFor (plain_code x) g.after h1.number v) (sym leaves.code)
-          (each_job a.code fitted.valid h1 loaded1 settled numbers g.after jobs job now.0 i v (subst (λ x. slice_get (jobs_at (plain_code x) h1) i ≡ Some v) leaves.code at));
+          subst (λ x. IsJobFor (plain_code x) g.after h.number v) (sym leaves.code)
+          (each_job a.code fitted.valid h loaded settled numbers g.after jobs job now.0 i v (subst (λ x. slice_get (jobs_at (plain_code x) h) i ≡ Some v) leaves.code at));
     }
 
-    pub some_branch : 0 < length h1.branches.numbers
-    some_branch = some_at a.code fitted.valid h1 loaded1 settled numbers g.after jobs job now.0
+    pub some_branch : 0 < length h.branches.numbers
+    some_branch = some_at a.code fitted.valid h loaded settled numbers g.after jobs job now.0
 
     pub its_bound : allowance_of job ≡ h0.allowance → w.in_job.log.before ≡ [] → n + 1 ≤ (length (block_of (code_in a) h0.number).steps + 2) * h0.allowance + (length (block_of (code_in a) h0.number).steps + 1)
     its_bound allow first =
-        let most = subst (λ t. length now.0.log.before + 1 ≤ (length (block_of (code_in a) t).steps + 2) * h0.allowance + (length (block_of (code_in a) t).steps + 1)) (number1 ∙ number)
-        (bound a.code fitted.valid h1 loaded1 settled numbers g.after jobs job now.0 h0.allowance allow) in
+        let most = subst (λ t. length now.0.log.before + 1 ≤ (length (block_of (code_in a) t).steps + 2) * h0.allowance + (length (block_of (code_in a) t).steps + 1)) number
+        (bound a.code fitted.valid h loaded settled numbers g.after jobs job now.0 h0.allowance allow) in
         let none = ap length first in omega (arith, most, now.1, none)
 
-    module _ (d : Seated) (h2 h3 : Thread) (done : Consulted b d h1 h2 (length h1.branches.numbers)) (number2 : h2.number ≡ h1.number) (number3 : h3.number ≡ h2.number)
-        (joins : (xs : List Exchange) → StandsFor (code_in d) h2 (with_replies xs done.replies) → StandsFor (code_in d) h3 (with_replies xs done.replies)) where
-      called : HaveCalled b d h1 (length h1.branches.numbers) g.after done.replies
+    module _ (d : Seated) (h1 h2 : Thread) (done : Consulted b d h h1 (length h.branches.numbers)) (number1 : h1.number ≡ h.number) (number2 : h2.number ≡ h1.number)
+        (joins : (xs : List Exchange) → StandsFor (code_in d) h1 (with_replies xs done.replies) → StandsFor (code_in d) h2 (with_replies xs done.replies)) where
+      called : HaveCalled b d h (length h.branches.numbers) g.after done.replies
       called = done.called g.after can_tell
 
       code_is : d.code ≡ a.code
       code_is = done.leaves.code ∙ leaves.code
 
-      goes : (xs : List Exchange) → StandsFor (code_in a) h1 (with_replies xs []) → StandsFor (code_in a) h3 (with_replies xs done.replies)
+      goes : (xs : List Exchange) → StandsFor (code_in a) h (with_replies xs []) → StandsFor (code_in a) h2 (with_replies xs done.replies)
       goes xs st =
-          subst (λ x. StandsFor (plain_code x) h3 (with_replies xs done.replies)) code_is
-          (joins xs (subst (λ x. StandsFor (plain_code x) h2 (with_replies xs done.replies)) (sym done.leaves.code)
-          (done.settled xs (subst (λ x. StandsFor (plain_code x) h1 (with_replies xs [])) (sym leaves.code) st))))
+          subst (λ x. StandsFor (plain_code x) h2 (with_replies xs done.replies)) code_is
+          (joins xs (subst (λ x. StandsFor (plain_code x) h1 (with_replies xs done.replies)) (sym done.leaves.code)
+          (done.settled xs (subst (λ x. StandsFor (plain_code x) h (with_replies xs [])) (sym leaves.code) st))))
 
-      tells : HasTold (code_in a) h1.number called.after (told (code_in a) h1.number jobs job now.0.log ++ pair_up (jobs_at (code_in a) h1) done.replies)
+      tells : HasTold (code_in a) h.number called.after (told (code_in a) h.number jobs job now.0.log ++ pair_up (jobs_at (code_in a) h) done.replies)
       tells =
-          let pairs = told (code_in a) h1.number jobs job now.0.log in
-          subst (λ x. HasTold (plain_code x) h1.number called.after (pairs ++ pair_up (jobs_at (plain_code x) h1) done.replies)) leaves.code
-          (called.told pairs (subst (λ x. HasTold (plain_code x) h1.number g.after pairs) (sym leaves.code) now.0.tells))
+          let pairs = told (code_in a) h.number jobs job now.0.log in
+          subst (λ x. HasTold (plain_code x) h.number called.after (pairs ++ pair_up (jobs_at (plain_code x) h) done.replies)) leaves.code
+          (called.told pairs (subst (λ x. HasTold (plain_code x) h.number g.after pairs) (sym leaves.code) now.0.tells))
 
-      pub goes_on : Going a h0 d h3 (n + 1) book jobs job w
+      pub goes_on : Going a h0 d h2 (n + 1) book jobs job w
       goes_on =
-          let le : length h1.branches.numbers ≤ length h1.branches.numbers = omega arith in
-          let count = (have_heard b d h1 h2 (length h1.branches.numbers) done le).count in
-          let i = next a.code fitted.valid h1 loaded1 settled numbers g.after jobs job now.0 called.after done.replies count tells h3 (number3 ∙ number2) goes in
-          let same = number1 ∙ number in
+          let le : length h.branches.numbers ≤ length h.branches.numbers = omega arith in
+          let count = (have_heard b d h h1 (length h.branches.numbers) done le).count in
+          let i = next a.code fitted.valid h loaded settled numbers g.after jobs job now.0 called.after done.replies count tells h2 (number2 ∙ number1) goes in
           record {
             after = called.after;
-            above = subst (RestAbove d called.after) same called.above;
+            above = subst (RestAbove d called.after) number called.above;
             keeps = keeps_then (code_in a) h0.number book g.after called.after g.keeps
-                (λ p k own lt. called.keeps p k (subst (λ x. IsBranchOf (plain_code x).shape p k) (sym leaves.code) own) (omega (arith, lt, same)));
+                (λ p k own lt. called.keeps p k (subst (λ x. IsBranchOf (plain_code x).shape p k) (sym leaves.code) own) (omega (arith, lt, number)));
             counted = (i.0, let x = i.1 in let y = now.1 in omega (arith, x, y));
           }

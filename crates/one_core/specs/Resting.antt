@@ -31,7 +31,7 @@ RestAbove s book t = (j : ℕ) → t < j → j < length s.threads → Rests s bo
 
 -- ---- a job that ends
 
--- a thread has begun a job, and has come to no fork in it
+-- a thread has begun a job, and has joined no fork in it
 pub record HasBegun (s : Seated) (h : Thread) : Type 0 where
   pub book : Book
   pub above : RestAbove s book h.number

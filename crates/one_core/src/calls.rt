@@ -1,5 +1,5 @@
 //! The threads of a code at work on one core: a thread that forks calls its branches one after the other.
-ghost use Rattle.std.specs.Prelude.{◌≡◌, ◌≤◌, ◌<◌, ◌+◌, List, Some, length, slice_get};
+ghost use Rattle.std.specs.Prelude.{◌≡◌, ◌≤◌, ◌<◌, ◌+◌, List, Some, length, map, slice_get};
 ghost use Rattle.forec_base.specs.declared.limits.TheConstants.{MAX_BUDGET, MAX_THREADS};
 ghost use Rattle.forec_kernel.specs.Engine.{Job, Reply};
 ghost use Rattle.forec_kernel.specs.Packed.{HasRoom, IsJob};
@@ -110,7 +110,36 @@ impl<'c> Calls<'c> {
         }
     }
 
+    /// Serves the forks of a thread that has come to the first one of its job, until it has its reply.
+    // Apart from `finish`, so that a thread that comes to no fork costs no call.
+    #[inline(never)]
+    #[cycle(finish)]
+    fn serve_forks<G: Gate>(&mut self, gate: &G, thread: &mut Thread)
+        requires fitted { IsFitted self.old }
+        requires loaded { Loaded (code_in self.old) thread.old }
+        requires fork { HasSettled thread.old 0 }
+        requires branches { thread.old.branches.numbers ≡ map (λ w. w.branch) (jobs_at (code_in self.old) thread.old) }
+        requires begun { HasBegun self.old thread.old }
+        ensures loaded { Loaded (code_in self.old) thread.new }
+        ensures number { thread.new.number ≡ thread.old.number }
+        ensures reply { HasReply thread.new }
+        ensures leaves { Leaves thread.old.number self.old self.new }
+        ensures done { StaysAtWork self.old thread.old self.new thread.new }
+    {
+        // For the proof alone, which counts the forks down.
+        let mut forks: u128 = 0;
+        loop {
+            self.call_branches(gate, thread);
+            self.join(thread);
+            forks += 1;
+            let Event::Fork = thread.run(self.code) else {
+                return;
+            };
+        }
+    }
+
     /// Runs a thread that has begun a job until it has its reply.
+    #[inline(always)]
     #[cycle(finish)]
     pub fn finish<G: Gate>(&mut self, gate: &G, thread: &mut Thread)
         requires fitted { IsFitted self.old }
@@ -123,12 +152,8 @@ impl<'c> Calls<'c> {
         ensures leaves { Leaves thread.old.number self.old self.new }
         ensures done { StaysAtWork self.old thread.old self.new thread.new }
     {
-        // For the proof alone, which counts the forks down.
-        let mut forks: u128 = 0;
-        while let Event::Fork = thread.run(self.code) {
-            self.call_branches(gate, thread);
-            self.join(thread);
-            forks += 1;
+        if let Event::Fork = thread.run(self.code) {
+            self.serve_forks(gate, thread);
         }
     }
 

@@ -16,7 +16,7 @@ use Rattle.one_core.specs.Called.{CanCall, HasCalled, Consulted, HaveHeard}
 use Rattle.one_core.proofs.TellLemmas.{fitted_keeps, leaves_same, leaves_then}
 use Rattle.one_core.proofs.CallLemmas.{seated, fitted_set, in_branches, not_empty, child_loaded, child_at, child_rests, child_takes, number_is, has_begun, has_left, has_called, gave}
 use Rattle.one_core.proofs.ConsultLemmas.{consulted_none, some_call, consulted_more, have_heard}
-use Rattle.one_core.proofs.FinishLemmas.{begun_works, begun_allowance, going_none, stays, its_fork, can_tell, some_branch, its_bound, goes_on}
+use Rattle.one_core.proofs.FinishLemmas.{begun_works, begun_allowance, going_none, begun_on, stays_here, stays_after, going_on, stays, its_fork, can_tell, some_branch, its_bound, goes_on}
 use Rattle.one_core.proofs.calls.Calls.+finish.Goals as goal
 
 -- ---- call_branches
@@ -67,111 +67,140 @@ call_branches-returns g t c =
       order = subst (HasSettled c.loop-branch.thread) (same ∙ sym count) i.order;
     }
 
--- ---- finish
+-- ---- serve_forks
 
-pub finish-loop-self-init : goal.finish-loop-self-init
-finish-loop-self-init g t c =
+pub serve_forks-loop-init : goal.serve_forks-loop-init
+serve_forks-loop-init g t c =
     record {
       loaded = c.requires.loaded;
+      fork = c.requires.fork;
+      branches = c.requires.branches;
       number = refl;
-      running = c.requires.running;
       leaves = leaves_same c.args.thread.now.number c.args.self.now;
       at = going_none c.args.self.now c.args.thread.now;
     }
 
-pub finish-call_branches-requires : goal.finish-call_branches-requires
-finish-call_branches-requires g t c κs within =
-    let code : c.self.inside.code.now ≡ c.args.self.now.code = ap (λ (s : Seated). s.code) c.self.view_is ∙ c.loop-self.invariant.leaves.code in
-    let loaded = subst (λ (x : CodeParts). Loaded (plain_code x) c.run.new.self) code c.run.ensures.loaded in
-    let stands : (xs : List Exchange) → StandsFor (code_in c.args.self.now) c.loop-self.thread xs → StandsFor (code_in c.args.self.now) c.run.new.self xs = λ xs st. subst (λ (x : CodeParts). StandsFor (plain_code x) c.run.new.self xs) code (c.run.ensures.stands xs (subst (λ (x : CodeParts). StandsFor (plain_code x) c.loop-self.thread xs) (sym code) st)) in
-    let settled = subst (λ e. Left_by c.run.new.self e) c.in-Fork.is c.run.ensures.left in
-    let numbers = subst (λ (x : CodeParts). c.run.new.self.branches.numbers ≡ map (λ w. w.branch) (jobs_at (plain_code x) c.run.new.self)) code (c.run.ensures.branches c.in-Fork.is) in
+pub serve_forks-call_branches-requires : goal.serve_forks-call_branches-requires
+serve_forks-call_branches-requires g t c κs within =
+    let i = c.loop.invariant in
     let w = begun_works c.args.self.now c.args.thread.now c.requires.begun in
-    let going = c.loop-self.invariant.at c.requires.begun.book c.requires.begun.jobs c.requires.begun.job w in
-    let fork = its_fork c.args.self.now c.loop-self.self c.args.thread.now c.loop-self.thread c.run.new.self c.loop-self.invariant.number c.run.ensures.number stands c.loop-self.forks c.requires.begun.book c.requires.begun.jobs c.requires.begun.job w going
-    c.requires.fitted c.loop-self.invariant.leaves loaded settled numbers in
-    let tell = can_tell c.args.self.now c.loop-self.self c.args.thread.now c.loop-self.thread c.run.new.self c.loop-self.invariant.number c.run.ensures.number stands c.loop-self.forks c.requires.begun.book c.requires.begun.jobs c.requires.begun.job w going
-    c.requires.fitted c.loop-self.invariant.leaves loaded settled numbers in
-    let fitted = fitted_keeps c.args.thread.now.number c.args.self.now c.loop-self.self c.loop-self.invariant.leaves c.requires.fitted in
-    let number = c.run.ensures.number ∙ c.loop-self.invariant.number in
-    let smaller : 3 * (257 - c.run.new.self.number) + 1 < 3 * (257 - c.args.thread.now.number) + 2 = omega (arith, number) in
+    let going = i.at c.requires.begun.book c.requires.begun.jobs c.requires.begun.job w in
+    let fork = its_fork c.args.self.now c.loop.self c.args.thread.now c.loop.thread i.number c.loop.forks c.requires.begun.book c.requires.begun.jobs c.requires.begun.job w going
+    c.requires.fitted i.leaves i.loaded i.fork i.branches in
+    let tell = can_tell c.args.self.now c.loop.self c.args.thread.now c.loop.thread i.number c.loop.forks c.requires.begun.book c.requires.begun.jobs c.requires.begun.job w going
+    c.requires.fitted i.leaves i.loaded i.fork i.branches in
+    let fitted = fitted_keeps c.args.thread.now.number c.args.self.now c.loop.self i.leaves c.requires.fitted in
+    let number = i.number in
+    let smaller : 4 * (257 - c.loop.thread.number) + 1 < 4 * (257 - c.args.thread.now.number) + 2 = omega (arith, number) in
     (search rules, (within, (fitted, (fork, (going.after, tell)))))
 
-pub finish-join-requires-clause-some : goal.finish-join-requires-clause-some
-finish-join-requires-clause-some g t c =
-    let code : c.self.inside.code.now ≡ c.args.self.now.code = ap (λ (s : Seated). s.code) c.self.view_is ∙ c.loop-self.invariant.leaves.code in
-    let loaded = subst (λ (x : CodeParts). Loaded (plain_code x) c.run.new.self) code c.run.ensures.loaded in
-    let stands : (xs : List Exchange) → StandsFor (code_in c.args.self.now) c.loop-self.thread xs → StandsFor (code_in c.args.self.now) c.run.new.self xs = λ xs st. subst (λ (x : CodeParts). StandsFor (plain_code x) c.run.new.self xs) code (c.run.ensures.stands xs (subst (λ (x : CodeParts). StandsFor (plain_code x) c.loop-self.thread xs) (sym code) st)) in
-    let settled = subst (λ e. Left_by c.run.new.self e) c.in-Fork.is c.run.ensures.left in
-    let numbers = subst (λ (x : CodeParts). c.run.new.self.branches.numbers ≡ map (λ w. w.branch) (jobs_at (plain_code x) c.run.new.self)) code (c.run.ensures.branches c.in-Fork.is) in
+pub serve_forks-join-requires-clause-some : goal.serve_forks-join-requires-clause-some
+serve_forks-join-requires-clause-some g t c =
+    let i = c.loop.invariant in
     let w = begun_works c.args.self.now c.args.thread.now c.requires.begun in
-    let going = c.loop-self.invariant.at c.requires.begun.book c.requires.begun.jobs c.requires.begun.job w in
+    let going = i.at c.requires.begun.book c.requires.begun.jobs c.requires.begun.job w in
     subst (λ l. 0 < length l) (sym c.call_branches.ensures.branches)
-    (some_branch c.args.self.now c.loop-self.self c.args.thread.now c.loop-self.thread c.run.new.self c.loop-self.invariant.number c.run.ensures.number stands c.loop-self.forks c.requires.begun.book c.requires.begun.jobs c.requires.begun.job w going
-    c.requires.fitted c.loop-self.invariant.leaves loaded settled numbers)
+    (some_branch c.args.self.now c.loop.self c.args.thread.now c.loop.thread i.number c.loop.forks c.requires.begun.book c.requires.begun.jobs c.requires.begun.job w going
+    c.requires.fitted i.leaves i.loaded i.fork i.branches)
 
-pub finish-overflow_add-forks : goal.finish-overflow_add-forks
-finish-overflow_add-forks g t c =
-    let code : c.self.inside.code.now ≡ c.args.self.now.code = ap (λ (s : Seated). s.code) c.self.view_is ∙ c.loop-self.invariant.leaves.code in
-    let loaded = subst (λ (x : CodeParts). Loaded (plain_code x) c.run.new.self) code c.run.ensures.loaded in
-    let stands : (xs : List Exchange) → StandsFor (code_in c.args.self.now) c.loop-self.thread xs → StandsFor (code_in c.args.self.now) c.run.new.self xs = λ xs st. subst (λ (x : CodeParts). StandsFor (plain_code x) c.run.new.self xs) code (c.run.ensures.stands xs (subst (λ (x : CodeParts). StandsFor (plain_code x) c.loop-self.thread xs) (sym code) st)) in
-    let settled = subst (λ e. Left_by c.run.new.self e) c.in-Fork.is c.run.ensures.left in
-    let numbers = subst (λ (x : CodeParts). c.run.new.self.branches.numbers ≡ map (λ w. w.branch) (jobs_at (plain_code x) c.run.new.self)) code (c.run.ensures.branches c.in-Fork.is) in
+pub serve_forks-overflow_add-forks : goal.serve_forks-overflow_add-forks
+serve_forks-overflow_add-forks g t c =
+    let i = c.loop.invariant in
     let w = begun_works c.args.self.now c.args.thread.now c.requires.begun in
-    let going = c.loop-self.invariant.at c.requires.begun.book c.requires.begun.jobs c.requires.begun.job w in
-    let b = its_bound c.args.self.now c.loop-self.self c.args.thread.now c.loop-self.thread c.run.new.self c.loop-self.invariant.number c.run.ensures.number stands c.loop-self.forks c.requires.begun.book c.requires.begun.jobs c.requires.begun.job w going
-    c.requires.fitted c.loop-self.invariant.leaves loaded settled numbers (begun_allowance c.args.self.now c.args.thread.now c.requires.begun) c.requires.begun.first in
+    let going = i.at c.requires.begun.book c.requires.begun.jobs c.requires.begun.job w in
+    let b = its_bound c.args.self.now c.loop.self c.args.thread.now c.loop.thread i.number c.loop.forks c.requires.begun.book c.requires.begun.jobs c.requires.begun.job w going
+    c.requires.fitted i.leaves i.loaded i.fork i.branches (begun_allowance c.args.self.now c.args.thread.now c.requires.begun) c.requires.begun.first in
     let short = c.requires.loaded.short None in
-    Fits-of_lt (fits_forks c.loop-self.forks (length (block_of (code_in c.args.self.now) c.args.thread.now.number).steps) c.args.thread.now.allowance b short c.requires.loaded.small)
+    Fits-of_lt (fits_forks c.loop.forks (length (block_of (code_in c.args.self.now) c.args.thread.now.number).steps) c.args.thread.now.allowance b short c.requires.loaded.small)
 
-pub finish-loop-self-smaller : goal.finish-loop-self-smaller
-finish-loop-self-smaller g t c =
-    let code : c.self.inside.code.now ≡ c.args.self.now.code = ap (λ (s : Seated). s.code) c.self.view_is ∙ c.loop-self.invariant.leaves.code in
-    let loaded = subst (λ (x : CodeParts). Loaded (plain_code x) c.run.new.self) code c.run.ensures.loaded in
-    let stands : (xs : List Exchange) → StandsFor (code_in c.args.self.now) c.loop-self.thread xs → StandsFor (code_in c.args.self.now) c.run.new.self xs = λ xs st. subst (λ (x : CodeParts). StandsFor (plain_code x) c.run.new.self xs) code (c.run.ensures.stands xs (subst (λ (x : CodeParts). StandsFor (plain_code x) c.loop-self.thread xs) (sym code) st)) in
-    let settled = subst (λ e. Left_by c.run.new.self e) c.in-Fork.is c.run.ensures.left in
-    let numbers = subst (λ (x : CodeParts). c.run.new.self.branches.numbers ≡ map (λ w. w.branch) (jobs_at (plain_code x) c.run.new.self)) code (c.run.ensures.branches c.in-Fork.is) in
+pub serve_forks-loop-smaller : goal.serve_forks-loop-smaller
+serve_forks-loop-smaller g t c =
+    let i = c.loop.invariant in
     let w = begun_works c.args.self.now c.args.thread.now c.requires.begun in
-    let going = c.loop-self.invariant.at c.requires.begun.book c.requires.begun.jobs c.requires.begun.job w in
-    let b = its_bound c.args.self.now c.loop-self.self c.args.thread.now c.loop-self.thread c.run.new.self c.loop-self.invariant.number c.run.ensures.number stands c.loop-self.forks c.requires.begun.book c.requires.begun.jobs c.requires.begun.job w going
-    c.requires.fitted c.loop-self.invariant.leaves loaded settled numbers (begun_allowance c.args.self.now c.args.thread.now c.requires.begun) c.requires.begun.first in
+    let going = i.at c.requires.begun.book c.requires.begun.jobs c.requires.begun.job w in
+    let b = its_bound c.args.self.now c.loop.self c.args.thread.now c.loop.thread i.number c.loop.forks c.requires.begun.book c.requires.begun.jobs c.requires.begun.job w going
+    c.requires.fitted i.leaves i.loaded i.fork i.branches (begun_allowance c.args.self.now c.args.thread.now c.requires.begun) c.requires.begun.first in
     omega (arith, b)
 
-pub finish-loop-self-preserved : goal.finish-loop-self-preserved
-finish-loop-self-preserved g t c =
-    let code : c.self.inside.code.now ≡ c.args.self.now.code = ap (λ (s : Seated). s.code) c.self.view_is ∙ c.loop-self.invariant.leaves.code in
-    let loaded = subst (λ (x : CodeParts). Loaded (plain_code x) c.run.new.self) code c.run.ensures.loaded in
-    let stands : (xs : List Exchange) → StandsFor (code_in c.args.self.now) c.loop-self.thread xs → StandsFor (code_in c.args.self.now) c.run.new.self xs = λ xs st. subst (λ (x : CodeParts). StandsFor (plain_code x) c.run.new.self xs) code (c.run.ensures.stands xs (subst (λ (x : CodeParts). StandsFor (plain_code x) c.loop-self.thread xs) (sym code) st)) in
-    let settled = subst (λ e. Left_by c.run.new.self e) c.in-Fork.is c.run.ensures.left in
-    let numbers = subst (λ (x : CodeParts). c.run.new.self.branches.numbers ≡ map (λ w. w.branch) (jobs_at (plain_code x) c.run.new.self)) code (c.run.ensures.branches c.in-Fork.is) in
-    let number = c.run.ensures.number ∙ c.loop-self.invariant.number in
+pub serve_forks-loop-preserved : goal.serve_forks-loop-preserved
+serve_forks-loop-preserved g t c =
+    let i = c.loop.invariant in
     let done = c.call_branches.ensures.called in
-    let le : length c.run.new.self.branches.numbers ≤ length c.run.new.self.branches.numbers = omega arith in
-    let all = have_heard c.loop-self.self c.call_branches.new.self c.run.new.self c.call_branches.new.thread (length c.run.new.self.branches.numbers) done le in
-    let there = done.leaves.code ∙ c.loop-self.invariant.leaves.code in
-    record {
-      loaded = subst (λ (x : CodeParts). Loaded (plain_code x) c.join.new.thread) there c.join.ensures.loaded;
-      number = c.join.ensures.number ∙ c.call_branches.ensures.number ∙ number;
-      running = c.join.ensures.running;
-      leaves = leaves_then c.args.thread.now.number c.run.new.self.number c.args.self.now c.loop-self.self c.call_branches.new.self (omega (arith, number)) c.loop-self.invariant.leaves done.leaves;
-      at = λ book jobs job w.
-          goes_on c.args.self.now c.loop-self.self c.args.thread.now c.loop-self.thread c.run.new.self c.loop-self.invariant.number c.run.ensures.number stands c.loop-self.forks book jobs job w (c.loop-self.invariant.at book jobs job w)
-          c.requires.fitted c.loop-self.invariant.leaves loaded settled numbers c.call_branches.new.self c.call_branches.new.thread c.join.new.thread done c.call_branches.ensures.number c.join.ensures.number
-          (λ xs st. c.join.ensures.stands done.replies xs (subst (λ l. HaveHeard c.call_branches.new.self l done.replies) (sym c.call_branches.ensures.branches) all) st);
-    }
-
-pub finish-returns : goal.finish-returns
-finish-returns g t c =
-    let code : c.self.inside.code.now ≡ c.args.self.now.code = ap (λ (s : Seated). s.code) c.self.view_is ∙ c.loop-self.invariant.leaves.code in
-    let stands : (xs : List Exchange) → StandsFor (code_in c.args.self.now) c.loop-self.thread xs → StandsFor (code_in c.args.self.now) c.run.new.self xs = λ xs st. subst (λ (x : CodeParts). StandsFor (plain_code x) c.run.new.self xs) code (c.run.ensures.stands xs (subst (λ (x : CodeParts). StandsFor (plain_code x) c.loop-self.thread xs) (sym code) st)) in
+    let same = done.leaves.code ∙ i.leaves.code in
+    let code : c.self.inside.code.now ≡ c.args.self.now.code = ap (λ (s : Seated). s.code) c.self.view_is ∙ same in
+    let stands : (xs : List Exchange) → StandsFor (code_in c.args.self.now) c.join.new.thread xs → StandsFor (code_in c.args.self.now) c.run.new.self xs = λ xs st. subst (λ (x : CodeParts). StandsFor (plain_code x) c.run.new.self xs) code (c.run.ensures.stands xs (subst (λ (x : CodeParts). StandsFor (plain_code x) c.join.new.thread xs) (sym code) st)) in
+    let le : length c.loop.thread.branches.numbers ≤ length c.loop.thread.branches.numbers = omega arith in
+    let all = have_heard c.loop.self c.call_branches.new.self c.loop.thread c.call_branches.new.thread (length c.loop.thread.branches.numbers) done le in
+    let number = c.run.ensures.number ∙ c.join.ensures.number ∙ c.call_branches.ensures.number ∙ i.number in
+    let there = i.number in
     record {
       loaded = subst (λ (x : CodeParts). Loaded (plain_code x) c.run.new.self) code c.run.ensures.loaded;
-      number = c.run.ensures.number ∙ c.loop-self.invariant.number;
+      fork = subst (λ e. Left_by c.run.new.self e) c.in-Fork.is c.run.ensures.left;
+      branches = subst (λ (x : CodeParts). c.run.new.self.branches.numbers ≡ map (λ w. w.branch) (jobs_at (plain_code x) c.run.new.self)) code (c.run.ensures.branches c.in-Fork.is);
+      number = number;
+      leaves = leaves_then c.args.thread.now.number c.loop.thread.number c.args.self.now c.loop.self c.call_branches.new.self (omega (arith, there)) i.leaves done.leaves;
+      at = λ book jobs job w.
+          going_on c.args.self.now c.join.new.thread c.run.new.self c.run.ensures.number stands c.args.thread.now c.call_branches.new.self (c.loop.forks + 1) book jobs job w
+          (goes_on c.args.self.now c.loop.self c.args.thread.now c.loop.thread i.number c.loop.forks book jobs job w (i.at book jobs job w)
+          c.requires.fitted i.leaves i.loaded i.fork i.branches c.call_branches.new.self c.call_branches.new.thread c.join.new.thread done c.call_branches.ensures.number c.join.ensures.number
+          (λ xs st. c.join.ensures.stands done.replies xs (subst (λ l. HaveHeard c.call_branches.new.self l done.replies) (sym c.call_branches.ensures.branches) all) st));
+    }
+
+pub serve_forks-returns-in_default : goal.serve_forks-returns-in_default
+serve_forks-returns-in_default g t c =
+    let i = c.loop.invariant in
+    let done = c.call_branches.ensures.called in
+    let same = done.leaves.code ∙ i.leaves.code in
+    let code : c.self.inside.code.now ≡ c.args.self.now.code = ap (λ (s : Seated). s.code) c.self.view_is ∙ same in
+    let stands : (xs : List Exchange) → StandsFor (code_in c.args.self.now) c.join.new.thread xs → StandsFor (code_in c.args.self.now) c.run.new.self xs = λ xs st. subst (λ (x : CodeParts). StandsFor (plain_code x) c.run.new.self xs) code (c.run.ensures.stands xs (subst (λ (x : CodeParts). StandsFor (plain_code x) c.join.new.thread xs) (sym code) st)) in
+    let le : length c.loop.thread.branches.numbers ≤ length c.loop.thread.branches.numbers = omega arith in
+    let all = have_heard c.loop.self c.call_branches.new.self c.loop.thread c.call_branches.new.thread (length c.loop.thread.branches.numbers) done le in
+    let number = c.run.ensures.number ∙ c.join.ensures.number ∙ c.call_branches.ensures.number ∙ i.number in
+    let there = i.number in
+    record {
+      loaded = subst (λ (x : CodeParts). Loaded (plain_code x) c.run.new.self) code c.run.ensures.loaded;
+      number = number;
       reply = replied_by c.run.new.self c.run.result c.run.ensures.left c.in_default.not-Fork;
-      leaves = c.loop-self.invariant.leaves;
+      leaves = leaves_then c.args.thread.now.number c.loop.thread.number c.args.self.now c.loop.self c.call_branches.new.self (omega (arith, there)) i.leaves done.leaves;
       done = λ book jobs job w.
-          stays c.args.self.now c.loop-self.self c.args.thread.now c.loop-self.thread c.run.new.self c.loop-self.invariant.number c.run.ensures.number stands c.loop-self.forks book jobs job w (c.loop-self.invariant.at book jobs job w)
-          c.loop-self.invariant.leaves.code;
+          stays c.args.self.now c.call_branches.new.self c.args.thread.now c.run.new.self number (c.loop.forks + 1) book jobs job w
+          (going_on c.args.self.now c.join.new.thread c.run.new.self c.run.ensures.number stands c.args.thread.now c.call_branches.new.self (c.loop.forks + 1) book jobs job w
+          (goes_on c.args.self.now c.loop.self c.args.thread.now c.loop.thread i.number c.loop.forks book jobs job w (i.at book jobs job w)
+          c.requires.fitted i.leaves i.loaded i.fork i.branches c.call_branches.new.self c.call_branches.new.thread c.join.new.thread done c.call_branches.ensures.number c.join.ensures.number
+          (λ xs st. c.join.ensures.stands done.replies xs (subst (λ l. HaveHeard c.call_branches.new.self l done.replies) (sym c.call_branches.ensures.branches) all) st)))
+          same;
+    }
+
+-- ---- finish
+
+pub finish-serve_forks-requires : goal.finish-serve_forks-requires
+finish-serve_forks-requires g t c κs within =
+    let code : c.self.inside.code.now ≡ c.args.self.now.code = ap (λ (s : Seated). s.code) c.self.view_is in
+    let stands : (xs : List Exchange) → StandsFor (code_in c.args.self.now) c.args.thread.now xs → StandsFor (code_in c.args.self.now) c.run.new.self xs = λ xs st. subst (λ (x : CodeParts). StandsFor (plain_code x) c.run.new.self xs) code (c.run.ensures.stands xs (subst (λ (x : CodeParts). StandsFor (plain_code x) c.args.thread.now xs) (sym code) st)) in
+    let loaded = subst (λ (x : CodeParts). Loaded (plain_code x) c.run.new.self) code c.run.ensures.loaded in
+    let fork = subst (λ e. Left_by c.run.new.self e) c.in-Fork.is c.run.ensures.left in
+    let branches = subst (λ (x : CodeParts). c.run.new.self.branches.numbers ≡ map (λ w. w.branch) (jobs_at (plain_code x) c.run.new.self)) code (c.run.ensures.branches c.in-Fork.is) in
+    let begun = begun_on c.args.self.now c.args.thread.now c.run.new.self c.run.ensures.number stands c.requires.begun in
+    let number = c.run.ensures.number in
+    let smaller : 4 * (257 - c.run.new.self.number) + 2 < 4 * (257 - c.args.thread.now.number) + 3 = omega (arith, number) in
+    (search rules, (within, (c.requires.fitted, (loaded, (fork, (branches, begun))))))
+
+pub finish-returns-in-Fork-clause-done : goal.finish-returns-in-Fork-clause-done
+finish-returns-in-Fork-clause-done g t c =
+    let code : c.self.inside.code.now ≡ c.args.self.now.code = ap (λ (s : Seated). s.code) c.self.view_is in
+    let stands : (xs : List Exchange) → StandsFor (code_in c.args.self.now) c.args.thread.now xs → StandsFor (code_in c.args.self.now) c.run.new.self xs = λ xs st. subst (λ (x : CodeParts). StandsFor (plain_code x) c.run.new.self xs) code (c.run.ensures.stands xs (subst (λ (x : CodeParts). StandsFor (plain_code x) c.args.thread.now xs) (sym code) st)) in
+    stays_after c.args.self.now c.args.thread.now c.run.new.self c.run.ensures.number stands c.serve_forks.new.self c.serve_forks.new.thread c.serve_forks.ensures.done
+
+pub finish-returns-in_default : goal.finish-returns-in_default
+finish-returns-in_default g t c =
+    let code : c.self.inside.code.now ≡ c.args.self.now.code = ap (λ (s : Seated). s.code) c.self.view_is in
+    let stands : (xs : List Exchange) → StandsFor (code_in c.args.self.now) c.args.thread.now xs → StandsFor (code_in c.args.self.now) c.run.new.self xs = λ xs st. subst (λ (x : CodeParts). StandsFor (plain_code x) c.run.new.self xs) code (c.run.ensures.stands xs (subst (λ (x : CodeParts). StandsFor (plain_code x) c.args.thread.now xs) (sym code) st)) in
+    record {
+      loaded = subst (λ (x : CodeParts). Loaded (plain_code x) c.run.new.self) code c.run.ensures.loaded;
+      number = c.run.ensures.number;
+      reply = replied_by c.run.new.self c.run.result c.run.ensures.left c.in_default.not-Fork;
+      leaves = leaves_same c.args.thread.now.number c.args.self.now;
+      done = stays_here c.args.self.now c.args.thread.now c.run.new.self c.run.ensures.number stands;
     }
 
 -- ---- call_branch
@@ -233,7 +262,7 @@ call_branch-finish-requires g t c κs within =
     let begun = has_begun c.self.inside.code.now c.self.inside.seats.items (subst IsFitted (sym c.self.view_is) c.requires.fitted) c.args.thread.now c.args.k c.args.branch c.requires.branch some.0 some.1 c.index_mut.result.now c.index_mut.ensures.value
     c.deref_mut-called.result.now (sym c.take.ensures.value ∙ c.in-Some.is ∙ ap Some (sym c.deref_mut-called.ensures.value)) c.take.new.self c.call_branch.new.branch c.call_branch.ensures.number c.call_branch.ensures.stands in
     let fitted = fitted_set c.self.inside.code.now c.self.inside.seats.items (subst IsFitted (sym c.self.view_is) c.requires.fitted) c.args.branch c.take.new.self in
-    let smaller : 3 * (257 - c.call_branch.new.branch.number) + 2 < 3 * (257 - c.args.branch) + 3 = omega (arith, number) in
+    let smaller : 4 * (257 - c.call_branch.new.branch.number) + 3 < 4 * (257 - c.args.branch) + 4 = omega (arith, number) in
     (search rules, (within, (fitted, (c.call_branch.ensures.loaded, (c.call_branch.ensures.running, begun)))))
 
 -- ---- call_branch settles
@@ -278,5 +307,5 @@ call_branches-call_branch-requires g t c κs within =
     let lt = subst (λ n. n < length (code_in c.loop-branch.self).threads) some.1.number some.1.is.inside in
     let above = subst (λ n. c.loop-branch.thread.number < n) some.1.number some.1.is.above in
     let number = i.number in
-    let smaller : 3 * (257 - c.in-Some.branch) + 3 < 3 * (257 - c.args.thread.now.number) + 1 = omega (arith, few, same, lt, above, number) in
+    let smaller : 4 * (257 - c.in-Some.branch) + 4 < 4 * (257 - c.args.thread.now.number) + 1 = omega (arith, few, same, lt, above, number) in
     (search rules, (within, (fitted, (loaded, (i.order, (here, some))))))

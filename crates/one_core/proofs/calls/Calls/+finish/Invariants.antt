@@ -1,7 +1,7 @@
-use Rattle.std.proofs.Common.{◌≡◌, ◌+◌, ◌-◌, ◌*◌, List, length}
+use Rattle.std.proofs.Common.{◌≡◌, ◌+◌, ◌-◌, ◌*◌, List, length, map}
 use Rattle.forec_kernel.specs.Engine.{Job}
 use Rattle.thread_code.specs.Alone.{block_of}
-use Rattle.core_machine.specs.Threads.{Loaded, CanRun, HasSettled}
+use Rattle.core_machine.specs.Threads.{Loaded, HasSettled}
 use Rattle.core_machine.specs.Forks.{jobs_at}
 use Rattle.one_core.specs.Seats.{code_in, Leaves}
 use Rattle.one_core.specs.Told.{Book}
@@ -11,13 +11,16 @@ use Rattle.one_core.proofs.FinishLemmas.{Going}
 use Rattle.one_core.proofs.calls.Calls.+finish.Given as goal
 
 abbrev pub decreases-call_branches : goal.decreases-call_branches
-decreases-call_branches g l = 3 * (257 - l.thread.now.number) + 1
+decreases-call_branches g l = 4 * (257 - l.thread.now.number) + 1
 
 abbrev pub decreases-call_branch : goal.decreases-call_branch
-decreases-call_branch g l = 3 * (257 - l.branch) + 3
+decreases-call_branch g l = 4 * (257 - l.branch) + 4
 
 abbrev pub decreases-finish : goal.decreases-finish
-decreases-finish g l = 3 * (257 - l.thread.now.number) + 2
+decreases-finish g l = 4 * (257 - l.thread.now.number) + 3
+
+abbrev pub decreases-serve_forks : goal.decreases-serve_forks
+decreases-serve_forks g l = 4 * (257 - l.thread.now.number) + 2
 
 abbrev pub invariant-call_branches-loop-branch : goal.invariant-call_branches-loop-branch
 invariant-call_branches-loop-branch g l = record {
@@ -32,15 +35,16 @@ invariant-call_branches-loop-branch g l = record {
 abbrev pub decreases-call_branches-loop-branch : goal.decreases-call_branches-loop-branch
 decreases-call_branches-loop-branch g l = length l.fn.thread.branches.numbers - l.k
 
-abbrev pub invariant-finish-loop-self : goal.invariant-finish-loop-self
-invariant-finish-loop-self g l = record {
+abbrev pub invariant-serve_forks-loop : goal.invariant-serve_forks-loop
+invariant-serve_forks-loop g l = record {
   loaded : Loaded (code_in l.fn.self) l.thread;
+  fork : HasSettled l.thread 0;
+  branches : l.thread.branches.numbers ≡ map (λ w. w.branch) (jobs_at (code_in l.fn.self) l.thread);
   number : l.thread.number ≡ l.fn.thread.number;
-  running : CanRun l.thread;
   leaves : Leaves l.fn.thread.number l.fn.self l.self;
   at : (book : Book) (jobs : List Job) (job : Job) (w : Works l.fn.self l.fn.thread book jobs job) → Going l.fn.self l.fn.thread l.self l.thread l.forks book jobs job w;
 }
 
-abbrev pub decreases-finish-loop-self : goal.decreases-finish-loop-self
-decreases-finish-loop-self g l =
+abbrev pub decreases-serve_forks-loop : goal.decreases-serve_forks-loop
+decreases-serve_forks-loop g l =
     (length (block_of (code_in l.fn.self) l.fn.thread.number).steps + 2) * l.fn.thread.allowance + (length (block_of (code_in l.fn.self) l.fn.thread.number).steps + 2) - l.forks
