@@ -12,7 +12,7 @@ use Rattle.thread_code.specs.Plain.{PlainCode, plain_code}
 use Rattle.core_machine.specs.declared.thread.Thread.{Thread}
 use Rattle.copy_slots.specs.declared.view.PacketAt.TheVariants.{Fresh}
 use Rattle.copy_slots.specs.declared.view.Sender.{Sender}
-use Rattle.copy_slots.specs.Ports.{Ends, parent_at, sent_by, got_by, sent, got}
+use Rattle.copy_slots.specs.Ports.{Ends, parent_at, sent_by, got_by, sent}
 use Rattle.core_host.specs.Posts.{Mail, IsBranchOf, AreReplies, replies_to}
 use Rattle.core_host.specs.Done.{Posts}
 use Rattle.core_host.specs.Done as host
