@@ -27,11 +27,13 @@ impl Branches {
             self.judge(Verdict::Over);
             return;
         }
+        // Nearly all replies are so; asked for first, they need no dispatch.
+        if let Phase::Paused = branch.phase {
+            self.note(false);
+            self.count(branch.units);
+            return;
+        }
         match branch.phase {
-            Phase::Paused => {
-                self.note(false);
-                self.count(branch.units);
-            }
             Phase::Ended => {
                 self.note(true);
                 self.count(branch.units);

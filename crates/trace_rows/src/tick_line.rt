@@ -18,14 +18,20 @@ fn put(buffer: &mut [u8], at: usize, bytes: &[u8]) -> usize
 }
 
 /// Puts the name and the value of output `i` at a place.
-fn put_pair(buffer: &mut [u8], at: usize, name: &str, values: &[i32], i: usize) -> usize
+fn put_pair(
+    digits: &mut Buffer,
+    buffer: &mut [u8],
+    at: usize,
+    name: &str,
+    values: &[i32],
+    i: usize,
+) -> usize
     requires value { i < length values.now }
     requires room { at + (length name.now + 13) ≤ length buffer.old }
     ensures within { result ≤ at + (length name.now + 13) }
     ensures front { take result buffer.new
         ≡ take at buffer.old ++ (codes " " ++ name.now ++ codes "=" ++ signed_decimal (slice_index_or values.now i (pos 0))) }
 {
-    let mut digits = Buffer::new();
     let at = put(buffer, at, b" ");
     let at = put(buffer, at, name.as_bytes());
     let at = put(buffer, at, b"=");
@@ -58,7 +64,7 @@ pub fn line(tick: u64, names: &Labels, values: &[i32], buffer: &mut [u8]) -> usi
     let mut at = put(buffer, 0, b"tick ");
     at = put(buffer, at, digits.format(tick).as_bytes());
     for i in 0..names.len() {
-        at = put_pair(buffer, at, names.get(i), values, i as usize);
+        at = put_pair(&mut digits, buffer, at, names.get(i), values, i as usize);
     }
     put(buffer, at, b"\n")
 }

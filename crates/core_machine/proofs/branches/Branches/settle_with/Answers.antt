@@ -35,9 +35,9 @@ returns-in-Trapped c =
     let e = c.judge_trap.ensures ∙ ap (λ (g : Gathered). with_verdict (first_trap g.verdict (verdict.Trap place trap)) g) (c.count-in-Trapped.ensures ∙ ap (counted h.units) c.note-in-Trapped.ensures) in
     subst (Adds g (RepliesBy h)) (sym e) (adds_trap g h c.if-branch.false place trap c.in-Trapped.is)
 
-pub returns-in_default : goal.returns-in_default
-returns-in_default c =
+pub returns-in_default-phase : goal.returns-in_default-phase
+returns-in_default-phase c =
     let g = c.args.self.now in
     let h = c.args.branch.now in
-    let e = c.judge-in_default.ensures ∙ ap (with_verdict verdict.Over) c.note-in_default.ensures in
-    subst (Adds g (RepliesBy h)) (sym e) (adds_else g h c.if-branch.false c.in_default.not-Paused c.in_default.not-Ended c.in_default.not-Trapped)
+    let e = c.judge-in_default-phase.ensures ∙ ap (with_verdict verdict.Over) c.note-in_default-phase.ensures in
+    subst (Adds g (RepliesBy h)) (sym e) (adds_else g h c.if-branch.false c.in_default.not-Paused c.in_default-phase.not-Ended c.in_default-phase.not-Trapped)
