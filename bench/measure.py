@@ -26,6 +26,14 @@ def in_turn(times, *runs):
     return [statistics.median(seconds) for seconds in zip(*([run(*one) for one in runs] for _ in range(times)))]
 
 
+def beside(times, ours, reference):
+    """The median seconds of two runs that are made in turn, and the median of how many times as long the reference took as its
+    neighbour. A machine that gives more time in one second than in the next gives both of a pair the same, but not two medians."""
+    pairs = [(run(*ours), run(*reference)) for _ in range(times)]
+    mine, theirs = (statistics.median(seconds) for seconds in zip(*pairs))
+    return mine, theirs, statistics.median(other / one for one, other in pairs)
+
+
 def median(words, source, sink, times):
     return statistics.median(run(words, source, sink) for _ in range(times))
 
