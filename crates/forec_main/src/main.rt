@@ -45,36 +45,26 @@ fn run(
     let mut texts = Files::new(rt);
     let mut trace = Input::new(reader);
     let mut out = Output::new(io::writer(rt));
-    forec_within(
-        &setting, deepest, words, &mut texts, &mut trace, &mut out,
-    )
+    forec_within(&setting, deepest, words, &mut texts, &mut trace, &mut out)
 }
 
-/// Runs the command in a thread with the greatest stack that can be had, or in this thread, where the stack has room.
-fn run_in_room(
-    rt: &(impl AllocGlobal + FilesOf + Print + Stdin + Threads + Wait + Sync),
-    words: &[String],
-) -> Status {
-    thread::scope(thread::scope_env(), rt, |scope| {
-        for room in ROOMS {
-            let thread = Builder::new().stack_size(room.stack);
-            if let Ok(handle) =
-                thread.spawn_scoped(scope, || run(rt, words, rt.stdin(), room.deepest))
-            {
-                return handle.join(rt);
-            }
-        }
-        if has_room(rt) {
-            run(rt, words, rt.stdin(), LEAST.deepest)
-        } else {
-            Status::NoMemory
-        }
-    })
-}
-
+/// Runs the command in a thread with the greatest stack that can be had, or in the first one, where its stack has room.
 fn main(rt: HostRuntime) -> ExitCode {
     let Ok(words) = words(&rt) else {
         return ExitCode::from(Status::NoMemory.number());
     };
-    ExitCode::from(run_in_room(&rt, &words).number())
+    let status = thread::scope(thread::scope_env(), &rt, |scope| {
+        for room in ROOMS {
+            let thread = Builder::new().stack_size(room.stack);
+            let started = thread.spawn_scoped(scope, || run(&rt, &words, rt.stdin(), room.deepest));
+            if let Ok(handle) = started {
+                return handle.join(&rt);
+            }
+        }
+        if !has_room(&rt) {
+            return Status::NoMemory;
+        }
+        run(&rt, &words, rt.stdin(), LEAST.deepest)
+    });
+    ExitCode::from(status.number())
 }

@@ -67,11 +67,7 @@ fn read(alloc: Global, text: &[u8], tokens: &[Token]) -> Result<Program, JudgeFa
     }
 }
 
-fn accept(
-    alloc: Global,
-    checked: &Checked<'_>,
-    deepest: u64,
-) -> Result<Accepted, JudgeFault>
+fn accept(alloc: Global, checked: &Checked<'_>, deepest: u64) -> Result<Accepted, JudgeFault>
     ensures { Says (OnUnbroken (text_of checked.now) (names_of checked.now)) result }
 {
     let kernel = lower_within(alloc, checked, checked.names(), deepest)?;
