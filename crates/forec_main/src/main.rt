@@ -53,18 +53,19 @@ fn main(rt: HostRuntime) -> ExitCode {
     let Ok(words) = words(&rt) else {
         return ExitCode::from(Status::NoMemory.number());
     };
-    let status = thread::scope(thread::scope_env(), &rt, |scope| {
+    let (rt, words) = (&rt, words.as_slice());
+    let status = thread::scope(thread::scope_env(), rt, |scope| {
         for room in ROOMS {
             let thread = Builder::new().stack_size(room.stack);
-            let started = thread.spawn_scoped(scope, || run(&rt, &words, rt.stdin(), room.deepest));
-            if let Ok(handle) = started {
-                return handle.join(&rt);
+            let command = move || run(rt, words, rt.stdin(), room.deepest);
+            if let Ok(handle) = thread.spawn_scoped(scope, command) {
+                return handle.join(rt);
             }
         }
-        if !has_room(&rt) {
+        if !has_room(rt) {
             return Status::NoMemory;
         }
-        run(&rt, &words, rt.stdin(), LEAST.deepest)
+        run(rt, words, rt.stdin(), LEAST.deepest)
     });
     ExitCode::from(status.number())
 }
