@@ -14,7 +14,7 @@ ghost use Rattle.trace_runs.specs.Report.{Report};
 
 use crate::answering::{answer, answer_workload, refuse};
 use command_words::{Command, Request, Running, WordsFault, read_words};
-use forec_base::{Gate, MAX_TEXT_BYTES, Sink, Source, TextFault, Texts};
+use forec_base::{Gate, MAX_DEPTH, MAX_TEXT_BYTES, Sink, Source, TextFault, Texts};
 use std::alloc::Global;
 use std::sync::Wait;
 use std::thread::Threads;
@@ -37,6 +37,7 @@ fn read_request<'a>(alloc: Global, words: &'a [String]) -> Result<Request<'a>, W
 /// Does what a command asks of a text.
 fn run_text<S: Source, K: Sink, G: Gate + Sync, R: Threads + Wait + Sync>(
     setting: &Setting<'_, G, R>,
+    deepest: u64,
     command: Command<'_>,
     text: &[u8],
     trace: &mut S,
@@ -59,7 +60,7 @@ fn run_text<S: Source, K: Sink, G: Gate + Sync, R: Threads + Wait + Sync>(
     ensures usage { result ≡ Status.Usage → AcceptedSo (CommandIsMisplaced (plain_command command.entry)) text.now }
 {
     let alloc = setting.alloc;
-    match judge(alloc, text) {
+    match judge(alloc, text, deepest) {
         Ok(accepted) => answer(setting, command, &accepted, trace, out),
         Err(JudgeFault::Refused { why }) => refuse(alloc, why, out),
         Err(JudgeFault::OutOfMemory) => Status::NoMemory,
@@ -69,6 +70,7 @@ fn run_text<S: Source, K: Sink, G: Gate + Sync, R: Threads + Wait + Sync>(
 /// Does what a command asks of the text of a name.
 fn run_named<T: Texts, S: Source, K: Sink, G: Gate + Sync, R: Threads + Wait + Sync>(
     setting: &Setting<'_, G, R>,
+    deepest: u64,
     name: &str,
     command: Command<'_>,
     texts: &mut T,
@@ -97,7 +99,7 @@ fn run_named<T: Texts, S: Source, K: Sink, G: Gate + Sync, R: Threads + Wait + S
 {
     let alloc = setting.alloc;
     match texts.read(alloc, name, MAX_TEXT_BYTES) {
-        Ok(text) => run_text(setting, command, &text, trace, out),
+        Ok(text) => run_text(setting, deepest, command, &text, trace, out),
         Err(TextFault::Failed) => Status::ReadFault,
         Err(TextFault::OutOfMemory) => Status::NoMemory,
         Err(TextFault::Long) => refuse(alloc, Refusal::Long, out),
@@ -105,18 +107,19 @@ fn run_named<T: Texts, S: Source, K: Sink, G: Gate + Sync, R: Threads + Wait + S
 }
 
 /// The verdict on a text of any length.
-fn judge_any(alloc: Global, text: &[u8]) -> Result<Accepted, JudgeFault>
+fn judge_any(alloc: Global, text: &[u8], deepest: u64) -> Result<Accepted, JudgeFault>
     ensures { Says (Judged text.now) result }
 {
     if text.len() > MAX_TEXT_BYTES {
         return Err(JudgeFault::Refused { why: Refusal::Long });
     }
-    judge(alloc, text)
+    judge(alloc, text, deepest)
 }
 
 /// Runs the workload of so many threads.
 fn run_workload_text<K: Sink, G: Gate + Sync, R: Threads + Wait + Sync>(
     setting: &Setting<'_, G, R>,
+    deepest: u64,
     threads: u32,
     running: Running<'_>,
     out: &mut K,
@@ -135,10 +138,72 @@ fn run_workload_text<K: Sink, G: Gate + Sync, R: Threads + Wait + Sync>(
     let Ok(text) = workload_text(alloc, threads) else {
         return Status::NoMemory;
     };
-    match judge_any(alloc, &text) {
+    match judge_any(alloc, &text, deepest) {
         Ok(accepted) => answer_workload(setting, threads, running, &accepted.kernel, out),
         Err(JudgeFault::Refused { why }) => refuse(alloc, why, out),
         Err(JudgeFault::OutOfMemory) => Status::NoMemory,
+    }
+}
+
+/// Does what the words ask, as [`forec`] does, where no more than `deepest` statements nest in a thread of the program
+/// with all functions in place that it calls as statements. Of a deeper one the status is that of no memory.
+///
+/// How deep a program is, is counted on its text, and nothing that deep is made: a caller with little stack asks for
+/// as much as fits in it.
+pub fn forec_within<T: Texts, S: Source, K: Sink, G: Gate + Sync, R: Threads + Wait + Sync>(
+    setting: &Setting<'_, G, R>,
+    deepest: u64,
+    words: &[String],
+    texts: &mut T,
+    trace: &mut S,
+    out: &mut K,
+) -> Status
+    // The text that the words name may be asked for.
+    requires may { (name : List ℕ) (command : PlainCommand) → request_of (map string_bytes words.now) ≡ Some (OnText name command) → T.may texts.old name }
+
+    // Where the text and the trace are known, what is printed is a report of the words, and the status is the report's.
+    ensures own { IsOwn result → Tells (map string_bytes words.now) (T.content texts.old) (S.left trace.old) → (r : Report)
+        × IsReport (map string_bytes words.now) (T.content texts.old) (S.left trace.old) r
+        × Given r result (K.held out.old) (K.held out.new) }
+
+    // A store or a trace that was wanted failed. What was printed is what the rows that had come whole print.
+    ensures read { result ≡ Status.ReadFault →
+        (Fell (T.faults texts.old) (T.faults texts.new) (T.down texts.new) × (K.held out.new ≡ K.held out.old))
+        ⊎ (Fell (S.faults trace.old) (S.faults trace.new) (S.down trace.new)
+        × WantedByWords (map string_bytes words.now) (T.content texts.old) (S.left trace.old) (S.left trace.new) (K.held out.old) (K.held out.new)) }
+
+    // The sink failed. What was printed is a prefix of a report of the words.
+    ensures write { result ≡ Status.WriteFault → Fell (K.faults out.old) (K.faults out.new) (K.down out.new)
+        × (Tells (map string_bytes words.now) (T.content texts.old) (S.left trace.old) → (r : Report)
+        × IsReport (map string_bytes words.now) (T.content texts.old) (S.left trace.old) r
+        × AppendsFront (K.held out.old) (K.held out.new) r.bytes) }
+
+    // The trace is read by `run` and `explain` alone, for a text that is accepted, whose list of places isn't refused, and no read is
+    // asked for once a line that stops the program has come whole.
+    ensures trace { (trace.new ≡ trace.old) ⊎ ReadForWords S.left S.faults S.down (map string_bytes words.now) (T.content texts.old) trace.old trace.new }
+
+    // Where memory ran out, nothing was printed. Of a program that is rewritten a prefix of a report may be.
+    ensures memory { result ≡ Status.NoMemory → (K.held out.new ≡ K.held out.old)
+        ⊎ (AskForRewriting (map string_bytes words.now) × (Tells (map string_bytes words.now) (T.content texts.old) (S.left trace.old) → (r : Report)
+        × IsReport (map string_bytes words.now) (T.content texts.old) (S.left trace.old) r
+        × AppendsFront (K.held out.old) (K.held out.new) r.bytes)) }
+
+    // This status comes only where the words ask for nothing, or the list of places is refused.
+    ensures usage { result ≡ Status.Usage → IsMisuse (map string_bytes words.now) (T.content texts.old) }
+
+    // Where no count of faults rises, the report is given whole, or memory ran out.
+    ensures complete { (Rose (T.faults texts.old) (T.faults texts.new) → ⊥) → (Rose (S.faults trace.old) (S.faults trace.new) → ⊥)
+        → (Rose (K.faults out.old) (K.faults out.new) → ⊥) → IsOwn result ⊎ (result ≡ Status.NoMemory) }
+{
+    match read_request(setting.alloc, words) {
+        Ok(Request::Text { program, command }) => {
+            run_named(setting, deepest, program, command, texts, trace, out)
+        }
+        Ok(Request::Workload { threads, running }) => {
+            run_workload_text(setting, deepest, threads, running, out)
+        }
+        Err(WordsFault::Usage) => say(out, USAGE, Status::Usage),
+        Err(WordsFault::OutOfMemory) => Status::NoMemory,
     }
 }
 
@@ -200,14 +265,5 @@ pub fn forec<T: Texts, S: Source, K: Sink, G: Gate + Sync, R: Threads + Wait + S
         → (Rose (K.faults out.old) (K.faults out.new) → ⊥) → IsOwn result ⊎ (result ≡ Status.NoMemory) }
 {
     let setting = Setting { rt, alloc, gate };
-    match read_request(alloc, words) {
-        Ok(Request::Text { program, command }) => {
-            run_named(&setting, program, command, texts, trace, out)
-        }
-        Ok(Request::Workload { threads, running }) => {
-            run_workload_text(&setting, threads, running, out)
-        }
-        Err(WordsFault::Usage) => say(out, USAGE, Status::Usage),
-        Err(WordsFault::OutOfMemory) => Status::NoMemory,
-    }
+    forec_within(&setting, MAX_DEPTH, words, texts, trace, out)
 }

@@ -6,6 +6,6 @@ mod command;
 mod laws;
 mod lines;
 
-pub use command::forec;
+pub use command::{forec, forec_within};
 pub use laws::{each_command_has_a_report, reports_are_alike, reports_are_unique};
-pub use trace_runs::Status;
+pub use trace_runs::{Setting, Status};

@@ -4,22 +4,20 @@
 mod files;
 mod input;
 mod output;
+mod room;
 
 use crate::files::Files;
 use crate::input::Input;
 use crate::output::Output;
+use crate::room::{LEAST, ROOMS, has_room};
 use forec_base::{OpenGate, OutOfMemory};
-use forec_engine::{Status, forec};
+use forec_engine::{Setting, Status, forec_within};
 use std::io::{ErrorKind, Read};
 use std::process::ExitCode;
 use std::rt::{Env, Files as FilesOf};
 use std::sync::Wait;
 use std::thread::{self, Builder, Threads};
 use std::{env, io};
-
-/// The command runs in a thread with so many bytes of stack: the statements of a program nest up to 4,096 deep,
-/// and each takes a few frames. Where no thread can be had it runs all the same.
-const STACK: usize = 67_108_864;
 
 /// The words after the program's own name. Where one of them isn't text they are none, which is no command.
 fn words(rt: &(impl Env + AllocGlobal)) -> Result<Vec<String>, OutOfMemory> {
@@ -31,38 +29,43 @@ fn words(rt: &(impl Env + AllocGlobal)) -> Result<Vec<String>, OutOfMemory> {
     }
 }
 
-/// Runs the command that the words are, over standard input, standard output and files.
+/// Runs the command that the words are, over standard input, standard output and files, where `deepest` statements of a
+/// program may nest.
 fn run(
     rt: &(impl AllocGlobal + FilesOf + Print + Threads + Wait + Sync),
     words: &[String],
     reader: impl Read + Drop,
+    deepest: u64,
 ) -> Status {
+    let setting = Setting {
+        rt,
+        alloc: rt.alloc(),
+        gate: &OpenGate,
+    };
     let mut texts = Files::new(rt);
     let mut trace = Input::new(reader);
     let mut out = Output::new(io::writer(rt));
-    forec(
-        rt,
-        rt.alloc(),
-        words,
-        &mut texts,
-        &mut trace,
-        &mut out,
-        &OpenGate,
-    )
+    forec_within(&setting, deepest, words, &mut texts, &mut trace, &mut out)
 }
 
+/// Runs the command in a thread with the greatest stack that can be had, or in the first one, where its stack has room.
 fn main(rt: HostRuntime) -> ExitCode {
     let Ok(words) = words(&rt) else {
         return ExitCode::from(Status::NoMemory.number());
     };
-    let status = thread::scope(thread::scope_env(), &rt, |scope| {
-        match Builder::new()
-            .stack_size(STACK)
-            .spawn_scoped(scope, || run(&rt, &words, rt.stdin()))
-        {
-            Ok(handle) => handle.join(&rt),
-            Err(_) => run(&rt, &words, rt.stdin()),
+    let (rt, words) = (&rt, words.as_slice());
+    let status = thread::scope(thread::scope_env(), rt, |scope| {
+        for room in ROOMS {
+            let thread = Builder::new().stack_size(room.stack);
+            let command = move || run(rt, words, rt.stdin(), room.deepest);
+            if let Ok(handle) = thread.spawn_scoped(scope, command) {
+                return handle.join(rt);
+            }
         }
+        if !has_room(rt) {
+            return Status::NoMemory;
+        }
+        run(rt, words, rt.stdin(), LEAST.deepest)
     });
     ExitCode::from(status.number())
 }

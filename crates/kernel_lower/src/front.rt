@@ -16,19 +16,30 @@ use crate::lower_fault::LowerFault;
 use crate::measure::most;
 use crate::tables::{arrays, table_words};
 use body_lower::Source;
-use forec_base::{Labels, MAX_DEPTH, MAX_TERMS};
+use forec_base::{Labels, MAX_DEPTH, MAX_TERMS, OutOfMemory};
 use forec_check::Checked;
 use forec_kernel::{Kernel, KernelParts};
 use std::alloc::Global;
 use text_kernel::Quantity;
 use text_sizes::program_terms;
 
-/// The parts of the kernel of a program of so many threads.
+/// Whether a program in which so many statements nest may be made where `deepest` is the most.
+fn fits(levels: u64, deepest: u64) -> Result<(), OutOfMemory>
+    ensures { OnOk result (levels ≤ deepest) }
+{
+    if deepest < levels {
+        return Err(OutOfMemory);
+    }
+    Ok(())
+}
+
+/// The parts of the kernel of a program of so many threads, in none of which more than `deepest` statements nest.
 fn parts_of(
     alloc: Global,
     checked: &Checked<'_>,
     names: &Labels,
     threads: u64,
+    deepest: u64,
 ) -> Result<KernelParts, LowerFault>
     requires names { names.now ≡ names_of checked.now }
     requires threads { threads ≡ min (amount Threads (kernel_of (text_of checked.now) (names_of checked.now))) (2 ^ 64 - 1) }
@@ -53,6 +64,7 @@ fn parts_of(
         beyond(alloc, &source, names, items, &functions, known)?;
         unreachable!();
     }
+    fits(levels, deepest)?;
     let draft = draft(alloc, &source, names, items, first)?;
     let peak = most(alloc, &draft)?;
     let arrays = arrays(alloc, items)?;
@@ -70,7 +82,17 @@ fn parts_of(
 
 /// The kernel of a checked program, whose names are given. A program is refused exactly where a
 /// quantity passes its limit, and the first such quantity is reported.
-pub fn lower(alloc: Global, checked: &Checked<'_>, names: &Labels) -> Result<Kernel, LowerFault>
+///
+/// # Errors
+///
+/// Out of memory, also where more than `deepest` statements nest in a thread with all functions in place that it calls
+/// as statements: they are counted on the text, and nothing that deep is made.
+pub fn lower_within(
+    alloc: Global,
+    checked: &Checked<'_>,
+    names: &Labels,
+    deepest: u64,
+) -> Result<Kernel, LowerFault>
     requires { names.now ≡ names_of checked.now }
     ensures kernel { IfOk result (λ k. plain_kernel k ≡ kernel_of (text_of checked.now) (names_of checked.now)) }
     ensures within { OnOk result (WithinLimits (kernel_of (text_of checked.now) (names_of checked.now))) }
@@ -78,6 +100,17 @@ pub fn lower(alloc: Global, checked: &Checked<'_>, names: &Labels) -> Result<Ker
 {
     let threads = checked.threads(alloc)?;
     within(Quantity::Threads, threads)?;
-    let parts = parts_of(alloc, checked, names, threads)?;
+    let parts = parts_of(alloc, checked, names, threads, deepest)?;
     Ok(Kernel::of(parts))
+}
+
+/// The kernel of a checked program, whose names are given, however deep it is. A program is refused
+/// exactly where a quantity passes its limit, and the first such quantity is reported.
+pub fn lower(alloc: Global, checked: &Checked<'_>, names: &Labels) -> Result<Kernel, LowerFault>
+    requires { names.now ≡ names_of checked.now }
+    ensures kernel { IfOk result (λ k. plain_kernel k ≡ kernel_of (text_of checked.now) (names_of checked.now)) }
+    ensures within { OnOk result (WithinLimits (kernel_of (text_of checked.now) (names_of checked.now))) }
+    ensures fault { IfErr result (λ e. Causes e (text_of checked.now) (names_of checked.now)) }
+{
+    lower_within(alloc, checked, names, MAX_DEPTH)
 }

@@ -17,6 +17,6 @@ mod shapes;
 mod tables;
 mod variables;
 
-pub use front::lower;
+pub use front::{lower, lower_within};
 pub use lower_fault::LowerFault;
 pub use text_kernel::Quantity;

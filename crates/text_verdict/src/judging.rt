@@ -13,7 +13,7 @@ use forec_kernel::Kernel;
 use forec_lexer::{end_place, lex};
 use forec_parser::{ParseFault, parse};
 use forec_tree::{Program, Token};
-use kernel_lower::lower;
+use kernel_lower::lower_within;
 use std::alloc::Global;
 
 /// A text that is accepted: what is counted of its program, and its kernel.
@@ -67,21 +67,25 @@ fn read(alloc: Global, text: &[u8], tokens: &[Token]) -> Result<Program, JudgeFa
     }
 }
 
-fn accept(alloc: Global, checked: &Checked<'_>) -> Result<Accepted, JudgeFault>
+fn accept(alloc: Global, checked: &Checked<'_>, deepest: u64) -> Result<Accepted, JudgeFault>
     ensures { Says (OnUnbroken (text_of checked.now) (names_of checked.now)) result }
 {
-    let kernel = lower(alloc, checked, checked.names())?;
+    let kernel = lower_within(alloc, checked, checked.names(), deepest)?;
     let counts = count(alloc, checked)?;
     Ok(Accepted { counts, kernel })
 }
 
 /// The kernel of a text of at most 1,048,576 bytes and what is counted of it, or why it is refused.
-pub fn judge(alloc: Global, text: &[u8]) -> Result<Accepted, JudgeFault>
+///
+/// # Errors
+///
+/// Out of memory, also where more than `deepest` statements nest in a thread of the program.
+pub fn judge(alloc: Global, text: &[u8], deepest: u64) -> Result<Accepted, JudgeFault>
     requires { length text.now ≤ MAX_TEXT_BYTES }
     ensures { Says (Judged text.now) result }
 {
     let lexed = lex(alloc, text)?;
     let program = read(alloc, text, &lexed.tokens)?;
     let checked = check(alloc, program, &lexed.names)?;
-    accept(alloc, &checked)
+    accept(alloc, &checked, deepest)
 }

@@ -1,6 +1,9 @@
 //! Workers on their way to a thread.
 use std::sync::{Mutex, Wait};
-use std::thread::Scope;
+use std::thread::{Builder, Scope};
+
+/// How many bytes of stack a worker's thread has, whatever the limits of the process: it nests as deep as threads do.
+const STACK: usize = 8_388_608;
 
 /// What a thread of its own can run to its end.
 pub trait Runnable: Drop {
@@ -40,7 +43,11 @@ pub fn start_all<'s, E, H: Runnable + Send, R: Wait + Sync>(
     workers: &'s [Mutex<Pending<H>>],
 ) {
     for pending in workers {
-        if scope.spawn(move || run_pending(rt, pending)).is_err() {
+        let thread = Builder::new().stack_size(STACK);
+        if thread
+            .spawn_scoped(scope, move || run_pending(rt, pending))
+            .is_err()
+        {
             pending.lock(rt).refused = true;
         }
     }

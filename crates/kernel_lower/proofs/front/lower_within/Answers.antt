@@ -5,7 +5,7 @@ use Rattle.kernel_lower.specs.Refusals.{Causes}
 use Rattle.kernel_lower.proofs.Finishing.{threads_amount, threads_cause}
 use Rattle.kernel_lower.proofs.Tallying.{err_passed}
 use Rattle.text_kernel.proofs.Whole.{well_formed}
-use Rattle.kernel_lower.proofs.front.lower.Goals as goal
+use Rattle.kernel_lower.proofs.front.lower_within.Goals as goal
 
 pub returns-in_err-within-clause-fault : goal.returns-in_err-within-clause-fault
 returns-in_err-within-clause-fault c =

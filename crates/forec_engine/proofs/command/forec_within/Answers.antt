@@ -4,7 +4,7 @@ use Rattle.forec_engine.specs.Commands.{usage, Of_usage, Of_text, Of_workload}
 use Rattle.forec_engine.specs.Ends.{Asks_nothing, Misplaces, Misplaces_workload}
 use Rattle.forec_engine.proofs.Misused.{said}
 use Rattle.trace_runs.proofs.EndLemmas.{own_not, neither_fault}
-use Rattle.forec_engine.proofs.command.forec.Goals as goal
+use Rattle.forec_engine.proofs.command.forec_within.Goals as goal
 
 -- the text that the words name
 
