@@ -105,7 +105,7 @@ fn listed(blocks: &[Block]) -> u64 {
     let mut bytes: u64 = 0;
     for block in blocks {
         for (address, step) in block.steps.iter().enumerate() {
-            let line = digits(address as u32)
+            let line = digits(u32::try_from(address).unwrap_or(u32::MAX))
                 .saturating_add(operands(step))
                 .saturating_add(place(step));
             bytes = bytes.saturating_add(line).saturating_add(AROUND);
