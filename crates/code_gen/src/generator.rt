@@ -5,6 +5,7 @@ ghost use Rattle.forec_kernel.specs.Plain.{stmt, stmts};
 ghost use Rattle.forec_kernel.specs.Shapes.{plain_kernel, plain_shape, plain_thread};
 ghost use Rattle.thread_code.specs.Plain.{plain_block, plain_code};
 ghost use Rattle.thread_code.specs.Alone.{Stands};
+ghost use Rattle.thread_code.specs.Valid.{IsValidCode};
 ghost use Rattle.code_gen.specs.Statements.{Outside, statement_code};
 ghost use Rattle.code_gen.specs.Blocks.{thread_body, function_body, thread_block, function_block, blocks_from, counters_in, counters_of, flags_in, flags_of};
 
@@ -12,7 +13,7 @@ use crate::around::{Around, Surroundings};
 use crate::shapes::copy_shape;
 use crate::sizes::statement_size;
 use crate::statements::Emitter;
-use crate::writing::{MOST_INSTRUCTIONS, put};
+use crate::writing::{MOST_FUSED, MOST_INSTRUCTIONS, put};
 use forec_base::OutOfMemory;
 use forec_kernel::{FunctionShape, Kernel, KernelParts, Statement, ThreadShape};
 use std::alloc::Global;
@@ -210,12 +211,24 @@ fn function_blocks(
     Ok(blocks)
 }
 
+/// The code of these parts, which has so many instructions: with fused steps, where both together take no more than the
+/// instructions of the largest code.
+fn code_of(alloc: Global, parts: CodeParts, instructions: u32) -> Result<Code, OutOfMemory>
+    requires { IsValidCode (plain_code parts) }
+    ensures { IfOk result (λ code. plain_code code ≡ plain_code parts) }
+{
+    if instructions > MOST_FUSED {
+        return Ok(Code::of(parts));
+    }
+    Code::decoded(alloc, parts)
+}
+
 /// The code of a kernel: it has the kernel's shape, and each thread by itself does the same with every
 /// list of jobs and replies: the same forks, jobs and replies, units included. A code that would have
 /// more than 8,388,608 instructions is reported as out of memory, which is the only other answer.
 ///
 /// A pause has the tests of all aborts round it after it, which are made at each wake: so code can be
-/// far larger than its kernel.
+/// far larger than its kernel. A code of more than 4,194,304 instructions has no fused steps.
 pub fn generate(alloc: Global, kernel: &Kernel) -> Result<Code, OutOfMemory>
     ensures { IfOk result (λ code. Stands (plain_code code) (plain_kernel kernel.now)) }
 {
@@ -224,12 +237,13 @@ pub fn generate(alloc: Global, kernel: &Kernel) -> Result<Code, OutOfMemory>
     let threads = thread_blocks(alloc, parts, &mut room)?;
     let functions = function_blocks(alloc, parts, &mut room)?;
     let shape = copy_shape(alloc, &parts.shape)?;
-    Code::decoded(
+    code_of(
         alloc,
         CodeParts {
             shape,
             threads,
             functions,
         },
+        MOST_INSTRUCTIONS.saturating_sub(room),
     )
 }

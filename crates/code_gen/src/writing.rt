@@ -8,6 +8,9 @@ use thread_code::Instruction;
 /// How many instructions a code has at most: where a kernel's code would have more, there is no memory for it.
 pub const MOST_INSTRUCTIONS: u32 = 8_388_608;
 
+/// How many instructions a code has at most that has fused steps: a fused step takes as much room as an instruction.
+pub const MOST_FUSED: u32 = MOST_INSTRUCTIONS / 2;
+
 /// Writes one more instruction.
 pub fn put(steps: &mut Vec<Instruction>, instruction: Instruction) -> Result<(), OutOfMemory>
     ensures { OnOk result (steps.new.items ≡ steps.old.items ++ instruction ∷ []) }

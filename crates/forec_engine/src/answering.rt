@@ -14,6 +14,7 @@ ghost use Rattle.forec_engine.specs.Placing.{misplaced, misplacing, workload_rep
 ghost use Rattle.trace_runs.specs.Report.{Report};
 
 use crate::lines::{put_counts, put_misplaced, put_refusal};
+use crate::room::has_room;
 use code_gen::generate;
 use command_words::{Command, Placing, Running};
 use core_alloc::{Placement, PlacementFault};
@@ -174,6 +175,9 @@ fn list<K: Sink>(alloc: Global, kernel: &Kernel, out: &mut K) -> Status
     let Ok(code) = generate(alloc, kernel) else {
         return Status::NoMemory;
     };
+    if !has_room(code.parts()) {
+        return Status::NoMemory;
+    }
     let Ok(text) = listing(alloc, &code) else {
         return Status::NoMemory;
     };

@@ -5,6 +5,7 @@ mod answering;
 mod command;
 mod laws;
 mod lines;
+mod room;
 
 pub use command::{forec, forec_within};
 pub use laws::{each_command_has_a_report, reports_are_alike, reports_are_unique};
