@@ -6,6 +6,7 @@ ghost use Rattle.forec_check.specs.Checked.{text_of, names_of};
 ghost use Rattle.text_kernel.specs.Kernels.{kernel_of};
 ghost use Rattle.text_kernel.specs.Limits.{WithinLimits, amount, limit_of};
 ghost use Rattle.text_kernel.specs.declared.limits.Quantity.TheVariants.{Threads};
+ghost use Rattle.bound_laws.specs.Paced.{Paced};
 ghost use Rattle.kernel_lower.specs.Refusals.{Causes};
 
 use crate::beyond::{Outlook, beyond, foresee};
@@ -81,7 +82,8 @@ fn parts_of(
 }
 
 /// The kernel of a checked program, whose names are given. A program is refused exactly where a
-/// quantity passes its limit, and the first such quantity is reported.
+/// quantity passes its limit, and the first such quantity is reported. The kernel is paced: no loop of it runs on for
+/// ever within a tick.
 ///
 /// # Errors
 ///
@@ -96,6 +98,7 @@ pub fn lower_within(
     requires { names.now ≡ names_of checked.now }
     ensures kernel { IfOk result (λ k. plain_kernel k ≡ kernel_of (text_of checked.now) (names_of checked.now)) }
     ensures within { OnOk result (WithinLimits (kernel_of (text_of checked.now) (names_of checked.now))) }
+    ensures paced { IfOk result (λ k. Paced (plain_kernel k)) }
     ensures fault { IfErr result (λ e. Causes e (text_of checked.now) (names_of checked.now)) }
 {
     let threads = checked.threads(alloc)?;
@@ -105,11 +108,12 @@ pub fn lower_within(
 }
 
 /// The kernel of a checked program, whose names are given, however deep it is. A program is refused
-/// exactly where a quantity passes its limit, and the first such quantity is reported.
+/// exactly where a quantity passes its limit, and the first such quantity is reported. The kernel is paced.
 pub fn lower(alloc: Global, checked: &Checked<'_>, names: &Labels) -> Result<Kernel, LowerFault>
     requires { names.now ≡ names_of checked.now }
     ensures kernel { IfOk result (λ k. plain_kernel k ≡ kernel_of (text_of checked.now) (names_of checked.now)) }
     ensures within { OnOk result (WithinLimits (kernel_of (text_of checked.now) (names_of checked.now))) }
+    ensures paced { IfOk result (λ k. Paced (plain_kernel k)) }
     ensures fault { IfErr result (λ e. Causes e (text_of checked.now) (names_of checked.now)) }
 {
     lower_within(alloc, checked, names, MAX_DEPTH)

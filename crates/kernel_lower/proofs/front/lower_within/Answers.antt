@@ -1,10 +1,12 @@
-use Rattle.std.proofs.Common.{sym, subst}
+use Rattle.std.proofs.Common.{◌∙◌, sym, subst}
 use Rattle.forec_kernel.specs.WellFormed.{WellFormed}
 use Rattle.forec_check.specs.Checked.{text_of, names_of}
 use Rattle.kernel_lower.specs.Refusals.{Causes}
 use Rattle.kernel_lower.proofs.Finishing.{threads_amount, threads_cause}
 use Rattle.kernel_lower.proofs.Tallying.{err_passed}
 use Rattle.text_kernel.proofs.Whole.{well_formed}
+use Rattle.bound_laws.specs.Paced.{Paced}
+use Rattle.paced_texts.proofs.Accepted.{accepted_programs_are_paced}
 use Rattle.kernel_lower.proofs.front.lower_within.Goals as goal
 
 pub returns-in_err-within-clause-fault : goal.returns-in_err-within-clause-fault
@@ -22,3 +24,8 @@ pub of-requires : goal.of-requires
 of-requires c =
     let checked = c.args.checked.now in
     subst WellFormed (sym c.in_ok-parts.ensures.parts) (well_formed (text_of checked) (names_of checked) checked.faultless c.in_ok-parts.ensures.within)
+
+pub returns-clause-paced : goal.returns-clause-paced
+returns-clause-paced c =
+    let checked = c.args.checked.now in
+    subst Paced (sym (c.of.ensures ∙ c.in_ok-parts.ensures.parts)) (accepted_programs_are_paced (text_of checked) (names_of checked) checked.faultless c.in_ok-parts.ensures.within)
