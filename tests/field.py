@@ -18,6 +18,27 @@ SYSTEM_PYTHON = "/usr/bin/python3"
 PATIENCE = float(os.environ.get("PATIENCE", "30"))  # seconds for what has to happen
 sys.path.insert(0, os.path.join(ROOT, "tools"))
 
+PLANT = """\
+class Plant:
+    def read(self):
+        return {"level": 20, "press": 1}
+    def write(self, values):
+        pass
+"""
+# A controller in the place of the program, which takes so long for one of its ticks.
+SLOW = """\
+#!/usr/bin/env python3
+import sys, time
+if sys.argv[1] == "check":
+    print("ok threads 1 inputs 2 outputs 2")
+    sys.exit()
+sys.stdin.readline()
+for n, row in enumerate(sys.stdin, 1):
+    level, press = map(int, row.split())
+    time.sleep({seconds} if n == {tick} else 0)
+    print(f"tick {{n}} twice={{2 * level}} lamp={{press + 5}}", flush=True)
+print(f"rows {{n}}")
+"""
 ECHO = """\
 input int level, press;
 output int twice = 0, lamp = 0;
@@ -179,10 +200,10 @@ class Proxy:
 
 
 class Panel:
-    """A server of lines on a Unix socket: it keeps the last line that it was sent."""
+    """A server of lines on a Unix socket: it keeps the last line that it was sent, and each that differed from the one before."""
 
     def __init__(self, path):
-        self.line, self.lines = "", 0
+        self.line, self.seen = "", []
         self.server = socket.socket(socket.AF_UNIX)
         self.server.bind(path)
         self.server.listen()
@@ -193,7 +214,8 @@ class Panel:
             while True:
                 with self.server.accept()[0] as peer, peer.makefile() as file:
                     for line in file:
-                        self.line, self.lines = line.strip(), self.lines + 1
+                        self.seen += [line.strip()] if line.strip() != self.line else []
+                        self.line = line.strip()
 
 
 class Run:
@@ -282,4 +304,4 @@ def scratch(check):
             check.wrong.append(f"the run has ended: {gone}")
 
 
-TERM, KILL, USR1 = signal.SIGTERM, signal.SIGKILL, signal.SIGUSR1
+TERM, INT, KILL, USR1 = signal.SIGTERM, signal.SIGINT, signal.SIGKILL, signal.SIGUSR1

@@ -259,6 +259,8 @@ class Loop:
             self.log.line(line)
         if line:
             self._show(line)
+        if status < 0:
+            self._fail(f"the controller was ended by signal {-status}")
         self.note(f"the run ended: {self.stopping or line}")
         self.status = self.status or status
 
