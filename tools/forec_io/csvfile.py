@@ -9,7 +9,8 @@ from __future__ import annotations
 import csv
 import os
 from collections.abc import Iterator, Mapping
-from typing import Any, TextIO
+from types import SimpleNamespace
+from typing import IO, Any
 
 from .channel import EndOfRows, Number, Setup
 from .lines import number
@@ -39,9 +40,10 @@ class CsvFile:
         self._values: dict[str, Number] = {}
         self._rows: Iterator[list[str]] = iter(())
         self._columns: dict[str, int] = {}
-        self._files: list[TextIO] = []
+        self._files: list[IO[Any]] = []
         self._writer: Any = None
         self._told: list[str] = []
+        self._bad = False  # whether a row without a number was told already
 
     def places(self) -> dict[str, set[object]]:
         return {name: {column} for name, column in self._outputs.items()}
@@ -51,8 +53,10 @@ class CsvFile:
             self._open_source()
         if self._target:
             # pylint: disable-next=consider-using-with
-            self._files.append(open(self._target, "w", encoding="utf-8", newline=""))
-            self._writer = csv.writer(self._files[-1], lineterminator="\n")
+            target = open(self._target, "wb", buffering=0)
+            self._files.append(target)
+            # Each row is written whole and at once, so that a process that is killed leaves whole rows.
+            self._writer = csv.writer(SimpleNamespace(write=lambda text: target.write(text.encode())), lineterminator="\n")
             self._writer.writerow(self._outputs.values())
 
     def read(self) -> dict[str, Number]:
@@ -66,8 +70,9 @@ class CsvFile:
             return self._values
         found = {name: number(row[at]) if (at := self._columns[column]) < len(row) else None for name, column in self._inputs.items()}
         self._values = {name: value for name, value in found.items() if value is not None}
-        if len(self._values) < len(found):
-            self._told.append(f"has no number in the row {row}")
+        if len(self._values) < len(found) and not self._bad:
+            self._bad = True
+            self._told.append(f"has no number for {next(name for name in found if name not in self._values)} in the row {row}")
         return self._values
 
     def write(self, values: Mapping[str, Number]) -> None:

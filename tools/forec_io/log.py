@@ -82,8 +82,7 @@ class Log:
         self._held: dict[str, list[str]] = {name: [] for name in self._parts}
         self._each_tick = flush == "tick"
         self._flushed = time.monotonic()
-        # pylint: disable-next=consider-using-with
-        self._notes = open(os.path.join(self.folder, "notes"), "x", encoding="utf-8", buffering=1)
+        self._notes = os.open(os.path.join(self.folder, "notes"), os.O_WRONLY | os.O_CREAT | os.O_EXCL | os.O_CLOEXEC, 0o644)
 
     def row(self, row: str) -> None:
         """A row that the controller will be given, or the header."""
@@ -94,21 +93,25 @@ class Log:
         self._keep("report", line)
 
     def note(self, tick: int, text: str) -> None:
-        self._notes.write(f"tick {tick}: {text}\n")
+        os.write(self._notes, f"tick {tick}: {text}\n".encode())
 
     def flush(self) -> None:
         """Hands all to the system: rows first, so that no line is there without its row."""
         for name, lines in self._held.items():
-            if lines:
-                self._parts[name].write("".join(lines).encode())
-                lines.clear()
+            piece = "".join(lines).encode()
+            lines.clear()
+            if piece:
+                self._parts[name].write(piece)
         self._flushed = time.monotonic()
 
     def close(self) -> None:
-        self.flush()
-        for parts in self._parts.values():
-            parts.close()
-        self._notes.close()
+        """Writes what is left, and ends the files."""
+        try:
+            self.flush()
+        finally:
+            for parts in self._parts.values():
+                parts.close()
+            os.close(self._notes)
 
     def _keep(self, name: str, line: str) -> None:
         self._held[name].append(line + "\n")

@@ -48,7 +48,7 @@ class Loop:
         self.status = 0
         self._down_since: dict[str, float] = {}
         self._blocked: str | None = None  # the channel for which the outputs are safe
-        self._held, self._noted_late = False, 0.0
+        self._held, self._noted_late, self._closed = False, 0.0, False
         self._told_at = time.monotonic()
 
     def run(self) -> int:
@@ -89,9 +89,18 @@ class Loop:
 
     def note(self, text: str) -> None:
         """Writes what happened into the log's notes. Where that isn't possible a row isn't either, and that ends the run."""
-        if self.log:
+        if self.log and not self._closed:
             with contextlib.suppress(OSError):
                 self.log.note(self.tick, text)
+
+    def close_log(self) -> None:
+        """Ends the log, after the run."""
+        self._closed = True
+        try:
+            if self.log:
+                self.log.close()
+        except OSError as fault:
+            self._fail(f"the log can't be written: {fault.strerror}")
 
     def _start(self) -> None:
         for channel in self.channels:
@@ -290,9 +299,10 @@ def run(config: Config, show: Callable[[str], None]) -> int:
         signal.signal(number, lambda number, _: loop.stop(signal.Signals(number).name))
     signal.signal(signal.SIGUSR1, lambda *_: tell("\n".join(loop.statistics())))
     try:
-        return loop.run()
+        status = loop.run()
     finally:
         tell("\n".join(loop.statistics()))
         if log:
             tell(f"the log is {log.folder}")
-            log.close()
+            loop.close_log()
+    return status or loop.status

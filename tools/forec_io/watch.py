@@ -129,8 +129,7 @@ def run(config: Config) -> int:
     finally:
         loop.stop("the view is gone")
         runner.join()
-        if log:
-            log.close()
+        loop.close_log()
     print("\n".join([*told, *loop.statistics(), *([f"the log is {log.folder}"] if log else [])]))
     return loop.status
 
