@@ -22,18 +22,39 @@ rows are also written to a file: `forec run PROGRAM < a.trace` gives the same ti
 
 The folder tools has to be on Python's path: PYTHONPATH=tools python3 simulator.py.
 """
+import difflib
 import operator
 import os
+import re
 import select
 import subprocess
+import sys
 import time
 
 ROOT = os.path.dirname(os.path.dirname(os.path.realpath(__file__)))
+PATIENCE = 10  # seconds for the end of a program whose output has ended, or that was told to end
+FIRST_PATIENCE = 600  # seconds more for the first line, where the program has to be compiled
+
+
+def is_built():
+    """Whether there is a program that runs at once: the one that FOREC_PROGRAM names, that of a release, or one that was built here."""
+    places = ("forec_main", "crates/forec_main/out/forec_main", "crates/forec_main/out/unproved/forec")
+    return bool(os.environ.get("FOREC_PROGRAM")) or any(os.path.exists(os.path.join(ROOT, place)) for place in places)
 
 
 def outputs_of(line):
     """The outputs of a line `tick N o=V p=W`."""
     return {name: int(value) for name, value in (word.split("=") for word in line.split()[2:])}
+
+
+def inputs_of(path):
+    """The names of the inputs that the text of an accepted program declares, in order; none where it can't be read."""
+    try:
+        with open(path, "rb") as file:
+            text = re.sub(r"//[^\n]*|/\*.*?\*/", " ", file.read().decode(errors="replace"), flags=re.S)
+    except OSError:
+        return []
+    return [name for names in re.findall(r"\binput\s+int\b([^;]*);", text) for name in re.findall(r"\w+", names)]
 
 
 class Ended(Exception):
@@ -49,10 +70,10 @@ class Controller:
 
     def __init__(self, program, inputs=(), *, budget=None, record=None, forec=os.path.join(ROOT, "forec"), seconds=60, options=(),
                  apart=False):
-        """Starts `forec run` on the program; a tick that takes longer than so many seconds is a TimeoutError (the first one may take
-        five minutes more, since the program is compiled where it isn't built). `options` are more words of the command; `apart` keeps
-        the signals of a terminal, as Ctrl-C, from the program."""
-        self.program, self.seconds = program, seconds
+        """Starts `forec run` on the program; a tick that takes longer than so many seconds is a TimeoutError, and ends the program (the
+        first one may take ten minutes more where the program isn't built, since it is compiled then). `options` are more words of the
+        command; `apart` keeps the signals of a terminal, as Ctrl-C, from the program."""
+        self.program, self.seconds, self._patience = program, seconds, 0 if is_built() else FIRST_PATIENCE
         self.inputs = {name: self._number(name, value) for name, value in dict.fromkeys(inputs, 0).items()}
         if isinstance(inputs, dict):
             self.inputs = {name: self._number(name, value) for name, value in inputs.items()}
@@ -60,7 +81,7 @@ class Controller:
         self.ended, self.status = None, None
         self._held, self._header = b"", None
         self._record = open(record, "w", encoding="ascii") if record else None
-        words = [forec, "run", program] + ([] if budget is None else ["--budget", str(budget)]) + list(options)
+        words = [forec, "run", *([] if budget is None else ["--budget", str(budget)]), *options, "--", program]
         self._child = subprocess.Popen(words, stdin=subprocess.PIPE, stdout=subprocess.PIPE, bufsize=0, start_new_session=apart)
 
     def __enter__(self):
@@ -68,7 +89,7 @@ class Controller:
 
     def __exit__(self, kind, *_):
         if kind:
-            self._child.terminate()
+            self._stop()
         self.close()
 
     def step(self, /, **inputs):
@@ -143,8 +164,8 @@ class Controller:
 
     def _next_line(self):
         """The next line of the report, or None at its end."""
-        if not self.answers(self.seconds + (0 if self.tick else 300)):
-            self._child.terminate()
+        if not self.answers(self.seconds + (0 if self.tick else self._patience)):
+            self._stop()
             raise TimeoutError(f"{self.program}: no line after tick {self.tick} for {self.seconds} seconds")
         if b"\n" not in self._held:
             return None
@@ -159,14 +180,46 @@ class Controller:
             pass
         while (more := self._next_line()) is not None:
             line = more
+        self._keep(line)
+
+    def _stop(self):
+        """Ends the program at once. Nothing more is read: what it started may hold the pipe open for as long as it likes."""
+        if self.status is None:
+            self._child.terminate()
+            try:
+                self._child.stdin.close()
+            except BrokenPipeError:
+                pass
+            self._keep(None)
+
+    def _keep(self, line):
+        """Keeps the last line and the status of the program, which has ended or is about to."""
         self._child.stdout.close()
-        self.ended, self.status = line, self._child.wait()
+        try:
+            self.status = self._child.wait(PATIENCE)
+        except subprocess.TimeoutExpired:
+            self._child.kill()
+            self.status = self._child.wait()
+        self.ended = line
         if self._record:
             self._record.close()
 
     def _raise_if_ended(self):
         if self.status is not None:
-            hint = ""
-            if self.ended == "row 0 bad":
-                hint = f": the first step named '{' '.join(self._header or [])}', and has to name all inputs of {self.program}"
-            raise Ended(self.ended, self.status, hint)
+            raise Ended(self.ended, self.status, self._hint() if self.ended == "row 0 bad" else "")
+
+    def _hint(self):
+        """What is wrong with the names of the first step, where the program's text says which inputs there are."""
+        named, inputs = self._header or [], inputs_of(self.program)
+        hint = f": the first step named '{' '.join(named)}', and has to name all inputs of {self.program}"
+        for name in named:
+            if inputs and name not in inputs:
+                near = difflib.get_close_matches(name, inputs, 1)
+                return f"{hint}; it has no input '{name}'" + (f", but '{near[0]}'" if near else "")
+        missing = [name for name in inputs if name not in named]
+        return hint + (f"; missing: {' '.join(missing)}" if missing else "")
+
+
+if __name__ == "__main__":
+    print(__doc__, end="")
+    sys.exit(0 if sys.argv[1:] in (["--help"], ["-h"]) else 2)
