@@ -1,6 +1,8 @@
 """The commands loop, replay-field and watch."""
 from __future__ import annotations
 
+import argparse
+import dataclasses
 import importlib
 import os
 import sys
@@ -17,11 +19,12 @@ from forec_io.table import ConfigFault  # noqa: E402
 
 SYSTEM_PYTHON = "/usr/bin/python3"  # the one for which Debian's packages are
 USAGE = """\
-usage: forec loop [--check] [--report] CONFIG     runs a controller in real time between channels; --check only compares the
-                                                  configuration with the program, --report prints the report
-       forec watch CONFIG                         the same with a view of it
-       forec replay-field LOG                     shows that a log's trace gives its report
-       forec loop --keys                          lists the keys of a configuration
+usage: forec loop [--ticks N] [--report] CONFIG     runs a controller in real time between channels, up to a signal or for so many
+                                                    ticks; --report prints the report
+       forec loop --check CONFIG                    only compares the configuration with the program
+       forec loop --keys                            lists the keys of a configuration
+       forec watch [--ticks N] CONFIG               as loop, with a view of it
+       forec replay-field LOG                       shows that the trace of a log gives its report
 """
 
 
@@ -39,55 +42,57 @@ def find_libraries(config: configuration.Config) -> None:
             os.execv(SYSTEM_PYTHON, [SYSTEM_PYTHON, "-m", "forec_io", *sys.argv[1:]])
 
 
-def usage() -> int:
-    sys.stderr.write(USAGE)
-    return 2
+def parser() -> argparse.ArgumentParser:
+    """The words of the commands."""
+    outer = argparse.ArgumentParser(prog="forec", usage=USAGE[len("usage: "):], add_help=False)
+    commands = outer.add_subparsers(dest="command", required=True)
+    for name in ("loop", "watch", "replay-field"):
+        words = commands.add_parser(name, usage=USAGE[len("usage: "):], add_help=False)
+        words.add_argument("path", nargs="?" if name == "loop" else None)
+        if name != "replay-field":
+            words.add_argument("--ticks", type=int)
+        if name == "loop":
+            for option in ("--check", "--report", "--keys"):
+                words.add_argument(option, action="store_true")
+    return outer
 
 
 def show(line: str) -> None:
     print(line, flush=True)
 
 
-def run_loop(options: list[str], path: str) -> int:
-    if set(options) - {"--check", "--report"}:
-        return usage()
-    config = configuration.read(path)
-    if "--check" in options:
+def run(words: argparse.Namespace) -> int:
+    if words.command == "replay-field":
+        return replay.run(words.path)
+    config = configuration.read(words.path)
+    if words.ticks is not None:
+        config = dataclasses.replace(config, ticks=max(0, words.ticks))
+    if words.command == "loop" and words.check:
         print("\n".join(configuration.shown(config)))
         return 0
     find_libraries(config)
-    return loop.run(config, show if "--report" in options else lambda line: None)
+    if words.command == "watch":
+        return watch.run(config)
+    return loop.run(config, show if words.report else lambda line: None)
 
 
-def run_watch(options: list[str], path: str) -> int:
-    if options:
-        return usage()
-    config = configuration.read(path)
-    find_libraries(config)
-    return watch.run(config)
-
-
-def main(words: list[str]) -> int:
-    if words == ["loop", "--keys"]:
+def main() -> int:
+    outer = parser()
+    words = outer.parse_args()
+    if words.command == "loop" and words.keys:
         sys.stdout.write(configuration.KEYS)
         return 0
-    options, rest = [word for word in words[1:] if word.startswith("--")], [word for word in words[1:] if not word.startswith("--")]
-    if len(rest) != 1:
-        return usage()
+    if words.path is None:
+        outer.error("a configuration is wanted")
     try:
-        if words[0] == "loop":
-            return run_loop(options, rest[0])
-        if words[0] == "watch":
-            return run_watch(options, rest[0])
-        if words[0] == "replay-field" and not options:
-            return replay.run(rest[0])
+        return run(words)
     except ConfigFault as fault:
         for line in str(fault).split("\n"):
-            print(f"forec {words[0]}: {line}", file=sys.stderr)
+            print(f"forec {words.command}: {line}", file=sys.stderr)
         return 2
     except BrokenPipeError:
         return 8
-    return usage()
 
 
-sys.exit(main(sys.argv[1:]))
+if __name__ == "__main__":
+    sys.exit(main())
