@@ -228,8 +228,8 @@ class Run:
 
     def part(self, name):
         """What the log's files of a name hold."""
-        from forec_io.log import parts_of
-        return parts_of(os.path.join(self.folder, "log", "0001"), name).decode()
+        from forec_io.log import lines_of
+        return b"".join(lines_of(os.path.join(self.folder, "log", "0001"), name)).decode()
 
     def row(self):
         """The last whole row of the trace, by names."""

@@ -48,7 +48,7 @@ def parser() -> argparse.ArgumentParser:
     commands = outer.add_subparsers(dest="command", required=True)
     for name in ("loop", "watch", "replay-field"):
         words = commands.add_parser(name, usage=USAGE[len("usage: "):], add_help=False)
-        words.add_argument("path", nargs="?" if name == "loop" else None)
+        words.add_argument("path", nargs="?")
         if name != "replay-field":
             words.add_argument("--ticks", type=int)
         if name == "loop":

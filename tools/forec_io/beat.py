@@ -1,9 +1,11 @@
 """The clock of a loop: periods of one length from its start on, and what the system gives to a loop in real time."""
 from __future__ import annotations
 
+import contextlib
 import ctypes
 import os
 import resource
+import socket
 import time
 from collections.abc import Iterator
 
@@ -52,6 +54,24 @@ class Beat:
                 self.due += over * self.period
                 self.left_out += over
         return over
+
+
+class ServiceManager:
+    """The manager that has started the loop, as systemd, where there is one: it ends and restarts a loop that doesn't tell it for too long
+    that it goes on."""
+
+    def __init__(self) -> None:
+        self._address = os.environ.get("NOTIFY_SOCKET", "")
+        self._socket = socket.socket(socket.AF_UNIX, socket.SOCK_DGRAM | socket.SOCK_NONBLOCK) if self._address else None
+        self._told = 0.0
+
+    def tell(self, state: str) -> None:
+        """Tells it, ten times in a second at most."""
+        now = time.monotonic()
+        if self._socket and now - self._told >= 0.1:
+            self._told = now
+            with contextlib.suppress(OSError):
+                self._socket.sendto(state.encode(), self._address.replace("@", "\0", 1) if self._address[0] == "@" else self._address)
 
 
 def real_time(priority: int, lock: bool) -> Iterator[str]:

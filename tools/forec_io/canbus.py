@@ -91,15 +91,18 @@ class Can(Polled):
     def connect(self) -> None:
         import can  # pylint: disable=import-outside-toplevel
         more = {} if self.bitrate is None else {"bitrate": self.bitrate}
-        self._can, self._bus = can, can.Bus(interface=self.interface, channel=self.bus, **more)
+        bus: Any = can.Bus  # which makes one of the interface
+        self._can, self._bus = can, bus(interface=self.interface, channel=self.bus, **more)
 
-    def exchange(self, outputs: Mapping[str, Number] | None) -> dict[str, Number | None]:
-        for frame, length in self._frames.items() if outputs is not None else ():
+    def send(self, outputs: Mapping[str, Number]) -> None:
+        for frame, length in self._frames.items():
             data = bytearray(length)
             for name, place in self._outputs.items():
                 if place.frame == frame:
                     place.put(data, outputs[name])
             self._bus.send(self._can.Message(arbitration_id=frame[0], is_extended_id=frame[1], data=data), timeout=self.poll)
+
+    def receive(self) -> dict[str, Number | None]:
         came: dict[str, Number | None] = {}
         until = time.monotonic() + self.poll
         while True:

@@ -69,8 +69,9 @@ class Channel(Protocol):
 
 
 class Polled:
-    """A channel whose peer is asked by a thread, over and over. An adapter has `connect`, `exchange` and `disconnect`, which are called by
-    that thread alone and raise any exception where the peer is gone or sends nonsense. The channel is down then, and connects anew."""
+    """A channel whose peer is asked by a thread, over and over. An adapter has `connect`, `send`, `receive` and `disconnect`, which are
+    called by that thread alone and raise any exception where the peer is gone or sends nonsense. The channel is down then, and connects
+    anew."""
     kind = ""
     bound = True
     again = 0.2  # seconds between two tries to connect
@@ -79,9 +80,9 @@ class Polled:
     def __init__(self, setup: Setup, stale: float | None) -> None:
         table = setup.table
         self.name = setup.name
-        self.poll = table.take("poll", float, setup.period / 2, least=1e-5)
+        self.poll = table.take("poll", float, min(setup.period / 2, 0.1), least=1e-5)
         self.refresh = table.take("refresh", float, 0.5, least=0)
-        self.stale = table.take("stale", float, stale, least=0)
+        self.stale = table.take("stale", float, stale, least=self.poll)
         self.safe_after: float | None = table.take("safe_after", float, None, least=0)
         self._names = tuple(setup.inputs)
         self._fault: str | None = "not connected yet"
@@ -99,8 +100,12 @@ class Polled:
     def connect(self) -> None:
         raise NotImplementedError
 
-    def exchange(self, outputs: Mapping[str, Number] | None) -> dict[str, Number | None]:
-        """Sends the outputs, where there are any to send, and returns what came of the inputs: None for what is no number."""
+    def send(self, outputs: Mapping[str, Number]) -> None:
+        """Sends all outputs."""
+        raise NotImplementedError
+
+    def receive(self) -> dict[str, Number | None]:
+        """What came of the inputs: None for what is no number."""
         raise NotImplementedError
 
     def disconnect(self) -> None:
@@ -143,10 +148,6 @@ class Polled:
             told, self._told = self._told, []
         return told
 
-    def until_changed(self, seconds: float) -> None:
-        """Waits until other outputs are wanted, at most so long."""
-        self._changed.wait(max(0.0, seconds))
-
     def _work(self) -> None:
         while True:
             try:
@@ -169,13 +170,13 @@ class Polled:
             begun, closing = time.monotonic(), self._closing.is_set()
             self._changed.clear()
             wanted = self._wanted
-            due = wanted != sent or begun - sent_at >= self.refresh
-            self._came(self.exchange(wanted if due else None))
-            if due:
+            if wanted != sent or begun - sent_at >= self.refresh:
+                self.send(wanted)
                 sent, sent_at = wanted, begun
+            self._came(self.receive())
             if closing:
                 return
-            self.until_changed(begun + self.poll - time.monotonic())
+            self._changed.wait(max(0.0, begun + self.poll - time.monotonic()))
 
     def _came(self, values: Mapping[str, Number | None]) -> None:
         now = time.monotonic()

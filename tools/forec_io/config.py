@@ -13,7 +13,7 @@ from typing import Any
 
 from .channel import Channel, Setup
 from .program import signals_of
-from .signals import Input, Output, input_of, output_of
+from .signals import Input, Output, Signal, input_of, output_of
 from .table import ConfigFault, Table
 
 KINDS = {"modbus": ("modbus", "Modbus"), "mqtt": ("mqtt", "Mqtt"), "can": ("canbus", "Can"), "csv": ("csvfile", "CsvFile"),
@@ -131,21 +131,21 @@ def read(path: str) -> Config:
 def opened(tables: dict[str, Table], signals: dict[str, dict[str, Table]], inputs: dict[str, Input], outputs: dict[str, Output],
            period: float, folder: str) -> Iterator[tuple[str, Channel]]:
     """The channels, none of them started."""
-    for kind, found in (("input", inputs), ("output", outputs)):
-        for name, signal in found.items():
-            if signal.channel is None:
-                signals[kind][name].end()
-            elif signal.channel not in tables:
-                raise ConfigFault(f"{kind}s.{name}: there is no channel '{signal.channel}'")
+    every: list[tuple[str, Signal]] = [*(("input", each) for each in inputs.values()), *(("output", each) for each in outputs.values())]
+    for kind, signal in every:
+        if signal.channel is None:
+            signals[kind][signal.name].end()
+        elif signal.channel not in tables:
+            raise ConfigFault(f"{kind}s.{signal.name}: there is no channel '{signal.channel}'")
     for name, table in tables.items():
         module, word = KINDS[table.take("kind", str, among=list(KINDS))]
         adapter = importlib.import_module(f"forec_io.{module}")
-        own = {kind: {each: signals[kind][each] for each, signal in found.items() if signal.channel == name}
-               for kind, found in (("input", inputs), ("output", outputs))}
-        safe = {each: outputs[each].raw(outputs[each].safe) for each in own["output"]}
-        channel: Channel = getattr(adapter, word)(Setup(name, table, own["input"], own["output"], safe, period, folder))
-        for each in (table, *own["input"].values(), *own["output"].values()):
-            each.end()
+        of_inputs = {each: signals["input"][each] for each, signal in inputs.items() if signal.channel == name}
+        of_outputs = {each: signals["output"][each] for each, signal in outputs.items() if signal.channel == name}
+        safe = {each: outputs[each].raw(outputs[each].safe) for each in of_outputs}
+        channel: Channel = getattr(adapter, word)(Setup(name, table, of_inputs, of_outputs, safe, period, folder))
+        for left in (table, *of_inputs.values(), *of_outputs.values()):
+            left.end()
         apart(channel)
         yield name, channel
 
@@ -163,7 +163,7 @@ def apart(channel: Channel) -> None:
 def fits(program: str, found: tuple[list[str], list[str]], inputs: dict[str, Input], outputs: dict[str, Output]) -> None:
     """Refuses a configuration that doesn't fit the inputs and outputs of its program."""
     faults = [f"inputs.{name} is missing: the input has no channel" for name in found[0] if name not in inputs]
-    for kind, known, named in (("input", found[0], inputs), ("output", found[1], outputs)):
+    for kind, known, named in (("input", found[0], [*inputs]), ("output", found[1], [*outputs])):
         faults += [f"{kind}s.{name}: {program} has no such {kind}" for name in named if name not in known]
     if faults:
         raise ConfigFault("\n".join(faults))

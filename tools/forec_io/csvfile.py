@@ -97,7 +97,7 @@ class CsvFile:
         file = open(self._source, encoding="utf-8", newline="")
         self._files.append(file)
         self._rows = csv.reader(file)
-        names = next(self._rows, [])
+        names: list[str] = next(self._rows, [])
         self._columns = {column.strip(): at for at, column in enumerate(names)}
         missing = [column for column in self._inputs.values() if column not in self._columns]
         if missing:

@@ -61,12 +61,19 @@ class Lines(Polled):
             self._socket.connect(self.path)
         else:
             self._socket = socket.create_connection((self.host, self.port), self.timeout)
-            self._socket.setsockopt(socket.IPPROTO_TCP, socket.TCP_NODELAY, 1)
+            # A peer that is gone without a word, as behind a cut cable, is found out within some seconds.
+            for level, option, value in ((socket.IPPROTO_TCP, socket.TCP_NODELAY, 1), (socket.SOL_SOCKET, socket.SO_KEEPALIVE, 1),
+                                         (socket.IPPROTO_TCP, socket.TCP_KEEPIDLE, 1), (socket.IPPROTO_TCP, socket.TCP_KEEPINTVL, 1),
+                                         (socket.IPPROTO_TCP, socket.TCP_KEEPCNT, 3)):
+                self._socket.setsockopt(level, option, value)
 
-    def exchange(self, outputs: Mapping[str, Number] | None) -> dict[str, Number | None]:
+    def send(self, outputs: Mapping[str, Number]) -> None:
         assert self._socket
-        if outputs and self._outputs:
+        if self._outputs:
             self._socket.sendall(" ".join(f"{word}={outputs[name]}" for name, word in self._outputs.items()).encode() + b"\n")
+
+    def receive(self) -> dict[str, Number | None]:
+        assert self._socket
         came: dict[str, Number | None] = {}
         until = time.monotonic() + self.poll
         while True:

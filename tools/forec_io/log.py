@@ -14,6 +14,7 @@ import glob
 import os
 import shutil
 import time
+from collections.abc import Iterator
 
 
 class Parts:
@@ -49,13 +50,11 @@ class Parts:
             file.truncate(file.read().rfind(b"\n") + 1)
 
 
-def parts_of(folder: str, name: str) -> bytes:
-    """What all files of a series hold together."""
-    whole = b""
+def lines_of(folder: str, name: str) -> Iterator[bytes]:
+    """The lines of all files of a series, one after the other."""
     for path in sorted(glob.glob(os.path.join(glob.escape(folder), name + ".[0-9]*")), key=lambda path: int(path.rpartition(".")[2])):
         with open(path, "rb") as file:
-            whole += file.read()
-    return whole
+            yield from file
 
 
 def new_folder(parent: str) -> str:

@@ -9,18 +9,20 @@ import contextlib
 import gc
 import signal
 import sys
+import threading
 import time
 from collections import deque
 from collections.abc import Callable, Iterator
 
 from plant import Controller, Ended
 
-from .beat import Beat, Overrun, real_time, sleep_until
+from .beat import Beat, Overrun, ServiceManager, real_time, sleep_until
 from .channel import Channel, EndOfRows, Number
 from .config import Config
 from .latencies import HEAD, Latencies
 from .log import Log
 from .program import command
+from .table import ConfigFault
 
 FIRST_SECONDS = 300  # for the first line: the command may have to compile itself
 SLICE = 0.05  # seconds of waiting after which it is seen that the run is to end
@@ -42,13 +44,14 @@ class Loop:
         self.forced_outputs: dict[str, int] = {}
         self.recent: deque[str] = deque(maxlen=RECENT)
         self.wake, self.answer, self.whole = Latencies(), Latencies(), Latencies()
-        self.paused, self.steps = False, 0
+        self.paused, self.steps = False, threading.Semaphore(0)
         self.tick, self.safe_ticks, self.late_lines = 0, 0, 0
         self.stopping: str | None = None
         self.status = 0
         self._down_since: dict[str, float] = {}
         self._blocked: str | None = None  # the channel for which the outputs are safe
-        self._held, self._noted_late, self._closed = False, 0.0, False
+        self._noted_late, self._closed = 0.0, False
+        self._manager = ServiceManager()
         self._told_at = time.monotonic()
 
     def run(self) -> int:
@@ -62,9 +65,12 @@ class Loop:
         except Ended as ended:
             self._safe_at_end()
             self._ended(ended.line, ended.status)
-        except OSError as fault:
-            # A log that can't be written, or a controller that is gone: a run that can't be repeated isn't continued.
+        except (OSError, ConfigFault) as fault:
+            # A log that can't be written, or a controller that says nothing: a run that can't be repeated isn't continued.
             self._fail(str(fault))
+        except BaseException:
+            self.status = FAULT
+            raise
         finally:
             self._safe_at_end()
             for channel in self.channels:
@@ -108,7 +114,7 @@ class Loop:
             if channel.bound:
                 channel.safe()
         until = time.monotonic() + self.config.wait
-        while any(channel.fault for channel in self.channels) and time.monotonic() < until and not self.stopping:
+        while not all(map(self._is_ready, self.channels)) and time.monotonic() < until and not self.stopping:
             time.sleep(0.005)
         for channel in self.channels:
             if channel.fault:
@@ -117,11 +123,18 @@ class Loop:
         for text in real_time(self.config.priority, self.config.lock):
             self._say(text)
         sys.setswitchinterval(0.0005)
+        # What there is by now is never looked at again by the collector, which takes so little time in a tick.
         gc.collect()
         gc.freeze()
-        gc.disable()
         if self.log:
             self.log.row(" ".join(self.config.inputs))
+
+    def _is_ready(self, channel: Channel) -> bool:
+        """Whether a channel is up, and has a value for each of its inputs. (Where no machine is bound a row isn't read twice.)"""
+        if not channel.bound or channel.fault:
+            return not channel.fault
+        known = channel.read()
+        return all(name in known for name, each in self.config.inputs.items() if each.channel == channel.name)
 
     def _ticks(self, controller: Controller) -> None:
         while not self.stopping and not 0 < self.config.ticks <= self.tick:
@@ -138,6 +151,7 @@ class Loop:
                 self.stop(f"no more rows in {end}")
             except Overrun:
                 self._fail(f"tick {self.tick} ended after its period")
+            self._manager.tell("READY=1\nWATCHDOG=1")
             if 0 < self.config.tell <= time.monotonic() - self._told_at:
                 self._told_at = time.monotonic()
                 self._tell("\n".join(self.statistics()))
@@ -150,13 +164,11 @@ class Loop:
             self._noted_late = now
 
     def _wait(self) -> None:
-        """Sleeps until the period begins, and for as long as the loop is paused."""
-        while self.paused and not self.steps and not self.stopping:
-            self._held = True
-            time.sleep(SLICE)
-        if self._held:
-            self._held = self.paused
-            self.steps = max(0, self.steps - 1)
+        """Sleeps until the period begins, and for as long as the loop is paused and no step is asked for."""
+        was_paused = self.paused
+        while self.paused and not self.stopping and not self.steps.acquire(timeout=SLICE):
+            pass
+        if was_paused:
             self.beat.due = time.monotonic_ns()
         if self.beat.due is not None:
             sleep_until(self.beat.due)

@@ -124,12 +124,14 @@ class Modbus(Polled):
         if not client.connect():
             raise ChannelFault(f"no connection to {self.host}:{self.port}")
 
-    def exchange(self, outputs: Mapping[str, Number] | None) -> dict[str, Number | None]:
-        for run in self._write if outputs is not None else ():
+    def send(self, outputs: Mapping[str, Number]) -> None:
+        for run in self._write:
             content: list[Any] = []
             for place in run.places:
                 content += place.sent(outputs[place.name])
             self._asked(run, WRITES, values=content)
+
+    def receive(self) -> dict[str, Number | None]:
         came: dict[str, Number | None] = {}
         for run in self._read:
             answer = self._asked(run, READS, count=run.count)

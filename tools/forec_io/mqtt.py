@@ -96,9 +96,11 @@ class Mqtt(Polled):
         for topic in {place.topic for place in self._inputs.values()}:
             client.subscribe(topic, self.qos)
 
-    def exchange(self, outputs: Mapping[str, Number] | None) -> dict[str, Number | None]:
-        for topic, names in self._topics.items() if outputs is not None else ():
+    def send(self, outputs: Mapping[str, Number]) -> None:
+        for topic, names in self._topics.items():
             self._client.publish(topic, self._payload(names, outputs), self.qos, self._outputs[names[0]].retain)
+
+    def receive(self) -> dict[str, Number | None]:
         until = time.monotonic() + self.poll
         while True:
             left = until - time.monotonic()

@@ -3,6 +3,7 @@ from __future__ import annotations
 
 import math
 from dataclasses import dataclass
+from typing import Any
 
 from .channel import Number
 from .table import ConfigFault, Table
@@ -37,8 +38,11 @@ class Input(Signal):
 
     def value(self, raw: Number) -> int | None:
         """The program's number of a raw one: raw * scale + offset, rounded; or None where that is no number for it."""
-        number = self.scaled(raw)
-        if not math.isfinite(number):
+        try:
+            number = self.scaled(raw)
+            if not math.isfinite(number):
+                return None
+        except OverflowError:
             return None
         whole = int(not number) if self.invert else round(number)
         if self.limits[0] <= whole <= self.limits[1]:
@@ -61,7 +65,7 @@ def whole(number: float) -> Number:
     return int(number) if number.is_integer() else number
 
 
-def common(name: str, table: Table, channel: str | None) -> dict[str, object]:
+def common(name: str, table: Table, channel: str | None) -> dict[str, Any]:
     """The keys that inputs and outputs share."""
     limits = table.take("limits", list, [LEAST, MOST])
     if len(limits) != 2 or not all(type(each) in (int, float) and LEAST <= each <= MOST for each in limits) or limits[0] > limits[1]:

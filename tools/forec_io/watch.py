@@ -44,7 +44,7 @@ class View:
         elif key == ord("p") and self.can_pause:
             self.loop.paused = not self.loop.paused
         elif key == ord("s") and self.can_pause and self.loop.paused:
-            self.loop.steps += 1
+            self.loop.steps.release()
         elif key == ord("q"):
             self.loop.stop("the key q")
 
