@@ -1,5 +1,6 @@
 """What the checks of the loop at the machine share: interpreters with the libraries, free ports, peers, and runs of the loop."""
 import contextlib
+import ctypes
 import importlib
 import os
 import random
@@ -15,6 +16,8 @@ import time
 ROOT = os.path.dirname(os.path.dirname(os.path.realpath(__file__)))
 FOREC = os.path.join(ROOT, "forec")
 SYSTEM_PYTHON = "/usr/bin/python3"
+PR_SET_PDEATHSIG = 1
+LIBC = ctypes.CDLL(None)
 PATIENCE = float(os.environ.get("PATIENCE", "30"))  # seconds for what has to happen
 sys.path.insert(0, os.path.join(ROOT, "tools"))
 
@@ -132,10 +135,15 @@ def listens(port):
     return False
 
 
+def die_with_check():
+    """Where the check is killed, as by the limit of its time, so are the processes that it has started."""
+    LIBC.prctl(PR_SET_PDEATHSIG, signal.SIGKILL)
+
+
 @contextlib.contextmanager
 def child(*words, **more):
     """A process that is ended at the end, whatever happens."""
-    process = subprocess.Popen(words, stdin=subprocess.DEVNULL, **more)
+    process = subprocess.Popen(words, stdin=subprocess.DEVNULL, preexec_fn=die_with_check, **more)
     try:
         yield process
     finally:
@@ -224,7 +232,7 @@ class Run:
     def __init__(self, folder, config, *words):
         self.folder = folder
         self.process = subprocess.Popen([FOREC, "loop", *words, os.path.join(folder, config)], stdin=subprocess.DEVNULL,
-                                        stdout=subprocess.PIPE, stderr=subprocess.PIPE, text=True, cwd=folder)
+                                        stdout=subprocess.PIPE, stderr=subprocess.PIPE, text=True, cwd=folder, preexec_fn=die_with_check)
 
     def part(self, name):
         """What the log's files of a name hold."""
@@ -266,7 +274,7 @@ def replayed(folder):
 
 
 class Gone(Exception):
-    """The run that a check looks at has ended too early."""
+    """What a check waits for doesn't come; the text is what the run said, where that has ended."""
 
 
 class Check:
@@ -281,12 +289,11 @@ class Check:
             self.wrong.append(f"{what}: found {found!r}, expected {wanted!r}")
 
     def holds(self, what, holds):
-        """That something holds, within the time that it has."""
+        """That something holds, within the time that it has; else the check is over, since what comes next builds on it."""
         if until(lambda: holds() or self.run and self.run.process.poll() is not None) and holds():
             return
         self.wrong.append(f"{what}: it doesn't come to that")
-        if self.run and self.run.process.poll() is not None:
-            raise Gone(self.run.ended()[2])
+        raise Gone(self.run.ended()[2] if self.run and self.run.process.poll() is not None else "")
 
     def end(self):
         print("\n".join(self.wrong) or "all as it should be")
@@ -301,7 +308,7 @@ def scratch(check):
         try:
             yield folder
         except Gone as gone:
-            check.wrong.append(f"the run has ended: {gone}")
+            check.wrong += [f"the run has ended: {gone}"] if str(gone) else []
 
 
 TERM, INT, KILL, USR1 = signal.SIGTERM, signal.SIGINT, signal.SIGKILL, signal.SIGUSR1
