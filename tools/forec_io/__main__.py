@@ -9,8 +9,12 @@ import sys
 
 if sys.version_info < (3, 11):
     sys.exit("forec: Python 3.11 or later is wanted, and this one is " + sys.version.split()[0])
+# The modules come from beside this package and from the system, and none from the folder in which the command is given.
 TOOLS = os.path.dirname(os.path.dirname(os.path.realpath(__file__)))
-sys.path.insert(0, TOOLS)
+if not sys.flags.safe_path:
+    del sys.path[0]
+if TOOLS not in sys.path:
+    sys.path.insert(0, TOOLS)
 
 # pylint: disable=wrong-import-position
 from forec_io import config as configuration  # noqa: E402
@@ -37,7 +41,7 @@ def find_libraries(config: configuration.Config) -> None:
         except ImportError:
             again = os.path.isfile(SYSTEM_PYTHON) and not os.path.samefile(sys.executable, SYSTEM_PYTHON)
             if not again:
-                raise ConfigFault(f"{module} isn't installed: apt-get install {package}, or pip install {package[8:]}") from None
+                raise ConfigFault(f"{module} isn't installed: apt-get install {package}") from None
             os.environ["PYTHONPATH"] = os.pathsep.join(filter(None, (TOOLS, os.environ.get("PYTHONPATH"))))
             os.execv(SYSTEM_PYTHON, [SYSTEM_PYTHON, "-m", "forec_io", *sys.argv[1:]])
 

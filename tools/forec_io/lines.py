@@ -5,6 +5,7 @@ lines; where it isn't given it is the name of the input or output.
 """
 from __future__ import annotations
 
+import os
 import select
 import socket
 import time
@@ -37,7 +38,8 @@ class Lines(Polled):
     def __init__(self, setup: Setup) -> None:
         super().__init__(setup, stale=None)
         table = setup.table
-        self.path = table.take("path", str, "")
+        path = table.take("path", str, "")
+        self.path = os.path.join(setup.folder, path) if path else ""
         self.host, self.port = table.take("host", str, ""), table.take("port", int, 0, least=0, most=65535)
         if bool(self.path) == bool(self.host) or bool(self.host) != bool(self.port):
             raise ConfigFault(f"{table.name}: host and port, or path, are wanted")

@@ -38,6 +38,7 @@ class Loop:
         self.channels: list[Channel] = list(config.channels.values())
         self.beat = Beat(config.period, config.overrun)
         self.inputs = {name: each.default or 0 for name, each in config.inputs.items()}
+        self._last = dict(self.inputs)  # the inputs before any is forced
         self.outputs: dict[str, int] = {}
         self.known: set[str] = set()  # the inputs whose channels have a value
         self.forced_inputs: dict[str, int] = {}
@@ -60,10 +61,12 @@ class Loop:
             self._start()
             with Controller(self.config.program, list(self.config.inputs), forec=command(), options=self.config.options, apart=True,
                             seconds=self.config.watchdog) as controller:
-                self._ticks(controller)
-                self._end(controller)
+                try:
+                    self._ticks(controller)
+                finally:
+                    self._safe_at_end()
+                self._ended(controller.close(), controller.status)
         except Ended as ended:
-            self._safe_at_end()
             self._ended(ended.line, ended.status)
         except (OSError, ConfigFault) as fault:
             # A log that can't be written, or a controller that says nothing: a run that can't be repeated isn't continued.
@@ -205,17 +208,15 @@ class Loop:
         raw: dict[str, Number] = {}
         for channel in self.channels:
             raw.update(channel.read())
-        row: dict[str, int] = {}
-        known: set[str] = set()
-        for name, signal_ in self.config.inputs.items():
-            value = signal_.value(raw[name]) if name in raw else None
+        found = {name: each.value(raw[name]) for name, each in self.config.inputs.items() if name in raw}
+        self.known = {name for name, value in found.items() if value is not None}
+        for name, each in self.config.inputs.items():
+            value = found.get(name)
             if value is None:
-                value = self.inputs[name] if signal_.default is None else signal_.default
-            else:
-                known.add(name)
-            row[name] = self.forced_inputs.get(name, value)
-        self.known = known
-        return row
+                value = each.default
+            if value is not None:
+                self._last[name] = value
+        return {**self._last, **self.forced_inputs}
 
     def _awaited(self, controller: Controller) -> bool:
         """Whether the line comes before the deadline. Where it doesn't, the outputs get their safe values, and the line is waited for. The
@@ -230,8 +231,10 @@ class Loop:
         patience = FIRST_SECONDS if first else self.config.watchdog
         until = time.monotonic() + patience
         while not controller.answers(SLICE):
-            if time.monotonic() > until or self.stopping and first:
-                raise TimeoutError(self.stopping or f"no line for {patience:g} s after tick {self.tick}: the controller is ended")
+            if self.stopping and first:
+                raise TimeoutError(f"{self.stopping}: the run ends before the first line")
+            if time.monotonic() > until:
+                raise TimeoutError(f"no line for {patience:g} s after tick {self.tick}: the controller is ended")
         return first
 
     def _set(self, outputs: dict[str, int]) -> None:
@@ -270,12 +273,8 @@ class Loop:
             if channel.bound:
                 channel.safe()
 
-    def _end(self, controller: Controller) -> None:
-        """The orderly end: safe outputs, then the end of the report."""
-        self._safe_at_end()
-        self._ended(controller.close(), controller.status)
-
     def _ended(self, line: str | None, status: int) -> None:
+        """The report is at its end, with this line."""
         if line and self.log:
             self.log.line(line)
         if line:

@@ -9,6 +9,7 @@ they have one topic; else to the topic that will names, as an object of all of t
 from __future__ import annotations
 
 import json
+import os
 import time
 from collections.abc import Mapping
 from dataclasses import dataclass
@@ -56,7 +57,9 @@ class Mqtt(Polled):
         self.host = table.take("host", str)
         self.port = table.take("port", int, 1883, least=1, most=65535)
         self.client_id = table.take("client", str, "")
-        self.user, self.password_file = table.take("user", str, ""), table.take("password_file", str, "")
+        self.user = table.take("user", str, "")
+        password_file = table.take("password_file", str, "")
+        self.password_file = os.path.join(setup.folder, password_file) if password_file else ""
         self.keepalive = table.take("keepalive", int, 10, least=1, most=65535)
         self.timeout = table.take("timeout", float, 2.0, least=0.001)
         self.qos = table.take("qos", int, 0, among=(0, 1, 2))

@@ -2,8 +2,10 @@
 is bound to can be paused, and stepped tick by tick."""
 from __future__ import annotations
 
+import contextlib
 import curses
 import signal
+import sys
 import threading
 import time
 from collections import deque
@@ -13,6 +15,7 @@ from .config import Config
 from .log import Log
 from .loop import Loop
 from .signals import LEAST, MOST
+from .table import ConfigFault
 
 FRAME = 0.1  # seconds between two pictures
 LINES_OF_TOLD = 3
@@ -117,6 +120,12 @@ def draw(screen: Any, view: View) -> None:
 
 def run(config: Config) -> int:
     """`forec watch`: runs the configuration in a thread of its own, and shows it."""
+    if not (sys.stdin.isatty() and sys.stdout.isatty()):
+        raise ConfigFault("a terminal is wanted; forec loop needs none")
+    try:
+        curses.setupterm()
+    except curses.error as fault:
+        raise ConfigFault(f"this terminal can't show it: {fault}") from None
     told: deque[str] = deque(maxlen=100)
     log = Log(config.log_folder, config.program, config.path, config.log_size, config.log_flush) if config.log_folder else None
     loop = Loop(config, log, told.append, lambda line: None)
@@ -125,7 +134,7 @@ def run(config: Config) -> int:
     runner = threading.Thread(target=loop.run, name="loop")
     runner.start()
     try:
-        curses.wrapper(watch, loop, told, runner)
+        curses.wrapper(watch, View(loop, told), runner)
     finally:
         loop.stop("the view is gone")
         runner.join()
@@ -134,10 +143,10 @@ def run(config: Config) -> int:
     return loop.status
 
 
-def watch(screen: Any, loop: Loop, told: deque[str], runner: threading.Thread) -> None:
+def watch(screen: Any, view: View, runner: threading.Thread) -> None:
     """Draws pictures and takes keys for as long as the loop runs."""
-    view = View(loop, told)
-    curses.curs_set(0)
+    with contextlib.suppress(curses.error):
+        curses.curs_set(0)
     screen.timeout(int(1000 * FRAME))
     drawn = 0.0
     while runner.is_alive():
