@@ -81,9 +81,11 @@ class Ended(Exception):
 class Controller:
     """A program that runs, and waits for the inputs of its next tick."""
 
-    def __init__(self, program, inputs=(), *, budget=None, record=None, forec=os.path.join(ROOT, "forec"), seconds=60):
+    def __init__(self, program, inputs=(), *, budget=None, record=None, forec=os.path.join(ROOT, "forec"), seconds=60, options=(),
+                 apart=False):
         """Starts `forec run` on the program; a tick that takes longer than so many seconds is a TimeoutError, and ends the program (the
-        first one may take ten minutes more where the program isn't built, since it is compiled then)."""
+        first one may take ten minutes more where the program isn't built, since it is compiled then). `options` are more words of the
+        command; `apart` keeps the signals of a terminal, as Ctrl-C, from the program."""
         self.program, self.seconds, self._patience = program, seconds, 0 if is_built() else FIRST_PATIENCE
         self.inputs = {name: self._number(name, value) for name, value in dict.fromkeys(inputs, 0).items()}
         if isinstance(inputs, dict):
@@ -92,8 +94,8 @@ class Controller:
         self.ended, self.status = None, None
         self._held, self._header = b"", None
         self._record = open(record, "w", encoding="ascii") if record else None
-        words = [forec, "run", *([] if budget is None else ["--budget", str(budget)]), "--", program]
-        self._child = subprocess.Popen(words, stdin=subprocess.PIPE, stdout=subprocess.PIPE, bufsize=0)
+        words = [forec, "run", *([] if budget is None else ["--budget", str(budget)]), *options, "--", program]
+        self._child = subprocess.Popen(words, stdin=subprocess.PIPE, stdout=subprocess.PIPE, bufsize=0, start_new_session=apart)
 
     def __enter__(self):
         return self
@@ -105,12 +107,20 @@ class Controller:
 
     def step(self, /, **inputs):
         """Runs one tick with these inputs, and returns its outputs."""
+        self.give(**inputs)
+        return self.take()
+
+    def give(self, /, **inputs):
+        """Gives the row of the next tick, without waiting for its line: `take` returns the outputs."""
         self._raise_if_ended()
         self._set(inputs)
         if self._header is None:
             self._header = list(self.inputs)
             self._write(" ".join(self._header))
         self._write(" ".join(str(self.inputs[name]) for name in self._header))
+
+    def take(self):
+        """Waits for the line of the tick whose row was given, and returns its outputs."""
         line = self._next_line()
         if line is None or not line.startswith("tick "):
             self._finish(line)
@@ -151,19 +161,27 @@ class Controller:
         except BrokenPipeError:
             pass
 
-    def _next_line(self):
-        """The next line of the report, or None at its end."""
-        until = time.monotonic() + self.seconds + (0 if self.tick else self._patience)
+    def answers(self, seconds):
+        """Whether the next line of the report, or its end, comes within so many seconds."""
+        until = time.monotonic() + seconds
         ready = select.poll()
         ready.register(self._child.stdout, select.POLLIN)
         while b"\n" not in self._held:
             if not ready.poll(max(0, 1000 * (until - time.monotonic()))):
-                self._stop()
-                raise TimeoutError(f"{self.program}: no line after tick {self.tick} for {self.seconds} seconds")
+                return False
             piece = os.read(self._child.stdout.fileno(), 1 << 16)
             if not piece:
-                return None
+                break
             self._held += piece
+        return True
+
+    def _next_line(self):
+        """The next line of the report, or None at its end."""
+        if not self.answers(self.seconds + (0 if self.tick else self._patience)):
+            self._stop()
+            raise TimeoutError(f"{self.program}: no line after tick {self.tick} for {self.seconds} seconds")
+        if b"\n" not in self._held:
+            return None
         line, self._held = self._held.split(b"\n", 1)
         return line.decode()
 
