@@ -3,7 +3,7 @@ use Rattle.core_bells.specs.Ropes.{RopeState, own_log, placed_on}
 use Rattle.core_bells.specs.declared.hints.HintLog.{HintLog}
 use Rattle.core_bells.proofs.Lists.{get_there}
 use Rattle.core_bells.proofs.Hanging.{log_is, within}
-use Rattle.core_bells.proofs.rope.Rope.keeps.Goals as goal
+use Rattle.core_bells.proofs.rope.Rope.has_all_logs.Goals as goal
 
 pub returns-clause-own : goal.returns-clause-own
 returns-clause-own c =
