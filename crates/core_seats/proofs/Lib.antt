@@ -22,7 +22,7 @@ pub mod Resuming
 pub mod ServingLemmas
 pub mod RoundLemmas
 pub mod Sweeping
-pub mod Beside
+pub mod BesideLemmas
 pub mod DescendingLemmas
 pub mod CallingLemmas
 pub mod GoingOn

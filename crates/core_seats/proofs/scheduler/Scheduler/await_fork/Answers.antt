@@ -1,6 +1,6 @@
 use Rattle.std.proofs.Common.{refl, sym, subst}
 use Rattle.core_seats.specs.Waiting.{CanDescend}
-use Rattle.core_seats.proofs.Beside.{others_then, others_seated, round_others}
+use Rattle.core_seats.proofs.BesideLemmas.{others_then, others_seated, round_others}
 use Rattle.core_seats.proofs.CallingLemmas.{stays_others}
 use Rattle.core_seats.proofs.DescendingLemmas.{kept_round}
 use Rattle.core_seats.proofs.GoingOn.{gathers_there}

@@ -1,6 +1,6 @@
 use Rattle.std.proofs.Common.{refl, ◌∙◌}
 use Rattle.core_seats.proofs.ServingLemmas.{keeps_seated}
-use Rattle.core_seats.proofs.Beside.{others_same, others_then, others_seated, serving_others, branches_others, round_others, serving_gathering}
+use Rattle.core_seats.proofs.BesideLemmas.{others_same, others_then, others_seated, serving_others, branches_others, round_others, serving_gathering}
 use Rattle.core_seats.proofs.RoundLemmas.{round_same, round_then}
 use Rattle.core_seats.proofs.scheduler.Scheduler.await_replies.Goals as goal
 

@@ -5,7 +5,7 @@ use Rattle.core_machine.specs.Threads.{Loaded, StandsFor, Left_by}
 use Rattle.core_machine.specs.Forks.{jobs_at}
 use Rattle.core_seats.specs.Keeping.{State, HaveHeard}
 use Rattle.tick_jobs.proofs.Forks.{replied_by}
-use Rattle.core_seats.proofs.Beside.{others_same, others_then, others_seated, round_others, on_runs, told_now, fork_now, forked_now, replies_now, heard_now, on_next, pairs_now}
+use Rattle.core_seats.proofs.BesideLemmas.{others_same, others_then, others_seated, round_others, on_runs, told_now, fork_now, forked_now, replies_now, heard_now, on_next, pairs_now}
 use Rattle.core_seats.proofs.RoundLemmas.{round_same, round_then}
 use Rattle.core_seats.proofs.scheduler.Scheduler.finish_beside.Goals as goal
 

@@ -1,6 +1,6 @@
 use Rattle.std.proofs.Common.{Some, refl, sym, ap, ◌∙◌}
 use Rattle.core_seats.proofs.Rooted.{root_loaded, root_begins}
-use Rattle.core_seats.proofs.Beside.{up_root, up_seated, up_each, up_all, up_begun, down_code, down_places, down_keeper, down_grown, down_seated, down_here, down_was_here, down_between, down_vacant, down_packets, down_replied, down_rests}
+use Rattle.core_seats.proofs.BesideLemmas.{up_root, up_seated, up_each, up_all, up_begun, down_code, down_places, down_keeper, down_grown, down_seated, down_here, down_was_here, down_between, down_vacant, down_packets, down_replied, down_rests}
 use Rattle.core_seats.proofs.scheduler.Scheduler.work_beside.Goals as goal
 
 pub begin-requires-clause-loaded : goal.begin-requires-clause-loaded
