@@ -7,19 +7,19 @@ use Rattle.thread_code.specs.declared.instruction.CodeParts.{CodeParts}
 use Rattle.copy_slots.proofs.Seating.{snoc_cases}
 use Rattle.slot_board.proofs.Cutting.{get_there, map_snoc}
 use Rattle.core_host.specs.Hosted.{Hosted, is_here}
-use Rattle.core_host.specs.Loads.{is_on, CanLoad}
-use Rattle.core_host.specs.Posts.{Mail}
+use Rattle.core_seats.specs.Loads.{is_on, CanLoad}
+use Rattle.core_seats.specs.Posts.{Mail}
 use Rattle.core_alloc.specs.Places.{Places}
 use Rattle.board_hosts.specs.Boards.{ArePorts}
-use Rattle.board_hosts.specs.CoreHosts.{AreMade, IsLoaded, IsOther, root_core, is_other, other_cores}
+use Rattle.board_hosts.specs.CoreHosts.{AreMade, IsLoaded, IsRoot, IsOther, root_core, is_other, other_cores}
 
 none_there : (l : List Hosted) (i : ℕ) (x : Hosted) → l ≡ [] → slice_get l i ≡ Some x → ⊥
 none_there [] zero x e at = cc
 none_there [] (suc i) x e at = cc
 none_there (y ∷ l) i x e at = cc
 
-pub none_made : (code : CodeParts) (places : List ℕ) (others : List Hosted) → others ≡ [] → AreMade code places 0 None others
-none_made code places others empty = record {
+pub none_made : (code : CodeParts) (placement : Places) (others : List Hosted) → others ≡ [] → AreMade code placement 0 None others
+none_made code placement others empty = record {
   root = omega arith;
   others = λ i x at. absurd (none_there others i x empty at);
   cores = ap (map (λ (h : Hosted). h.cores)) empty;
@@ -67,43 +67,46 @@ next_with : (places : List ℕ) (n : ℕ) → is_other places n ≡ true → oth
 next_with places n is = ap (λ b. other_cores places n ++ cond b (n ∷ []) []) is
 
 -- the host of another core than thread 0's
-pub lacks : (code : CodeParts) (places : List ℕ) (n : ℕ) (h : Hosted) → (n ≡ root_core places → ⊥) → IsLoaded code places n h → is_here h 0 ≡ false
-lacks code places n h other loaded =
-    ap (λ p. is_on p h.cores 0) loaded.places ∙ ap (λ cores. is_on places cores 0) loaded.cores ∙ either (n == root_core places) (grind (arith, nat_tests))
+pub lacks : (code : CodeParts) (placement : Places) (n : ℕ) (h : Hosted) → (n ≡ root_core placement.places → ⊥) → IsLoaded code placement n h → is_here h 0 ≡ false
+lacks code placement n h other loaded =
+    ap (λ p. is_on p h.cores 0) loaded.places ∙ ap (λ cores. is_on placement.places cores 0) loaded.cores ∙ either (n == root_core placement.places) (grind (arith, nat_tests))
   where
     either : (is : Bool) → is ≡ false → cond is true false ≡ false
     either true e = e
     either false e = refl
 
-module _ (code : CodeParts) (places : List ℕ) (n : ℕ) (root : Option Hosted) (others : List Hosted) (made : AreMade code places n root others) where
+module _ (code : CodeParts) (placement : Places) (n : ℕ) (root : Option Hosted) (others : List Hosted) (made : AreMade code placement n root others) where
+  abbrev places : List ℕ
+  places = placement.places
+
   same_others : is_other places n ≡ false → map (λ h. h.cores) others ≡ map (λ core. core ∷ []) (other_cores places (n + 1))
   same_others is = let one : suc n ≡ n + 1 = omega arith in
       made.cores ∙ ap (map (λ core. core ∷ [])) (sym (next_without places n is) ∙ ap (other_cores places) one)
 
-  later : (o : Option Hosted) → (n ≡ root_core places → ⊥) → MatchOption o (n ≤ root_core places) (λ h. IsLoaded code places (root_core places) h)
-      → MatchOption o (n + 1 ≤ root_core places) (λ h. IsLoaded code places (root_core places) h)
+  later : (o : Option Hosted) → (n ≡ root_core places → ⊥) → MatchOption o (n ≤ root_core places) (λ h. IsLoaded code placement (root_core places) h)
+      → MatchOption o (n + 1 ≤ root_core places) (λ h. IsLoaded code placement (root_core places) h)
   later None other le = omega (arith, le, other)
   later (Some h) other is = is
 
-  pub made_root : (h : Hosted) → n ≡ root_core places → IsLoaded code places n h → AreMade code places (n + 1) (Some h) others
+  pub made_root : (h : Hosted) → n ≡ root_core places → IsLoaded code placement n h → AreMade code placement (n + 1) (Some h) others
   made_root h here loaded = record {
-    root = subst (λ m. IsLoaded code places m h) here loaded;
+    root = subst (λ m. IsLoaded code placement m h) here loaded;
     others = made.others;
     cores = same_others (root_itself places n here);
   }
 
-  pub made_nothing : 0 < length places → contains n places ≡ false → AreMade code places (n + 1) root others
+  pub made_nothing : 0 < length places → contains n places ≡ false → AreMade code placement (n + 1) root others
   made_nothing some empty = record {
     root = later root (λ here. some_root places n some here empty) made.root;
     others = made.others;
     cores = same_others (empty_core places n empty);
   }
 
-  pub made_other : (h : Hosted) → (n ≡ root_core places → ⊥) → contains n places ≡ true → IsLoaded code places n h → AreMade code places (n + 1) root (others ++ h ∷ [])
+  pub made_other : (h : Hosted) → (n ≡ root_core places → ⊥) → contains n places ≡ true → IsLoaded code placement n h → AreMade code placement (n + 1) root (others ++ h ∷ [])
   made_other h other has loaded = let one : suc n ≡ n + 1 = omega arith in record {
     root = later root other made.root;
     others = λ i x at. ⊎_elim
-        (λ new. subst (λ y. IsOther code places y) new.1 (record { code = loaded.code; places = loaded.places; lacks = lacks code places n h other loaded }))
+        (λ new. subst (λ y. IsOther code placement y) new.1 (record { code = loaded.code; places = loaded.places; core = n; cores = loaded.cores; rope = loaded.rope; lacks = lacks code placement n h other loaded }))
         (λ old. made.others i x old) (snoc_cases others h x i at);
     cores = map_snoc (λ (x : Hosted). x.cores) others h
         ∙ ap (λ l. l ++ h.cores ∷ []) made.cores ∙ ap (λ c. map (λ core. core ∷ []) (other_cores places n) ++ c ∷ []) loaded.cores
@@ -112,19 +115,24 @@ module _ (code : CodeParts) (places : List ℕ) (n : ℕ) (root : Option Hosted)
   }
 
   pub root_made : root_core places < n → root ≡ None → ⊥
-  root_made below none = let le = subst (λ (o : Option Hosted). MatchOption o (n ≤ root_core places) (λ h. IsLoaded code places (root_core places) h)) none made.root in omega (arith, le, below)
+  root_made below none = let le = subst (λ (o : Option Hosted). MatchOption o (n ≤ root_core places) (λ h. IsLoaded code placement (root_core places) h)) none made.root in omega (arith, le, below)
 
-  pub root_is : (h : Hosted) → root ≡ Some h → IsLoaded code places (root_core places) h
-  root_is h is = subst (λ (o : Option Hosted). MatchOption o (n ≤ root_core places) (λ x. IsLoaded code places (root_core places) x)) is made.root
+  pub root_is : (h : Hosted) → root ≡ Some h → IsLoaded code placement (root_core places) h
+  root_is h is = subst (λ (o : Option Hosted). MatchOption o (n ≤ root_core places) (λ x. IsLoaded code placement (root_core places) x)) is made.root
 
 -- thread 0 is on its own core
-pub root_here : (code : CodeParts) (places : List ℕ) (h : Hosted) → IsLoaded code places (root_core places) h → is_here h 0 ≡ true
-root_here code places h loaded =
-    ap (λ p. is_on p h.cores 0) loaded.places ∙ ap (λ cores. is_on places cores 0) loaded.cores ∙ either (root_core places == root_core places) (grind (arith, nat_tests))
+pub root_here : (code : CodeParts) (placement : Places) (h : Hosted) → IsLoaded code placement (root_core placement.places) h → is_here h 0 ≡ true
+root_here code placement h loaded =
+    ap (λ p. is_on p h.cores 0) loaded.places ∙ ap (λ cores. is_on placement.places cores 0) loaded.cores ∙ either (root_core placement.places == root_core placement.places) (grind (arith, nat_tests))
   where
     either : (is : Bool) → is ≡ true → cond is true false ≡ true
     either true e = refl
     either false e = cc
+
+-- the host that was made for thread 0's core
+pub is_root : (code : CodeParts) (placement : Places) (h : Hosted) → IsLoaded code placement (root_core placement.places) h → IsRoot code placement h
+is_root code placement h loaded = let here = root_here code placement h loaded in
+    record { code = loaded.code; places = loaded.places; cores = loaded.cores; rope = loaded.rope; here = here; none = loaded.none here }
 
 -- the ports of the cores from this one on
 pub record RestLoads (code : CodeParts) (placement : Places) (core : ℕ) (rest : List Mail) : Type 0 where

@@ -20,9 +20,9 @@ use Rattle.slot_board.specs.Dealt.{ends_of_core, core_state, new_ports}
 use Rattle.slot_board.specs.Splits.{pick}
 use Rattle.slot_board.proofs.Cutting.{get_there}
 use Rattle.core_alloc.specs.Places.{Places}
-use Rattle.core_host.specs.declared.work.ForecWork.{ForecWork}
-use Rattle.core_host.specs.Posts.{Mail}
-use Rattle.core_host.specs.Loads.{CanLoad, IsNewParent, IsNewChild}
+use Rattle.core_seats.specs.declared.work.ForecWork.{ForecWork}
+use Rattle.core_seats.specs.Posts.{Mail}
+use Rattle.core_seats.specs.Loads.{CanLoad, IsNewParent, IsNewChild}
 use Rattle.board_hosts.specs.Boards.{AreEnds, ArePorts}
 
 -- a thread whose core is this number is on this core alone exactly where the numbers are the same

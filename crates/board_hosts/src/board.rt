@@ -2,11 +2,11 @@
 
 ghost use Rattle.std.specs.Prelude.{◌≡◌, ◌<◌, ℕ, suc, Some, IfOk, length, slice_get};
 ghost use Rattle.thread_code.specs.Plain.{plain_code};
-ghost use Rattle.core_host.specs.Posts.{IsBranchOf};
+ghost use Rattle.tick_jobs.specs.Branches.{IsBranchOf};
 ghost use Rattle.board_hosts.specs.Boards.{AreEnds, ArePorts};
 
 use core_alloc::Placement;
-use core_host::{ForecWork, blanks};
+use core_seats::{ForecWork, blanks};
 use forec_base::OutOfMemory;
 use slot_board::{GivesPorts, SlotBoard};
 use std::alloc::Global;
@@ -16,7 +16,8 @@ use thread_code::Code;
 fn parent_core(code: &Code, placement: &Placement, mailbox: u32) -> u32
     requires placed { length placement.now.places ≡ length (plain_code code.now).threads }
     requires within { suc mailbox < length placement.now.places }
-    ensures { (t : ℕ) → IsBranchOf (plain_code code.now).shape t mailbox → slice_get placement.now.places t ≡ Some result }
+    ensures { (t : ℕ) → IsBranchOf (plain_code code.now).shape t mailbox → slice_get placement.now.places t
+        ≡ Some result }
 {
     let Some(parent) = code.shape().threads[mailbox as usize + 1].parent else {
         unreachable!()
@@ -57,7 +58,8 @@ pub fn board_of(
 ) -> Result<SlotBoard<ForecWork>, OutOfMemory>
     requires { length placement.now.places ≡ length (plain_code code.now).threads }
     ensures whole { IfOk result (λ b. ⟦<SlotBoard<ForecWork> as GivesPorts<ForecWork>>⟧.is_whole b) }
-    ensures ports { IfOk result (λ b. ArePorts code.now placement.now (⟦<SlotBoard<ForecWork> as GivesPorts<ForecWork>>⟧.ports b)) }
+    ensures ports { IfOk result (λ b. ArePorts code.now placement.now
+        (⟦<SlotBoard<ForecWork> as GivesPorts<ForecWork>>⟧.ports b)) }
 {
     let ends = ends_of(alloc, code, placement)?;
     let packets = blanks(alloc, code)?;

@@ -1,18 +1,21 @@
 //! The hosts of the cores.
 
-ghost use Rattle.std.specs.Prelude.{◌≡◌, ◌∷◌, [], ℕ, Some, IfOk, OnOk, true, length, map, slice_get};
+ghost use Rattle.std.specs.Prelude.{◌≡◌, ◌∷◌, [], ℕ, Some, IfOk, OnOk, length, map, slice_get};
 ghost use Rattle.forec_kernel.specs.Combining.{contains};
-ghost use Rattle.core_bells.specs.Ropes.{new_ropes};
-ghost use Rattle.core_host.specs.Hosted.{Hosted, is_here};
-ghost use Rattle.core_host.specs.Loads.{CanLoad};
-ghost use Rattle.core_host.specs.Runs.{HasJobs, HasRun};
+ghost use Rattle.thread_code.specs.Plain.{plain_code};
+ghost use Rattle.core_bells.specs.Ropes.{new_rope, new_ropes};
+ghost use Rattle.core_machine.specs.Room.{AreNeeds};
+ghost use Rattle.core_seats.specs.Loads.{CanLoad};
+ghost use Rattle.core_host.specs.Hosted.{Hosted};
 ghost use Rattle.board_hosts.specs.Boards.{ArePorts};
-ghost use Rattle.board_hosts.specs.CoreHosts.{AreNewWhere, IsLoaded, IsNewRope, IsRoot, IsOther, MakesNext, other_cores};
+ghost use Rattle.board_hosts.specs.CoreHosts.{IsLoaded, IsRoot, IsOther, MakesNext, other_cores};
 
 use copy_slots::Port;
 use core_alloc::Placement;
 use core_bells::{Bells, GivesRopes, Rope};
-use core_host::{ForecWork, Host, Worker};
+use core_host::{Host, Worker};
+use core_machine::Needs;
+use core_seats::ForecWork;
 use forec_base::OutOfMemory;
 use slot_board::{GivesPorts, SlotBoard, SlotPort};
 use std::alloc::Global;
@@ -38,48 +41,30 @@ fn has_threads(placement: &Placement, core: u32) -> bool
     false
 }
 
-/// Whether all threads have the same core.
-fn has_one_core(placement: &Placement) -> bool {
-    for thread in 0..placement.threads() {
-        if placement.core(thread) != placement.core(0) {
-            return false;
-        }
-    }
-    true
+/// What the host of a core is made of, beside the code and its placement.
+#[derive(Drop)]
+struct CoreParts<'b, 'c> {
+    core: u32,
+    port: SlotPort<'b, ForecWork>,
+    rope: Rope<'c>,
 }
 
-/// A rope for each core. None where all threads have the same core, which then has nobody to wait for.
-fn ropes_of<'c>(
-    alloc: Global,
-    placement: &Placement,
-    bells: &'c mut Bells,
-) -> Result<Vec<Rope<'c>>, OutOfMemory>
-    requires { ⟦<Bells as GivesRopes>⟧.is_whole bells.old }
-    ensures { IfOk result (λ r. AreNewWhere placement.now (⟦<Bells as GivesRopes>⟧.ropes bells.old) r.items) }
-{
-    if has_one_core(placement) {
-        return Ok(Vec::new(alloc));
-    }
-    bells.ropes(alloc)
-}
-
-/// The host of one core's threads, with this rope, if there is one.
+/// The host of one core's threads.
 fn host_of<'b, 'c>(
     alloc: Global,
     code: &'c Code,
+    needs: &Needs,
     placement: &Placement,
-    core: u32,
-    port: SlotPort<'b, ForecWork>,
-    rope: Option<Rope<'c>>,
+    parts: CoreParts<'b, 'c>,
 ) -> Result<Host<'c, SlotPort<'b, ForecWork>>, OutOfMemory>
-    requires port { CanLoad code.now placement.now (core ∷ []) (⟦<SlotPort<'b, ForecWork> as Port<ForecWork>>⟧.state port) }
-    requires rope { IsNewRope code.now placement.now core rope }
-    ensures { IfOk result (λ h. IsLoaded code.now placement.now.places core h) }
+    requires needs { AreNeeds (plain_code code.now) needs.now }
+    requires port { CanLoad code.now placement.now (parts.core ∷ [])
+        (⟦<SlotPort<'b, ForecWork> as Port<ForecWork>>⟧.state parts.port) }
+    requires rope { parts.rope ≡ new_rope code.now placement.now parts.core }
+    ensures { IfOk result (λ h. IsLoaded code.now placement.now parts.entry.core h) }
 {
-    let host = Host::load(alloc, code, placement, &[core], port)?;
-    let Some(rope) = rope else {
-        return Ok(host);
-    };
+    let CoreParts { core, port, rope } = parts;
+    let host = Host::load_with(alloc, code, needs, placement, &[core], port)?;
     Ok(host.hang(rope))
 }
 
@@ -95,22 +80,24 @@ struct Made<'b, 'c> {
 fn make_next<'b, 'c>(
     alloc: Global,
     code: &'c Code,
+    needs: &Needs,
     placement: &Placement,
-    core: u32,
-    port: SlotPort<'b, ForecWork>,
-    rope: Option<Rope<'c>>,
+    parts: CoreParts<'b, 'c>,
     root_core: u32,
     made: &mut Made<'b, 'c>,
 ) -> Result<(), OutOfMemory>
     requires root { slice_get placement.now.places 0 ≡ Some root_core }
-    requires port { CanLoad code.now placement.now (core ∷ []) (⟦<SlotPort<'b, ForecWork> as Port<ForecWork>>⟧.state port) }
-    requires rope { IsNewRope code.now placement.now core rope }
-    ensures { OnOk result (MakesNext code.now placement.now.places core made.old.root made.new.root made.old.others.items made.new.others.items) }
+    requires needs { AreNeeds (plain_code code.now) needs.now }
+    requires port { CanLoad code.now placement.now (parts.core ∷ [])
+        (⟦<SlotPort<'b, ForecWork> as Port<ForecWork>>⟧.state parts.port) }
+    requires rope { parts.rope ≡ new_rope code.now placement.now parts.core }
+    ensures { OnOk result (MakesNext code.now placement.now parts.entry.core made.old.root made.new.root made.old.others.items made.new.others.items) }
 {
+    let core = parts.core;
     if !has_threads(placement, core) {
         return Ok(());
     }
-    let host = host_of(alloc, code, placement, core, port, rope)?;
+    let host = host_of(alloc, code, needs, placement, parts)?;
     if core == root_core {
         made.root = Some(host);
         return Ok(());
@@ -122,8 +109,8 @@ fn make_next<'b, 'c>(
     Ok(())
 }
 
-/// One host for each core that has threads, with the board's port of that core. Where there are several, the core's rope hangs on
-/// each. No tick was run. The board must not have given out its ports before, nor the bells their ropes.
+/// One host for each core that has threads, with the board's port and the rope of that core. No tick was run. The board must not
+/// have given out its ports before, nor the bells their ropes.
 ///
 /// # Errors
 ///
@@ -136,19 +123,20 @@ pub fn hosts_of<'b, 'c>(
     bells: &'c mut Bells,
 ) -> Result<Hosts<'b, 'c>, OutOfMemory>
     requires whole { ⟦<SlotBoard<ForecWork> as GivesPorts<ForecWork>>⟧.is_whole board.old }
-    requires ports { ArePorts code.now placement.now (⟦<SlotBoard<ForecWork> as GivesPorts<ForecWork>>⟧.ports board.old) }
+    requires ports { ArePorts code.now placement.now
+        (⟦<SlotBoard<ForecWork> as GivesPorts<ForecWork>>⟧.ports board.old) }
     requires bells { ⟦<Bells as GivesRopes>⟧.is_whole bells.old }
     requires ropes { ⟦<Bells as GivesRopes>⟧.ropes bells.old ≡ new_ropes code.now placement.now placement.now.cores }
-    ensures root { IfOk result (λ h. IsRoot code.now placement.now.places h.root) }
-    ensures here { IfOk result (λ h. is_here h.root 0 ≡ true) }
-    ensures none { IfOk result (λ h. HasRun h.root []) }
-    ensures jobs { IfOk result (λ h. HasJobs h.root []) }
-    ensures others { IfOk result (λ h. (i : ℕ) (x : Hosted) → slice_get h.others.items i ≡ Some x → IsOther code.now placement.now.places x) }
-    ensures cores { IfOk result (λ h. map (λ x. x.cores) h.others.items ≡ map (λ core. core ∷ []) (other_cores placement.now.places placement.now.cores)) }
+    ensures root { IfOk result (λ h. IsRoot code.now placement.now h.root) }
+    ensures others { IfOk result (λ h. (i : ℕ) (x : Hosted) → slice_get h.others.items i ≡ Some x
+        → IsOther code.now placement.now x) }
+    ensures cores { IfOk result (λ h. map (λ x. x.cores) h.others.items
+        ≡ map (λ core. core ∷ []) (other_cores placement.now.places placement.now.cores)) }
 {
     let cores = placement.cores();
     let root_core = placement.core(0);
-    let mut ropes = ropes_of(alloc, placement, bells)?.into_iter();
+    let needs = Needs::new(alloc, code)?;
+    let mut ropes = bells.ropes(alloc)?.into_iter();
     let mut ports = board.ports(alloc)?.into_iter();
     let mut made = Made {
         root: None,
@@ -158,10 +146,11 @@ pub fn hosts_of<'b, 'c>(
         let Some(port) = ports.next() else {
             unreachable!()
         };
-        let rope = ropes.next();
-        make_next(
-            alloc, code, placement, core, port, rope, root_core, &mut made,
-        )?;
+        let Some(rope) = ropes.next() else {
+            unreachable!()
+        };
+        let parts = CoreParts { core, port, rope };
+        make_next(alloc, code, &needs, placement, parts, root_core, &mut made)?;
     }
     let Made { root, others } = made;
     let Some(root) = root else { unreachable!() };

@@ -1,5 +1,5 @@
 -- The ropes of the cores.
-use Rattle.std.specs.Prelude.{◌≡◌, ℕ, zero, suc, ◌-◌, ◌^◌, ◌<◌, ◌≤◌, ◌==◌, min, All, get_or, slice_get, slice_set, Option, None, Some, List, [], ◌∷◌, ◌++◌, length, map, true, false, Bool}
+use Rattle.std.specs.Prelude.{◌≡◌, ◌≢◌, ℕ, zero, suc, ◌-◌, ◌^◌, ◌<◌, ◌≤◌, ◌==◌, min, All, get_or, slice_get, slice_set, Option, None, Some, List, [], ◌∷◌, ◌++◌, length, map, true, false, Bool}
 use Rattle.crossbeam_queue.specs.declared.array_queue.Doing.{Doing}
 use Rattle.crossbeam_queue.specs.declared.array_queue.Slotted.{Slotted}
 use Rattle.crossbeam_queue.specs.Fifo.{Held}
@@ -75,9 +75,10 @@ pub record HasRung (core hint : ℕ) (r q : RopeState) : Type 0 where
   pub state : q ≡ after_ring core hint fits r
   pub full : fits ≡ false → WasFull core r
 
--- a hint was pushed to the queue of the thread's core, if it fitted; a thread that has no place has no queue
+-- a hint was pushed to the queue of the thread's core, if that is another core and it fitted; a thread that has no place has no queue
 pub record HasHinted (thread hint : ℕ) (r q : RopeState) : Type 0 where
-  pub placed : (core : ℕ) → slice_get r.placement.places thread ≡ Some core → HasRung core hint r q
+  pub other : (core : ℕ) → slice_get r.placement.places thread ≡ Some core → core ≢ r.core → HasRung core hint r q
+  pub own : slice_get r.placement.places thread ≡ Some r.core → q ≡ r
   pub else : slice_get r.placement.places thread ≡ None → q ≡ r
 
 -- at one moment the own core's queue held no hint, and whatever the rope pushed there it has popped

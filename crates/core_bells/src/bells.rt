@@ -75,7 +75,8 @@ impl Bells {
     pub fn new(alloc: Global, code: &Code, placement: &Placement) -> Result<Bells, OutOfMemory>
         requires { length placement.now.places ≡ length (plain_code code.now).threads }
         ensures whole { IfOk result (λ b. ⟦<Bells as GivesRopes>⟧.is_whole b) }
-        ensures ropes { IfOk result (λ b. ⟦<Bells as GivesRopes>⟧.ropes b ≡ new_ropes code.now placement.now placement.now.cores) }
+        ensures ropes { IfOk result (λ b. ⟦<Bells as GivesRopes>⟧.ropes b
+            ≡ new_ropes code.now placement.now placement.now.cores) }
     {
         let places = places_of(alloc, placement)?;
         let ends = all_ends(alloc, code.shape(), &places)?;

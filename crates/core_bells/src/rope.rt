@@ -1,5 +1,5 @@
 //! The rope of one core.
-ghost use Rattle.std.specs.Prelude.{◌≡◌, ◌<◌, ◌+◌, ◌-◌, ◌^◌, All, None, cond, length, min, true, false};
+ghost use Rattle.std.specs.Prelude.{◌≡◌, ◌<◌, ◌+◌, ◌-◌, ◌^◌, All, IfSome, None, cond, length, min, slice_get, true, false};
 ghost use Rattle.core_bells.specs.Ropes.{HasHinted, IsSameRope, WasEmpty, WasFull, after_ring, after_rope_pop, capped, own_log, pushed_by};
 
 use crate::belfry::Belfry;
@@ -63,9 +63,8 @@ impl<'b> Rope<'b> {
         self.pushed
     }
 
-    /// What every rope keeps: there is a log at each core, and that of its own core may pop; the core of each thread is one of
-    /// the placement's.
-    pub fn keeps(&self)
+    /// A law: a rope has a log at each core, and that of its own core may pop; the core of each thread is one of the placement's.
+    pub fn has_all_logs(&self)
         ensures cores { length self.now.logs ≡ self.now.placement.cores }
         ensures own { (own_log self.now).may_pop ≡ true }
         ensures placed { All (λ core. core < self.now.placement.cores) self.now.placement.places }
@@ -87,14 +86,29 @@ impl<'b> Rope<'b> {
         fits
     }
 
-    /// Pushes a hint to the queue of a thread's core, and wakes that core. A hint that doesn't fit is dropped, and the core is
-    /// woken all the same.
+    /// The core of a thread, if there is such a thread.
+    fn core_of(&self, thread: u32) -> Option<u32>
+        ensures value { result ≡ slice_get self.now.placement.places thread }
+        ensures below { IfSome result (λ core. core < self.now.placement.cores) }
+    {
+        let at = thread as usize;
+        if at < self.belfry.places.len() {
+            Some(self.belfry.places[at])
+        } else {
+            None
+        }
+    }
+
+    /// Pushes a hint to the queue of a thread's core, if that is another core, and wakes it. A hint that doesn't fit is dropped, and
+    /// the core is woken all the same. A core needs no hint from itself.
     pub fn hint<R: Wait>(&mut self, rt: &R, thread: u32, mailbox: u32)
         ensures hinted { HasHinted thread mailbox self.old self.new }
         ensures same { IsSameRope self.old self.new }
     {
-        if let Some(core) = self.belfry.places.get(thread as usize) {
-            self.ring(rt, *core, mailbox);
+        if let Some(core) = self.core_of(thread) {
+            if core != self.core {
+                self.ring(rt, core, mailbox);
+            }
         }
     }
 

@@ -1,6 +1,6 @@
 -- A host serves mailboxes.
-use Rattle.std.proofs.Common.{◌≡◌, ℕ, suc, ◌<◌, ◌≤◌, ◌==◌, Bool, true, false, cond, Some, List, [], ◌∷◌, length, refl, sym, ap, ◌∙◌, subst, arith}
-use Rattle.std.specs.Prelude.{Option, None, get_or, slice_get}
+use Rattle.std.proofs.Common.{◌≡◌, ℕ, zero, suc, ◌<◌, ◌≤◌, ◌==◌, Bool, true, false, cond, Some, List, [], ◌∷◌, length, map, refl, sym, ap, ◌∙◌, subst, arith}
+use Rattle.std.specs.Prelude.{Option, None, slice_get, slice_set}
 use Rattle.std.proofs.lemmas.Bool.Decides.{nat_tests}
 use Rattle.std.proofs.lemmas.Option.{slice_get-get_or}
 use Rattle.forec_kernel.specs.Combining.{contains}
@@ -19,21 +19,26 @@ use Rattle.core_machine.specs.Threads.{Loaded}
 use Rattle.core_bells.specs.Ropes.{RopeState, IsSameRope, rooms_of}
 use Rattle.copy_slots.specs.Ports.{child_at, ChildIs}
 use Rattle.core_alloc.specs.Places.{Places}
-use Rattle.core_host.specs.Posts.{IsBranchOf}
-use Rattle.core_host.specs.Loads.{is_on, AreOwn}
-use Rattle.core_host.specs.Done.{HasDone}
-use Rattle.core_host.specs.Keeping.{State, code_in, IsSeated, Sits, Idle, HasPacket}
-use Rattle.core_host.specs.Waiting.{IsBetween, rests, waits}
-use Rattle.core_host.specs.Serving.{KeepsServing}
-use Rattle.core_host.specs.Hung.{IsHung, KeepsRope}
-use Rattle.core_host.specs.Rounds.{CanServe, IsSameRound}
-use Rattle.core_host.specs.declared.round.Round.{Round}
-use Rattle.core_host.specs.Hosted.{Hosted, hosted, is_here, IsWhole}
-use Rattle.core_host.specs.Rests.{RootRests, IsHosted}
-use Rattle.core_host.specs.Runs.{HasJobs, HasRun}
-use Rattle.core_host.proofs.KeepingLemmas.{done_keeps, packet_keeps}
-use Rattle.core_host.proofs.ServingLemmas.{keeps_seated, both_held}
-use Rattle.core_host.proofs.Seats.{can_keep}
+use Rattle.tick_jobs.specs.Branches.{IsBranchOf}
+use Rattle.core_seats.specs.Loads.{is_on, AreOwn}
+use Rattle.core_seats.specs.Posts.{Mail}
+use Rattle.core_seats.specs.Changes.{Grown}
+use Rattle.core_seats.specs.Done.{HasDone}
+use Rattle.core_seats.specs.Keeping.{State, code_in, IsSeated, Sits, Idle, HasPacket}
+use Rattle.core_seats.specs.Waiting.{IsBetween, rests, waits}
+use Rattle.core_seats.specs.Serving.{KeepsServing}
+use Rattle.core_seats.specs.Hung.{IsHung, KeepsRope}
+use Rattle.core_seats.specs.Rounds.{CanServe, IsSameRound}
+use Rattle.core_seats.specs.declared.round.Round.{Round}
+use Rattle.core_seats.proofs.RoundLemmas.{rope_same, rope_then}
+use Rattle.core_host.specs.Hosted.{Hosted, hosted, is_here, standing, IsSameHost, IsWhole}
+use Rattle.core_seats.specs.Resting.{RootRests}
+use Rattle.core_host.specs.Rests.{IsHosted}
+use Rattle.tick_jobs.specs.Ticks.{HasRun}
+use Rattle.core_host.specs.Runs.{HasJobs, ticking}
+use Rattle.core_seats.proofs.KeepingLemmas.{done_keeps, packet_keeps, grown_same, grown_then}
+use Rattle.core_seats.proofs.ServingLemmas.{keeps_seated, both_held}
+use Rattle.core_seats.proofs.Seats.{can_keep}
 
 -- ---- lists
 
@@ -50,26 +55,6 @@ contains_where (x ∷ l) k e = pick (x == k) refl e (contains_where l k)
 
 -- ---- the rope
 
-pub same_rope : (r : RopeState) → IsSameRope r r
-same_rope r = record { placement = refl; core = refl; rooms = refl; pushed = omega arith }
-
-pub same_then : (r q p : RopeState) → IsSameRope r q → IsSameRope q p → IsSameRope r p
-same_then r q p h g =
-    let one = h.pushed in
-    let two = g.pushed in record { placement = g.placement ∙ h.placement; core = g.core ∙ h.core; rooms = g.rooms ∙ h.rooms; pushed = omega (arith, one, two) }
-
-pub rope_same : (a : Option RopeState) → KeepsRope a a
-rope_same None = tt
-rope_same (Some r) = same_rope r
-
-pub rope_then : (a b c : Option RopeState) → KeepsRope a b → KeepsRope b c → KeepsRope a c
-rope_then None None None h g = tt
-rope_then (Some r) (Some q) (Some p) h g = same_then r q p h g
-rope_then None (Some q) c h g = absurd h
-rope_then (Some r) None c h g = absurd h
-rope_then None None (Some p) h g = absurd g
-rope_then (Some r) (Some q) None h g = absurd g
-
 pub hung_keeps : (code0 code1 : CodeParts) (places0 places1 cores : List ℕ) (a b : Option RopeState) → code1 ≡ code0 → places1 ≡ places0 → KeepsRope a b → IsHung code0 places0 cores a → IsHung code1 places1 cores b
 hung_keeps code0 code1 places0 places1 cores None None code places same hung = tt
 hung_keeps code0 code1 places0 places1 cores (Some r) (Some q) code places same hung = record {
@@ -80,30 +65,41 @@ hung_keeps code0 code1 places0 places1 cores (Some r) (Some q) code places same 
 hung_keeps code0 code1 places0 places1 cores None (Some q) code places same hung = absurd same
 hung_keeps code0 code1 places0 places1 cores (Some r) None code places same hung = absurd same
 
--- ---- the round
+-- ---- the same host
 
-pub round_same : (s : State) (r : Round) → CanServe s r → IsSameRound r r
-round_same s r can = record { own = refl; next = can.next; rope = rope_same r.rope }
+pub same_host : (h : Hosted) → IsSameHost h h
+same_host h = record { code = refl; places = refl; cores = refl; grown = grown_same h.mail; rope = rope_same h.rope }
 
-pub its_turn : (s : State) (r : Round) → CanServe s r → (i k : ℕ) → i < length r.own.items → k ≡ get_or r.own.items i k → (k < length s.mail.ends) × IsBetween s k
-its_turn s r can i k lt is = can.each i k (slice_get-get_or r.own.items i k lt ∙ ap Some (sym is))
-
-pub round_moved : (a b : Round) → a.next ≤ length a.own.items → b.own ≡ a.own → b.next ≡ a.next → KeepsRope a.rope b.rope → IsSameRound a b
-round_moved a b within own next rope =
-    let same = ap (λ v. length v.items) own in record { own = ap (λ v. v.items) own; next = omega (arith, within, same, next); rope = rope }
-
-pub round_then : (a b c : Round) → IsSameRound a b → IsSameRound b c → IsSameRound a c
-round_then a b c h g = record { own = g.own ∙ h.own; next = g.next; rope = rope_then a.rope b.rope c.rope h.rope g.rope }
-
-pub round_still : (s0 s1 : State) (a b : Round) → KeepsServing s0 s1 → IsSameRound a b → CanServe s0 a → CanServe s1 b
-round_still s0 s1 a b keeps same can = record {
-  next = same.next;
-  each = λ i k at.
-      let e = can.each i k (ap (λ l. slice_get l i) (sym same.own) ∙ at) in
-      let lt = e.0 in
-      let count = keeps.alike.count in (omega (arith, lt, count), keeps.between k e.1);
-  all = can_keep s0 s1 0 keeps.alike.count (λ j le w. keeps.between j w) (λ j le v. keeps.vacant j v) can.all;
+pub host_then : (a b c : Hosted) → IsSameHost a b → IsSameHost b c → IsSameHost a c
+host_then a b c h g = record {
+  code = g.code ∙ h.code;
+  places = g.places ∙ h.places;
+  cores = g.cores ∙ h.cores;
+  grown = grown_then a.mail b.mail c.mail h.grown g.grown;
+  rope = rope_then a.rope b.rope c.rope h.rope g.rope;
 }
+
+-- but for its mail
+pub host_mailed : (a b : Hosted) (mail : Mail) → b ≡ record a { mail = mail } → Grown a.mail b.mail → IsSameHost a b
+host_mailed a b mail is grown = record {
+  code = ap (λ (h : Hosted). h.code) is;
+  places = ap (λ (h : Hosted). h.places) is;
+  cores = ap (λ (h : Hosted). h.cores) is;
+  grown = grown;
+  rope = subst (KeepsRope a.rope) (sym (ap (λ (h : Hosted). h.rope) is)) (rope_same a.rope);
+}
+
+pub same_here : (a b : Hosted) (t : ℕ) → IsSameHost a b → is_here b t ≡ is_here a t
+same_here a b t same = ap (λ l. is_on l b.cores t) same.places ∙ ap (λ l. is_on a.places l t) same.cores
+
+pub same_standing : (a b : Hosted) → IsSameHost a b → standing b ≡ standing a
+same_standing a b same = ap (λ c. record { code = c; places = b.places; cores = b.cores }) same.code ∙ ap (λ l. record { code = a.code; places = l; cores = b.cores }) same.places ∙ ap (λ l. record { code = a.code; places = a.places; cores = l }) same.cores
+
+-- one of some hosts is the same, later
+pub standing_set : (l : List Hosted) (i : ℕ) (x : Hosted) → ((y : Hosted) → slice_get l i ≡ Some y → standing x ≡ standing y) → map standing (slice_set l i x) ≡ map standing l
+standing_set [] i x same = refl
+standing_set (y ∷ l) zero x same = ap (λ s. s ∷ map standing l) (same y refl)
+standing_set (y ∷ l) (suc i) x same = ap (λ t. standing y ∷ t) (standing_set l i x same)
 
 -- ---- what a host keeps
 
@@ -161,7 +157,7 @@ module _ (s0 s1 : State) (cores : List ℕ) (root : Packet) (live : Bool) (rope0
     done = done_still j.thread jobs j.sits.number j.done;
   }
 
-  pub run_keeps : (turns : List TickInput) → HasRun h0 turns → HasRun h1 turns
+  pub run_keeps : (turns : List TickInput) → HasRun (ticking h0) turns → HasRun (ticking h1) turns
   unfolding HasRun
   run_keeps turns run k fine stands =
       let t = run k fine (subst (λ x. Stands (plain_code x) k) keeps.code stands) in record { jobs = jobs_keep _ t.jobs; keeps = t.keeps }

@@ -18,16 +18,19 @@ use Rattle.copy_slots.specs.declared.view.Sender.{Sender}
 use Rattle.copy_slots.specs.declared.view.Taker.{Taker}
 use Rattle.copy_slots.specs.Ports.{Ends, parent_at, child_at, sent_by, got_by, taken_by, answered_by, IsParent, IsChild, sent, got}
 use Rattle.core_alloc.specs.Places.{Places}
-use Rattle.core_host.specs.declared.seat.Seat.{Seat}
-use Rattle.core_host.specs.Posts.{Mail, IsBranchOf, AreReplies}
-use Rattle.core_host.specs.Loads.{is_on, IsNewParent, IsNewChild, ArePlaced, CanLoad, AreAll, IsNewSeat, contains_core}
-use Rattle.core_host.specs.Done.{HasDone}
-use Rattle.core_host.specs.Keeping.{State, Sits, Idle, none, blank, HasPacket, Quiet}
-use Rattle.core_host.specs.Waiting.{HasChild, IsBetween, IsVacant, rests}
+use Rattle.core_seats.specs.declared.seat.Seat.{Seat}
+use Rattle.core_seats.specs.Posts.{Mail, AreReplies}
+use Rattle.tick_jobs.specs.Branches.{IsBranchOf}
+use Rattle.core_seats.specs.Loads.{is_on, IsNewParent, IsNewChild, ArePlaced, CanLoad, AreAll, IsNewSeat, contains_core}
+use Rattle.core_seats.specs.Done.{HasDone}
+use Rattle.core_seats.specs.Keeping.{State, Sits, Idle, none, blank, HasPacket, Quiet}
+use Rattle.core_seats.specs.Waiting.{HasChild, IsBetween, IsVacant, rests}
 use Rattle.core_host.specs.Hosted.{Hosted, hosted, is_here, IsWhole}
-use Rattle.core_host.specs.Rests.{IsReady, IsHosted}
-use Rattle.core_host.specs.Runs.{HasJobs}
-use Rattle.core_host.proofs.KeepingLemmas.{branch_above, has_parent}
+use Rattle.core_host.specs.Rests.{IsHosted}
+use Rattle.tick_jobs.specs.Ready.{IsReady}
+use Rattle.tick_jobs.specs.Ticks.{RanNone, HasRun}
+use Rattle.core_host.specs.Runs.{HasJobs, ticking, IsNewHost}
+use Rattle.tick_jobs.proofs.Branching.{branch_above, has_parent}
 
 parent_past : {Q : Type 0} (es : List (Ends Q)) (k : ℕ) → length es ≤ k → parent_at es k ≡ None
 parent_past [] k le = refl
@@ -186,12 +189,29 @@ module _ (code : CodeParts) (valid : IsValidCode (plain_code code)) (placement :
     hung = tt;
   }
 
-  pub new_jobs : is_here new_host 0 ≡ true → HasJobs new_host []
+  new_jobs : is_here new_host 0 ≡ true → HasJobs new_host []
   new_jobs here = let n = thread_at 0 some_threads here in record { thread = n.thread; sits = n.sits; fit = tt; done = new_done 0 n }
 
-  pub new_whole : mail.tells ≡ true → AreAll placement.cores cores → IsWhole new_host
+  new_whole : mail.tells ≡ true → AreAll placement.cores cores → IsWhole new_host
   new_whole tells all =
       let each = λ (t : ℕ) (lt : t < length (plain_code code).threads). all (get_or placement.places t 0) (placed t 0 (omega (arith, lt, can.placed))) in record { tells = tells; all = each; quiet = new_quiet each }
 
-  pub whole_here : IsWhole new_host → is_here new_host 0 ≡ true
+  whole_here : IsWhole new_host → is_here new_host 0 ≡ true
   whole_here whole = whole.all 0 some_threads
+
+  new_none : is_here new_host 0 ≡ true → RanNone (ticking new_host)
+  unfolding HasRun
+  new_none here = record { live = refl; blank = is_blank; turns = λ k fine stands. record { jobs = new_jobs here; keeps = λ e. is_blank }; jobs = new_jobs here }
+
+  pub new_is : IsNewHost code placement cores mail new_host
+  new_is = record {
+    code_is = refl;
+    places = refl;
+    cores_are = refl;
+    mail_is = refl;
+    live = refl;
+    rope = refl;
+    none = new_none;
+    fresh = λ whole. new_none (whole_here whole);
+    whole = new_whole;
+  }

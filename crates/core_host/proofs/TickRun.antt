@@ -1,16 +1,13 @@
 -- A host runs a tick.
 use Rattle.std.proofs.Common.{◌≡◌, ℕ, suc, ◌<◌, ℤ, Bool, true, false, List, [], ◌∷◌, ◌++◌, length, sym, ap, ◌∙◌, subst, inl, inr, ⊎_elim, arith}
 use Rattle.forec_kernel.specs.declared.shape.Outcome.{Outcome}
-use Rattle.forec_kernel.specs.Shapes.{PlainKernel}
-use Rattle.forec_kernel.specs.WellFormed.{WellFormed}
 use Rattle.forec_kernel.specs.Texts.{uses_in}
-use Rattle.forec_kernel.specs.Ticks.{Fresh, goes_on, values_of}
+use Rattle.forec_kernel.specs.Ticks.{goes_on, values_of}
 use Rattle.forec_kernel.specs.Packed.{HasRoom, IsJob}
 use Rattle.forec_kernel.specs.Engine.{Job, Answers}
-use Rattle.forec_kernel.specs.Composed.{TickInput, tick_jobs}
 use Rattle.thread_code.specs.Plain.{PlainCode, plain_code}
 use Rattle.thread_code.specs.Valid.{of_shape}
-use Rattle.thread_code.specs.Alone.{Stands, CodeAlone}
+use Rattle.thread_code.specs.Alone.{CodeAlone}
 use Rattle.thread_code.specs.Laws.{EachFits}
 use Rattle.combine_tree.specs.declared.packet.Packet.{Packet}
 use Rattle.combine_tree.specs.declared.packet.PacketKind.{PacketKind}
@@ -21,49 +18,28 @@ use Rattle.core_machine.specs.Threads.{CanBegin}
 use Rattle.core_machine.specs.Replies.{Replies_by}
 use Rattle.std.specs.Prelude.{Option}
 use Rattle.core_bells.specs.Ropes.{RopeState}
-use Rattle.core_host.specs.Hung.{KeepsRope}
-use Rattle.core_host.specs.Posts.{IsBranchOf, HasPosted, HasPostedTaken}
-use Rattle.core_host.specs.Done.{HasDone}
-use Rattle.core_host.specs.Jobs.{IsBetween, kind_of, job_of}
-use Rattle.core_host.specs.Outcomes.{IsReplied, outcome_in, HasOutputs, HasOutcome}
-use Rattle.core_host.specs.Loads.{is_on}
-use Rattle.core_host.specs.Keeping.{State, code_in, IsSeated, Sits, Idle, HasPacket, QuietAbove}
-use Rattle.core_host.specs.Waiting.{HasChild, IsBetween as IsServed, IsVacant, CanDescend, rests}
-use Rattle.core_host.specs.Ending.{HasReplied}
+use Rattle.core_seats.specs.Hung.{KeepsRope}
+use Rattle.core_seats.specs.Posts.{HasPosted, HasPostedTaken}
+use Rattle.tick_jobs.proofs.Readiness.{between_of, begins_by, replied_of}
+use Rattle.tick_jobs.specs.Branches.{IsBranchOf}
+use Rattle.core_seats.specs.Done.{HasDone}
+use Rattle.tick_jobs.specs.Jobs.{IsBetween, kind_of, job_of}
+use Rattle.tick_jobs.specs.Outcomes.{IsReplied, outcome_in, HasOutputs, LacksOutputs}
+use Rattle.tick_jobs.specs.Ticks.{RunsTick}
+use Rattle.core_seats.specs.Loads.{is_on}
+use Rattle.core_seats.specs.Keeping.{State, code_in, IsSeated, Sits, Idle, HasPacket, QuietAbove}
+use Rattle.core_seats.specs.Waiting.{HasChild, IsBetween as IsServed, IsVacant, CanDescend, rests}
+use Rattle.core_seats.specs.Ending.{HasReplied}
 use Rattle.core_host.specs.Hosted.{Hosted, hosted, state_in, code_of, is_here, IsWhole}
-use Rattle.core_host.specs.Rests.{IsReady, RootRests, IsHosted}
-use Rattle.core_host.specs.Runs.{HasJobs, HasTicked}
+use Rattle.core_seats.specs.Resting.{RootRests}
+use Rattle.core_host.specs.Rests.{IsHosted}
+use Rattle.tick_jobs.specs.Ready.{IsReady}
+use Rattle.core_host.specs.Runs.{HasJobs, ticking}
 use Rattle.core_host.proofs.HostedLemmas.{hung_keeps}
-use Rattle.core_host.proofs.TickOutcome.{Told, told, keeps_now, jobs_are, goes_on_paused, comes_to, job_fits, fits_then}
+use Rattle.tick_jobs.proofs.TickOutcome.{goes_on_paused, job_fits, fits_then}
+use Rattle.tick_jobs.proofs.RunTick.{RepliesTo, runs_tick}
 
 -- ---- before
-
-between_of : (t : Thread) (k : PacketKind) → IsReady t k → IsBetween k
-between_of t kind.Blank h = tt
-between_of t kind.Paused h = tt
-between_of t kind.Start h = absurd h
-between_of t kind.Wake h = absurd h
-between_of t kind.Ended h = absurd h
-between_of t (kind.Trapped place trap) h = absurd h
-between_of t kind.Over h = absurd h
-
-begins_by : (t : Thread) (k : PacketKind) → IsReady t k → CanBegin t (kind_of k)
-begins_by t kind.Blank h = tt
-begins_by t kind.Paused h = h
-begins_by t kind.Start h = absurd h
-begins_by t kind.Wake h = absurd h
-begins_by t kind.Ended h = absurd h
-begins_by t (kind.Trapped place trap) h = absurd h
-begins_by t kind.Over h = absurd h
-
-pub replied_of : (t : Thread) (k : PacketKind) → Replies_by t k → IsReplied k
-replied_of t kind.Paused h = tt
-replied_of t kind.Ended h = tt
-replied_of t (kind.Trapped place trap) h = tt
-replied_of t kind.Over h = tt
-replied_of t kind.Blank h = absurd h
-replied_of t kind.Start h = absurd h
-replied_of t kind.Wake h = absurd h
 
 pub whole_here : (h : Hosted) → IsHosted h → IsWhole h → is_here h 0 ≡ true
 whole_here h inv whole = whole.all 0 (omega (arith, inv.valid.shape.some, inv.valid.threads))
@@ -161,7 +137,7 @@ module _ (s0 s1 : State) (cores : List ℕ) (p0 p1 pj : Packet) (live0 live1 : B
   replies_for : (jobs : List Job) (old : HasJobs h0 jobs) → HasReplied s1 root1.thread (jobs ++ job ∷ []) (plain_packet p1)
   replies_for jobs old = replied1 old.thread root1.thread jobs job old.sits root1.sits old.done isjob
 
-  pub now_jobs : (jobs : List Job) → HasJobs h0 jobs → HasJobs h1 (jobs ++ job ∷ [])
+  now_jobs : (jobs : List Job) → HasJobs h0 jobs → HasJobs h1 (jobs ++ job ∷ [])
   now_jobs jobs old = record {
     thread = root1.thread;
     sits = root1.sits;
@@ -169,31 +145,16 @@ module _ (s0 s1 : State) (cores : List ℕ) (p0 p1 pj : Packet) (live0 live1 : B
     done = (replies_for jobs old).done;
   }
 
-  pub outcome_now : (jobs : List Job) → HasJobs h0 jobs → (outputs : List ℤ) → (HasOutputs outcome → outputs ≡ values_of (uses_in c.shape.threads 0) p1.copies.items c.shape.outputs) → HasOutcome c (jobs ++ job ∷ []) outcome outputs
-  outcome_now jobs old outputs are = let r = replies_for jobs old in record {
+  replied_to : (jobs : List Job) → HasJobs h0 jobs → RepliesTo (ticking h0) (ticking h1) jobs job
+  replied_to jobs old = let r = replies_for jobs old in record {
+    now = now_jobs jobs old;
     reply = r.reply;
+    is = r.is;
     answers = subst (λ x. Answers (CodeAlone (plain_code x)) (length (plain_code x).threads) 0 (jobs ++ job ∷ []) r.reply) code1 r.answers;
-    comes = comes_to c.shape p1 r.reply r.is outcome outcome_is outputs are;
   }
 
-  module _ (k : PlainKernel) (turns : List TickInput) (fine : WellFormed k) (stands : Stands c k) (ticked : HasTicked h0 k turns) where
-    abbrev turn : TickInput
-    turn = record { row = row; budget = budget }
-
-    abbrev r : HasReplied s1 root1.thread (tick_jobs k Fresh turns ++ job ∷ []) (plain_packet p1)
-    r = replies_for (tick_jobs k Fresh turns) ticked.jobs
-
-    answers_c : Answers (CodeAlone c) (length c.threads) 0 (tick_jobs k Fresh turns ++ job ∷ []) r.reply
-    answers_c = subst (λ x. Answers (CodeAlone (plain_code x)) (length (plain_code x).threads) 0 (tick_jobs k Fresh turns ++ job ∷ []) r.reply) code1 r.answers
-
-    pub told_now : Told c k turns turn p1
-    told_now = told c inv.valid k turns fine stands p0 p1 inv.room row budget ticked.jobs.fit (ticked.keeps live) r.reply r.is answers_c
-
-    pub ticked_now : HasTicked h1 k (turns ++ turn ∷ [])
-    ticked_now = record {
-      jobs = subst (HasJobs h1) (jobs_are c inv.valid k turns fine stands p0 p1 inv.room row budget ticked.jobs.fit (ticked.keeps live) r.reply r.is answers_c) (now_jobs (tick_jobs k Fresh turns) ticked.jobs);
-      keeps = λ e. keeps_now c inv.valid k turns fine stands p0 p1 inv.room row budget ticked.jobs.fit (ticked.keeps live) r.reply r.is answers_c (paused_of e);
-    }
+  pub ran : (before after : List ℤ) → (HasOutputs outcome → after ≡ values_of (uses_in c.shape.threads 0) p1.copies.items c.shape.outputs) → (LacksOutputs outcome → after ≡ before) → RunsTick (ticking h0) (ticking h1) row budget outcome before after
+  ran before after are stay = runs_tick (ticking h0) (ticking h1) (ap plain_code code1) inv.valid inv.room live row budget outcome before after outcome_is live_is are stay (λ jobs j. j.fit) replied_to
 
 -- ---- what was posted
 

@@ -4,10 +4,13 @@ use Rattle.combine_tree.specs.declared.packet.Packet.{Packet}
 use Rattle.thread_code.specs.declared.instruction.CodeParts.{CodeParts}
 use Rattle.thread_code.specs.Plain.{PlainCode, plain_code}
 use Rattle.core_bells.specs.Ropes.{RopeState}
-use Rattle.core_host.specs.declared.seat.Seat.{Seat}
-use Rattle.core_host.specs.Posts.{Mail}
-use Rattle.core_host.specs.Keeping.{State, Quiet}
-use Rattle.core_host.specs.Loads.{is_on}
+use Rattle.core_seats.specs.declared.seat.Seat.{Seat}
+use Rattle.core_seats.specs.Posts.{Mail}
+use Rattle.core_seats.specs.Keeping.{State, Quiet}
+use Rattle.core_seats.specs.Loads.{is_on}
+use Rattle.core_seats.specs.Changes.{Grown}
+use Rattle.core_seats.specs.Hung.{KeepsRope}
+use Rattle.core_seats.specs.Kept.{Standing}
 
 -- `places`: the core of each thread. `cores`: those of this host. `mail`: what went through its mailboxes. `seats`: each thread, with the job in its hand.
 -- `hands`: the packets in the parents' hands. `root`: the packet of thread 0, in a tick its job, between ticks its reply. `live`: each tick so far has paused.
@@ -47,3 +50,15 @@ pub record IsWhole (h : Hosted) : Type 0 where
   pub tells : h.mail.tells ≡ true
   pub all : (t : ℕ) → t < length (code_of h).threads → is_here h t ≡ true
   pub quiet : (k : ℕ) → k < length h.mail.ends → Quiet (state_in h) k
+
+-- what no serving of the host changes
+abbrev pub standing : Hosted → Standing
+standing h = record { code = h.code; places = h.places; cores = h.cores }
+
+-- the same host, later: what went through its mailboxes it still has, and its rope, if there is one, is the same
+pub record IsSameHost (a b : Hosted) : Type 0 where
+  pub code : b.code ≡ a.code
+  pub places : b.places ≡ a.places
+  pub cores : b.cores ≡ a.cores
+  pub grown : Grown a.mail b.mail
+  pub rope : KeepsRope a.rope b.rope

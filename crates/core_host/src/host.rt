@@ -1,29 +1,21 @@
 //! The host of some of a code's threads.
-ghost use Rattle.std.specs.Prelude.{◌≡◌, ◌≤◌, ◌<◌, ◌++◌, ◌∷◌, [], ℕ, suc, List, Some, None, option_map, length, true, false, IfOk};
-ghost use Rattle.forec_base.specs.declared.limits.TheConstants.{MAX_BUDGET};
-ghost use Rattle.forec_kernel.specs.Composed.{TickInput, state_after};
+ghost use Rattle.std.specs.Prelude.{◌≡◌, ◌≤◌, ◌<◌, ℕ, suc, List, Some, None, option_map, length, true, false, IfOk};
+ghost use Rattle.forec_kernel.specs.Composed.{TickInput};
 ghost use Rattle.forec_kernel.specs.Engine.{Job};
-ghost use Rattle.forec_kernel.specs.Shapes.{PlainKernel};
-ghost use Rattle.forec_kernel.specs.Ticks.{Fresh, tick, goes_on};
-ghost use Rattle.forec_kernel.specs.WellFormed.{WellFormed};
-ghost use Rattle.thread_code.specs.Alone.{Stands};
-ghost use Rattle.copy_slots.specs.Ports.{sent, taken, ChildIs};
-ghost use Rattle.core_host.specs.Jobs.{job_of};
-ghost use Rattle.core_host.specs.Loads.{CanLoad, AreAll, AreOwn};
-ghost use Rattle.core_host.specs.Outcomes.{HasOutputs, LacksOutputs, HasOutcome};
+ghost use Rattle.thread_code.specs.Plain.{plain_code};
+ghost use Rattle.copy_slots.specs.Ports.{ChildIs};
+ghost use Rattle.core_machine.specs.Room.{AreNeeds};
+ghost use Rattle.core_seats.specs.Loads.{CanLoad, AreOwn};
 
-use crate::job::write_job;
-use crate::load::{empty_hands, own_mailboxes, places_of, seats_of};
-use crate::outcome::write_outcome;
-use crate::round::Round;
-use crate::scheduler::Scheduler;
-use crate::work::ForecWork;
 use combine_tree::Packet;
 use copy_slots::Port;
 use core_alloc::Placement;
 use core_bells::Rope;
+use core_machine::Needs;
+use core_seats::{
+    ForecWork, Round, Scheduler, empty_hands, is_among, own_mailboxes, places_of, seats_of,
+};
 use forec_base::{Gate, OutOfMemory};
-use forec_kernel::Outcome;
 use std::alloc::Global;
 use std::marker::Model;
 use thread_code::Code;
@@ -67,11 +59,11 @@ impl<'c, P: Port<ForecWork> + Drop> Model for Host<'c, P> {
 }
 
 impl<'c, P: Port<ForecWork> + Drop> Host<'c, P> {
-    ghost use Rattle.core_host.specs.Changes.{Grown, HasWorked};
-    ghost use Rattle.core_host.specs.Hosted.{code_of, is_live, is_here, IsWhole};
-    ghost use Rattle.core_host.specs.Hung.{IsRopeOf};
-    ghost use Rattle.core_host.specs.Posts.{HasPosted, HasPostedTaken};
-    ghost use Rattle.core_host.specs.Runs.{AreIdleHere, HasJobMore, HasJobs, HasRun};
+    ghost use Rattle.core_seats.specs.Changes.{Grown, HasWorked};
+    ghost use Rattle.core_seats.specs.Hung.{IsRopeOf};
+    ghost use Rattle.core_seats.specs.Posts.{HasPosted, HasPostedTaken};
+    ghost use Rattle.core_host.specs.Hosted.{code_of, is_live, is_here, IsSameHost, IsWhole};
+    ghost use Rattle.core_host.specs.Runs.{AreIdleHere, HasJobs, HasRun, IsNewHost};
 
     /// The threads of these cores, over a port with the ends of their mailboxes. No tick was run.
     ///
@@ -86,20 +78,32 @@ impl<'c, P: Port<ForecWork> + Drop> Host<'c, P> {
         port: P,
     ) -> Result<Host<'c, P>, OutOfMemory>
         requires { CanLoad code.now placement.now cores.now (P.state port) }
-        ensures code { IfOk result (λ h. h.code ≡ code.now) }
-        ensures places { IfOk result (λ h. h.places ≡ placement.now.places) }
-        ensures cores { IfOk result (λ h. h.cores ≡ cores.now) }
-        ensures mail { IfOk result (λ h. h.mail ≡ P.state port) }
-        ensures live { IfOk result (λ h. is_live h ≡ true) }
-        ensures rope { IfOk result (λ h. h.rope ≡ None) }
-        ensures none { IfOk result (λ h. is_here h 0 ≡ true → HasRun h []) }
-        ensures jobs { IfOk result (λ h. is_here h 0 ≡ true → HasJobs h []) }
-        ensures fresh { IfOk result (λ h. IsWhole h → HasRun h []) }
-        ensures whole { IfOk result (λ h. (P.state port).tells ≡ true → AreAll placement.now.cores cores.now → IsWhole h) }
+        ensures { IfOk result (λ h. IsNewHost code.now placement.now cores.now (P.state port) h) }
+    {
+        let needs = Needs::new(alloc, code)?;
+        Host::load_with(alloc, code, &needs, placement, cores, port)
+    }
+
+    /// [`Host::load`], where the needs of the code's functions are at hand: hosts that run beside each other share them.
+    ///
+    /// # Errors
+    ///
+    /// Out of memory.
+    pub fn load_with(
+        alloc: Global,
+        code: &'c Code,
+        needs: &Needs,
+        placement: &Placement,
+        cores: &[u32],
+        port: P,
+    ) -> Result<Host<'c, P>, OutOfMemory>
+        requires loads { CanLoad code.now placement.now cores.now (P.state port) }
+        requires needs { AreNeeds (plain_code code.now) needs.now }
+        ensures { IfOk result (λ h. IsNewHost code.now placement.now cores.now (P.state port) h) }
     {
         let threads = code.parts().threads.len();
         let places = places_of(alloc, placement)?;
-        let seats = seats_of(alloc, code, &places, cores)?;
+        let seats = seats_of(alloc, code, needs, &places, cores)?;
         let hands = empty_hands(alloc, threads - 1)?;
         let root = Packet::new(alloc, 0, code.shape().variables.len())?;
         let own = own_mailboxes(alloc, &places, cores)?;
@@ -132,54 +136,11 @@ impl<'c, P: Port<ForecWork> + Drop> Host<'c, P> {
         self.live
     }
 
-    /// Runs one tick, by itself: the inputs get the values of the row, in order of declaration. Where the tick
-    /// pauses or ends the outputs are written, in order of declaration; else they stay as they were. It takes
-    /// no memory.
-    ///
-    /// Through each mailbox go exactly the tick's jobs and replies, however the tick ends. The outcome and the
-    /// outputs are those of a reply that the code's thread 0 gives to the jobs of the ticks so far; where the
-    /// code stands for a kernel they are the kernel's.
-    pub fn alone<G: Gate>(
-        &mut self,
-        row: &[i32],
-        budget: u64,
-        gate: &G,
-        outputs: &mut [i32],
-    ) -> Outcome
-        requires whole { IsWhole self.old }
-        requires live { is_live self.old ≡ true }
-        requires row { length row.now ≡ length (code_of self.old).shape.inputs }
-        requires outputs { length outputs.old ≡ length (code_of self.old).shape.outputs }
-        requires small { budget ≤ MAX_BUDGET }
-        ensures code { self.new.code ≡ self.old.code }
-        ensures whole { IsWhole self.new }
-        ensures turns { (turns : List TickInput) → HasRun self.old turns → HasRun self.new (turns ++ record { row = row.now; budget = budget } ∷ []) }
-        ensures outcome { (k : PlainKernel) (turns : List TickInput) → WellFormed k → Stands (code_of self.old) k → HasRun self.old turns
-            → result ≡ (tick k budget (state_after k Fresh turns) row.now).outcome }
-        ensures outputs { (k : PlainKernel) (turns : List TickInput) → WellFormed k → Stands (code_of self.old) k → HasRun self.old turns
-            → HasOutputs result → outputs.new ≡ (tick k budget (state_after k Fresh turns) row.now).outputs }
-        ensures reply { (jobs : List Job) → HasJobs self.old jobs
-            → HasOutcome (code_of self.old) (jobs ++ job_of (code_of self.old).shape self.old.root row.now budget ∷ []) result outputs.new }
-        ensures stay { LacksOutputs result → outputs.new ≡ outputs.old }
-        ensures live { is_live self.new ≡ goes_on result }
-        ensures jobs { HasJobMore self.old self.new (job_of (code_of self.old).shape self.old.root row.now budget) }
-        ensures rest { (k : ℕ) → k < length self.new.mail.ends → ChildIs self.new.mail k false }
-        ensures taken { (k : ℕ) → k < length self.new.mail.ends → taken self.new.mail k ≡ sent self.new.mail k }
-        ensures grown { Grown self.old.mail self.new.mail }
-        ensures rope { self.new.rope ≡ self.old.rope }
+    /// Whether thread 0 is one of its threads.
+    pub fn has_root(&self) -> bool
+        ensures { result ≡ is_here self.now 0 }
     {
-        let Host {
-            scheduler,
-            root,
-            live,
-            ..
-        } = self;
-        let code = scheduler.code;
-        write_job(root, code.shape(), row, budget);
-        scheduler.work(gate, root);
-        let outcome = write_outcome(root, code.shape(), outputs);
-        *live = matches!(outcome, Outcome::Paused);
-        outcome
+        is_among(self.scheduler.places[0], &self.cores)
     }
 
     /// Takes one job, or goes on with one thread that waits at a fork and whose branches have all replied,
@@ -188,8 +149,10 @@ impl<'c, P: Port<ForecWork> + Drop> Host<'c, P> {
     /// It begins after the mailbox that was served last, so that each has its turn; no clause says so. Thread 0
     /// works in ticks alone; its branches' replies stay where they are.
     pub fn serve<G: Gate>(&mut self, gate: &G) -> Served
-        ensures worked { (k : ℕ) → result ≡ Served.Worked k → HasWorked (code_of self.old).shape self.old.mail self.new.mail k }
-        ensures mine { (k : ℕ) → result ≡ Served.Worked k → (k < length self.old.mail.ends) × (is_here self.old (suc k) ≡ true) }
+        ensures worked { (k : ℕ) → result ≡ Served.Worked k
+            → HasWorked (code_of self.old).shape self.old.mail self.new.mail k }
+        ensures mine { (k : ℕ) → result ≡ Served.Worked k → (k < length self.old.mail.ends)
+            × (is_here self.old (suc k) ≡ true) }
         ensures nothing { result ≡ Served.Nothing → AreIdleHere self.old self.new }
         ensures code { self.new.code ≡ self.old.code }
         ensures places { self.new.places ≡ self.old.places }
@@ -257,7 +220,8 @@ impl<'c, P: Port<ForecWork> + Drop> Host<'c, P> {
     /// in the ticks so far, for each other thread that rests in the jobs that were taken.
     pub fn posts(&self)
         ensures root { (jobs : List Job) → HasJobs self.now jobs → HasPosted (code_of self.now) 0 self.now.mail jobs }
-        ensures taken { (k : ℕ) → k < length self.now.mail.ends → ChildIs self.now.mail k false → HasPostedTaken (code_of self.now) self.now.mail k }
+        ensures taken { (k : ℕ) → k < length self.now.mail.ends → ChildIs self.now.mail k false
+            → HasPostedTaken (code_of self.now) self.now.mail k }
     {
         let _ = &self.scheduler;
     }

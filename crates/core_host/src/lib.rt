@@ -1,27 +1,9 @@
-//! The threads of some cores, over mailboxes: a host runs the ticks of a program, by itself or beside other hosts, or serves single jobs.
+//! The hosts of some cores: each runs its threads, tick by tick, by itself or beside other hosts.
 #![tactic(auto)]
 
-mod active;
-mod boxed;
-mod descend;
-mod hints;
 mod host;
-mod job;
-mod load;
-mod local;
-mod outcome;
-mod round;
-mod scheduler;
-mod seat;
-mod serve;
 mod tick;
-mod work;
 mod worker;
 
-pub use boxed::Boxed;
 pub use host::{Host, Served};
-pub use job::write_job;
-pub use local::{blanks, local_port};
-pub use outcome::write_outcome;
-pub use work::{ForecWork, Told};
-pub use worker::{Crew, Serve, Worker};
+pub use worker::{Crew, Worker};

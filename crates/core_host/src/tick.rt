@@ -1,333 +1,63 @@
-//! A tick beside hosts that are served.
-ghost use Rattle.std.specs.Prelude.{◌≡◌, ◌≤◌, ◌<◌, ◌++◌, ◌∷◌, [], ℕ, suc, List, Some, length, true, false};
-ghost use Rattle.forec_base.specs.declared.limits.TheConstants.{MAX_BUDGET};
-ghost use Rattle.forec_kernel.specs.Composed.{TickInput, state_after};
-ghost use Rattle.forec_kernel.specs.Engine.{Job, Answered};
-ghost use Rattle.forec_kernel.specs.Packed.{HasRoom, IsJob};
-ghost use Rattle.forec_kernel.specs.Shapes.{PlainKernel};
-ghost use Rattle.forec_kernel.specs.Ticks.{Fresh, tick, goes_on};
-ghost use Rattle.forec_kernel.specs.WellFormed.{WellFormed};
-ghost use Rattle.thread_code.specs.Alone.{Stands};
-ghost use Rattle.thread_code.specs.Valid.{of_shape};
-ghost use Rattle.combine_tree.specs.Plain.{plain_packet};
-ghost use Rattle.core_machine.specs.declared.thread.Thread.{Thread as PlainThread};
-ghost use Rattle.core_machine.specs.Threads.{Loaded, CanBegin, CanRun, HasReply};
-ghost use Rattle.core_machine.specs.Replies.{Replies_by};
-ghost use Rattle.core_host.specs.Changes.{Grown};
-ghost use Rattle.core_host.specs.Ending.{HasRepliedTo};
-ghost use Rattle.core_host.specs.Hosted.{code_of, is_here, is_live};
-ghost use Rattle.core_host.specs.Hung.{KeepsRope};
-ghost use Rattle.core_host.specs.Jobs.{job_of};
-ghost use Rattle.core_host.specs.Keeping.{code_in, IsSeated, Sits, HasPacket, AtFork};
-ghost use Rattle.core_host.specs.OnJob.{IsOnJob, KeepsOthers};
-ghost use Rattle.core_host.specs.Outcomes.{HasOutputs, LacksOutputs, HasOutcome};
-ghost use Rattle.core_host.specs.Posts.{IsBranchOf};
-ghost use Rattle.core_host.specs.Rests.{RootRests};
-ghost use Rattle.core_host.specs.Rounds.{AllIdle, CanServe, IsIdleAt, IsSameRound, SomeWorked};
-ghost use Rattle.core_host.specs.Runs.{HasJobMore, HasJobs, HasRun};
-ghost use Rattle.core_host.specs.Serving.{AllMissed, KeepsServing};
-ghost use Rattle.core_host.specs.Waiting.{HasChild, HasTold, IsForked, IsBetween, IsVacant, IsGathering, HasReplies};
+//! Ticks of a host, by itself or beside others that are served.
+ghost use Rattle.std.specs.Prelude.{◌≡◌, ◌<◌, ℕ, length, true, false};
+ghost use Rattle.copy_slots.specs.Ports.{sent, taken, ChildIs};
+ghost use Rattle.tick_jobs.specs.Ticks.{CanTick, RunsTick};
+ghost use Rattle.core_host.specs.Hosted.{is_here, IsSameHost, IsWhole};
+ghost use Rattle.core_host.specs.Runs.{ticking};
 
 use crate::host::Host;
-use crate::job::write_job;
-use crate::outcome::write_outcome;
-use crate::round::{Round, index_at};
-use crate::scheduler::Scheduler;
-use crate::work::ForecWork;
-use crate::worker::{Crew, Serve};
-use combine_tree::Packet;
 use copy_slots::Port;
-use core_machine::{Event, Thread};
+use core_seats::{ForecWork, Serve};
 use forec_base::Gate;
 use forec_kernel::Outcome;
 use std::sync::Wait;
-
-impl<'c, P: Port<ForecWork> + Drop> Scheduler<'c, P> {
-    /// Serves the mailbox at this place of the round, with the branches of its thread that are here, and hints to those to whom they sent.
-    /// Returns whether there was something to do.
-    fn serve_at<R: Wait, G: Gate>(
-        &mut self,
-        rt: &R,
-        gate: &G,
-        place: usize,
-        round: &mut Round<'c>,
-    ) -> bool
-        requires seated { IsSeated self.old }
-        requires round { CanServe self.old round.old }
-        requires place { place < length round.old.own.items }
-        ensures keeps { KeepsServing self.old self.new }
-        ensures round { IsSameRound round.old round.new }
-        ensures worked { result ≡ true → SomeWorked round.old.own.items self.old self.new }
-        ensures missed { result ≡ false → AllMissed self.old self.new }
-        ensures idle { result ≡ false → IsIdleAt round.old.own.items place self.old self.new }
-    {
-        let mailbox = round.own[place];
-        if !self.serve_down(rt, gate, mailbox, round) {
-            return false;
-        }
-        self.hint(rt, mailbox, round);
-        true
-    }
-
-    /// Serves a mailbox, if it is one of the round. Returns whether there was something to do.
-    fn serve_named<R: Wait, G: Gate>(
-        &mut self,
-        rt: &R,
-        gate: &G,
-        mailbox: u32,
-        round: &mut Round<'c>,
-    ) -> bool
-        requires seated { IsSeated self.old }
-        requires round { CanServe self.old round.old }
-        ensures keeps { KeepsServing self.old self.new }
-        ensures round { IsSameRound round.old round.new }
-        ensures worked { result ≡ true → SomeWorked round.old.own.items self.old self.new }
-        ensures missed { result ≡ false → AllMissed self.old self.new }
-    {
-        match round.own.binary_search(&mailbox) {
-            Ok(place) => self.serve_at(rt, gate, place, round),
-            Err(_) => false,
-        }
-    }
-
-    /// Serves the mailboxes that hints name, until there is no hint. Returns whether there was something to do.
-    fn serve_hinted<R: Wait, G: Gate>(&mut self, rt: &R, gate: &G, round: &mut Round<'c>) -> bool
-        requires seated { IsSeated self.old }
-        requires round { CanServe self.old round.old }
-        ensures keeps { KeepsServing self.old self.new }
-        ensures round { IsSameRound round.old round.new }
-        ensures worked { result ≡ true → SomeWorked round.old.own.items self.old self.new }
-        ensures missed { result ≡ false → AllMissed self.old self.new }
-    {
-        let mut found = false;
-        for _ in rt.forever() {
-            let Some(mailbox) = round.hint(rt) else {
-                return found;
-            };
-            found |= self.serve_named(rt, gate, mailbox, round);
-        }
-        unreachable!()
-    }
-
-    /// Serves each mailbox of the round once, upwards and downwards in turn: upwards a thread comes before its branches, which it
-    /// gives jobs; downwards it comes after them, when they have replied. Returns whether there was something to do.
-    fn sweep<R: Wait, G: Gate>(&mut self, rt: &R, gate: &G, round: &mut Round<'c>) -> bool
-        requires seated { IsSeated self.old }
-        requires round { CanServe self.old round.old }
-        ensures keeps { KeepsServing self.old self.new }
-        ensures round { IsSameRound round.old round.new }
-        ensures worked { result ≡ true → SomeWorked round.old.own.items self.old self.new }
-        ensures idle { result ≡ false → AllIdle round.old.own.items self.old self.new }
-    {
-        let count = round.own.len();
-        let up = round.up;
-        let mut found = false;
-        for k in 0..count {
-            found |= self.serve_at(rt, gate, index_at(k, count, up), round);
-        }
-        round.up = !up;
-        found
-    }
-
-    /// Serves the mailboxes that hints name, and then each mailbox of the round once. Returns whether there was something to do.
-    pub(crate) fn serve_sweep<R: Wait, G: Gate>(
-        &mut self,
-        rt: &R,
-        gate: &G,
-        round: &mut Round<'c>,
-    ) -> bool
-        requires seated { IsSeated self.old }
-        requires round { CanServe self.old round.old }
-        ensures keeps { KeepsServing self.old self.new }
-        ensures round { IsSameRound round.old round.new }
-        ensures worked { result ≡ true → SomeWorked round.old.own.items self.old self.new }
-        ensures idle { result ≡ false → AllIdle round.old.own.items self.old self.new }
-    {
-        let hinted = self.serve_hinted(rt, gate, round);
-        let swept = self.sweep(rt, gate, round);
-        hinted || swept
-    }
-
-    /// Waits until all branches of the thread's fork have replied, and serves meanwhile. It gathers only after a sweep, since each
-    /// time it begins at the first branch. It never sleeps where there are others to serve.
-    fn await_replies<R: Wait, O: Serve, G: Gate>(
-        &mut self,
-        rt: &R,
-        gate: &G,
-        round: &mut Round<'c>,
-        others: &mut O,
-        thread: &Thread,
-    )
-        requires seated { IsSeated self.old }
-        requires round { CanServe self.old round.old }
-        requires root { thread.now.number ≡ 0 }
-        requires gathering { (pairs : List Answered) × IsGathering self.old thread.now pairs }
-        ensures keeps { KeepsOthers self.old self.new }
-        ensures round { IsSameRound round.old round.new }
-        ensures all { (pairs : List Answered) → IsGathering self.old thread.now pairs → HasReplies self.new thread.now pairs }
-    {
-        let mut looks = 0;
-        for _ in rt.forever() {
-            let mine = self.serve_sweep(rt, gate, round);
-            let theirs = others.serve(rt);
-            if self.gather_replies(thread) {
-                return;
-            }
-            looks = round.rest(rt, mine || theirs, others.is_empty(), looks);
-        }
-        unreachable!()
-    }
-
-    /// Serves the thread's fork, and waits until all branches have replied.
-    fn await_fork<R: Wait, O: Serve, G: Gate>(
-        &mut self,
-        rt: &R,
-        gate: &G,
-        round: &mut Round<'c>,
-        others: &mut O,
-        thread: &Thread,
-    )
-        requires seated { IsSeated self.old }
-        requires round { CanServe self.old round.old }
-        requires root { thread.now.number ≡ 0 }
-        requires fork { AtFork self.old thread.now }
-        requires forked { IsForked (code_in self.old) thread.now }
-        requires told { (pairs : List Answered) × HasTold self.old thread.now.number pairs [] }
-        ensures keeps { KeepsOthers self.old self.new }
-        ensures round { IsSameRound round.old round.new }
-        ensures all { (pairs : List Answered) → HasTold self.old thread.now.number pairs [] → HasReplies self.new thread.now pairs }
-    {
-        if !self.serve_fork(rt, gate, thread, round) {
-            self.await_replies(rt, gate, round, others, thread);
-        }
-    }
-
-    /// Runs thread 0, which has begun a job, until it has its reply.
-    fn finish_beside<R: Wait, O: Serve, G: Gate>(
-        &mut self,
-        rt: &R,
-        gate: &G,
-        round: &mut Round<'c>,
-        others: &mut O,
-        thread: &mut Thread,
-    )
-        requires seated { IsSeated self.old }
-        requires round { CanServe self.old round.old }
-        requires root { thread.old.number ≡ 0 }
-        requires loaded { Loaded (code_in self.old) thread.old }
-        requires running { CanRun thread.old }
-        requires begun { (jobs : List Job) × (job : Job) × IsOnJob self.old thread.old jobs job }
-        ensures keeps { KeepsOthers self.old self.new }
-        ensures round { IsSameRound round.old round.new }
-        ensures root { thread.new.number ≡ 0 }
-        ensures loaded { Loaded (code_in self.old) thread.new }
-        ensures reply { HasReply thread.new }
-        ensures done { (jobs : List Job) (job : Job) → IsOnJob self.old thread.old jobs job → IsOnJob self.new thread.new jobs job }
-    {
-        for _ in rt.forever() {
-            let Event::Fork = thread.run(self.code) else {
-                return;
-            };
-            self.await_fork(rt, gate, round, others, thread);
-            self.settle(thread);
-            self.join(thread);
-        }
-        unreachable!()
-    }
-
-    /// Has thread 0 do the job in this packet, and serves these mailboxes and the others while it waits for its branches.
-    /// The packet is then its reply.
-    pub(crate) fn work_beside<R: Wait, O: Serve, G: Gate>(
-        &mut self,
-        rt: &R,
-        gate: &G,
-        round: &mut Round<'c>,
-        others: &mut O,
-        packet: &mut Packet,
-    )
-        requires seated { IsSeated self.old }
-        requires round { CanServe self.old round.old }
-        requires root { RootRests self.old }
-        requires packets { (k : ℕ) → k < length self.old.mail.ends → IsBranchOf (code_in self.old).shape 0 k → HasPacket self.old k }
-        requires job { (t : PlainThread) → Sits self.old 0 t → CanBegin t packet.old.kind }
-        requires is { (job : Job) × IsJob (plain_packet packet.old) job }
-        requires room { HasRoom (of_shape (code_in self.old).shape) 0 (plain_packet packet.old) }
-        requires small { packet.old.allowance ≤ MAX_BUDGET }
-        ensures seated { IsSeated self.new }
-        ensures code { self.new.code ≡ self.old.code }
-        ensures places { self.new.places ≡ self.old.places }
-        ensures keeper { self.new.mail.root ≡ self.old.mail.root }
-        ensures round { IsSameRound round.old round.new }
-        ensures here { (k : ℕ) → HasChild self.old.mail k → HasChild self.new.mail k }
-        ensures was_here { (k : ℕ) → HasChild self.new.mail k → HasChild self.old.mail k }
-        ensures between { (k : ℕ) → IsBetween self.old k → IsBetween self.new k }
-        ensures vacant { (k : ℕ) → IsVacant self.old (suc k) → IsVacant self.new (suc k) }
-        ensures root { RootRests self.new }
-        ensures packets { (k : ℕ) → k < length self.new.mail.ends → IsBranchOf (code_in self.old).shape 0 k → HasPacket self.new k }
-        ensures grown { Grown self.old.mail self.new.mail }
-        ensures room { HasRoom (of_shape (code_in self.old).shape) 0 (plain_packet packet.new) }
-        ensures kind { (t : PlainThread) → Sits self.new 0 t → Replies_by t packet.new.kind }
-        ensures replied { HasRepliedTo self.old self.new (plain_packet packet.old) (plain_packet packet.new) }
-    {
-        let Some(mut seated) = self.seats[0].thread.take() else {
-            unreachable!()
-        };
-        let thread: &mut Thread = &mut seated;
-        thread.begin(self.code, packet);
-        self.finish_beside(rt, gate, round, others, thread);
-        thread.reply(self.code, packet);
-        self.seats[0].thread = Some(seated);
-    }
-}
+use tick_jobs::{write_job, write_outcome};
 
 impl<'c, P: Port<ForecWork> + Drop> Host<'c, P> {
+    /// Runs one tick, by itself: the inputs get the values of the row, in order of declaration. Where the tick
+    /// pauses or ends the outputs are written, in order of declaration; else they stay as they were. It takes
+    /// no memory, and through each mailbox go exactly the tick's jobs and replies, however it ends.
+    pub fn alone<G: Gate>(
+        &mut self,
+        row: &[i32],
+        budget: u64,
+        gate: &G,
+        outputs: &mut [i32],
+    ) -> Outcome
+        requires whole { IsWhole self.old }
+        requires can { CanTick (ticking self.old) row.now budget outputs.old }
+        ensures runs { RunsTick (ticking self.old) (ticking self.new) row.now budget result outputs.old outputs.new }
+        ensures same { IsSameHost self.old self.new }
+        ensures rope { self.new.rope ≡ self.old.rope }
+        ensures whole { IsWhole self.new }
+        ensures rest { (k : ℕ) → k < length self.new.mail.ends → ChildIs self.new.mail k false }
+        ensures taken { (k : ℕ) → k < length self.new.mail.ends → taken self.new.mail k ≡ sent self.new.mail k }
+    {
+        let Host {
+            scheduler,
+            root,
+            live,
+            ..
+        } = self;
+        let code = scheduler.code;
+        write_job(root, code.shape(), row, budget);
+        scheduler.work(gate, root);
+        let outcome = write_outcome(root, code.shape(), outputs);
+        *live = matches!(outcome, Outcome::Paused);
+        outcome
+    }
+
     /// Runs one tick beside hosts that other OS threads run: the inputs get the values of the row, in order of declaration. Where the
     /// tick pauses or ends the outputs are written, in order of declaration; else they stay as they were. While thread 0
-    /// waits for its branches, the threads of this host are served, and those of the `others`, which no OS thread runs. It takes no memory.
+    /// waits for its branches, the threads of this host are served, and the `others`, which no OS thread runs: a slice of hosts
+    /// ([`Crew`](crate::worker::Crew)), or whatever else can be served. It takes no memory.
     ///
     /// A host with a rope hints to the cores to which it sends, and looks first where it is hinted to. After some time in
     /// which there was nothing to do its core sleeps until it is woken, but never where there are `others`. What is hinted, and
     /// that a sleeping core is woken, no clause says.
     ///
-    /// Through the mailboxes of thread 0's branches go exactly the tick's jobs and replies, however the tick ends. The outcome
-    /// and the outputs are those of a reply that the code's thread 0 gives to the jobs of the ticks so far; where the code
-    /// stands for a kernel they are the kernel's.
-    pub fn tick<R: Wait, G: Gate>(
-        &mut self,
-        rt: &R,
-        row: &[i32],
-        budget: u64,
-        others: &mut [Host<'c, P>],
-        gate: &G,
-        outputs: &mut [i32],
-    ) -> Outcome
-        requires here { is_here self.old 0 ≡ true }
-        requires live { is_live self.old ≡ true }
-        requires row { length row.now ≡ length (code_of self.old).shape.inputs }
-        requires outputs { length outputs.old ≡ length (code_of self.old).shape.outputs }
-        requires small { budget ≤ MAX_BUDGET }
-        ensures code { self.new.code ≡ self.old.code }
-        ensures places { self.new.places ≡ self.old.places }
-        ensures cores { self.new.cores ≡ self.old.cores }
-        ensures turns { (turns : List TickInput) → HasRun self.old turns → HasRun self.new (turns ++ record { row = row.now; budget = budget } ∷ []) }
-        ensures outcome { (k : PlainKernel) (turns : List TickInput) → WellFormed k → Stands (code_of self.old) k → HasRun self.old turns
-            → result ≡ (tick k budget (state_after k Fresh turns) row.now).outcome }
-        ensures outputs { (k : PlainKernel) (turns : List TickInput) → WellFormed k → Stands (code_of self.old) k → HasRun self.old turns
-            → HasOutputs result → outputs.new ≡ (tick k budget (state_after k Fresh turns) row.now).outputs }
-        ensures reply { (jobs : List Job) → HasJobs self.old jobs
-            → HasOutcome (code_of self.old) (jobs ++ job_of (code_of self.old).shape self.old.root row.now budget ∷ []) result outputs.new }
-        ensures stay { LacksOutputs result → outputs.new ≡ outputs.old }
-        ensures live { is_live self.new ≡ goes_on result }
-        ensures jobs { HasJobMore self.old self.new (job_of (code_of self.old).shape self.old.root row.now budget) }
-        ensures grown { Grown self.old.mail self.new.mail }
-        ensures rope { KeepsRope self.old.rope self.new.rope }
-    {
-        let mut crew = Crew::new(others, gate);
-        self.tick_beside(rt, row, budget, &mut crew, gate, outputs)
-    }
-
-    /// [`Host::tick`], where the others are whatever can be served.
-    pub fn tick_beside<R: Wait, O: Serve, G: Gate>(
+    /// Through the mailboxes of thread 0's branches go exactly the tick's jobs and replies, however the tick ends.
+    pub fn tick<R: Wait, O: Serve, G: Gate>(
         &mut self,
         rt: &R,
         row: &[i32],
@@ -337,25 +67,10 @@ impl<'c, P: Port<ForecWork> + Drop> Host<'c, P> {
         outputs: &mut [i32],
     ) -> Outcome
         requires here { is_here self.old 0 ≡ true }
-        requires live { is_live self.old ≡ true }
-        requires row { length row.now ≡ length (code_of self.old).shape.inputs }
-        requires outputs { length outputs.old ≡ length (code_of self.old).shape.outputs }
-        requires small { budget ≤ MAX_BUDGET }
-        ensures code { self.new.code ≡ self.old.code }
-        ensures places { self.new.places ≡ self.old.places }
-        ensures cores { self.new.cores ≡ self.old.cores }
-        ensures turns { (turns : List TickInput) → HasRun self.old turns → HasRun self.new (turns ++ record { row = row.now; budget = budget } ∷ []) }
-        ensures outcome { (k : PlainKernel) (turns : List TickInput) → WellFormed k → Stands (code_of self.old) k → HasRun self.old turns
-            → result ≡ (tick k budget (state_after k Fresh turns) row.now).outcome }
-        ensures outputs { (k : PlainKernel) (turns : List TickInput) → WellFormed k → Stands (code_of self.old) k → HasRun self.old turns
-            → HasOutputs result → outputs.new ≡ (tick k budget (state_after k Fresh turns) row.now).outputs }
-        ensures reply { (jobs : List Job) → HasJobs self.old jobs
-            → HasOutcome (code_of self.old) (jobs ++ job_of (code_of self.old).shape self.old.root row.now budget ∷ []) result outputs.new }
-        ensures stay { LacksOutputs result → outputs.new ≡ outputs.old }
-        ensures live { is_live self.new ≡ goes_on result }
-        ensures jobs { HasJobMore self.old self.new (job_of (code_of self.old).shape self.old.root row.now budget) }
-        ensures grown { Grown self.old.mail self.new.mail }
-        ensures rope { KeepsRope self.old.rope self.new.rope }
+        requires can { CanTick (ticking self.old) row.now budget outputs.old }
+        ensures runs { RunsTick (ticking self.old) (ticking self.new) row.now budget result outputs.old outputs.new }
+        ensures same { IsSameHost self.old self.new }
+        ensures others { O.kept others.new ≡ O.kept others.old }
     {
         let Host {
             scheduler,

@@ -1,29 +1,18 @@
 //! What works beside a tick: hosts without thread 0.
-ghost use Rattle.std.specs.Prelude.{◌≡◌, ◌<◌, ℕ, suc, List, IfOk, IfErr, true, false};
+ghost use Rattle.std.specs.Prelude.{◌≡◌, ◌<◌, ℕ, suc, List, IfOk, IfErr, map, true, false};
 ghost use Rattle.forec_kernel.specs.Composed.{TickInput};
 ghost use Rattle.forec_kernel.specs.Engine.{Job};
 ghost use Rattle.copy_slots.specs.Ports.{after_stop, after_check};
-ghost use Rattle.core_host.specs.Changes.{Grown, Looked, HasProgressed, HasWorked};
-ghost use Rattle.core_host.specs.Hosted.{code_of, is_here};
-ghost use Rattle.core_host.specs.Hung.{KeepsRope};
+ghost use Rattle.core_seats.specs.Changes.{Grown, Looked, HasProgressed};
+ghost use Rattle.core_host.specs.Hosted.{code_of, is_here, standing, IsSameHost};
 ghost use Rattle.core_host.specs.Runs.{AreIdleHere, HasJobs, HasRun};
 
-use crate::host::{Host, Served};
-use crate::load::is_among;
-use crate::work::ForecWork;
+use crate::host::Host;
 use copy_slots::Port;
+use core_seats::{ForecWork, Serve};
 use forec_base::Gate;
 use std::marker::Model;
 use std::sync::Wait;
-
-/// What is served where nobody else runs it.
-pub trait Serve {
-    /// Does something, if there is anything to do, and hints to those to whom it sent. Returns whether there was something to do.
-    fn serve<R: Wait>(&mut self, rt: &R) -> bool;
-
-    /// Returns whether there is nobody to serve.
-    fn is_empty(&self) -> bool;
-}
 
 /// Hosts that nobody runs.
 #[derive(Drop)]
@@ -34,12 +23,20 @@ pub struct Crew<'h, 'g, 'c, P: Port<ForecWork> + Drop, G: Gate> {
 
 impl<'h, 'g, 'c, P: Port<ForecWork> + Drop, G: Gate> Crew<'h, 'g, 'c, P, G> {
     /// These hosts, which pass this gate.
-    pub fn new(hosts: &'h mut [Host<'c, P>], gate: &'g G) -> Crew<'h, 'g, 'c, P, G> {
+    pub fn new(hosts: &'h mut [Host<'c, P>], gate: &'g G) -> Crew<'h, 'g, 'c, P, G>
+        ensures same_reference { result.hosts.ghost_name ≡ hosts.entry.ghost_name }
+        ensures hosts { result.hosts.now ≡ hosts.old }
+    {
         Crew { hosts, gate }
     }
 }
 
 impl<'h, 'g, 'c, P: Port<ForecWork> + Drop, G: Gate> Serve for Crew<'h, 'g, 'c, P, G> {
+    ghost use Rattle.std.specs.Prelude.{map};
+    ghost use Rattle.core_host.specs.Hosted.{standing};
+
+    ghost kept = { λ c. record { borrow = c.hosts.ghost_name; hosts = map standing c.hosts.now } };
+
     /// Serves each of the hosts once.
     fn serve<R: Wait>(&mut self, rt: &R) -> bool {
         let gate = self.gate;
@@ -56,34 +53,24 @@ fn serve_each<R: Wait, P: Port<ForecWork> + Drop, G: Gate>(
     rt: &R,
     hosts: &mut [Host<'_, P>],
     gate: &G,
-) -> bool {
+) -> bool
+    ensures { map standing hosts.new ≡ map standing hosts.old }
+{
     let mut worked = false;
-    for host in hosts.iter_mut() {
-        if host.serve_beside(rt, gate) {
-            worked = true;
-        }
+    for at in 0..hosts.len() {
+        worked |= hosts[at].serve_beside(rt, gate);
     }
     worked
 }
 
 impl<'c, P: Port<ForecWork> + Drop> Host<'c, P> {
-    /// Whether thread 0 is one of its threads.
-    pub fn has_root(&self) -> bool
-        ensures { result ≡ is_here self.now 0 }
-    {
-        is_among(self.scheduler.places[0], &self.cores)
-    }
-
     /// Serves the mailboxes that hints name, then sweeps once over all of its own, and hints to those to whom it sent. Returns whether
     /// there was something to do.
     pub(crate) fn serve_beside<R: Wait, G: Gate>(&mut self, rt: &R, gate: &G) -> bool
-        ensures worked { result ≡ true → (k : ℕ) × (is_here self.old (suc k) ≡ true) × HasProgressed (code_of self.old).shape self.old.mail self.new.mail k }
+        ensures worked { result ≡ true → (k : ℕ) × (is_here self.old (suc k) ≡ true)
+            × HasProgressed (code_of self.old).shape self.old.mail self.new.mail k }
         ensures nothing { result ≡ false → AreIdleHere self.old self.new }
-        ensures code { self.new.code ≡ self.old.code }
-        ensures places { self.new.places ≡ self.old.places }
-        ensures cores { self.new.cores ≡ self.old.cores }
-        ensures grown { Grown self.old.mail self.new.mail }
-        ensures rope { KeepsRope self.old.rope self.new.rope }
+        ensures same { IsSameHost self.old self.new }
     {
         let Host {
             scheduler,
@@ -120,13 +107,10 @@ impl<'c, P: Port<ForecWork> + Drop> Host<'c, P> {
     /// A host with a rope sleeps after some time in which there was nothing to do, until it is woken; else it looks all
     /// the time.
     pub fn run<R: Wait, G: Gate>(self, rt: &R, gate: &G) -> Host<'c, P>
-        requires lacks { is_here self 0 ≡ false }
+        requires { is_here self 0 ≡ false }
+        ensures lacks { is_here result 0 ≡ false }
         ensures stopped { Looked 1 self.entry.mail.stops result.mail.stops }
-        ensures code { result.code ≡ self.entry.code }
-        ensures places { result.places ≡ self.entry.places }
-        ensures cores { result.cores ≡ self.entry.cores }
-        ensures grown { Grown self.entry.mail result.mail }
-        ensures rope { KeepsRope self.entry.rope result.rope }
+        ensures same { IsSameHost self.entry result }
     {
         let mut host = self;
         let mut looks = 0;
@@ -177,52 +161,23 @@ impl<'c, P: Port<ForecWork> + Drop> Worker<'c, P> {
         Ok(Worker { host })
     }
 
-    /// Serves one of its mailboxes, as [`Host::serve`] does.
-    pub fn serve<G: Gate>(&mut self, gate: &G) -> Served
-        ensures worked { (k : ℕ) → result ≡ Served.Worked k → HasWorked (code_of self.old).shape self.old.mail self.new.mail k }
-        ensures nothing { result ≡ Served.Nothing → AreIdleHere self.old self.new }
-        ensures code { self.new.code ≡ self.old.code }
-        ensures places { self.new.places ≡ self.old.places }
-        ensures cores { self.new.cores ≡ self.old.cores }
-        ensures grown { Grown self.old.mail self.new.mail }
-        ensures rope { self.new.rope ≡ self.old.rope }
-    {
-        self.host.serve(gate)
-    }
-
     /// Serves the mailboxes that hints name, then sweeps once over all of its own, and hints to those to whom it sent. Returns whether
     /// there was something to do.
     pub fn serve_beside<R: Wait, G: Gate>(&mut self, rt: &R, gate: &G) -> bool
-        ensures worked { result ≡ true → (k : ℕ) × (is_here self.old (suc k) ≡ true) × HasProgressed (code_of self.old).shape self.old.mail self.new.mail k }
+        ensures worked { result ≡ true → (k : ℕ) × (is_here self.old (suc k) ≡ true)
+            × HasProgressed (code_of self.old).shape self.old.mail self.new.mail k }
         ensures nothing { result ≡ false → AreIdleHere self.old self.new }
-        ensures code { self.new.code ≡ self.old.code }
-        ensures places { self.new.places ≡ self.old.places }
-        ensures cores { self.new.cores ≡ self.old.cores }
-        ensures grown { Grown self.old.mail self.new.mail }
-        ensures rope { KeepsRope self.old.rope self.new.rope }
+        ensures same { IsSameHost self.old self.new }
     {
         self.host.serve_beside(rt, gate)
     }
 
-    /// Serves, as [`Host::run`] does, and returns the host once it has loaded a stop word 1.
-    pub fn run<R: Wait, G: Gate>(self, rt: &R, gate: &G) -> Worker<'c, P>
-        ensures stopped { Looked 1 self.entry.mail.stops result.mail.stops }
-        ensures code { result.code ≡ self.entry.code }
-        ensures places { result.places ≡ self.entry.places }
-        ensures cores { result.cores ≡ self.entry.cores }
-        ensures grown { Grown self.entry.mail result.mail }
-        ensures rope { KeepsRope self.entry.rope result.rope }
-    {
-        Worker {
-            host: self.host.run(rt, gate),
-        }
-    }
-
-    /// Its host, which lacks thread 0.
-    pub fn into_host(self) -> Host<'c, P>
-        ensures same { result ≡ self.entry }
+    /// Serves, as [`Host::run`] does, and returns its host once that has loaded a stop word 1.
+    pub fn run<R: Wait, G: Gate>(self, rt: &R, gate: &G) -> Host<'c, P>
         ensures lacks { is_here result 0 ≡ false }
+        ensures stopped { Looked 1 self.entry.mail.stops result.mail.stops }
+        ensures same { IsSameHost self.entry result }
     {
-        self.host
+        self.host.run(rt, gate)
     }
 }

@@ -8,7 +8,8 @@ use board_hosts::{Hosts, board_of, hosts_of};
 use copy_slots::Port;
 use core_alloc::given;
 use core_bells::Bells;
-use core_host::{ForecWork, Host};
+use core_host::{Host, Worker};
+use core_seats::{ForecWork, Serve};
 use forec_base::OpenGate;
 use forec_kernel::Outcome;
 use std::alloc::Global;
@@ -26,11 +27,36 @@ void main(void) { par(a, b); }
 /// How a tick ends, and the output then. Before each tick the output has the value 7.
 pub type Told = (Outcome, i32);
 
+/// Workers that no OS thread runs.
+struct Waiting<'c, P: Port<ForecWork> + Drop> {
+    workers: Vec<Worker<'c, P>>,
+}
+
+impl<'c, P: Port<ForecWork> + Drop> Serve for Waiting<'c, P> {
+    ghost use Rattle.std.specs.Prelude.{[]};
+
+    ghost kept = { λ w. record { borrow = 0; hosts = [] } };
+
+    fn serve<R: Wait>(&mut self, rt: &R) -> bool {
+        let mut worked = false;
+        for worker in self.workers.iter_mut() {
+            if worker.serve_beside(rt, &OpenGate) {
+                worked = true;
+            }
+        }
+        worked
+    }
+
+    fn is_empty(&self) -> bool {
+        self.workers.is_empty()
+    }
+}
+
 /// Runs a tick of a program without inputs, while the others are served.
-pub fn run_tick<'c, P: Port<ForecWork> + Drop, R: Wait>(
+pub fn run_tick<'c, P: Port<ForecWork> + Drop, O: Serve, R: Wait>(
     rt: &R,
     root: &mut Host<'c, P>,
-    others: &mut [Host<'c, P>],
+    others: &mut O,
     code: &Code,
 ) -> Option<Told>
     requires here { is_here root.old 0 ≡ true }
@@ -51,12 +77,13 @@ pub fn run_tick<'c, P: Port<ForecWork> + Drop, R: Wait>(
 fn two_ticks<'c, P: Port<ForecWork> + Drop, R: Wait>(
     rt: &R,
     mut root: Host<'c, P>,
-    mut others: Vec<Host<'c, P>>,
+    workers: Vec<Worker<'c, P>>,
     code: &'c Code,
 ) -> (Option<Told>, Option<Told>)
     requires here { is_here root 0 ≡ true }
     requires code { root.code ≡ code.now }
 {
+    let mut others = Waiting { workers };
     let first = run_tick(rt, &mut root, &mut others, code);
     let second = run_tick(rt, &mut root, &mut others, code);
     (first, second)
@@ -76,10 +103,6 @@ fn placed<R: Wait>(
     let mut board = board_of(alloc, code, &placement)?;
     let mut bells = Bells::new(alloc, code, &placement)?;
     let Hosts { root, others } = hosts_of(alloc, code, &placement, &mut board, &mut bells)?;
-    let others = others
-        .into_iter()
-        .map(|worker| worker.into_host())
-        .collect(alloc)?;
     Ok(two_ticks(rt, root, others, code))
 }
 

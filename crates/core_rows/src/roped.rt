@@ -9,7 +9,8 @@ use board_hosts::{Hosts, board_of, hosts_of};
 use copy_slots::Port;
 use core_alloc::given;
 use core_bells::Bells;
-use core_host::{ForecWork, Host, Worker};
+use core_host::{Crew, Host, Worker};
+use core_seats::ForecWork;
 use forec_base::OpenGate;
 use forec_kernel::Outcome;
 use std::alloc::Global;
@@ -36,16 +37,17 @@ fn lead<'c, P: Port<ForecWork> + Drop, R: Wait>(
     requires here { is_here root 0 ≡ true }
     requires code { root.code ≡ code.now }
 {
-    let first = run_tick(rt, &mut root, &mut [], code);
-    let second = run_tick(rt, &mut root, &mut [], code);
+    let mut nobody = [];
+    let mut crew = Crew::new(&mut nobody, &OpenGate);
+    let first = run_tick(rt, &mut root, &mut crew, code);
+    let second = run_tick(rt, &mut root, &mut crew, code);
     root.stop();
     (first, second, pushed(&root))
 }
 
 /// Runs a worker until it is stopped.
 fn work<P: Port<ForecWork> + Drop, R: Wait>(rt: &R, worker: Worker<'_, P>) -> Option<u64> {
-    let host = worker.run(rt, &OpenGate).into_host();
-    pushed(&host)
+    pushed(&worker.run(rt, &OpenGate))
 }
 
 /// Runs two ticks beside two workers.

@@ -1,5 +1,7 @@
-use Rattle.std.proofs.Common.{[], sym, ap, ◌∙◌}
-use Rattle.core_host.specs.Hosted.{Hosted, is_here, is_live}
+use Rattle.std.proofs.Common.{Some, [], sym, ap, ◌∙◌, subst}
+use Rattle.tick_jobs.specs.Ticks.{RanNone, HasRun}
+use Rattle.core_host.specs.Hosted.{Hosted, is_here}
+use Rattle.core_host.specs.Runs.{ticking}
 use Rattle.board_hosts.proofs.hosts.host_of.Goals as goal
 
 pub returns : goal.returns
@@ -7,10 +9,14 @@ returns c =
     let made = c.in_ok-host.ensures in
     let hung = c.hang.ensures.hung in
     record {
-      code = ap (λ (h : Hosted). h.code) hung ∙ made.code;
+      code = ap (λ (h : Hosted). h.code) hung ∙ made.code_is;
       places = ap (λ (h : Hosted). h.places) hung ∙ made.places;
-      cores = ap (λ (h : Hosted). h.cores) hung ∙ made.cores;
-      live = ap (λ (h : Hosted). is_live h) hung ∙ made.live;
-      none = λ e. c.hang.ensures.turns [] (made.none (sym (ap (λ (h : Hosted). is_here h 0) hung) ∙ e));
-      jobs = λ e. c.hang.ensures.jobs [] (made.jobs (sym (ap (λ (h : Hosted). is_here h 0) hung) ∙ e));
+      cores = ap (λ (h : Hosted). h.cores) hung ∙ made.cores_are;
+      rope = ap (λ (h : Hosted). h.rope) hung ∙ ap Some c.requires.rope;
+      none = λ e. let none = made.none (sym (ap (λ (h : Hosted). is_here h 0) hung) ∙ e) in record {
+        live = ap (λ (h : Hosted). h.live) hung ∙ none.live;
+        blank = ap (λ (h : Hosted). h.root.kind) hung ∙ none.blank;
+        turns = c.hang.ensures.turns [] none.turns;
+        jobs = c.hang.ensures.jobs [] none.jobs;
+      };
     }

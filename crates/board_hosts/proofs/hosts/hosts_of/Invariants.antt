@@ -12,5 +12,5 @@ invariant-loop-core l = record {
   len : into_iter_len l.ports ≡ length (into_iter_items l.ports);
   roped : AreNewRopes l.code l.placement l.core (into_iter_items l.ropes);
   roped_len : into_iter_len l.ropes ≡ length (into_iter_items l.ropes);
-  made : AreMade l.code l.placement.places l.core l.made.root l.made.others.items;
+  made : AreMade l.code l.placement l.core l.made.root l.made.others.items;
 }

@@ -1,8 +1,8 @@
 use Rattle.std.proofs.Common.{◌≡◌, ◌<◌, [], ◌∷◌, ℕ, zero, suc, length, vec_len, refl, sym, ap, ◌∙◌, arith, rules, Result, Ok, Err, IfOk}
 use Rattle.std.proofs.lemmas.List.{length-map}
 use Rattle.std.specs.List.{All}
-use Rattle.core_host.specs.Hosted.{IsWhole}
-use Rattle.core_host.specs.Loads.{AreAll}
+use Rattle.core_seats.specs.Loads.{AreAll}
+use Rattle.tick_jobs.proofs.Lists.{ok_then}
 use Rattle.thread_code.specs.Plain.{plain_code, plain_block}
 use Rattle.core_rows.proofs.hosted.hosted.Goals as goal
 
@@ -15,10 +15,6 @@ no_others cores e (suc zero) h = refl
 no_others cores e (suc (suc zero)) h = refl
 no_others cores e (suc (suc (suc core))) h = absurd (omega (arith, e, h))
 
-given_both : {A E T U : Type 0} (P : A → Type 0) (r : Result A E) → IfOk r (λ h. T → U → P h) → T → U → IfOk r P
-given_both P (Ok h) f t u = f t u
-given_both P (Err e) f t u = f
-
 pub load-requires : goal.load-requires
 load-requires c =
     let same = ap (λ parts. vec_len parts.threads) c.parts.ensures.same in
@@ -27,4 +23,7 @@ load-requires c =
     c.in_ok-port.ensures.serves c.args.placement.now (0 ∷ 1 ∷ 2 ∷ []) placed refl (all_below c.args.placement.now.cores c.requires.cores) (no_others c.args.placement.now.cores c.requires.cores)
 
 pub returns-clause-whole : goal.returns-clause-whole
-returns-clause-whole c = given_both IsWhole c.load.result c.load.ensures.whole c.in_ok-port.ensures.tells (no_others c.args.placement.now.cores c.requires.cores)
+returns-clause-whole c = ok_then c.load.result c.load.ensures (λ h new. new.whole c.in_ok-port.ensures.tells (no_others c.args.placement.now.cores c.requires.cores))
+
+pub returns-clause-code : goal.returns-clause-code
+returns-clause-code c = ok_then c.load.result c.load.ensures (λ h new. new.code_is)

@@ -1,30 +1,31 @@
-use Rattle.std.proofs.Common.{rules, ◌≡◌, ◌<◌, length, ◌++◌, ◌∷◌, [], sym, ap, ◌∙◌, subst, arith}
+use Rattle.std.proofs.Common.{rules, ◌≡◌, ◌<◌, ◌≤◌, true, length, refl, sym, ap, ◌∙◌, subst, arith}
+use Rattle.forec_base.specs.declared.limits.TheConstants.{MAX_BUDGET}
 use Rattle.forec_kernel.specs.Shapes.{PlainShape, plain_shape}
 use Rattle.forec_kernel.specs.Texts.{uses_in}
 use Rattle.forec_kernel.specs.Ticks.{goes_on, values_of}
 use Rattle.forec_kernel.specs.Packed.{IsJob}
 use Rattle.thread_code.specs.declared.instruction.CodeParts.{CodeParts}
 use Rattle.thread_code.specs.Plain.{plain_code}
-use Rattle.thread_code.specs.Alone.{Stands}
 use Rattle.combine_tree.specs.Plain.{plain_packet}
 use Rattle.core_machine.specs.Threads.{CanBegin}
-use Rattle.core_host.specs.Jobs.{job_of}
-use Rattle.core_host.specs.Outcomes.{HasOutputs, HasOutcome}
-use Rattle.core_host.specs.Keeping.{State, code_in}
-use Rattle.core_host.specs.Hosted.{Hosted, hosted, code_of, IsWhole}
-use Rattle.core_host.specs.Runs.{HasJobs, HasTicked, HasRun}
-use Rattle.core_host.specs.Loads.{is_on}
+use Rattle.tick_jobs.specs.Jobs.{job_of}
+use Rattle.core_seats.specs.Keeping.{State, code_in}
+use Rattle.core_host.specs.Hosted.{Hosted, hosted, code_of, IsSameHost, IsWhole}
+use Rattle.core_host.specs.Runs.{ticking}
+use Rattle.tick_jobs.specs.Ticks.{RunsTick}
+use Rattle.core_seats.specs.Loads.{is_on}
 use Rattle.core_host.proofs.HostedLemmas.{hosted_seated}
-use Rattle.core_host.proofs.TickRun.{whole_here, quiet_rested, is_between, can_begin, replied_of, now_hosted, now_jobs, outcome_now, told_now, ticked_now}
-use Rattle.core_host.proofs.HostedLemmas.{rope_same}
+use Rattle.core_host.proofs.TickRun.{whole_here, quiet_rested, is_between, can_begin, now_hosted, ran}
+use Rattle.tick_jobs.proofs.Readiness.{replied_of}
+use Rattle.core_seats.proofs.RoundLemmas.{rope_same}
 use Rattle.core_host.proofs.host.Host.alone.Goals as goal
 
 pub write_job-requires-clause-between : goal.write_job-requires-clause-between
-write_job-requires-clause-between g c = is_between (hosted c.self.inside.scheduler c.self.inside.cores.items c.self.inside.root c.self.inside.live c.self.inside.round.rope) c.self.invariant (whole_here (hosted c.self.inside.scheduler c.self.inside.cores.items c.self.inside.root c.self.inside.live c.self.inside.round.rope) c.self.invariant (subst IsWhole (sym c.self.view_is) c.requires.whole)) (ap (λ (h : Hosted). h.live) c.self.view_is ∙ c.requires.live)
+write_job-requires-clause-between g c = is_between (hosted c.self.inside.scheduler c.self.inside.cores.items c.self.inside.root c.self.inside.live c.self.inside.round.rope) c.self.invariant (whole_here (hosted c.self.inside.scheduler c.self.inside.cores.items c.self.inside.root c.self.inside.live c.self.inside.round.rope) c.self.invariant (subst IsWhole (sym c.self.view_is) c.requires.whole)) (ap (λ (h : Hosted). h.live) c.self.view_is ∙ c.requires.can.live)
 
 pub work-requires-clause-job : goal.work-requires-clause-job
 work-requires-clause-job g c t sits =
-    subst (CanBegin t) (sym c.write_job.ensures.kind) (can_begin (hosted c.self.inside.scheduler c.self.inside.cores.items c.self.inside.root c.self.inside.live c.self.inside.round.rope) c.self.invariant (whole_here (hosted c.self.inside.scheduler c.self.inside.cores.items c.self.inside.root c.self.inside.live c.self.inside.round.rope) c.self.invariant (subst IsWhole (sym c.self.view_is) c.requires.whole)) (ap (λ (h : Hosted). h.live) c.self.view_is ∙ c.requires.live) t sits)
+    subst (CanBegin t) (sym c.write_job.ensures.kind) (can_begin (hosted c.self.inside.scheduler c.self.inside.cores.items c.self.inside.root c.self.inside.live c.self.inside.round.rope) c.self.invariant (whole_here (hosted c.self.inside.scheduler c.self.inside.cores.items c.self.inside.root c.self.inside.live c.self.inside.round.rope) c.self.invariant (subst IsWhole (sym c.self.view_is) c.requires.whole)) (ap (λ (h : Hosted). h.live) c.self.view_is ∙ c.requires.can.live) t sits)
 
 pub write_outcome-outcome-requires-clause-replied : goal.write_outcome-outcome-requires-clause-replied
 write_outcome-outcome-requires-clause-replied g c =
@@ -34,69 +35,9 @@ pub invariant_of-self : goal.invariant_of-self
 invariant_of-self g c =
     let shape : plain_shape c.shape.result.now ≡ (code_in c.self.inside.scheduler).shape = ap plain_shape c.shape.ensures.same ∙ ap (λ (s : State). (code_in s).shape) c.scheduler.view_is in
     let live : c.match-matches.live ≡ goes_on c.write_outcome-outcome.result = search rules in
-    now_hosted c.self.inside.scheduler c.work.new.self c.self.inside.cores.items c.self.inside.root c.work.new.packet c.write_job.new.packet c.self.inside.live c.match-matches.live c.self.inside.round.rope c.self.inside.round.rope c.self.invariant (ap (λ (h : Hosted). h.live) c.self.view_is ∙ c.requires.live)
+    now_hosted c.self.inside.scheduler c.work.new.self c.self.inside.cores.items c.self.inside.root c.work.new.packet c.write_job.new.packet c.self.inside.live c.match-matches.live c.self.inside.round.rope c.self.inside.round.rope c.self.invariant (ap (λ (h : Hosted). h.live) c.self.view_is ∙ c.requires.can.live)
     c.args.row.now c.args.budget (subst (λ s. IsJob (plain_packet c.write_job.new.packet) (job_of s c.self.inside.root c.args.row.now c.args.budget)) shape c.write_job.ensures.job)
     c.work.ensures.fitted.seated c.work.ensures.code c.work.ensures.places (rope_same c.self.inside.round.rope) (quiet_rested c.self.inside.scheduler c.work.new.self c.self.inside.cores.items c.self.inside.root c.self.inside.live c.self.inside.round.rope c.self.invariant c.work.ensures.places c.work.ensures.keeper c.work.ensures.quiet) c.work.ensures.root c.work.ensures.room c.work.ensures.kind c.work.ensures.replied c.write_outcome-outcome.result c.write_outcome-outcome.ensures.outcome live
-
-pub returns-clause-jobs : goal.returns-clause-jobs
-returns-clause-jobs g c jobs old =
-    let shape : plain_shape c.shape.result.now ≡ (code_in c.self.inside.scheduler).shape = ap plain_shape c.shape.ensures.same ∙ ap (λ (s : State). (code_in s).shape) c.scheduler.view_is in
-    let live : c.match-matches.live ≡ goes_on c.write_outcome-outcome.result = search rules in
-    let before = subst (λ h. HasJobs h jobs) (sym c.self.view_is) old in
-    let after = now_jobs c.self.inside.scheduler c.work.new.self c.self.inside.cores.items c.self.inside.root c.work.new.packet c.write_job.new.packet c.self.inside.live c.match-matches.live c.self.inside.round.rope c.self.inside.round.rope c.self.invariant (ap (λ (h : Hosted). h.live) c.self.view_is ∙ c.requires.live)
-    c.args.row.now c.args.budget (subst (λ s. IsJob (plain_packet c.write_job.new.packet) (job_of s c.self.inside.root c.args.row.now c.args.budget)) shape c.write_job.ensures.job)
-    c.work.ensures.fitted.seated c.work.ensures.code c.work.ensures.places (rope_same c.self.inside.round.rope) (quiet_rested c.self.inside.scheduler c.work.new.self c.self.inside.cores.items c.self.inside.root c.self.inside.live c.self.inside.round.rope c.self.invariant c.work.ensures.places c.work.ensures.keeper c.work.ensures.quiet) c.work.ensures.root c.work.ensures.room c.work.ensures.kind c.work.ensures.replied c.write_outcome-outcome.result c.write_outcome-outcome.ensures.outcome live jobs before in
-    subst (λ (h : Hosted). HasJobs (hosted c.work.new.self c.self.inside.cores.items c.work.new.packet c.match-matches.live c.self.inside.round.rope) (jobs ++ job_of (plain_shape h.code.shape) h.root c.args.row.now c.args.budget ∷ [])) c.self.view_is after
-
-pub returns-clause-turns : goal.returns-clause-turns
-unfolding HasRun
-returns-clause-turns g c turns run k fine stands =
-    let shape : plain_shape c.shape.result.now ≡ (code_in c.self.inside.scheduler).shape = ap plain_shape c.shape.ensures.same ∙ ap (λ (s : State). (code_in s).shape) c.scheduler.view_is in
-    let live : c.match-matches.live ≡ goes_on c.write_outcome-outcome.result = search rules in
-    let here : Stands (code_in c.self.inside.scheduler) k = subst (λ (x : CodeParts). Stands (plain_code x) k) c.work.ensures.code stands in
-    let before = subst (λ h. HasTicked h k turns) (sym c.self.view_is) (run k fine (subst (λ (h : Hosted). Stands (code_of h) k) c.self.view_is here)) in
-    ticked_now c.self.inside.scheduler c.work.new.self c.self.inside.cores.items c.self.inside.root c.work.new.packet c.write_job.new.packet c.self.inside.live c.match-matches.live c.self.inside.round.rope c.self.inside.round.rope c.self.invariant (ap (λ (h : Hosted). h.live) c.self.view_is ∙ c.requires.live)
-    c.args.row.now c.args.budget (subst (λ s. IsJob (plain_packet c.write_job.new.packet) (job_of s c.self.inside.root c.args.row.now c.args.budget)) shape c.write_job.ensures.job)
-    c.work.ensures.fitted.seated c.work.ensures.code c.work.ensures.places (rope_same c.self.inside.round.rope) (quiet_rested c.self.inside.scheduler c.work.new.self c.self.inside.cores.items c.self.inside.root c.self.inside.live c.self.inside.round.rope c.self.invariant c.work.ensures.places c.work.ensures.keeper c.work.ensures.quiet) c.work.ensures.root c.work.ensures.room c.work.ensures.kind c.work.ensures.replied c.write_outcome-outcome.result c.write_outcome-outcome.ensures.outcome live k turns fine here before
-
-pub returns-clause-outcome : goal.returns-clause-outcome
-unfolding HasRun
-returns-clause-outcome g c k turns fine stands run =
-    let shape : plain_shape c.shape.result.now ≡ (code_in c.self.inside.scheduler).shape = ap plain_shape c.shape.ensures.same ∙ ap (λ (s : State). (code_in s).shape) c.scheduler.view_is in
-    let live : c.match-matches.live ≡ goes_on c.write_outcome-outcome.result = search rules in
-    let here : Stands (code_in c.self.inside.scheduler) k = subst (λ (h : Hosted). Stands (code_of h) k) (sym c.self.view_is) stands in
-    let before = subst (λ h. HasTicked h k turns) (sym c.self.view_is) (run k fine stands) in
-    c.write_outcome-outcome.ensures.outcome ∙ (told_now c.self.inside.scheduler c.work.new.self c.self.inside.cores.items c.self.inside.root c.work.new.packet c.write_job.new.packet c.self.inside.live c.match-matches.live c.self.inside.round.rope c.self.inside.round.rope c.self.invariant (ap (λ (h : Hosted). h.live) c.self.view_is ∙ c.requires.live)
-    c.args.row.now c.args.budget (subst (λ s. IsJob (plain_packet c.write_job.new.packet) (job_of s c.self.inside.root c.args.row.now c.args.budget)) shape c.write_job.ensures.job)
-    c.work.ensures.fitted.seated c.work.ensures.code c.work.ensures.places (rope_same c.self.inside.round.rope) (quiet_rested c.self.inside.scheduler c.work.new.self c.self.inside.cores.items c.self.inside.root c.self.inside.live c.self.inside.round.rope c.self.invariant c.work.ensures.places c.work.ensures.keeper c.work.ensures.quiet) c.work.ensures.root c.work.ensures.room c.work.ensures.kind c.work.ensures.replied c.write_outcome-outcome.result c.write_outcome-outcome.ensures.outcome live k turns fine here before).outcome
-
-pub returns-clause-outputs : goal.returns-clause-outputs
-unfolding HasRun
-returns-clause-outputs g c k turns fine stands run has =
-    let shape : plain_shape c.shape.result.now ≡ (code_in c.self.inside.scheduler).shape = ap plain_shape c.shape.ensures.same ∙ ap (λ (s : State). (code_in s).shape) c.scheduler.view_is in
-    let live : c.match-matches.live ≡ goes_on c.write_outcome-outcome.result = search rules in
-    let here : Stands (code_in c.self.inside.scheduler) k = subst (λ (h : Hosted). Stands (code_of h) k) (sym c.self.view_is) stands in
-    let before = subst (λ h. HasTicked h k turns) (sym c.self.view_is) (run k fine stands) in
-    let copies = c.work.new.packet.copies.items in
-    let shape2 = ap plain_shape c.shape-2.ensures.same ∙ ap (λ (s : State). (code_in s).shape) c.scheduler.view_is in
-    c.write_outcome-outcome.ensures.outputs has
-    ∙ ap (λ (s : PlainShape). values_of (uses_in s.threads 0) copies s.outputs) shape2
-    ∙ (told_now c.self.inside.scheduler c.work.new.self c.self.inside.cores.items c.self.inside.root c.work.new.packet c.write_job.new.packet c.self.inside.live c.match-matches.live c.self.inside.round.rope c.self.inside.round.rope c.self.invariant (ap (λ (h : Hosted). h.live) c.self.view_is ∙ c.requires.live)
-    c.args.row.now c.args.budget (subst (λ s. IsJob (plain_packet c.write_job.new.packet) (job_of s c.self.inside.root c.args.row.now c.args.budget)) shape c.write_job.ensures.job)
-    c.work.ensures.fitted.seated c.work.ensures.code c.work.ensures.places (rope_same c.self.inside.round.rope) (quiet_rested c.self.inside.scheduler c.work.new.self c.self.inside.cores.items c.self.inside.root c.self.inside.live c.self.inside.round.rope c.self.invariant c.work.ensures.places c.work.ensures.keeper c.work.ensures.quiet) c.work.ensures.root c.work.ensures.room c.work.ensures.kind c.work.ensures.replied c.write_outcome-outcome.result c.write_outcome-outcome.ensures.outcome live k turns fine here before).outputs (subst HasOutputs c.write_outcome-outcome.ensures.outcome has)
-
-pub returns-clause-reply : goal.returns-clause-reply
-returns-clause-reply g c jobs old =
-    let shape : plain_shape c.shape.result.now ≡ (code_in c.self.inside.scheduler).shape = ap plain_shape c.shape.ensures.same ∙ ap (λ (s : State). (code_in s).shape) c.scheduler.view_is in
-    let live : c.match-matches.live ≡ goes_on c.write_outcome-outcome.result = search rules in
-    let copies = c.work.new.packet.copies.items in
-    let shape2 = ap plain_shape c.shape-2.ensures.same ∙ ap (λ (s : State). (code_in s).shape) c.scheduler.view_is in
-    let before = subst (λ h. HasJobs h jobs) (sym c.self.view_is) old in
-    let now = outcome_now c.self.inside.scheduler c.work.new.self c.self.inside.cores.items c.self.inside.root c.work.new.packet c.write_job.new.packet c.self.inside.live c.match-matches.live c.self.inside.round.rope c.self.inside.round.rope c.self.invariant (ap (λ (h : Hosted). h.live) c.self.view_is ∙ c.requires.live)
-    c.args.row.now c.args.budget (subst (λ s. IsJob (plain_packet c.write_job.new.packet) (job_of s c.self.inside.root c.args.row.now c.args.budget)) shape c.write_job.ensures.job)
-    c.work.ensures.fitted.seated c.work.ensures.code c.work.ensures.places (rope_same c.self.inside.round.rope) (quiet_rested c.self.inside.scheduler c.work.new.self c.self.inside.cores.items c.self.inside.root c.self.inside.live c.self.inside.round.rope c.self.invariant c.work.ensures.places c.work.ensures.keeper c.work.ensures.quiet) c.work.ensures.root c.work.ensures.room c.work.ensures.kind c.work.ensures.replied c.write_outcome-outcome.result c.write_outcome-outcome.ensures.outcome live jobs before
-    c.write_outcome-outcome.new.outputs (λ has. c.write_outcome-outcome.ensures.outputs has ∙ ap (λ (s : PlainShape). values_of (uses_in s.threads 0) copies s.outputs) shape2) in
-    subst (λ (h : Hosted). HasOutcome (code_of h) (jobs ++ job_of (code_of h).shape h.root c.args.row.now c.args.budget ∷ []) c.write_outcome-outcome.result c.write_outcome-outcome.new.outputs) c.self.view_is now
 
 pub returns-clause-rest : goal.returns-clause-rest
 returns-clause-rest g c k lt = (c.work.ensures.quiet k (omega arith) lt).idle.child
@@ -123,3 +64,33 @@ returns-clause-whole g c =
           ∙ whole.all t (subst (λ (x : CodeParts). t < length (plain_code x).threads) c.work.ensures.code lt);
       quiet = λ k lt. c.work.ensures.quiet k (omega arith) lt;
     }
+
+pub returns-clause-runs : goal.returns-clause-runs
+returns-clause-runs g c =
+    let shape : plain_shape c.shape.result.now ≡ (code_in c.self.inside.scheduler).shape = ap plain_shape c.shape.ensures.same ∙ ap (λ (s : State). (code_in s).shape) c.scheduler.view_is in
+    let live : c.match-matches.live ≡ goes_on c.write_outcome-outcome.result = search rules in
+    let copies = c.work.new.packet.copies.items in
+    let shape2 = ap plain_shape c.shape-2.ensures.same ∙ ap (λ (s : State). (code_in s).shape) c.scheduler.view_is in
+    subst (λ (h : Hosted). RunsTick (ticking h) (ticking (hosted c.work.new.self c.self.inside.cores.items c.work.new.packet c.match-matches.live c.self.inside.round.rope)) c.args.row.now c.args.budget c.write_outcome-outcome.result c.args.outputs.now c.write_outcome-outcome.new.outputs) c.self.view_is
+    (ran c.self.inside.scheduler c.work.new.self c.self.inside.cores.items c.self.inside.root c.work.new.packet c.write_job.new.packet c.self.inside.live c.match-matches.live c.self.inside.round.rope c.self.inside.round.rope c.self.invariant (ap (λ (h : Hosted). h.live) c.self.view_is ∙ c.requires.can.live)
+    c.args.row.now c.args.budget (subst (λ s. IsJob (plain_packet c.write_job.new.packet) (job_of s c.self.inside.root c.args.row.now c.args.budget)) shape c.write_job.ensures.job)
+    c.work.ensures.fitted.seated c.work.ensures.code c.work.ensures.places (rope_same c.self.inside.round.rope) (quiet_rested c.self.inside.scheduler c.work.new.self c.self.inside.cores.items c.self.inside.root c.self.inside.live c.self.inside.round.rope c.self.invariant c.work.ensures.places c.work.ensures.keeper c.work.ensures.quiet) c.work.ensures.root c.work.ensures.room c.work.ensures.kind c.work.ensures.replied c.write_outcome-outcome.result c.write_outcome-outcome.ensures.outcome live
+    c.args.outputs.now c.write_outcome-outcome.new.outputs (λ has. c.write_outcome-outcome.ensures.outputs has ∙ ap (λ (s : PlainShape). values_of (uses_in s.threads 0) copies s.outputs) shape2) c.write_outcome-outcome.ensures.stay)
+
+pub returns-clause-same : goal.returns-clause-same
+returns-clause-same g c =
+    subst (λ (h : Hosted). IsSameHost h (hosted c.work.new.self c.self.inside.cores.items c.work.new.packet c.match-matches.live c.self.inside.round.rope)) c.self.view_is
+    (record { code = c.work.ensures.code; places = c.work.ensures.places; cores = refl; grown = c.work.ensures.grown; rope = rope_same c.self.inside.round.rope })
+
+pub write_job-requires-clause-row : goal.write_job-requires-clause-row
+write_job-requires-clause-row g c =
+    let shape = ap plain_shape c.shape.ensures.same ∙ ap (λ (s : State). (code_in s).shape) c.scheduler.view_is in
+    c.requires.can.inputs ∙ ap (λ (h : Hosted). length (code_of h).shape.inputs) (sym c.self.view_is) ∙ ap (λ (s : PlainShape). length s.inputs) (sym shape)
+
+pub write_outcome-outcome-requires-clause-outputs : goal.write_outcome-outcome-requires-clause-outputs
+write_outcome-outcome-requires-clause-outputs g c =
+    let shape2 = ap plain_shape c.shape-2.ensures.same ∙ ap (λ (s : State). (code_in s).shape) c.scheduler.view_is in
+    c.requires.can.outputs ∙ ap (λ (h : Hosted). length (code_of h).shape.outputs) (sym c.self.view_is) ∙ ap (λ (s : PlainShape). length s.outputs) (sym shape2)
+
+pub work-requires-clause-small : goal.work-requires-clause-small
+work-requires-clause-small g c = subst (λ n. n ≤ MAX_BUDGET) (sym c.write_job.ensures.allowance) c.requires.can.small

@@ -1,7 +1,7 @@
 use Rattle.std.proofs.Common.{Some, sym, subst}
 use Rattle.core_host.specs.Hosted.{Hosted}
 use Rattle.core_host.specs.Runs.{HasRun}
-use Rattle.core_host.proofs.ServingLemmas.{keeps_same}
+use Rattle.core_seats.proofs.ServingLemmas.{keeps_same}
 use Rattle.core_host.proofs.HostedLemmas.{run_keeps}
 use Rattle.core_host.proofs.host.Host.hang.Goals as goal
 

@@ -1,7 +1,7 @@
 use Rattle.std.proofs.Common.{◌<◌, length, false, sym, subst}
 use Rattle.copy_slots.specs.Ports.{ChildIs}
 use Rattle.core_host.specs.Hosted.{Hosted, code_of}
-use Rattle.core_host.specs.Posts.{HasPostedTaken}
+use Rattle.core_seats.specs.Posts.{HasPostedTaken}
 use Rattle.core_host.proofs.TickRun.{root_posted, idle_posted}
 use Rattle.core_host.proofs.HostedLemmas.{idle_between}
 use Rattle.core_host.proofs.host.Host.posts.Goals as goal

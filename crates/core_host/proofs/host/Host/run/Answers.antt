@@ -1,45 +1,35 @@
-use Rattle.std.proofs.Common.{[], ◌∷◌, ◌++◌, refl, sym, ap, ◌∙◌, subst}
+use Rattle.std.proofs.Common.{[], ◌∷◌, ◌++◌, ap, ◌∙◌}
 use Rattle.copy_slots.specs.Ports.{stop_word}
 use Rattle.core_host.specs.Hosted.{Hosted}
-use Rattle.core_host.specs.Hung.{KeepsRope}
-use Rattle.core_host.proofs.HostedLemmas.{rope_same, rope_then}
-use Rattle.core_host.proofs.KeepingLemmas.{grown_same, grown_then}
+use Rattle.core_host.proofs.HostedLemmas.{same_host, host_then, host_mailed, same_here}
 use Rattle.core_host.proofs.host.Host.run.Goals as goal
 
 pub loop-init : goal.loop-init
-loop-init g c = record { code = refl; places = refl; cores = refl; grown = grown_same c.args.self.mail; rope = rope_same c.args.self.rope }
+loop-init g c = same_host c.args.self
 
 pub loop-preserved-then-serve_beside : goal.loop-preserved-then-serve_beside
-loop-preserved-then-serve_beside g c = record {
-  code = c.serve_beside.ensures.code ∙ c.loop.invariant.code;
-  places = c.serve_beside.ensures.places ∙ c.loop.invariant.places;
-  cores = c.serve_beside.ensures.cores ∙ c.loop.invariant.cores;
-  grown = grown_then c.args.self.mail c.loop.host.mail c.serve_beside.new.self.mail c.loop.invariant.grown c.serve_beside.ensures.grown;
-  rope = rope_then c.args.self.rope c.loop.host.rope c.serve_beside.new.self.rope c.loop.invariant.rope c.serve_beside.ensures.rope;
-}
+loop-preserved-then-serve_beside g c = host_then c.args.self c.loop.host c.serve_beside.new.self c.loop.invariant c.serve_beside.ensures.same
 
 pub loop-preserved : goal.loop-preserved
-loop-preserved g c = record {
-  code = ap (λ (h : Hosted). h.code) c.stopped.ensures.loaded ∙ c.serve_beside.ensures.code ∙ c.loop.invariant.code;
-  places = ap (λ (h : Hosted). h.places) c.stopped.ensures.loaded ∙ c.serve_beside.ensures.places ∙ c.loop.invariant.places;
-  cores = ap (λ (h : Hosted). h.cores) c.stopped.ensures.loaded ∙ c.serve_beside.ensures.cores ∙ c.loop.invariant.cores;
-  grown = grown_then c.args.self.mail c.serve_beside.new.self.mail c.stopped.new.self.mail (grown_then c.args.self.mail c.loop.host.mail c.serve_beside.new.self.mail c.loop.invariant.grown c.serve_beside.ensures.grown) c.stopped.ensures.grown;
-  rope = subst (KeepsRope c.args.self.rope) (sym (ap (λ (h : Hosted). h.rope) c.stopped.ensures.loaded)) (rope_then c.args.self.rope c.loop.host.rope c.serve_beside.new.self.rope c.loop.invariant.rope c.serve_beside.ensures.rope);
-}
+loop-preserved g c =
+    host_then c.args.self c.serve_beside.new.self c.stopped.new.self (host_then c.args.self c.loop.host c.serve_beside.new.self c.loop.invariant c.serve_beside.ensures.same)
+    (host_mailed c.serve_beside.new.self c.stopped.new.self _ c.stopped.ensures.loaded c.stopped.ensures.grown)
 
 pub returns-then-stopped-clause-stopped : goal.returns-then-stopped-clause-stopped
 returns-then-stopped-clause-stopped g c =
-    let seen = (grown_then c.args.self.mail c.loop.host.mail c.serve_beside.new.self.mail c.loop.invariant.grown c.serve_beside.ensures.grown).stops in
+    let seen = (host_then c.args.self c.loop.host c.serve_beside.new.self c.loop.invariant c.serve_beside.ensures.same).grown.stops in
     record {
       words = seen.more;
       is = ap (λ (h : Hosted). h.mail.stops) c.stopped.ensures.loaded ∙ ap (λ b. c.serve_beside.new.self.mail.stops ++ stop_word b ∷ []) c.if-stopped.true ∙ ap (λ l. l ++ 1 ∷ []) seen.is;
     }
 
-pub returns-then-stopped-clause-grown : goal.returns-then-stopped-clause-grown
-returns-then-stopped-clause-grown g c =
-    grown_then c.args.self.mail c.serve_beside.new.self.mail c.stopped.new.self.mail (grown_then c.args.self.mail c.loop.host.mail c.serve_beside.new.self.mail c.loop.invariant.grown c.serve_beside.ensures.grown) c.stopped.ensures.grown
+pub returns-then-stopped-clause-same : goal.returns-then-stopped-clause-same
+returns-then-stopped-clause-same g c =
+    host_then c.args.self c.serve_beside.new.self c.stopped.new.self (host_then c.args.self c.loop.host c.serve_beside.new.self c.loop.invariant c.serve_beside.ensures.same)
+    (host_mailed c.serve_beside.new.self c.stopped.new.self _ c.stopped.ensures.loaded c.stopped.ensures.grown)
 
-pub returns-then-stopped-clause-rope : goal.returns-then-stopped-clause-rope
-returns-then-stopped-clause-rope g c =
-    subst (KeepsRope c.args.self.rope) (sym (ap (λ (h : Hosted). h.rope) c.stopped.ensures.loaded))
-    (rope_then c.args.self.rope c.loop.host.rope c.serve_beside.new.self.rope c.loop.invariant.rope c.serve_beside.ensures.rope)
+pub returns-then-stopped-clause-lacks : goal.returns-then-stopped-clause-lacks
+returns-then-stopped-clause-lacks g c =
+    same_here c.args.self c.stopped.new.self 0
+    (host_then c.args.self c.serve_beside.new.self c.stopped.new.self (host_then c.args.self c.loop.host c.serve_beside.new.self c.loop.invariant c.serve_beside.ensures.same)
+    (host_mailed c.serve_beside.new.self c.stopped.new.self _ c.stopped.ensures.loaded c.stopped.ensures.grown)) ∙ c.requires

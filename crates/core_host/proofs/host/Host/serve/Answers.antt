@@ -2,10 +2,11 @@ use Rattle.std.proofs.Common.{◌≡◌, ℕ, ◌<◌, suc, true, Some, length, 
 use Rattle.std.specs.Prelude.{slice_get}
 use Rattle.std.proofs.lemmas.Option.{slice_get-get_or}
 use Rattle.core_host.specs.declared.host.Served.TheVariants.{Worked}
-use Rattle.core_host.specs.Changes.{HasWorked, IsIdle}
+use Rattle.core_seats.specs.Changes.{HasWorked, IsIdle}
 use Rattle.core_host.specs.Hosted.{Hosted, code_of, is_here, IsWhole}
 use Rattle.core_host.specs.Runs.{HasJobs, HasRun}
-use Rattle.core_host.proofs.HostedLemmas.{whole_keeps, jobs_keep, run_keeps, served_hosted, rope_same, its_own, each_between, where_own}
+use Rattle.core_seats.proofs.RoundLemmas.{rope_same}
+use Rattle.core_host.proofs.HostedLemmas.{whole_keeps, jobs_keep, run_keeps, served_hosted, its_own, each_between, where_own}
 use Rattle.core_host.proofs.host.Host.serve.Goals as goal
 
 pub serve_round-requires-clause-each : goal.serve_round-requires-clause-each

@@ -1,6 +1,6 @@
-use Rattle.std.proofs.Common.{◌≡◌, ◌<◌, suc, true, length, sym, subst}
-use Rattle.core_host.specs.Changes.{HasProgressed, IsIdle}
-use Rattle.core_host.specs.Hosted.{Hosted, code_of, is_here}
+use Rattle.std.proofs.Common.{◌≡◌, ◌<◌, suc, true, length, refl, sym, subst}
+use Rattle.core_seats.specs.Changes.{HasProgressed, IsIdle}
+use Rattle.core_host.specs.Hosted.{Hosted, hosted, code_of, is_here, IsSameHost}
 use Rattle.core_host.proofs.HostedLemmas.{served_hosted, each_between, its_own, where_own}
 use Rattle.core_host.proofs.host.Host.serve_beside.Goals as goal
 
@@ -28,3 +28,9 @@ returns-clause-nothing g c e k lt on =
     let on0 = subst (λ (h : Hosted). is_here h (suc k) ≡ true) (sym c.self.view_is) on in
     let at = where_own c.self.inside.scheduler c.self.inside.cores.items c.self.inside.root c.self.inside.live c.self.inside.round.rope c.self.invariant c.self.inside.round.own.items c.self.inside.own_are k lt0 on0 in
     subst (λ (h : Hosted). IsIdle (code_of h).shape h.mail c.serve_sweep.new.self.mail k) c.self.view_is (c.serve_sweep.ensures.idle e at.0 k at.1)
+
+pub returns-clause-same : goal.returns-clause-same
+returns-clause-same g c =
+    let keeps = c.serve_sweep.ensures.keeps in
+    subst (λ (h : Hosted). IsSameHost h (hosted c.serve_sweep.new.self c.self.inside.cores.items c.self.inside.root c.self.inside.live c.serve_sweep.new.round.rope)) c.self.view_is
+    (record { code = keeps.code; places = keeps.places; cores = refl; grown = keeps.grown; rope = c.serve_sweep.ensures.round.rope })

@@ -1,13 +1,14 @@
 use Rattle.std.proofs.Common.{◌≡◌, true, refl, sym, ap, ◌∙◌, subst}
 use Rattle.copy_slots.specs.Ports.{after_stop}
-use Rattle.core_host.specs.Changes.{Grown}
-use Rattle.core_host.specs.Keeping.{State}
-use Rattle.core_host.specs.Serving.{KeepsServing}
+use Rattle.core_seats.specs.Changes.{Grown}
+use Rattle.core_seats.specs.Keeping.{State}
+use Rattle.core_seats.specs.Serving.{KeepsServing}
 use Rattle.core_host.specs.Hosted.{Hosted, hosted, is_here}
 use Rattle.core_host.specs.Runs.{HasJobs, HasRun}
-use Rattle.core_host.proofs.Mails.{extends_same}
-use Rattle.core_host.proofs.ServingLemmas.{keeps_watch}
-use Rattle.core_host.proofs.HostedLemmas.{jobs_keep, run_keeps, served_hosted, rope_same}
+use Rattle.core_seats.proofs.Mails.{extends_same}
+use Rattle.core_seats.proofs.ServingLemmas.{keeps_watch}
+use Rattle.core_seats.proofs.RoundLemmas.{rope_same}
+use Rattle.core_host.proofs.HostedLemmas.{jobs_keep, run_keeps, served_hosted}
 use Rattle.core_host.proofs.host.Host.stop.Goals as goal
 
 pub stop-requires : goal.stop-requires

@@ -1,12 +1,13 @@
 use Rattle.std.proofs.Common.{[], ◌∷◌, ◌++◌, refl, sym, ap, ◌∙◌, subst}
 use Rattle.copy_slots.specs.Ports.{stop_word, after_check}
-use Rattle.core_host.specs.Changes.{Grown}
-use Rattle.core_host.specs.Keeping.{State}
-use Rattle.core_host.specs.Serving.{KeepsServing}
+use Rattle.core_seats.specs.Changes.{Grown}
+use Rattle.core_seats.specs.Keeping.{State}
+use Rattle.core_seats.specs.Serving.{KeepsServing}
 use Rattle.core_host.specs.Hosted.{Hosted, hosted}
-use Rattle.core_host.proofs.Mails.{extends_one}
-use Rattle.core_host.proofs.ServingLemmas.{keeps_watch}
-use Rattle.core_host.proofs.HostedLemmas.{served_hosted, rope_same}
+use Rattle.core_seats.proofs.Mails.{extends_one}
+use Rattle.core_seats.proofs.ServingLemmas.{keeps_watch}
+use Rattle.core_seats.proofs.RoundLemmas.{rope_same}
+use Rattle.core_host.proofs.HostedLemmas.{served_hosted}
 use Rattle.core_host.proofs.host.Host.stopped.Goals as goal
 
 pub invariant_of-self : goal.invariant_of-self

@@ -1,5 +1,0 @@
-use Rattle.core_host.proofs.LoadLemmas.{OwnBelow}
-use Rattle.core_host.proofs.load.own_mailboxes.Given as goal
-
-abbrev pub invariant-loop-mailbox : goal.invariant-loop-mailbox
-invariant-loop-mailbox l = OwnBelow l.places l.cores l.own.items l.mailbox

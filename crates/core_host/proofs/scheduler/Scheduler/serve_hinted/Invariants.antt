@@ -1,7 +1,0 @@
-use Rattle.core_host.specs.Rounds.{IsSameRound}
-use Rattle.core_host.specs.Serving.{KeepsServing}
-use Rattle.core_host.proofs.Sweeping.{HasFound}
-use Rattle.core_host.proofs.scheduler.Scheduler.serve_hinted.Given as goal
-
-abbrev pub invariant-loop : goal.invariant-loop
-invariant-loop g l = record { keeps : KeepsServing l.fn.self l.self; round : IsSameRound l.fn.round l.round; found : HasFound l.fn.round.own.items l.fn.self l.self l.found }

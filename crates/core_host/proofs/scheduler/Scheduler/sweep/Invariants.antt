@@ -1,7 +1,0 @@
-use Rattle.core_host.specs.Rounds.{IsSameRound}
-use Rattle.core_host.specs.Serving.{KeepsServing}
-use Rattle.core_host.proofs.Sweeping.{HasSwept}
-use Rattle.core_host.proofs.scheduler.Scheduler.sweep.Given as goal
-
-abbrev pub invariant-loop-k : goal.invariant-loop-k
-invariant-loop-k g l = record { keeps : KeepsServing l.fn.self l.self; round : IsSameRound l.fn.round l.round; swept : HasSwept l.fn.round.own.items l.fn.self l.self l.found l.fn.round.up l.k }

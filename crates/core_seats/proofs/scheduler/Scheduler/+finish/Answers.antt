@@ -1,0 +1,306 @@
+use Rattle.std.proofs.Common.{rules, ◌≡◌, ◌≤◌, ◌^◌, ◌<◌, ◌+◌, ◌-◌, ◌*◌, Some, None, length, map, refl, sym, ap, ◌∙◌, subst, arith}
+use Rattle.std.proofs.lemmas.Option.{slice_get_within}
+use Rattle.std.proofs.Math.Facts.{Fits-of_lt}
+use Rattle.thread_code.specs.declared.instruction.CodeParts.{CodeParts}
+use Rattle.thread_code.specs.Plain.{plain_code}
+use Rattle.thread_code.specs.Alone.{block_of}
+use Rattle.core_machine.specs.Threads.{Loaded, StandsFor, Left_by, CanBegin}
+use Rattle.forec_kernel.specs.Packed.{HasRoom, IsJob}
+use Rattle.thread_code.specs.Valid.{of_shape}
+use Rattle.combine_tree.specs.declared.packet.Packet.{Packet}
+use Rattle.combine_tree.specs.Plain.{plain_packet}
+use Rattle.core_machine.specs.Forks.{jobs_at}
+use Rattle.core_seats.specs.Keeping.{State, code_in, QuietAbove, Leaves, HaveHeard}
+use Rattle.core_seats.proofs.KeepingLemmas.{leaves_same, leaves_then, fitted_keeps}
+use Rattle.tick_jobs.proofs.Lists.{past_end}
+use Rattle.core_seats.proofs.ChildrenRunLemmas.{consulted_none, some_number, fitted_b, above_m, inside_m, can_send, some_packet, is_called, sent_above, consulted_more, have_heard}
+use Rattle.core_seats.proofs.Finishing.{job_runs, allowance_is, at_fork, some_at, bound, next}
+use Rattle.tick_jobs.proofs.Forks.{fits_forks, replied_by}
+use Rattle.core_seats.proofs.SchedulerCalls.{loaded_now, resting_now, begins_now, room_now, small_now, raw_fitted, number1, raw_above, raw_followed, reply_room, answer_held, answer_answers, end_back, end_above, end_leaves}
+use Rattle.core_seats.proofs.scheduler.Scheduler.+finish.Goals as goal
+
+-- ---- run_children
+
+pub run_children-loop-branch-init : goal.run_children-loop-branch-init
+run_children-loop-branch-init g t c =
+    consulted_none c.args.self.now c.args.thread.now c.requires.fork c.requires.above
+
+pub run_children-overflow_sub-mailbox : goal.run_children-overflow_sub-mailbox
+run_children-overflow_sub-mailbox g t c =
+    some_number c.args.self.now c.loop-branch.self c.args.thread.now c.loop-branch.k c.in-Some.branch c.requires.fitted c.requires.fork c.loop-branch.invariant (sym c.active.ensures ∙ c.in-Some.is)
+
+pub run_children-send-requires-clause-job : goal.run_children-send-requires-clause-job
+run_children-send-requires-clause-job g t c =
+    can_send c.args.self.now c.loop-branch.self c.args.thread.now c.loop-branch.k c.in-Some.branch c.requires.fitted c.requires.fork c.loop-branch.invariant (sym c.active.ensures ∙ c.in-Some.is)
+
+pub run_children-send-requires-clause-has : goal.run_children-send-requires-clause-has
+run_children-send-requires-clause-has g t c =
+    some_packet c.args.self.now c.loop-branch.self c.args.thread.now c.loop-branch.k c.in-Some.branch c.requires.fitted c.requires.fork c.loop-branch.invariant (sym c.active.ensures ∙ c.in-Some.is)
+
+pub run_children-loop-branch-smaller : goal.run_children-loop-branch-smaller
+run_children-loop-branch-smaller g t c =
+    let lt = slice_get_within c.args.thread.now.branches.numbers c.loop-branch.k c.in-Some.branch (sym c.active.ensures ∙ c.in-Some.is) in omega (arith, lt)
+
+pub run_children-loop-branch-preserved : goal.run_children-loop-branch-preserved
+run_children-loop-branch-preserved g t c =
+    consulted_more c.args.self.now c.loop-branch.self c.args.thread.now c.loop-branch.k c.in-Some.branch c.requires.fitted c.requires.fork c.loop-branch.invariant (sym c.active.ensures ∙ c.in-Some.is)
+    c.send.new.self c.send.ensures.moves c.run_child.new.self c.collect.new.self c.send.ensures.sent c.run_child.ensures.leaves c.run_child.ensures.above c.run_child.ensures.back c.collect.ensures.moves (c.collect.ensures.there c.if-not-collect.false)
+
+pub run_children-returns-clause-heard : goal.run_children-returns-clause-heard
+run_children-returns-clause-heard g t c =
+    let past = past_end c.args.thread.now.branches.numbers c.loop-branch.k (sym c.active.ensures ∙ c.in_default.is) in
+    (c.loop-branch.invariant.replies, have_heard c.args.self.now c.loop-branch.self c.args.thread.now c.loop-branch.k c.loop-branch.invariant past, c.loop-branch.invariant.posts)
+
+-- ---- run_child
+
+pub run_child-begin-requires-clause-loaded : goal.run_child-begin-requires-clause-loaded
+run_child-begin-requires-clause-loaded g t c =
+    loaded_now c.args.self.now c.args.mailbox c.requires.fitted.seated c.requires.inside c.requires.called.idle c.self.inside.code.now c.self.inside.places.items (g.P.Port.state c.self.inside.port) (g.P.Port.state c.take.new.self)
+    c.self.inside.seats.items c.self.inside.hands.items c.self.view_is c.in-Some.packet c.in-Some.ensures.state c.in-Some.ensures.job c.index_mut.result.now c.index_mut.ensures.value c.take-2.result c.take-2.ensures.value
+    c.deref_mut-thread.result.now (c.in-Some-take.is ∙ ap Some (sym c.deref_mut-thread.ensures.value))
+
+pub run_child-begin-requires-clause-resting : goal.run_child-begin-requires-clause-resting
+run_child-begin-requires-clause-resting g t c =
+    resting_now c.args.self.now c.args.mailbox c.requires.fitted.seated c.requires.inside c.requires.called.idle c.self.inside.code.now c.self.inside.places.items (g.P.Port.state c.self.inside.port) (g.P.Port.state c.take.new.self)
+    c.self.inside.seats.items c.self.inside.hands.items c.self.view_is c.in-Some.packet c.in-Some.ensures.state c.in-Some.ensures.job c.index_mut.result.now c.index_mut.ensures.value c.take-2.result c.take-2.ensures.value
+    c.deref_mut-thread.result.now (c.in-Some-take.is ∙ ap Some (sym c.deref_mut-thread.ensures.value))
+
+pub run_child-begin-requires-clause-job : goal.run_child-begin-requires-clause-job
+run_child-begin-requires-clause-job g t c =
+    subst (λ (p : Packet). CanBegin c.deref_mut-thread.result.now p.kind) (sym c.deref.ensures)
+    (begins_now c.args.self.now c.args.mailbox c.requires.fitted.seated c.requires.inside c.requires.called.idle c.self.inside.code.now c.self.inside.places.items (g.P.Port.state c.self.inside.port) (g.P.Port.state c.take.new.self)
+    c.self.inside.seats.items c.self.inside.hands.items c.self.view_is c.in-Some.packet c.in-Some.ensures.state c.in-Some.ensures.job c.index_mut.result.now c.index_mut.ensures.value c.take-2.result c.take-2.ensures.value
+    c.deref_mut-thread.result.now (c.in-Some-take.is ∙ ap Some (sym c.deref_mut-thread.ensures.value)))
+
+pub run_child-begin-requires-clause-room : goal.run_child-begin-requires-clause-room
+run_child-begin-requires-clause-room g t c =
+    subst (λ (p : Packet). HasRoom (of_shape (plain_code c.self.inside.code.now).shape) c.deref_mut-thread.result.now.number (plain_packet p)) (sym c.deref.ensures)
+    (room_now c.args.self.now c.args.mailbox c.requires.fitted.seated c.requires.inside c.requires.called.idle c.self.inside.code.now c.self.inside.places.items (g.P.Port.state c.self.inside.port) (g.P.Port.state c.take.new.self)
+    c.self.inside.seats.items c.self.inside.hands.items c.self.view_is c.in-Some.packet c.in-Some.ensures.state c.in-Some.ensures.job c.index_mut.result.now c.index_mut.ensures.value c.take-2.result c.take-2.ensures.value
+    c.deref_mut-thread.result.now (c.in-Some-take.is ∙ ap Some (sym c.deref_mut-thread.ensures.value)))
+
+pub run_child-begin-requires-clause-small : goal.run_child-begin-requires-clause-small
+run_child-begin-requires-clause-small g t c =
+    subst (λ (p : Packet). p.allowance ≤ 2 ^ 62) (sym c.deref.ensures)
+    (small_now c.args.self.now c.args.mailbox c.requires.fitted.seated c.requires.inside c.requires.called.idle c.self.inside.code.now c.self.inside.places.items (g.P.Port.state c.self.inside.port) (g.P.Port.state c.take.new.self)
+    c.self.inside.seats.items c.self.inside.hands.items c.self.view_is c.in-Some.packet c.in-Some.ensures.state c.in-Some.ensures.job c.index_mut.result.now c.index_mut.ensures.value c.take-2.result c.take-2.ensures.value
+    c.deref_mut-thread.result.now (c.in-Some-take.is ∙ ap Some (sym c.deref_mut-thread.ensures.value)))
+
+pub run_child-reply-requires-clause-room : goal.run_child-reply-requires-clause-room
+run_child-reply-requires-clause-room g t c =
+    subst (λ (p : Packet). HasRoom (of_shape (plain_code c.self-2.inside.code.now).shape) c.finish.new.thread.number (plain_packet p)) (sym c.deref_mut.ensures.value)
+    (reply_room c.args.self.now c.args.mailbox c.requires.fitted.seated c.requires.inside c.requires.called.idle c.self.inside.code.now c.self.inside.places.items (g.P.Port.state c.self.inside.port) (g.P.Port.state c.take.new.self)
+    c.self.inside.seats.items c.self.inside.hands.items c.self.view_is c.in-Some.packet c.in-Some.ensures.state c.in-Some.ensures.job c.index_mut.result.now c.index_mut.ensures.value c.take-2.result c.take-2.ensures.value
+    c.deref_mut-thread.result.now (c.in-Some-take.is ∙ ap Some (sym c.deref_mut-thread.ensures.value))
+    (record { thread = c.take-2.new.self; job = c.index_mut.result.now.job }) c.begin.new.self c.begin.ensures.number (λ xs job is. c.begin.ensures.stands xs job (subst (λ (p : Packet). IsJob (plain_packet p) job) (sym c.deref.ensures) is))
+    c.requires.fitted.tells c.in-Some.ensures.turn c.finish.new.self c.finish.new.thread c.finish.ensures.number c.finish.ensures.loaded c.finish.ensures.reply c.finish.ensures.above c.finish.ensures.leaves c.finish.ensures.done
+    c.self-2.inside.code.now c.self-2.inside.places.items (g.P.Port.state c.self-2.inside.port) c.self-2.inside.seats.items c.self-2.inside.hands.items c.self-2.view_is)
+
+pub run_child-answer-requires-clause-held : goal.run_child-answer-requires-clause-held
+run_child-answer-requires-clause-held g t c =
+    answer_held c.args.self.now c.args.mailbox c.requires.fitted.seated c.requires.inside c.requires.called.idle c.self.inside.code.now c.self.inside.places.items (g.P.Port.state c.self.inside.port) (g.P.Port.state c.take.new.self)
+    c.self.inside.seats.items c.self.inside.hands.items c.self.view_is c.in-Some.packet c.in-Some.ensures.state c.in-Some.ensures.job c.index_mut.result.now c.index_mut.ensures.value c.take-2.result c.take-2.ensures.value
+    c.deref_mut-thread.result.now (c.in-Some-take.is ∙ ap Some (sym c.deref_mut-thread.ensures.value))
+    (record { thread = c.take-2.new.self; job = c.index_mut.result.now.job }) c.begin.new.self c.begin.ensures.number (λ xs job is. c.begin.ensures.stands xs job (subst (λ (p : Packet). IsJob (plain_packet p) job) (sym c.deref.ensures) is))
+    c.requires.fitted.tells c.in-Some.ensures.turn c.finish.new.self c.finish.new.thread c.finish.ensures.number c.finish.ensures.loaded c.finish.ensures.reply c.finish.ensures.above c.finish.ensures.leaves c.finish.ensures.done
+    c.self-2.inside.code.now c.self-2.inside.places.items (g.P.Port.state c.self-2.inside.port) c.self-2.inside.seats.items c.self-2.inside.hands.items c.self-2.view_is
+    c.reply.new.packet c.reply.ensures.room c.reply.ensures.kind c.reply.ensures.gives
+
+pub run_child-answer-requires-clause-answers : goal.run_child-answer-requires-clause-answers
+run_child-answer-requires-clause-answers g t c =
+    answer_answers c.args.self.now c.args.mailbox c.requires.fitted.seated c.requires.inside c.requires.called.idle c.self.inside.code.now c.self.inside.places.items (g.P.Port.state c.self.inside.port) (g.P.Port.state c.take.new.self)
+    c.self.inside.seats.items c.self.inside.hands.items c.self.view_is c.in-Some.packet c.in-Some.ensures.state c.in-Some.ensures.job c.index_mut.result.now c.index_mut.ensures.value c.take-2.result c.take-2.ensures.value
+    c.deref_mut-thread.result.now (c.in-Some-take.is ∙ ap Some (sym c.deref_mut-thread.ensures.value))
+    (record { thread = c.take-2.new.self; job = c.index_mut.result.now.job }) c.begin.new.self c.begin.ensures.number (λ xs job is. c.begin.ensures.stands xs job (subst (λ (p : Packet). IsJob (plain_packet p) job) (sym c.deref.ensures) is))
+    c.requires.fitted.tells c.in-Some.ensures.turn c.finish.new.self c.finish.new.thread c.finish.ensures.number c.finish.ensures.loaded c.finish.ensures.reply c.finish.ensures.above c.finish.ensures.leaves c.finish.ensures.done
+    c.self-2.inside.code.now c.self-2.inside.places.items (g.P.Port.state c.self-2.inside.port) c.self-2.inside.seats.items c.self-2.inside.hands.items c.self-2.view_is
+    c.reply.new.packet c.reply.ensures.room c.reply.ensures.kind c.reply.ensures.gives
+
+pub run_child-returns-clause-back : goal.run_child-returns-clause-back
+run_child-returns-clause-back g t c =
+    end_back c.args.self.now c.args.mailbox c.requires.fitted.seated c.requires.inside c.requires.called.idle c.self.inside.code.now c.self.inside.places.items (g.P.Port.state c.self.inside.port) (g.P.Port.state c.take.new.self)
+    c.self.inside.seats.items c.self.inside.hands.items c.self.view_is c.in-Some.packet c.in-Some.ensures.state c.in-Some.ensures.job c.index_mut.result.now c.index_mut.ensures.value c.take-2.result c.take-2.ensures.value
+    c.deref_mut-thread.result.now (c.in-Some-take.is ∙ ap Some (sym c.deref_mut-thread.ensures.value))
+    (record { thread = c.take-2.new.self; job = c.index_mut.result.now.job }) c.begin.new.self c.begin.ensures.number (λ xs job is. c.begin.ensures.stands xs job (subst (λ (p : Packet). IsJob (plain_packet p) job) (sym c.deref.ensures) is))
+    c.requires.fitted.tells c.in-Some.ensures.turn c.finish.new.self c.finish.new.thread c.finish.ensures.number c.finish.ensures.loaded c.finish.ensures.reply c.finish.ensures.above c.finish.ensures.leaves c.finish.ensures.done
+    c.self-2.inside.code.now c.self-2.inside.places.items (g.P.Port.state c.self-2.inside.port) c.self-2.inside.seats.items c.self-2.inside.hands.items c.self-2.view_is
+    c.reply.new.packet c.reply.ensures.room c.reply.ensures.kind c.reply.ensures.gives
+    (record { thread = Some c.finish.new.thread; job = None }) refl refl (g.P.Port.state c.answer.new.self) c.answer.ensures c.requires.called.lacks
+
+pub run_child-returns-clause-above : goal.run_child-returns-clause-above
+run_child-returns-clause-above g t c =
+    end_above c.args.self.now c.args.mailbox c.requires.fitted.seated c.requires.inside c.requires.called.idle c.self.inside.code.now c.self.inside.places.items (g.P.Port.state c.self.inside.port) (g.P.Port.state c.take.new.self)
+    c.self.inside.seats.items c.self.inside.hands.items c.self.view_is c.in-Some.packet c.in-Some.ensures.state c.in-Some.ensures.job c.index_mut.result.now c.index_mut.ensures.value c.take-2.result c.take-2.ensures.value
+    c.deref_mut-thread.result.now (c.in-Some-take.is ∙ ap Some (sym c.deref_mut-thread.ensures.value))
+    (record { thread = c.take-2.new.self; job = c.index_mut.result.now.job }) c.begin.new.self c.begin.ensures.number (λ xs job is. c.begin.ensures.stands xs job (subst (λ (p : Packet). IsJob (plain_packet p) job) (sym c.deref.ensures) is))
+    c.requires.fitted.tells c.in-Some.ensures.turn c.finish.new.self c.finish.new.thread c.finish.ensures.number c.finish.ensures.loaded c.finish.ensures.reply c.finish.ensures.above c.finish.ensures.leaves c.finish.ensures.done
+    c.self-2.inside.code.now c.self-2.inside.places.items (g.P.Port.state c.self-2.inside.port) c.self-2.inside.seats.items c.self-2.inside.hands.items c.self-2.view_is
+    c.reply.new.packet c.reply.ensures.room c.reply.ensures.kind c.reply.ensures.gives
+    (record { thread = Some c.finish.new.thread; job = None }) refl refl (g.P.Port.state c.answer.new.self) c.answer.ensures
+
+pub run_child-returns-clause-leaves : goal.run_child-returns-clause-leaves
+run_child-returns-clause-leaves g t c =
+    end_leaves c.args.self.now c.args.mailbox c.requires.fitted.seated c.requires.inside c.requires.called.idle c.self.inside.code.now c.self.inside.places.items (g.P.Port.state c.self.inside.port) (g.P.Port.state c.take.new.self)
+    c.self.inside.seats.items c.self.inside.hands.items c.self.view_is c.in-Some.packet c.in-Some.ensures.state c.in-Some.ensures.job c.index_mut.result.now c.index_mut.ensures.value c.take-2.result c.take-2.ensures.value
+    c.deref_mut-thread.result.now (c.in-Some-take.is ∙ ap Some (sym c.deref_mut-thread.ensures.value))
+    (record { thread = c.take-2.new.self; job = c.index_mut.result.now.job }) c.begin.new.self c.begin.ensures.number (λ xs job is. c.begin.ensures.stands xs job (subst (λ (p : Packet). IsJob (plain_packet p) job) (sym c.deref.ensures) is))
+    c.requires.fitted.tells c.in-Some.ensures.turn c.finish.new.self c.finish.new.thread c.finish.ensures.number c.finish.ensures.loaded c.finish.ensures.reply c.finish.ensures.above c.finish.ensures.leaves c.finish.ensures.done
+    c.self-2.inside.code.now c.self-2.inside.places.items (g.P.Port.state c.self-2.inside.port) c.self-2.inside.seats.items c.self-2.inside.hands.items c.self-2.view_is
+    c.reply.new.packet c.reply.ensures.room c.reply.ensures.kind c.reply.ensures.gives
+    (record { thread = Some c.finish.new.thread; job = None }) refl refl (g.P.Port.state c.answer.new.self) c.answer.ensures
+
+-- ---- finish
+
+pub finish-loop-self-init : goal.finish-loop-self-init
+finish-loop-self-init g t c =
+    record {
+      loaded = c.requires.loaded;
+      number = refl;
+      running = c.requires.running;
+      above = c.requires.above;
+      leaves = leaves_same c.args.thread.now.number c.args.thread.now.number c.args.self.now;
+      jobs = c.requires.begun.jobs;
+      job = c.requires.begun.job;
+      in_job = c.requires.begun.in_job;
+      count = ap length c.requires.begun.first;
+      allowance = sym (allowance_is (code_in c.args.self.now) c.args.thread.now c.args.self.now.mail c.requires.begun.jobs c.requires.begun.job c.requires.begun.in_job);
+      done = λ jobs job i. i;
+    }
+
+pub finish-run_children-requires : goal.finish-run_children-requires
+finish-run_children-requires g t c κs within =
+    let code : c.self.inside.code.now ≡ c.loop-self.self.code = ap (λ (s : State). s.code) c.self.view_is in
+    let fork = at_fork c.args.self.now c.loop-self.self c.requires.fitted c.args.thread.now c.loop-self.thread c.run.new.self c.loop-self.invariant.number c.loop-self.invariant.leaves (subst (λ (x : CodeParts). Loaded (plain_code x) c.run.new.self) code c.run.ensures.loaded) c.run.ensures.number
+    (λ xs st. subst (λ (x : CodeParts). StandsFor (plain_code x) c.run.new.self xs) code (c.run.ensures.stands xs (subst (λ (x : CodeParts). StandsFor (plain_code x) c.loop-self.thread xs) (sym code) st)))
+    (subst (λ e. Left_by c.run.new.self e) c.in-Fork.is c.run.ensures.left) (subst (λ (x : CodeParts). c.run.new.self.branches.numbers ≡ map (λ w. w.branch) (jobs_at (plain_code x) c.run.new.self)) code (c.run.ensures.branches c.in-Fork.is)) c.loop-self.invariant.jobs c.loop-self.invariant.job c.loop-self.forks (c.loop-self.invariant.in_job, c.loop-self.invariant.count) in
+    let above = subst (QuietAbove c.loop-self.self) (sym (c.run.ensures.number ∙ c.loop-self.invariant.number)) c.loop-self.invariant.above in
+    let fitted = fitted_keeps c.args.thread.now.number c.args.thread.now.number c.args.self.now c.loop-self.self c.loop-self.invariant.leaves c.requires.fitted in
+    let number = c.run.ensures.number ∙ c.loop-self.invariant.number in
+    let smaller : 3 * (257 - c.run.new.self.number) + 1 < 3 * (257 - c.args.thread.now.number) + 2 = omega (arith, number) in
+    (search rules, (within.0, (within.1, (fitted, (fork, above)))))
+
+pub finish-settle-requires-clause-few : goal.finish-settle-requires-clause-few
+finish-settle-requires-clause-few g t c =
+    let code : c.self.inside.code.now ≡ c.loop-self.self.code = ap (λ (s : State). s.code) c.self.view_is in
+    (at_fork c.args.self.now c.loop-self.self c.requires.fitted c.args.thread.now c.loop-self.thread c.run.new.self c.loop-self.invariant.number c.loop-self.invariant.leaves (subst (λ (x : CodeParts). Loaded (plain_code x) c.run.new.self) code c.run.ensures.loaded) c.run.ensures.number
+    (λ xs st. subst (λ (x : CodeParts). StandsFor (plain_code x) c.run.new.self xs) code (c.run.ensures.stands xs (subst (λ (x : CodeParts). StandsFor (plain_code x) c.loop-self.thread xs) (sym code) st)))
+    (subst (λ e. Left_by c.run.new.self e) c.in-Fork.is c.run.ensures.left) (subst (λ (x : CodeParts). c.run.new.self.branches.numbers ≡ map (λ w. w.branch) (jobs_at (plain_code x) c.run.new.self)) code (c.run.ensures.branches c.in-Fork.is)) c.loop-self.invariant.jobs c.loop-self.invariant.job c.loop-self.forks (c.loop-self.invariant.in_job, c.loop-self.invariant.count)).few
+
+pub finish-join-requires-clause-some : goal.finish-join-requires-clause-some
+finish-join-requires-clause-some g t c =
+    let code : c.self.inside.code.now ≡ c.loop-self.self.code = ap (λ (s : State). s.code) c.self.view_is in
+    subst (λ l. 0 < length l) (sym c.settle.ensures.branches)
+    (some_at c.args.self.now c.loop-self.self c.requires.fitted c.args.thread.now c.loop-self.thread c.run.new.self c.loop-self.invariant.number c.loop-self.invariant.leaves (subst (λ (x : CodeParts). Loaded (plain_code x) c.run.new.self) code c.run.ensures.loaded) c.run.ensures.number
+    (λ xs st. subst (λ (x : CodeParts). StandsFor (plain_code x) c.run.new.self xs) code (c.run.ensures.stands xs (subst (λ (x : CodeParts). StandsFor (plain_code x) c.loop-self.thread xs) (sym code) st)))
+    (subst (λ e. Left_by c.run.new.self e) c.in-Fork.is c.run.ensures.left) (subst (λ (x : CodeParts). c.run.new.self.branches.numbers ≡ map (λ w. w.branch) (jobs_at (plain_code x) c.run.new.self)) code (c.run.ensures.branches c.in-Fork.is)) c.loop-self.invariant.jobs c.loop-self.invariant.job c.loop-self.forks (c.loop-self.invariant.in_job, c.loop-self.invariant.count))
+
+pub finish-join-requires-clause-few : goal.finish-join-requires-clause-few
+finish-join-requires-clause-few g t c =
+    let code : c.self.inside.code.now ≡ c.loop-self.self.code = ap (λ (s : State). s.code) c.self.view_is in
+    subst (λ l. length l ≤ 256) (sym c.settle.ensures.branches)
+    (at_fork c.args.self.now c.loop-self.self c.requires.fitted c.args.thread.now c.loop-self.thread c.run.new.self c.loop-self.invariant.number c.loop-self.invariant.leaves (subst (λ (x : CodeParts). Loaded (plain_code x) c.run.new.self) code c.run.ensures.loaded) c.run.ensures.number
+    (λ xs st. subst (λ (x : CodeParts). StandsFor (plain_code x) c.run.new.self xs) code (c.run.ensures.stands xs (subst (λ (x : CodeParts). StandsFor (plain_code x) c.loop-self.thread xs) (sym code) st)))
+    (subst (λ e. Left_by c.run.new.self e) c.in-Fork.is c.run.ensures.left) (subst (λ (x : CodeParts). c.run.new.self.branches.numbers ≡ map (λ w. w.branch) (jobs_at (plain_code x) c.run.new.self)) code (c.run.ensures.branches c.in-Fork.is)) c.loop-self.invariant.jobs c.loop-self.invariant.job c.loop-self.forks (c.loop-self.invariant.in_job, c.loop-self.invariant.count)).few
+
+pub finish-overflow_add-forks : goal.finish-overflow_add-forks
+finish-overflow_add-forks g t c =
+    let code : c.self.inside.code.now ≡ c.loop-self.self.code = ap (λ (s : State). s.code) c.self.view_is in
+    let b = bound c.args.self.now c.loop-self.self c.requires.fitted c.args.thread.now c.loop-self.thread c.run.new.self c.loop-self.invariant.number c.loop-self.invariant.leaves (subst (λ (x : CodeParts). Loaded (plain_code x) c.run.new.self) code c.run.ensures.loaded) c.run.ensures.number
+    (λ xs st. subst (λ (x : CodeParts). StandsFor (plain_code x) c.run.new.self xs) code (c.run.ensures.stands xs (subst (λ (x : CodeParts). StandsFor (plain_code x) c.loop-self.thread xs) (sym code) st)))
+    (subst (λ e. Left_by c.run.new.self e) c.in-Fork.is c.run.ensures.left) (subst (λ (x : CodeParts). c.run.new.self.branches.numbers ≡ map (λ w. w.branch) (jobs_at (plain_code x) c.run.new.self)) code (c.run.ensures.branches c.in-Fork.is)) c.loop-self.invariant.jobs c.loop-self.invariant.job c.loop-self.forks (c.loop-self.invariant.in_job, c.loop-self.invariant.count) c.loop-self.invariant.allowance in
+    let short = c.requires.loaded.short None in
+    Fits-of_lt (fits_forks c.loop-self.forks (length (block_of (code_in c.args.self.now) c.args.thread.now.number).steps) c.args.thread.now.allowance b short c.requires.loaded.small)
+
+pub finish-loop-self-smaller : goal.finish-loop-self-smaller
+finish-loop-self-smaller g t c =
+    let code : c.self.inside.code.now ≡ c.loop-self.self.code = ap (λ (s : State). s.code) c.self.view_is in
+    let b = bound c.args.self.now c.loop-self.self c.requires.fitted c.args.thread.now c.loop-self.thread c.run.new.self c.loop-self.invariant.number c.loop-self.invariant.leaves (subst (λ (x : CodeParts). Loaded (plain_code x) c.run.new.self) code c.run.ensures.loaded) c.run.ensures.number
+    (λ xs st. subst (λ (x : CodeParts). StandsFor (plain_code x) c.run.new.self xs) code (c.run.ensures.stands xs (subst (λ (x : CodeParts). StandsFor (plain_code x) c.loop-self.thread xs) (sym code) st)))
+    (subst (λ e. Left_by c.run.new.self e) c.in-Fork.is c.run.ensures.left) (subst (λ (x : CodeParts). c.run.new.self.branches.numbers ≡ map (λ w. w.branch) (jobs_at (plain_code x) c.run.new.self)) code (c.run.ensures.branches c.in-Fork.is)) c.loop-self.invariant.jobs c.loop-self.invariant.job c.loop-self.forks (c.loop-self.invariant.in_job, c.loop-self.invariant.count) c.loop-self.invariant.allowance in
+    omega (arith, b)
+
+pub finish-loop-self-preserved : goal.finish-loop-self-preserved
+finish-loop-self-preserved g t c =
+    let code : c.self.inside.code.now ≡ c.loop-self.self.code = ap (λ (s : State). s.code) c.self.view_is in
+    let number = c.join.ensures.number ∙ c.settle.ensures.number ∙ c.run.ensures.number ∙ c.loop-self.invariant.number in
+    let leaves = subst (λ n. Leaves n n c.loop-self.self c.run_children.new.self) (c.run.ensures.number ∙ c.loop-self.invariant.number) c.run_children.ensures.leaves in
+    let now = next c.args.self.now c.loop-self.self c.requires.fitted c.args.thread.now c.loop-self.thread c.run.new.self c.loop-self.invariant.number c.loop-self.invariant.leaves (subst (λ (x : CodeParts). Loaded (plain_code x) c.run.new.self) code c.run.ensures.loaded) c.run.ensures.number
+    (λ xs st. subst (λ (x : CodeParts). StandsFor (plain_code x) c.run.new.self xs) code (c.run.ensures.stands xs (subst (λ (x : CodeParts). StandsFor (plain_code x) c.loop-self.thread xs) (sym code) st)))
+    (subst (λ e. Left_by c.run.new.self e) c.in-Fork.is c.run.ensures.left) (subst (λ (x : CodeParts). c.run.new.self.branches.numbers ≡ map (λ w. w.branch) (jobs_at (plain_code x) c.run.new.self)) code (c.run.ensures.branches c.in-Fork.is)) c.loop-self.invariant.jobs c.loop-self.invariant.job c.loop-self.forks (c.loop-self.invariant.in_job, c.loop-self.invariant.count)
+    c.run_children.new.self c.run_children.ensures.leaves c.run_children.ensures.heard.0 c.run_children.ensures.heard.1 c.run_children.ensures.heard.2 c.settle.new.thread c.join.new.thread c.settle.ensures.number c.join.ensures.number
+    (λ xs st. c.settle.ensures.stands c.run_children.ensures.heard.0 xs c.run_children.ensures.heard.1 st)
+    (λ xs st. c.join.ensures.stands c.run_children.ensures.heard.0 xs (subst (λ l. HaveHeard c.run_children.new.self l c.run_children.ensures.heard.0) (sym c.settle.ensures.branches) c.run_children.ensures.heard.1) st) in
+    record {
+      loaded = c.join.ensures.loaded;
+      number = number;
+      running = c.join.ensures.running;
+      above = subst (QuietAbove c.run_children.new.self) (c.run.ensures.number ∙ c.loop-self.invariant.number) c.run_children.ensures.above;
+      leaves = leaves_then c.args.thread.now.number c.args.thread.now.number c.args.self.now c.loop-self.self c.run_children.new.self c.loop-self.invariant.leaves leaves;
+      jobs = c.loop-self.invariant.jobs;
+      job = c.loop-self.invariant.job;
+      in_job = now.0;
+      count = now.1;
+      allowance = c.loop-self.invariant.allowance;
+      done = λ jobs job i.
+          let j = c.loop-self.invariant.done jobs job i in
+          (next c.args.self.now c.loop-self.self c.requires.fitted c.args.thread.now c.loop-self.thread c.run.new.self c.loop-self.invariant.number c.loop-self.invariant.leaves (subst (λ (x : CodeParts). Loaded (plain_code x) c.run.new.self) code c.run.ensures.loaded) c.run.ensures.number
+          (λ xs st. subst (λ (x : CodeParts). StandsFor (plain_code x) c.run.new.self xs) code (c.run.ensures.stands xs (subst (λ (x : CodeParts). StandsFor (plain_code x) c.loop-self.thread xs) (sym code) st)))
+          (subst (λ e. Left_by c.run.new.self e) c.in-Fork.is c.run.ensures.left) (subst (λ (x : CodeParts). c.run.new.self.branches.numbers ≡ map (λ w. w.branch) (jobs_at (plain_code x) c.run.new.self)) code (c.run.ensures.branches c.in-Fork.is)) jobs job (length j.log.before) (j, refl)
+          c.run_children.new.self c.run_children.ensures.leaves c.run_children.ensures.heard.0 c.run_children.ensures.heard.1 c.run_children.ensures.heard.2 c.settle.new.thread c.join.new.thread c.settle.ensures.number c.join.ensures.number
+          (λ xs st. c.settle.ensures.stands c.run_children.ensures.heard.0 xs c.run_children.ensures.heard.1 st)
+          (λ xs st. c.join.ensures.stands c.run_children.ensures.heard.0 xs (subst (λ l. HaveHeard c.run_children.new.self l c.run_children.ensures.heard.0) (sym c.settle.ensures.branches) c.run_children.ensures.heard.1) st)).0;
+    }
+
+pub finish-returns : goal.finish-returns
+finish-returns g t c =
+    let code : c.self.inside.code.now ≡ c.loop-self.self.code = ap (λ (s : State). s.code) c.self.view_is in
+    let here = c.loop-self.invariant.leaves.code in
+    record {
+      loaded = subst (λ (x : CodeParts). Loaded (plain_code x) c.run.new.self) (code ∙ here) c.run.ensures.loaded;
+      number = c.run.ensures.number ∙ c.loop-self.invariant.number;
+      reply = replied_by c.run.new.self c.run.result c.run.ensures.left c.in_default.not-Fork;
+      above = c.loop-self.invariant.above;
+      leaves = c.loop-self.invariant.leaves;
+      done = λ jobs job i.
+          let j = c.loop-self.invariant.done jobs job i in
+          (job_runs (code_in c.args.self.now) c.loop-self.thread c.run.new.self c.loop-self.self.mail jobs job (length j.log.before) c.run.ensures.number
+          (λ xs st. subst (λ (x : CodeParts). StandsFor (plain_code x) c.run.new.self xs) (code ∙ here) (c.run.ensures.stands xs (subst (λ (x : CodeParts). StandsFor (plain_code x) c.loop-self.thread xs) (sym (code ∙ here)) st))) (j, refl)).0;
+    }
+
+-- ---- each call does less
+
+pub run_children-run_child-requires : goal.run_children-run_child-requires
+run_children-run_child-requires g t c κs within =
+    let le = above_m c.args.self.now c.loop-branch.self c.args.thread.now c.loop-branch.k c.in-Some.branch c.requires.fitted c.requires.fork c.loop-branch.invariant (sym c.active.ensures ∙ c.in-Some.is) in
+    let lt = inside_m c.args.self.now c.loop-branch.self c.args.thread.now c.loop-branch.k c.in-Some.branch c.requires.fitted c.requires.fork c.loop-branch.invariant (sym c.active.ensures ∙ c.in-Some.is) in
+    let fitted = fitted_b c.args.self.now c.loop-branch.self c.args.thread.now c.loop-branch.k c.in-Some.branch c.requires.fitted c.requires.fork c.loop-branch.invariant (sym c.active.ensures ∙ c.in-Some.is) in
+    let few = fitted.seated.valid.shape.few_threads in
+    let same = fitted.seated.valid.threads in
+    let boxes = fitted.seated.mailboxes in
+    let smaller : 3 * (256 - (c.in-Some.branch - 1)) + 3 < 3 * (257 - c.args.thread.now.number) + 1 = omega (arith, le, lt, few, same, boxes) in
+    let above = sent_above c.args.self.now c.loop-branch.self c.args.thread.now c.loop-branch.k c.in-Some.branch c.requires.fitted c.requires.fork c.loop-branch.invariant (sym c.active.ensures ∙ c.in-Some.is) c.send.new.self c.send.ensures.moves in
+    let count = c.send.ensures.moves.alike.count in
+    let inside : c.in-Some.branch - 1 < length c.send.new.self.mail.ends = omega (arith, lt, count) in
+    let called = is_called c.args.self.now c.loop-branch.self c.args.thread.now c.loop-branch.k c.in-Some.branch c.requires.fitted c.requires.fork c.loop-branch.invariant (sym c.active.ensures ∙ c.in-Some.is) c.send.new.self c.send.ensures.moves c.send.ensures.lacks c.send.ensures.sent in
+    (search rules, (within.0, (within.1, (inside, (search rules, (called, above))))))
+
+pub run_child-finish-requires : goal.run_child-finish-requires
+run_child-finish-requires g t c κs within =
+    let number = number1 c.args.self.now c.args.mailbox c.requires.fitted.seated c.requires.inside c.requires.called.idle c.self.inside.code.now c.self.inside.places.items (g.P.Port.state c.self.inside.port) (g.P.Port.state c.take.new.self)
+    c.self.inside.seats.items c.self.inside.hands.items c.self.view_is c.in-Some.packet c.in-Some.ensures.state c.in-Some.ensures.job c.index_mut.result.now c.index_mut.ensures.value c.take-2.result c.take-2.ensures.value
+    c.deref_mut-thread.result.now (c.in-Some-take.is ∙ ap Some (sym c.deref_mut-thread.ensures.value))
+    (record { thread = c.take-2.new.self; job = c.index_mut.result.now.job }) c.begin.new.self c.begin.ensures.number (λ xs job is. c.begin.ensures.stands xs job (subst (λ (p : Packet). IsJob (plain_packet p) job) (sym c.deref.ensures) is)) in
+    let smaller : 3 * (257 - c.begin.new.self.number) + 2 < 3 * (256 - c.args.mailbox) + 3 = omega (arith, number) in
+    let fitted = raw_fitted c.args.self.now c.args.mailbox c.requires.fitted.seated c.requires.inside c.requires.called.idle c.self.inside.code.now c.self.inside.places.items (g.P.Port.state c.self.inside.port) (g.P.Port.state c.take.new.self)
+    c.self.inside.seats.items c.self.inside.hands.items c.self.view_is c.in-Some.packet c.in-Some.ensures.state c.in-Some.ensures.job c.index_mut.result.now c.index_mut.ensures.value c.take-2.result c.take-2.ensures.value
+    c.deref_mut-thread.result.now (c.in-Some-take.is ∙ ap Some (sym c.deref_mut-thread.ensures.value))
+    (record { thread = c.take-2.new.self; job = c.index_mut.result.now.job }) c.requires.fitted.tells in
+    let begun = raw_followed c.args.self.now c.args.mailbox c.requires.fitted.seated c.requires.inside c.requires.called.idle c.self.inside.code.now c.self.inside.places.items (g.P.Port.state c.self.inside.port) (g.P.Port.state c.take.new.self)
+    c.self.inside.seats.items c.self.inside.hands.items c.self.view_is c.in-Some.packet c.in-Some.ensures.state c.in-Some.ensures.job c.index_mut.result.now c.index_mut.ensures.value c.take-2.result c.take-2.ensures.value
+    c.deref_mut-thread.result.now (c.in-Some-take.is ∙ ap Some (sym c.deref_mut-thread.ensures.value))
+    (record { thread = c.take-2.new.self; job = c.index_mut.result.now.job }) c.begin.new.self c.begin.ensures.number (λ xs job is. c.begin.ensures.stands xs job (subst (λ (p : Packet). IsJob (plain_packet p) job) (sym c.deref.ensures) is)) in
+    let above = raw_above c.args.self.now c.args.mailbox c.requires.fitted.seated c.requires.inside c.requires.called.idle c.self.inside.code.now c.self.inside.places.items (g.P.Port.state c.self.inside.port) (g.P.Port.state c.take.new.self)
+    c.self.inside.seats.items c.self.inside.hands.items c.self.view_is c.in-Some.packet c.in-Some.ensures.state c.in-Some.ensures.job c.index_mut.result.now c.index_mut.ensures.value c.take-2.result c.take-2.ensures.value
+    c.deref_mut-thread.result.now (c.in-Some-take.is ∙ ap Some (sym c.deref_mut-thread.ensures.value))
+    (record { thread = c.take-2.new.self; job = c.index_mut.result.now.job }) c.begin.new.self c.begin.ensures.number (λ xs job is. c.begin.ensures.stands xs job (subst (λ (p : Packet). IsJob (plain_packet p) job) (sym c.deref.ensures) is)) c.requires.above in
+    (search rules, (within.0, (within.1, (fitted, (c.begin.ensures.loaded, (c.begin.ensures.running, (begun, above)))))))
