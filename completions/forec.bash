@@ -91,8 +91,10 @@ _forec() {
   done
   pages=$(_forec_pages "${COMP_WORDS[0]}")
   case ${#before[@]}:${before[0]-} in
-    0:*) _forec_offer_words "$_forec_commands ${pages:+help --help --version}" "$word" ;;
+    0:*) _forec_offer_words "$_forec_commands ${pages:+help loop replay-field watch --help --version}" "$word" ;;
     1:help) _forec_offer_words "$pages" "$word" ;;
+    1:loop | 1:watch) _forec_offer_files '*.toml' "$word" ;;
+    1:replay-field) compopt -o filenames 2> /dev/null; mapfile -t COMPREPLY < <(compgen -d -- "$word") ;;
     *:run | *:check | *:threads | *:code | *:explain | *:gen) _forec_offer_after "$word" "${before[@]}" ;;
   esac
 }
