@@ -96,6 +96,8 @@ def main() -> int:
         return 2
     except BrokenPipeError:
         return 8
+    except KeyboardInterrupt:
+        return 130
 
 
 if __name__ == "__main__":

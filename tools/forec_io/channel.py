@@ -131,8 +131,9 @@ class Polled:
             return found
 
     def write(self, values: Mapping[str, Number]) -> None:
-        self._wanted = values
-        self._changed.set()
+        if values != self._wanted:
+            self._wanted = values
+            self._changed.set()
 
     def safe(self) -> None:
         self.write(self._safe)
