@@ -17,6 +17,9 @@ Where the program doesn't get to the end of the tick, `step` raises `Ended`, who
 `trap 7 12:9 divide` or `end 6` (it ended in tick 6, so there is no tick 7), and whose `status` is the exit status. `close`, which also
 leaving the `with` block does, ends the trace and returns the last line, as `rows 20`. Then `ended` and `status` have it too.
 
+`give` and `take` are the two halves of `step`, for a loop that has something to do before the line comes; `answers` says whether it comes
+within some time.
+
 `controller.line` is the printed line of the last tick, `tick` its number, `inputs` and `outputs` its values. With `record="a.trace"` the
 rows are also written to a file: `forec run PROGRAM < a.trace` gives the same ticks again.
 

@@ -84,7 +84,7 @@ def main() -> int:
     outer = parser()
     words = outer.parse_args()
     if words.command == "loop" and words.keys:
-        sys.stdout.write(configuration.KEYS)
+        print("\n".join(configuration.keys()), end="")
         return 0
     if words.path is None:
         outer.error("a configuration is wanted")
@@ -96,6 +96,8 @@ def main() -> int:
         return 2
     except BrokenPipeError:
         return 8
+    except KeyboardInterrupt:
+        return 130
 
 
 if __name__ == "__main__":

@@ -75,8 +75,8 @@ class ServiceManager:
 
 
 def real_time(priority: int, lock: bool) -> Iterator[str]:
-    """Gives this thread, and the processes that it starts from now on, a real-time priority, and locks the memory of this process; what
-    the system doesn't allow is told."""
+    """Gives this thread, and the threads and processes that it starts from now on, a real-time priority, and locks the memory of this
+    process; what the system doesn't allow is told."""
     if priority:
         try:
             os.sched_setscheduler(0, os.SCHED_FIFO, os.sched_param(priority))

@@ -82,7 +82,7 @@ class Polled:
         self.name = setup.name
         self.poll = table.take("poll", float, min(setup.period / 2, 0.1), least=1e-5)
         self.refresh = table.take("refresh", float, 0.5, least=0)
-        self.stale = table.take("stale", float, stale, least=self.poll)
+        self.stale = table.take("stale", float, stale and max(stale, 2 * self.poll), least=self.poll)
         self.safe_after: float | None = table.take("safe_after", float, None, least=0)
         self._names = tuple(setup.inputs)
         self._fault: str | None = "not connected yet"
@@ -131,8 +131,9 @@ class Polled:
             return found
 
     def write(self, values: Mapping[str, Number]) -> None:
-        self._wanted = values
-        self._changed.set()
+        if values != self._wanted:
+            self._wanted = values
+            self._changed.set()
 
     def safe(self) -> None:
         self.write(self._safe)

@@ -43,8 +43,9 @@ flush = "tick"              whether what is logged is handed to the system with 
 
 [channels.NAME]
 kind = "modbus"             modbus, mqtt, can, csv, lines or simulation; the adapter has the other keys
-poll, refresh, stale        seconds: how often the peer is asked, how often outputs that haven't changed are sent again, and how old a value
-                            may be
+poll = 0.01                 seconds after which the peer is asked again; half a period if it isn't given, and 0.1 at most
+refresh = 0.5               seconds after which outputs that haven't changed are sent again
+stale = 0.5                 seconds that a value lasts; if it isn't given 0.5 for modbus, 1.0 for can, and any age for the others
 safe_after = 2.0            seconds for which the channel may be down before all outputs get their safe values; never if it isn't given
 
 [inputs.NAME]               each input of the program has a table
@@ -167,6 +168,14 @@ def fits(program: str, found: tuple[list[str], list[str]], inputs: dict[str, Inp
         faults += [f"{kind}s.{name}: {program} has no such {kind}" for name in named if name not in known]
     if faults:
         raise ConfigFault("\n".join(faults))
+
+
+def keys() -> Iterator[str]:
+    """All keys of a configuration, with those of each adapter."""
+    yield KEYS
+    for kind, (module, _) in KINDS.items():
+        title, _, rest = (importlib.import_module(f"forec_io.{module}").__doc__ or "").partition("\n\n")
+        yield f'kind = "{kind}": {title}\n\n{rest}'
 
 
 def libraries(config: Config) -> list[tuple[str, str]]:

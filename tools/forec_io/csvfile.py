@@ -40,7 +40,8 @@ class CsvFile:
         self._values: dict[str, Number] = {}
         self._rows: Iterator[list[str]] = iter(())
         self._columns: dict[str, int] = {}
-        self._files: list[IO[Any]] = []
+        self._reading: IO[str] | None = None
+        self._writing: IO[bytes] | None = None
         self._writer: Any = None
         self._told: list[str] = []
         self._bad = False  # whether a row without a number was told already
@@ -53,8 +54,7 @@ class CsvFile:
             self._open_source()
         if self._target:
             # pylint: disable-next=consider-using-with
-            target = open(self._target, "wb", buffering=0)
-            self._files.append(target)
+            target = self._writing = open(self._target, "wb", buffering=0)
             # Each row is written whole and at once, so that a process that is killed leaves whole rows.
             self._writer = csv.writer(SimpleNamespace(write=lambda text: target.write(text.encode())), lineterminator="\n")
             self._writer.writerow(self._outputs.values())
@@ -83,9 +83,10 @@ class CsvFile:
         self.write(self._safe)
 
     def close(self) -> None:
-        for file in self._files:
-            file.close()
-        self._files, self._writer = [], None
+        for file in (self._reading, self._writing):
+            if file:
+                file.close()
+        self._writer = None
 
     def told(self) -> list[str]:
         told, self._told = self._told, []
@@ -93,10 +94,11 @@ class CsvFile:
 
     def _open_source(self) -> None:
         """Begins to read at the first row."""
+        if self._reading:
+            self._reading.close()
         # pylint: disable-next=consider-using-with
-        file = open(self._source, encoding="utf-8", newline="")
-        self._files.append(file)
-        self._rows = csv.reader(file)
+        self._reading = open(self._source, encoding="utf-8", newline="")
+        self._rows = csv.reader(self._reading)
         names: list[str] = next(self._rows, [])
         self._columns = {column.strip(): at for at, column in enumerate(names)}
         missing = [column for column in self._inputs.values() if column not in self._columns]

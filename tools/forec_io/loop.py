@@ -112,6 +112,11 @@ class Loop:
             self._fail(f"the log can't be written: {fault.strerror}")
 
     def _start(self) -> None:
+        # The threads of the channels, and the controller, get the same priority: threads of Python hold one lock in turn, so a slow one
+        # would hold up the loop.
+        for text in real_time(self.config.priority, self.config.lock):
+            self._say(text)
+        sys.setswitchinterval(0.0005)
         for channel in self.channels:
             channel.start()
             if channel.bound:
@@ -122,10 +127,6 @@ class Loop:
         for channel in self.channels:
             if channel.fault:
                 self._say(f"the channel {channel.name} is down: {channel.fault}")
-        # The threads of the channels are started already, and so have the usual priority.
-        for text in real_time(self.config.priority, self.config.lock):
-            self._say(text)
-        sys.setswitchinterval(0.0005)
         # What there is by now is never looked at again by the collector, which takes so little time in a tick.
         gc.collect()
         gc.freeze()

@@ -9,7 +9,6 @@ import subprocess
 from .table import ConfigFault
 
 ROOT = os.path.dirname(os.path.dirname(os.path.dirname(os.path.realpath(__file__))))
-CHECK_SECONDS = 300  # the command may have to compile itself
 
 
 def command() -> str:
@@ -49,8 +48,7 @@ def signals_of(path: str) -> tuple[list[str], list[str]]:
             text = file.read()
     except OSError as fault:
         raise ConfigFault(f"{path}: {fault.strerror}") from None
-    checked = subprocess.run([command(), "check", "--", path], stdin=subprocess.DEVNULL, stdout=subprocess.PIPE, text=True,
-                             timeout=CHECK_SECONDS, check=False)
+    checked = subprocess.run([command(), "check", "--", path], stdin=subprocess.DEVNULL, stdout=subprocess.PIPE, text=True, check=False)
     words = checked.stdout.split()
     if words[:1] != ["ok"]:
         raise ConfigFault(f"{path}: {checked.stdout.strip() or f'check ends with status {checked.returncode}'}")
