@@ -132,9 +132,9 @@ _forec() {
   case ${#before[@]}:${before[0]-} in
     0:*) _forec_offer_words "$_forec_commands ${pages:+help loop replay-field version watch --help --version} $(_forec_tools_here "${COMP_WORDS[0]}")" "$word" ;;
     1:help) _forec_offer_words "$pages" "$word" ;;
-    *:why | *:lint | *:test | *:trace | *:table | *:plot | *:new) _forec_offer_for_tool "${before[0]}" "$word" $((${#before[@]} - 1)) ;;
     1:loop | 1:watch) _forec_offer_files '*.toml' "$word" ;;
     1:replay-field) compopt -o filenames 2> /dev/null; mapfile -t COMPREPLY < <(compgen -d -- "$word") ;;
+    *:why | *:lint | *:test | *:trace | *:table | *:plot | *:new) _forec_offer_for_tool "${before[0]}" "$word" $((${#before[@]} - 1)) ;;
     *:run | *:check | *:threads | *:code | *:explain | *:gen) _forec_offer_after "$word" "${before[@]}" ;;
   esac
 }
