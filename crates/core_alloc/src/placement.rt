@@ -22,6 +22,8 @@ impl Model for Placement {
 }
 
 impl Placement {
+    ghost use Rattle.core_alloc.specs.Places.{is_on_one_core};
+
     /// The placement of these threads on so many cores.
     pub(crate) fn of(cores: u32, places: Vec<u32>) -> Placement
         requires some { 1 ≤ cores }
@@ -54,5 +56,11 @@ impl Placement {
         ensures below { result < self.now.cores }
     {
         self.places[t as usize]
+    }
+    /// Whether all threads have the same core.
+    pub fn has_one_core(&self) -> bool
+        ensures { result ≡ is_on_one_core self.now.places }
+    {
+        self.places.iter().all(|core| *core == self.places[0])
     }
 }
