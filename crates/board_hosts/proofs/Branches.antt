@@ -12,7 +12,7 @@ use Rattle.thread_code.specs.declared.instruction.CodeParts.{CodeParts}
 use Rattle.thread_code.specs.Plain.{PlainCode, plain_code}
 use Rattle.thread_code.specs.Valid.{of_shape, IsValidCode}
 use Rattle.copy_slots.proofs.Seating.{snoc_cases}
-use Rattle.core_host.specs.Posts.{IsBranchOf}
+use Rattle.tick_jobs.specs.Branches.{IsBranchOf}
 use Rattle.board_hosts.specs.Boards.{AreEnds}
 
 parent_of : (l : List ThreadShape) (t : ℕ) (x : ThreadShape) → t < length l → x ≡ slice_index_or l t x → (get_or (map plain_thread l) t blank_thread).parent ≡ x.parent

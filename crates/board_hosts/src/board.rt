@@ -2,7 +2,7 @@
 
 ghost use Rattle.std.specs.Prelude.{◌≡◌, ◌<◌, ℕ, suc, Some, IfOk, length, slice_get};
 ghost use Rattle.thread_code.specs.Plain.{plain_code};
-ghost use Rattle.core_host.specs.Posts.{IsBranchOf};
+ghost use Rattle.tick_jobs.specs.Branches.{IsBranchOf};
 ghost use Rattle.board_hosts.specs.Boards.{AreEnds, ArePorts};
 
 use core_alloc::Placement;

@@ -23,21 +23,20 @@ use Rattle.copy_slots.specs.Ports.{child_at, on_child, on_taker, sent_by, got_by
 use Rattle.core_host.specs.declared.active.Active.{Active}
 use Rattle.core_host.specs.declared.seat.Seat.{Seat}
 use Rattle.core_host.specs.Asking.{Replies}
-use Rattle.core_host.specs.Posts.{IsBranchOf}
+use Rattle.tick_jobs.specs.Branches.{IsBranchOf}
 use Rattle.core_host.specs.Changes.{Extends, Gains, HasWorked, forked}
 use Rattle.core_host.specs.Descending.{IsRunning, HasFinished, IsHeld}
-use Rattle.core_host.specs.Writing.{Log, heard, told}
-use Rattle.core_host.specs.Done.{InJob}
+use Rattle.tick_jobs.specs.Writing.{Log, heard, told}
+use Rattle.core_host.specs.Done.{InJob, through}
 use Rattle.core_host.specs.Keeping.{State, code_in, IsSeated, LastReply, last, AtFork}
 use Rattle.core_host.specs.Waiting.{jobs_out, HasTold, IsForked, IsGathering, IsWorking, IsWaiting, IsAtRest, IsBetween, rests}
 use Rattle.core_host.specs.Serving.{ChangesBranches, Touches}
-use Rattle.core_host.proofs.Mails.{by_equal, get_set, get_set_else, children_count, child_here, child_else, parent_on_child, is_child, extends_same, extends_one}
+use Rattle.core_host.proofs.Mails.{children_count, child_here, child_else, parent_on_child, is_child, extends_same, extends_one}
+use Rattle.tick_jobs.proofs.Lists.{by_equal, get_set, get_set_else, length_then}
 use Rattle.core_host.proofs.KeepingLemmas.{done_keeps}
-use Rattle.core_host.proofs.RunChildren.{same_test}
-use Rattle.core_host.proofs.ChildrenRunLemmas.{no_pairs}
-use Rattle.core_host.proofs.LoadLemmas.{length_then}
-use Rattle.core_host.proofs.Logs.{Ends, job_ends}
-use Rattle.core_host.proofs.AfterFork.{fork_at, is_forked}
+use Rattle.tick_jobs.proofs.Pairs.{same_test, no_pairs}
+use Rattle.tick_jobs.proofs.Logs.{Ends, job_ends}
+use Rattle.core_host.proofs.AfterFork.{fork_at, is_forked, posts_answered}
 use Rattle.core_host.proofs.OneMoreExchange.{changed, changed_is, told_posts}
 use Rattle.core_host.proofs.WaitingLemmas.{work_keeps, has_keeps}
 
@@ -174,8 +173,8 @@ module _ (s0 : State) (m : ℕ) (inside : m < length s0.mail.ends) (seated : IsS
     abbrev q : PlainPacket
     q = plain_packet p
 
-    ends : Ends c h s0.mail (w.work.jobs ++ w.work.job ∷ []) q
-    ends = job_ends c h s0.mail w.work.jobs w.work.job q (let k = in_threads in omega (arith, number, k)) (in_job_of s0 h w) gives
+    ends : Ends c h (through c s0.mail) (w.work.jobs ++ w.work.job ∷ []) q
+    ends = job_ends c h (through c s0.mail) (posts_answered c s0.mail) w.work.jobs w.work.job q (let k = in_threads in omega (arith, number, k)) (in_job_of s0 h w) gives
 
     its_answers : PacketAnswers (CodeAlone c) (length c.threads) (suc m) (taken s0.mail m) q
     its_answers = record {

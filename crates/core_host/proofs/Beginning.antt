@@ -17,17 +17,18 @@ use Rattle.copy_slots.specs.Mail.{taker_looked}
 use Rattle.copy_slots.specs.Ports.{child_at, on_taker, sent_by, got_by, taken_by, answered_by, words_of_parent, words_of_child, IsChild, ChildIs, sent, taken, answered, looked_by_child, after_take}
 use Rattle.core_host.specs.declared.seat.Seat.{Seat}
 use Rattle.core_host.specs.Asking.{Asks}
-use Rattle.core_host.specs.Posts.{Mail, IsBranchOf}
+use Rattle.core_host.specs.Posts.{Mail}
+use Rattle.tick_jobs.specs.Branches.{IsBranchOf}
 use Rattle.core_host.specs.Changes.{Extends, Grown, HasWorked, replied, forked}
 use Rattle.core_host.specs.Descending.{IsRunning}
-use Rattle.core_host.specs.Writing.{told}
+use Rattle.tick_jobs.specs.Writing.{told}
 use Rattle.core_host.specs.Keeping.{State, code_in, Alike, IsSeated}
 use Rattle.core_host.specs.Waiting.{IsWorking, IsAtRest, IsBetween, rests}
 use Rattle.core_host.specs.Serving.{Touches, OnlyLooks, HasMissed}
-use Rattle.core_host.proofs.Mails.{by_equal, alike_then, children_count, child_here, child_else, parent_on_child, is_child, extends_same, extends_one, extends_then, some_once}
+use Rattle.core_host.proofs.Mails.{alike_then, children_count, child_here, child_else, parent_on_child, is_child, extends_same, extends_one, extends_then}
+use Rattle.tick_jobs.proofs.Lists.{by_equal, some_once, length_then}
 use Rattle.core_host.proofs.KeepingLemmas.{idle_keeps, grown_then, seated_by}
 use Rattle.core_host.proofs.RunChildren.{jobs_more}
-use Rattle.core_host.proofs.LoadLemmas.{length_then}
 use Rattle.core_host.proofs.RunChild.{job_can_begin, job_room, job_small, job_is, at_work, work_begins, taken_now, answered_same, holds_now, leaves_begin, in_job}
 use Rattle.core_host.proofs.SchedulerCalls.{took}
 use Rattle.core_host.proofs.OneMoreExchange.{posts_told}

@@ -15,8 +15,9 @@ use Rattle.core_machine.specs.Forks.{jobs_at, with_replies}
 use Rattle.copy_slots.specs.declared.view.Taker.{Taker}
 use Rattle.copy_slots.specs.Ports.{child_at, IsChild}
 use Rattle.core_host.specs.declared.seat.Seat.{Seat}
-use Rattle.core_host.specs.Posts.{Mail, IsBranchOf}
-use Rattle.core_host.specs.Writing.{Log, heard, told}
+use Rattle.core_host.specs.Posts.{Mail}
+use Rattle.tick_jobs.specs.Branches.{IsBranchOf}
+use Rattle.tick_jobs.specs.Writing.{Log, heard, told}
 use Rattle.core_host.specs.Changes.{Grown}
 use Rattle.core_host.specs.Done.{HasDone, InJob}
 use Rattle.core_host.specs.Ending.{HasReplied}
@@ -27,7 +28,8 @@ use Rattle.core_host.specs.Serving.{ChangesBranches, KeepsServing}
 use Rattle.core_host.specs.OnJob.{IsOnJob, KeepsOthers}
 use Rattle.core_host.specs.Rounds.{CanServe, IsSameRound}
 use Rattle.core_host.specs.declared.round.Round.{Round}
-use Rattle.core_host.proofs.Mails.{state, alike_then, extends_same, get_set_else}
+use Rattle.core_host.proofs.Mails.{state, alike_then, extends_same}
+use Rattle.tick_jobs.proofs.Lists.{get_set_else}
 use Rattle.core_host.proofs.KeepingLemmas.{grown_same, grown_then, packet_keeps, seated_by}
 use Rattle.core_host.proofs.AfterFork.{fork_at, is_forked}
 use Rattle.core_host.proofs.OneMoreExchange.{changed_is, told_posts, posts_told}

@@ -10,7 +10,8 @@ use Rattle.core_machine.specs.Forks.{jobs_at}
 use Rattle.combine_tree.specs.declared.packet.Packet.{Packet}
 use Rattle.copy_slots.specs.Ports.{parent_at, sent_by, sent, got}
 use Rattle.core_host.specs.declared.seat.Seat.{Seat}
-use Rattle.core_host.specs.Posts.{Mail, IsBranchOf}
+use Rattle.core_host.specs.Posts.{Mail}
+use Rattle.tick_jobs.specs.Branches.{IsBranchOf}
 use Rattle.core_host.specs.Changes.{Extends}
 use Rattle.core_host.specs.Calling.{ServesFork, HasSentMore, HasCalled, IsCalling, HasServedFork}
 use Rattle.core_host.specs.Descending.{Descends}
@@ -19,11 +20,13 @@ use Rattle.core_host.specs.Moving.{ChangesPacket, HasSent, HasGot, HasLooked}
 use Rattle.core_host.specs.OnJob.{KeepsOthers}
 use Rattle.core_host.specs.Serving.{ChangesBranches}
 use Rattle.core_host.specs.Waiting.{IsOut, HasTold, IsForked, IsGathering, CanDescend}
-use Rattle.core_host.proofs.Mails.{extends_one, extends_same, extends_then, some_once}
-use Rattle.core_host.proofs.KeepingLemmas.{branch_above, parent_once, leaves_same, leaves_then, leaves_less, seated_keeps}
-use Rattle.core_host.proofs.LoadLemmas.{get_then, length_then, take_next, take_end}
-use Rattle.core_host.proofs.RunChildren.{pairs_more}
-use Rattle.core_host.proofs.ChildrenRunLemmas.{may_keeps, no_pairs}
+use Rattle.core_host.proofs.Mails.{extends_one, extends_same, extends_then}
+use Rattle.tick_jobs.proofs.Lists.{some_once, get_then, length_then}
+use Rattle.core_host.proofs.KeepingLemmas.{leaves_same, leaves_then, leaves_less, seated_keeps}
+use Rattle.tick_jobs.proofs.Branching.{branch_above, parent_once}
+use Rattle.core_host.proofs.LoadLemmas.{take_next, take_end}
+use Rattle.tick_jobs.proofs.Pairs.{pairs_more, no_pairs}
+use Rattle.core_host.proofs.ChildrenRunLemmas.{may_keeps}
 use Rattle.core_host.proofs.OneMoreExchange.{changed, changed_is, lacks_keeps, told_one, told_still, told_back, answers}
 use Rattle.core_host.proofs.WaitingLemmas.{told_keeps, heard_keeps, between_moves}
 use Rattle.core_host.proofs.Seats.{vacant_by, can_keep, can_above}

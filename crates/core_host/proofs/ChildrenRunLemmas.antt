@@ -13,19 +13,18 @@ use Rattle.core_machine.specs.Threads.{Loaded}
 use Rattle.core_machine.specs.Forks.{jobs_at}
 use Rattle.copy_slots.specs.Ports.{parent_at, sent_by, sent}
 use Rattle.core_host.specs.Asking.{ArePaused}
-use Rattle.core_host.specs.Posts.{Mail, IsBranchOf}
+use Rattle.core_host.specs.Posts.{Mail}
+use Rattle.tick_jobs.specs.Branches.{IsBranchOf}
 use Rattle.core_host.specs.Done.{Posts}
 use Rattle.core_host.specs.Keeping.{State, code_in, Leaves, IsSeated, IsFitted, HasPacket, LacksPacket, Quiet, QuietAbove, IsCalled, IsBack, MayAsk, IsJobFor, AtFork, CanSend, HasHeard, HaveHeard}
 use Rattle.core_host.specs.Moving.{ChangesPacket, HasSent, HasGot}
 use Rattle.core_host.specs.ChildrenRun.{Consulted}
-use Rattle.core_host.proofs.Mails.{some_once}
-use Rattle.core_host.proofs.KeepingLemmas.{leaves_same, leaves_then, seated_keeps, moved_seated, fitted_keeps, moved_quiet, parent_once}
-use Rattle.core_host.proofs.Send.{called_now, quiet_now, at_map}
-use Rattle.core_host.proofs.RunChildren.{all_leaves, quiet_all, parent_else, hand_else, its_reply, heard_now, posts_now, pairs_more}
-
-pub no_pairs : (ws : List Written) → pair_up ws [] ≡ []
-no_pairs [] = refl
-no_pairs (w ∷ ws) = refl
+use Rattle.tick_jobs.proofs.Lists.{some_once, at_map}
+use Rattle.core_host.proofs.KeepingLemmas.{leaves_same, leaves_then, seated_keeps, moved_seated, fitted_keeps, moved_quiet}
+use Rattle.tick_jobs.proofs.Branching.{parent_once}
+use Rattle.core_host.proofs.Send.{called_now, quiet_now}
+use Rattle.core_host.proofs.RunChildren.{all_leaves, quiet_all, parent_else, hand_else, its_reply, heard_now, posts_now}
+use Rattle.tick_jobs.proofs.Pairs.{pairs_more}
 
 pub consulted_none : (a : State) (h : Thread) → AtFork a h → QuietAbove a h.number → Consulted a a h 0
 consulted_none a h fork above = record {

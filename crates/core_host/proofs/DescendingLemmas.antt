@@ -15,7 +15,8 @@ use Rattle.core_machine.specs.Forks.{jobs_at}
 use Rattle.copy_slots.specs.Ports.{answered, ChildIs}
 use Rattle.core_host.specs.declared.active.Active.{Active}
 use Rattle.core_host.specs.declared.round.Round.{Round}
-use Rattle.core_host.specs.Posts.{Mail, IsBranchOf}
+use Rattle.core_host.specs.Posts.{Mail}
+use Rattle.tick_jobs.specs.Branches.{IsBranchOf}
 use Rattle.core_host.specs.Changes.{Grown, Gains, HasProgressed, answered_more}
 use Rattle.core_host.specs.Descending.{Descends, IsActive, IsRunning, HasFinished, IsHeld, KeepsRound}
 use Rattle.core_host.specs.Keeping.{State, code_in, IsSeated, Leaves, Quiet}
@@ -23,9 +24,9 @@ use Rattle.core_host.specs.OnJob.{KeepsOthers}
 use Rattle.core_host.specs.Rounds.{IsSameRound}
 use Rattle.core_host.specs.Serving.{Touches, OnlyLooks, KeepsServing}
 use Rattle.core_host.specs.Waiting.{HasChild, IsFor, IsForked, IsGathering, IsAtWork, IsWorking, IsWaiting, IsBetween, IsVacant, CanDescend}
-use Rattle.core_host.proofs.Mails.{by_equal}
-use Rattle.core_host.proofs.KeepingLemmas.{parent_once, leaves_same, leaves_then, leaves_less, seated_keeps}
-use Rattle.core_host.proofs.Send.{at_map}
+use Rattle.tick_jobs.proofs.Lists.{by_equal, at_map}
+use Rattle.core_host.proofs.KeepingLemmas.{leaves_same, leaves_then, leaves_less, seated_keeps}
+use Rattle.tick_jobs.proofs.Branching.{parent_once}
 use Rattle.core_host.proofs.OneMoreExchange.{changed, changed_is}
 use Rattle.core_host.proofs.WaitingLemmas.{gathering_keeps, between_keeps, between_still}
 use Rattle.core_host.proofs.Seats.{vacant_by, not_vacant, can_keep}

@@ -9,43 +9,21 @@ use Rattle.core_machine.specs.declared.thread.Event.TheVariants as event
 use Rattle.core_machine.specs.Threads.{Loaded, StandsFor, HasSettled, HasReply, Left_by}
 use Rattle.core_machine.specs.Forks.{jobs_at, with_replies}
 use Rattle.core_host.specs.Posts.{Mail}
-use Rattle.core_host.specs.Done.{Posts, InJob}
-use Rattle.core_host.specs.Writing.{heard, told}
+use Rattle.core_host.specs.Done.{Posts, InJob, through}
+use Rattle.tick_jobs.specs.Writing.{heard, told}
 use Rattle.core_host.specs.Keeping.{State, code_in, IsFitted, Leaves, AtFork, HaveHeard}
 use Rattle.core_host.proofs.KeepingLemmas.{fitted_keeps}
-use Rattle.core_host.proofs.Logs.{allowance_in}
-use Rattle.core_host.proofs.AfterFork.{in_job_by, fork_at, some_branches, inside, forks_bound, units_within, in_job_now, with_none}
+use Rattle.tick_jobs.proofs.Logs.{allowance_in}
+use Rattle.core_host.proofs.AfterFork.{fork_at}
+use Rattle.tick_jobs.proofs.AfterFork.{in_job_by, some_branches, inside, forks_bound, units_within, in_job_now, with_none}
 
 -- a job in progress that came to so many forks
 abbrev pub Counted : PlainCode → Thread → Mail → List Job → Job → ℕ → Type 0
 Counted c h m jobs job n = (i : InJob c h m jobs job) × (length i.log.before ≡ n)
 
-times_grow : (m u v : ℕ) → u ≤ v → m * u ≤ m * v
-times_grow zero u v le = omega arith
-times_grow (suc m) u v le = let ih = times_grow m u v le in omega (arith, ih, le)
-
-times_grow_left : (m k u : ℕ) → m ≤ k → m * u ≤ k * u
-times_grow_left m k zero le = omega arith
-times_grow_left zero k (suc u) le = omega arith
-times_grow_left (suc m) zero (suc u) le = absurd (omega arith)
-times_grow_left (suc m) (suc k) (suc u) le = let ih = times_grow_left m k (suc u) (omega (arith, le)) in omega (arith, ih)
-
-pub fits_forks : (n l a : ℕ) → n + 1 ≤ (l + 2) * a + (l + 1) → l < 2 ^ 32 → a ≤ 2 ^ 62 → n + 1 < 2 ^ 128
-fits_forks n l a h small low =
-    let one = times_grow (l + 2) a (2 ^ 62) low in
-    let two = times_grow_left (l + 2) (2 ^ 32 + 2) (2 ^ 62) (omega (arith, small)) in
-    omega (arith, h, one, two, small)
-
-pub replied_by : (h : Thread) (e : Event) → Left_by h e → (e ≡ event.Fork → ⊥) → HasReply h
-replied_by h event.Fork left n = absurd (n refl)
-replied_by h event.Paused left n = left.0
-replied_by h event.Ended left n = left
-replied_by h (event.Trapped place trap) left n = left
-replied_by h event.Over left n = left
-
 pub job_runs : (c : PlainCode) (h h1 : Thread) (m : Mail) (jobs : List Job) (job : Job) (n : ℕ) → h1.number ≡ h.number → ((xs : List Exchange) → StandsFor c h xs → StandsFor c h1 xs) → Counted c h m jobs job n → Counted c h1 m jobs job n
 job_runs c h h1 m jobs job n number stands i =
-    let j = in_job_by c h1 m jobs job h.number number i.0.log i.0.posts (stands (heard c h.number jobs job i.0.log) i.0.stands) in (j.0, j.1 ∙ i.1)
+    let j = in_job_by c h1 (through c m) jobs job h.number number i.0.log i.0.posts (stands (heard c h.number jobs job i.0.log) i.0.stands) in (j.0, j.1 ∙ i.1)
 
 pub allowance_is : (c : PlainCode) (h : Thread) (m : Mail) (jobs : List Job) (job : Job) → InJob c h m jobs job → h.allowance ≡ allowance_of job
 allowance_is c h m jobs job i = allowance_in c h i.log.exchanges job i.log.before (heard c h.number jobs job i.log) i.stands refl
@@ -90,5 +68,5 @@ module _ (a b : State) (fitted : IsFitted a) (h0 h h1 : Thread) (number : h.numb
         let here = subst (λ x. StandsFor (plain_code x) h1 (with_replies xs [])) (sym leaves'.code) before in
         let after = joins xs (settles xs here) in
         let there = subst (λ x. StandsFor (plain_code x) h3 (with_replies xs rs)) leaves'.code after in
-        let j = in_job_now (code_in b) fitted_b.seated.valid h1 loaded1 settled numbers jobs job now.0.log now.0.stands h3 (number3 ∙ number2) b'.mail rs heard_all.count (posts (told (code_in b) h1.number jobs job l) now.0.posts) there in
+        let j = in_job_now (code_in b) fitted_b.seated.valid h1 loaded1 settled numbers jobs job now.0.log now.0.stands h3 (number3 ∙ number2) (through (code_in b) b'.mail) rs heard_all.count (posts (told (code_in b) h1.number jobs job l) now.0.posts) there in
         subst (λ x. Counted (plain_code x) h3 b'.mail jobs job (n + 1)) leaves.code (j.0, j.1 ∙ ap (λ k. k + 1) now.1)

@@ -11,16 +11,16 @@ use Rattle.core_machine.specs.declared.thread.Thread.{Thread}
 use Rattle.core_machine.specs.Forks.{jobs_at}
 use Rattle.copy_slots.specs.Ports.{sent, got}
 use Rattle.core_host.specs.declared.seat.Seat.{Seat}
-use Rattle.core_host.specs.Posts.{Mail, IsBranchOf}
+use Rattle.core_host.specs.Posts.{Mail}
+use Rattle.tick_jobs.specs.Branches.{IsBranchOf}
 use Rattle.core_host.specs.Changes.{Extends, Awaits}
 use Rattle.core_host.specs.Keeping.{State, code_in, IsSeated, LacksPacket, HasHeard, HaveHeard}
 use Rattle.core_host.specs.Moving.{ChangesPacket, HasGot, HasLooked}
 use Rattle.core_host.specs.Waiting.{IsOut, HasTold, IsFor, IsGathering, HasReplies}
 use Rattle.core_host.specs.Serving.{ChangesBranches}
-use Rattle.core_host.proofs.Mails.{extends_one, extends_same, some_once}
-use Rattle.core_host.proofs.LoadLemmas.{get_then, length_then}
-use Rattle.core_host.proofs.Send.{at_map}
-use Rattle.core_host.proofs.RunChildren.{pairs_more}
+use Rattle.core_host.proofs.Mails.{extends_one, extends_same}
+use Rattle.tick_jobs.proofs.Lists.{some_once, get_then, length_then, at_map}
+use Rattle.tick_jobs.proofs.Pairs.{pairs_more}
 use Rattle.core_host.proofs.OneMoreExchange.{changed, changed_is, told_still, told_back, answers}
 use Rattle.core_host.proofs.NextJob.{JobBetween}
 use Rattle.core_host.proofs.SendJobs.{branches_same, branches_then, branches_seated, branch_moves}

@@ -8,10 +8,10 @@ use Rattle.core_machine.specs.Threads.{Loaded, StandsFor, HasSettled}
 use Rattle.core_machine.specs.Forks.{jobs_at, with_replies}
 use Rattle.core_host.specs.Calling.{HasServedFork}
 use Rattle.core_host.specs.Changes.{HasProgressed, sent_more}
-use Rattle.core_host.specs.Writing.{told}
+use Rattle.tick_jobs.specs.Writing.{told}
 use Rattle.core_host.specs.Descending.{Descends}
 use Rattle.core_host.specs.Keeping.{State, code_in, IsSeated, AtFork, HaveHeard}
-use Rattle.core_host.specs.Posts.{IsBranchOf}
+use Rattle.tick_jobs.specs.Branches.{IsBranchOf}
 use Rattle.core_host.specs.Serving.{ChangesBranches}
 use Rattle.core_host.specs.Waiting.{HasTold, IsForked, IsGathering, HasReplies, IsAtWork, IsWorking, IsWaiting}
 use Rattle.core_host.proofs.OneMoreExchange.{changed, changed_is}

@@ -10,29 +10,7 @@ use Rattle.combine_tree.specs.declared.packet.PacketKind.TheVariants as kind
 use Rattle.combine_tree.specs.Plain.{plain_kind, plain_packet}
 use Rattle.core_machine.specs.Forks.{IsReplyKind}
 use Rattle.core_host.specs.Keeping.{State, HasHeard, HaveHeard}
-use Rattle.core_host.proofs.Mails.{some_once}
-
-pub take_more : {A : Type 0} (l : List A) (k : ℕ) (x : A) → slice_get l k ≡ Some x → take (suc k) l ≡ take k l ++ x ∷ []
-take_more [] zero x e = cc
-take_more [] (suc k) x e = cc
-take_more (y ∷ l) zero x e = ap (λ z. z ∷ []) (some_once y x e)
-take_more (y ∷ l) (suc k) x e = ap (λ m. y ∷ m) (take_more l k x e)
-
-pub take_count : {A : Type 0} (l : List A) (k : ℕ) → k ≤ length l → length (take k l) ≡ k
-take_count l zero le = refl
-take_count [] (suc k) le = absurd (omega arith)
-take_count (y ∷ l) (suc k) le = ap suc (take_count l k (omega (arith, le)))
-
-pub take_all : {A : Type 0} (l : List A) (k : ℕ) → length l ≤ k → take k l ≡ l
-take_all [] zero le = refl
-take_all [] (suc k) le = refl
-take_all (y ∷ l) zero le = absurd (omega arith)
-take_all (y ∷ l) (suc k) le = ap (λ m. y ∷ m) (take_all l k (omega (arith, le)))
-
-pub past_end : {A : Type 0} (l : List A) (k : ℕ) → slice_get l k ≡ None → length l ≤ k
-past_end [] k e = omega arith
-past_end (y ∷ l) zero e = cc
-past_end (y ∷ l) (suc k) e = let ih = past_end l k e in omega (arith, ih)
+use Rattle.tick_jobs.proofs.Lists.{some_once}
 
 pub reply_kind : (q : PacketKind) (p : Packet) (r : Reply) → q ≡ p.kind → IsReply (plain_packet p) r → IsReplyKind q
 reply_kind kind.Blank p (WasPaused c u) e is = let k = ap plain_kind e ∙ is.0 in cc

@@ -8,7 +8,8 @@ use Rattle.core_host.specs.Descending.{IsHeld}
 use Rattle.core_host.specs.Keeping.{State, IsSeated}
 use Rattle.core_host.specs.Waiting.{IsBetween, waits}
 use Rattle.core_host.specs.Serving.{Touches}
-use Rattle.core_host.proofs.Mails.{get_set, get_set_else, extends_same}
+use Rattle.core_host.proofs.Mails.{extends_same}
+use Rattle.tick_jobs.proofs.Lists.{get_set, get_set_else}
 use Rattle.core_host.proofs.KeepingLemmas.{grown_same}
 use Rattle.core_host.proofs.WaitingLemmas.{waiting_keeps}
 

@@ -19,7 +19,7 @@ use Rattle.core_machine.specs.Threads.{Loaded}
 use Rattle.core_bells.specs.Ropes.{RopeState, IsSameRope, rooms_of}
 use Rattle.copy_slots.specs.Ports.{child_at, ChildIs}
 use Rattle.core_alloc.specs.Places.{Places}
-use Rattle.core_host.specs.Posts.{IsBranchOf}
+use Rattle.tick_jobs.specs.Branches.{IsBranchOf}
 use Rattle.core_host.specs.Loads.{is_on, AreOwn}
 use Rattle.core_host.specs.Done.{HasDone}
 use Rattle.core_host.specs.Keeping.{State, code_in, IsSeated, Sits, Idle, HasPacket}

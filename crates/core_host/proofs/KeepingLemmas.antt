@@ -14,33 +14,16 @@ use Rattle.copy_slots.specs.declared.view.PacketAt.TheVariants.{Fresh, Held}
 use Rattle.copy_slots.specs.declared.view.Sender.{Sender}
 use Rattle.copy_slots.specs.declared.view.Taker.{Taker}
 use Rattle.copy_slots.specs.Ports.{parent_at, child_at, sent_by, got_by, taken_by, answered_by, words_of_parent, words_of_child, looked_by_parent, looked_by_child, IsParent, IsChild, ChildIs, sent, got, taken, answered}
-use Rattle.core_host.specs.Posts.{Mail, IsBranchOf, AreReplies, replies_to}
+use Rattle.core_host.specs.Posts.{Mail, AreReplies}
+use Rattle.tick_jobs.specs.Branches.{IsBranchOf, replies_to}
 use Rattle.core_host.specs.Changes.{Extends, Grown}
 use Rattle.core_host.specs.Done.{Posts, HasDone}
 use Rattle.core_host.specs.Keeping.{State, code_in, Alike, Leaves, IsSeated, IsFitted, LastReply, Idle, Ready, blank, reply, HasPacket, Quiet}
 use Rattle.core_host.specs.Moving.{ChangesPacket}
-use Rattle.core_host.proofs.Mails.{by_equal, alike_then, extends_same, extends_then}
+use Rattle.core_host.proofs.Mails.{alike_then, extends_same, extends_then}
+use Rattle.tick_jobs.proofs.Lists.{by_equal}
 
 -- ---- the tree of threads
-
-pub branch_above : (c : PlainCode) → IsValidCode c → (p k : ℕ) → suc k < length c.threads → IsBranchOf c.shape p k → p < suc k
-branch_above c valid p k lt mine =
-    let child = valid.shape.each_child (suc k) (omega arith) (omega (arith, lt, valid.threads)) in
-    let same : child.parent ≡ p = once child.parent p (sym child.is ∙ mine) in
-    omega (arith, same, child.below)
-  where
-    once : (a b : ℕ) → Some a ≡ Some b → a ≡ b
-    once a b e = cc
-
-pub parent_once : (c : PlainCode) (p q k : ℕ) → IsBranchOf c.shape p k → IsBranchOf c.shape q k → p ≡ q
-parent_once c p q k h g = once p q (sym h ∙ g)
-  where
-    once : (a b : ℕ) → Some a ≡ Some b → a ≡ b
-    once a b e = cc
-
-pub has_parent : (c : PlainCode) → IsValidCode c → (k : ℕ) → suc k < length c.threads → (p : ℕ) × IsBranchOf c.shape p k
-has_parent c valid k lt =
-    let child = valid.shape.each_child (suc k) (omega arith) (omega (arith, lt, valid.threads)) in (child.parent, child.is)
 
 -- ---- what a thread has done
 

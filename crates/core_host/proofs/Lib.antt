@@ -1,17 +1,9 @@
-pub mod Copies
-pub mod Rooms
-pub mod KeptCopies
-pub mod Once
-pub mod AtEachFork
-pub mod FollowingLemmas
 pub mod Mails
 pub mod KeepingLemmas
 pub mod Send
 pub mod Hearing
 pub mod RunChildren
 pub mod ChildrenRunLemmas
-pub mod Replying
-pub mod Logs
 pub mod RunChild
 pub mod AfterFork
 pub mod Finishing
@@ -34,7 +26,6 @@ pub mod DescendingLemmas
 pub mod CallingLemmas
 pub mod GoingOn
 pub mod HostedLemmas
-pub mod TickOutcome
 pub mod TickRun
 pub mod LoadLemmas
 pub mod Newly

@@ -5,19 +5,7 @@ use Rattle.std.proofs.lemmas.Bool.{cases_lt}
 use Rattle.std.proofs.lemmas.Bool.Decides.{nat_tests}
 use Rattle.forec_kernel.specs.Combining.{contains}
 use Rattle.core_host.specs.Loads.{is_on, AreOwn}
-use Rattle.core_host.proofs.Mails.{by_equal, some_once}
-use Rattle.core_host.proofs.Hearing.{take_more, take_all}
-
-pub get_then : {A : Type 0} (l : List A) (x : A) (i : ℕ) (y : A) → slice_get (l ++ x ∷ []) i ≡ Some y → ((i ≡ length l) × (y ≡ x)) ⊎ (slice_get l i ≡ Some y)
-get_then [] x zero y e = inl (refl, sym (some_once x y e))
-get_then [] x (suc zero) y e = cc
-get_then [] x (suc (suc i)) y e = cc
-get_then (z ∷ l) x zero y e = inr e
-get_then (z ∷ l) x (suc i) y e = ⊎_elim (λ p. inl (ap suc p.0, p.1)) (λ p. inr p) (get_then l x i y e)
-
-pub length_then : {A : Type 0} (l : List A) (x : A) → length (l ++ x ∷ []) ≡ length l + 1
-length_then [] x = refl
-length_then (y ∷ l) x = let ih = length_then l x in omega (arith, ih)
+use Rattle.tick_jobs.proofs.Lists.{by_equal, some_once, take_more, take_all}
 
 front_at : (l : List ℕ) (x k d : ℕ) → k < length l → get_or (l ++ x ∷ []) k d ≡ get_or l k d
 front_at [] x k d lt = absurd (omega arith)

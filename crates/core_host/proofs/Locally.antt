@@ -97,7 +97,3 @@ serves_all code work blanks placement cores same count each placed once below al
           record { blank = plain_packet at.0; is = blank_at blanks k at.0 at.1; room = each k at.0 at.1 };
       root = λ on. refl;
     }
-
-pub ok_then : {A E : Type 0} {P Q : A → Type 0} (r : Result A E) → IfOk r P → ((x : A) → P x → Q x) → IfOk r Q
-ok_then (Ok x) had then = then x had
-ok_then (Err e) had then = had

@@ -26,21 +26,6 @@ state code places mail seats hands = record { code = code; places = places; mail
 
 -- ---- lists
 
-pub get_set : {A : Type 0} (l : List A) (k : ℕ) (a : A) → k < length l → slice_get (slice_set l k a) k ≡ Some a
-get_set [] k a h = absurd (omega arith)
-get_set (x ∷ xs) zero a h = refl
-get_set (x ∷ xs) (suc k) a h = get_set xs k a (omega arith)
-
-pub get_set_else : {A : Type 0} (l : List A) (k j : ℕ) (a : A) → j ≢ k → slice_get (slice_set l k a) j ≡ slice_get l j
-get_set_else [] k j a n = refl
-get_set_else (x ∷ xs) zero zero a n = absurd (n refl)
-get_set_else (x ∷ xs) zero (suc j) a n = refl
-get_set_else (x ∷ xs) (suc k) zero a n = refl
-get_set_else (x ∷ xs) (suc k) (suc j) a n = get_set_else xs k j a (λ e. n (ap suc e))
-
-pub some_once : {A : Type 0} (x y : A) → Some x ≡ Some y → x ≡ y
-some_once x y e = cc
-
 -- ---- ends
 
 module _ {Q : Type 0} where
@@ -99,12 +84,6 @@ module _ {Q : Type 0} where
   pub is_child : (o : Option (Taker Q)) (b : Bool) → IsChild o b → (y : Taker Q) × (o ≡ Some y) × (y.holds ≡ b)
   is_child None b h = absurd h
   is_child (Some y) b h = (y, refl, h)
-
-pub by_equal : (i j : ℕ) {A : Type 0} → (i ≢ j → A) → (i ≡ j → A) → A
-by_equal zero zero f g = g refl
-by_equal zero (suc j) f g = f (λ e. omega (arith, e))
-by_equal (suc i) zero f g = f (λ e. omega (arith, e))
-by_equal (suc i) (suc j) f g = by_equal i j (λ n. f (λ e. n (omega (arith, e)))) (λ e. g (ap suc e))
 
 -- ---- growing
 

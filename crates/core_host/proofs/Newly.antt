@@ -19,15 +19,17 @@ use Rattle.copy_slots.specs.declared.view.Taker.{Taker}
 use Rattle.copy_slots.specs.Ports.{Ends, parent_at, child_at, sent_by, got_by, taken_by, answered_by, IsParent, IsChild, sent, got}
 use Rattle.core_alloc.specs.Places.{Places}
 use Rattle.core_host.specs.declared.seat.Seat.{Seat}
-use Rattle.core_host.specs.Posts.{Mail, IsBranchOf, AreReplies}
+use Rattle.core_host.specs.Posts.{Mail, AreReplies}
+use Rattle.tick_jobs.specs.Branches.{IsBranchOf}
 use Rattle.core_host.specs.Loads.{is_on, IsNewParent, IsNewChild, ArePlaced, CanLoad, AreAll, IsNewSeat, contains_core}
 use Rattle.core_host.specs.Done.{HasDone}
 use Rattle.core_host.specs.Keeping.{State, Sits, Idle, none, blank, HasPacket, Quiet}
 use Rattle.core_host.specs.Waiting.{HasChild, IsBetween, IsVacant, rests}
 use Rattle.core_host.specs.Hosted.{Hosted, hosted, is_here, IsWhole}
-use Rattle.core_host.specs.Rests.{IsReady, IsHosted}
+use Rattle.core_host.specs.Rests.{IsHosted}
+use Rattle.tick_jobs.specs.Ready.{IsReady}
 use Rattle.core_host.specs.Runs.{HasJobs}
-use Rattle.core_host.proofs.KeepingLemmas.{branch_above, has_parent}
+use Rattle.tick_jobs.proofs.Branching.{branch_above, has_parent}
 
 parent_past : {Q : Type 0} (es : List (Ends Q)) (k : ℕ) → length es ≤ k → parent_at es k ≡ None
 parent_past [] k le = refl

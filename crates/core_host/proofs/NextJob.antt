@@ -6,10 +6,10 @@ use Rattle.thread_code.specs.Plain.{plain_code}
 use Rattle.core_machine.specs.declared.thread.Thread.{Thread}
 use Rattle.core_machine.specs.Threads.{Loaded}
 use Rattle.core_machine.specs.Forks.{jobs_at}
-use Rattle.core_host.specs.Posts.{IsBranchOf}
+use Rattle.tick_jobs.specs.Branches.{IsBranchOf}
 use Rattle.core_host.specs.Keeping.{State, code_in, IsSeated, MayAsk, IsJobFor, AtFork, CanSend}
 use Rattle.core_host.specs.Waiting.{IsOut}
-use Rattle.core_host.proofs.Send.{at_map}
+use Rattle.tick_jobs.proofs.Lists.{at_map}
 
 -- ---- places in the list of jobs
 

@@ -12,15 +12,17 @@ use Rattle.copy_slots.specs.declared.view.PacketAt.TheVariants.{Out}
 use Rattle.copy_slots.specs.declared.view.Sender.{Sender}
 use Rattle.copy_slots.specs.Ports.{parent_at, sent_by, got_by, IsParent, sent, got}
 use Rattle.core_host.specs.declared.seat.Seat.{Seat}
-use Rattle.core_host.specs.Posts.{Mail, IsBranchOf, AreReplies, replies_to}
-use Rattle.core_host.specs.Done.{AreAbove, Posts}
+use Rattle.core_host.specs.Posts.{Mail, AreReplies}
+use Rattle.tick_jobs.specs.Branches.{IsBranchOf, replies_to, AreAbove}
+use Rattle.core_host.specs.Done.{Posts}
 use Rattle.core_host.specs.Keeping.{State, code_in, HasPacket, LacksPacket}
 use Rattle.core_host.specs.Moving.{ChangesPacket, HasSent, HasGot, HasLooked}
 use Rattle.core_host.specs.Waiting.{jobs_out, IsOut, HasTold}
-use Rattle.core_host.proofs.Mails.{by_equal}
+use Rattle.tick_jobs.proofs.Lists.{by_equal}
 use Rattle.core_host.proofs.KeepingLemmas.{packet_keeps}
 use Rattle.core_host.proofs.Send.{got_packet}
-use Rattle.core_host.proofs.RunChildren.{jobs_once, jobs_more, replies_more, jobs_first, jobs_then, replies_then, same_test, other_test, allowed_more}
+use Rattle.core_host.proofs.RunChildren.{jobs_once, jobs_more, replies_more}
+use Rattle.tick_jobs.proofs.Pairs.{jobs_first, jobs_then, replies_then, same_test, other_test, allowed_more}
 
 -- ---- the same code and places
 

@@ -12,17 +12,19 @@ use Rattle.core_machine.specs.declared.thread.Thread.{Thread}
 use Rattle.core_machine.specs.Threads.{Loaded, StandsFor, CanRun}
 use Rattle.core_machine.specs.Forks.{jobs_at, with_replies}
 use Rattle.copy_slots.specs.Ports.{parent_at, child_at}
+use Rattle.core_host.specs.Done.{through}
 use Rattle.core_host.specs.declared.seat.Seat.{Seat}
-use Rattle.core_host.specs.Posts.{Mail, IsBranchOf}
+use Rattle.core_host.specs.Posts.{Mail}
+use Rattle.tick_jobs.specs.Branches.{IsBranchOf}
 use Rattle.core_host.specs.Changes.{Grown}
 use Rattle.core_host.specs.Descending.{IsActive, IsRunning, IsHeld}
-use Rattle.core_host.specs.Writing.{Log, heard, told}
+use Rattle.tick_jobs.specs.Writing.{Log, heard, told}
 use Rattle.core_host.specs.Keeping.{State, code_in, Alike, IsSeated, HaveHeard}
 use Rattle.core_host.specs.Waiting.{HasTold, IsGathering, HasReplies, IsAtWork, IsWorking, IsWaiting, WaitsAt}
 use Rattle.core_host.specs.OnJob.{IsOnJob}
 use Rattle.core_host.specs.Serving.{ChangesBranches, Touches}
-use Rattle.core_host.proofs.Mails.{get_set_else, some_once}
-use Rattle.core_host.proofs.AfterFork.{with_none, in_job_now}
+use Rattle.tick_jobs.proofs.Lists.{get_set_else, some_once}
+use Rattle.tick_jobs.proofs.AfterFork.{with_none, in_job_now}
 use Rattle.core_host.proofs.OneMoreExchange.{changed, changed_is, told_posts, posts_told}
 use Rattle.core_host.proofs.WaitingLemmas.{work_keeps, waiting_keeps}
 use Rattle.core_host.proofs.GatherReplies.{all_heard}
@@ -169,7 +171,7 @@ module _ (s : State) (seated : IsSeated s) (h : Thread) (loaded : Loaded (code_i
   pub job_goes_on : IsOnJob s h3 jobs job
   job_goes_on =
       let number = number3 ∙ number2 in
-      let j = in_job_now (code_in s) seated.valid h loaded w.forked.settled w.forked.numbers jobs job log stands h3 number s.mail rs r.all (told_posts s h.number (pairs ++ pair_up ws rs) all_told) stands3 in
+      let j = in_job_now (code_in s) seated.valid h loaded w.forked.settled w.forked.numbers jobs job log stands h3 number (through (code_in s) s.mail) rs r.all (told_posts s h.number (pairs ++ pair_up ws rs) all_told) stands3 in
       record {
         log = j.0.log;
         stands = j.0.stands;

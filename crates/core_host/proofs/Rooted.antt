@@ -14,16 +14,18 @@ use Rattle.combine_tree.specs.declared.packet.PacketKind.{PacketKind}
 use Rattle.combine_tree.specs.Plain.{plain_packet}
 use Rattle.core_machine.specs.declared.thread.Thread.{Thread}
 use Rattle.core_machine.specs.Threads.{Loaded, CanBegin, StandsFor, HasReply, Gives}
+use Rattle.core_host.proofs.AfterFork.{posts_answered}
 use Rattle.core_host.specs.declared.seat.Seat.{Seat}
 use Rattle.core_host.specs.Posts.{Mail}
-use Rattle.core_host.specs.Done.{HasDone, InJob}
+use Rattle.core_host.specs.Done.{HasDone, InJob, through}
 use Rattle.core_host.specs.Keeping.{State, code_in, Sits, QuietAbove}
 use Rattle.core_host.specs.Following.{HasFollowed}
 use Rattle.core_host.specs.Ending.{HasReplied}
 use Rattle.core_host.specs.Rests.{RootRests}
-use Rattle.core_host.proofs.Mails.{state, some_once, get_set, get_set_else}
+use Rattle.core_host.proofs.Mails.{state}
+use Rattle.tick_jobs.proofs.Lists.{some_once, get_set, get_set_else}
 use Rattle.core_host.proofs.KeepingLemmas.{same_child, quiet_keeps}
-use Rattle.core_host.proofs.Logs.{job_begins, job_ends}
+use Rattle.tick_jobs.proofs.Logs.{job_begins, job_ends}
 
 -- another thread in the seat of thread 0
 pub seat_quiet : (s : State) (y : Seat) → QuietAbove s 0 → QuietAbove (record s { seats = slice_set s.seats 0 y }) 0
@@ -73,7 +75,7 @@ module _ (s0 : State) (valid0 : IsValidCode (code_in s0)) (root : RootRests s0) 
           let some = valid.shape.some in
           let same = valid.threads in
           let n = number_1 in
-          job_begins (plain_code code) valid h h1 mail jobs job number (omega (arith, n, some, same)) here (stands here.exchanges job isjob here.stands)
+          job_begins (plain_code code) valid h h1 (through (plain_code code) mail) jobs job number (omega (arith, n, some, same)) here (stands here.exchanges job isjob here.stands)
 
       pub root_followed : (job : Job) → IsJob (plain_packet p) job → HasFollowed raw1 h1
       root_followed job isjob = let i = in_job1 root.thread root.sits root.jobs job root.done isjob in record { jobs = root.jobs; job = job; in_job = i.0; first = i.1 }
@@ -125,7 +127,7 @@ module _ (s0 : State) (valid0 : IsValidCode (code_in s0)) (root : RootRests s0) 
             let some = valid.shape.some in
             let same = valid.threads in
             let n = number_2 in
-            let e = job_ends (plain_code code) h2 s3.mail jobs job (plain_packet p') (omega (arith, n, some, same)) j
+            let e = job_ends (plain_code code) h2 (through (plain_code code) s3.mail) (posts_answered (plain_code code) s3.mail) jobs job (plain_packet p') (omega (arith, n, some, same)) j
             (λ xs st. subst (λ (w : CodeParts). Gives (plain_code w) h2.number xs (plain_packet p')) code2_is (gives xs (subst (λ (w : CodeParts). StandsFor (plain_code w) h2 xs) (sym code2_is) st))) in
             let mail2_is = ap (λ (s : State). s.mail) view2 in
             let here : HasReplied raw2 h2 (jobs ++ job ∷ []) (plain_packet p') = record {

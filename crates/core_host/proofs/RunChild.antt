@@ -22,18 +22,21 @@ use Rattle.copy_slots.specs.declared.view.Sender.{Sender}
 use Rattle.copy_slots.specs.declared.view.Taker.{Taker}
 use Rattle.copy_slots.specs.Mail.{taker_took, taker_answered}
 use Rattle.copy_slots.specs.Ports.{parent_at, child_at, on_child, on_taker, sent_by, got_by, taken_by, answered_by, words_of_parent, words_of_child, looked_by_child, IsParent, IsChild, ChildIs, sent, taken, answered}
+use Rattle.core_host.proofs.AfterFork.{posts_answered}
 use Rattle.core_host.specs.declared.seat.Seat.{Seat}
 use Rattle.core_host.specs.Asking.{Replies, ArePaused, MayFollow, Asks}
-use Rattle.core_host.specs.Posts.{IsBranchOf}
+use Rattle.tick_jobs.specs.Branches.{IsBranchOf}
 use Rattle.core_host.specs.Changes.{Extends}
-use Rattle.core_host.specs.Done.{HasDone, InJob}
+use Rattle.core_host.specs.Done.{HasDone, InJob, through}
 use Rattle.core_host.specs.Keeping.{State, code_in, Alike, Leaves, IsSeated, LastReply, none, last, Idle, QuietAbove, LacksPacket, IsBack}
 use Rattle.core_host.specs.Following.{HasFollowed}
-use Rattle.core_host.proofs.Mails.{by_equal, get_set, get_set_else, children_count, child_here, child_else, parent_on_child, is_child, extends_same, extends_one}
-use Rattle.core_host.proofs.KeepingLemmas.{same_child, branch_above, has_parent, done_keeps, quiet_keeps, leaves_then, leaves_less, seated_keeps}
-use Rattle.core_host.proofs.Once.{answers_once}
+use Rattle.core_host.proofs.Mails.{children_count, child_here, child_else, parent_on_child, is_child, extends_same, extends_one}
+use Rattle.tick_jobs.proofs.Lists.{by_equal, get_set, get_set_else}
+use Rattle.core_host.proofs.KeepingLemmas.{same_child, done_keeps, quiet_keeps, leaves_then, leaves_less, seated_keeps}
+use Rattle.tick_jobs.proofs.Branching.{branch_above, has_parent}
+use Rattle.tick_jobs.proofs.Once.{answers_once}
 use Rattle.core_host.proofs.RunChildren.{jobs_once, jobs_more}
-use Rattle.core_host.proofs.Logs.{front_once, job_begins, Ends, job_ends}
+use Rattle.tick_jobs.proofs.Logs.{front_once, job_begins, Ends, job_ends}
 
 -- ---- a child's end, and its thread's seat
 
@@ -206,7 +209,7 @@ module _ (s0 : State) (m : ℕ) (seated : IsSeated s0) (inside : m < length s0.m
 
       pub in_job : (i : InJob (code_in s0) h1 at_work.mail idle.jobs asks.job) × (i.log.before ≡ [])
       in_job =
-          job_begins (code_in s0) seated.valid h0 h1 at_work.mail idle.jobs asks.job number (let n = number_is in omega (arith, n, in_threads)) done_work
+          job_begins (code_in s0) seated.valid h0 h1 (through (code_in s0) at_work.mail) idle.jobs asks.job number (let n = number_is in omega (arith, n, in_threads)) done_work
           (stands done_work.exchanges asks.job job_is done_work.stands)
 
       pub followed : HasFollowed at_work h1
@@ -222,8 +225,8 @@ module _ (s0 : State) (m : ℕ) (seated : IsSeated s0) (inside : m < length s0.m
         number3 : h2.number ≡ suc m
         number3 = number2 ∙ number_is
 
-        ends : Ends (code_in s0) h2 s3.mail (idle.jobs ++ asks.job ∷ []) q'
-        ends = job_ends (code_in s0) h2 s3.mail idle.jobs asks.job q' (let n = number3 in omega (arith, n, in_threads)) done3 gives
+        ends : Ends (code_in s0) h2 (through (code_in s0) s3.mail) (idle.jobs ++ asks.job ∷ []) q'
+        ends = job_ends (code_in s0) h2 (through (code_in s0) s3.mail) (posts_answered (code_in s0) s3.mail) idle.jobs asks.job q' (let n = number3 in omega (arith, n, in_threads)) done3 gives
 
         child3 : child_at s3.mail.ends m ≡ child_at at_work.mail.ends m
         child3 = leaves3.children m (omega arith)

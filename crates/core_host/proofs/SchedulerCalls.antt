@@ -21,7 +21,8 @@ use Rattle.core_host.specs.Posts.{Mail}
 use Rattle.core_host.specs.Done.{InJob}
 use Rattle.core_host.specs.Keeping.{State, code_in, Leaves, IsSeated, IsFitted, Idle, QuietAbove, LacksPacket, IsBack}
 use Rattle.core_host.specs.Following.{HasFollowed}
-use Rattle.core_host.proofs.Mails.{state, some_once, child_here, is_child, parent_on_child}
+use Rattle.core_host.proofs.Mails.{state, child_here, is_child, parent_on_child}
+use Rattle.tick_jobs.proofs.Lists.{some_once}
 use Rattle.core_host.proofs.RunChild.{job_can_begin, job_room, job_small, at_work, seated_work, above_work, in_job, followed, its_replies, holds3, at_end, leaves_all, above_end, back}
 
 -- what a child's end has taken

@@ -7,7 +7,7 @@ use Rattle.core_machine.specs.declared.thread.Thread.{Thread}
 use Rattle.core_host.specs.declared.seat.Seat.{Seat}
 use Rattle.core_host.specs.Keeping.{State, Sits}
 use Rattle.core_host.specs.Waiting.{IsBetween, IsVacant, CanDescend, rests, waits}
-use Rattle.core_host.proofs.Mails.{some_once}
+use Rattle.tick_jobs.proofs.Lists.{some_once}
 
 pub vacant_by : (a b : State) (t : ℕ) → slice_get b.seats t ≡ slice_get a.seats t → IsVacant a t → IsVacant b t
 vacant_by a b t same v = record { seat = v.seat; at = same ∙ v.at; none = v.none }

@@ -14,11 +14,14 @@ use Rattle.copy_slots.specs.declared.view.Sender.{Sender}
 use Rattle.copy_slots.specs.Mail.{sender_got, sender_sent, sender_looked}
 use Rattle.copy_slots.specs.Ports.{parent_at, child_at, sent_by, taken_by, answered_by, words_of_parent, turn_of, ParentIs, sent, got, taken, turn}
 use Rattle.core_host.specs.Asking.{Replies, ArePaused, MayFollow, Asks}
-use Rattle.core_host.specs.Posts.{Mail, IsBranchOf}
+use Rattle.core_host.specs.Posts.{Mail}
+use Rattle.tick_jobs.specs.Branches.{IsBranchOf}
 use Rattle.core_host.specs.Keeping.{State, code_in, IsSeated, reply, HasPacket, LacksPacket, Quiet, IsCalled, IsBack, MayAsk}
 use Rattle.core_host.specs.Moving.{ChangesPacket, HasSent, HasGot, HasLooked}
-use Rattle.core_host.proofs.Mails.{with_parent, moves_parent, moves_then, parent_now, place_now, sent_now, got_now, sent_before, got_before, is_parent, is_child, extends_same, extends_one, get_set, get_set_else}
-use Rattle.core_host.proofs.KeepingLemmas.{branch_above, moved_idle}
+use Rattle.core_host.proofs.Mails.{with_parent, moves_parent, moves_then, parent_now, place_now, sent_now, got_now, sent_before, got_before, is_parent, is_child, extends_same, extends_one}
+use Rattle.tick_jobs.proofs.Lists.{get_set, get_set_else}
+use Rattle.core_host.proofs.KeepingLemmas.{moved_idle}
+use Rattle.tick_jobs.proofs.Branching.{branch_above}
 
 -- no thread is a branch of itself
 own_branch : (c : PlainCode) → IsValidCode c → (k : ℕ) → suc k < length c.threads → IsBranchOf c.shape (suc k) k → ⊥
@@ -139,11 +142,3 @@ back_turn s k back =
     ap (λ o. turn_of o (child_at s.mail.ends k)) x.1 ∙ ap (turn_of (Some x.0)) y.1 ∙ omega (arith, sent, done)
 
 -- ---- the job of a branch
-
-pub at_map : {A B : Type 0} (f : A → B) (l : List A) (k : ℕ) (b : B) → slice_get (map f l) k ≡ Some b → (a : A) × (slice_get l k ≡ Some a) × (f a ≡ b)
-at_map f [] k b e = cc
-at_map f (a ∷ l) zero b e = (a, refl, some_one (f a) b e)
-  where
-    some_one : {B : Type 0} (x y : B) → Some x ≡ Some y → x ≡ y
-    some_one x y e = cc
-at_map f (a ∷ l) (suc k) b e = at_map f l k b e

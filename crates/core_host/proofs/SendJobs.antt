@@ -8,7 +8,7 @@ use Rattle.thread_code.specs.Plain.{plain_code}
 use Rattle.core_machine.specs.declared.thread.Thread.{Thread}
 use Rattle.core_machine.specs.Forks.{jobs_at}
 use Rattle.copy_slots.specs.Ports.{sent_by, sent, got}
-use Rattle.core_host.specs.Posts.{IsBranchOf}
+use Rattle.tick_jobs.specs.Branches.{IsBranchOf}
 use Rattle.core_host.specs.Changes.{Extends}
 use Rattle.core_host.specs.Keeping.{State, code_in, IsSeated, HasPacket, LacksPacket, IsJobFor, AtFork, CanSend}
 use Rattle.core_host.specs.Moving.{ChangesPacket, HasSent}
@@ -16,7 +16,7 @@ use Rattle.core_host.specs.Waiting.{HasTold}
 use Rattle.core_host.specs.Serving.{ChangesBranches}
 use Rattle.core_host.proofs.Mails.{alike_then, extends_one, extends_same}
 use Rattle.core_host.proofs.KeepingLemmas.{grown_same, grown_then, moved_grown, seated_by}
-use Rattle.core_host.proofs.Hearing.{take_all}
+use Rattle.tick_jobs.proofs.Lists.{take_all}
 use Rattle.core_host.proofs.LoadLemmas.{take_next}
 use Rattle.core_host.proofs.NextJob.{job, is_suc, mine_b, inside_m, not_yet, apart}
 use Rattle.core_host.proofs.NextJob as next

@@ -10,12 +10,14 @@ use Rattle.combine_tree.specs.declared.packet.Packet.{Packet}
 use Rattle.copy_slots.specs.declared.view.Taker.{Taker}
 use Rattle.copy_slots.specs.Ports.{child_at, answered_by, words_of_parent, words_of_child, IsChild, ChildIs, taken, answered, looked_by_child, looked_by_parent}
 use Rattle.core_host.specs.declared.seat.Seat.{Seat}
-use Rattle.core_host.specs.Posts.{Mail, IsBranchOf}
+use Rattle.core_host.specs.Posts.{Mail}
+use Rattle.tick_jobs.specs.Branches.{IsBranchOf}
 use Rattle.core_host.specs.Changes.{Extends, Looked, Grown, IsIdle}
 use Rattle.core_host.specs.Keeping.{State, code_in, Alike, IsSeated, Quiet}
 use Rattle.core_host.specs.Waiting.{HasChild, IsAtRest, WaitsAt, IsBetween, IsVacant, rests, waits}
 use Rattle.core_host.specs.Serving.{Touches, OnlyLooks, HasMissed, AllMissed, KeepsServing}
-use Rattle.core_host.proofs.Mails.{by_equal, some_once, alike_then, extends_same}
+use Rattle.core_host.proofs.Mails.{alike_then, extends_same}
+use Rattle.tick_jobs.proofs.Lists.{by_equal, some_once}
 use Rattle.core_host.proofs.KeepingLemmas.{grown_same, grown_then, seated_by, same_child, quiet_keeps}
 use Rattle.core_host.proofs.WaitingLemmas.{between_keeps, between_still}
 use Rattle.core_host.proofs.Seats.{vacant_by, not_vacant}

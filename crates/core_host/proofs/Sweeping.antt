@@ -11,7 +11,7 @@ use Rattle.core_host.specs.Changes.{Grown, HasWorked, HasProgressed, replied, fo
 use Rattle.core_host.specs.Keeping.{State, code_in}
 use Rattle.core_host.specs.Serving.{AllMissed, KeepsServing}
 use Rattle.core_host.specs.Rounds.{SomeWorked, AllIdle}
-use Rattle.core_host.proofs.Mails.{by_equal}
+use Rattle.tick_jobs.proofs.Lists.{by_equal}
 use Rattle.core_host.proofs.ServingLemmas.{idle_from, missed_same, missed_then}
 
 -- ---- something was done

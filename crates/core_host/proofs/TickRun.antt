@@ -22,48 +22,24 @@ use Rattle.core_machine.specs.Replies.{Replies_by}
 use Rattle.std.specs.Prelude.{Option}
 use Rattle.core_bells.specs.Ropes.{RopeState}
 use Rattle.core_host.specs.Hung.{KeepsRope}
-use Rattle.core_host.specs.Posts.{IsBranchOf, HasPosted, HasPostedTaken}
+use Rattle.core_host.specs.Posts.{HasPosted, HasPostedTaken}
+use Rattle.tick_jobs.proofs.Readiness.{between_of, begins_by, replied_of}
+use Rattle.tick_jobs.specs.Branches.{IsBranchOf}
 use Rattle.core_host.specs.Done.{HasDone}
-use Rattle.core_host.specs.Jobs.{IsBetween, kind_of, job_of}
-use Rattle.core_host.specs.Outcomes.{IsReplied, outcome_in, HasOutputs, HasOutcome}
+use Rattle.tick_jobs.specs.Jobs.{IsBetween, kind_of, job_of}
+use Rattle.tick_jobs.specs.Outcomes.{IsReplied, outcome_in, HasOutputs, HasOutcome}
 use Rattle.core_host.specs.Loads.{is_on}
 use Rattle.core_host.specs.Keeping.{State, code_in, IsSeated, Sits, Idle, HasPacket, QuietAbove}
 use Rattle.core_host.specs.Waiting.{HasChild, IsBetween as IsServed, IsVacant, CanDescend, rests}
 use Rattle.core_host.specs.Ending.{HasReplied}
 use Rattle.core_host.specs.Hosted.{Hosted, hosted, state_in, code_of, is_here, IsWhole}
-use Rattle.core_host.specs.Rests.{IsReady, RootRests, IsHosted}
+use Rattle.core_host.specs.Rests.{RootRests, IsHosted}
+use Rattle.tick_jobs.specs.Ready.{IsReady}
 use Rattle.core_host.specs.Runs.{HasJobs, HasTicked}
 use Rattle.core_host.proofs.HostedLemmas.{hung_keeps}
-use Rattle.core_host.proofs.TickOutcome.{Told, told, keeps_now, jobs_are, goes_on_paused, comes_to, job_fits, fits_then}
+use Rattle.tick_jobs.proofs.TickOutcome.{Told, told, keeps_now, jobs_are, goes_on_paused, comes_to, job_fits, fits_then}
 
 -- ---- before
-
-between_of : (t : Thread) (k : PacketKind) → IsReady t k → IsBetween k
-between_of t kind.Blank h = tt
-between_of t kind.Paused h = tt
-between_of t kind.Start h = absurd h
-between_of t kind.Wake h = absurd h
-between_of t kind.Ended h = absurd h
-between_of t (kind.Trapped place trap) h = absurd h
-between_of t kind.Over h = absurd h
-
-begins_by : (t : Thread) (k : PacketKind) → IsReady t k → CanBegin t (kind_of k)
-begins_by t kind.Blank h = tt
-begins_by t kind.Paused h = h
-begins_by t kind.Start h = absurd h
-begins_by t kind.Wake h = absurd h
-begins_by t kind.Ended h = absurd h
-begins_by t (kind.Trapped place trap) h = absurd h
-begins_by t kind.Over h = absurd h
-
-pub replied_of : (t : Thread) (k : PacketKind) → Replies_by t k → IsReplied k
-replied_of t kind.Paused h = tt
-replied_of t kind.Ended h = tt
-replied_of t (kind.Trapped place trap) h = tt
-replied_of t kind.Over h = tt
-replied_of t kind.Blank h = absurd h
-replied_of t kind.Start h = absurd h
-replied_of t kind.Wake h = absurd h
 
 pub whole_here : (h : Hosted) → IsHosted h → IsWhole h → is_here h 0 ≡ true
 whole_here h inv whole = whole.all 0 (omega (arith, inv.valid.shape.some, inv.valid.threads))

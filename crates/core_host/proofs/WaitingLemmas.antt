@@ -10,12 +10,14 @@ use Rattle.core_machine.specs.Forks.{jobs_at}
 use Rattle.copy_slots.specs.declared.view.Taker.{Taker}
 use Rattle.copy_slots.specs.Ports.{parent_at, child_at, sent_by, got_by, taken_by, answered_by, IsChild}
 use Rattle.core_host.specs.declared.seat.Seat.{Seat}
-use Rattle.core_host.specs.Posts.{Mail, IsBranchOf, AreReplies, replies_to}
+use Rattle.core_host.specs.Posts.{Mail, AreReplies}
+use Rattle.tick_jobs.specs.Branches.{IsBranchOf, replies_to}
 use Rattle.core_host.specs.Keeping.{State, code_in, Alike, HasPacket, HasHeard}
 use Rattle.core_host.specs.Waiting.{jobs_out, HasTold, IsForked, IsGathering, IsAtWork, IsWaiting, IsAtRest, WaitsAt, IsBetween, rests, waits}
 use Rattle.core_host.specs.Serving.{ChangesBranches, Touches}
-use Rattle.core_host.proofs.KeepingLemmas.{same_child, idle_keeps, packet_keeps, parent_once}
-use Rattle.core_host.proofs.Send.{at_map}
+use Rattle.core_host.proofs.KeepingLemmas.{same_child, idle_keeps, packet_keeps}
+use Rattle.tick_jobs.proofs.Branching.{parent_once}
+use Rattle.tick_jobs.proofs.Lists.{at_map}
 use Rattle.core_host.proofs.OneMoreExchange.{changed, changed_is, lacks_keeps}
 
 module _ (a : State) (mail : Mail) (seats : List Seat) (hands : List (Option Packet)) (blanks : mail.blanks ≡ a.mail.blanks) (count : length mail.ends ≡ length a.mail.ends) where

@@ -5,7 +5,8 @@ use Rattle.forec_kernel.specs.Engine.{Reply, Written, Answered, pair_up}
 use Rattle.core_machine.specs.declared.thread.Thread.{Thread}
 use Rattle.core_machine.specs.Forks.{jobs_at}
 use Rattle.copy_slots.specs.Ports.{sent}
-use Rattle.core_host.specs.Posts.{Mail, IsBranchOf}
+use Rattle.core_host.specs.Posts.{Mail}
+use Rattle.tick_jobs.specs.Branches.{IsBranchOf}
 use Rattle.core_host.specs.Keeping.{State, code_in, Leaves, LacksPacket, HasHeard}
 use Rattle.core_host.specs.Moving.{ChangesPacket, HasSent, HasGot, HasLooked}
 use Rattle.core_host.specs.Descending.{Descends}

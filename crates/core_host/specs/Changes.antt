@@ -2,7 +2,8 @@
 use Rattle.std.specs.Prelude.{ℕ, suc, ◌≡◌, ◌<◌, true, false, List, [], ◌∷◌, ◌++◌, length}
 use Rattle.forec_kernel.specs.Shapes.{PlainShape}
 use Rattle.copy_slots.specs.Ports.{sent, got, taken, answered, looked_by_parent, looked_by_child, ChildIs}
-use Rattle.core_host.specs.Posts.{Mail, IsBranchOf}
+use Rattle.core_host.specs.Posts.{Mail}
+use Rattle.tick_jobs.specs.Branches.{IsBranchOf}
 
 -- a list keeps what it had, in front
 pub record Extends {A : Type 0} (before after : List A) : Type 0 where

@@ -17,7 +17,8 @@ use Rattle.copy_slots.specs.declared.view.PacketAt.TheVariants.{Fresh, Held, Out
 use Rattle.copy_slots.specs.Ports.{sent, taken, answered, parent_at, child_at, ParentIs, ChildIs}
 use Rattle.core_host.specs.declared.seat.Seat.{Seat}
 use Rattle.core_host.specs.Asking.{ArePaused}
-use Rattle.core_host.specs.Posts.{Mail, IsBranchOf}
+use Rattle.core_host.specs.Posts.{Mail}
+use Rattle.tick_jobs.specs.Branches.{IsBranchOf}
 use Rattle.core_host.specs.Changes.{Extends, Grown}
 use Rattle.core_host.specs.Done.{HasDone}
 

@@ -17,7 +17,8 @@ use Rattle.copy_slots.specs.declared.view.Sender.{Sender}
 use Rattle.copy_slots.specs.declared.view.Taker.{Taker}
 use Rattle.copy_slots.specs.Ports.{parent_at, child_at}
 use Rattle.core_alloc.specs.Places.{Places}
-use Rattle.core_host.specs.Posts.{Mail, IsBranchOf}
+use Rattle.core_host.specs.Posts.{Mail}
+use Rattle.tick_jobs.specs.Branches.{IsBranchOf}
 
 -- a thread's core is one of these
 abbrev pub is_on : List ℕ → List ℕ → ℕ → Bool

@@ -3,7 +3,7 @@ use Rattle.std.specs.Prelude.{ℕ, suc, ◌≡◌, List, [], length, slice_get}
 use Rattle.forec_kernel.specs.Engine.{Job}
 use Rattle.core_machine.specs.declared.thread.Thread.{Thread}
 use Rattle.core_machine.specs.Threads.{StandsFor}
-use Rattle.core_host.specs.Writing.{Log, heard, told}
+use Rattle.tick_jobs.specs.Writing.{Log, heard, told}
 use Rattle.core_host.specs.Changes.{Grown}
 use Rattle.core_host.specs.Keeping.{State, code_in, Alike}
 use Rattle.core_host.specs.Waiting.{HasTold, HasChild, IsBetween, IsVacant}

@@ -1,28 +1,17 @@
 -- What went through the mailboxes of a thread's branches: the jobs that the thread writes by itself, and the replies to them.
-use Rattle.std.specs.Prelude.{ℕ, suc, ◌≡◌, ◌==◌, cond, Some, List, [], ◌∷◌, map, length}
+use Rattle.std.specs.Prelude.{ℕ, suc, ◌≡◌, List, [], ◌∷◌, map, length}
 use Rattle.forec_kernel.specs.Packets.{PlainPacket}
 use Rattle.forec_kernel.specs.Packed.{AreJobs, IsReply}
 use Rattle.forec_kernel.specs.Engine.{Job, Reply, Exchange, Output, Allowed, Answers, Answered, pair_all, jobs_to, AllReply}
-use Rattle.forec_kernel.specs.Shapes.{PlainShape}
-use Rattle.forec_kernel.specs.WellFormed.{thread_of}
 use Rattle.thread_code.specs.Plain.{PlainCode}
-use Rattle.thread_code.specs.Valid.{of_shape}
 use Rattle.thread_code.specs.Alone.{CodeAlone}
 use Rattle.copy_slots.specs.Ports.{PortState, sent, got, taken}
+use Rattle.tick_jobs.specs.Branches.{IsBranchOf, replies_to}
 use Rattle.core_host.specs.declared.work.ForecWork.{ForecWork}
 
 -- what went through the mailboxes of a host
 abbrev pub Mail : Type 0
 Mail = PortState ForecWork PlainPacket
-
--- mailbox k is that of a branch of thread t
-abbrev pub IsBranchOf : PlainShape → ℕ → ℕ → Type 0
-IsBranchOf s t k = (thread_of (of_shape s) (suc k)).parent ≡ Some t
-
--- the replies of branch b, in order
-abbrev pub replies_to : ℕ → List Answered → List Reply
-replies_to b [] = []
-replies_to b (x ∷ rest) = cond (x.branch == b) (x.reply ∷ replies_to b rest) (replies_to b rest)
 
 abbrev pub AreReplies : List PlainPacket → List Reply → Type 0
 AreReplies [] [] = Unit {0}

@@ -2,24 +2,17 @@
 use Rattle.std.specs.Prelude.{ℕ, suc, ◌≡◌, ◌<◌, true, List, length}
 use Rattle.forec_kernel.specs.Packed.{HasRoom}
 use Rattle.forec_kernel.specs.Engine.{Job}
-use Rattle.combine_tree.specs.declared.packet.PacketKind.{PacketKind}
-use Rattle.combine_tree.specs.declared.packet.PacketKind.TheVariants as kind
 use Rattle.combine_tree.specs.Plain.{plain_packet}
 use Rattle.thread_code.specs.Valid.{of_shape, IsValidCode}
 use Rattle.core_machine.specs.declared.thread.Thread.{Thread}
-use Rattle.core_machine.specs.Threads.{IsResting, HasPaused}
+use Rattle.core_machine.specs.Threads.{IsResting}
+use Rattle.tick_jobs.specs.Ready.{IsReady}
 use Rattle.core_host.specs.Done.{HasDone}
 use Rattle.core_host.specs.Hung.{IsHung}
-use Rattle.core_host.specs.Posts.{IsBranchOf}
+use Rattle.tick_jobs.specs.Branches.{IsBranchOf}
 use Rattle.core_host.specs.Keeping.{State, code_in, Sits, HasPacket}
 use Rattle.core_host.specs.Waiting.{HasChild, IsBetween, CanDescend}
 use Rattle.core_host.specs.Hosted.{Hosted, state_in, code_of, is_here}
-
--- the next tick can begin: no tick was run, or the last one paused
-abbrev pub IsReady : Thread → PacketKind → Type 0
-IsReady h kind.Blank = Unit {0}
-IsReady h kind.Paused = HasPaused h
-IsReady h _ = ⊥
 
 -- thread 0 rests, and has replied to the jobs of some ticks
 pub record RootRests (s : State) : Type 0 where

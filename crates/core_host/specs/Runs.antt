@@ -1,15 +1,14 @@
 -- What a host has run.
 use Rattle.std.specs.Prelude.{ℕ, suc, ◌≡◌, ◌<◌, true, List, [], ◌∷◌, ◌++◌, length}
 use Rattle.forec_kernel.specs.Shapes.{PlainKernel}
-use Rattle.forec_kernel.specs.Ticks.{State, Fresh, After_tick}
+use Rattle.forec_kernel.specs.Ticks.{Fresh}
 use Rattle.forec_kernel.specs.WellFormed.{WellFormed}
 use Rattle.forec_kernel.specs.Engine.{Job}
 use Rattle.forec_kernel.specs.Composed.{TickInput, tick_jobs, state_after}
-use Rattle.combine_tree.specs.declared.packet.Packet.{Packet}
-use Rattle.combine_tree.specs.declared.packet.PacketKind.TheVariants as kind
 use Rattle.thread_code.specs.Alone.{Stands}
 use Rattle.thread_code.specs.Laws.{EachFits}
 use Rattle.core_machine.specs.declared.thread.Thread.{Thread}
+use Rattle.tick_jobs.specs.Ready.{HoldsState}
 use Rattle.core_host.specs.Done.{HasDone}
 use Rattle.core_host.specs.Keeping.{Sits}
 use Rattle.core_host.specs.Changes.{IsIdle}
@@ -30,14 +29,9 @@ HasJobMore a b job = (jobs : List Job) → HasJobs a jobs → HasJobs b (jobs ++
 abbrev pub AreIdleHere : Hosted → Hosted → Type 0
 AreIdleHere a b = (k : ℕ) → k < length a.mail.ends → is_here a (suc k) ≡ true → IsIdle (code_of a).shape a.mail b.mail k
 
--- what the packet of thread 0 has between ticks: before the first nothing, later the copies with which the last one paused
-abbrev pub Keeps : State → Packet → Type 0
-Keeps Fresh p = p.kind ≡ kind.Blank
-Keeps (After_tick thread) p = (p.kind ≡ kind.Paused) × (p.copies.items ≡ thread.copies)
-
 pub record HasTicked (h : Hosted) (k : PlainKernel) (turns : List TickInput) : Type 0 where
   pub jobs : HasJobs h (tick_jobs k Fresh turns)
-  pub keeps : h.live ≡ true → Keeps (state_after k Fresh turns) h.root
+  pub keeps : h.live ≡ true → HoldsState (state_after k Fresh turns) h.root
 
 -- the host has run these ticks, each with its row and its budget, as each kernel for which its code stands runs them
 unfoldable pub HasRun : Hosted → List TickInput → Type 0

@@ -1,7 +1,8 @@
 -- What serving one mailbox leaves alone.
 use Rattle.std.specs.Prelude.{ℕ, suc, ◌≡◌, ◌≢◌, ◌<◌, true, false, length, slice_get}
 use Rattle.copy_slots.specs.Ports.{taken, answered, parent_at, child_at, ChildIs}
-use Rattle.core_host.specs.Posts.{Mail, IsBranchOf}
+use Rattle.core_host.specs.Posts.{Mail}
+use Rattle.tick_jobs.specs.Branches.{IsBranchOf}
 use Rattle.core_host.specs.Changes.{Grown, IsIdle}
 use Rattle.core_host.specs.Keeping.{State, code_in, Alike, Quiet}
 use Rattle.core_host.specs.Waiting.{HasChild, IsBetween, IsVacant}

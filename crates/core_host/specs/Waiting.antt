@@ -13,9 +13,9 @@ use Rattle.core_machine.specs.Threads.{Loaded, StandsFor, HasSettled}
 use Rattle.core_machine.specs.Forks.{jobs_at}
 use Rattle.copy_slots.specs.Ports.{sent, got, taken, answered, ChildIs}
 use Rattle.core_host.specs.declared.seat.Seat.{Seat}
-use Rattle.core_host.specs.Posts.{Mail, IsBranchOf, AreReplies, replies_to}
-use Rattle.core_host.specs.Done.{AreAbove}
-use Rattle.core_host.specs.Writing.{Log, heard, told}
+use Rattle.core_host.specs.Posts.{Mail, AreReplies}
+use Rattle.tick_jobs.specs.Branches.{IsBranchOf, replies_to, AreAbove}
+use Rattle.tick_jobs.specs.Writing.{Log, heard, told}
 use Rattle.core_host.specs.Keeping.{State, code_in, Sits, Idle, HasPacket, LacksPacket, HasHeard}
 
 -- ---- jobs that are out

@@ -1,8 +1,8 @@
 //! A thread at work.
 
-use crate::boxed::Boxed;
 use combine_tree::Packet;
 use core_machine::Thread;
+use tick_jobs::Boxed;
 
 /// A thread at work on a job, out of its seat.
 #[derive(Drop)]

@@ -6,7 +6,7 @@ ghost use Rattle.core_host.specs.Calling.{HasCalled, HasServedFork};
 ghost use Rattle.core_host.specs.Changes.{HasProgressed};
 ghost use Rattle.core_host.specs.Descending.{Descends, IsRunning, KeepsRound};
 ghost use Rattle.core_host.specs.Keeping.{code_in, IsSeated, HasPacket, AtFork, CanSend, Quiet};
-ghost use Rattle.core_host.specs.Posts.{IsBranchOf};
+ghost use Rattle.tick_jobs.specs.Branches.{IsBranchOf};
 ghost use Rattle.core_host.specs.Serving.{Touches, OnlyLooks, HasMissed};
 ghost use Rattle.core_host.specs.Waiting.{HasTold, IsForked, IsWorking, IsWaiting, IsBetween, CanDescend};
 

@@ -8,13 +8,11 @@ ghost use Rattle.forec_kernel.specs.Ticks.{Fresh, tick, goes_on};
 ghost use Rattle.forec_kernel.specs.WellFormed.{WellFormed};
 ghost use Rattle.thread_code.specs.Alone.{Stands};
 ghost use Rattle.copy_slots.specs.Ports.{sent, taken, ChildIs};
-ghost use Rattle.core_host.specs.Jobs.{job_of};
+ghost use Rattle.tick_jobs.specs.Jobs.{job_of};
 ghost use Rattle.core_host.specs.Loads.{CanLoad, AreAll, AreOwn};
-ghost use Rattle.core_host.specs.Outcomes.{HasOutputs, LacksOutputs, HasOutcome};
+ghost use Rattle.tick_jobs.specs.Outcomes.{HasOutputs, LacksOutputs, HasOutcome};
 
-use crate::job::write_job;
 use crate::load::{empty_hands, own_mailboxes, places_of, seats_of};
-use crate::outcome::write_outcome;
 use crate::round::Round;
 use crate::scheduler::Scheduler;
 use crate::work::ForecWork;
@@ -27,6 +25,7 @@ use forec_kernel::Outcome;
 use std::alloc::Global;
 use std::marker::Model;
 use thread_code::Code;
+use tick_jobs::{write_job, write_outcome};
 
 /// What one call of [`Host::serve`] came to.
 #[derive(Clone, Copy, Debug, PartialEq, Eq)]

@@ -2,14 +2,11 @@
 #![tactic(auto)]
 
 mod active;
-mod boxed;
 mod descend;
 mod hints;
 mod host;
-mod job;
 mod load;
 mod local;
-mod outcome;
 mod round;
 mod scheduler;
 mod seat;
@@ -18,10 +15,7 @@ mod tick;
 mod work;
 mod worker;
 
-pub use boxed::Boxed;
 pub use host::{Host, Served};
-pub use job::write_job;
 pub use local::{blanks, local_port};
-pub use outcome::write_outcome;
 pub use work::{ForecWork, Told};
 pub use worker::{Crew, Serve, Worker};

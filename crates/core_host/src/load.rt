@@ -7,7 +7,6 @@ ghost use Rattle.combine_tree.specs.declared.packet.Packet.{Packet as PlainPacke
 ghost use Rattle.core_machine.specs.Room.{AreNeeds};
 ghost use Rattle.core_host.specs.Loads.{AreNewSeats, ArePlaced, AreOwn, IsNewSeat, contains_core};
 
-use crate::boxed::Boxed;
 use crate::seat::Seat;
 use combine_tree::Packet;
 use core_alloc::Placement;
@@ -15,6 +14,7 @@ use core_machine::{Needs, Thread};
 use forec_base::OutOfMemory;
 use std::alloc::Global;
 use thread_code::Code;
+use tick_jobs::Boxed;
 
 /// The core of each thread, in order.
 pub fn places_of(alloc: Global, placement: &Placement) -> Result<Vec<u32>, OutOfMemory>

@@ -5,13 +5,13 @@ ghost use Rattle.thread_code.specs.Plain.{plain_code};
 ghost use Rattle.core_alloc.specs.Places.{Places};
 ghost use Rattle.core_host.specs.Loads.{CanLoad, AreAll, HaveRooms};
 
-use crate::boxed::Boxed;
 use crate::work::ForecWork;
 use combine_tree::Packet;
 use copy_slots::{LocalPort, Port};
 use forec_base::OutOfMemory;
 use std::alloc::Global;
 use thread_code::Code;
+use tick_jobs::Boxed;
 
 /// The blank packet of each mailbox of the code, with the lengths of its thread.
 ///

@@ -16,7 +16,6 @@ ghost use Rattle.core_host.specs.ChildrenRun.{PostsMore};
 ghost use Rattle.core_host.specs.Keeping.{State, code_in, IsSeated, IsFitted, Sits, QuietAbove, HasPacket, LacksPacket, CanSend, IsCalled, IsBack, Leaves, AtFork, HaveHeard, SettlesReplies, JoinsReplies};
 ghost use Rattle.core_host.specs.Moving.{ChangesPacket, HasSent, HasGot, HasLooked};
 
-use crate::boxed::Boxed;
 use crate::seat::Seat;
 use crate::work::ForecWork;
 use combine_tree::Packet;
@@ -25,6 +24,7 @@ use core_machine::{Event, Thread};
 use forec_base::{Gate, Point};
 use std::marker::Model;
 use thread_code::Code;
+use tick_jobs::Boxed;
 
 /// The threads of a host in their seats, with the ends of their mailboxes, and what runs them.
 #[derive(Drop)]

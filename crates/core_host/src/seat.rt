@@ -1,8 +1,8 @@
 //! A thread's seat.
 
-use crate::boxed::Boxed;
 use combine_tree::Packet;
 use core_machine::Thread;
+use tick_jobs::Boxed;
 
 /// A thread, and the job in its hand.
 #[derive(Drop)]

@@ -15,7 +15,6 @@ ghost use Rattle.core_host.specs.Rounds.{AllIdle, WorkedAt};
 ghost use Rattle.core_host.specs.Serving.{ChangesBranches, Touches, OnlyLooks, HasMissed, AllMissed, KeepsServing};
 
 use crate::active::Active;
-use crate::boxed::Boxed;
 use crate::scheduler::Scheduler;
 use crate::seat::Seat;
 use crate::work::ForecWork;
@@ -23,6 +22,7 @@ use combine_tree::Packet;
 use copy_slots::Port;
 use core_machine::{Event, Thread};
 use forec_base::{Gate, Point};
+use tick_jobs::Boxed;
 
 impl<'c, P: Port<ForecWork> + Drop> Scheduler<'c, P> {
     /// Takes what a seat holds, which is then empty.

@@ -17,11 +17,11 @@ ghost use Rattle.core_host.specs.Changes.{Grown};
 ghost use Rattle.core_host.specs.Ending.{HasRepliedTo};
 ghost use Rattle.core_host.specs.Hosted.{code_of, is_here, is_live};
 ghost use Rattle.core_host.specs.Hung.{KeepsRope};
-ghost use Rattle.core_host.specs.Jobs.{job_of};
+ghost use Rattle.tick_jobs.specs.Jobs.{job_of};
 ghost use Rattle.core_host.specs.Keeping.{code_in, IsSeated, Sits, HasPacket, AtFork};
 ghost use Rattle.core_host.specs.OnJob.{IsOnJob, KeepsOthers};
-ghost use Rattle.core_host.specs.Outcomes.{HasOutputs, LacksOutputs, HasOutcome};
-ghost use Rattle.core_host.specs.Posts.{IsBranchOf};
+ghost use Rattle.tick_jobs.specs.Outcomes.{HasOutputs, LacksOutputs, HasOutcome};
+ghost use Rattle.tick_jobs.specs.Branches.{IsBranchOf};
 ghost use Rattle.core_host.specs.Rests.{RootRests};
 ghost use Rattle.core_host.specs.Rounds.{AllIdle, CanServe, IsIdleAt, IsSameRound, SomeWorked};
 ghost use Rattle.core_host.specs.Runs.{HasJobMore, HasJobs, HasRun};
@@ -29,8 +29,6 @@ ghost use Rattle.core_host.specs.Serving.{AllMissed, KeepsServing};
 ghost use Rattle.core_host.specs.Waiting.{HasChild, HasTold, IsForked, IsBetween, IsVacant, IsGathering, HasReplies};
 
 use crate::host::Host;
-use crate::job::write_job;
-use crate::outcome::write_outcome;
 use crate::round::{Round, index_at};
 use crate::scheduler::Scheduler;
 use crate::work::ForecWork;
@@ -41,6 +39,7 @@ use core_machine::{Event, Thread};
 use forec_base::Gate;
 use forec_kernel::Outcome;
 use std::sync::Wait;
+use tick_jobs::{write_job, write_outcome};
 
 impl<'c, P: Port<ForecWork> + Drop> Scheduler<'c, P> {
     /// Serves the mailbox at this place of the round, with the branches of its thread that are here, and hints to those to whom they sent.

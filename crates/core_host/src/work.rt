@@ -2,12 +2,12 @@
 
 ghost use Rattle.std.specs.Prelude.{◌≡◌};
 
-use crate::boxed::Boxed;
 use combine_tree::Packet;
 use copy_slots::Work;
 use std::marker::Model;
 use std::snapshot::Snapshot;
 use thread_code::Code;
+use tick_jobs::Boxed;
 
 /// A packet as plain data. No value of it is made.
 pub struct Told {

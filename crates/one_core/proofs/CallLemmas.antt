@@ -14,19 +14,21 @@ use Rattle.core_machine.specs.declared.thread.Thread.{Thread}
 use Rattle.core_machine.specs.Threads.{Loaded, StandsFor, IsResting, HasReply, HasPaused, Gives}
 use Rattle.core_machine.specs.Forks.{branch_at, jobs_at}
 use Rattle.forec_kernel.specs.Packed.{IsReply}
-use Rattle.core_host.specs.Posts.{IsBranchOf}
-use Rattle.core_host.specs.Writing.{heard}
-use Rattle.core_host.proofs.Mails.{get_set, get_set_else, some_once}
-use Rattle.core_host.proofs.KeepingLemmas.{branch_above, parent_once, has_parent}
-use Rattle.core_host.proofs.Once.{answers_once}
+use Rattle.tick_jobs.specs.Branches.{IsBranchOf}
+use Rattle.tick_jobs.specs.Writing.{heard}
+use Rattle.tick_jobs.proofs.Lists.{get_set, get_set_else, some_once}
+use Rattle.tick_jobs.proofs.Branching.{branch_above, parent_once, has_parent}
+use Rattle.tick_jobs.proofs.Once.{answers_once}
 use Rattle.one_core.specs.Seats.{Seated, IsFitted, Sits, Leaves}
-use Rattle.one_core.specs.Told.{Book, tell, HasDone, InJob, Keeps}
+use Rattle.tick_jobs.specs.Told.{Book, IsAsleep, MayTell}
+use Rattle.one_core.specs.Told.{tell, HasDone, InJob, KeepsBook, by_book}
 use Rattle.one_core.specs.Resting.{LastReply, none, last, Rests, RestAbove, HasBegun, Works, StaysAtWork}
-use Rattle.one_core.specs.Called.{IsAsleep, MayTell, CanCall, HasHeard, WasCalled, HasCalled}
+use Rattle.one_core.specs.Called.{CanCall, HasHeard, WasCalled, HasCalled}
 use Rattle.core_machine.specs.Direct.{RepliesBy, CanTake, GivesFor}
-use Rattle.one_core.proofs.Mailed.{reply_packet, is_reply, reply_once}
+use Rattle.one_core.proofs.ReplyPackets.{reply_packet, is_reply, reply_once}
 use Rattle.one_core.proofs.TellLemmas.{tell_here, tell_else, done_keeps, rests_keeps}
-use Rattle.one_core.proofs.JobLemmas.{begins, Ended, ends}
+use Rattle.tick_jobs.proofs.Logs.{job_begins, Ends, job_ends}
+use Rattle.one_core.proofs.JobLemmas.{told_answered}
 use Rattle.core_machine.proofs.Jobs.{gives_own}
 use Rattle.core_machine.proofs.Direct.{reply_paused}
 use Rattle.core_machine.proofs.Direct as direct
@@ -158,7 +160,7 @@ module _ (code : CodeParts) (seats : List (Option Thread)) (fitted : IsFitted (s
           begun =
               let n = number_is in
               let lt = inside in
-              begins code fitted.valid its.thread h1 book (book branch) job (number1 ∙ ap (λ (z : Thread). z.number) same) (omega (arith, n, lt)) its.done
+              job_begins c fitted.valid its.thread h1 (by_book c book) (book branch) job (number1 ∙ ap (λ (z : Thread). z.number) same) (omega (arith, n, lt)) its.done
               (stands can.job its.done.exchanges can.at (subst (λ z. StandsFor c z its.done.exchanges) (sym same) its.done.stands))
 
           pub has_begun : HasBegun s1 h1
@@ -167,7 +169,7 @@ module _ (code : CodeParts) (seats : List (Option Thread)) (fitted : IsFitted (s
           -- it has its reply
           module _ (s3 : Seated) (leaves3 : Leaves h1.number s1 s3) (h2 : Thread) (number2 : h2.number ≡ h1.number) (loaded2 : Loaded c h2) (replied : HasReply h2) (done3 : StaysAtWork s1 h1 s3 h2)
               (code2 : CodeParts) (seats2 : List (Option Thread)) (view2 : seated code2 seats2 ≡ s3) where
-            stay : (after : Book) × Works s3 h2 after (book branch) job × Keeps c h1.number book after
+            stay : (after : Book) × Works s3 h2 after (book branch) job × KeepsBook c h1.number book after
             stay = done3 book (book branch) job (record { above = above1; in_job = begun.0 })
 
             abbrev after3 : Book
@@ -231,8 +233,8 @@ module _ (code : CodeParts) (seats : List (Option Thread)) (fitted : IsFitted (s
                   let g = gives_own c h2 loaded2 replied xs st in
                   record { outputs = g.outputs; runs = g.runs; complete = g.complete; reply = g.reply; last = g.last; is = subst (IsReply (reply_packet r)) (direct.one_reply h2 r g.reply by g.is) (is_reply r) }
 
-              ended : Ended code h2 after3 (book branch ++ job ∷ []) (reply_packet r)
-              ended = let n = number3 in let i = inside in ends code h2 after3 (book branch) job (reply_packet r) (omega (arith, n, i)) in3 gives
+              ended : Ends c h2 (by_book c after3) (book branch ++ job ∷ []) (reply_packet r)
+              ended = let n = number3 in let i = inside in job_ends c h2 (by_book c after3) (told_answered c after3) (book branch) job (reply_packet r) (omega (arith, n, i)) in3 gives
 
               answers : Answers (CodeAlone c) (length c.threads) branch (book branch ++ job ∷ []) r
               answers =

@@ -8,15 +8,14 @@ use Rattle.thread_code.specs.Alone.{CodeAlone}
 use Rattle.core_machine.specs.declared.thread.Thread.{Thread}
 use Rattle.core_machine.specs.Threads.{Loaded, StandsFor}
 use Rattle.core_machine.specs.Forks.{jobs_at, with_replies}
-use Rattle.core_host.specs.Posts.{IsBranchOf}
-use Rattle.core_host.proofs.Mails.{some_once}
-use Rattle.core_host.proofs.Send.{at_map}
-use Rattle.core_host.proofs.RunChildren.{pairs_more}
-use Rattle.core_host.proofs.ChildrenRunLemmas.{no_pairs}
+use Rattle.tick_jobs.specs.Branches.{IsBranchOf}
+use Rattle.tick_jobs.proofs.Lists.{some_once, at_map}
+use Rattle.tick_jobs.proofs.Pairs.{pairs_more, no_pairs}
 use Rattle.one_core.specs.Seats.{Seated, code_in, Leaves}
-use Rattle.one_core.specs.Told.{Book, HasTold}
+use Rattle.tick_jobs.specs.Told.{Book, IsAsleep, MayTell, IsJobFor}
+use Rattle.one_core.specs.Told.{HasTold}
 use Rattle.one_core.specs.Resting.{RestAbove}
-use Rattle.one_core.specs.Called.{IsAsleep, MayTell, IsJobFor, IsForked, CanTell, CanCall, HasHeard, WasCalled, HasCalled, SettlesReply, HaveHeard, HaveCalled, Consulted}
+use Rattle.one_core.specs.Called.{IsForked, CanTell, CanCall, HasHeard, WasCalled, HasCalled, SettlesReply, HaveHeard, HaveCalled, Consulted}
 use Rattle.one_core.proofs.TellLemmas.{keeps_same, keeps_then, leaves_same, leaves_then, told_more}
 
 pub consulted_none : (a : Seated) (h : Thread) → Consulted a a h h 0

@@ -8,12 +8,13 @@ use Rattle.core_machine.specs.declared.thread.Thread.{Thread}
 use Rattle.core_machine.specs.Threads.{Loaded, StandsFor, HasSettled}
 use Rattle.core_machine.specs.Forks.{jobs_at, with_replies}
 use Rattle.core_machine.proofs.Outer.{empty_of}
-use Rattle.core_host.specs.Posts.{IsBranchOf}
-use Rattle.core_host.specs.Writing.{told}
+use Rattle.tick_jobs.specs.Branches.{IsBranchOf}
+use Rattle.tick_jobs.specs.Writing.{told}
 use Rattle.one_core.specs.Seats.{Seated, code_in, IsFitted, Leaves}
-use Rattle.one_core.specs.Told.{Book, HasTold, InJob, Keeps}
+use Rattle.tick_jobs.specs.Told.{Book, IsJobFor}
+use Rattle.one_core.specs.Told.{HasTold, InJob, KeepsBook}
 use Rattle.one_core.specs.Resting.{RestAbove, HasBegun, Works, StaysAtWork}
-use Rattle.one_core.specs.Called.{IsJobFor, IsForked, CanTell, HaveCalled, Consulted}
+use Rattle.one_core.specs.Called.{IsForked, CanTell, HaveCalled, Consulted}
 use Rattle.one_core.proofs.TellLemmas.{keeps_same, keeps_then}
 use Rattle.one_core.proofs.JobLemmas.{Counted, allowance_is, forked, each_job, some_at, bound, next, runs_on}
 use Rattle.one_core.proofs.ConsultLemmas.{have_heard}
@@ -22,7 +23,7 @@ use Rattle.one_core.proofs.ConsultLemmas.{have_heard}
 pub record Going (a : Seated) (h0 : Thread) (b : Seated) (h : Thread) (n : ℕ) (book : Book) (jobs : List Job) (job : Job) (w : Works a h0 book jobs job) : Type 0 where
   pub after : Book
   pub above : RestAbove b after h0.number
-  pub keeps : Keeps (code_in a) h0.number book after
+  pub keeps : KeepsBook (code_in a) h0.number book after
   pub counted : Counted (code_in a) h after jobs job (length w.in_job.log.before + n)
 
 pub going_none : (a : Seated) (h : Thread) (book : Book) (jobs : List Job) (job : Job) (w : Works a h book jobs job) → Going a h a h 0 book jobs job w
@@ -38,7 +39,7 @@ begun_allowance a h b = sym (allowance_is (code_in a) h b.book b.jobs b.job b.in
 -- the thread runs on
 module _ (a : Seated) (h h1 : Thread) (number1 : h1.number ≡ h.number) (stands1 : (xs : List Exchange) → StandsFor (code_in a) h xs → StandsFor (code_in a) h1 xs) where
   runs : (book : Book) (jobs : List Job) (job : Job) (w : Works a h book jobs job) → Counted (code_in a) h1 book jobs job (length w.in_job.log.before)
-  runs book jobs job w = runs_on a.code h h1 book jobs job number1 stands1 w.in_job
+  runs book jobs job w = runs_on (code_in a) h h1 book jobs job number1 stands1 w.in_job
 
   pub works_on : (book : Book) (jobs : List Job) (job : Job) → Works a h book jobs job → Works a h1 book jobs job
   works_on book jobs job w = record { above = subst (RestAbove a book) (sym number1) w.above; in_job = (runs book jobs job w).0 }
@@ -56,11 +57,11 @@ module _ (a : Seated) (h h1 : Thread) (number1 : h1.number ≡ h.number) (stands
   pub stays_after : (b : Seated) (h2 : Thread) → StaysAtWork a h1 b h2 → StaysAtWork a h b h2
   stays_after b h2 done book jobs job w =
       let d = done book jobs job (works_on book jobs job w) in
-      (d.0, d.1, subst (λ t. Keeps (code_in a) t book d.0) number1 d.2)
+      (d.0, d.1, subst (λ t. KeepsBook (code_in a) t book d.0) number1 d.2)
 
   pub going_on : (h0 : Thread) (b : Seated) (n : ℕ) (book : Book) (jobs : List Job) (job : Job) (w : Works a h0 book jobs job) → Going a h0 b h n book jobs job w → Going a h0 b h1 n book jobs job w
   going_on h0 b n book jobs job w g =
-      let i = runs_on a.code h h1 g.after jobs job number1 stands1 g.counted.0 in
+      let i = runs_on (code_in a) h h1 g.after jobs job number1 stands1 g.counted.0 in
       record { after = g.after; above = g.above; keeps = g.keeps; counted = (i.0, i.1 ∙ g.counted.1) }
 
 module _ (a b : Seated) (h0 h : Thread) (number : h.number ≡ h0.number) (n : ℕ) (book : Book) (jobs : List Job) (job : Job) (w : Works a h0 book jobs job) (g : Going a h0 b h n book jobs job w) where
@@ -71,29 +72,29 @@ module _ (a b : Seated) (h0 h : Thread) (number : h.number ≡ h0.number) (n : �
   rest_above = subst (RestAbove b g.after) (sym number) g.above
 
   -- it has its reply
-  pub stays : b.code ≡ a.code → (after : Book) × Works b h after jobs job × Keeps (code_in a) h0.number book after
+  pub stays : b.code ≡ a.code → (after : Book) × Works b h after jobs job × KeepsBook (code_in a) h0.number book after
   stays code = (g.after, record { above = rest_above; in_job = subst (λ x. InJob (plain_code x) h g.after jobs job) (sym code) now.0 }, g.keeps)
 
   -- or is at a fork
   module _ (fitted : IsFitted a) (leaves : Leaves h0.number a b) (loaded : Loaded (code_in a) h) (settled : HasSettled h 0) (numbers : h.branches.numbers ≡ map (λ w. w.branch) (jobs_at (code_in a) h)) where
     pub its_fork : IsForked (code_in b) h
-    its_fork = subst (λ x. IsForked (plain_code x) h) (sym leaves.code) (forked a.code fitted.valid h loaded settled numbers g.after jobs job now.0)
+    its_fork = subst (λ x. IsForked (plain_code x) h) (sym leaves.code) (forked (code_in a) fitted.valid h loaded settled numbers g.after jobs job now.0)
 
     pub can_tell : CanTell b h g.after
     can_tell = record {
       above = rest_above;
       each = λ i v at.
           subst (λ x. IsJobFor (plain_code x) g.after h.number v) (sym leaves.code)
-          (each_job a.code fitted.valid h loaded settled numbers g.after jobs job now.0 i v (subst (λ x. slice_get (jobs_at (plain_code x) h) i ≡ Some v) leaves.code at));
+          (each_job (code_in a) fitted.valid h loaded settled numbers g.after jobs job now.0 i v (subst (λ x. slice_get (jobs_at (plain_code x) h) i ≡ Some v) leaves.code at));
     }
 
     pub some_branch : 0 < length h.branches.numbers
-    some_branch = some_at a.code fitted.valid h loaded settled numbers g.after jobs job now.0
+    some_branch = some_at (code_in a) fitted.valid h loaded settled numbers g.after jobs job now.0
 
     pub its_bound : allowance_of job ≡ h0.allowance → w.in_job.log.before ≡ [] → n + 1 ≤ (length (block_of (code_in a) h0.number).steps + 2) * h0.allowance + (length (block_of (code_in a) h0.number).steps + 1)
     its_bound allow first =
         let most = subst (λ t. length now.0.log.before + 1 ≤ (length (block_of (code_in a) t).steps + 2) * h0.allowance + (length (block_of (code_in a) t).steps + 1)) number
-        (bound a.code fitted.valid h loaded settled numbers g.after jobs job now.0 h0.allowance allow) in
+        (bound (code_in a) fitted.valid h loaded settled numbers g.after jobs job now.0 h0.allowance allow) in
         let none = ap length first in omega (arith, most, now.1, none)
 
     module _ (d : Seated) (h1 h2 : Thread) (done : Consulted b d h h1 (length h.branches.numbers)) (number1 : h1.number ≡ h.number) (number2 : h2.number ≡ h1.number)
@@ -114,13 +115,13 @@ module _ (a b : Seated) (h0 h : Thread) (number : h.number ≡ h0.number) (n : �
       tells =
           let pairs = told (code_in a) h.number jobs job now.0.log in
           subst (λ x. HasTold (plain_code x) h.number called.after (pairs ++ pair_up (jobs_at (plain_code x) h) done.replies)) leaves.code
-          (called.told pairs (subst (λ x. HasTold (plain_code x) h.number g.after pairs) (sym leaves.code) now.0.tells))
+          (called.told pairs (subst (λ x. HasTold (plain_code x) h.number g.after pairs) (sym leaves.code) now.0.posts))
 
       pub goes_on : Going a h0 d h2 (n + 1) book jobs job w
       goes_on =
           let le : length h.branches.numbers ≤ length h.branches.numbers = omega arith in
           let count = (have_heard b d h h1 (length h.branches.numbers) done le).count in
-          let i = next a.code fitted.valid h loaded settled numbers g.after jobs job now.0 called.after done.replies count tells h2 (number2 ∙ number1) goes in
+          let i = next (code_in a) fitted.valid h loaded settled numbers g.after jobs job now.0 called.after done.replies count tells h2 (number2 ∙ number1) goes in
           record {
             after = called.after;
             above = subst (RestAbove d called.after) number called.above;

@@ -5,7 +5,7 @@ use Rattle.std.proofs.lemmas.Option.{slice_get_within, slice_get-get_or, get_or_
 use Rattle.forec_kernel.specs.Engine.{Reply, WasOver}
 use Rattle.core_machine.specs.declared.thread.Thread.{Thread}
 use Rattle.core_machine.specs.Threads.{Loaded, HasReply}
-use Rattle.core_host.proofs.Mails.{some_once}
+use Rattle.tick_jobs.proofs.Lists.{some_once}
 use Rattle.one_core.specs.Seats.{Seated, code_in}
 use Rattle.one_core.specs.Called.{HasHeard, HaveHeard}
 use Rattle.core_machine.specs.Direct.{RepliesBy}

@@ -1,4 +1,4 @@
-mod Mailed
+mod ReplyPackets
 mod TellLemmas
 mod JobLemmas
 mod CallLemmas

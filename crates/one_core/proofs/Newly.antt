@@ -9,10 +9,11 @@ use Rattle.combine_tree.specs.declared.packet.Packet.{Packet}
 use Rattle.combine_tree.specs.declared.packet.PacketKind.TheVariants as kind
 use Rattle.combine_tree.specs.Plain.{plain_packet}
 use Rattle.core_machine.specs.declared.thread.Thread.{Thread}
-use Rattle.core_host.specs.Rests.{IsReady}
+use Rattle.tick_jobs.specs.Ready.{IsReady}
 use Rattle.one_core.specs.Loads.{AreNew, IsNew}
 use Rattle.one_core.specs.Seats.{Seated, Sits}
-use Rattle.one_core.specs.Told.{Book, HasDone}
+use Rattle.tick_jobs.specs.Told.{Book}
+use Rattle.one_core.specs.Told.{HasDone}
 use Rattle.one_core.specs.Resting.{none, Rests, HasWorked}
 use Rattle.one_core.specs.Single.{single, IsSingle, HasRun}
 
@@ -46,7 +47,7 @@ module _ (v : Seated) (valid : IsValidCode (plain_code v.code)) (count : length 
     jobs_are = refl;
     runs = tt;
     complete = tt;
-    told = record { above = tt; allowed = tt; jobs = λ k mine. refl };
+    posts = record { above = tt; allowed = tt; jobs = λ k mine. refl };
   }
 
   new_rests : (t : ℕ) → t < length v.threads → Rests v no_book t

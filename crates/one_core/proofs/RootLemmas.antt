@@ -12,12 +12,14 @@ use Rattle.thread_code.specs.Alone.{CodeAlone}
 use Rattle.combine_tree.specs.declared.packet.PacketKind.{PacketKind}
 use Rattle.core_machine.specs.declared.thread.Thread.{Thread}
 use Rattle.core_machine.specs.Threads.{Loaded, CanBegin, StandsFor, IsResting, HasReply, Gives}
-use Rattle.core_host.proofs.Mails.{some_once, get_set, get_set_else}
+use Rattle.tick_jobs.proofs.Lists.{some_once, get_set, get_set_else}
 use Rattle.one_core.specs.Seats.{Seated, IsFitted, Sits, Leaves}
-use Rattle.one_core.specs.Told.{Book, HasDone, InJob, Keeps}
+use Rattle.tick_jobs.specs.Told.{Book}
+use Rattle.one_core.specs.Told.{HasDone, InJob, KeepsBook, by_book}
 use Rattle.one_core.specs.Resting.{RestAbove, HasBegun, Works, StaysAtWork, HasWorked, HasReplied}
 use Rattle.one_core.proofs.TellLemmas.{rests_keeps}
-use Rattle.one_core.proofs.JobLemmas.{begins, Ended, ends}
+use Rattle.tick_jobs.proofs.Logs.{job_begins, Ends, job_ends}
+use Rattle.one_core.proofs.JobLemmas.{told_answered}
 use Rattle.one_core.proofs.CallLemmas.{seated}
 
 module _ (code : CodeParts) (seats : List (Option Thread)) (fitted : IsFitted (seated code seats)) where
@@ -74,7 +76,7 @@ module _ (code : CodeParts) (seats : List (Option Thread)) (fitted : IsFitted (s
         begun =
             let n = number_1 in
             let lt = in_threads in
-            begins code fitted.valid worked.thread h1 worked.book jobs job (number1 ∙ ap (λ (z : Thread). z.number) (sym same)) (omega (arith, n, lt)) worked.done
+            job_begins c fitted.valid worked.thread h1 (by_book c worked.book) jobs job (number1 ∙ ap (λ (z : Thread). z.number) (sym same)) (omega (arith, n, lt)) worked.done
             (stands worked.done.exchanges job is_job (subst (λ z. StandsFor c z worked.done.exchanges) same worked.done.stands))
 
         pub has_begun : HasBegun s1 h1
@@ -85,7 +87,7 @@ module _ (code : CodeParts) (seats : List (Option Thread)) (fitted : IsFitted (s
           abbrev s4 : Seated
           s4 = seated code2 (slice_set seats2 0 z)
 
-          stay : (after : Book) × Works s3 h2 after jobs job × Keeps c h1.number worked.book after
+          stay : (after : Book) × Works s3 h2 after jobs job × KeepsBook c h1.number worked.book after
           stay = done3 worked.book jobs job (record { above = above1; in_job = begun.0 })
 
           in3 : InJob c h2 stay.0 jobs job
@@ -104,8 +106,8 @@ module _ (code : CodeParts) (seats : List (Option Thread)) (fitted : IsFitted (s
               let d = length-set seats 0 y in
               let i = in_seats in omega (arith, a, b, d, i)
 
-          ended : Ended code h2 stay.0 (jobs ++ job ∷ []) q
-          ended = let n = number3 in let lt = in_threads in ends code h2 stay.0 jobs job q (omega (arith, n, lt)) in3 gives
+          ended : Ends c h2 (by_book c stay.0) (jobs ++ job ∷ []) q
+          ended = let n = number3 in let lt = in_threads in job_ends c h2 (by_book c stay.0) (told_answered c stay.0) jobs job q (omega (arith, n, lt)) in3 gives
 
           above4 : RestAbove s4 stay.0 0
           above4 j lt less =

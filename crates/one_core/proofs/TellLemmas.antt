@@ -7,12 +7,12 @@ use Rattle.thread_code.specs.Valid.{IsValidCode}
 use Rattle.thread_code.specs.Alone.{CodeAlone}
 use Rattle.core_machine.specs.declared.thread.Thread.{Thread}
 use Rattle.core_machine.specs.Threads.{Loaded}
-use Rattle.core_host.specs.Posts.{IsBranchOf}
-use Rattle.core_host.specs.Done.{AreAbove}
-use Rattle.core_host.proofs.Mails.{by_equal}
-use Rattle.core_host.proofs.RunChildren.{jobs_then, same_test, other_test, allowed_more}
+use Rattle.tick_jobs.specs.Branches.{IsBranchOf, AreAbove}
+use Rattle.tick_jobs.proofs.Lists.{by_equal}
+use Rattle.tick_jobs.proofs.Pairs.{jobs_then, same_test, other_test, allowed_more}
 use Rattle.one_core.specs.Seats.{Seated, code_in, IsFitted, Leaves}
-use Rattle.one_core.specs.Told.{Book, tell, HasTold, HasDone, Keeps}
+use Rattle.tick_jobs.specs.Told.{Book}
+use Rattle.one_core.specs.Told.{tell, HasTold, HasDone, KeepsBook}
 use Rattle.one_core.specs.Resting.{LastReply, Rests}
 
 pub tell_here : (book : Book) (t : ℕ) (job : Job) → tell book t job t ≡ book t ++ job ∷ []
@@ -23,10 +23,10 @@ tell_else book t job j n = ap (λ b. cond b (book j ++ job ∷ []) (book j)) (ot
 
 -- ---- what stays
 
-pub keeps_same : (c : PlainCode) (t : ℕ) (a : Book) → Keeps c t a a
+pub keeps_same : (c : PlainCode) (t : ℕ) (a : Book) → KeepsBook c t a a
 keeps_same c t a p k mine lt = refl
 
-pub keeps_then : (c : PlainCode) (t : ℕ) (a b d : Book) → Keeps c t a b → Keeps c t b d → Keeps c t a d
+pub keeps_then : (c : PlainCode) (t : ℕ) (a b d : Book) → KeepsBook c t a b → KeepsBook c t b d → KeepsBook c t a d
 keeps_then c t a b d h g p k mine lt = g p k mine lt ∙ h p k mine lt
 
 pub told_keeps : (c : PlainCode) (t : ℕ) (a b : Book) (pairs : List Answered) → ((k : ℕ) → IsBranchOf c.shape t k → b (suc k) ≡ a (suc k)) → HasTold c t a pairs → HasTold c t b pairs
@@ -40,7 +40,7 @@ done_keeps c h a b jobs same d = record {
   jobs_are = d.jobs_are;
   runs = d.runs;
   complete = d.complete;
-  told = told_keeps c h.number a b (pair_all d.exchanges d.outputs) same d.told;
+  posts = told_keeps c h.number a b (pair_all d.exchanges d.outputs) same d.posts;
 }
 
 pub rests_keeps : (s s' : Seated) (a b : Book) (j : ℕ) → s'.code ≡ s.code → slice_get s'.threads j ≡ slice_get s.threads j → b j ≡ a j → ((k : ℕ) → IsBranchOf (code_in s).shape j k → b (suc k) ≡ a (suc k)) →

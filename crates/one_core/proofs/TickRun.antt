@@ -18,34 +18,16 @@ use Rattle.combine_tree.specs.Plain.{plain_packet}
 use Rattle.core_machine.specs.declared.thread.Thread.{Thread}
 use Rattle.core_machine.specs.Threads.{CanBegin}
 use Rattle.core_machine.specs.Replies.{Replies_by}
-use Rattle.core_host.specs.Jobs.{IsBetween, kind_of, job_of}
-use Rattle.core_host.specs.Outcomes.{IsReplied, outcome_in}
-use Rattle.core_host.specs.Rests.{IsReady}
-use Rattle.core_host.proofs.TickOutcome.{Told, told, keeps_now, jobs_are, goes_on_paused, job_fits, fits_then}
-use Rattle.core_host.proofs.TickRun.{replied_of}
+use Rattle.tick_jobs.specs.Jobs.{IsBetween, kind_of, job_of}
+use Rattle.tick_jobs.specs.Outcomes.{IsReplied, outcome_in}
+use Rattle.tick_jobs.specs.Ready.{IsReady}
+use Rattle.tick_jobs.proofs.TickOutcome.{Told, told, keeps_now, jobs_are, goes_on_paused, job_fits, fits_then}
+use Rattle.tick_jobs.proofs.Readiness.{between_of, begins_by, replied_of}
 use Rattle.one_core.specs.Seats.{Seated, code_in, Sits, IsFitted}
 use Rattle.one_core.specs.Resting.{HasWorked, HasReplied, HasRepliedTo}
 use Rattle.one_core.specs.Single.{Single, single, seated_in, IsSingle, HasJobs, HasTicked}
 
 -- ---- before
-
-between_of : (t : Thread) (k : PacketKind) → IsReady t k → IsBetween k
-between_of t kind.Blank h = tt
-between_of t kind.Paused h = tt
-between_of t kind.Start h = absurd h
-between_of t kind.Wake h = absurd h
-between_of t kind.Ended h = absurd h
-between_of t (kind.Trapped place trap) h = absurd h
-between_of t kind.Over h = absurd h
-
-begins_by : (t : Thread) (k : PacketKind) → IsReady t k → CanBegin t (kind_of k)
-begins_by t kind.Blank h = tt
-begins_by t kind.Paused h = h
-begins_by t kind.Start h = absurd h
-begins_by t kind.Wake h = absurd h
-begins_by t kind.Ended h = absurd h
-begins_by t (kind.Trapped place trap) h = absurd h
-begins_by t kind.Over h = absurd h
 
 module _ (o : Single) (inv : IsSingle o) (live : o.live ≡ true) where
   pub is_between : IsBetween o.root.kind

@@ -1,38 +1,18 @@
 -- A thread at a fork calls its branches.
 use Rattle.std.specs.Prelude.{ℕ, suc, ◌≡◌, ◌<◌, ◌≤◌, Some, List, ◌∷◌, [], ◌++◌, map, length, slice_get}
 use Rattle.forec_base.specs.declared.limits.TheConstants.{MAX_THREADS}
-use Rattle.forec_kernel.specs.declared.shape.VarCopy.{VarCopy}
-use Rattle.forec_kernel.specs.Engine.{Job, Start, Wake, Reply, WasPaused, Written, Answered, Exchange, pair_up, Answers}
+use Rattle.forec_kernel.specs.Engine.{Reply, Written, Answered, Exchange, pair_up, Answers}
 use Rattle.thread_code.specs.Plain.{PlainCode}
 use Rattle.thread_code.specs.Alone.{CodeAlone}
 use Rattle.core_machine.specs.declared.thread.Thread.{Thread}
 use Rattle.core_machine.specs.Threads.{Loaded, HasSettled, HasReply, StandsFor}
 use Rattle.core_machine.specs.Forks.{jobs_at, with_replies}
-use Rattle.core_host.specs.Posts.{IsBranchOf}
+use Rattle.tick_jobs.specs.Branches.{IsBranchOf}
 use Rattle.one_core.specs.Seats.{Seated, code_in, Sits, Leaves}
-use Rattle.one_core.specs.Told.{Book, HasTold, Keeps}
+use Rattle.tick_jobs.specs.Told.{Book, IsJobFor}
+use Rattle.one_core.specs.Told.{HasTold, KeepsBook}
 use Rattle.one_core.specs.Resting.{RestAbove}
 use Rattle.core_machine.specs.Direct.{RepliesBy}
-
--- thread t answered the last of what it was told by Paused
-pub record IsAsleep (c : PlainCode) (t : ℕ) (jobs : List Job) : Type 0 where
-  pub copies : List VarCopy
-  pub units : ℕ
-  pub answers : Answers (CodeAlone c) (length c.threads) t jobs (WasPaused copies units)
-
--- a Wake comes only after that
-abbrev pub MayTell : PlainCode → Book → ℕ → Job → Type 0
-MayTell c book t (Start args values a) = Unit {0}
-MayTell c book t (Wake values a) = IsAsleep c t (book t)
-
--- this job is for a branch of thread t, and it may be told
-pub record IsJobFor (c : PlainCode) (book : Book) (t : ℕ) (w : Written) : Type 0 where
-  pub place : ℕ
-  pub branch : w.branch ≡ suc place
-  pub mine : IsBranchOf c.shape t place
-  pub inside : w.branch < length c.threads
-  pub above : t < w.branch
-  pub may : MayTell c book w.branch w.job
 
 -- the fork of a thread
 pub record IsForked (c : PlainCode) (h : Thread) : Type 0 where
@@ -68,7 +48,7 @@ pub record WasCalled (a b : Seated) (h : Thread) (book : Book) (w : Written) (r 
   pub above : RestAbove b after h.number
   pub told : after w.branch ≡ book w.branch ++ w.job ∷ []
   pub answers : Answers (CodeAlone (code_in a)) (length (code_in a).threads) w.branch (after w.branch) r
-  pub keeps : Keeps (code_in a) h.number book after
+  pub keeps : KeepsBook (code_in a) h.number book after
   pub others : (k : ℕ) → IsBranchOf (code_in a).shape h.number k → (suc k ≡ w.branch → ⊥) → after (suc k) ≡ book (suc k)
 
 -- the k-th branch has replied
@@ -86,7 +66,7 @@ pub record HaveHeard (s : Seated) (branches : List ℕ) (rs : List Reply) : Type
 pub record HaveCalled (a b : Seated) (h : Thread) (k : ℕ) (book : Book) (rs : List Reply) : Type 0 where
   pub after : Book
   pub above : RestAbove b after h.number
-  pub keeps : Keeps (code_in a) h.number book after
+  pub keeps : KeepsBook (code_in a) h.number book after
   pub told : (pairs : List Answered) → HasTold (code_in a) h.number book pairs → HasTold (code_in a) h.number after (pairs ++ pair_up (jobs_at (code_in a) h) rs)
   pub rest : (i : ℕ) (w : Written) → k ≤ i → slice_get (jobs_at (code_in a) h) i ≡ Some w → IsJobFor (code_in a) after h.number w
 

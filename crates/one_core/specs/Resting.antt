@@ -9,7 +9,8 @@ use Rattle.thread_code.specs.Alone.{CodeAlone}
 use Rattle.core_machine.specs.declared.thread.Thread.{Thread}
 use Rattle.core_machine.specs.Threads.{IsResting, HasPaused}
 use Rattle.one_core.specs.Seats.{Seated, code_in, Sits}
-use Rattle.one_core.specs.Told.{Book, HasDone, InJob, Keeps}
+use Rattle.tick_jobs.specs.Told.{Book}
+use Rattle.one_core.specs.Told.{HasDone, InJob, KeepsBook}
 
 -- the last reply of thread t; where that was Paused, the thread has paused
 pub data LastReply (c : PlainCode) (t : ℕ) (jobs : List Job) (h : Thread) : Type 0 where
@@ -47,7 +48,7 @@ pub record Works (s : Seated) (h : Thread) (book : Book) (jobs : List Job) (job 
 
 -- a thread that was at a job still is, or has done it
 abbrev pub StaysAtWork : Seated → Thread → Seated → Thread → Type 0
-StaysAtWork a h b h1 = (book : Book) (jobs : List Job) (job : Job) → Works a h book jobs job → (after : Book) × Works b h1 after jobs job × Keeps (code_in a) h.number book after
+StaysAtWork a h b h1 = (book : Book) (jobs : List Job) (job : Job) → Works a h book jobs job → (after : Book) × Works b h1 after jobs job × KeepsBook (code_in a) h.number book after
 
 -- ---- thread 0
 

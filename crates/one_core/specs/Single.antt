@@ -14,8 +14,7 @@ use Rattle.thread_code.specs.Valid.{of_shape}
 use Rattle.combine_tree.specs.declared.packet.Packet.{Packet}
 use Rattle.combine_tree.specs.Plain.{plain_packet}
 use Rattle.core_machine.specs.declared.thread.Thread.{Thread}
-use Rattle.core_host.specs.Rests.{IsReady}
-use Rattle.core_host.specs.Runs.{Keeps}
+use Rattle.tick_jobs.specs.Ready.{IsReady, HoldsState}
 use Rattle.one_core.specs.Seats.{Seated, Sits, IsFitted}
 use Rattle.one_core.specs.Resting.{HasWorked}
 
@@ -56,7 +55,7 @@ pub record HasJobs (o : Single) (jobs : List Job) : Type 0 where
 
 pub record HasTicked (o : Single) (k : PlainKernel) (turns : List TickInput) : Type 0 where
   pub jobs : HasJobs o (tick_jobs k Fresh turns)
-  pub keeps : o.live ≡ true → Keeps (state_after k Fresh turns) o.root
+  pub keeps : o.live ≡ true → HoldsState (state_after k Fresh turns) o.root
 
 -- these ticks were run, each with its row and its budget, as each kernel for which the code stands runs them
 unfoldable pub HasRun : Single → List TickInput → Type 0

@@ -1,19 +1,13 @@
 -- What the threads of a code were told, and what each has done for it.
-use Rattle.std.specs.Prelude.{ℕ, suc, ◌≡◌, ◌<◌, ◌==◌, cond, List, [], ◌∷◌, ◌++◌, map, length}
-use Rattle.forec_kernel.specs.Engine.{Job, Exchange, Output, AllReply, Allowed, Answers, Answered, pair_all, jobs_to}
+use Rattle.std.specs.Prelude.{ℕ, suc, ◌≡◌, ◌<◌, ◌==◌, cond, List, [], ◌∷◌, ◌++◌, length}
+use Rattle.forec_kernel.specs.Engine.{Job, Allowed, Answers, Answered, jobs_to}
 use Rattle.thread_code.specs.Plain.{PlainCode}
 use Rattle.thread_code.specs.Alone.{CodeAlone}
 use Rattle.core_machine.specs.declared.thread.Thread.{Thread}
-use Rattle.core_machine.specs.Threads.{StandsFor}
-use Rattle.core_host.specs.Posts.{IsBranchOf}
-use Rattle.core_host.specs.Done.{AreAbove}
-use Rattle.core_host.specs.Writing.{Log, heard, told}
+use Rattle.tick_jobs.specs.Branches.{IsBranchOf, AreAbove}
+use Rattle.tick_jobs.specs.Told.{Book, DidJobs, AtJob}
 
--- the jobs that thread number t was told so far, in order
-abbrev pub Book : Type 0
-Book = ℕ → List Job
-
--- it was told one more
+-- a thread was told one more
 abbrev pub tell : Book → ℕ → Job → Book
 tell book t job j = cond (t == j) (book j ++ job ∷ []) (book j)
 
@@ -23,22 +17,18 @@ pub record HasTold (c : PlainCode) (t : ℕ) (book : Book) (pairs : List Answere
   pub allowed : Allowed (Answers (CodeAlone c) (length c.threads)) [] pairs
   pub jobs : (k : ℕ) → IsBranchOf c.shape t k → jobs_to (suc k) pairs ≡ book (suc k)
 
+-- the same, by the thread's number
+abbrev pub by_book : PlainCode → Book → ℕ → List Answered → Type 0
+by_book c book t pairs = HasTold c t book pairs
+
 -- the thread stands for its jobs with the replies of its branches, and has replied to each
-pub record HasDone (c : PlainCode) (h : Thread) (book : Book) (jobs : List Job) : Type 0 where
-  pub exchanges : List Exchange
-  pub outputs : List Output
-  pub stands : StandsFor c h exchanges
-  pub jobs_are : map (λ x. x.job) exchanges ≡ jobs
-  pub runs : CodeAlone c h.number exchanges outputs
-  pub complete : AllReply outputs
-  pub told : HasTold c h.number book (pair_all exchanges outputs)
+abbrev pub HasDone : PlainCode → Thread → Book → List Job → Type 0
+HasDone c h book jobs = DidJobs c h (by_book c book) jobs
 
 -- the thread has done these jobs, and is at this one
-pub record InJob (c : PlainCode) (h : Thread) (book : Book) (jobs : List Job) (job : Job) : Type 0 where
-  pub log : Log c h.number jobs job
-  pub stands : StandsFor c h (heard c h.number jobs job log)
-  pub tells : HasTold c h.number book (told c h.number jobs job log)
+abbrev pub InJob : PlainCode → Thread → Book → List Job → Job → Type 0
+InJob c h book jobs job = AtJob c h (by_book c book) jobs job
 
 -- what the branches of the threads below t were told is the same
-abbrev pub Keeps : PlainCode → ℕ → Book → Book → Type 0
-Keeps c t a b = (p k : ℕ) → IsBranchOf c.shape p k → p < t → b (suc k) ≡ a (suc k)
+abbrev pub KeepsBook : PlainCode → ℕ → Book → Book → Type 0
+KeepsBook c t a b = (p k : ℕ) → IsBranchOf c.shape p k → p < t → b (suc k) ≡ a (suc k)

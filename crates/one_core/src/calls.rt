@@ -10,12 +10,12 @@ ghost use Rattle.core_machine.specs.Forks.{jobs_at};
 ghost use Rattle.core_machine.specs.declared.thread.Thread.{Thread as PlainThread};
 ghost use Rattle.core_machine.specs.Replies.{Replies_by};
 ghost use Rattle.one_core.specs.Seats.{code_in, IsFitted, Sits, Leaves};
-ghost use Rattle.one_core.specs.Told.{Book};
+ghost use Rattle.tick_jobs.specs.Told.{Book};
 ghost use Rattle.one_core.specs.Resting.{HasBegun, StaysAtWork, HasWorked, HasRepliedTo};
 ghost use Rattle.one_core.specs.Called.{IsForked, CanTell, CanCall, HasCalled, SettlesReply, Consulted, HaveHeard, JoinsReplies};
 
 use combine_tree::Packet;
-use core_host::Boxed;
+use tick_jobs::Boxed;
 use core_machine::{Event, Thread};
 use forec_base::{Gate, Point};
 use std::marker::Model;

@@ -5,7 +5,7 @@ ghost use Rattle.thread_code.specs.Plain.{plain_code};
 ghost use Rattle.core_machine.specs.Room.{AreNeeds};
 ghost use Rattle.one_core.specs.Loads.{AreNew, IsNew};
 
-use core_host::Boxed;
+use tick_jobs::Boxed;
 use core_machine::{Needs, Thread};
 use forec_base::OutOfMemory;
 use std::alloc::Global;

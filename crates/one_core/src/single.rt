@@ -8,13 +8,13 @@ ghost use Rattle.forec_kernel.specs.Ticks.{Fresh, tick, goes_on};
 ghost use Rattle.forec_kernel.specs.WellFormed.{WellFormed};
 ghost use Rattle.thread_code.specs.Alone.{Stands};
 ghost use Rattle.thread_code.specs.Plain.{plain_code};
-ghost use Rattle.core_host.specs.Outcomes.{HasOutputs, LacksOutputs};
+ghost use Rattle.tick_jobs.specs.Outcomes.{HasOutputs, LacksOutputs};
 
 use crate::calls::Calls;
 use crate::load::seats_of;
 use combine_tree::Packet;
 use core_alloc::Placement;
-use core_host::{write_job, write_outcome};
+use tick_jobs::{write_job, write_outcome};
 use forec_base::{Gate, OutOfMemory};
 use forec_kernel::Outcome;
 use std::alloc::Global;

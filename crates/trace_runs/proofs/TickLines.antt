@@ -4,7 +4,7 @@ use Rattle.std.proofs.lemmas.List.{length-map}
 use Rattle.forec_kernel.specs.declared.shape.Outcome.{Outcome}
 use Rattle.forec_kernel.specs.Shapes.{PlainKernel}
 use Rattle.forec_kernel.specs.Ticks.{Tick}
-use Rattle.core_host.specs.Outcomes.{HasOutputs}
+use Rattle.tick_jobs.specs.Outcomes.{HasOutputs}
 use Rattle.trace_runs.specs.KernelNames.{input_names, output_names}
 use Rattle.trace_rows.specs.Report.{outcome_lines}
 use Rattle.trace_runs.specs.Report.{tick_lines}

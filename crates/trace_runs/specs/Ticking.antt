@@ -3,7 +3,7 @@ use Rattle.std.specs.Prelude.{◌≡◌, ℕ, true}
 use Rattle.forec_kernel.specs.Shapes.{PlainKernel}
 use Rattle.forec_kernel.specs.Ticks.{State, tick, goes_on}
 use Rattle.forec_kernel.specs.declared.shape.Outcome.{Outcome}
-use Rattle.core_host.specs.Outcomes.{HasOutputs}
+use Rattle.tick_jobs.specs.Outcomes.{HasOutputs}
 use Rattle.trace_rows.specs.Trace.{Row}
 
 -- the tick's outcome

@@ -3,7 +3,7 @@
 ghost use Rattle.std.specs.Prelude.{◌≡◌, IfOk, true, length};
 ghost use Rattle.forec_kernel.specs.Shapes.{plain_kernel};
 ghost use Rattle.forec_kernel.specs.Ticks.{Fresh, goes_on};
-ghost use Rattle.core_host.specs.Outcomes.{HasOutputs};
+ghost use Rattle.tick_jobs.specs.Outcomes.{HasOutputs};
 ghost use Rattle.kernel_meaning.specs.States.{plain_state};
 
 use crate::orders::order;

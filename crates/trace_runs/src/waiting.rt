@@ -3,7 +3,7 @@ ghost use Rattle.std.specs.Prelude.{◌≡◌, ◌≢◌, ◌+◌, ◌-◌, ◌^
 ghost use Rattle.std.specs.Io.KnownBytes.{Appends};
 ghost use Rattle.forec_base.specs.Outside.{Fell};
 ghost use Rattle.trace_rows.specs.Calls.{Faults};
-ghost use Rattle.core_host.specs.Outcomes.{HasOutputs};
+ghost use Rattle.tick_jobs.specs.Outcomes.{HasOutputs};
 ghost use Rattle.trace_runs.specs.Calls.{AppendsFront};
 ghost use Rattle.trace_rows.specs.Report.{tick_line, tick_room, end_line, trap_word, trap_line, over_line, rows_line, fault_word, row_line, outcome_lines};
 ghost use Rattle.trace_runs.specs.Workload.{workload_line};

@@ -1,7 +1,7 @@
 use Rattle.std.proofs.Common.{map, sym, ap, ◌∙◌, subst}
 use Rattle.std.proofs.lemmas.Option.{get_or_from_slice_get}
 use Rattle.combine_tree.specs.Plain.{plain_packet}
-use Rattle.core_host.proofs.Locally.{ok_then}
+use Rattle.tick_jobs.proofs.Lists.{ok_then}
 use Rattle.slot_board.specs.Dealt.{new_ports}
 use Rattle.board_hosts.specs.Boards.{ArePorts}
 use Rattle.board_hosts.specs.CoreHosts.{root_core}

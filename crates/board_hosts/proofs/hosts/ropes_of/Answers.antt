@@ -1,5 +1,5 @@
 use Rattle.std.proofs.Common.{◌∙◌}
-use Rattle.core_host.proofs.Locally.{ok_then}
+use Rattle.tick_jobs.proofs.Lists.{ok_then}
 use Rattle.board_hosts.proofs.Roped.{all_roped}
 use Rattle.board_hosts.proofs.hosts.ropes_of.Goals as goal
 

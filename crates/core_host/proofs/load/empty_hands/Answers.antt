@@ -1,6 +1,6 @@
 use Rattle.std.proofs.Common.{◌+◌, None, length, sym, ap, ◌∙◌, ⊎_elim}
 use Rattle.std.specs.Prelude.{slice_get}
-use Rattle.core_host.proofs.LoadLemmas.{get_then, length_then}
+use Rattle.tick_jobs.proofs.Lists.{get_then, length_then}
 use Rattle.core_host.proofs.load.empty_hands.Goals as goal
 
 pub loop-preserved : goal.loop-preserved

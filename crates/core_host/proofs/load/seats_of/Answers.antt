@@ -3,7 +3,7 @@ use Rattle.std.specs.Prelude.{slice_get, slice_index_or}
 use Rattle.std.proofs.lemmas.Option.{get_or_from_slice_get}
 use Rattle.thread_code.specs.Plain.{plain_code}
 use Rattle.core_host.specs.Loads.{IsNewSeat, contains_core}
-use Rattle.core_host.proofs.LoadLemmas.{get_then, length_then}
+use Rattle.tick_jobs.proofs.Lists.{get_then, length_then}
 use Rattle.core_host.proofs.load.seats_of.Goals as goal
 
 pub loop-thread-preserved : goal.loop-thread-preserved

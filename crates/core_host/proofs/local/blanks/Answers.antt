@@ -7,7 +7,7 @@ use Rattle.forec_kernel.specs.Packets.{PlainPacket}
 use Rattle.forec_kernel.specs.declared.shape.Shape.{Shape}
 use Rattle.combine_tree.specs.Plain.{plain_packet}
 use Rattle.combine_tree.specs.declared.packet.Packet.{Packet as PacketState}
-use Rattle.core_host.proofs.LoadLemmas.{get_then, length_then}
+use Rattle.tick_jobs.proofs.Lists.{get_then, length_then}
 use Rattle.core_host.proofs.Locally.{params_index, uses_index}
 use Rattle.core_host.proofs.local.blanks.Goals as goal
 

@@ -1,7 +1,8 @@
 use Rattle.std.proofs.Common.{sym, subst}
 use Rattle.core_host.specs.Posts.{Mail}
 use Rattle.core_host.specs.Loads.{CanLoad}
-use Rattle.core_host.proofs.Locally.{serves_all, ok_then}
+use Rattle.core_host.proofs.Locally.{serves_all}
+use Rattle.tick_jobs.proofs.Lists.{ok_then}
 use Rattle.core_host.proofs.local.local_port.Goals as goal
 
 pub new-requires : goal.new-requires

@@ -1,7 +1,7 @@
 use Rattle.std.proofs.Common.{◌+◌, Some, length, sym, ap, ◌∙◌, subst, ⊎_elim}
 use Rattle.std.specs.Prelude.{slice_get}
 use Rattle.thread_code.specs.Plain.{plain_code}
-use Rattle.core_host.proofs.LoadLemmas.{get_then, length_then}
+use Rattle.tick_jobs.proofs.Lists.{get_then, length_then}
 use Rattle.one_core.specs.Loads.{IsNew}
 use Rattle.one_core.proofs.load.seats_of.Goals as goal
 

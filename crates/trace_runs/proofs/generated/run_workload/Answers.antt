@@ -1,7 +1,7 @@
 use Rattle.std.proofs.Common.{◌+◌, refl, sym, ap, subst, ◌∙◌, arith}
 use Rattle.forec_kernel.specs.declared.shape.Outcome.TheVariants as outcome
 use Rattle.forec_kernel.specs.Ticks.{State, goes_on}
-use Rattle.core_host.specs.Outcomes.{HasOutputs}
+use Rattle.tick_jobs.specs.Outcomes.{HasOutputs}
 use Rattle.trace_rows.specs.Report.{trap_line, over_line}
 use Rattle.trace_runs.specs.Report.{Report}
 use Rattle.trace_runs.specs.WaitingRoom.{HasRoom}

@@ -8,14 +8,15 @@ use Rattle.thread_code.specs.Plain.{plain_code}
 use Rattle.thread_code.specs.Alone.{Stands}
 use Rattle.combine_tree.specs.Plain.{plain_packet}
 use Rattle.core_machine.specs.Threads.{CanBegin}
-use Rattle.core_host.specs.Jobs.{job_of}
-use Rattle.core_host.specs.Outcomes.{HasOutputs, HasOutcome}
+use Rattle.tick_jobs.specs.Jobs.{job_of}
+use Rattle.tick_jobs.specs.Outcomes.{HasOutputs, HasOutcome}
 use Rattle.core_host.specs.Keeping.{State, code_in}
 use Rattle.core_host.specs.Hosted.{Hosted, hosted, code_of, IsWhole}
 use Rattle.core_host.specs.Runs.{HasJobs, HasTicked, HasRun}
 use Rattle.core_host.specs.Loads.{is_on}
 use Rattle.core_host.proofs.HostedLemmas.{hosted_seated}
-use Rattle.core_host.proofs.TickRun.{whole_here, quiet_rested, is_between, can_begin, replied_of, now_hosted, now_jobs, outcome_now, told_now, ticked_now}
+use Rattle.core_host.proofs.TickRun.{whole_here, quiet_rested, is_between, can_begin, now_hosted, now_jobs, outcome_now, told_now, ticked_now}
+use Rattle.tick_jobs.proofs.Readiness.{replied_of}
 use Rattle.core_host.proofs.HostedLemmas.{rope_same}
 use Rattle.core_host.proofs.host.Host.alone.Goals as goal
 

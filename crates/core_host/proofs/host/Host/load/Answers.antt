@@ -12,8 +12,8 @@ use Rattle.core_host.specs.Loads.{AreOwn}
 use Rattle.core_host.specs.Hosted.{Hosted, hosted, is_here, IsWhole}
 use Rattle.core_host.specs.Rests.{IsHosted}
 use Rattle.core_host.specs.Runs.{HasJobs, HasRun}
-use Rattle.core_host.proofs.Rooms.{no_params, all_uses}
-use Rattle.core_host.proofs.TickOutcome.{blank_of}
+use Rattle.tick_jobs.proofs.Rooms.{no_params, all_uses}
+use Rattle.tick_jobs.proofs.TickOutcome.{blank_of}
 use Rattle.core_host.proofs.Newly.{new_host, new_hosted, new_jobs, new_whole, whole_here}
 use Rattle.core_host.proofs.host.Host.load.Goals as goal
 

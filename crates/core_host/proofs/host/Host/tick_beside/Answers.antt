@@ -8,13 +8,14 @@ use Rattle.thread_code.specs.Plain.{plain_code}
 use Rattle.thread_code.specs.Alone.{Stands}
 use Rattle.combine_tree.specs.Plain.{plain_packet}
 use Rattle.core_machine.specs.Threads.{CanBegin}
-use Rattle.core_host.specs.Jobs.{job_of}
-use Rattle.core_host.specs.Outcomes.{HasOutputs, HasOutcome}
+use Rattle.tick_jobs.specs.Jobs.{job_of}
+use Rattle.tick_jobs.specs.Outcomes.{HasOutputs, HasOutcome}
 use Rattle.core_host.specs.Keeping.{State, code_in}
 use Rattle.core_host.specs.Hosted.{Hosted, hosted, code_of, is_here}
 use Rattle.core_host.specs.Runs.{HasJobs, HasTicked, HasRun}
 use Rattle.core_host.proofs.HostedLemmas.{each_between}
-use Rattle.core_host.proofs.TickRun.{beside_rested, is_between, can_begin, replied_of, now_hosted, now_jobs, outcome_now, told_now, ticked_now}
+use Rattle.core_host.proofs.TickRun.{beside_rested, is_between, can_begin, now_hosted, now_jobs, outcome_now, told_now, ticked_now}
+use Rattle.tick_jobs.proofs.Readiness.{replied_of}
 use Rattle.core_host.proofs.host.Host.tick_beside.Goals as goal
 
 pub write_job-requires-clause-between : goal.write_job-requires-clause-between

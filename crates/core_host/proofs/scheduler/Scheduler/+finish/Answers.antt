@@ -12,9 +12,10 @@ use Rattle.combine_tree.specs.Plain.{plain_packet}
 use Rattle.core_machine.specs.Forks.{jobs_at}
 use Rattle.core_host.specs.Keeping.{State, code_in, QuietAbove, Leaves, HaveHeard}
 use Rattle.core_host.proofs.KeepingLemmas.{leaves_same, leaves_then, fitted_keeps}
-use Rattle.core_host.proofs.Hearing.{past_end}
+use Rattle.tick_jobs.proofs.Lists.{past_end}
 use Rattle.core_host.proofs.ChildrenRunLemmas.{consulted_none, some_number, fitted_b, above_m, inside_m, can_send, some_packet, is_called, sent_above, consulted_more, have_heard}
-use Rattle.core_host.proofs.Finishing.{fits_forks, replied_by, job_runs, allowance_is, at_fork, some_at, bound, next}
+use Rattle.core_host.proofs.Finishing.{job_runs, allowance_is, at_fork, some_at, bound, next}
+use Rattle.tick_jobs.proofs.Forks.{fits_forks, replied_by}
 use Rattle.core_host.proofs.SchedulerCalls.{loaded_now, resting_now, begins_now, room_now, small_now, raw_fitted, number1, raw_above, raw_followed, reply_room, answer_held, answer_answers, end_back, end_above, end_leaves}
 use Rattle.core_host.proofs.scheduler.Scheduler.+finish.Goals as goal
 

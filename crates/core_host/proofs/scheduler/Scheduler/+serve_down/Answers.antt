@@ -9,9 +9,9 @@ use Rattle.core_host.specs.Changes.{HasProgressed}
 use Rattle.core_host.specs.Descending.{KeepsRound}
 use Rattle.core_host.specs.Keeping.{State, code_in, HaveHeard}
 use Rattle.core_host.specs.Waiting.{IsForked, CanDescend}
-use Rattle.core_host.proofs.Finishing.{replied_by}
+use Rattle.tick_jobs.proofs.Forks.{replied_by}
 use Rattle.core_host.proofs.Seats.{can_above, it_sits}
-use Rattle.core_host.proofs.Hearing.{past_end}
+use Rattle.tick_jobs.proofs.Lists.{past_end}
 use Rattle.core_host.proofs.CallingLemmas.{told_at, served_at, called_none, some_number, seated_b, can_call, its_packet, calls_at, calls_by, called_more, sent_first, served_all, stays_seated, stays_can}
 use Rattle.core_host.proofs.DescendingLemmas.{never, descends_same, descends_then, descends_less, descends_seated, descends_can, branch_at, kept_same, kept_then, sent_since, starts, starts_at, finishes, held_on, back_descends, gains_more, taken_up, taken_can, served_whole, served_worked, not_taken}
 use Rattle.core_host.proofs.GoingOn.{runs, the_fork, forked_here, told_so_far, s1_descends, waits_there, has_sent, has_all, has_heard, works_on, served_again, gathers_there, gathers_still}

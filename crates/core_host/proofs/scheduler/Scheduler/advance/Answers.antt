@@ -3,7 +3,7 @@ use Rattle.core_machine.specs.Threads.{Left_by}
 use Rattle.core_host.specs.Posts.{Mail}
 use Rattle.core_host.specs.Changes.{HasWorked}
 use Rattle.core_host.specs.Keeping.{State, code_in}
-use Rattle.core_host.proofs.Finishing.{replied_by}
+use Rattle.tick_jobs.proofs.Forks.{replied_by}
 use Rattle.core_host.proofs.Advancing.{run_finished, run_fork, run_held, run_worked}
 use Rattle.core_host.proofs.scheduler.Scheduler.advance.Goals as goal
 

@@ -4,7 +4,7 @@ use Rattle.thread_code.specs.Plain.{plain_code}
 use Rattle.core_machine.specs.Threads.{Loaded, StandsFor, Left_by}
 use Rattle.core_machine.specs.Forks.{jobs_at}
 use Rattle.core_host.specs.Keeping.{State, HaveHeard}
-use Rattle.core_host.proofs.Finishing.{replied_by}
+use Rattle.tick_jobs.proofs.Forks.{replied_by}
 use Rattle.core_host.proofs.Beside.{others_same, others_then, others_seated, round_others, on_runs, told_now, fork_now, forked_now, replies_now, heard_now, on_next, pairs_now}
 use Rattle.core_host.proofs.HostedLemmas.{round_same, round_then}
 use Rattle.core_host.proofs.scheduler.Scheduler.finish_beside.Goals as goal

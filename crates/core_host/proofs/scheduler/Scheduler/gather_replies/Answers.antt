@@ -1,6 +1,6 @@
 use Rattle.std.proofs.Common.{◌≡◌, Bool, true, false, sym, ◌∙◌, arith}
 use Rattle.std.proofs.lemmas.Option.{slice_get_within}
-use Rattle.core_host.proofs.Hearing.{past_end}
+use Rattle.tick_jobs.proofs.Lists.{past_end}
 use Rattle.core_host.proofs.GatherReplies.{got_none, some_number, seated_b, inside_m, lacks_m, got_more, missed_moves, missed_waits, missed_awaits, has_all}
 use Rattle.core_host.proofs.scheduler.Scheduler.gather_replies.Goals as goal
 

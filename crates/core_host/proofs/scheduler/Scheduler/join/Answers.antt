@@ -10,7 +10,8 @@ use Rattle.forec_kernel.specs.Packed.{HasRoom, IsReply}
 use Rattle.combine_tree.specs.declared.packet.Packet.{Packet}
 use Rattle.thread_code.specs.Valid.{of_shape}
 use Rattle.core_host.specs.Keeping.{State, code_in}
-use Rattle.core_host.proofs.Hearing.{past_end, reply_at, heard_at, in_hands, some_branch, packet_is, not_empty, reply_is}
+use Rattle.core_host.proofs.Hearing.{reply_at, heard_at, in_hands, some_branch, packet_is, not_empty, reply_is}
+use Rattle.tick_jobs.proofs.Lists.{past_end}
 use Rattle.core_host.proofs.scheduler.Scheduler.join.Goals as goal
 
 pub overflow_sub-branch : goal.overflow_sub-branch

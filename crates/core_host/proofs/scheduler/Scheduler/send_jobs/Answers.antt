@@ -1,6 +1,6 @@
 use Rattle.std.proofs.Common.{sym, ◌∙◌, arith}
 use Rattle.std.proofs.lemmas.Option.{slice_get_within}
-use Rattle.core_host.proofs.Hearing.{past_end}
+use Rattle.tick_jobs.proofs.Lists.{past_end}
 use Rattle.core_host.proofs.SendJobs.{sent_none, some_number, seated_b, can_send, its_packet, sent_more, all_sent}
 use Rattle.core_host.proofs.scheduler.Scheduler.send_jobs.Goals as goal
 

@@ -2,7 +2,7 @@ use Rattle.std.proofs.Common.{suc, ap, ◌∙◌, sym, subst, Some, arith}
 use Rattle.std.proofs.lemmas.Option.{slice_get-get_or}
 use Rattle.core_host.specs.Changes.{IsIdle}
 use Rattle.core_host.specs.Keeping.{code_in}
-use Rattle.core_host.proofs.Mails.{some_once}
+use Rattle.tick_jobs.proofs.Lists.{some_once}
 use Rattle.core_host.proofs.Seats.{can_above}
 use Rattle.core_host.proofs.ServingLemmas.{missed_one}
 use Rattle.core_host.proofs.DescendingLemmas.{keeps_down, kept_round}

@@ -5,7 +5,7 @@ use Rattle.thread_code.specs.declared.instruction.CodeParts.{CodeParts}
 use Rattle.thread_code.specs.Plain.{plain_code}
 use Rattle.core_host.specs.Changes.{HasWorked}
 use Rattle.core_host.specs.Keeping.{code_in}
-use Rattle.core_host.proofs.Mails.{some_once}
+use Rattle.tick_jobs.proofs.Lists.{some_once}
 use Rattle.core_host.proofs.Beginning.{worked_from}
 use Rattle.core_host.proofs.ServingLemmas.{HasMissedFirst, missed_none, missed_more, keeps_one, keeps_then, keeps_seated}
 use Rattle.core_host.proofs.scheduler.Scheduler.serve_first.Goals as goal

@@ -9,7 +9,8 @@ use Rattle.forec_kernel.specs.Packed.{IsReply}
 use Rattle.combine_tree.specs.declared.packet.Packet.{Packet}
 use Rattle.combine_tree.specs.Plain.{plain_packet}
 use Rattle.core_host.specs.Keeping.{State, code_in}
-use Rattle.core_host.proofs.Hearing.{take_more, take_count, take_all, past_end, reply_kind, reply_at, in_hands, some_branch, not_empty, reply_is}
+use Rattle.core_host.proofs.Hearing.{reply_kind, reply_at, in_hands, some_branch, not_empty, reply_is}
+use Rattle.tick_jobs.proofs.Lists.{take_more, take_count, take_all, past_end}
 use Rattle.core_host.proofs.scheduler.Scheduler.settle.Goals as goal
 
 pub overflow_sub-branch : goal.overflow_sub-branch

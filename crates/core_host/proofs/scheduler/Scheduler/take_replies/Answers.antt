@@ -1,5 +1,5 @@
 use Rattle.std.proofs.Common.{Some, refl, ap, sym, subst, ◌∙◌}
-use Rattle.core_host.specs.Writing.{told}
+use Rattle.tick_jobs.specs.Writing.{told}
 use Rattle.core_host.specs.Keeping.{code_in, HaveHeard}
 use Rattle.core_host.proofs.Beginning.{touches_then, touches_seated}
 use Rattle.core_host.proofs.GatherReplies.{all_heard}

@@ -8,10 +8,10 @@ use Rattle.thread_code.specs.Plain.{plain_code}
 use Rattle.thread_code.specs.Alone.{block_of}
 use Rattle.core_machine.specs.Threads.{Loaded, StandsFor, HasSettled, Left_by}
 use Rattle.core_machine.specs.Forks.{jobs_at, with_replies}
-use Rattle.core_host.proofs.Hearing.{past_end}
-use Rattle.core_host.proofs.Finishing.{fits_forks, replied_by}
+use Rattle.tick_jobs.proofs.Lists.{past_end}
+use Rattle.tick_jobs.proofs.Forks.{fits_forks, replied_by}
 use Rattle.one_core.specs.Seats.{Seated, code_in, IsFitted, Leaves}
-use Rattle.one_core.specs.Told.{Book}
+use Rattle.tick_jobs.specs.Told.{Book}
 use Rattle.one_core.specs.Called.{CanCall, HasCalled, Consulted, HaveHeard}
 use Rattle.one_core.proofs.TellLemmas.{fitted_keeps, leaves_same, leaves_then}
 use Rattle.one_core.proofs.CallLemmas.{seated, fitted_set, in_branches, not_empty, child_loaded, child_at, child_rests, child_takes, number_is, has_begun, has_left, has_called, gave}

@@ -4,7 +4,7 @@ use Rattle.thread_code.specs.Alone.{block_of}
 use Rattle.core_machine.specs.Threads.{Loaded, HasSettled}
 use Rattle.core_machine.specs.Forks.{jobs_at}
 use Rattle.one_core.specs.Seats.{code_in, Leaves}
-use Rattle.one_core.specs.Told.{Book}
+use Rattle.tick_jobs.specs.Told.{Book}
 use Rattle.one_core.specs.Resting.{Works}
 use Rattle.one_core.specs.Called.{Consulted}
 use Rattle.one_core.proofs.FinishLemmas.{Going}

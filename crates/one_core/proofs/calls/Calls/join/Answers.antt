@@ -6,7 +6,7 @@ use Rattle.thread_code.specs.Plain.{plain_code}
 use Rattle.core_machine.specs.declared.thread.Thread.{Thread}
 use Rattle.core_machine.specs.Threads.{Loaded, StandsFor, HasReply}
 use Rattle.core_machine.specs.Forks.{with_replies}
-use Rattle.core_host.proofs.Hearing.{past_end}
+use Rattle.tick_jobs.proofs.Lists.{past_end}
 use Rattle.one_core.specs.Seats.{Seated}
 use Rattle.core_machine.specs.Direct.{RepliesBy}
 use Rattle.one_core.proofs.HearingLemmas.{reply_at, in_seats, not_empty, it_replied, it_loaded, its_number, its_reply}

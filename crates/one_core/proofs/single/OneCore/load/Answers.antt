@@ -6,8 +6,8 @@ use Rattle.forec_kernel.specs.Packed.{HasRoom}
 use Rattle.thread_code.specs.Plain.{plain_code}
 use Rattle.thread_code.specs.Valid.{of_shape}
 use Rattle.combine_tree.specs.Plain.{plain_packet}
-use Rattle.core_host.proofs.Rooms.{no_params, all_uses}
-use Rattle.core_host.proofs.TickOutcome.{blank_of}
+use Rattle.tick_jobs.proofs.Rooms.{no_params, all_uses}
+use Rattle.tick_jobs.proofs.TickOutcome.{blank_of}
 use Rattle.one_core.proofs.Newly.{new_single, new_run}
 use Rattle.one_core.proofs.single.OneCore.load.Goals as goal
 

@@ -8,8 +8,8 @@ use Rattle.thread_code.specs.Plain.{plain_code}
 use Rattle.thread_code.specs.Alone.{Stands}
 use Rattle.combine_tree.specs.Plain.{plain_packet}
 use Rattle.core_machine.specs.Threads.{CanBegin}
-use Rattle.core_host.specs.Jobs.{job_of}
-use Rattle.core_host.specs.Outcomes.{HasOutputs}
+use Rattle.tick_jobs.specs.Jobs.{job_of}
+use Rattle.tick_jobs.specs.Outcomes.{HasOutputs}
 use Rattle.one_core.specs.Seats.{Seated, code_in}
 use Rattle.one_core.specs.Single.{Single, single, code_of, HasTicked, HasRun}
 use Rattle.one_core.proofs.TickRun.{is_between, can_begin, it_replied, now_single, told_now, ticked_now}

@@ -1,0 +1,16 @@
+pub mod Lists
+pub mod Pairs
+pub mod Branching
+pub mod Copies
+pub mod Rooms
+pub mod KeptCopies
+pub mod Readiness
+pub mod TickOutcome
+pub mod Once
+pub mod AtEachFork
+pub mod FollowingLemmas
+pub mod Replying
+pub mod Logs
+pub mod AfterFork
+pub mod Forks
+pub mod RunTick
