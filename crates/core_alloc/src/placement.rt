@@ -1,6 +1,7 @@
 //! Placements.
 
-ghost use Rattle.std.specs.Prelude.{◌≡◌, ◌<◌, ◌≤◌, ◌^◌, Some, All, length, slice_get};
+ghost use Rattle.std.specs.Prelude.{◌≡◌, ◌==◌, ◌<◌, ◌≤◌, ◌^◌, Some, All, length, slice_get};
+ghost use Rattle.std.specs.List.{list_all};
 
 use std::marker::Model;
 
@@ -19,6 +20,13 @@ impl Model for Placement {
     ghost view = { λ p. record { cores = p.cores; places = p.places.items } };
 
     ghost invariant = { λ p. IsPlaced p.cores p.places.items };
+}
+
+/// Whether each of these cores is this one.
+fn are_all(core: u32, cores: &[u32]) -> bool
+    ensures { result ≡ list_all (λ other. other == core) cores.now }
+{
+    cores.iter().all(|other| *other == core)
 }
 
 impl Placement {
@@ -61,6 +69,9 @@ impl Placement {
     pub fn has_one_core(&self) -> bool
         ensures { result ≡ is_on_one_core self.now.places }
     {
-        self.places.iter().all(|core| *core == self.places[0])
+        match self.places.first() {
+            Some(core) => are_all(*core, &self.places),
+            None => true,
+        }
     }
 }
