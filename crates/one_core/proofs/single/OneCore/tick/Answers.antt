@@ -36,16 +36,19 @@ invariant_of-self g c =
     (subst (λ s. IsJob (plain_packet c.write_job.new.packet) (job_of s c.self.inside.root c.args.row.now c.args.budget)) shape c.write_job.ensures.job)
     c.work.ensures.code c.work.ensures.fitted c.work.ensures.room c.work.ensures.kind c.work.ensures.replied c.write_outcome-outcome.result c.write_outcome-outcome.ensures.outcome live
 
-pub returns-clause-runs : goal.returns-clause-runs
-returns-clause-runs g c =
+pub returns : goal.returns
+returns g c =
     let shape : plain_shape c.shape.result.now ≡ (code_in c.self.inside.calls).shape = ap plain_shape c.shape.ensures.same ∙ ap (λ (v : Seated). (code_in v).shape) c.calls.view_is in
     let live : c.match-matches.live ≡ goes_on c.write_outcome-outcome.result = search rules in
     let copies = c.work.new.packet.copies.items in
     let shape2 = ap plain_shape c.shape-2.ensures.same ∙ ap (λ (v : Seated). (code_in v).shape) c.calls.view_is in
-    subst (λ (o : Single). RunsTick (ticking o) (ticking (single c.work.new.self c.work.new.packet c.match-matches.live)) c.args.row.now c.args.budget c.write_outcome-outcome.result c.args.outputs.now c.write_outcome-outcome.new.outputs) c.self.view_is
-    (ran c.self.inside.calls c.work.new.self c.self.inside.root c.work.new.packet c.write_job.new.packet c.self.inside.live c.match-matches.live c.self.invariant (ap (λ (o : Single). o.live) c.self.view_is ∙ c.requires.can.live) c.args.row.now c.args.budget
-    (subst (λ s. IsJob (plain_packet c.write_job.new.packet) (job_of s c.self.inside.root c.args.row.now c.args.budget)) shape c.write_job.ensures.job)
-    c.work.ensures.code c.work.ensures.fitted c.work.ensures.room c.work.ensures.kind c.work.ensures.replied c.write_outcome-outcome.result c.write_outcome-outcome.ensures.outcome live
-    c.args.outputs.now c.write_outcome-outcome.new.outputs
-    (λ has. c.write_outcome-outcome.ensures.outputs has ∙ ap (λ (s : PlainShape). values_of (uses_in s.threads 0) copies s.outputs) shape2)
-    c.write_outcome-outcome.ensures.stay)
+    record {
+      runs =
+          subst (λ (o : Single). RunsTick (ticking o) (ticking (single c.work.new.self c.work.new.packet c.match-matches.live)) c.args.row.now c.args.budget c.write_outcome-outcome.result c.args.outputs.now c.write_outcome-outcome.new.outputs) c.self.view_is
+          (ran c.self.inside.calls c.work.new.self c.self.inside.root c.work.new.packet c.write_job.new.packet c.self.inside.live c.match-matches.live c.self.invariant (ap (λ (o : Single). o.live) c.self.view_is ∙ c.requires.can.live) c.args.row.now c.args.budget
+          (subst (λ s. IsJob (plain_packet c.write_job.new.packet) (job_of s c.self.inside.root c.args.row.now c.args.budget)) shape c.write_job.ensures.job)
+          c.work.ensures.code c.work.ensures.fitted c.work.ensures.room c.work.ensures.kind c.work.ensures.replied c.write_outcome-outcome.result c.write_outcome-outcome.ensures.outcome live
+          c.args.outputs.now c.write_outcome-outcome.new.outputs
+          (λ has. c.write_outcome-outcome.ensures.outputs has ∙ ap (λ (s : PlainShape). values_of (uses_in s.threads 0) copies s.outputs) shape2)
+          c.write_outcome-outcome.ensures.stay);
+    }
