@@ -14,12 +14,12 @@ use crate::calls::Calls;
 use crate::load::seats_of;
 use combine_tree::Packet;
 use core_alloc::Placement;
-use tick_jobs::{write_job, write_outcome};
 use forec_base::{Gate, OutOfMemory};
 use forec_kernel::Outcome;
 use std::alloc::Global;
 use std::marker::Model;
 use thread_code::Code;
+use tick_jobs::{write_job, write_outcome};
 
 /// All threads of a code on one core, in memory that is made once.
 ///
