@@ -1,5 +1,5 @@
 -- Lists of places.
-use Rattle.std.specs.Prelude.{ℕ, ◌≤◌, ◌<◌, ◌^◌, ◌==◌, nat_lt, Bool, false, not, ◌&&◌, cond, Option, None, Some, is_none, option_map, List, length, map, All, position}
+use Rattle.std.specs.Prelude.{ℕ, ◌≤◌, ◌<◌, ◌^◌, ◌==◌, nat_lt, Bool, false, not, ◌&&◌, cond, Option, None, Some, is_none, option_map, get_or, List, length, map, All, position}
 use Rattle.std.specs.List.{slice_split, list_all}
 use Rattle.std.specs.Option.{option_or}
 use Rattle.std.specs.Char.{is_ascii_digit}
@@ -17,6 +17,10 @@ pub record IsPlaced (cores : ℕ) (places : List ℕ) : Type 0 where
   pub some : 1 ≤ cores
   pub below : All (λ core. core < cores) places
   pub few : length places < 2 ^ 32
+
+-- each thread has the core of thread 0
+abbrev pub is_on_one_core : List ℕ → Bool
+is_on_one_core places = list_all (λ core. core == get_or places 0 0) places
 
 -- a text is cut at its commas
 abbrev pub pieces : List ℕ → List (List ℕ)

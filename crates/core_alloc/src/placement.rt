@@ -1,6 +1,7 @@
 //! Placements.
 
-ghost use Rattle.std.specs.Prelude.{◌≡◌, ◌<◌, ◌≤◌, ◌^◌, Some, All, length, slice_get};
+ghost use Rattle.std.specs.Prelude.{◌≡◌, ◌==◌, ◌<◌, ◌≤◌, ◌^◌, Some, All, length, slice_get};
+ghost use Rattle.std.specs.List.{list_all};
 
 use std::marker::Model;
 
@@ -21,7 +22,16 @@ impl Model for Placement {
     ghost invariant = { λ p. IsPlaced p.cores p.places.items };
 }
 
+/// Whether each of these cores is this one.
+fn are_all(core: u32, cores: &[u32]) -> bool
+    ensures { result ≡ list_all (λ other. other == core) cores.now }
+{
+    cores.iter().all(|other| *other == core)
+}
+
 impl Placement {
+    ghost use Rattle.core_alloc.specs.Places.{is_on_one_core};
+
     /// The placement of these threads on so many cores.
     pub(crate) fn of(cores: u32, places: Vec<u32>) -> Placement
         requires some { 1 ≤ cores }
@@ -54,5 +64,14 @@ impl Placement {
         ensures below { result < self.now.cores }
     {
         self.places[t as usize]
+    }
+    /// Whether all threads have the same core.
+    pub fn has_one_core(&self) -> bool
+        ensures { result ≡ is_on_one_core self.now.places }
+    {
+        match self.places.first() {
+            Some(core) => are_all(*core, &self.places),
+            None => true,
+        }
     }
 }

@@ -28,7 +28,7 @@ struct Run {
 const SUMS: &[u8] =
     b"input int a; output int b = 5; void main(void) { while (1) { b = a + b; pause; } }";
 
-const FOLDS: &[u8] = b"shared output int s = 0 combine all with minus;
+pub const FOLDS: &[u8] = b"shared output int s = 0 combine all with minus;
 int minus(int x, int y) { return x - y; }
 void a(void) { s = 10; }
 void b(void) { s = 3; }
@@ -44,7 +44,7 @@ void c(void) { s = 2; }
 void main(void) { par(a, b, c); }
 ";
 
-const DIVIDES: &[u8] = b"shared output int s = 0 combine mod with plus;
+pub const DIVIDES: &[u8] = b"shared output int s = 0 combine mod with plus;
 int plus(int x, int y) { return x + y; }
 void a(void) { s = 1 / s; }
 void b(void) { s = 2 / s; }
@@ -59,7 +59,7 @@ void b(void) { s = 2; pause; s = 20; pause; s = 200; pause; }
 void main(void) { while (1) { weak abort { par(a, b); } when (r); pause; } }
 ";
 
-const TRAPPED: Outcome = Outcome::Trapped {
+pub const TRAPPED: Outcome = Outcome::Trapped {
     place: Place {
         line: 3,
         column: 22,

@@ -22,3 +22,5 @@ mod mailbox;
 mod placed;
 #[cfg(test)]
 mod roped;
+#[cfg(test)]
+mod together;

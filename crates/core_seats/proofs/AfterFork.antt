@@ -1,5 +1,5 @@
 -- The jobs of a fork, for mailboxes.
-use Rattle.std.proofs.Common.{◌≡◌, ℕ, suc, ◌<◌, ◌≤◌, Some, List, map, length, refl, sym, ap, ◌∙◌, subst, arith}
+use Rattle.std.proofs.Common.{◌≡◌, ℕ, suc, ◌<◌, ◌≤◌, Some, List, [], map, length, refl, sym, ap, ◌∙◌, subst, arith}
 use Rattle.std.specs.Prelude.{slice_get}
 use Rattle.forec_kernel.specs.Packets.{IsPaused}
 use Rattle.forec_kernel.specs.Engine.{Job, Start, Wake, WasPaused, Written, Answered, jobs_to}

@@ -24,7 +24,7 @@ use Rattle.core_seats.proofs.KeepingLemmas.{leaves_same, leaves_then, seated_kee
 use Rattle.tick_jobs.proofs.Branching.{parent_once}
 use Rattle.core_seats.proofs.Send.{called_now, quiet_now}
 use Rattle.core_seats.proofs.RunChildren.{all_leaves, quiet_all, parent_else, hand_else, its_reply, heard_now, posts_now}
-use Rattle.tick_jobs.proofs.Pairs.{pairs_more}
+use Rattle.tick_jobs.proofs.Pairs.{pairs_more, no_pairs}
 
 pub consulted_none : (a : State) (h : Thread) → AtFork a h → QuietAbove a h.number → Consulted a a h 0
 consulted_none a h fork above = record {

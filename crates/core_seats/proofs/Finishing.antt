@@ -8,6 +8,7 @@ use Rattle.core_machine.specs.declared.thread.Event.{Event}
 use Rattle.core_machine.specs.declared.thread.Event.TheVariants as event
 use Rattle.core_machine.specs.Threads.{Loaded, StandsFor, HasSettled, HasReply, Left_by}
 use Rattle.core_machine.specs.Forks.{jobs_at, with_replies}
+use Rattle.tick_jobs.proofs.Forks.{times_grow}
 use Rattle.core_seats.specs.Posts.{Mail}
 use Rattle.core_seats.specs.Done.{Posts, InJob, through}
 use Rattle.tick_jobs.specs.Writing.{heard, told}

@@ -14,6 +14,7 @@ use Rattle.copy_slots.specs.declared.view.PacketAt.TheVariants.{Fresh, Held}
 use Rattle.copy_slots.specs.declared.view.Sender.{Sender}
 use Rattle.copy_slots.specs.declared.view.Taker.{Taker}
 use Rattle.copy_slots.specs.Ports.{parent_at, child_at, sent_by, got_by, taken_by, answered_by, words_of_parent, words_of_child, looked_by_parent, looked_by_child, IsParent, IsChild, ChildIs, sent, got, taken, answered}
+use Rattle.tick_jobs.proofs.Branching.{branch_above, parent_once, has_parent}
 use Rattle.core_seats.specs.Posts.{Mail, AreReplies}
 use Rattle.tick_jobs.specs.Branches.{IsBranchOf, replies_to}
 use Rattle.core_seats.specs.Changes.{Extends, Grown}

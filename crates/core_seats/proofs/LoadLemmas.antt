@@ -5,7 +5,7 @@ use Rattle.std.proofs.lemmas.Bool.{cases_lt}
 use Rattle.std.proofs.lemmas.Bool.Decides.{nat_tests}
 use Rattle.forec_kernel.specs.Combining.{contains}
 use Rattle.core_seats.specs.Loads.{is_on, AreOwn}
-use Rattle.tick_jobs.proofs.Lists.{by_equal, some_once, take_more, take_all}
+use Rattle.tick_jobs.proofs.Lists.{by_equal, some_once, take_more, take_all, get_then, length_then}
 
 front_at : (l : List ℕ) (x k d : ℕ) → k < length l → get_or (l ++ x ∷ []) k d ≡ get_or l k d
 front_at [] x k d lt = absurd (omega arith)

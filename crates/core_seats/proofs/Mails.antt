@@ -15,6 +15,7 @@ use Rattle.copy_slots.specs.declared.view.Taker.{Taker}
 use Rattle.copy_slots.specs.Mail.{sender_opened}
 use Rattle.copy_slots.specs.Ports.{Ends, parent_at, child_at, on_sender, on_taker, on_parent, on_child, sent_by, got_by, words_of_parent, looked_by_parent, IsParent, IsChild, ParentIs, sent, got}
 use Rattle.thread_code.specs.declared.instruction.CodeParts.{CodeParts}
+use Rattle.tick_jobs.proofs.Lists.{some_once, get_set, get_set_else}
 use Rattle.core_seats.specs.declared.seat.Seat.{Seat}
 use Rattle.core_seats.specs.Posts.{Mail}
 use Rattle.core_seats.specs.Changes.{Extends}

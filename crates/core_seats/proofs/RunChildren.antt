@@ -13,6 +13,7 @@ use Rattle.thread_code.specs.Valid.{of_shape}
 use Rattle.thread_code.specs.Alone.{CodeAlone}
 use Rattle.combine_tree.specs.Plain.{plain_packet}
 use Rattle.copy_slots.specs.Ports.{parent_at, sent_by, got_by, sent, got}
+use Rattle.tick_jobs.proofs.Pairs.{jobs_then, replies_then, same_test, other_test, allowed_more}
 use Rattle.core_seats.specs.Posts.{Mail, AreReplies}
 use Rattle.tick_jobs.specs.Branches.{IsBranchOf, replies_to, AreAbove}
 use Rattle.core_seats.specs.Done.{Posts}

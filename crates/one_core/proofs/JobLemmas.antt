@@ -1,5 +1,5 @@
 -- A job begins, comes to forks, and ends.
-use Rattle.std.proofs.Common.{◌≡◌, ℕ, suc, ◌+◌, ◌*◌, ◌<◌, ◌≤◌, Some, List, [], ◌∷◌, ◌++◌, map, length, refl, sym, ◌∙◌, subst, arith}
+use Rattle.std.proofs.Common.{◌≡◌, ℕ, ◌+◌, ◌*◌, ◌<◌, ◌≤◌, Some, List, [], ◌++◌, map, length, refl, sym, subst, arith}
 use Rattle.std.specs.Prelude.{slice_get}
 use Rattle.forec_kernel.specs.Engine.{Job, Start, Wake, allowance_of, Reply, Exchange, Answered, Written, jobs_to, pair_up}
 use Rattle.thread_code.specs.Plain.{PlainCode}

@@ -10,12 +10,13 @@ use Rattle.combine_tree.specs.declared.packet.PacketKind.TheVariants as kind
 use Rattle.combine_tree.specs.Plain.{plain_packet}
 use Rattle.core_machine.specs.declared.thread.Thread.{Thread}
 use Rattle.tick_jobs.specs.Ready.{IsReady}
+use Rattle.tick_jobs.specs.Ticks.{HasRun, RanNone}
 use Rattle.one_core.specs.Loads.{AreNew, IsNew}
 use Rattle.one_core.specs.Seats.{Seated, Sits}
 use Rattle.tick_jobs.specs.Told.{Book}
 use Rattle.one_core.specs.Told.{HasDone}
 use Rattle.one_core.specs.Resting.{none, Rests, HasWorked}
-use Rattle.one_core.specs.Single.{single, IsSingle, HasRun}
+use Rattle.one_core.specs.Single.{single, IsSingle, ticking}
 
 module _ (v : Seated) (valid : IsValidCode (plain_code v.code)) (count : length v.threads ≡ length (plain_code v.code).threads) (each : AreNew (plain_code v.code) v.threads)
     (root : Packet) (room : HasRoom (of_shape (plain_code v.code).shape) 0 (plain_packet root)) (is_blank : root.kind ≡ kind.Blank) where
@@ -67,6 +68,11 @@ module _ (v : Seated) (valid : IsValidCode (plain_code v.code)) (count : length 
     ready = λ e t sits. subst (IsReady t) (sym is_blank) tt;
   }
 
-  pub new_run : HasRun (single v root true) []
+  pub ran_none : RanNone (ticking (single v root true))
   unfolding HasRun
-  new_run k fine stands = record { jobs = record { fit = tt; worked = new_worked }; keeps = λ e. is_blank }
+  ran_none = record {
+    live = refl;
+    blank = is_blank;
+    turns = λ k fine stands. record { jobs = record { fit = tt; worked = new_worked }; keeps = λ e. is_blank };
+    jobs = record { fit = tt; worked = new_worked };
+  }

@@ -1,31 +1,32 @@
 -- A tick on one core.
-use Rattle.std.proofs.Common.{◌≡◌, ℕ, ℤ, Bool, true, List, [], ◌∷◌, ◌++◌, length, sym, ap, ◌∙◌, subst}
+use Rattle.std.proofs.Common.{◌≡◌, ℕ, ℤ, Bool, true, List, [], ◌∷◌, ◌++◌, length, sym, ap, ◌∙◌, subst, arith, ◌<◌}
 use Rattle.forec_kernel.specs.declared.shape.Outcome.{Outcome}
-use Rattle.forec_kernel.specs.Shapes.{PlainKernel}
-use Rattle.forec_kernel.specs.WellFormed.{WellFormed}
-use Rattle.forec_kernel.specs.Ticks.{Fresh, goes_on}
+use Rattle.forec_kernel.specs.Texts.{uses_in}
+use Rattle.forec_kernel.specs.Ticks.{goes_on, values_of}
 use Rattle.forec_kernel.specs.Packed.{HasRoom, IsJob}
 use Rattle.forec_kernel.specs.Engine.{Job, Answers}
-use Rattle.forec_kernel.specs.Composed.{TickInput, tick_jobs}
 use Rattle.thread_code.specs.Plain.{PlainCode, plain_code}
 use Rattle.thread_code.specs.Valid.{of_shape}
-use Rattle.thread_code.specs.Alone.{Stands, CodeAlone}
+use Rattle.thread_code.specs.Alone.{CodeAlone}
 use Rattle.thread_code.specs.Laws.{EachFits}
 use Rattle.combine_tree.specs.declared.packet.Packet.{Packet}
-use Rattle.combine_tree.specs.declared.packet.PacketKind.{PacketKind}
 use Rattle.combine_tree.specs.declared.packet.PacketKind.TheVariants as kind
 use Rattle.combine_tree.specs.Plain.{plain_packet}
 use Rattle.core_machine.specs.declared.thread.Thread.{Thread}
 use Rattle.core_machine.specs.Threads.{CanBegin}
 use Rattle.core_machine.specs.Replies.{Replies_by}
 use Rattle.tick_jobs.specs.Jobs.{IsBetween, kind_of, job_of}
-use Rattle.tick_jobs.specs.Outcomes.{IsReplied, outcome_in}
+use Rattle.tick_jobs.specs.Outcomes.{IsReplied, outcome_in, HasOutputs, LacksOutputs}
 use Rattle.tick_jobs.specs.Ready.{IsReady}
-use Rattle.tick_jobs.proofs.TickOutcome.{Told, told, keeps_now, jobs_are, goes_on_paused, job_fits, fits_then}
+use Rattle.tick_jobs.specs.Told.{Book}
+use Rattle.tick_jobs.specs.Ticks.{RunsTick}
+use Rattle.tick_jobs.proofs.TickOutcome.{goes_on_paused}
+use Rattle.tick_jobs.proofs.RunTick.{RepliesTo, fits_more, runs_tick}
 use Rattle.tick_jobs.proofs.Readiness.{between_of, begins_by, replied_of}
 use Rattle.one_core.specs.Seats.{Seated, code_in, Sits, IsFitted}
 use Rattle.one_core.specs.Resting.{HasWorked, HasReplied, HasRepliedTo}
-use Rattle.one_core.specs.Single.{Single, single, seated_in, IsSingle, HasJobs, HasTicked}
+use Rattle.one_core.specs.Told.{HasDone, HasTalked, HaveTalked}
+use Rattle.one_core.specs.Single.{Single, single, seated_in, code_of, IsSingle, HasJobs, ticking}
 
 -- ---- before
 
@@ -73,25 +74,36 @@ module _ (v0 v1 : Seated) (p0 p1 pj : Packet) (live0 live1 : Bool) (inv : IsSing
 
   now_jobs : (jobs : List Job) → HasJobs o0 jobs → HasJobs o1 (jobs ++ job ∷ [])
   now_jobs jobs old = record {
-    fit = subst (λ x. EachFits (plain_code x).shape 0 (jobs ++ job ∷ [])) (sym code1) (fits_then c.shape jobs job old.fit (job_fits c.shape inv.fitted.valid.shape p0 inv.room row budget));
+    fit = subst (λ x. EachFits (plain_code x).shape 0 (jobs ++ job ∷ [])) (sym code1) (fits_more (ticking o0) inv.fitted.valid inv.room row budget jobs old.fit);
     worked = (replied1 jobs job old.worked isjob).worked;
   }
 
-  module _ (k : PlainKernel) (turns : List TickInput) (fine : WellFormed k) (stands : Stands c k) (ticked : HasTicked o0 k turns) where
-    abbrev turn : TickInput
-    turn = record { row = row; budget = budget }
+  replies : (jobs : List Job) → HasJobs o0 jobs → RepliesTo (ticking o0) (ticking o1) jobs job
+  replies jobs old =
+      let q = replied1 jobs job old.worked isjob in
+      record {
+        now = now_jobs jobs old;
+        reply = q.reply;
+        is = q.is;
+        answers = subst (λ x. Answers (CodeAlone (plain_code x)) (length (plain_code x).threads) 0 (jobs ++ job ∷ []) q.reply) code1 q.answers;
+      }
 
-    abbrev r : HasReplied v1 (tick_jobs k Fresh turns ++ job ∷ []) (plain_packet p1)
-    r = replied1 (tick_jobs k Fresh turns) job ticked.jobs.worked isjob
+  pub ran : (before after : List ℤ) → (HasOutputs outcome → after ≡ values_of (uses_in c.shape.threads 0) p1.copies.items c.shape.outputs) → (LacksOutputs outcome → after ≡ before) → RunsTick (ticking o0) (ticking o1) row budget outcome before after
+  ran before after are stay =
+      runs_tick (ticking o0) (ticking o1) (ap plain_code code1) inv.fitted.valid inv.room live row budget outcome before after outcome_is live_is are stay (λ jobs had. had.fit) replies
 
-    answers_c : Answers (CodeAlone c) (length c.threads) 0 (tick_jobs k Fresh turns ++ job ∷ []) r.reply
-    answers_c = subst (λ x. Answers (CodeAlone (plain_code x)) (length (plain_code x).threads) 0 (tick_jobs k Fresh turns ++ job ∷ []) r.reply) code1 r.answers
+-- ---- what threads told and replied
 
-    pub told_now : Told c k turns turn p1
-    told_now = told c inv.fitted.valid k turns fine stands p0 p1 inv.room row budget ticked.jobs.fit (ticked.keeps live) r.reply r.is answers_c
+-- a thread that has done its jobs has talked for them
+talked : (c : PlainCode) (t : ℕ) (h : Thread) (book : Book) (jobs : List Job) → h.number ≡ t → HasDone c h book jobs → HasTalked c t book jobs
+talked c t h book jobs number d =
+    subst (λ n. HasTalked c n book jobs) number (record { exchanges = d.exchanges; outputs = d.outputs; jobs_are = d.jobs_are; runs = d.runs; complete = d.complete; told = d.posts })
 
-    pub ticked_now : HasTicked o1 k (turns ++ turn ∷ [])
-    ticked_now = record {
-      jobs = subst (HasJobs o1) (jobs_are c inv.fitted.valid k turns fine stands p0 p1 inv.room row budget ticked.jobs.fit (ticked.keeps live) r.reply r.is answers_c) (now_jobs (tick_jobs k Fresh turns) ticked.jobs);
-      keeps = λ e. keeps_now c inv.fitted.valid k turns fine stands p0 p1 inv.room row budget ticked.jobs.fit (ticked.keeps live) r.reply r.is answers_c (paused_of e);
+pub all_talked : (o : Single) → IsSingle o → (jobs : List Job) → HasJobs o jobs → HaveTalked (code_of o) jobs
+all_talked o inv jobs had =
+    let w = had.worked in
+    record {
+      book = w.book;
+      root = talked (code_of o) 0 w.thread w.book jobs w.sits.number w.done;
+      each = λ t lt less. let count = inv.fitted.seats in let r = w.above t lt (omega (arith, less, count)) in talked (code_of o) t r.thread w.book (w.book t) r.sits.number r.done;
     }

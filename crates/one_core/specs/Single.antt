@@ -1,20 +1,18 @@
 -- All threads of a code on one core, as callers see them.
 use Rattle.std.specs.Prelude.{◌≡◌, Bool, true, Option, List}
-use Rattle.forec_kernel.specs.Composed.{TickInput, tick_jobs, state_after}
+use Rattle.forec_kernel.specs.Composed.{TickInput}
 use Rattle.forec_kernel.specs.Engine.{Job}
 use Rattle.forec_kernel.specs.Packed.{HasRoom}
-use Rattle.forec_kernel.specs.Shapes.{PlainKernel}
-use Rattle.forec_kernel.specs.Ticks.{Fresh}
-use Rattle.forec_kernel.specs.WellFormed.{WellFormed}
 use Rattle.thread_code.specs.declared.instruction.CodeParts.{CodeParts}
 use Rattle.thread_code.specs.Plain.{PlainCode, plain_code}
-use Rattle.thread_code.specs.Alone.{Stands}
 use Rattle.thread_code.specs.Laws.{EachFits}
 use Rattle.thread_code.specs.Valid.{of_shape}
 use Rattle.combine_tree.specs.declared.packet.Packet.{Packet}
 use Rattle.combine_tree.specs.Plain.{plain_packet}
 use Rattle.core_machine.specs.declared.thread.Thread.{Thread}
-use Rattle.tick_jobs.specs.Ready.{IsReady, HoldsState}
+use Rattle.tick_jobs.specs.Ready.{IsReady}
+use Rattle.tick_jobs.specs.Ticks.{Ticking}
+use Rattle.tick_jobs.specs.Ticks as ticks
 use Rattle.one_core.specs.Seats.{Seated, Sits, IsFitted}
 use Rattle.one_core.specs.Resting.{HasWorked}
 
@@ -53,10 +51,10 @@ pub record HasJobs (o : Single) (jobs : List Job) : Type 0 where
   pub fit : EachFits (code_of o).shape 0 jobs
   pub worked : HasWorked (seated_in o) jobs
 
-pub record HasTicked (o : Single) (k : PlainKernel) (turns : List TickInput) : Type 0 where
-  pub jobs : HasJobs o (tick_jobs k Fresh turns)
-  pub keeps : o.live ≡ true → HoldsState (state_after k Fresh turns) o.root
+-- as what runs ticks
+abbrev pub ticking : Single → Ticking
+ticking o = record { code = code_of o; root = o.root; live = o.live; HasJobs = λ jobs. HasJobs o jobs }
 
 -- these ticks were run, each with its row and its budget, as each kernel for which the code stands runs them
-unfoldable pub HasRun : Single → List TickInput → Type 0
-HasRun o turns = (k : PlainKernel) → WellFormed k → Stands (code_of o) k → HasTicked o k turns
+abbrev pub HasRun : Single → List TickInput → Type 0
+HasRun o turns = ticks.HasRun (ticking o) turns

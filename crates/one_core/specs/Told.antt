@@ -1,6 +1,6 @@
 -- What the threads of a code were told, and what each has done for it.
-use Rattle.std.specs.Prelude.{ℕ, suc, ◌≡◌, ◌<◌, ◌==◌, cond, List, [], ◌∷◌, ◌++◌, length}
-use Rattle.forec_kernel.specs.Engine.{Job, Allowed, Answers, Answered, jobs_to}
+use Rattle.std.specs.Prelude.{ℕ, suc, ◌≡◌, ◌<◌, ◌==◌, cond, List, [], ◌∷◌, ◌++◌, map, length}
+use Rattle.forec_kernel.specs.Engine.{Job, Exchange, Output, AllReply, Allowed, Answers, Answered, pair_all, jobs_to}
 use Rattle.thread_code.specs.Plain.{PlainCode}
 use Rattle.thread_code.specs.Alone.{CodeAlone}
 use Rattle.core_machine.specs.declared.thread.Thread.{Thread}
@@ -32,3 +32,21 @@ InJob c h book jobs job = AtJob c h (by_book c book) jobs job
 -- what the branches of the threads below t were told is the same
 abbrev pub KeepsBook : PlainCode → ℕ → Book → Book → Type 0
 KeepsBook c t a b = (p k : ℕ) → IsBranchOf c.shape p k → p < t → b (suc k) ≡ a (suc k)
+
+-- ---- what callers know
+
+-- Thread t has replied to each of these jobs. By itself it writes exactly the jobs that its branches were told where it gets exactly the replies that they
+-- gave, and each of the replies is one that its branch gives to the jobs that it was told so far.
+pub record HasTalked (c : PlainCode) (t : ℕ) (book : Book) (jobs : List Job) : Type 0 where
+  pub exchanges : List Exchange
+  pub outputs : List Output
+  pub jobs_are : map (λ x. x.job) exchanges ≡ jobs
+  pub runs : CodeAlone c t exchanges outputs
+  pub complete : AllReply outputs
+  pub told : HasTold c t book (pair_all exchanges outputs)
+
+-- thread 0 has for these jobs, and each other thread for those that it was told
+pub record HaveTalked (c : PlainCode) (jobs : List Job) : Type 0 where
+  pub book : Book
+  pub root : HasTalked c 0 book jobs
+  pub each : (t : ℕ) → 0 < t → t < length c.threads → HasTalked c t book (book t)

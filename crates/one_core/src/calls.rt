@@ -15,11 +15,11 @@ ghost use Rattle.one_core.specs.Resting.{HasBegun, StaysAtWork, HasWorked, HasRe
 ghost use Rattle.one_core.specs.Called.{IsForked, CanTell, CanCall, HasCalled, SettlesReply, Consulted, HaveHeard, JoinsReplies};
 
 use combine_tree::Packet;
-use tick_jobs::Boxed;
 use core_machine::{Event, Thread};
 use forec_base::{Gate, Point};
 use std::marker::Model;
 use thread_code::Code;
+use tick_jobs::Boxed;
 
 /// The threads of a code, all on one core, each in its seat but while it is at work.
 #[derive(Drop)]

@@ -5,11 +5,11 @@ ghost use Rattle.thread_code.specs.Plain.{plain_code};
 ghost use Rattle.core_machine.specs.Room.{AreNeeds};
 ghost use Rattle.one_core.specs.Loads.{AreNew, IsNew};
 
-use tick_jobs::Boxed;
 use core_machine::{Needs, Thread};
 use forec_base::OutOfMemory;
 use std::alloc::Global;
 use thread_code::Code;
+use tick_jobs::Boxed;
 
 /// Thread number `thread`, for its seat.
 fn thread_of(

@@ -1,25 +1,21 @@
 //! All threads of a code on one core.
 
-ghost use Rattle.std.specs.Prelude.{◌≡◌, ◌≤◌, ◌++◌, ◌∷◌, [], List, length, true, IfOk};
-ghost use Rattle.forec_base.specs.declared.limits.TheConstants.{MAX_BUDGET};
-ghost use Rattle.forec_kernel.specs.Composed.{TickInput, state_after};
-ghost use Rattle.forec_kernel.specs.Shapes.{PlainKernel};
-ghost use Rattle.forec_kernel.specs.Ticks.{Fresh, tick, goes_on};
-ghost use Rattle.forec_kernel.specs.WellFormed.{WellFormed};
-ghost use Rattle.thread_code.specs.Alone.{Stands};
+ghost use Rattle.std.specs.Prelude.{◌≡◌, List, length, true, IfOk};
+ghost use Rattle.core_alloc.specs.Places.{is_on_one_core};
+ghost use Rattle.forec_kernel.specs.Engine.{Job};
 ghost use Rattle.thread_code.specs.Plain.{plain_code};
-ghost use Rattle.tick_jobs.specs.Outcomes.{HasOutputs, LacksOutputs};
+ghost use Rattle.tick_jobs.specs.Ticks.{CanTick, RanNone, RunsTick};
 
 use crate::calls::Calls;
 use crate::load::seats_of;
 use combine_tree::Packet;
 use core_alloc::Placement;
-use tick_jobs::{write_job, write_outcome};
 use forec_base::{Gate, OutOfMemory};
 use forec_kernel::Outcome;
 use std::alloc::Global;
 use std::marker::Model;
 use thread_code::Code;
+use tick_jobs::{write_job, write_outcome};
 
 /// All threads of a code on one core, in memory that is made once.
 ///
@@ -43,9 +39,10 @@ impl<'c> Model for OneCore<'c> {
 }
 
 impl<'c> OneCore<'c> {
-    ghost use Rattle.one_core.specs.Single.{code_of, is_live, HasRun};
+    ghost use Rattle.one_core.specs.Single.{code_of, ticking, HasJobs};
+    ghost use Rattle.one_core.specs.Told.{HaveTalked};
 
-    /// All threads of a code on one core. No tick was run. Of the placement it takes the core of thread 0, with which it passes gates.
+    /// All threads of a code on one core, the one that the placement has for each of them. No tick was run.
     ///
     /// # Errors
     ///
@@ -56,9 +53,9 @@ impl<'c> OneCore<'c> {
         placement: &Placement,
     ) -> Result<OneCore<'c>, OutOfMemory>
         requires placed { length placement.now.places ≡ length (plain_code code.now).threads }
+        requires one { is_on_one_core placement.now.places ≡ true }
         ensures code { IfOk result (λ o. code_of o ≡ plain_code code.now) }
-        ensures live { IfOk result (λ o. is_live o ≡ true) }
-        ensures none { IfOk result (λ o. HasRun o []) }
+        ensures none { IfOk result (λ o. RanNone (ticking o)) }
     {
         let variables = code.shape().variables.len();
         let seats = seats_of(alloc, code, placement.threads())?;
@@ -75,17 +72,11 @@ impl<'c> OneCore<'c> {
         })
     }
 
-    /// Whether no tick has ended, trapped or gone over its budget.
-    pub fn live(&self) -> bool
-        ensures { result ≡ is_live self.now }
-    {
-        self.live
-    }
-
     /// Runs one tick: the inputs get the values of the row, in order of declaration. Where the tick pauses or ends the
     /// outputs are written, in order of declaration; else they stay as they were. It takes no memory.
     ///
-    /// Where the code stands for a kernel, the outcome and the outputs are the kernel's.
+    /// The outcome and the outputs are those of a reply that the code's thread 0 gives to the jobs of the ticks so far; where the
+    /// code stands for a kernel they are the kernel's.
     pub fn tick<G: Gate>(
         &mut self,
         row: &[i32],
@@ -93,18 +84,8 @@ impl<'c> OneCore<'c> {
         gate: &G,
         outputs: &mut [i32],
     ) -> Outcome
-        requires live { is_live self.old ≡ true }
-        requires row { length row.now ≡ length (code_of self.old).shape.inputs }
-        requires outputs { length outputs.old ≡ length (code_of self.old).shape.outputs }
-        requires small { budget ≤ MAX_BUDGET }
-        ensures code { code_of self.new ≡ code_of self.old }
-        ensures turns { (turns : List TickInput) → HasRun self.old turns → HasRun self.new (turns ++ record { row = row.now; budget = budget } ∷ []) }
-        ensures outcome { (k : PlainKernel) (turns : List TickInput) → WellFormed k → Stands (code_of self.old) k → HasRun self.old turns
-            → result ≡ (tick k budget (state_after k Fresh turns) row.now).outcome }
-        ensures outputs { (k : PlainKernel) (turns : List TickInput) → WellFormed k → Stands (code_of self.old) k → HasRun self.old turns
-            → HasOutputs result → outputs.new ≡ (tick k budget (state_after k Fresh turns) row.now).outputs }
-        ensures stay { LacksOutputs result → outputs.new ≡ outputs.old }
-        ensures live { is_live self.new ≡ goes_on result }
+        requires can { CanTick (ticking self.old) row.now budget outputs.old }
+        ensures runs { RunsTick (ticking self.old) (ticking self.new) row.now budget result outputs.old outputs.new }
     {
         let OneCore { calls, root, live } = self;
         let code = calls.code;
@@ -113,5 +94,12 @@ impl<'c> OneCore<'c> {
         let outcome = write_outcome(root, code.shape(), outputs);
         *live = matches!(outcome, Outcome::Paused);
         outcome
+    }
+    /// A law: thread 0 does by itself the jobs of the ticks so far, and each other thread those that it was told, where their
+    /// branches are told exactly the jobs that they give, and give these replies.
+    pub fn talks(&self)
+        ensures { (jobs : List Job) → HasJobs self.now jobs → HaveTalked (code_of self.now) jobs }
+    {
+        let _ = &self.calls;
     }
 }

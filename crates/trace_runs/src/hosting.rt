@@ -88,16 +88,6 @@ fn lead_on_cores<J: Lead, G: Gate + Sync, R: Threads + Wait + Sync>(
     lead_over(setting, compiled, placement, &mut board, &mut bells, job)
 }
 
-/// Whether all threads have the same core.
-fn has_one_core(placement: &Placement) -> bool {
-    for thread in 0..placement.threads() {
-        if placement.core(thread) != placement.core(0) {
-            return false;
-        }
-    }
-    true
-}
-
 /// Makes a code of a kernel, and leads by its threads: all on one core where they have the same one, else by hosts.
 ///
 /// # Errors
@@ -115,7 +105,7 @@ fn lead_placed<J: Lead, G: Gate + Sync, R: Threads + Wait + Sync>(
     ensures err { OnErr result (job.new ≡ job.old) }
 {
     let code = generate(setting.alloc, kernel)?;
-    if has_one_core(placement) {
+    if placement.has_one_core() {
         return lead_alone(setting, kernel, &code, placement, job);
     }
     let compiled = Compiled {

@@ -1,6 +1,7 @@
 //! A program of which all threads are on one core.
 
-ghost use Rattle.std.specs.Prelude.{◌≡◌, length, IfOk, OnErr};
+ghost use Rattle.std.specs.Prelude.{◌≡◌, length, true, IfOk, OnErr};
+ghost use Rattle.core_alloc.specs.Places.{is_on_one_core};
 ghost use Rattle.forec_kernel.specs.Shapes.{plain_kernel};
 ghost use Rattle.thread_code.specs.Alone.{Stands};
 ghost use Rattle.thread_code.specs.Plain.{plain_code};
@@ -79,6 +80,7 @@ pub fn lead_alone<'c, J: Lead, G: Gate, R: Wait>(
 ) -> Result<Status, OutOfMemory>
     requires stands { Stands (plain_code code.now) (plain_kernel kernel.now) }
     requires placed { length placement.now.places ≡ length (plain_kernel kernel.now).threads }
+    requires one { is_on_one_core placement.now.places ≡ true }
     requires can { J.can job.old (plain_kernel kernel.now) }
     ensures ok { IfOk result (J.did job.old job.new (plain_kernel kernel.now)) }
     ensures err { OnErr result (job.new ≡ job.old) }

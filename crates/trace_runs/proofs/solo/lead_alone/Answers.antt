@@ -15,5 +15,5 @@ pub lead-requires-clause-follows : goal.lead-requires-clause-follows
 lead-requires-clause-follows g c =
     let k = plain_kernel c.args.kernel.now in
     let one = c.in_ok-one.one in
-    let start = at_start k (plain_code c.args.code.now) (code_of one) (HasRun one) c.in_ok-one.ensures.code c.requires.stands c.in_ok-one.ensures.none in
+    let start = at_start k (plain_code c.args.code.now) (code_of one) (HasRun one) c.in_ok-one.ensures.code c.requires.stands c.in_ok-one.ensures.none.turns in
     subst (λ x. OneFollows (plain_kernel x) c.new-solo.result.one Fresh) (sym c.new-solo.ensures.kernel) (subst (λ o. OneFollows k o Fresh) (sym c.new-solo.ensures.one) start)

@@ -8,7 +8,7 @@ use Rattle.thread_code.specs.Valid.{of_shape}
 use Rattle.combine_tree.specs.Plain.{plain_packet}
 use Rattle.tick_jobs.proofs.Rooms.{no_params, all_uses}
 use Rattle.tick_jobs.proofs.TickOutcome.{blank_of}
-use Rattle.one_core.proofs.Newly.{new_single, new_run}
+use Rattle.one_core.proofs.Newly.{new_single, ran_none}
 use Rattle.one_core.proofs.single.OneCore.load.Goals as goal
 
 pub invariant_of-result : goal.invariant_of-result
@@ -37,4 +37,4 @@ returns-clause-none c =
       copies = ap (λ (p : PlainPacket). length p.copies) is ∙ length-replicate c.len-variables.result _ ∙ counted ∙ sym (all_uses s fine);
     } in
     let kind = blank_of c.in_ok-root.root.kind (ap (λ (p : PlainPacket). p.kind) is) in
-    new_run (record { code = c.args.code.now; threads = c.in_ok-seats.seats.items }) valid c.in_ok-seats.ensures.count c.in_ok-seats.ensures.each c.in_ok-root.root room kind
+    ran_none (record { code = c.args.code.now; threads = c.in_ok-seats.seats.items }) valid c.in_ok-seats.ensures.count c.in_ok-seats.ensures.each c.in_ok-root.root room kind

@@ -1,0 +1,9 @@
+use Rattle.std.proofs.Common.{subst}
+use Rattle.forec_kernel.specs.Engine.{Job}
+use Rattle.one_core.specs.Single.{Single, single, code_of, HasJobs}
+use Rattle.one_core.specs.Told.{HaveTalked}
+use Rattle.one_core.proofs.TickRun.{all_talked}
+use Rattle.one_core.proofs.single.OneCore.talks.Goals as goal
+
+pub returns : goal.returns
+returns c = subst (λ (o : Single). (jobs : _) → HasJobs o jobs → HaveTalked (code_of o) jobs) c.self.view_is (all_talked (single c.self.inside.calls c.self.inside.root c.self.inside.live) c.self.invariant)
