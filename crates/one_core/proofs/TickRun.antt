@@ -1,5 +1,5 @@
 -- A tick on one core.
-use Rattle.std.proofs.Common.{◌≡◌, ℕ, ℤ, Bool, true, List, [], ◌∷◌, ◌++◌, length, sym, ap, ◌∙◌, subst, arith, ◌<◌}
+use Rattle.std.proofs.Common.{◌≡◌, ℕ, ℤ, Bool, true, List, [], ◌∷◌, ◌++◌, length, sym, ap, ◌∙◌, subst, arith}
 use Rattle.forec_kernel.specs.declared.shape.Outcome.{Outcome}
 use Rattle.forec_kernel.specs.Texts.{uses_in}
 use Rattle.forec_kernel.specs.Ticks.{goes_on, values_of}
@@ -24,7 +24,7 @@ use Rattle.tick_jobs.proofs.TickOutcome.{goes_on_paused}
 use Rattle.tick_jobs.proofs.RunTick.{RepliesTo, fits_more, runs_tick}
 use Rattle.tick_jobs.proofs.Readiness.{between_of, begins_by, replied_of}
 use Rattle.one_core.specs.Seats.{Seated, code_in, Sits, IsFitted}
-use Rattle.one_core.specs.Resting.{HasWorked, HasReplied, HasRepliedTo}
+use Rattle.one_core.specs.Resting.{HasWorked, HasRepliedTo}
 use Rattle.one_core.specs.Told.{HasDone, HasTalked, HaveTalked}
 use Rattle.one_core.specs.Single.{Single, single, seated_in, code_of, IsSingle, HasJobs, ticking}
 

@@ -1,5 +1,4 @@
 use Rattle.std.proofs.Common.{subst}
-use Rattle.forec_kernel.specs.Engine.{Job}
 use Rattle.one_core.specs.Single.{Single, single, code_of, HasJobs}
 use Rattle.one_core.specs.Told.{HaveTalked}
 use Rattle.one_core.proofs.TickRun.{all_talked}

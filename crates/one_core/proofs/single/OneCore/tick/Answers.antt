@@ -3,13 +3,9 @@ use Rattle.forec_kernel.specs.Shapes.{PlainShape, plain_shape}
 use Rattle.forec_kernel.specs.Texts.{uses_in}
 use Rattle.forec_kernel.specs.Ticks.{goes_on, values_of}
 use Rattle.forec_kernel.specs.Packed.{IsJob}
-use Rattle.thread_code.specs.declared.instruction.CodeParts.{CodeParts}
-use Rattle.thread_code.specs.Plain.{plain_code}
-use Rattle.thread_code.specs.Alone.{Stands}
 use Rattle.combine_tree.specs.Plain.{plain_packet}
 use Rattle.core_machine.specs.Threads.{CanBegin}
 use Rattle.tick_jobs.specs.Jobs.{job_of}
-use Rattle.tick_jobs.specs.Outcomes.{HasOutputs}
 use Rattle.one_core.specs.Seats.{Seated, code_in}
 use Rattle.tick_jobs.specs.Ticks.{RunsTick}
 use Rattle.one_core.specs.Single.{Single, single, ticking}
