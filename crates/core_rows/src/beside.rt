@@ -28,8 +28,8 @@ void main(void) { par(a, b); }
 pub type Told = (Outcome, i32);
 
 /// Workers that no OS thread runs.
-struct Waiting<'c, P: Port<ForecWork> + Drop> {
-    workers: Vec<Worker<'c, P>>,
+pub struct Waiting<'c, P: Port<ForecWork> + Drop> {
+    pub workers: Vec<Worker<'c, P>>,
 }
 
 impl<'c, P: Port<ForecWork> + Drop> Serve for Waiting<'c, P> {

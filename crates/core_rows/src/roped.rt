@@ -37,7 +37,7 @@ fn lead<'c, P: Port<ForecWork> + Drop, R: Wait>(
     requires here { is_here root 0 ≡ true }
     requires code { root.code ≡ code.now }
 {
-    let mut nobody = [];
+    let mut nobody: [Host<'c, P>; 0] = [];
     let mut crew = Crew::new(&mut nobody, &OpenGate);
     let first = run_tick(rt, &mut root, &mut crew, code);
     let second = run_tick(rt, &mut root, &mut crew, code);

@@ -3,7 +3,7 @@
 ghost use Rattle.std.specs.Prelude.{◌≡◌, length};
 ghost use Rattle.thread_code.specs.Plain.{plain_code};
 
-use crate::beside::{FOLDS_TWICE, Told, run_tick};
+use crate::beside::{FOLDS_TWICE, Told, Waiting, run_tick};
 use crate::compiled::compiled;
 use crate::hosted::{DIVIDES, FOLDS, TRAPPED};
 use board_hosts::{Hosts, board_of, hosts_of};
@@ -79,9 +79,10 @@ fn by_board<R: Wait>(
 {
     let mut board = board_of(alloc, code, placement)?;
     let mut bells = Bells::new(alloc, code, placement)?;
-    let Hosts { mut root, .. } = hosts_of(alloc, code, placement, &mut board, &mut bells)?;
-    let first = run_tick(rt, &mut root, &mut [], code);
-    let second = run_tick(rt, &mut root, &mut [], code);
+    let Hosts { mut root, others } = hosts_of(alloc, code, placement, &mut board, &mut bells)?;
+    let mut others = Waiting { workers: others };
+    let first = run_tick(rt, &mut root, &mut others, code);
+    let second = run_tick(rt, &mut root, &mut others, code);
     Ok(first == Some(run.first) && second == run.second)
 }
 
