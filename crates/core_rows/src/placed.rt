@@ -1,12 +1,24 @@
-//! Lists of places are read.
+//! Lists of places are read, and threads are balanced.
 
-use core_alloc::{PlacementFault, given};
+use core_alloc::{PlacementFault, balance, given};
+use forec_base::OutOfMemory;
 use std::alloc::Global;
 use std::test::Fail;
 
 /// The cores of four threads.
 fn cores_of(alloc: Global) -> Result<[u32; 4], PlacementFault> {
     let placement = given(alloc, "0,2,0,1", 4, 3)?;
+    Ok([
+        placement.core(0),
+        placement.core(1),
+        placement.core(2),
+        placement.core(3),
+    ])
+}
+
+/// The cores of threads that weigh 5, 3, 3 and 2, balanced on two cores.
+fn balanced_cores(alloc: Global) -> Result<[u32; 4], OutOfMemory> {
+    let placement = balance(alloc, &[5, 3, 3, 2], 2)?;
     Ok([
         placement.core(0),
         placement.core(1),
@@ -35,5 +47,11 @@ fn reads_and_refuses_lists(rt: HostRuntime) -> Result<(), Fail> {
     for (list, fault) in &REFUSED {
         assert!(rt; refused_so(rt.alloc(), list, *fault), "{list}");
     }
+    Ok(())
+}
+
+#[test]
+fn balances_threads(rt: HostRuntime) -> Result<(), Fail> {
+    assert!(rt; balanced_cores(rt.alloc())? == [0, 1, 1, 0]);
     Ok(())
 }

@@ -1,7 +1,6 @@
 mod Answered
 mod Bounds
-mod Misused
 mod Named
-mod PlacementReports
 mod Reports
+mod TopCall
 mod WorkedLines

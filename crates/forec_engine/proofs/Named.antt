@@ -1,21 +1,73 @@
--- The text of a name.
-use Rattle.std.proofs.Common.{◌≡◌, ℕ, ◌<◌, List, Option, Some, length, refl, subst}
+-- What is done with a text, and with the text of a name.
+use Rattle.std.proofs.Common.{◌≡◌, ◌<◌, ◌⊎◌, inl, inr, ℕ, Bool, List, Option, Some, length, refl, sym, subst, ◌∙◌}
 use Rattle.std.specs.Option.{IfSome}
 use Rattle.forec_kernel.specs.Shapes.{PlainKernel}
-use Rattle.forec_engine.specs.Commands.{Of_refusal, TextReport, refused}
-use Rattle.text_verdict.specs.Judging.{too_long, most_bytes}
+use Rattle.command_words.specs.Requests.{PlainCommand}
+use Rattle.forec_engine.specs.Answers.{Answers, AnswersText, AnswersNamed}
+use Rattle.forec_engine.specs.Commands.{Of_refusal, Of_accepted, TextReport, AcceptedReport, TellsTrace, refused}
+use Rattle.forec_engine.specs.Ends.{RunsAs}
+use Rattle.text_verdict.specs.Judging.{Judged, Accepts, Refuses, too_long, most_bytes}
 use Rattle.text_verdict.specs.declared.counts.Counts.{Counts}
+use Rattle.text_verdict.specs.declared.refusal.Refusal.{Refusal}
 use Rattle.text_verdict.specs.declared.refusal.Refusal.TheVariants as why
-use Rattle.trace_runs.specs.Report.{Report}
+use Rattle.trace_runs.specs.Prints.{Says}
+use Rattle.trace_runs.specs.declared.status.Status.{Status}
+use Rattle.trace_runs.specs.declared.status.Status.TheVariants as status
+use Rattle.trace_runs.proofs.Told.{some_map}
+use Rattle.trace_runs.proofs.Printing.{prints_as, prints_nothing, prints_unread}
 
-pub told_same : (o : Option (List ℕ)) (Q : List ℕ → Type 0) (text : List ℕ) → IfSome o Q → o ≡ Some text → Q text
+told_same : (o : Option (List ℕ)) (Q : List ℕ → Type 0) (text : List ℕ) → IfSome o Q → o ≡ Some text → Q text
 told_same o Q text q e = subst (λ (x : Option (List ℕ)). IfSome x Q) e q
 
--- what holds of the bytes that were read holds of the text that the name has
-pub told_text : (o : Option (List ℕ)) (bytes : List ℕ) (Q : List ℕ → Type 0) → IfSome o (λ x. bytes ≡ x) → Q bytes → (text : List ℕ) → o ≡ Some text → Q text
-told_text o bytes Q same q text e = subst Q (told_same o (λ x. bytes ≡ x) text same e) q
+module _ {S K : Type 0} (left : S → Option (List ℕ)) (faults : S → ℕ) (down : S → Bool) (held : K → Option (List ℕ)) (lost : K → ℕ) (is_down : K → Bool) (command : PlainCommand) (old new : S) (out out' : K) where
+  -- ---- of a text
 
--- the text is too long
-pub told_long : (o : Option (List ℕ)) (Says : Counts → PlainKernel → Report → Type 0) (Q : Report → Type 0) → IfSome o (λ x. most_bytes < length x) → Q (refused why.Long) → (text : List ℕ) → o ≡ Some text →
-    (r : Report) × TextReport text Says r × Q r
-told_long o Says Q long q text e = (refused why.Long, Of_refusal why.Long (too_long (told_same o (λ x. most_bytes < length x) text long e)) refl, q)
+  pub text_accepted : (text : List ℕ) (counts : Counts) (k : PlainKernel) (end : Status) → Judged text (Accepts counts k) → Answers left faults down held lost is_down command counts k old new out out' end →
+      AnswersText left faults down held lost is_down command text old new out out' end
+  text_accepted text counts k end judged p = record {
+    prints = prints_as held lost is_down _ _ _ _ _ out out' _ _ _ _ _ end (λ t. t) (λ t r is. Of_accepted counts k judged is) (λ m. (counts, k, judged, m))
+        (λ u. (u.0, u.1, u.2.0, (k, record { counts = counts; judged = judged; placed = u.2.1 }, u.2.2))) (λ m. m) p.prints;
+    trace = elim p.trace [
+      | inl same ↦ inl same
+      | inr r ↦ inr (r.0, r.1, (k, record { counts = counts; judged = judged; placed = r.2.0 }, r.2.1))
+    ];
+  }
+
+  pub text_refused : (text : List ℕ) (why : Refusal) (end : Status) → Judged text (Refuses why) → new ≡ old → Says held lost is_down (refused why) ⊥ out out' end → AnswersText left faults down held lost is_down command text old new out out' end
+  text_refused text why end judged same p = record {
+    prints = prints_as held lost is_down _ _ _ _ _ out out' _ _ _ _ _ end (λ t. tt) (λ t r is. Of_refusal why judged is) (λ n. absurd n) (λ n. absurd n) (λ n. absurd n) p;
+    trace = inl same;
+  }
+
+  pub text_nothing : (text : List ℕ) → new ≡ old → out' ≡ out → AnswersText left faults down held lost is_down command text old new out out' status.NoMemory
+  text_nothing text same kept = record { prints = prints_nothing held lost is_down _ _ _ _ _ out out' (rw kept refl); trace = inl same }
+
+  -- ---- of the text of a name
+
+  module _ (content : List ℕ → Option (List ℕ)) (name : List ℕ) (Lost : Type 0) where
+    abbrev Did : Status → Type 0
+    Did end = AnswersNamed left faults down held lost is_down command content name Lost old new out out' end
+
+    pub named_read : (bytes : List ℕ) (end : Status) → IfSome (content name) (λ x. bytes ≡ x) → AnswersText left faults down held lost is_down command bytes old new out out' end → Did end
+    named_read bytes end same p = record {
+      prints = prints_as held lost is_down _ _ _ _ _ out out' _ _ _ _ _ end (λ t. t.2)
+          (λ t r is. (t.0, t.1, subst (λ (x : List ℕ). TextReport x (AcceptedReport command (left old)) r) (told_same (content name) (λ x. bytes ≡ x) t.0 same t.1) is))
+          (λ m. some_map (content name) (λ x. bytes ≡ x) _ same (λ x e. subst _ e m)) (λ u. inr (u.0, u.1, (u.2.0, some_map (content name) (λ x. bytes ≡ x) _ same (λ x e. subst _ e u.2.1)))) (λ m. m) p.prints;
+      trace = elim p.trace [
+        | inl kept ↦ inl kept
+        | inr r ↦ inr (r.0, r.1, some_map (content name) (λ x. bytes ≡ x) _ same (λ x e. subst _ e r.2))
+      ];
+    }
+
+    pub named_long : (end : Status) → IfSome (content name) (λ x. most_bytes < length x) → new ≡ old → Says held lost is_down (refused why.Long) ⊥ out out' end → Did end
+    named_long end long same p = record {
+      prints = prints_as held lost is_down _ _ _ _ _ out out' _ _ _ _ _ end (λ t. tt)
+          (λ t r is. (t.0, t.1, Of_refusal why.Long (too_long (told_same (content name) (λ x. most_bytes < length x) t.0 long t.1)) is)) (λ n. absurd n) (λ n. absurd n) (λ n. absurd n) p;
+      trace = inl same;
+    }
+
+    pub named_lost : Lost → new ≡ old → out' ≡ out → Did status.ReadFault
+    named_lost lost_it same kept = record { prints = prints_unread held lost is_down _ _ _ _ _ out out' (inl (lost_it, rw kept refl)); trace = inl same }
+
+    pub named_nothing : new ≡ old → out' ≡ out → Did status.NoMemory
+    named_nothing same kept = record { prints = prints_nothing held lost is_down _ _ _ _ _ out out' (rw kept refl); trace = inl same }

@@ -1,11 +1,11 @@
 -- Words have one report.
 use Rattle.std.proofs.Common.{◌≡◌, ◌⊎◌, inl, inr, ℕ, List, Option, Some, None, refl, sym, ap, subst, ◌∙◌}
 use Rattle.forec_kernel.specs.Shapes.{PlainKernel}
-use Rattle.thread_code.specs.Alone.{Stands}
+use Rattle.forec_base.specs.declared.limits.TheConstants.{MAX_ROWS}
 use Rattle.core_alloc.specs.declared.fault.PlacementFault.{PlacementFault}
 use Rattle.command_words.specs.Requests.{PlainPlacing, PlainRunning, PlainCommand, Run, Check, Threads, Code, Explain, PlainRequest, OnText, OnWorkload, request_of}
 use Rattle.thread_places.specs.Laws.{OnePlacement, SomePlacement}
-use Rattle.forec_engine.specs.Commands.{ThreadsReport, Of_misplaced, Of_placed, AcceptedReport, Of_refusal, Of_accepted, TextReport, WorkloadReport, Of_usage, Of_text, Of_workload, IsReport, TellsTrace, Tells, usage, refused, counted, threads_listed, run_report}
+use Rattle.forec_engine.specs.Commands.{IsListing, ThreadsReport, Of_misplaced, Of_placed, AcceptedReport, Of_refusal, Of_accepted, TextReport, WorkloadReport, Of_usage, Of_text, Of_workload, IsReport, TellsTrace, Tells, usage, refused, counted, threads_listed, run_report}
 use Rattle.text_verdict.specs.Judging.{Verdict, Refuses, Accepts, Judged}
 use Rattle.text_verdict.specs.Laws.{OneVerdict, SomeVerdict}
 use Rattle.forec_engine.specs.Laws.{AskForCode, OneReport, ListOneKernel, AlikeReports, SomeReport}
@@ -51,7 +51,7 @@ one_accepted one (Run running) c d k l trace r q other e x y =
 one_accepted one Check c d k l trace r q other e x y = x ∙ ap counted (counts_same c d k l e) ∙ sym y
 one_accepted one (Threads placing) c d k l trace r q other e x y = two_threads one l placing r q (subst (λ m. ThreadsReport m placing r) (kernel_same c d k l e) x) y
 one_accepted one (Explain budget order) c d k l trace r q other e x y =
-    x.2 ∙ ap (λ m. trace_report m budget x.0) (kernel_same c d k l e) ∙ ap (trace_report l budget) (some_same x.0 y.0 (sym x.1 ∙ y.1)) ∙ sym y.2
+    x.2 ∙ ap (λ m. trace_report MAX_ROWS m budget x.0) (kernel_same c d k l e) ∙ ap (trace_report MAX_ROWS l budget) (some_same x.0 y.0 (sym x.1 ∙ y.1)) ∙ sym y.2
 one_accepted one Code c d k l trace r q other e x y = absurd (other refl)
 
 -- what any command says of it
@@ -61,16 +61,7 @@ alike_accepted one (Run running) c d k l trace r q e x y = inl (one_accepted one
 alike_accepted one (Explain budget order) c d k l trace r q e x y = inl (one_accepted one (Explain budget order) c d k l trace r q (λ n. cc) e x y)
 alike_accepted one Check c d k l trace r q e x y = inl (one_accepted one Check c d k l trace r q (λ n. cc) e x y)
 alike_accepted one (Threads placing) c d k l trace r q e x y = inl (one_accepted one (Threads placing) c d k l trace r q (λ n. cc) e x y)
-alike_accepted one Code c d k l trace r q e x y =
-    inr (record {
-      kernel = l;
-      code = x.0;
-      other = y.0;
-      stands = subst (Stands x.0) (kernel_same c d k l e) x.1;
-      also = y.1;
-      first = x.2;
-      second = y.2;
-    })
+alike_accepted one Code c d k l trace r q e x y = inr (record { kernel = l; first = subst (λ m. IsListing m r) (kernel_same c d k l e) x; second = y })
 
 -- ---- one report of words
 
@@ -153,7 +144,7 @@ some_of_accepted : SomePlacement → (command : PlainCommand) (trace : Option (L
 some_of_accepted some (Run running) trace c k other told never = never (run_report k running told.0) (told.0, told.1, refl)
 some_of_accepted some Check trace c k other told never = never (counted c) refl
 some_of_accepted some (Threads placing) trace c k other told never = some_threads some k placing (misplacing k placing) refl never
-some_of_accepted some (Explain budget order) trace c k other told never = never (trace_report k budget told.0) (told.0, told.1, refl)
+some_of_accepted some (Explain budget order) trace c k other told never = never (trace_report MAX_ROWS k budget told.0) (told.0, told.1, refl)
 some_of_accepted some Code trace c k other told never = other refl
 
 some_of_text : SomeVerdict → (text : List ℕ) (Says : Counts → PlainKernel → Report → Type 0) → ((c : Counts) (k : PlainKernel) → ((r : Report) → Says c k r → ⊥) → ⊥) → ((r : Report) → TextReport text Says r → ⊥) → ⊥

@@ -1,10 +1,11 @@
 -- The report that words give.
 use Rattle.std.specs.Prelude.{◌≡◌, ◌≤◌, ℕ, List, Option, Some, None, codes}
-use Rattle.forec_base.specs.declared.limits.TheConstants.{MAX_CORES, MAX_BUDGET}
+use Rattle.forec_base.specs.declared.limits.TheConstants.{MAX_CORES, MAX_BUDGET, MAX_ROWS}
 use Rattle.forec_kernel.specs.Shapes.{PlainKernel}
 use Rattle.thread_code.specs.Alone.{Stands}
 use Rattle.thread_code.specs.Listing.{listing_of}
 use Rattle.thread_code.specs.Plain.{PlainCode}
+use Rattle.thread_code.specs.Valid.{IsValidCode}
 use Rattle.core_alloc.specs.Places.{Places}
 use Rattle.core_alloc.specs.declared.fault.PlacementFault.{PlacementFault}
 use Rattle.command_words.specs.Requests.{PlainPlacing, PlainRunning, PlainCommand, Run, Check, Threads, Code, Explain, PlainRequest, OnText, OnWorkload, request_of}
@@ -17,6 +18,7 @@ use Rattle.forec_engine.specs.Placing.{misplaced, misplacing, unless_misplaced}
 use Rattle.forec_engine.specs.Placing.{workload_report}
 use Rattle.text_verdict.specs.declared.counts.Counts.{Counts}
 use Rattle.text_verdict.specs.declared.refusal.Refusal.{Refusal}
+use Rattle.trace_runs.specs.Led.{IsTold, IsTraceReport}
 use Rattle.trace_runs.specs.Report.{Report, trace_report}
 use Rattle.trace_runs.specs.declared.status.Status.TheVariants as status
 
@@ -42,9 +44,16 @@ listed code = record { bytes = listing_of code; status = status.Done }
 
 -- ---- reports
 
+-- r lists a valid code that stands for a kernel
+pub record IsListing (k : PlainKernel) (r : Report) : Type 0 where
+  pub code : PlainCode
+  pub valid : IsValidCode code
+  pub stands : Stands code k
+  pub lists : r ≡ listed code
+
 -- the report of a kernel that runs over a trace of these bytes; where the threads are placed doesn't show in it
 abbrev pub run_report : PlainKernel → PlainRunning → List ℕ → Report
-run_report k running bytes = unless_misplaced (misplacing k running.placing) (trace_report k running.budget bytes)
+run_report k running bytes = unless_misplaced (misplacing k running.placing) (trace_report MAX_ROWS k running.budget bytes)
 
 -- r lists the threads of a kernel with their cores
 pub data ThreadsReport (k : PlainKernel) (placing : PlainPlacing) (r : Report) : Type 0 where
@@ -52,13 +61,13 @@ pub data ThreadsReport (k : PlainKernel) (placing : PlainPlacing) (r : Report) :
   Of_placed : (p : Places) → misplacing k placing ≡ None → IsPlacement k placing p → r ≡ threads_listed k p.places → ThreadsReport k placing r
 
 -- r is the report of a command on a text that is accepted, with these counts and this kernel, where the trace has these bytes.
--- Of `code` it is the listing of a code that stands for the kernel; which one is left open
+-- Of `code` it is the listing of a valid code that stands for the kernel; which one is left open
 abbrev pub AcceptedReport : PlainCommand → Option (List ℕ) → Counts → PlainKernel → Report → Type 0
 AcceptedReport (Run running) trace counts k r = (bytes : List ℕ) × (trace ≡ Some bytes) × (r ≡ run_report k running bytes)
 AcceptedReport Check trace counts k r = r ≡ counted counts
 AcceptedReport (Threads placing) trace counts k r = ThreadsReport k placing r
-AcceptedReport (Explain b order) trace counts k r = (bytes : List ℕ) × (trace ≡ Some bytes) × (r ≡ trace_report k b bytes)
-AcceptedReport Code trace counts k r = (code : PlainCode) × Stands code k × (r ≡ listed code)
+AcceptedReport (Explain b order) trace counts k r = IsTraceReport MAX_ROWS k b trace r
+AcceptedReport Code trace counts k r = IsListing k r
 
 -- r is the report of a text, where this is said of the counts, the kernel and the report of one that is accepted
 pub data TextReport (text : List ℕ) (Says : Counts → PlainKernel → Report → Type 0) (r : Report) : Type 0 where
@@ -81,20 +90,20 @@ pub data IsReport (words : List (List ℕ)) (content : List ℕ → Option (List
 
 -- the trace is told, where the command reads it
 abbrev pub TellsTrace : PlainCommand → Option (List ℕ) → Type 0
-TellsTrace (Run running) trace = (bytes : List ℕ) × (trace ≡ Some bytes)
+TellsTrace (Run running) trace = IsTold trace
 TellsTrace Check trace = Unit {0}
 TellsTrace (Threads placing) trace = Unit {0}
 TellsTrace Code trace = Unit {0}
-TellsTrace (Explain b order) trace = (bytes : List ℕ) × (trace ≡ Some bytes)
+TellsTrace (Explain b order) trace = IsTold trace
 
--- a text has a report for a command of which this is said, where the trace is told
-abbrev pub HasTextReport : PlainCommand → Option (List ℕ) → List ℕ → (Report → Type 0) → Type 0
-HasTextReport command trace text P = TellsTrace command trace → (r : Report) × TextReport text (AcceptedReport command trace) r × P r
+-- the text of a name is told, and the trace where a command reads it
+abbrev pub TellsNamed : (List ℕ → Option (List ℕ)) → List ℕ → PlainCommand → Option (List ℕ) → Type 0
+TellsNamed content name command trace = (text : List ℕ) × (content name ≡ Some text) × TellsTrace command trace
 
 -- the text that the words name is told, and the trace where it is read
 abbrev pub Tells : List (List ℕ) → (List ℕ → Option (List ℕ)) → Option (List ℕ) → Type 0
 Tells words content trace =
-    (name : List ℕ) (command : PlainCommand) → request_of words ≡ Some (OnText name command) → (text : List ℕ) × (content name ≡ Some text) × TellsTrace command trace
+    (name : List ℕ) (command : PlainCommand) → request_of words ≡ Some (OnText name command) → TellsNamed content name command trace
 
 -- ---- ranges
 

@@ -1,5 +1,7 @@
 -- How a command ends.
-use Rattle.std.specs.Prelude.{◌≡◌, ℕ, Bool, List, Option, None, Some, IfSome}
+use Rattle.std.specs.Prelude.{◌≡◌, ◌⊎◌, ℕ, Bool, List, Option, None, Some, IfSome}
+use Rattle.forec_base.specs.Outside.{Fell}
+use Rattle.forec_base.specs.declared.limits.TheConstants.{MAX_ROWS}
 use Rattle.forec_kernel.specs.Shapes.{PlainKernel}
 use Rattle.command_words.specs.Requests.{PlainPlacing, PlainRunning, PlainCommand, Run, Check, Threads, Code, Explain, OnText, OnWorkload, request_of}
 use Rattle.workload.specs.Text.{text_of}
@@ -17,7 +19,7 @@ pub record RunsAs (text : List ℕ) (placing : PlainPlacing) (k : PlainKernel) :
 -- the trace was wanted by the kernel of a text, which runs
 abbrev pub WantedByText : PlainRunning → List ℕ → Option (List ℕ) → Option (List ℕ) → Option (List ℕ) → Option (List ℕ) → Type 0
 WantedByText running text left_old left_new held_old held_new =
-    (k : PlainKernel) × RunsAs text running.placing k × Wanted k running.budget left_old left_new held_old held_new
+    (k : PlainKernel) × RunsAs text running.placing k × Wanted MAX_ROWS k running.budget left_old left_new held_old held_new
 
 -- how a command runs over the trace, where it does; rewriting has no list of places
 abbrev pub running_in : PlainCommand → Option PlainRunning
@@ -37,7 +39,7 @@ WantedByWords words content left_old left_new held_old held_new =
 
 -- the trace was read for the kernel of a text, which runs
 abbrev pub ReadForText : {S : Type 0} → (S → Option (List ℕ)) → (S → ℕ) → (S → Bool) → PlainRunning → List ℕ → S → S → Type 0
-ReadForText left faults down running text old new = (k : PlainKernel) × RunsAs text running.placing k × ReadFor left faults down k running.budget old new
+ReadForText left faults down running text old new = (k : PlainKernel) × RunsAs text running.placing k × ReadFor left faults down MAX_ROWS k running.budget old new
 
 -- the same for words, which are a command that runs over the trace
 abbrev pub ReadForWords : {S : Type 0} → (S → Option (List ℕ)) → (S → ℕ) → (S → Bool) → List (List ℕ) → (List ℕ → Option (List ℕ)) → S → S → Type 0
@@ -69,6 +71,12 @@ pub data IsMisuse (words : List (List ℕ)) (content : List ℕ → Option (List
   Misplaces : (name : List ℕ) (command : PlainCommand) → request_of words ≡ Some (OnText name command) → IfSome (content name) (AcceptedSo (CommandIsMisplaced command)) → IsMisuse words content
   Misplaces_workload : (threads : ℕ) (running : PlainRunning) → request_of words ≡ Some (OnWorkload threads running)
       → AcceptedSo (λ k. IsMisplaced k running.placing) (text_of threads) → IsMisuse words content
+
+-- ---- texts
+
+-- the words name a text
+abbrev pub NameText : List (List ℕ) → Type 0
+NameText words = (name : List ℕ) × (command : PlainCommand) × (request_of words ≡ Some (OnText name command))
 
 -- ---- rewriting
 

@@ -1,10 +1,8 @@
 -- What holds of all reports.
 use Rattle.std.specs.Prelude.{◌≡◌, ◌⊎◌, ℕ, List, Option, Some}
 use Rattle.forec_kernel.specs.Shapes.{PlainKernel}
-use Rattle.thread_code.specs.Alone.{Stands}
-use Rattle.thread_code.specs.Plain.{PlainCode}
 use Rattle.command_words.specs.Requests.{OnText, Code, request_of}
-use Rattle.forec_engine.specs.Commands.{IsReport, Tells, listed}
+use Rattle.forec_engine.specs.Commands.{IsListing, IsReport, Tells}
 use Rattle.trace_runs.specs.Report.{Report}
 
 -- the words ask for the listing of a code
@@ -17,15 +15,11 @@ OneReport =
     (words : List (List ℕ)) (content : List ℕ → Option (List ℕ)) (trace : Option (List ℕ)) (r q : Report) → (AskForCode words → ⊥) →
     IsReport words content trace r → IsReport words content trace q → r ≡ q
 
--- two listings of codes that stand for one kernel
+-- two listings of valid codes that stand for one kernel
 pub record ListOneKernel (r q : Report) : Type 0 where
   pub kernel : PlainKernel
-  pub code : PlainCode
-  pub other : PlainCode
-  pub stands : Stands code kernel
-  pub also : Stands other kernel
-  pub first : r ≡ listed code
-  pub second : q ≡ listed other
+  pub first : IsListing kernel r
+  pub second : IsListing kernel q
 
 -- any words have one report at most, up to which code stands for the kernel
 abbrev pub AlikeReports : Type 0

@@ -1,15 +1,15 @@
 //! The top call.
-ghost use Rattle.std.specs.Prelude.{◌≡◌, ◌≤◌, ◌≢◌, ◌⊎◌, List, ℕ, map, length, string_bytes, IfOk, IfSome, Err, Some, None};
+ghost use Rattle.std.specs.Prelude.{◌≡◌, ◌≤◌, ◌≢◌, ◌⊎◌, ⊤, List, ℕ, map, length, string_bytes, Some};
 ghost use Rattle.forec_base.specs.Outside.{Fell, Rose};
-ghost use Rattle.command_words.specs.Requests.{PlainCommand, PlainRunning, OnText, plain_running, plain_command, plain_request, request_of};
-ghost use Rattle.command_words.specs.declared.fault.WordsFault.TheVariants as words_fault;
+ghost use Rattle.command_words.specs.Requests.{PlainCommand, OnText, plain_running, plain_command, request_of};
 ghost use Rattle.workload.specs.Text.{text_of};
 ghost use Rattle.trace_runs.specs.Calls.{AppendsFront};
-ghost use Rattle.forec_engine.specs.Commands.{usage, IsReport, WorkloadReport, HasTextReport, Tells, IsInRange, IsRunnable, HasRanges};
+ghost use Rattle.forec_engine.specs.Answers.{AnswersText, AnswersNamed};
+ghost use Rattle.forec_engine.specs.Commands.{IsReport, WorkloadReport, Tells, IsInRange, IsRunnable};
 ghost use Rattle.trace_runs.specs.Ends.{IsOwn, Given};
-ghost use Rattle.forec_engine.specs.Ends.{WantedByText, WantedByWords, ReadForText, ReadForWords, CommandIsMisplaced, AcceptedSo, IsMisuse, Rewrites, AskForRewriting, running_in};
-ghost use Rattle.text_verdict.specs.Judging.{Judged, Says};
+ghost use Rattle.forec_engine.specs.Ends.{WantedByWords, ReadForWords, AcceptedSo, IsMisuse, NameText, AskForRewriting};
 ghost use Rattle.forec_engine.specs.Placing.{IsMisplaced};
+ghost use Rattle.trace_runs.specs.Prints.{Prints};
 ghost use Rattle.trace_runs.specs.Report.{Report};
 
 use crate::answering::{answer, answer_workload, refuse};
@@ -18,21 +18,12 @@ use forec_base::{Gate, MAX_DEPTH, MAX_TEXT_BYTES, Sink, Source, TextFault, Texts
 use std::alloc::Global;
 use std::sync::Wait;
 use std::thread::Threads;
-use text_verdict::{Accepted, JudgeFault, Refusal, judge};
+use text_verdict::{JudgeFault, Refusal, judge};
 use trace_runs::{Setting, Status, say};
 use workload::workload_text;
 
 const USAGE: &[u8] =
     b"usage: forec run|check|threads|code|explain|gen PROGRAM [--cores N] [--place LIST] [--budget B] [--order N]\n";
-
-/// What the words ask for.
-fn read_request<'a>(alloc: Global, words: &'a [String]) -> Result<Request<'a>, WordsFault>
-    ensures request { IfOk result (λ r. request_of (map string_bytes words.entry.now) ≡ Some (plain_request r)) }
-    ensures ranges { IfOk result (λ r. HasRanges (plain_request r)) }
-    ensures usage { result ≡ Err words_fault.Usage → request_of (map string_bytes words.entry.now) ≡ None }
-{
-    read_words(alloc, words)
-}
 
 /// Does what a command asks of a text.
 fn run_text<S: Source, K: Sink, G: Gate + Sync, R: Threads + Wait + Sync>(
@@ -45,19 +36,8 @@ fn run_text<S: Source, K: Sink, G: Gate + Sync, R: Threads + Wait + Sync>(
 ) -> Status
     requires short { length text.now ≤ MAX_TEXT_BYTES }
     requires ranges { IsInRange (plain_command command) }
-    ensures own { IsOwn result → HasTextReport (plain_command command.entry) (S.left trace.old) text.now
-        (λ r. Given r result (K.held out.old) (K.held out.new)) }
-    ensures read { result ≡ Status.ReadFault → (running : PlainRunning) × (running_in (plain_command command.entry) ≡ Some running)
-        × Fell (S.faults trace.old) (S.faults trace.new) (S.down trace.new)
-        × WantedByText running text.now (S.left trace.old) (S.left trace.new) (K.held out.old) (K.held out.new) }
-    ensures write { result ≡ Status.WriteFault → Fell (K.faults out.old) (K.faults out.new) (K.down out.new)
-        × HasTextReport (plain_command command.entry) (S.left trace.old) text.now (λ r. AppendsFront (K.held out.old) (K.held out.new) r.bytes) }
-    ensures trace { (trace.new ≡ trace.old) ⊎ ((running : PlainRunning) × (running_in (plain_command command.entry) ≡ Some running)
-        × ReadForText S.left S.faults S.down running text.now trace.old trace.new) }
-    ensures memory { result ≡ Status.NoMemory → (K.held out.new ≡ K.held out.old)
-        ⊎ (Rewrites (plain_command command.entry)
-        × HasTextReport (plain_command command.entry) (S.left trace.old) text.now (λ r. AppendsFront (K.held out.old) (K.held out.new) r.bytes)) }
-    ensures usage { result ≡ Status.Usage → AcceptedSo (CommandIsMisplaced (plain_command command.entry)) text.now }
+    ensures { AnswersText S.left S.faults S.down K.held K.faults K.down (plain_command command.entry) text.now
+        trace.old trace.new out.old out.new result }
 {
     let alloc = setting.alloc;
     match judge(alloc, text, deepest) {
@@ -79,23 +59,9 @@ fn run_named<T: Texts, S: Source, K: Sink, G: Gate + Sync, R: Threads + Wait + S
 ) -> Status
     requires may { T.may texts.old name.now }
     requires ranges { IsInRange (plain_command command) }
-    ensures own { IsOwn result → (text : List ℕ) → T.content texts.old name.now ≡ Some text
-        → HasTextReport (plain_command command.entry) (S.left trace.old) text (λ r. Given r result (K.held out.old) (K.held out.new)) }
-    ensures read { result ≡ Status.ReadFault →
-        (Fell (T.faults texts.old) (T.faults texts.new) (T.down texts.new) × (K.held out.new ≡ K.held out.old))
-        ⊎ ((running : PlainRunning) × (running_in (plain_command command.entry) ≡ Some running)
-        × Fell (S.faults trace.old) (S.faults trace.new) (S.down trace.new)
-        × IfSome (T.content texts.old name.now)
-        (λ text. WantedByText running text (S.left trace.old) (S.left trace.new) (K.held out.old) (K.held out.new))) }
-    ensures write { result ≡ Status.WriteFault → Fell (K.faults out.old) (K.faults out.new) (K.down out.new)
-        × ((text : List ℕ) → T.content texts.old name.now ≡ Some text
-        → HasTextReport (plain_command command.entry) (S.left trace.old) text (λ r. AppendsFront (K.held out.old) (K.held out.new) r.bytes)) }
-    ensures trace { (trace.new ≡ trace.old) ⊎ ((running : PlainRunning) × (running_in (plain_command command.entry) ≡ Some running)
-        × IfSome (T.content texts.old name.now) (λ text. ReadForText S.left S.faults S.down running text trace.old trace.new)) }
-    ensures memory { result ≡ Status.NoMemory → (K.held out.new ≡ K.held out.old)
-        ⊎ (Rewrites (plain_command command.entry) × ((text : List ℕ) → T.content texts.old name.now ≡ Some text
-        → HasTextReport (plain_command command.entry) (S.left trace.old) text (λ r. AppendsFront (K.held out.old) (K.held out.new) r.bytes))) }
-    ensures usage { result ≡ Status.Usage → IfSome (T.content texts.old name.now) (AcceptedSo (CommandIsMisplaced (plain_command command.entry))) }
+    ensures { AnswersNamed S.left S.faults S.down K.held K.faults K.down (plain_command command.entry) (T.content
+        texts.old) name.now
+        (Fell (T.faults texts.old) (T.faults texts.new) (T.down texts.new)) trace.old trace.new out.old out.new result }
 {
     let alloc = setting.alloc;
     match texts.read(alloc, name, MAX_TEXT_BYTES) {
@@ -104,16 +70,6 @@ fn run_named<T: Texts, S: Source, K: Sink, G: Gate + Sync, R: Threads + Wait + S
         Err(TextFault::OutOfMemory) => Status::NoMemory,
         Err(TextFault::Long) => refuse(alloc, Refusal::Long, out),
     }
-}
-
-/// The verdict on a text of any length.
-fn judge_any(alloc: Global, text: &[u8], deepest: u64) -> Result<Accepted, JudgeFault>
-    ensures { Says (Judged text.now) result }
-{
-    if text.len() > MAX_TEXT_BYTES {
-        return Err(JudgeFault::Refused { why: Refusal::Long });
-    }
-    judge(alloc, text, deepest)
 }
 
 /// Runs the workload of so many threads.
@@ -126,19 +82,18 @@ fn run_workload_text<K: Sink, G: Gate + Sync, R: Threads + Wait + Sync>(
 ) -> Status
     requires few { threads ≤ 255 }
     requires ranges { IsRunnable (plain_running running) }
-    ensures own { IsOwn result → (r : Report) × WorkloadReport threads (plain_running running.entry) r
-        × Given r result (K.held out.old) (K.held out.new) }
-    ensures read { result ≢ Status.ReadFault }
-    ensures write { result ≡ Status.WriteFault → Fell (K.faults out.old) (K.faults out.new) (K.down out.new)
-        × ((r : Report) × WorkloadReport threads (plain_running running.entry) r × AppendsFront (K.held out.old) (K.held out.new) r.bytes) }
-    ensures memory { result ≡ Status.NoMemory → K.held out.new ≡ K.held out.old }
-    ensures usage { result ≡ Status.Usage → AcceptedSo (λ k. IsMisplaced k (plain_running running.entry).placing) (text_of threads) }
+    ensures { Prints K.held K.faults K.down ⊤ (WorkloadReport threads (plain_running running.entry))
+        (AcceptedSo (λ k. IsMisplaced k (plain_running running.entry).placing) (text_of threads)) ⊥ ⊥ out.old out.new
+            result }
 {
     let alloc = setting.alloc;
     let Ok(text) = workload_text(alloc, threads) else {
         return Status::NoMemory;
     };
-    match judge_any(alloc, &text, deepest) {
+    if text.len() > MAX_TEXT_BYTES {
+        return refuse(alloc, Refusal::Long, out);
+    }
+    match judge(alloc, &text, deepest) {
         Ok(accepted) => answer_workload(setting, threads, running, &accepted.kernel, out),
         Err(JudgeFault::Refused { why }) => refuse(alloc, why, out),
         Err(JudgeFault::OutOfMemory) => Status::NoMemory,
@@ -195,7 +150,7 @@ pub fn forec_within<T: Texts, S: Source, K: Sink, G: Gate + Sync, R: Threads + W
     ensures complete { (Rose (T.faults texts.old) (T.faults texts.new) → ⊥) → (Rose (S.faults trace.old) (S.faults trace.new) → ⊥)
         → (Rose (K.faults out.old) (K.faults out.new) → ⊥) → IsOwn result ⊎ (result ≡ Status.NoMemory) }
 {
-    match read_request(setting.alloc, words) {
+    match read_words(setting.alloc, words) {
         Ok(Request::Text { program, command }) => {
             run_named(setting, deepest, program, command, texts, trace, out)
         }
@@ -216,8 +171,8 @@ pub fn forec_within<T: Texts, S: Source, K: Sink, G: Gate + Sync, R: Threads + W
 /// what `run P` does, made by rewriting the kernel's texts in the order of steps `--order N`; it alone may run out of
 /// memory between ticks. `run` and `explain` read the trace, and `gen` reads no text.
 ///
-/// `run`, `threads` and `gen` place the threads on `--cores N` cores, or on one: by the list `--place L`, or balanced.
-/// What `run` and `gen` print doesn't depend on it. All other words give the usage line.
+/// `run`, `threads` and `gen` place the threads on `--cores N` cores, or on one: by the list `--place L`, or
+/// balanced. What `run` and `gen` print doesn't depend on it. All other words give the usage line.
 pub fn forec<T: Texts, S: Source, K: Sink, G: Gate + Sync, R: Threads + Wait + Sync>(
     rt: &R,
     alloc: Global,
@@ -228,10 +183,14 @@ pub fn forec<T: Texts, S: Source, K: Sink, G: Gate + Sync, R: Threads + Wait + S
     gate: &G,
 ) -> Status
     // The text that the words name may be asked for.
-    requires may { (name : List ℕ) (command : PlainCommand) → request_of (map string_bytes words.now) ≡ Some (OnText name command) → T.may texts.old name }
+    requires may { (name : List ℕ) (command : PlainCommand) → request_of (map string_bytes words.now) ≡ Some (OnText
+        name command)
+        → T.may texts.old name }
 
-    // Where the text and the trace are known, what is printed is a report of the words, and the status is the report's.
-    ensures own { IsOwn result → Tells (map string_bytes words.now) (T.content texts.old) (S.left trace.old) → (r : Report)
+    // Where the text and the trace are known, what is printed is a report of the words, and the status is the
+    // report's.
+    ensures own { IsOwn result → Tells (map string_bytes words.now) (T.content texts.old) (S.left trace.old)
+        → (r : Report)
         × IsReport (map string_bytes words.now) (T.content texts.old) (S.left trace.old) r
         × Given r result (K.held out.old) (K.held out.new) }
 
@@ -239,7 +198,8 @@ pub fn forec<T: Texts, S: Source, K: Sink, G: Gate + Sync, R: Threads + Wait + S
     ensures read { result ≡ Status.ReadFault →
         (Fell (T.faults texts.old) (T.faults texts.new) (T.down texts.new) × (K.held out.new ≡ K.held out.old))
         ⊎ (Fell (S.faults trace.old) (S.faults trace.new) (S.down trace.new)
-        × WantedByWords (map string_bytes words.now) (T.content texts.old) (S.left trace.old) (S.left trace.new) (K.held out.old) (K.held out.new)) }
+        × WantedByWords (map string_bytes words.now) (T.content texts.old) (S.left trace.old) (S.left trace.new)
+        (K.held out.old) (K.held out.new)) }
 
     // The sink failed. What was printed is a prefix of a report of the words.
     ensures write { result ≡ Status.WriteFault → Fell (K.faults out.old) (K.faults out.new) (K.down out.new)
@@ -247,13 +207,18 @@ pub fn forec<T: Texts, S: Source, K: Sink, G: Gate + Sync, R: Threads + Wait + S
         × IsReport (map string_bytes words.now) (T.content texts.old) (S.left trace.old) r
         × AppendsFront (K.held out.old) (K.held out.new) r.bytes) }
 
-    // The trace is read by `run` and `explain` alone, for a text that is accepted, whose list of places isn't refused, and no read is
-    // asked for once a line that stops the program has come whole.
-    ensures trace { (trace.new ≡ trace.old) ⊎ ReadForWords S.left S.faults S.down (map string_bytes words.now) (T.content texts.old) trace.old trace.new }
+    // No text is read but the one that the words name.
+    ensures texts { (texts.new ≡ texts.old) ⊎ NameText (map string_bytes words.now) }
+
+    // The trace is read by `run` and `explain` alone, for a text that is accepted, whose list of places isn't
+    // refused, and no read is asked for once a line that stops the program has come whole.
+    ensures trace { (trace.new ≡ trace.old)
+        ⊎ ReadForWords S.left S.faults S.down (map string_bytes words.now) (T.content texts.old) trace.old trace.new }
 
     // Where memory ran out, nothing was printed. Of a program that is rewritten a prefix of a report may be.
     ensures memory { result ≡ Status.NoMemory → (K.held out.new ≡ K.held out.old)
-        ⊎ (AskForRewriting (map string_bytes words.now) × (Tells (map string_bytes words.now) (T.content texts.old) (S.left trace.old) → (r : Report)
+        ⊎ (AskForRewriting (map string_bytes words.now)
+        × (Tells (map string_bytes words.now) (T.content texts.old) (S.left trace.old) → (r : Report)
         × IsReport (map string_bytes words.now) (T.content texts.old) (S.left trace.old) r
         × AppendsFront (K.held out.old) (K.held out.new) r.bytes)) }
 
@@ -261,7 +226,8 @@ pub fn forec<T: Texts, S: Source, K: Sink, G: Gate + Sync, R: Threads + Wait + S
     ensures usage { result ≡ Status.Usage → IsMisuse (map string_bytes words.now) (T.content texts.old) }
 
     // Where no count of faults rises, the report is given whole, or memory ran out.
-    ensures complete { (Rose (T.faults texts.old) (T.faults texts.new) → ⊥) → (Rose (S.faults trace.old) (S.faults trace.new) → ⊥)
+    ensures complete { (Rose (T.faults texts.old) (T.faults texts.new) → ⊥)
+        → (Rose (S.faults trace.old) (S.faults trace.new) → ⊥)
         → (Rose (K.faults out.old) (K.faults out.new) → ⊥) → IsOwn result ⊎ (result ≡ Status.NoMemory) }
 {
     let setting = Setting { rt, alloc, gate };

@@ -11,7 +11,7 @@ use std::alloc::Global;
 use std::test::Fail;
 
 /// Programs of one loop, each with the turns that its form tells, and whether it is certain to pause.
-const ROWS: [(&str, Option<u32>, bool); 12] = [
+const ROWS: [(&str, Option<u32>, bool); 14] = [
     (
         "void f() { for (int i = 0; i < 10; i += 3) pause; }",
         Some(4),
@@ -24,6 +24,16 @@ const ROWS: [(&str, Option<u32>, bool); 12] = [
     ),
     (
         "void f() { for (int i = 0; i <= 2147483647; i += 1) pause; }",
+        None,
+        false,
+    ),
+    (
+        "void f() { for (int i = 5; i > 5; i--) pause; }",
+        Some(0),
+        false,
+    ),
+    (
+        "void f() { for (int i = 0; i <= 2147483647; i++) pause; }",
         None,
         false,
     ),

@@ -1,17 +1,18 @@
 -- The report of a trace, line by line.
-use Rattle.std.proofs.Common.{◌≡◌, ℕ, ◌+◌, Bool, true, false, cond, List, [], ◌∷◌, ◌++◌, Option, Some, None, Result, Ok, Err, refl, sym, ap, subst, ◌∙◌, append_assoc, append-nil}
+use Rattle.std.proofs.Common.{◌≡◌, ℕ, ◌+◌, Bool, true, false, cond, if◌then◌else◌, List, [], ◌∷◌, ◌++◌, Option, Some, None, Result, Ok, Err, refl, sym, ap, subst, ◌∙◌, append_assoc, append-nil}
 use Rattle.std.specs.Option.{option_map}
 use Rattle.forec_kernel.specs.declared.shape.Outcome.{Outcome}
 use Rattle.forec_kernel.specs.declared.shape.Outcome.TheVariants as outcome
+use Rattle.forec_kernel.specs.Composed.{TickInput}
 use Rattle.forec_kernel.specs.Shapes.{PlainKernel}
 use Rattle.forec_kernel.specs.Ticks.{State, Tick, tick, goes_on, run_from}
 use Rattle.trace_rows.specs.Trace.{Row, Trace, onto, row_at}
 use Rattle.trace_rows.specs.declared.fault.RowFault.{RowFault}
-use Rattle.trace_runs.specs.Report.{Report, Pace, most_rows, tick_lines, lines_from, last_outcome, ending, behind_bytes, report_from, with_row, printed_before, advance}
+use Rattle.trace_runs.specs.Report.{Report, Pace, tick_lines, lines_from, last_outcome, ending, behind_bytes, report_from, turns_from, with_row, printed_before, advance}
 
 -- a row at which the program goes on
-pub record PausesAtRow (k : PlainKernel) (budget : ℕ) (places : List ℕ) (s : State) (n : ℕ) (line : List ℕ) (row : Row) : Type 0 where
-  pub row_is : row_at most_rows places n line ≡ Ok row
+pub record PausesAtRow (limit : ℕ) (k : PlainKernel) (budget : ℕ) (places : List ℕ) (s : State) (n : ℕ) (line : List ℕ) (row : Row) : Type 0 where
+  pub row_is : row_at limit places n line ≡ Ok row
   pub on : goes_on (tick k budget s row).outcome ≡ true
 
 pub paused : (o : Outcome) → goes_on o ≡ true → o ≡ outcome.Paused
@@ -36,6 +37,19 @@ run_stops k budget s row rows h =
     let t = tick k budget s row in
     ap (λ (b : Bool). elim b [ true ↦ t ∷ run_from k budget t.state rows | false ↦ t ∷ [] ]) h
 
+-- the ticks over a row and those after it
+pub turns_on : (k : PlainKernel) (budget : ℕ) (s : State) (row : Row) (rows : List Row) → goes_on (tick k budget s row).outcome ≡ true →
+    turns_from k budget s (row ∷ rows) ≡ record { row = row; budget = budget } ∷ turns_from k budget (tick k budget s row).state rows
+turns_on k budget s row rows h =
+    let turn : TickInput = record { row = row; budget = budget } in
+    ap (λ (b : Bool). turn ∷ (if b then turns_from k budget (tick k budget s row).state rows else [])) h
+
+pub turns_stop : (k : PlainKernel) (budget : ℕ) (s : State) (row : Row) (rows : List Row) → goes_on (tick k budget s row).outcome ≡ false →
+    turns_from k budget s (row ∷ rows) ≡ record { row = row; budget = budget } ∷ []
+turns_stop k budget s row rows h =
+    let turn : TickInput = record { row = row; budget = budget } in
+    ap (λ (b : Bool). turn ∷ (if b then turns_from k budget (tick k budget s row).state rows else [])) h
+
 ticks_on : (k : PlainKernel) (budget n : ℕ) (t : Tick) (ts : List Tick) (trace : Trace) → goes_on t.outcome ≡ true →
     behind_bytes (lines_from k budget n (t ∷ ts)) (ending (last_outcome (t ∷ ts)) trace.end)
     ≡ behind_bytes (tick_lines k budget n t) (behind_bytes (lines_from k budget (n + 1) ts) (ending (last_outcome ts) trace.end))
@@ -52,17 +66,17 @@ report_step k budget s n m row rest h =
     ap (λ ts. behind_bytes (lines_from k budget n ts) (ending (last_outcome ts) rest.end)) (run_on k budget s row rest.rows h)
     ∙ ticks_on k budget n t (run_from k budget t.state rest.rows) rest h
 
-pub advance_step : (k : PlainKernel) (budget : ℕ) (places : List ℕ) (s : State) (n : ℕ) (line : List ℕ) (lines : List (List ℕ)) (row : Row) → PausesAtRow k budget places s n line row →
-    advance k budget places s n (line ∷ lines)
-    ≡ (let t = tick k budget s row in option_map (printed_before (tick_lines k budget n t)) (advance k budget places t.state (n + 1) lines))
-advance_step k budget places s n line lines row h = rw (h.row_is, h.on) refl
+pub advance_step : (limit : ℕ) (k : PlainKernel) (budget : ℕ) (places : List ℕ) (s : State) (n : ℕ) (line : List ℕ) (lines : List (List ℕ)) (row : Row) → PausesAtRow limit k budget places s n line row →
+    advance limit k budget places s n (line ∷ lines)
+    ≡ (let t = tick k budget s row in option_map (printed_before (tick_lines k budget n t)) (advance limit k budget places t.state (n + 1) lines))
+advance_step limit k budget places s n line lines row h = rw (h.row_is, h.on) refl
 
 -- what an advance over a line and those after it says
-pub record Went (k : PlainKernel) (budget : ℕ) (places : List ℕ) (s : State) (n : ℕ) (line : List ℕ) (lines : List (List ℕ)) (p : Pace) : Type 0 where
+pub record Went (limit : ℕ) (k : PlainKernel) (budget : ℕ) (places : List ℕ) (s : State) (n : ℕ) (line : List ℕ) (lines : List (List ℕ)) (p : Pace) : Type 0 where
   pub row : Row
-  pub goes : PausesAtRow k budget places s n line row
+  pub goes : PausesAtRow limit k budget places s n line row
   pub rest : Pace
-  pub rest_is : advance k budget places (tick k budget s row).state (n + 1) lines ≡ Some rest
+  pub rest_is : advance limit k budget places (tick k budget s row).state (n + 1) lines ≡ Some rest
   pub whole : p ≡ printed_before (tick_lines k budget n (tick k budget s row)) rest
 
 some_of : {A B : Type 0} (f : A → B) (o : Option A) (y : B) → option_map f o ≡ Some y → (x : A) × (o ≡ Some x) × (y ≡ f x)
@@ -77,9 +91,9 @@ cond_some : {A : Type 0} (b : Bool) (o : Option A) (y : A) → cond b o None ≡
 cond_some true o y e = (refl, e)
 cond_some false o y e = absurd cc
 
-pub went_of : (k : PlainKernel) (budget : ℕ) (places : List ℕ) (s : State) (n : ℕ) (line : List ℕ) (lines : List (List ℕ)) (p : Pace) → advance k budget places s n (line ∷ lines) ≡ Some p → Went k budget places s n line lines p
-went_of k budget places s n line lines p e =
-    let r = with_row_some (row_at most_rows places n line) _ p e in
+pub went_of : (limit : ℕ) (k : PlainKernel) (budget : ℕ) (places : List ℕ) (s : State) (n : ℕ) (line : List ℕ) (lines : List (List ℕ)) (p : Pace) → advance limit k budget places s n (line ∷ lines) ≡ Some p → Went limit k budget places s n line lines p
+went_of limit k budget places s n line lines p e =
+    let r = with_row_some (row_at limit places n line) _ p e in
     let c = cond_some _ _ p r.2 in
     let m = some_of _ _ p c.1 in
     record { row = r.0; goes = record { row_is = r.1; on = c.0 }; rest = m.0; rest_is = m.1; whole = m.2 }
@@ -97,16 +111,16 @@ printed_twice k budget a p row =
     let t = tick k budget p.state row in
     ap (λ (bs : List ℕ). Some (record { state = t.state; next = p.next + 1; bytes = bs })) (sym (append_assoc a p.bytes (tick_lines k budget p.next t)))
 
-pub advance_more : (k : PlainKernel) (budget : ℕ) (places : List ℕ) (s : State) (n : ℕ) (lines : List (List ℕ)) (p : Pace) (line : List ℕ) (row : Row) → advance k budget places s n lines ≡ Some p →
-    PausesAtRow k budget places p.state p.next line row → advance k budget places s n (lines ++ line ∷ []) ≡ Some (pace_after k budget p row)
-advance_more k budget places s n [] p line row e h =
+pub advance_more : (limit : ℕ) (k : PlainKernel) (budget : ℕ) (places : List ℕ) (s : State) (n : ℕ) (lines : List (List ℕ)) (p : Pace) (line : List ℕ) (row : Row) → advance limit k budget places s n lines ≡ Some p →
+    PausesAtRow limit k budget places p.state p.next line row → advance limit k budget places s n (lines ++ line ∷ []) ≡ Some (pace_after k budget p row)
+advance_more limit k budget places s n [] p line row e h =
     let same : record { state = s; next = n; bytes = [] } ≡ p = cc in
-    subst (λ (q : Pace). PausesAtRow k budget places q.state q.next line row → advance k budget places s n (line ∷ []) ≡ Some (pace_after k budget q row)) same
-    (λ g. advance_step k budget places s n line [] row g ∙ rw append-nil refl) h
-advance_more k budget places s n (first ∷ lines) p line row e h =
-    let w = went_of k budget places s n first lines p e in
+    subst (λ (q : Pace). PausesAtRow limit k budget places q.state q.next line row → advance limit k budget places s n (line ∷ []) ≡ Some (pace_after k budget q row)) same
+    (λ g. advance_step limit k budget places s n line [] row g ∙ rw append-nil refl) h
+advance_more limit k budget places s n (first ∷ lines) p line row e h =
+    let w = went_of limit k budget places s n first lines p e in
     let t = tick k budget s w.row in
-    subst (λ (q : Pace). PausesAtRow k budget places q.state q.next line row → advance k budget places s n (first ∷ (lines ++ line ∷ [])) ≡ Some (pace_after k budget q row)) (sym w.whole)
-    (λ g. advance_step k budget places s n first (lines ++ line ∷ []) w.row w.goes
-    ∙ ap (option_map (printed_before (tick_lines k budget n t))) (advance_more k budget places t.state (n + 1) lines w.rest line row w.rest_is g)
+    subst (λ (q : Pace). PausesAtRow limit k budget places q.state q.next line row → advance limit k budget places s n (first ∷ (lines ++ line ∷ [])) ≡ Some (pace_after k budget q row)) (sym w.whole)
+    (λ g. advance_step limit k budget places s n first (lines ++ line ∷ []) w.row w.goes
+    ∙ ap (option_map (printed_before (tick_lines k budget n t))) (advance_more limit k budget places t.state (n + 1) lines w.rest line row w.rest_is g)
     ∙ printed_twice k budget (tick_lines k budget n t) w.rest row) h

@@ -1,36 +1,44 @@
 -- A tick more of a program that runs.
-use Rattle.std.proofs.Common.{◌≡◌, ℕ, ℤ, List, [], ◌∷◌, ◌++◌, refl, sym, subst, ◌∙◌}
+use Rattle.std.proofs.Common.{◌≡◌, ℤ, List, [], ◌∷◌, ◌++◌, refl, sym, ap, subst, ◌∙◌}
 use Rattle.forec_kernel.specs.declared.shape.Outcome.{Outcome}
 use Rattle.forec_kernel.specs.Composed.{TickInput, next_state, state_after}
 use Rattle.forec_kernel.specs.Shapes.{PlainKernel}
 use Rattle.forec_kernel.specs.Ticks.{State, Fresh, tick}
+use Rattle.forec_kernel.specs.WellFormed.{WellFormed}
 use Rattle.thread_code.specs.Alone.{Stands}
 use Rattle.thread_code.specs.Plain.{PlainCode}
 use Rattle.trace_runs.specs.Hosting.{CodeFollows}
+use Rattle.trace_runs.specs.Ticking.{tick_after, RunsOnce, Starts}
+use Rattle.core_host.specs.Outcomes.{HasOutputs}
 
 state_then : (k : PlainKernel) (turns : List TickInput) (last : TickInput) (old : State) → state_after k old (turns ++ last ∷ []) ≡ next_state k (state_after k old turns) last
 state_then k [] last old = refl
 state_then k (turn ∷ turns) last old = state_then k turns last (next_state k old turn)
 
--- A state that the turns so far have led to. The host was given the row, whose values these are.
-module _ (k : PlainKernel) (budget : ℕ) (given row : List ℤ) (same : given ≡ row) (turns : List TickInput) (s : State) (led : s ≡ state_after k Fresh turns) where
-  pub outcome_then : (o : Outcome) → o ≡ (tick k budget (state_after k Fresh turns) given).outcome → o ≡ (tick k budget s row).outcome
-  outcome_then o h = subst (λ (r : List ℤ). o ≡ (tick k budget s r).outcome) same (subst (λ (x : State). o ≡ (tick k budget x given).outcome) (sym led) h)
+-- a state that the ticks so far have led to
+module _ (k : PlainKernel) (turns : List TickInput) (turn : TickInput) (s : State) (led : s ≡ state_after k Fresh turns) where
+  pub outcome_at : (o : Outcome) → o ≡ (tick_after k turns turn).outcome → o ≡ (tick k turn.budget s turn.row).outcome
+  outcome_at o h = h ∙ ap (λ (x : State). (tick k turn.budget x turn.row).outcome) (sym led)
 
-  pub outputs_then : (values : List ℤ) → values ≡ (tick k budget (state_after k Fresh turns) given).outputs → values ≡ (tick k budget s row).outputs
-  outputs_then values h = subst (λ (r : List ℤ). values ≡ (tick k budget s r).outputs) same (subst (λ (x : State). values ≡ (tick k budget x given).outputs) (sym led) h)
+  pub outputs_at : (values : List ℤ) → values ≡ (tick_after k turns turn).outputs → values ≡ (tick k turn.budget s turn.row).outputs
+  outputs_at values h = h ∙ ap (λ (x : State). (tick k turn.budget x turn.row).outputs) (sym led)
 
-  pub led_on : (tick k budget s row).state ≡ state_after k Fresh (turns ++ record { row = given; budget = budget } ∷ [])
-  led_on =
-      let last : TickInput = record { row = given; budget = budget } in
-      subst (λ (r : List ℤ). (tick k budget s r).state ≡ state_after k Fresh (turns ++ last ∷ [])) same
-      (subst (λ (x : State). next_state k x last ≡ next_state k (state_after k Fresh turns) last) (sym led) refl ∙ sym (state_then k turns last Fresh))
+  pub led_on : (tick k turn.budget s turn.row).state ≡ state_after k Fresh (turns ++ turn ∷ [])
+  led_on = ap (λ (x : State). next_state k x turn) led ∙ sym (state_then k turns turn Fresh)
 
--- a code that stands for a kernel, before its first tick
-pub at_start : (k : PlainKernel) (c now : PlainCode) (Ran : List TickInput → Type 0) → now ≡ c → Stands c k → Ran [] → CodeFollows k now Ran Fresh
-at_start k c now Ran is stands none = record {
-  stands = subst (λ (p : PlainCode). Stands p k) (sym is) stands;
-  turns = [];
-  ran = none;
-  state = refl;
+-- a code is followed from its start
+pub code_starts : (c now : PlainCode) (Ran : List TickInput → Type 0) (k : PlainKernel) → now ≡ c → WellFormed k → Stands c k → Ran [] → Starts now.shape (CodeFollows now Ran) k
+code_starts c now Ran k is formed stands none = record {
+  shaped = sym stands.shape ∙ ap (λ (p : PlainCode). p.shape) (sym is);
+  fresh = record { formed = formed; stands = subst (λ (p : PlainCode). Stands p k) (sym is) stands; ran = none };
+}
+
+-- a kernel that is rewritten: where it stood, and where it stands after a tick
+pub rewritten_once : (k now : PlainKernel) → now ≡ k → (s s' : State) (turn : TickInput) (values : List ℤ) (o : Outcome) → o ≡ (tick k turn.budget s turn.row).outcome →
+    (HasOutputs o → values ≡ (tick k turn.budget s turn.row).outputs) → s' ≡ (tick k turn.budget s turn.row).state →
+    RunsOnce (λ m turns. (m ≡ k) × (s ≡ state_after m Fresh turns)) (λ m turns. (m ≡ now) × (s' ≡ state_after m Fresh turns)) turn values o
+rewritten_once k now same s s' turn values o how outputs state = record {
+  outcome = λ m turns f. how ∙ ap (λ (x : PlainKernel). (tick x turn.budget s turn.row).outcome) (sym f.0) ∙ ap (λ (x : State). (tick m turn.budget x turn.row).outcome) f.1;
+  outputs = λ m turns f has. outputs has ∙ ap (λ (x : PlainKernel). (tick x turn.budget s turn.row).outputs) (sym f.0) ∙ ap (λ (x : State). (tick m turn.budget x turn.row).outputs) f.1;
+  follows = λ m turns f. (f.0 ∙ sym same, state ∙ ap (λ (x : PlainKernel). (tick x turn.budget s turn.row).state) (sym f.0) ∙ led_on m turns turn s f.1);
 }

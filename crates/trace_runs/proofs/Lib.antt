@@ -1,4 +1,5 @@
 mod Advancing
+mod AfterHeader
 mod Asking
 pub mod EndLemmas
 mod Fine
@@ -7,11 +8,12 @@ mod Heading
 mod NextRows
 mod Numbered
 mod Picking
+pub mod Printing
 mod Ranges
 mod Running
 mod Splitting
+mod Telling
 mod TickLines
 mod TickingLemmas
 pub mod Told
-mod Unrun
 mod WorkedLines

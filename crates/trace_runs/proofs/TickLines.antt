@@ -2,10 +2,10 @@
 use Rattle.std.proofs.Common.{◌≡◌, ℕ, ℤ, List, length, sym, ap, subst, ◌∙◌}
 use Rattle.std.proofs.lemmas.List.{length-map}
 use Rattle.forec_kernel.specs.declared.shape.Outcome.{Outcome}
-use Rattle.forec_kernel.specs.Shapes.{PlainKernel}
+use Rattle.forec_kernel.specs.Shapes.{PlainShape, PlainKernel}
 use Rattle.forec_kernel.specs.Ticks.{Tick}
 use Rattle.tick_jobs.specs.Outcomes.{HasOutputs}
-use Rattle.trace_runs.specs.KernelNames.{input_names, output_names}
+use Rattle.trace_runs.specs.KernelNames.{inputs_of, output_names}
 use Rattle.trace_rows.specs.Report.{outcome_lines}
 use Rattle.trace_runs.specs.Report.{tick_lines}
 use Rattle.trace_runs.specs.WaitingRoom.{Gains}
@@ -22,5 +22,5 @@ put_tick_lines k budget row t o names values old new are how outputs gains =
 pub names_each : (k : PlainKernel) → length (output_names k) ≡ length k.shape.outputs
 names_each k = length-map k.shape.outputs _
 
-pub inputs_each : (k : PlainKernel) → length (input_names k) ≡ length k.shape.inputs
-inputs_each k = length-map k.shape.inputs _
+pub inputs_each : (s : PlainShape) → length (inputs_of s) ≡ length s.inputs
+inputs_each s = length-map s.inputs _

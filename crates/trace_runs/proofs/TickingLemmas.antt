@@ -1,5 +1,5 @@
 -- The ticks of a workload, one by one.
-use Rattle.std.proofs.Common.{◌≡◌, ◌≢◌, ℕ, suc, ◌+◌, ◌-◌, ◌%◌, ◌^◌, ◌<◌, ◌≤◌, ℤ, true, false, Option, List, [], ◌∷◌, ◌++◌, length, get_or, replicate, drop, refl, sym, ap, subst, ◌∙◌, arith, append_assoc, append-nil, length-append}
+use Rattle.std.proofs.Common.{◌≡◌, ℕ, suc, ◌+◌, ◌-◌, ◌%◌, ◌^◌, ◌<◌, ◌≤◌, ℤ, Bool, true, false, Option, List, [], ◌∷◌, ◌++◌, length, get_or, replicate, drop, refl, sym, ap, subst, ◌∙◌, arith, append_assoc, append-nil, length-append}
 use Rattle.std.specs.Int.{cast_unsigned, w32}
 use Rattle.std.specs.List.{sum_by}
 use Rattle.std.proofs.Math.Nat.{mod-add-mod}
@@ -7,14 +7,16 @@ use Rattle.std.proofs.lemmas.List.{drop_more}
 use Rattle.std.proofs.lemmas.List.Sums.{sum_by-cons, sum_by-append}
 use Rattle.forec_kernel.specs.declared.shape.Outcome.{Outcome}
 use Rattle.forec_kernel.specs.declared.shape.Outcome.TheVariants as outcome
+use Rattle.forec_kernel.specs.Composed.{TickInput, state_after}
 use Rattle.forec_kernel.specs.Shapes.{PlainKernel}
 use Rattle.forec_kernel.specs.Ticks.{State, Fresh, Tick, tick, goes_on, run_from}
-use Rattle.std.specs.Io.KnownBytes.{Appends}
-use Rattle.trace_runs.specs.Calls.{AppendsFront}
-use Rattle.trace_runs.specs.Ends.{IsOwn, Given}
+use Rattle.trace_runs.specs.Progress.{IsPut}
+use Rattle.trace_runs.specs.Ticking.{tick_after}
 use Rattle.trace_runs.specs.declared.status.Status.{Status}
 use Rattle.trace_runs.specs.declared.status.Status.TheVariants as status
-use Rattle.trace_runs.proofs.EndLemmas.{own_not}
+use Rattle.trace_runs.specs.Prints.{Says}
+use Rattle.trace_runs.proofs.Following.{outcome_at, outputs_at, led_on}
+use Rattle.trace_runs.proofs.Printing.{said_as}
 use Rattle.trace_runs.specs.Report.{Report, last_outcome}
 use Rattle.trace_runs.specs.Workload.{zero_row, workload_ticks, values_sum, outputs_sum, ticks_report, ticked_report}
 use Rattle.trace_runs.proofs.Advancing.{run_on, run_stops}
@@ -59,46 +61,53 @@ report_is threads k budget ticks o e f = ap (λ ts. ticks_report threads budget 
 
 -- ---- ticks that have all paused
 
-pub record Gone (k : PlainKernel) (budget : ℕ) (Follows : State → Type 0) (count sum : ℕ) : Type 0 where
+pub record Gone (k : PlainKernel) (budget : ℕ) (Follows : List TickInput → Type 0) (count sum : ℕ) : Type 0 where
+  pub turns : List TickInput
+  pub follows : Follows turns
   pub state : State
-  pub follows : Follows state
+  pub led : state ≡ state_after k Fresh turns
   pub done : List Tick
   pub counted : length done ≡ count
   pub summed : sum ≡ outputs_sum done
   pub paused : last_outcome done ≡ outcome.Paused
-  pub whole : workload_ticks k budget ≡ done ++ run_from k budget state (replicate (WORKLOAD_TICKS - count) (zero_row k))
+  pub whole : workload_ticks k budget ≡ done ++ run_from k budget state (replicate (WORKLOAD_TICKS - count) (zero_row k.shape))
 
-pub gone_none : (k : PlainKernel) (budget : ℕ) (F : State → Type 0) → F Fresh → Gone k budget F 0 0
-gone_none k budget F f = record { state = Fresh; follows = f; done = []; counted = refl; summed = refl; paused = refl; whole = refl }
+pub gone_none : (k : PlainKernel) (budget : ℕ) (F : List TickInput → Type 0) → F [] → Gone k budget F 0 0
+gone_none k budget F f = record { turns = []; follows = f; state = Fresh; led = refl; done = []; counted = refl; summed = refl; paused = refl; whole = refl }
 
-module _ (k : PlainKernel) (budget : ℕ) (F : State → Type 0) (count sum : ℕ) (g : Gone k budget F count sum) where
+module _ (k : PlainKernel) (budget : ℕ) (F : List TickInput → Type 0) (count sum : ℕ) (g : Gone k budget F count sum) where
   abbrev next : Tick
-  next = tick k budget g.state (zero_row k)
+  next = tick k budget g.state (zero_row k.shape)
 
-  rows_left : count < WORKLOAD_TICKS → replicate (WORKLOAD_TICKS - count) (zero_row k) ≡ zero_row k ∷ replicate (WORKLOAD_TICKS - (count + 1)) (zero_row k)
+  abbrev pub zeros : TickInput
+  zeros = record { row = zero_row k.shape; budget = budget }
+
+  rows_left : count < WORKLOAD_TICKS → replicate (WORKLOAD_TICKS - count) (zero_row k.shape) ≡ zero_row k.shape ∷ replicate (WORKLOAD_TICKS - (count + 1)) (zero_row k.shape)
   rows_left low =
       let one : WORKLOAD_TICKS - count ≡ suc (WORKLOAD_TICKS - (count + 1)) = omega (arith, low) in
-      ap (λ n. replicate n (zero_row k)) one
+      ap (λ n. replicate n (zero_row k.shape)) one
 
-  pub gone_more : (F' : State → Type 0) (values : List ℤ) (total : ℕ) → count < WORKLOAD_TICKS → next.outcome ≡ outcome.Paused → values ≡ next.outputs → total ≡ (sum + values_sum values) % 2 ^ 32 → F' next.state →
+  pub gone_more : (F' : List TickInput → Type 0) (values : List ℤ) (total : ℕ) → count < WORKLOAD_TICKS → next.outcome ≡ outcome.Paused → values ≡ next.outputs → total ≡ (sum + values_sum values) % 2 ^ 32 → F' (g.turns ++ zeros ∷ []) →
       Gone k budget F' (count + 1) total
   gone_more F' values total low how are is f =
       let on : goes_on next.outcome ≡ true = ap goes_on how in
-      let rest = replicate (WORKLOAD_TICKS - (count + 1)) (zero_row k) in
+      let rest = replicate (WORKLOAD_TICKS - (count + 1)) (zero_row k.shape) in
       record {
-        state = next.state;
+        turns = g.turns ++ zeros ∷ [];
         follows = f;
+        state = next.state;
+        led = led_on k g.turns zeros g.state g.led;
         done = g.done ++ next ∷ [];
         counted = length-append g.done (next ∷ []) ∙ ap (λ n. n + 1) g.counted;
         summed = is ∙ ap (λ n. (n + values_sum values) % 2 ^ 32) g.summed ∙ ap (λ (vs : List ℤ). (outputs_sum g.done + values_sum vs) % 2 ^ 32) are ∙ sym (outputs_more g.done next);
         paused = last_of g.done next ∙ how;
-        whole = g.whole ∙ ap (λ rows. g.done ++ run_from k budget g.state rows) (rows_left low) ∙ ap (λ ts. g.done ++ ts) (run_on k budget g.state (zero_row k) rest on)
+        whole = g.whole ∙ ap (λ rows. g.done ++ run_from k budget g.state rows) (rows_left low) ∙ ap (λ ts. g.done ++ ts) (run_on k budget g.state (zero_row k.shape) rest on)
             ∙ sym (append_assoc g.done (next ∷ []) (run_from k budget next.state rest));
       }
 
   all_ticks : count < WORKLOAD_TICKS → goes_on next.outcome ≡ false → workload_ticks k budget ≡ g.done ++ next ∷ []
   all_ticks low off =
-      g.whole ∙ ap (λ rows. g.done ++ run_from k budget g.state rows) (rows_left low) ∙ ap (λ ts. g.done ++ ts) (run_stops k budget g.state (zero_row k) (replicate (WORKLOAD_TICKS - (count + 1)) (zero_row k)) off)
+      g.whole ∙ ap (λ rows. g.done ++ run_from k budget g.state rows) (rows_left low) ∙ ap (λ ts. g.done ++ ts) (run_stops k budget g.state (zero_row k.shape) (replicate (WORKLOAD_TICKS - (count + 1)) (zero_row k.shape)) off)
 
   -- the report where a tick doesn't pause
   pub stopped : (threads : ℕ) (o : Outcome) → count < WORKLOAD_TICKS → o ≡ next.outcome → goes_on o ≡ false →
@@ -118,41 +127,35 @@ module _ (k : PlainKernel) (budget : ℕ) (F : State → Type 0) (count sum : �
   ended threads all =
       let none : WORKLOAD_TICKS - count ≡ 0 = omega (arith, all) in
       report_is threads k budget g.done outcome.Paused
-      (g.whole ∙ ap (λ n. g.done ++ run_from k budget g.state (replicate n (zero_row k))) none ∙ append-nil g.done) g.paused
+      (g.whole ∙ ap (λ n. g.done ++ run_from k budget g.state (replicate n (zero_row k.shape))) none ∙ append-nil g.done) g.paused
 
--- ---- a tick that the runner made, over a row that is 0 for each input
+-- ---- a tick that was made
 
-module _ (k now : PlainKernel) (budget : ℕ) (s : State) (row : List ℤ) (is : now ≡ k) (zeros : row ≡ zero_row k) where
-  same_tick : tick now budget s row ≡ tick k budget s (zero_row k)
-  same_tick = ap (λ m. tick m budget s row) is ∙ ap (tick k budget s) zeros
+-- after these ticks, over a row that is 0 for each input
+module _ (k : PlainKernel) (budget : ℕ) (turns : List TickInput) (s : State) (led : s ≡ state_after k Fresh turns) (row : List ℤ) (are : row ≡ zero_row k.shape) where
+  abbrev made : TickInput
+  made = record { row = row; budget = budget }
 
-  pub same_outcome : (o x : Outcome) → o ≡ (tick now budget s row).outcome → o ≡ x → x ≡ (tick k budget s (zero_row k)).outcome
-  same_outcome o x e f = sym f ∙ e ∙ ap (λ (t : Tick). t.outcome) same_tick
+  pub made_outcome : (o : Outcome) → o ≡ (tick_after k turns made).outcome → o ≡ (tick k budget s (zero_row k.shape)).outcome
+  made_outcome o e = outcome_at k turns made s led o e ∙ ap (λ (r : List ℤ). (tick k budget s r).outcome) are
 
-  pub same_outputs : (values : List ℤ) → values ≡ (tick now budget s row).outputs → values ≡ (tick k budget s (zero_row k)).outputs
-  same_outputs values e = e ∙ ap (λ (t : Tick). t.outputs) same_tick
+  pub made_outputs : (values : List ℤ) → values ≡ (tick_after k turns made).outputs → values ≡ (tick k budget s (zero_row k.shape)).outputs
+  made_outputs values e = outputs_at k turns made s led values e ∙ ap (λ (r : List ℤ). (tick k budget s r).outputs) are
 
-  pub same_state : (F : State → Type 0) → F (tick now budget s row).state → F (tick k budget s (zero_row k)).state
-  same_state F f = subst (λ (t : Tick). F t.state) same_tick f
+  pub made_turns : (F : List TickInput → Type 0) → F (turns ++ made ∷ []) → F (turns ++ record { row = zero_row k.shape; budget = budget } ∷ [])
+  made_turns F f = subst (λ (r : List ℤ). F (turns ++ record { row = r; budget = budget } ∷ [])) are f
 
 -- a line was put, which is the report's
-pub gains_report : (old first new : Waiting) (line : List ℕ) (r s : Report) → old ≡ first → r ≡ s → line ≡ s.bytes → Gains old new line → Gains first new r.bytes
-gains_report old first new line r s e f h g =
-    subst (λ (bytes : List ℕ). Gains first new bytes) (h ∙ ap (λ (q : Report). q.bytes) (sym f)) (subst (λ (w : Waiting). Gains w new line) e g)
+pub put_report : (old first new : Waiting) (line : List ℕ) (r s : Report) (end : Status) → old ≡ first → r ≡ s → line ≡ s.bytes → end ≡ s.status → Gains old new line → IsPut first new r end
+put_report old first new line r s end e f h st g = record {
+  status = st ∙ ap (λ (q : Report). q.status) (sym f);
+  bytes = subst (λ (bytes : List ℕ). Gains first new bytes) (h ∙ ap (λ (q : Report). q.bytes) (sym f)) (subst (λ (w : Waiting). Gains w new line) e g);
+}
 
--- the report of a workload, which alone was put
-module _ (threads budget : ℕ) (k now : PlainKernel) (is : now ≡ k) (empty unsent : List ℕ) (h0 h2 : Option (List ℕ)) (none : empty ≡ []) (put : unsent ≡ empty ++ (ticked_report threads now budget).bytes) where
-  put_all : unsent ≡ (ticked_report threads k budget).bytes
-  put_all = put ∙ ap (λ (x : List ℕ). x ++ (ticked_report threads now budget).bytes) none ∙ ap (λ (m : PlainKernel). (ticked_report threads m budget).bytes) is
-
-  pub workload_given : (said result : Status) → said ≡ (ticked_report threads now budget).status → (result ≢ status.WriteFault → result ≡ said) → (result ≢ status.WriteFault → Appends h0 h2 unsent) → IsOwn result →
-      Given (ticked_report threads k budget) result h0 h2
-  workload_given said result e says all own =
-      let not = own_not result own in
-      record {
-        status = says not ∙ e ∙ ap (λ (m : PlainKernel). (ticked_report threads m budget).status) is;
-        bytes = subst (Appends h0 h2) put_all (all not);
-      }
-
-  pub workload_front : AppendsFront h0 h2 unsent → AppendsFront h0 h2 (ticked_report threads k budget).bytes
-  workload_front front = subst (AppendsFront h0 h2) put_all front
+-- a report that alone was put is said
+pub put_said : {K : Type 0} (held : K → Option (List ℕ)) (lost : K → ℕ) (is_down : K → Bool) (old new : Waiting) (r : Report) (end : Status) (out out' : K) (result : Status) → IsPut old new r end → old.bytes.items ≡ [] → (end ≡ status.Usage → ⊥) →
+    Says held lost is_down (record { bytes = new.bytes.items; status = end }) (end ≡ status.Usage) out out' result → Says held lost is_down r ⊥ out out' result
+put_said held lost is_down old new r end out out' result put none other p =
+    let bytes : new.bytes.items ≡ r.bytes = put.bytes.bytes_are ∙ ap (λ (b : List ℕ). b ++ r.bytes) none in
+    let same : record { bytes = new.bytes.items; status = end } ≡ r = ap (λ (b : List ℕ). record { bytes = b; status = end }) bytes ∙ ap (λ (s : Status). record { bytes = r.bytes; status = s }) put.status in
+    said_as held lost is_down (record { bytes = new.bytes.items; status = end }) out out' (end ≡ status.Usage) Unit (λ q. q ≡ r) ⊥ ⊥ ⊥ result (λ t. same) other p

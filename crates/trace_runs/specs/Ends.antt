@@ -1,11 +1,10 @@
 -- How a run ends.
-use Rattle.std.specs.Prelude.{◌≡◌, ℕ, Bool, List, ◌++◌, Option, Some, IfSome, ⊤}
+use Rattle.std.specs.Prelude.{◌≡◌, ℕ, Bool, List, ◌++◌, Option, Some, ⊤}
 use Rattle.std.specs.Io.KnownBytes.{Appends}
 use Rattle.forec_kernel.specs.Shapes.{PlainKernel}
 use Rattle.trace_rows.specs.Calls.{IfTold}
 use Rattle.trace_rows.specs.Lines.{whole_lines}
 use Rattle.trace_rows.specs.SourceReads.{Reads}
-use Rattle.trace_runs.specs.Calls.{AppendsFront}
 use Rattle.trace_runs.specs.Report.{Report, printed_for}
 use Rattle.trace_runs.specs.declared.status.Status.{Status}
 use Rattle.trace_runs.specs.declared.status.Status.TheVariants as status
@@ -27,26 +26,22 @@ pub record Given (r : Report) (end : Status) (held_old held_new : Option (List �
   pub status : end ≡ r.status
   pub bytes : Appends held_old held_new r.bytes
 
--- a front of the report was given, of the bytes that a source has left
-abbrev pub FrontOf : Option (List ℕ) → Option (List ℕ) → Option (List ℕ) → (List ℕ → Report) → Type 0
-FrontOf left held_old held_new report = IfSome left (λ x. AppendsFront held_old held_new (report x).bytes)
-
 -- these bytes are what the lines print that have come whole, none of which stops the program
-abbrev pub PrintedFor : PlainKernel → ℕ → List ℕ → List ℕ → List ℕ → Type 0
-PrintedFor k budget bytes left_old left_new =
-    (given : List ℕ) × (left_old ≡ given ++ left_new) × (printed_for k budget (whole_lines given) ≡ Some bytes)
+abbrev pub PrintedFor : ℕ → PlainKernel → ℕ → List ℕ → List ℕ → List ℕ → Type 0
+PrintedFor limit k budget bytes left_old left_new =
+    (given : List ℕ) × (left_old ≡ given ++ left_new) × (printed_for limit k budget (whole_lines given) ≡ Some bytes)
 
 -- the trace was wanted by a kernel: no line that came whole stops it, and what was printed is what those lines print
-abbrev pub Wanted : PlainKernel → ℕ → Option (List ℕ) → Option (List ℕ) → Option (List ℕ) → Option (List ℕ) → Type 0
-Wanted k budget left_old left_new held_old held_new =
-    (bytes : List ℕ) × Appends held_old held_new bytes × IfTold left_old left_new (PrintedFor k budget bytes)
+abbrev pub Wanted : ℕ → PlainKernel → ℕ → Option (List ℕ) → Option (List ℕ) → Option (List ℕ) → Option (List ℕ) → Type 0
+Wanted limit k budget left_old left_new held_old held_new =
+    (bytes : List ℕ) × Appends held_old held_new bytes × IfTold left_old left_new (PrintedFor limit k budget bytes)
 
 -- ---- reads of the trace
 
 -- none of the lines that have come whole stops the program: the first is the header, each further one a row, and it goes on at each
-abbrev pub GoesOn : PlainKernel → ℕ → List ℕ → Type 0
-GoesOn k budget came = (bytes : List ℕ) × (printed_for k budget (whole_lines came) ≡ Some bytes)
+abbrev pub GoesOn : ℕ → PlainKernel → ℕ → List ℕ → Type 0
+GoesOn limit k budget came = (bytes : List ℕ) × (printed_for limit k budget (whole_lines came) ≡ Some bytes)
 
 -- the trace was read for a kernel: each read was asked for while no line that had come whole stops the program
-abbrev pub ReadFor : {S : Type 0} → (S → Option (List ℕ)) → (S → ℕ) → (S → Bool) → PlainKernel → ℕ → S → S → Type 0
-ReadFor left faults down k budget old new = (given : List ℕ) × Reads left faults down (GoesOn k budget) old given new
+abbrev pub ReadFor : {S : Type 0} → (S → Option (List ℕ)) → (S → ℕ) → (S → Bool) → ℕ → PlainKernel → ℕ → S → S → Type 0
+ReadFor left faults down limit k budget old new = (given : List ℕ) × Reads left faults down (GoesOn limit k budget) old given new

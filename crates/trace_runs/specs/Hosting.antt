@@ -1,25 +1,29 @@
--- What runs a code stands for.
-use Rattle.std.specs.Prelude.{◌≡◌, List}
-use Rattle.forec_kernel.specs.Composed.{TickInput, state_after}
+-- What runs a code follows.
+use Rattle.std.specs.Prelude.{List}
+use Rattle.forec_kernel.specs.Composed.{TickInput}
 use Rattle.forec_kernel.specs.Shapes.{PlainKernel}
-use Rattle.forec_kernel.specs.Ticks.{State, Fresh}
+use Rattle.forec_kernel.specs.WellFormed.{WellFormed}
 use Rattle.thread_code.specs.Alone.{Stands}
 use Rattle.thread_code.specs.Plain.{PlainCode}
 use Rattle.core_host.specs.Hosted as hosted
 use Rattle.core_host.specs.Runs as runs
 use Rattle.one_core.specs.Single as single
+use Rattle.trace_runs.specs.declared.status.Status.{Status}
 
--- a code stands for a kernel, and its ticks so far have led the kernel to a state. `Ran`: such ticks were run
-pub record CodeFollows (k : PlainKernel) (c : PlainCode) (Ran : List TickInput → Type 0) (s : State) : Type 0 where
+-- a code stands for a kernel, and these ticks were run
+pub record CodeFollows (c : PlainCode) (Ran : List TickInput → Type 0) (k : PlainKernel) (turns : List TickInput) : Type 0 where
+  pub formed : WellFormed k
   pub stands : Stands c k
-  pub turns : List TickInput
   pub ran : Ran turns
-  pub state : s ≡ state_after k Fresh turns
 
 -- the code is that of a host
-abbrev pub HostFollows : PlainKernel → hosted.Hosted → State → Type 0
-HostFollows k h s = CodeFollows k (hosted.code_of h) (runs.HasRun h) s
+abbrev pub HostFollows : hosted.Hosted → PlainKernel → List TickInput → Type 0
+HostFollows h = CodeFollows (hosted.code_of h) (runs.HasRun h)
 
 -- the code has all threads on one core
-abbrev pub OneFollows : PlainKernel → single.Single → State → Type 0
-OneFollows k o s = CodeFollows k (single.code_of o) (single.HasRun o) s
+abbrev pub OneFollows : single.Single → PlainKernel → List TickInput → Type 0
+OneFollows o = CodeFollows (single.code_of o) (single.HasRun o)
+
+-- this was done with each kernel for which a code stands
+abbrev pub DidForEach : PlainCode → (PlainKernel → Status → Type 0) → Status → Type 0
+DidForEach c Did end = (k : PlainKernel) → WellFormed k → Stands c k → Did k end

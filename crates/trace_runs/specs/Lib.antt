@@ -4,6 +4,7 @@ pub mod Hosting
 pub mod KernelNames
 pub mod Led
 pub mod Orders
+pub mod Prints
 pub mod Progress
 pub mod Report
 pub mod Rewriting

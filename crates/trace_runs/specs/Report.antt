@@ -1,9 +1,9 @@
 -- What a kernel prints for a trace, and the status.
 use Rattle.std.specs.Prelude.{ℕ, ◌+◌, ◌-◌, List, [], ◌∷◌, ◌++◌, Option, Some, None, Result, Ok, Err, if◌then◌else◌}
 use Rattle.std.specs.Option.{option_map}
-use Rattle.forec_base.specs.declared.limits.TheConstants.{MAX_ROWS}
 use Rattle.forec_kernel.specs.declared.shape.Outcome.{Outcome}
 use Rattle.forec_kernel.specs.declared.shape.Outcome.TheVariants as outcome
+use Rattle.forec_kernel.specs.Composed.{TickInput}
 use Rattle.forec_kernel.specs.Shapes.{PlainKernel}
 use Rattle.forec_kernel.specs.Ticks.{State, Fresh, Tick, tick, goes_on, run_from}
 use Rattle.trace_rows.specs.Trace.{Row, End, Trace, header_at, row_at, trace_of}
@@ -16,10 +16,6 @@ use Rattle.trace_runs.specs.declared.status.Status.TheVariants as status
 pub record Report : Type 0 where
   pub bytes : List ℕ
   pub status : Status
-
--- the most rows of a trace
-abbrev pub most_rows : ℕ
-most_rows = MAX_ROWS
 
 -- ---- the whole report
 
@@ -43,6 +39,13 @@ abbrev pub end_of_trace : Option RowFault → ℕ → Report
 end_of_trace None n = record { bytes = rows_line (n - 1); status = status.Done }
 end_of_trace (Some f) n = record { bytes = row_line n f; status = status.Trace }
 
+-- the status of a run whose last tick went so, where it stops there
+abbrev pub status_after : Outcome → Status
+status_after outcome.Paused = status.Done
+status_after outcome.Ended = status.Done
+status_after (outcome.Trapped place trap) = status.Trapped
+status_after outcome.Over = status.Over
+
 -- what comes after the lines of the ticks, of which the last went so
 abbrev pub ending : Outcome → End → Report
 ending outcome.Paused end = end_of_trace end.cause end.line
@@ -58,9 +61,22 @@ abbrev pub report_from : PlainKernel → ℕ → State → ℕ → Trace → Rep
 report_from k budget s n trace =
     let ticks = run_from k budget s trace.rows in behind_bytes (lines_from k budget n ticks) (ending (last_outcome ticks) trace.end)
 
--- the report of a kernel for the bytes of a trace
-unfoldable pub trace_report : PlainKernel → ℕ → List ℕ → Report
-trace_report k budget bytes = report_from k budget Fresh 1 (trace_of (input_names k) most_rows bytes)
+-- the report of a kernel for the bytes of a trace, of which at most `limit` rows are run
+unfoldable pub trace_report : (limit : ℕ) → PlainKernel → ℕ → List ℕ → Report
+trace_report limit k budget bytes = report_from k budget Fresh 1 (trace_of (input_names k) limit bytes)
+
+-- ---- the ticks of a run
+
+-- the ticks of a kernel over rows, up to the first at which it doesn't go on: each with its row and its budget
+abbrev pub turns_from : PlainKernel → ℕ → State → List Row → List TickInput
+turns_from k budget s [] = []
+turns_from k budget s (row ∷ rows) =
+    let t = tick k budget s row in
+    record { row = row; budget = budget } ∷ (if goes_on t.outcome then turns_from k budget t.state rows else [])
+
+-- the ticks of a kernel over the rows of a trace
+unfoldable pub trace_turns : (limit : ℕ) → PlainKernel → ℕ → List ℕ → List TickInput
+trace_turns limit k budget bytes = turns_from k budget Fresh (trace_of (input_names k) limit bytes).rows
 
 -- ---- the report so far
 
@@ -79,18 +95,18 @@ printed_before bytes p = record { state = p.state; next = p.next; bytes = bytes 
 
 -- What these lines print, of which the first is line n, where each is a row and the program goes on at each. The inputs stand at
 -- these places of the header.
-abbrev pub advance : PlainKernel → ℕ → List ℕ → State → ℕ → List (List ℕ) → Option Pace
-advance k budget places s n [] = Some (record { state = s; next = n; bytes = [] })
-advance k budget places s n (line ∷ lines) = with_row (row_at most_rows places n line) (λ row.
+abbrev pub advance : (limit : ℕ) → PlainKernel → ℕ → List ℕ → State → ℕ → List (List ℕ) → Option Pace
+advance limit k budget places s n [] = Some (record { state = s; next = n; bytes = [] })
+advance limit k budget places s n (line ∷ lines) = with_row (row_at limit places n line) (λ row.
     let t = tick k budget s row in
-    if goes_on t.outcome then option_map (printed_before (tick_lines k budget n t)) (advance k budget places t.state (n + 1) lines) else None)
+    if goes_on t.outcome then option_map (printed_before (tick_lines k budget n t)) (advance limit k budget places t.state (n + 1) lines) else None)
 
 abbrev pub with_header : Result (List ℕ) RowFault → (List ℕ → Option (List ℕ)) → Option (List ℕ)
 with_header (Ok places) bytes = bytes places
 with_header (Err e) bytes = None
 
 -- what a kernel has printed for these first lines of a trace, where none of them stops it
-unfoldable pub printed_for : PlainKernel → ℕ → List (List ℕ) → Option (List ℕ)
-printed_for k budget [] = Some []
-printed_for k budget (header ∷ lines) =
-    with_header (header_at (input_names k) header) (λ places. option_map (λ p. p.bytes) (advance k budget places Fresh 1 lines))
+unfoldable pub printed_for : (limit : ℕ) → PlainKernel → ℕ → List (List ℕ) → Option (List ℕ)
+printed_for limit k budget [] = Some []
+printed_for limit k budget (header ∷ lines) =
+    with_header (header_at (input_names k) header) (λ places. option_map (λ p. p.bytes) (advance limit k budget places Fresh 1 lines))

@@ -1,19 +1,27 @@
 -- What a run over a trace begins with.
-use Rattle.forec_base.specs.declared.limits.TheConstants.{MAX_BUDGET}
-use Rattle.std.specs.Prelude.{◌≡◌, ◌≤◌, [], length}
-use Rattle.forec_base.specs.declared.limits.TheConstants.{MAX_INPUTS}
-use Rattle.forec_kernel.specs.Shapes.{PlainKernel}
-use Rattle.trace_runs.specs.KernelNames.{input_names, output_names}
+use Rattle.forec_base.specs.declared.limits.TheConstants.{MAX_BUDGET, MAX_INPUTS, MAX_ROWS}
+use Rattle.std.specs.Prelude.{◌≡◌, ◌≤◌, [], true, length}
+use Rattle.forec_kernel.specs.Shapes.{PlainShape}
+use Rattle.trace_rows.specs.Reader.{Reader}
+use Rattle.trace_runs.specs.KernelNames.{inputs_of, outputs_of}
 use Rattle.trace_runs.specs.WaitingRoom.{HasRoom}
 use Rattle.trace_runs.specs.declared.session.Session.{Session}
 
--- it has the names and the places of a kernel's inputs and outputs, no line waits, and there is room for lines
-pub record IsSessionOf (k : PlainKernel) (s : Session) : Type 0 where
+-- it has the names and the places of the inputs and outputs of a shape, no line waits, and there is room for lines
+pub record IsSessionOf (shape : PlainShape) (s : Session) : Type 0 where
   pub small : s.budget ≤ MAX_BUDGET
-  pub inputs : s.inputs ≡ input_names k
+  pub rows : s.limit ≤ MAX_ROWS
+  pub inputs : s.inputs ≡ inputs_of shape
   pub few : length s.inputs ≤ MAX_INPUTS
-  pub image : length s.image.inputs.items ≡ length k.shape.inputs
-  pub outputs : length s.image.outputs.items ≡ length k.shape.outputs
+  pub image : length s.image.inputs.items ≡ length shape.inputs
+  pub outputs : length s.image.outputs.items ≡ length shape.outputs
   pub none : s.waiting.bytes.items ≡ []
   pub ample : HasRoom s.waiting 128
-  pub names : s.waiting.names ≡ output_names k
+  pub names : s.waiting.names ≡ outputs_of shape
+
+-- the header was read for a session, and no row yet
+pub record AreRowsOf (s : Session) (r : Reader) : Type 0 where
+  pub limit : r.limit ≡ s.limit
+  pub number : r.given ≡ 0
+  pub each : length r.places ≡ length s.image.inputs.items
+  pub live : r.live ≡ true

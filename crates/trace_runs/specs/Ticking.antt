@@ -1,19 +1,35 @@
--- What a tick is for who runs a kernel, of which these are the states that its ticks so far may have led to.
-use Rattle.std.specs.Prelude.{◌≡◌, ℕ, true}
-use Rattle.forec_kernel.specs.Shapes.{PlainKernel}
-use Rattle.forec_kernel.specs.Ticks.{State, tick, goes_on}
+-- What a tick is for who runs kernels, and how a run by it begins.
+use Rattle.std.specs.Prelude.{◌≡◌, ◌++◌, ◌∷◌, [], List, Bool, true}
+use Rattle.forec_kernel.specs.Composed.{TickInput, state_after}
+use Rattle.forec_kernel.specs.Shapes.{PlainShape, PlainKernel}
+use Rattle.forec_kernel.specs.Ticks.{Fresh, Tick, tick}
 use Rattle.forec_kernel.specs.declared.shape.Outcome.{Outcome}
 use Rattle.tick_jobs.specs.Outcomes.{HasOutputs}
 use Rattle.trace_rows.specs.Trace.{Row}
+use Rattle.trace_runs.specs.declared.status.Status.{Status}
 
--- the tick's outcome
-abbrev pub GivesOutcome : (State → Type 0) → PlainKernel → ℕ → Row → Outcome → Type 0
-GivesOutcome Follows k budget row o = (s : State) → Follows s → o ≡ (tick k budget s row).outcome
+-- the tick of a kernel after these ticks
+abbrev pub tick_after : PlainKernel → List TickInput → TickInput → Tick
+tick_after k turns turn = tick k turn.budget (state_after k Fresh turns) turn.row
 
--- the tick's outputs, where it pauses or ends
-abbrev pub GivesOutputs : (State → Type 0) → PlainKernel → ℕ → Row → Row → Outcome → Type 0
-GivesOutputs Follows k budget row outputs o = (s : State) → Follows s → HasOutputs o → outputs ≡ (tick k budget s row).outputs
+-- One tick more was run: its outcome, and the outputs' values where it has any. `Old` and `New` say which kernels are run, and which ticks
+-- of them were.
+pub record RunsOnce (Old New : PlainKernel → List TickInput → Type 0) (turn : TickInput) (values : Row) (o : Outcome) : Type 0 where
+  pub outcome : (k : PlainKernel) (turns : List TickInput) → Old k turns → o ≡ (tick_after k turns turn).outcome
+  pub outputs : (k : PlainKernel) (turns : List TickInput) → Old k turns → HasOutputs o → values ≡ (tick_after k turns turn).outputs
+  pub follows : (k : PlainKernel) (turns : List TickInput) → Old k turns → New k (turns ++ turn ∷ [])
 
--- the state after the tick, where the program goes on
-abbrev pub LeadsOn : (State → Type 0) → (State → Type 0) → PlainKernel → ℕ → Row → Outcome → Type 0
-LeadsOn Follows Now k budget row o = (s : State) → Follows s → goes_on o ≡ true → Now (tick k budget s row).state
+-- a kernel of this shape is run, and no tick of it was yet
+pub record Starts (shape : PlainShape) (Follows : PlainKernel → List TickInput → Type 0) (k : PlainKernel) : Type 0 where
+  pub shaped : k.shape ≡ shape
+  pub fresh : Follows k []
+
+-- this was done with each kernel that is run from its start
+abbrev pub DidFromStart : PlainShape → (PlainKernel → List TickInput → Type 0) → (PlainKernel → Status → Type 0) → Status → Type 0
+DidFromStart shape Follows Did end = (k : PlainKernel) → Starts shape Follows k → Did k end
+
+-- a run can begin: what it needs of the shape is there, the program goes on, and each tick has all the memory that it needs
+pub record CanLead (Can : PlainShape → Type 0) (shape : PlainShape) (Live : Type 0) (is_ready : Bool) : Type 0 where
+  pub can : Can shape
+  pub live : Live
+  pub ready : is_ready ≡ true

@@ -4,7 +4,7 @@ use Rattle.std.specs.Int.{cast_unsigned, w32}
 use Rattle.std.specs.List.{sum_by}
 use Rattle.forec_kernel.specs.declared.shape.Outcome.{Outcome}
 use Rattle.forec_kernel.specs.declared.shape.Outcome.TheVariants as outcome
-use Rattle.forec_kernel.specs.Shapes.{PlainKernel}
+use Rattle.forec_kernel.specs.Shapes.{PlainShape, PlainKernel}
 use Rattle.forec_kernel.specs.Ticks.{Fresh, Tick, run_from}
 use Rattle.trace_rows.specs.Report.{trap_line, over_line}
 use Rattle.trace_runs.specs.Report.{Report, last_outcome}
@@ -12,12 +12,12 @@ use Rattle.trace_runs.specs.declared.generated.TheConstants.{WORKLOAD_TICKS}
 use Rattle.trace_runs.specs.declared.status.Status.TheVariants as status
 
 -- each input is 0; the text of a workload has none
-abbrev pub zero_row : PlainKernel → List ℤ
-zero_row k = replicate (length k.shape.inputs) (pos 0)
+abbrev pub zero_row : PlainShape → List ℤ
+zero_row s = replicate (length s.inputs) (pos 0)
 
 -- the ticks of a workload: so many rows, or fewer where a tick doesn't pause
 abbrev pub workload_ticks : PlainKernel → ℕ → List Tick
-workload_ticks k budget = run_from k budget Fresh (replicate WORKLOAD_TICKS (zero_row k))
+workload_ticks k budget = run_from k budget Fresh (replicate WORKLOAD_TICKS (zero_row k.shape))
 
 -- the sum of values, each as 32 bits, modulo 2^32
 abbrev pub values_sum : List ℤ → ℕ

@@ -1,20 +1,19 @@
 //! What the calling thread does beside the workers of the other cores.
 
 ghost use Rattle.std.specs.Prelude.{◌≡◌, ◌+◌, ◌<◌, ◌≤◌, [], true, length, IfOk, OnErr, vec_len, vec_capacity};
-ghost use Rattle.forec_kernel.specs.Shapes.{plain_kernel};
-ghost use Rattle.forec_kernel.specs.Ticks.{Fresh};
-ghost use Rattle.core_host.specs.Hosted.{is_here, is_live};
-ghost use Rattle.trace_runs.specs.Hosting.{HostFollows};
+ghost use Rattle.core_host.specs.Hosted.{code_of, is_here, is_live};
+ghost use Rattle.core_host.specs.Runs.{HasRun};
+ghost use Rattle.trace_runs.specs.Hosting.{DidForEach};
+ghost use Rattle.trace_runs.specs.Ticking.{CanLead, DidFromStart};
 
+use crate::hosted::{Root, StopWorkers};
 use crate::lead::Lead;
-use crate::runner::{Runner, StopWorkers};
 use crate::setting::{Company, Setting};
 use crate::status::Status;
 use crate::ticker::Ticker;
 use copy_slots::Port;
 use core_host::{ForecWork, Host, Serve, Worker};
 use forec_base::{Gate, OutOfMemory};
-use forec_kernel::Kernel;
 use std::alloc::{AllocError, Global};
 use std::sync::{Mutex, Wait};
 use std::thread::Threads;
@@ -116,11 +115,8 @@ impl<'a, 'w, H: Runnable + Serve, G: Gate, R: Wait> Workers<'a, 'w, H, G, R> {
         job: &mut J,
     ) -> Status
         requires room { (vec_len others.old.workers ≡ 0) × (length self.now.all.now ≤ vec_capacity others.old.workers) }
-        requires can { J.can job.old (T.kernel ticker.old) }
-        requires follows { T.follows ticker.old Fresh }
-        requires live { T.live ticker.old ≡ true }
-        requires ready { T.ready ticker.old ≡ true }
-        ensures { J.did job.old job.new (T.kernel ticker.old) result }
+        requires can { CanLead (J.can job.old) (T.shape ticker.old) (T.live ticker.old) (T.ready ticker.old) }
+        ensures { DidFromStart (T.shape ticker.old) (T.follows ticker.old) (J.did job.old job.new) result }
     {
         take_others(self.rt, self.all, &mut others.workers);
         let mut company = Company {
@@ -149,21 +145,16 @@ impl<'a, 'w, H: Runnable + Serve + Send, G: Gate, R: Threads + Wait + Sync> Work
         job: &mut J,
     ) -> Status
         requires room { (vec_len others.old.workers ≡ 0) × (length self.now.all.now ≤ vec_capacity others.old.workers) }
-        requires can { J.can job.old (T.kernel ticker.old) }
-        requires follows { T.follows ticker.old Fresh }
-        requires live { T.live ticker.old ≡ true }
-        requires ready { T.ready ticker.old ≡ true }
-        ensures { J.did job.old job.new (T.kernel ticker.old) result }
+        requires can { CanLead (J.can job.old) (T.shape ticker.old) (T.live ticker.old) (T.ready ticker.old) }
+        ensures { DidFromStart (T.shape ticker.old) (T.follows ticker.old) (J.did job.old job.new) result }
     {
         with_workers(
             self.rt,
             self.all,
             &mut || -> Status
-                requires room { (vec_len others.now.workers ≡ 0) × (length self.now.all.now ≤ vec_capacity others.now.workers) }
-                requires can { J.can job.now (T.kernel ticker.now) }
-                requires follows { T.follows ticker.now Fresh }
-                requires live { T.live ticker.now ≡ true }
-                requires ready { T.ready ticker.now ≡ true }
+                requires room { (vec_len others.now.workers ≡ 0)
+                    × (length self.now.all.now ≤ vec_capacity others.now.workers) }
+                requires can { CanLead (J.can job.now) (T.shape ticker.now) (T.live ticker.now) (T.ready ticker.now) }
             { self.lead_beside(others, ticker, job) },
         )
     }
@@ -179,11 +170,8 @@ impl<'a, 'w, H: Runnable + Serve + Send, G: Gate, R: Threads + Wait + Sync> Work
         ticker: &mut T,
         job: &mut J,
     ) -> Result<Status, OutOfMemory>
-        requires can { J.can job.old (T.kernel ticker.old) }
-        requires follows { T.follows ticker.old Fresh }
-        requires live { T.live ticker.old ≡ true }
-        requires ready { T.ready ticker.old ≡ true }
-        ensures ok { IfOk result (J.did job.old job.new (T.kernel ticker.old)) }
+        requires can { CanLead (J.can job.old) (T.shape ticker.old) (T.live ticker.old) (T.ready ticker.old) }
+        ensures ok { IfOk result (DidFromStart (T.shape ticker.old) (T.follows ticker.old) (J.did job.old job.new)) }
         ensures err { OnErr result (job.new ≡ job.old) }
     {
         let room = Vec::with_capacity(alloc, self.all.len())?;
@@ -205,16 +193,14 @@ pub fn lead_hosts<
     R: Threads + Wait + Sync,
 >(
     setting: &Setting<'_, G, R>,
-    kernel: &'c Kernel,
     root: Host<'c, P>,
     workers: Vec<Worker<'c, P>>,
     job: &mut J,
 ) -> Result<Status, OutOfMemory>
     requires root { is_here root 0 ≡ true }
-    requires follows { HostFollows (plain_kernel kernel.now) root Fresh }
-    requires live { is_live root ≡ true }
-    requires can { J.can job.old (plain_kernel kernel.now) }
-    ensures ok { IfOk result (J.did job.old job.new (plain_kernel kernel.now)) }
+    requires none { HasRun root [] }
+    requires can { CanLead (J.can job.old) (code_of root).shape (is_live root ≡ true) true }
+    ensures ok { IfOk result (DidForEach (code_of root.entry) (J.did job.old job.new)) }
     ensures err { OnErr result (job.new ≡ job.old) }
 {
     let pending = pending_workers(setting.alloc, workers, setting.gate)?;
@@ -223,6 +209,6 @@ pub fn lead_hosts<
         gate: setting.gate,
         all: &pending,
     };
-    let mut runner = Runner::new(kernel, root);
-    workers.lead(setting.alloc, &mut runner, job)
+    let mut root = Root { host: root };
+    workers.lead(setting.alloc, &mut root, job)
 }

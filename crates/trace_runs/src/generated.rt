@@ -1,9 +1,11 @@
 //! The ticks of a workload.
 ghost use Rattle.forec_base.specs.declared.limits.TheConstants.{MAX_BUDGET};
 ghost use Rattle.std.specs.Prelude.{◌≡◌, ◌≢◌, ◌≤◌, ◌+◌, ◌%◌, ◌^◌, true, length};
-ghost use Rattle.forec_kernel.specs.Ticks.{Fresh};
+ghost use Rattle.forec_kernel.specs.Shapes.{PlainKernel};
 ghost use Rattle.trace_runs.specs.Ends.{IsOwn};
-ghost use Rattle.trace_runs.specs.WaitingRoom.{HasRoom, Gains};
+ghost use Rattle.trace_runs.specs.Progress.{IsPut};
+ghost use Rattle.trace_runs.specs.Ticking.{Starts};
+ghost use Rattle.trace_runs.specs.WaitingRoom.{HasRoom};
 ghost use Rattle.trace_runs.specs.Workload.{values_sum, zero_row, ticked_report};
 
 use crate::image::Image;
@@ -40,21 +42,20 @@ pub fn run_workload<T: Ticker, O: Serve, G: Gate, R: Wait>(
     budget: u64,
     waiting: &mut Waiting,
 ) -> Status
-    requires follows { T.follows ticker.old Fresh }
-    requires live { T.live ticker.old ≡ true }
+    requires live { T.live ticker.old }
     requires ready { T.ready ticker.old ≡ true }
-    requires zeros { image.old.inputs.items ≡ zero_row (T.kernel ticker.old) }
-    requires outputs { length image.old.outputs.items ≡ length (T.kernel ticker.old).shape.outputs }
+    requires zeros { image.old.inputs.items ≡ zero_row (T.shape ticker.old) }
+    requires outputs { length image.old.outputs.items ≡ length (T.shape ticker.old).outputs }
     requires small { budget ≤ MAX_BUDGET }
     requires room { HasRoom waiting.old 128 }
     ensures own { IsOwn result }
     ensures usage { result ≢ Status.Usage }
-    ensures status { result ≡ (ticked_report threads (T.kernel ticker.old) budget).status }
-    ensures bytes { Gains waiting.old waiting.new (ticked_report threads (T.kernel ticker.old) budget).bytes }
+    ensures report { (k : PlainKernel) → Starts (T.shape ticker.old) (T.follows ticker.old) k
+        → IsPut waiting.old waiting.new (ticked_report threads k budget) result }
 {
     let mut sum = 0;
     for tick in 0..WORKLOAD_TICKS {
-        let Ok(outcome) = image.tick(company, ticker, budget) else {
+        let Ok(outcome) = ticker.tick(company, &image.inputs, budget, &mut image.outputs) else {
             unreachable!()
         };
         match outcome {

@@ -1,68 +1,60 @@
 //! Runs with the threads placed on cores: by hosts, or on one core alone.
 
 ghost use Rattle.forec_base.specs.declared.limits.TheConstants.{MAX_BUDGET};
-ghost use Rattle.std.specs.Prelude.{◌≡◌, ◌≤◌, ◌^◌, length, IfOk, OnErr};
+ghost use Rattle.std.specs.Prelude.{◌≡◌, ◌≤◌, length, IfOk, OnErr};
 ghost use Rattle.forec_kernel.specs.Shapes.{plain_kernel};
-ghost use Rattle.thread_code.specs.Alone.{Stands};
 ghost use Rattle.thread_code.specs.Plain.{plain_code};
 ghost use Rattle.board_hosts.specs.Boards.{ArePorts};
 ghost use Rattle.core_bells.specs.Ropes.{new_ropes};
-ghost use Rattle.trace_runs.specs.Led.{RunsRows, RunsWorkload};
+ghost use Rattle.trace_runs.specs.Hosting.{DidForEach};
+ghost use Rattle.trace_runs.specs.Led.{RunsRows};
+ghost use Rattle.trace_runs.specs.Prints.{Says};
 ghost use Rattle.trace_runs.specs.Workload.{ticked_report};
 
 use crate::beside::lead_hosts;
 use crate::lead::Lead;
-use crate::loading::{make_bells, make_board};
 use crate::session::Session;
-use crate::setting::Setting;
-use crate::solo::lead_alone;
+use crate::setting::{Company, Nobody, Setting};
 use crate::status::Status;
 use crate::trace_run::TraceRun;
 use crate::workload_run::WorkloadRun;
-use board_hosts::{Hosts, hosts_of};
+use board_hosts::{Hosts, board_of, hosts_of};
 use code_gen::generate;
 use core_alloc::Placement;
 use core_bells::{Bells, GivesRopes};
 use core_host::ForecWork;
-use forec_base::{Gate, OutOfMemory, Sink, Source};
+use forec_base::{Gate, MAX_ROWS, OutOfMemory, Sink, Source};
 use forec_kernel::Kernel;
+use one_core::OneCore;
 use slot_board::{GivesPorts, SlotBoard};
 use std::sync::Wait;
 use std::thread::Threads;
 use thread_code::Code;
 
-/// A kernel and its code.
-#[derive(Clone, Copy)]
-struct Compiled<'c> {
-    kernel: &'c Kernel,
-    code: &'c Code,
-}
-
-/// Leads by hosts of a code that stands for a kernel, over a board and bells that gave out nothing yet.
+/// Leads by the hosts of a code, over a board and bells that gave out nothing yet.
 ///
 /// # Errors
 ///
 /// Out of memory. Then nothing was done.
 fn lead_over<'b, 'c, J: Lead, G: Gate + Sync, R: Threads + Wait + Sync>(
     setting: &Setting<'_, G, R>,
-    compiled: Compiled<'c>,
+    code: &'c Code,
     placement: &Placement,
     board: &'b mut SlotBoard<ForecWork>,
     bells: &'c mut Bells,
     job: &mut J,
 ) -> Result<Status, OutOfMemory>
-    requires stands { Stands (plain_code compiled.code.now) (plain_kernel compiled.kernel.now) }
     requires whole { ⟦<SlotBoard<ForecWork> as GivesPorts<ForecWork>>⟧.is_whole board.old }
-    requires ports { ArePorts compiled.code.now placement.now (⟦<SlotBoard<ForecWork> as GivesPorts<ForecWork>>⟧.ports board.old) }
+    requires ports { ArePorts code.now placement.now (⟦<SlotBoard<ForecWork> as GivesPorts<ForecWork>>⟧.ports
+        board.old) }
     requires bells { ⟦<Bells as GivesRopes>⟧.is_whole bells.old }
-    requires ropes { ⟦<Bells as GivesRopes>⟧.ropes bells.old ≡ new_ropes compiled.code.now placement.now placement.now.cores }
-    requires can { J.can job.old (plain_kernel compiled.kernel.now) }
-    ensures ok { IfOk result (J.did job.old job.new (plain_kernel compiled.entry.kernel.now)) }
+    requires ropes { ⟦<Bells as GivesRopes>⟧.ropes bells.old ≡ new_ropes code.now placement.now placement.now.cores }
+    requires can { J.can job.old (plain_code code.now).shape }
+    ensures ok { IfOk result (DidForEach (plain_code code.now) (J.did job.old job.new)) }
     ensures err { OnErr result (job.new ≡ job.old) }
 {
-    let Compiled { kernel, code } = compiled;
     let Hosts { root, others } = hosts_of(setting.alloc, code, placement, board, bells)?;
-    lead_hosts(setting, kernel, root, others, job)
+    lead_hosts(setting, root, others, job)
 }
 
 /// Makes all that the hosts of several cores share, and leads by them.
@@ -72,20 +64,43 @@ fn lead_over<'b, 'c, J: Lead, G: Gate + Sync, R: Threads + Wait + Sync>(
 /// Out of memory. Then nothing was done.
 fn lead_on_cores<J: Lead, G: Gate + Sync, R: Threads + Wait + Sync>(
     setting: &Setting<'_, G, R>,
-    compiled: Compiled<'_>,
+    code: &Code,
     placement: &Placement,
     job: &mut J,
 ) -> Result<Status, OutOfMemory>
-    requires stands { Stands (plain_code compiled.code.now) (plain_kernel compiled.kernel.now) }
-    requires placed { length placement.now.places ≡ length (plain_kernel compiled.kernel.now).threads }
-    requires can { J.can job.old (plain_kernel compiled.kernel.now) }
-    ensures ok { IfOk result (J.did job.old job.new (plain_kernel compiled.entry.kernel.now)) }
+    requires placed { length placement.now.places ≡ length (plain_code code.now).threads }
+    requires can { J.can job.old (plain_code code.now).shape }
+    ensures ok { IfOk result (DidForEach (plain_code code.now) (J.did job.old job.new)) }
     ensures err { OnErr result (job.new ≡ job.old) }
 {
-    let Compiled { kernel, code } = compiled;
-    let mut board = make_board(setting.alloc, kernel, code, placement)?;
-    let mut bells = make_bells(setting.alloc, kernel, code, placement)?;
-    lead_over(setting, compiled, placement, &mut board, &mut bells, job)
+    let mut board = board_of(setting.alloc, code, placement)?;
+    let mut bells = Bells::new(setting.alloc, code, placement)?;
+    lead_over(setting, code, placement, &mut board, &mut bells, job)
+}
+
+/// Leads by all threads of a code on one core, with nobody beside. The placement says on which.
+///
+/// # Errors
+///
+/// Out of memory. Then nothing was done.
+fn lead_alone<J: Lead, G: Gate, R: Wait>(
+    setting: &Setting<'_, G, R>,
+    code: &Code,
+    placement: &Placement,
+    job: &mut J,
+) -> Result<Status, OutOfMemory>
+    requires placed { length placement.now.places ≡ length (plain_code code.now).threads }
+    requires can { J.can job.old (plain_code code.now).shape }
+    ensures ok { IfOk result (DidForEach (plain_code code.now) (J.did job.old job.new)) }
+    ensures err { OnErr result (job.new ≡ job.old) }
+{
+    let mut one = OneCore::load(setting.alloc, code, placement)?;
+    let mut company = Company {
+        rt: setting.rt,
+        gate: setting.gate,
+        others: &mut Nobody,
+    };
+    Ok(job.lead(&mut company, &mut one))
 }
 
 /// Makes a code of a kernel, and leads by its threads: all on one core where they have the same one, else by hosts.
@@ -100,19 +115,18 @@ fn lead_placed<J: Lead, G: Gate + Sync, R: Threads + Wait + Sync>(
     job: &mut J,
 ) -> Result<Status, OutOfMemory>
     requires placed { length placement.now.places ≡ length (plain_kernel kernel.now).threads }
-    requires can { J.can job.old (plain_kernel kernel.now) }
+    requires can { J.can job.old (plain_kernel kernel.now).shape }
     ensures ok { IfOk result (J.did job.old job.new (plain_kernel kernel.now)) }
     ensures err { OnErr result (job.new ≡ job.old) }
 {
     let code = generate(setting.alloc, kernel)?;
+    // Their clauses tell that the kernel is well formed, and the code valid.
+    let _ = kernel.shape();
+    let _ = code.shape();
     if placement.has_one_core() {
-        return lead_alone(setting, kernel, &code, placement, job);
+        return lead_alone(setting, &code, placement, job);
     }
-    let compiled = Compiled {
-        kernel,
-        code: &code,
-    };
-    lead_on_cores(setting, compiled, placement, job)
+    lead_on_cores(setting, &code, placement, job)
 }
 
 /// Runs a kernel over a trace, with the threads placed so. A tick may have so many units.
@@ -126,10 +140,11 @@ pub fn host_trace<S: Source, K: Sink, G: Gate + Sync, R: Threads + Wait + Sync>(
 ) -> Status
     requires placed { length placement.now.places ≡ length (plain_kernel kernel.now).threads }
     requires small { budget ≤ MAX_BUDGET }
-    ensures { RunsRows S.left S.faults S.down K.held K.faults K.down (plain_kernel kernel.now) budget trace.old trace.new out.old out.new result }
+    ensures { RunsRows S.left S.faults S.down K.held K.faults K.down MAX_ROWS (plain_kernel kernel.now) budget ⊥
+        trace.old trace.new out.old out.new result }
 {
     let alloc = setting.alloc;
-    let Ok(mut session) = Session::new(alloc, kernel, budget) else {
+    let Ok(mut session) = Session::new(alloc, kernel.shape(), budget, MAX_ROWS) else {
         return Status::NoMemory;
     };
     let mut job = TraceRun {
@@ -155,9 +170,10 @@ pub fn host_workload<K: Sink, G: Gate + Sync, R: Threads + Wait + Sync>(
 ) -> Status
     requires placed { length placement.now.places ≡ length (plain_kernel kernel.now).threads }
     requires small { budget ≤ MAX_BUDGET }
-    ensures { RunsWorkload K.held K.faults K.down (ticked_report threads (plain_kernel kernel.now) budget) out.old out.new result }
+    ensures { Says K.held K.faults K.down (ticked_report threads (plain_kernel kernel.now) budget) ⊥ out.old out.new
+        result }
 {
-    let Ok(mut session) = Session::new(setting.alloc, kernel, budget) else {
+    let Ok(mut session) = Session::new(setting.alloc, kernel.shape(), budget, MAX_ROWS) else {
         return Status::NoMemory;
     };
     let mut job = WorkloadRun {

@@ -1,21 +1,20 @@
-//! Runs of a kernel: over the rows of a trace, by hosts beside workers or by rewriting; and over the rows of a workload.
+//! Runs of a kernel: over the rows of a trace, by hosts beside workers or by rewriting; and over the rows of a
+//! workload.
 #![tactic(auto)]
 
 mod beside;
 mod generated;
+mod hosted;
 mod hosting;
 mod image;
 mod lead;
-mod loading;
 mod names;
 mod orders;
 mod rewriter;
 mod rewriting;
-mod runner;
 mod session;
 mod setting;
 mod sink;
-mod solo;
 mod status;
 mod ticker;
 mod ticks;
@@ -23,9 +22,13 @@ mod trace_run;
 mod waiting;
 mod workload_run;
 
+pub use hosted::Alone;
 pub use hosting::{host_trace, host_workload};
 pub use rewriting::rewrite_trace;
-pub use setting::Setting;
+pub use session::Session;
+pub use setting::{Company, Nobody, Setting};
 pub use sink::say;
 pub use status::Status;
+pub use ticker::Ticker;
+pub use ticks::run;
 pub use waiting::Waiting;

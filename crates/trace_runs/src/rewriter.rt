@@ -16,8 +16,8 @@ use kernel_meaning::{State, rewrite_tick};
 use std::alloc::Global;
 use std::sync::Wait;
 
-/// A program that runs by rewriting: its kernel, where it stands, the order of the steps of each tick, and whether each
-/// tick so far has paused.
+/// A program that runs by rewriting: its kernel, where it stands, the order of the steps of each tick, and whether
+/// each tick so far has paused.
 #[derive(Drop)]
 pub struct Rewriter<'k> {
     pub kernel: &'k Kernel,
@@ -47,8 +47,8 @@ impl<'k> Rewriter<'k> {
         })
     }
 
-    /// Runs one tick, over a row of the inputs' values in order of declaration, which may have so many units. Where it
-    /// pauses or ends the outputs get their values.
+    /// Runs one tick, over a row of the inputs' values in order of declaration, which may have so many units. Where
+    /// it pauses or ends the outputs get their values.
     ///
     /// # Errors
     ///
@@ -63,7 +63,8 @@ impl<'k> Rewriter<'k> {
         ensures kernel { self.new.kernel.now ≡ self.old.kernel.now }
         ensures outcome { IfOk result (λ o. o ≡ (rewritten self.old budget row.now).outcome) }
         ensures outputs { IfOk result (λ o. HasOutputs o → outputs.new ≡ (rewritten self.old budget row.now).outputs) }
-        ensures state { IfOk result (λ o. plain_state self.new.state.value ≡ (rewritten self.old budget row.now).state) }
+        ensures state { IfOk result (λ o. plain_state self.new.state.value ≡ (rewritten self.old budget
+            row.now).state) }
         ensures live { IfOk result (λ o. self.new.live ≡ goes_on o) }
     {
         let (outcome, state) = rewrite_tick(
@@ -82,15 +83,18 @@ impl<'k> Rewriter<'k> {
 }
 
 impl<'k> Ticker for Rewriter<'k> {
-    ghost use Rattle.std.specs.Prelude.{◌≡◌, false};
-    ghost use Rattle.forec_kernel.specs.Shapes.{plain_kernel};
+    ghost use Rattle.std.specs.Prelude.{◌≡◌, true, false};
+    ghost use Rattle.forec_kernel.specs.Composed.{state_after};
+    ghost use Rattle.forec_kernel.specs.Shapes.{plain_shape, plain_kernel};
+    ghost use Rattle.forec_kernel.specs.Ticks.{Fresh};
     ghost use Rattle.kernel_meaning.specs.States.{plain_state};
 
-    ghost kernel = { λ r. plain_kernel r.kernel.now };
+    ghost shape = { λ r. plain_shape r.kernel.now.shape };
 
-    ghost follows = { λ r s. s ≡ plain_state r.state.value };
+    ghost follows = { λ r k turns. (k ≡ plain_kernel r.kernel.now)
+        × (plain_state r.state.value ≡ state_after k Fresh turns) };
 
-    ghost live = { λ r. r.live };
+    ghost live = { λ r. r.live ≡ true };
 
     ghost ready = { λ r. false };
 

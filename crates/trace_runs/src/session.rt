@@ -1,8 +1,9 @@
 //! What a run over a trace needs beside its ticker and its streams.
 
-ghost use Rattle.forec_base.specs.declared.limits.TheConstants.{MAX_BUDGET};
-ghost use Rattle.std.specs.Prelude.{◌≤◌, ◌^◌, ◌≡◌, IfOk};
-ghost use Rattle.forec_kernel.specs.Shapes.{plain_kernel};
+ghost use Rattle.forec_base.specs.declared.limits.TheConstants.{MAX_BUDGET, MAX_ROWS};
+ghost use Rattle.std.specs.Prelude.{◌≤◌, ◌≡◌, IfOk};
+ghost use Rattle.forec_kernel.specs.Shapes.{plain_shape};
+ghost use Rattle.trace_runs.specs.KernelNames.{IsNamed};
 ghost use Rattle.trace_runs.specs.Sessions.{IsSessionOf};
 ghost use Rattle.trace_runs.specs.Workload.{zero_row};
 
@@ -10,7 +11,7 @@ use crate::image::Image;
 use crate::names::pick_names;
 use crate::waiting::Waiting;
 use forec_base::{Labels, OutOfMemory};
-use forec_kernel::Kernel;
+use forec_kernel::Shape;
 use std::alloc::Global;
 
 /// What a run over a trace needs beside its ticker and its streams.
@@ -21,23 +22,33 @@ pub struct Session {
     pub image: Image,
     /// How many units a tick may have, at most 2^62.
     pub budget: u64,
+    /// How many rows are run, at most 1,000,000,000.
+    pub limit: u64,
     /// The lines that were not written yet.
     pub waiting: Waiting,
 }
 
 impl Session {
-    /// For a run of this kernel, of which no line was written yet. A tick may have so many units.
+    /// For a run of a program of this shape, of which no line was written yet. A tick may have so many units, and so
+    /// many rows are run.
     ///
     /// # Errors
     ///
     /// Out of memory.
-    pub fn new(alloc: Global, kernel: &Kernel, budget: u64) -> Result<Session, OutOfMemory>
-        requires { budget ≤ MAX_BUDGET }
-        ensures session { IfOk result (IsSessionOf (plain_kernel kernel.now)) }
+    pub fn new(
+        alloc: Global,
+        shape: &Shape,
+        budget: u64,
+        limit: u64,
+    ) -> Result<Session, OutOfMemory>
+        requires named { IsNamed (plain_shape shape.now) }
+        requires small { budget ≤ MAX_BUDGET }
+        requires rows { limit ≤ MAX_ROWS }
+        ensures session { IfOk result (IsSessionOf (plain_shape shape.now)) }
         ensures budget { IfOk result (λ s. s.budget ≡ budget) }
-        ensures zeros { IfOk result (λ s. s.image.inputs.items ≡ zero_row (plain_kernel kernel.now)) }
+        ensures limit { IfOk result (λ s. s.limit ≡ limit) }
+        ensures zeros { IfOk result (λ s. s.image.inputs.items ≡ zero_row (plain_shape shape.now)) }
     {
-        let shape = kernel.shape();
         let inputs = pick_names(alloc, &shape.names, &shape.inputs)?;
         let outputs = pick_names(alloc, &shape.names, &shape.outputs)?;
         let waiting = Waiting::new(alloc, outputs)?;
@@ -46,6 +57,7 @@ impl Session {
             inputs,
             image,
             budget,
+            limit,
             waiting,
         })
     }

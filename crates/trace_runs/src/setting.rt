@@ -12,8 +12,8 @@ pub struct Setting<'a, G, R> {
     pub gate: &'a G,
 }
 
-/// Who is there while a program ticks: the runtime, the gate that the cores pass, and the others, who are served while the
-/// calling thread waits.
+/// Who is there while a program ticks: the runtime, the gate that the cores pass, and the others, who are served
+/// while the calling thread waits.
 #[derive(Drop)]
 pub struct Company<'a, O, G, R> {
     pub rt: &'a R,

@@ -1,9 +1,10 @@
 //! Writing to a sink that takes a front of each piece.
-ghost use Rattle.std.specs.Prelude.{◌≡◌, ◌≢◌, OnOk, OnErr};
+ghost use Rattle.std.specs.Prelude.{◌≡◌, OnOk, OnErr};
 ghost use Rattle.std.specs.Io.KnownBytes.{Appends};
-ghost use Rattle.forec_base.specs.Outside.{Fell};
 ghost use Rattle.trace_rows.specs.Calls.{Faults};
 ghost use Rattle.trace_runs.specs.Calls.{AppendsFront};
+ghost use Rattle.trace_runs.specs.Ends.{IsOwn};
+ghost use Rattle.trace_runs.specs.Prints.{Says};
 
 use crate::Status;
 use forec_base::{Failed, Sink};
@@ -24,13 +25,11 @@ pub fn write_all<K: Sink>(out: &mut K, bytes: &[u8]) -> Result<(), Failed>
     Ok(())
 }
 
-/// Writes the last line, and gives the status.
+/// Writes the last line, and gives the status, which is a report's own.
 pub fn say<K: Sink>(out: &mut K, line: &[u8], status: Status) -> Status
-    requires { status ≢ Status.WriteFault }
-    ensures said { result ≢ Status.WriteFault → result ≡ status }
-    ensures line { result ≢ Status.WriteFault → Appends (K.held out.old) (K.held out.new) line.now }
-    ensures fault { result ≡ Status.WriteFault → Fell (K.faults out.old) (K.faults out.new) (K.down out.new) }
-    ensures front { result ≡ Status.WriteFault → AppendsFront (K.held out.old) (K.held out.new) line.now }
+    requires { IsOwn status }
+    ensures { Says K.held K.faults K.down (record { bytes = line.now; status = status }) (status ≡ Status.Usage)
+        out.old out.new result }
 {
     match write_all(out, line) {
         Ok(()) => status,

@@ -7,7 +7,7 @@ ghost use Rattle.trace_runs.specs.StatusNumbers.{number_of};
 pub enum Status {
     /// It did its work: the program ended, or the trace did, or it was accepted.
     Done,
-    /// The words aren't a command.
+    /// The words aren't a command, or their list of places is refused.
     Usage,
     /// The text is too long, or isn't accepted.
     Refused,
@@ -21,7 +21,7 @@ pub enum Status {
     ReadFault,
     /// The report couldn't be written.
     WriteFault,
-    /// There is no memory left. Nothing was written.
+    /// There is no memory left. Nothing was written; of a program that is rewritten perhaps the front of a report.
     NoMemory,
 }
 

@@ -1,18 +1,18 @@
 //! The loop over the rows of a trace.
-ghost use Rattle.forec_base.specs.declared.limits.TheConstants.{MAX_BUDGET};
-ghost use Rattle.std.specs.Prelude.{◌≡◌, ◌≢◌, ◌≤◌, ◌++◌, ◌^◌, true, false, List, ℕ, OnOk, OnErr, IfOk, IfErr, Err, IfSome, [], length};
+ghost use Rattle.std.specs.Prelude.{◌≡◌, ◌≢◌, ◌≤◌, ◌++◌, true, false, List, ℕ, OnOk, OnErr, IfSome, [], length};
 ghost use Rattle.std.specs.Io.KnownBytes.{Appends, IsAtEnd};
 ghost use Rattle.forec_base.specs.Outside.{Fell};
-ghost use Rattle.forec_kernel.specs.Ticks.{Fresh};
+ghost use Rattle.forec_kernel.specs.Shapes.{PlainKernel};
 ghost use Rattle.trace_rows.specs.Calls.{IfTold, Faults};
 ghost use Rattle.trace_rows.specs.Reader.{HasLine};
-ghost use Rattle.trace_rows.specs.SourceReads.{Reads, Reading, StartTook};
+ghost use Rattle.trace_rows.specs.SourceReads.{Reads};
 ghost use Rattle.trace_runs.specs.Calls.{AppendsFront};
-ghost use Rattle.trace_runs.specs.Ends.{IsOwn, Given, FrontOf, Wanted, ReadFor};
-ghost use Rattle.trace_runs.specs.Report.{trace_report};
-ghost use Rattle.trace_runs.specs.KernelNames.{output_names};
-ghost use Rattle.trace_runs.specs.Progress.{Led, Started, NotStarted, GoesOnFrom, report_rest};
-ghost use Rattle.trace_runs.specs.Sessions.{IsSessionOf};
+ghost use Rattle.trace_runs.specs.Ends.{IsOwn};
+ghost use Rattle.trace_runs.specs.Led.{RunsRows};
+ghost use Rattle.trace_runs.specs.Report.{status_after, trace_turns};
+ghost use Rattle.trace_runs.specs.Progress.{Led, GoesOnFrom, IsWhole, IsFront, report_rest};
+ghost use Rattle.trace_runs.specs.Sessions.{IsSessionOf, AreRowsOf};
+ghost use Rattle.trace_runs.specs.Ticking.{Starts};
 ghost use Rattle.trace_runs.specs.WaitingRoom.{HasTickRoom};
 
 use crate::session::Session;
@@ -21,7 +21,7 @@ use crate::status::Status;
 use crate::ticker::Ticker;
 use crate::waiting::Waiting;
 use core_host::Serve;
-use forec_base::{Failed, Gate, Labels, MAX_INPUTS, MAX_ROWS, OutOfMemory, Sink, Source};
+use forec_base::{Failed, Gate, Sink, Source};
 use forec_kernel::Outcome;
 use std::alloc::Global;
 use std::sync::Wait;
@@ -43,8 +43,20 @@ fn send_due<K: Sink>(rows: &Rows, waiting: &mut Waiting, out: &mut K) -> Result<
     waiting.flush(out)
 }
 
-/// Runs a program over the rows that are left. No read of the trace is made while the line of a tick waits.
-pub fn run_rows<S: Source, K: Sink, T: Ticker, O: Serve, G: Gate, R: Wait>(
+/// The status of a run whose last tick went so.
+fn last_status(outcome: Outcome) -> Status
+    ensures { result ≡ status_after outcome }
+{
+    match outcome {
+        Outcome::Paused | Outcome::Ended => Status::Done,
+        Outcome::Trapped { .. } => Status::Trapped,
+        Outcome::Over => Status::Over,
+    }
+}
+
+/// Runs a program over the rows that are left, up to where it stops. The last lines wait then, unless a stream
+/// failed: `Session::waiting` has them. No read of the trace is made while the line of a tick waits.
+fn run_rows<S: Source, K: Sink, T: Ticker, O: Serve, G: Gate, R: Wait>(
     company: &mut Company<'_, O, G, R>,
     ticker: &mut T,
     session: &mut Session,
@@ -52,28 +64,32 @@ pub fn run_rows<S: Source, K: Sink, T: Ticker, O: Serve, G: Gate, R: Wait>(
     trace: &mut S,
     out: &mut K,
 ) -> Status
-    requires follows { T.follows ticker.old Fresh }
-    requires going { T.live ticker.old ≡ true }
-    requires image { length session.old.image.inputs.items ≡ length (T.kernel ticker.old).shape.inputs }
-    requires outputs { length session.old.image.outputs.items ≡ length (T.kernel ticker.old).shape.outputs }
-    requires small { session.old.budget ≤ MAX_BUDGET }
-    requires none { session.old.waiting.bytes.items ≡ [] }
-    requires names { session.old.waiting.names ≡ output_names (T.kernel ticker.old) }
-    requires limit { rows.old.limit ≡ MAX_ROWS }
-    requires number { rows.old.given ≡ 0 }
-    requires inputs { length (rows.old.places) ≡ length (T.kernel ticker.old).shape.inputs }
-    requires live { rows.old.live ≡ true }
+    requires session { IsSessionOf (T.shape ticker.old) session.old }
+    requires going { T.live ticker.old }
+    requires rows { AreRowsOf session.old rows.old }
     requires ended { rows.old.ended ≡ true → IsAtEnd (S.left trace.old) }
-    ensures own { IsOwn result → IfSome (S.left trace.old)
-        (λ x. Given (report_rest (T.kernel ticker.old) session.old.budget rows.old x) result (K.held out.old) (K.held out.new)) }
-    ensures read { result ≡ Status.ReadFault → Fell (S.faults trace.old) (S.faults trace.new) (S.down trace.new)
-        × ((bytes : List ℕ) × Appends (K.held out.old) (K.held out.new) bytes
-        × IfTold (S.left trace.old) (S.left trace.new) (Led (T.kernel ticker.old) session.old.budget rows.old bytes)) }
-    ensures write { result ≡ Status.WriteFault → Fell (K.faults out.old) (K.faults out.new) (K.down out.new)
-        × FrontOf (S.left trace.old) (K.held out.old) (K.held out.new) (report_rest (T.kernel ticker.old) session.old.budget rows.old) }
-    ensures trace { (given : List ℕ) × Reads S.left S.faults S.down (GoesOnFrom (T.kernel ticker.old) session.old.budget rows.old) trace.old given trace.new }
-    ensures memory { result ≡ Status.NoMemory → (T.ready ticker.old ≡ false)
-        × FrontOf (S.left trace.old) (K.held out.old) (K.held out.new) (report_rest (T.kernel ticker.old) session.old.budget rows.old) }
+    ensures own { IsOwn result → (k : PlainKernel) → Starts (T.shape ticker.old) (T.follows ticker.old) k
+        → IfSome (S.left trace.old)
+        (IsWhole k session.old.budget rows.old (T.follows ticker.new k) (K.held out.old) (K.held out.new)
+        session.new.waiting.bytes.items result) }
+    ensures read { result ≡ Status.ReadFault → Fell (S.faults trace.old) (S.faults trace.new) (S.down trace.new) }
+    ensures wanted { result ≡ Status.ReadFault → (k : PlainKernel)
+        → Starts (T.shape ticker.old) (T.follows ticker.old) k
+        → (bytes : List ℕ) × Appends (K.held out.old) (K.held out.new) bytes
+        × IfTold (S.left trace.old) (S.left trace.new) (Led k session.old.budget rows.old bytes) }
+    ensures write { result ≡ Status.WriteFault → Fell (K.faults out.old) (K.faults out.new) (K.down out.new) }
+    ensures front { result ≡ Status.WriteFault → (k : PlainKernel)
+        → Starts (T.shape ticker.old) (T.follows ticker.old) k
+        → IfSome (S.left trace.old)
+        (λ x. AppendsFront (K.held out.old) (K.held out.new) (report_rest k session.old.budget rows.old x).bytes) }
+    ensures ready { result ≡ Status.NoMemory → T.ready ticker.old ≡ false }
+    ensures memory { result ≡ Status.NoMemory → (k : PlainKernel) → Starts (T.shape ticker.old) (T.follows ticker.old) k
+        → IfSome (S.left trace.old)
+        (IsFront k session.old.budget rows.old (K.held out.old) (K.held out.new) session.new.waiting.bytes.items) }
+    ensures trace { (k : PlainKernel) → Starts (T.shape ticker.old) (T.follows ticker.old) k
+        → (given : List ℕ) × Reads S.left S.faults S.down (GoesOnFrom k session.old.budget rows.old) trace.old given
+        trace.new }
+    ensures later { K.faults out.old ≤ K.faults out.new }
     ensures usage { result ≢ Status.Usage }
 {
     let budget = session.budget;
@@ -82,53 +98,38 @@ pub fn run_rows<S: Source, K: Sink, T: Ticker, O: Serve, G: Gate, R: Wait>(
         if let Err(_) = send_due(rows, &mut session.waiting, out) {
             return Status::WriteFault;
         }
-        match session.image.next_row(rows, trace) {
+        match rows.next(trace, &mut session.image.inputs) {
             Ok(Next::Row) => {}
             Ok(Next::End) => {
                 session.waiting.put_rows(row - 1);
-                return session.waiting.finish(out, Status::Done);
+                return Status::Done;
             }
             Err(fault) => match fault {
                 RowFault::ReadFault => return Status::ReadFault,
                 _ => {
                     session.waiting.put_row(row, fault);
-                    return session.waiting.finish(out, Status::Trace);
+                    return Status::Trace;
                 }
             },
         }
-        let Ok(outcome) = session.image.tick(company, ticker, budget) else {
-            return session.waiting.finish(out, Status::NoMemory);
+        let image = &mut session.image;
+        let Ok(outcome) = ticker.tick(company, &image.inputs, budget, &mut image.outputs) else {
+            return Status::NoMemory;
         };
         session
             .waiting
             .put_outcome(row, outcome, &session.image.outputs, budget);
         match outcome {
             Outcome::Paused => row += 1,
-            Outcome::Ended => return session.waiting.finish(out, Status::Done),
-            Outcome::Trapped { .. } => return session.waiting.finish(out, Status::Trapped),
-            Outcome::Over => return session.waiting.finish(out, Status::Over),
+            _ => return last_status(outcome),
         }
     }
 }
 
-/// Reads the header, for inputs of these names.
+/// Reads the header, and runs a program over the rows. Nothing was run before.
 ///
-/// # Errors
-///
-/// What stands there is no header, or the source failed, or memory is wanting.
-fn start_rows<S: Source>(alloc: Global, trace: &mut S, inputs: &Labels) -> Result<Rows, RowFault>
-    requires { length inputs.now ≤ MAX_INPUTS }
-    ensures ok { IfOk result (Started inputs.now (S.left trace.old) (S.left trace.new)) }
-    ensures err { IfErr result (NotStarted inputs.now (S.left trace.old) (S.left trace.new)) }
-    ensures trace { Reading S.left S.faults S.down [] false trace.old trace.new (StartTook inputs.now result) }
-    ensures ended { IfOk result (λ r. r.ended ≡ true → IsAtEnd (S.left trace.new)) }
-    ensures later { S.faults trace.old ≤ S.faults trace.new }
-    ensures fell { result ≡ Err RowFault.ReadFault → Fell (S.faults trace.old) (S.faults trace.new) (S.down trace.new) }
-{
-    Rows::start(alloc, trace, inputs, MAX_ROWS)
-}
-
-/// Reads the header, and runs over the rows. Nothing was run before.
+/// What is said of the report holds for each kernel that the ticker runs. Where the status is the report's own, the
+/// ticker has run the ticks of the trace, and no others.
 pub fn run<S: Source, K: Sink, T: Ticker, O: Serve, G: Gate, R: Wait>(
     alloc: Global,
     company: &mut Company<'_, O, G, R>,
@@ -137,23 +138,26 @@ pub fn run<S: Source, K: Sink, T: Ticker, O: Serve, G: Gate, R: Wait>(
     trace: &mut S,
     out: &mut K,
 ) -> Status
-    requires session { IsSessionOf (T.kernel ticker.old) session.old }
-    requires follows { T.follows ticker.old Fresh }
-    requires going { T.live ticker.old ≡ true }
-    ensures own { IsOwn result → IfSome (S.left trace.old)
-        (λ x. Given (trace_report (T.kernel ticker.old) session.old.budget x) result (K.held out.old) (K.held out.new)) }
-    ensures read { result ≡ Status.ReadFault → Fell (S.faults trace.old) (S.faults trace.new) (S.down trace.new)
-        × Wanted (T.kernel ticker.old) session.old.budget (S.left trace.old) (S.left trace.new) (K.held out.old) (K.held out.new) }
-    ensures write { result ≡ Status.WriteFault → Fell (K.faults out.old) (K.faults out.new) (K.down out.new)
-        × FrontOf (S.left trace.old) (K.held out.old) (K.held out.new) (trace_report (T.kernel ticker.old) session.old.budget) }
-    ensures trace { ReadFor S.left S.faults S.down (T.kernel ticker.old) session.old.budget trace.old trace.new }
-    ensures memory { result ≡ Status.NoMemory
-        → FrontOf (S.left trace.old) (K.held out.old) (K.held out.new) (trace_report (T.kernel ticker.old) session.old.budget) }
-    ensures ready { T.ready ticker.old ≡ true → result ≡ Status.NoMemory → K.held out.new ≡ K.held out.old }
-    ensures usage { result ≢ Status.Usage }
+    requires session { IsSessionOf (T.shape ticker.old) session.old }
+    requires going { T.live ticker.old }
+    ensures runs { (k : PlainKernel) → Starts (T.shape ticker.old) (T.follows ticker.old) k
+        → RunsRows S.left S.faults S.down K.held K.faults K.down session.old.limit k session.old.budget (T.ready
+        ticker.old ≡ false)
+        trace.old trace.new out.old out.new result }
+    ensures ran { IsOwn result → (k : PlainKernel) → Starts (T.shape ticker.old) (T.follows ticker.old) k
+        → IfSome (S.left trace.old) (λ x. T.follows ticker.new k (trace_turns session.old.limit k session.old.budget
+        x)) }
 {
-    match start_rows(alloc, trace, &session.inputs) {
-        Ok(mut rows) => run_rows(company, ticker, session, &mut rows, trace, out),
+    match Rows::start(alloc, trace, &session.inputs, session.limit) {
+        Ok(mut rows) => match run_rows(company, ticker, session, &mut rows, trace, out) {
+            Status::ReadFault => Status::ReadFault,
+            Status::WriteFault => Status::WriteFault,
+            Status::NoMemory => match session.waiting.flush(out) {
+                Ok(()) => Status::NoMemory,
+                Err(_) => Status::WriteFault,
+            },
+            status => session.waiting.finish(out, status),
+        },
         Err(fault) => match fault {
             RowFault::OutOfMemory => Status::NoMemory,
             RowFault::ReadFault => Status::ReadFault,

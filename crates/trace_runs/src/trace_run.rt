@@ -25,10 +25,12 @@ impl<'a, 'b, 'c, S: Source, K: Sink> Lead for TraceRun<'a, 'b, 'c, S, K> {
     ghost use Rattle.trace_runs.specs.Led.{RunsRows};
     ghost use Rattle.trace_runs.specs.Sessions.{IsSessionOf};
 
-    ghost can = { λ run k. IsSessionOf k run.session.now };
+    ghost can = { λ run shape. IsSessionOf shape run.session.now };
 
-    ghost did = { λ old new k end. (new.trace.ghost_name ≡ old.trace.ghost_name) × (new.out.ghost_name ≡ old.out.ghost_name)
-        × RunsRows S.left S.faults S.down K.held K.faults K.down k old.session.now.budget old.trace.now new.trace.now old.out.now new.out.now end };
+    ghost did = { λ old new k end. (new.trace.ghost_name ≡ old.trace.ghost_name)
+        × (new.out.ghost_name ≡ old.out.ghost_name)
+        × RunsRows S.left S.faults S.down K.held K.faults K.down old.session.now.limit k old.session.now.budget ⊥
+        old.trace.now new.trace.now old.out.now new.out.now end };
 
     fn lead<T: Ticker, O: Serve, G: Gate, R: Wait>(
         &mut self,

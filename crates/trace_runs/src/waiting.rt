@@ -1,7 +1,6 @@
 //! Finished lines of the report that aren't with the sink yet.
 ghost use Rattle.std.specs.Prelude.{◌≡◌, ◌≢◌, ◌+◌, ◌-◌, ◌^◌, ◌≤◌, ◌++◌, ◌∷◌, [], ℤ, List, length, min, take, codes, decimal, vec_len, vec_capacity, IfOk, OnOk, OnErr, IsTrue};
 ghost use Rattle.std.specs.Io.KnownBytes.{Appends};
-ghost use Rattle.forec_base.specs.Outside.{Fell};
 ghost use Rattle.trace_rows.specs.Calls.{Faults};
 ghost use Rattle.tick_jobs.specs.Outcomes.{HasOutputs};
 ghost use Rattle.trace_runs.specs.Calls.{AppendsFront};
@@ -46,6 +45,8 @@ fn append(to: &mut Vec<u8>, bytes: &[u8])
 }
 
 impl Waiting {
+    ghost use Rattle.trace_runs.specs.Ends.{IsOwn};
+    ghost use Rattle.trace_runs.specs.Prints.{Says};
     ghost use Rattle.trace_runs.specs.WaitingRoom.{HasRoom, HasTickRoom, Gains};
 
     /// Nothing waits. There is room for the lines of a tick of a program whose outputs have these names.
@@ -207,13 +208,13 @@ impl Waiting {
         }
     }
 
-    /// Writes all that waits, and gives the status.
+    /// Writes all that waits, and gives the status, which is a report's own.
     pub fn finish<K: Sink>(&mut self, out: &mut K, status: Status) -> Status
-        requires { status ≢ Status.WriteFault }
-        ensures said { result ≢ Status.WriteFault → result ≡ status }
-        ensures all { result ≢ Status.WriteFault → Appends (K.held out.old) (K.held out.new) self.old.bytes.items }
-        ensures fault { result ≡ Status.WriteFault → Fell (K.faults out.old) (K.faults out.new) (K.down out.new) }
-        ensures front { result ≡ Status.WriteFault → AppendsFront (K.held out.old) (K.held out.new) self.old.bytes.items }
+        requires { IsOwn status }
+        ensures says { Says K.held K.faults K.down (record { bytes = self.old.bytes.items; status = status }) (status
+            ≡ Status.Usage)
+            out.old out.new result }
+        ensures memory { result ≢ Status.NoMemory }
     {
         match self.flush(out) {
             Ok(()) => status,

@@ -1,36 +1,20 @@
-use Rattle.std.proofs.Common.{refl}
+use Rattle.std.proofs.Common.{◌≡◌, refl}
 use Rattle.forec_kernel.specs.Shapes.{plain_kernel}
 use Rattle.command_words.specs.Requests.{plain_placing}
-use Rattle.forec_engine.specs.Commands.{Of_misplaced, Of_placed, threads_listed}
-use Rattle.forec_engine.specs.Placing.{misplaced, misplacing}
-use Rattle.forec_engine.proofs.PlacementReports.{refused_by}
+use Rattle.forec_engine.specs.Commands.{Of_placed, ThreadsReport, threads_listed}
+use Rattle.forec_engine.specs.Placing.{IsMisplaced}
+use Rattle.trace_runs.proofs.Printing.{prints_as}
+use Rattle.forec_engine.proofs.Answered.{threads_misplaced}
 use Rattle.forec_engine.proofs.answering.list_threads.Goals as goal
 
-pub returns-in-Ok-clause-own : goal.returns-in-Ok-clause-own
-returns-in-Ok-clause-own g c = λ own.
+pub returns-in-Ok : goal.returns-in-Ok
+returns-in-Ok g c =
+    let k = plain_kernel c.args.kernel.now in
+    let placing = plain_placing c.args.placing in
     let p = c.in-Ok.placement in
-    (threads_listed (plain_kernel c.args.kernel.now) p.places, Of_placed p c.in-Ok.ensures.taken c.in-Ok.ensures.placement refl, c.list_placed.ensures.own own)
+    prints_as g.K.Sink.held g.K.Sink.faults g.K.Sink.down Unit (λ q. q ≡ threads_listed k p.places) ⊥ ⊥ ⊥ c.args.out.now c.list_placed.new.out Unit (ThreadsReport k placing) (IsMisplaced k placing) ⊥ ⊥ c.list_placed.result (λ t. t)
+    (λ t r is. Of_placed p c.in-Ok.ensures.taken c.in-Ok.ensures.placement is) (λ n. absurd n) (λ n. n) (λ n. n) c.list_placed.ensures
 
-pub returns-in-Ok-clause-write : goal.returns-in-Ok-clause-write
-returns-in-Ok-clause-write g c = λ is.
-    let p = c.in-Ok.placement in
-    let w = c.list_placed.ensures.write is in
-    (w.0, (threads_listed (plain_kernel c.args.kernel.now) p.places, Of_placed p c.in-Ok.ensures.taken c.in-Ok.ensures.placement refl, w.1))
-
-pub returns-in-Err-clause-own : goal.returns-in-Err-clause-own
-returns-in-Err-clause-own g c = λ own.
-    let why = c.in-Err.why in
-    let m = c.misplace.ensures.own own in
-    let is = refused_by (misplacing (plain_kernel c.args.kernel.now) (plain_placing c.args.placing)) why m.0 c.in-Err.ensures.refused in
-    (misplaced why, Of_misplaced why is refl, m.1)
-
-pub returns-in-Err-clause-write : goal.returns-in-Err-clause-write
-returns-in-Err-clause-write g c = λ is.
-    let why = c.in-Err.why in
-    let w = c.misplace.ensures.write is in
-    let by = refused_by (misplacing (plain_kernel c.args.kernel.now) (plain_placing c.args.placing)) why w.0 c.in-Err.ensures.refused in
-    (w.1, (misplaced why, Of_misplaced why by refl, w.2))
-
-pub returns-in-Err-clause-usage : goal.returns-in-Err-clause-usage
-returns-in-Err-clause-usage g c = λ is.
-    (c.in-Err.why, refused_by (misplacing (plain_kernel c.args.kernel.now) (plain_placing c.args.placing)) c.in-Err.why (c.misplace.ensures.usage is) c.in-Err.ensures.refused)
+pub returns-in-Err : goal.returns-in-Err
+returns-in-Err g c =
+    threads_misplaced g.K.Sink.held g.K.Sink.faults g.K.Sink.down c.args.out.now c.misplace.new.out c.misplace.result (plain_kernel c.args.kernel.now) (plain_placing c.args.placing) c.in-Err.why c.in-Err.ensures.refused c.misplace.ensures

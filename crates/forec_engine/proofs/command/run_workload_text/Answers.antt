@@ -1,44 +1,29 @@
-use Rattle.std.proofs.Common.{List, ℕ, refl, subst, ◌∙◌}
+use Rattle.std.proofs.Common.{◌≡◌, List, ℕ, refl, subst, sym, ◌∙◌, arith}
 use Rattle.forec_kernel.specs.Shapes.{plain_kernel}
 use Rattle.command_words.specs.Requests.{plain_running}
-use Rattle.forec_engine.specs.Commands.{Of_refusal, Of_accepted, refused}
-use Rattle.text_verdict.specs.Judging.{Accepts, Refuses, Judged}
-use Rattle.forec_engine.specs.Placing.{workload_report}
+use Rattle.workload.specs.Text.{text_of}
+use Rattle.forec_engine.specs.Commands.{Of_refusal, Of_accepted, WorkloadReport}
+use Rattle.forec_engine.specs.Ends.{AcceptedSo}
+use Rattle.forec_engine.specs.Placing.{IsMisplaced}
+use Rattle.text_verdict.specs.Judging.{Accepts, Refuses, Judged, too_long}
+use Rattle.text_verdict.specs.declared.refusal.Refusal.TheVariants as why
+use Rattle.trace_runs.proofs.Printing.{prints_as}
 use Rattle.forec_engine.proofs.command.run_workload_text.Goals as goal
 
-pub returns-in-Ok-judge_any-clause-own : goal.returns-in-Ok-judge_any-clause-own
-returns-in-Ok-judge_any-clause-own g c = λ own.
-    let a = c.in-Ok-judge_any.accepted in
+pub returns-in-Ok-judge : goal.returns-in-Ok-judge
+returns-in-Ok-judge g c =
+    let a = c.in-Ok-judge.accepted in
     let k = plain_kernel a.kernel in
-    let judged = subst (λ (t : List ℕ). Judged t (Accepts a.counts k)) (c.deref.ensures.value ∙ c.in-Ok.ensures) c.in-Ok-judge_any.ensures in
-    (workload_report c.args.threads (plain_running c.args.running) k, Of_accepted a.counts k judged refl, c.answer_workload.ensures.own own)
+    let running = plain_running c.args.running in
+    let judged = subst (λ (t : List ℕ). Judged t (Accepts a.counts k)) (c.deref.ensures.value ∙ c.in-Ok.ensures) c.in-Ok-judge.ensures in
+    prints_as g.K.Sink.held g.K.Sink.faults g.K.Sink.down _ _ _ _ _ c.args.out.now c.answer_workload.new.out Unit (WorkloadReport c.args.threads running) (AcceptedSo (λ k. IsMisplaced k running.placing) (text_of c.args.threads)) ⊥ ⊥
+    c.answer_workload.result (λ t. t) (λ t r is. Of_accepted a.counts k judged is) (λ m. (a.counts, k, judged, m)) (λ n. n) (λ n. n) c.answer_workload.ensures
 
-pub returns-in-Ok-judge_any-clause-write : goal.returns-in-Ok-judge_any-clause-write
-returns-in-Ok-judge_any-clause-write g c = λ is.
-    let a = c.in-Ok-judge_any.accepted in
-    let k = plain_kernel a.kernel in
-    let judged = subst (λ (t : List ℕ). Judged t (Accepts a.counts k)) (c.deref.ensures.value ∙ c.in-Ok.ensures) c.in-Ok-judge_any.ensures in
-    let w = c.answer_workload.ensures.write is in
-    (w.0, (workload_report c.args.threads (plain_running c.args.running) k, Of_accepted a.counts k judged refl, w.1))
-
-pub returns-in-Ok-judge_any-clause-usage : goal.returns-in-Ok-judge_any-clause-usage
-returns-in-Ok-judge_any-clause-usage g c = λ is.
-    let a = c.in-Ok-judge_any.accepted in
-    let k = plain_kernel a.kernel in
-    let judged = subst (λ (t : List ℕ). Judged t (Accepts a.counts k)) (c.deref.ensures.value ∙ c.in-Ok.ensures) c.in-Ok-judge_any.ensures in
-    (a.counts, k, judged, c.answer_workload.ensures.usage is)
-
-pub returns-in-Err-Refused-clause-own : goal.returns-in-Err-Refused-clause-own
-returns-in-Err-Refused-clause-own g c = λ own.
+pub returns-in-Err-Refused : goal.returns-in-Err-Refused
+returns-in-Err-Refused g c =
     let why = c.in-Err-Refused.why in
+    let running = plain_running c.args.running in
     let j = rw c.in-Err-Refused.field-0-is at c.in-Err-Refused.ensures in
     let judged = subst (λ (t : List ℕ). Judged t (Refuses why)) (c.deref.ensures.value ∙ c.in-Ok.ensures) j in
-    (refused why, Of_refusal why judged refl, c.refuse.ensures.own own)
-
-pub returns-in-Err-Refused-clause-write : goal.returns-in-Err-Refused-clause-write
-returns-in-Err-Refused-clause-write g c = λ is.
-    let why = c.in-Err-Refused.why in
-    let j = rw c.in-Err-Refused.field-0-is at c.in-Err-Refused.ensures in
-    let judged = subst (λ (t : List ℕ). Judged t (Refuses why)) (c.deref.ensures.value ∙ c.in-Ok.ensures) j in
-    let w = c.refuse.ensures.write is in
-    (w.0, (refused why, Of_refusal why judged refl, w.1))
+    prints_as g.K.Sink.held g.K.Sink.faults g.K.Sink.down _ _ _ _ _ c.args.out.now c.refuse-in-Err-Refused.new.out Unit (WorkloadReport c.args.threads running) (AcceptedSo (λ k. IsMisplaced k running.placing) (text_of c.args.threads)) ⊥ ⊥
+    c.refuse-in-Err-Refused.result (λ t. t) (λ t r is. Of_refusal why judged is) (λ n. absurd n) (λ n. n) (λ n. n) c.refuse-in-Err-Refused.ensures

@@ -1,7 +1,9 @@
-use Rattle.std.proofs.Common.{sym, subst}
-use Rattle.forec_kernel.specs.Shapes.{plain_kernel}
+use Rattle.std.proofs.Common.{refl}
+use Rattle.core_host.specs.Hosted.{code_of}
+use Rattle.core_host.specs.Runs.{HasRun}
+use Rattle.trace_runs.proofs.Fine.{ok_map}
+use Rattle.trace_runs.proofs.Following.{code_starts}
 use Rattle.trace_runs.proofs.beside.lead_hosts.Goals as goal
 
-pub lead-requires-clause-can : goal.lead-requires-clause-can
-lead-requires-clause-can g c = λ κs within.
-    subst (λ k. g.J.Lead.can c.args.job.now (plain_kernel k)) (sym c.new-runner.ensures.kernel) c.requires.can
+pub returns-clause-ok : goal.returns-clause-ok
+returns-clause-ok g c = ok_map c.lead.result _ _ (λ end did k formed stands. did k (code_starts (code_of c.args.root) (code_of c.args.root) (HasRun c.args.root) k refl formed stands c.requires.none)) c.lead.ensures.ok

@@ -1,12 +1,16 @@
-use Rattle.std.proofs.Common.{ap}
-use Rattle.forec_kernel.specs.Shapes.{plain_kernel}
-use Rattle.thread_code.specs.Plain.{plain_code}
-use Rattle.core_host.specs.Hosted.{code_of}
-use Rattle.core_host.specs.Runs.{HasRun}
-use Rattle.trace_runs.proofs.Following.{at_start}
+use Rattle.std.proofs.Common.{ap, sym, subst, refl}
+use Rattle.thread_code.specs.Alone.{Stands}
+use Rattle.thread_code.specs.Plain.{PlainCode, plain_code}
+use Rattle.trace_runs.proofs.Fine.{ok_map}
 use Rattle.trace_runs.proofs.hosting.lead_over.Goals as goal
 
-pub lead_hosts-requires-clause-follows : goal.lead_hosts-requires-clause-follows
-lead_hosts-requires-clause-follows g c = λ κs within.
-    let root = c.in_ok-root.field-0.root in
-    at_start (plain_kernel c.args.compiled.kernel.now) (plain_code c.args.compiled.code.now) (code_of root) (HasRun root) (ap plain_code c.in_ok-root.ensures.root.code) c.requires.stands c.in_ok-root.ensures.none
+pub lead_hosts-requires-clause-can : goal.lead_hosts-requires-clause-can
+lead_hosts-requires-clause-can g c = λ κs within. record {
+  can = subst (λ (p : PlainCode). g.J.Lead.can c.args.job.now p.shape) (sym (ap plain_code c.in_ok-root.ensures.root.code)) c.requires.can;
+  live = c.in_ok-root.ensures.root.live;
+  ready = refl;
+}
+
+pub returns-clause-ok : goal.returns-clause-ok
+returns-clause-ok g c =
+    ok_map c.lead_hosts.result _ _ (λ end did k formed stands. did k formed (subst (λ (p : PlainCode). Stands p k) (sym (ap plain_code c.in_ok-root.ensures.root.code)) stands)) c.lead_hosts.ensures.ok

@@ -1,27 +1,36 @@
-use Rattle.std.proofs.Common.{◌≡◌, ◌+◌, ◌-◌, List, ℕ, length, sym, ap, subst, ◌∙◌, refl, arith}
-use Rattle.forec_kernel.specs.Ticks.{State, tick, goes_on}
-use Rattle.trace_runs.specs.Report.{Report, tick_lines}
+use Rattle.std.proofs.Common.{◌≡◌, ◌+◌, ◌-◌, List, ℕ, rules, length, sym, ap, subst, ◌∙◌, refl, arith, Err, ◌++◌, ◌∷◌, []}
+use Rattle.std.proofs.lemmas.List.{with_items_is, places}
+use Rattle.forec_kernel.specs.Ticks.{tick, goes_on}
+use Rattle.trace_runs.specs.KernelNames.{outputs_of}
+use Rattle.trace_runs.specs.Report.{tick_lines}
 use Rattle.trace_rows.specs.Report.{rows_line, row_line}
+use Rattle.trace_rows.specs.SourceReads.{NextTook}
+use Rattle.trace_rows.specs.Trace.{Row}
 use Rattle.trace_runs.specs.WaitingRoom.{Gains}
 use Rattle.trace_runs.specs.declared.status.Status.TheVariants as status
 use Rattle.trace_runs.proofs.Asking.{asked_start, asked_last, asked_more}
-use Rattle.trace_runs.proofs.Running.{Run, Reached, reached_start, reached_sent, reached_more, row_within, waited, at_end, stops_there, at_fault, own_all, front_all, front_now, front_whole, not_read, not_write, stop_own, stop_front, failed, fell_since, stop_status}
+use Rattle.trace_runs.proofs.Following.{outcome_at, outputs_at}
+use Rattle.trace_runs.proofs.NextRows.{Gave, gave_row, gives_next}
+use Rattle.trace_runs.proofs.Running.{Run, Reached, Stands_at, reached_start, reached_sent, reached_more, row_within, waited, at_end, at_fault, whole_now, whole_stop, front_now, front_sent, failed, fell_since, stops, stands_more, turn_of}
+use Rattle.trace_runs.proofs.Told.{some_map}
 use Rattle.trace_runs.proofs.TickLines.{put_tick_lines}
 use Rattle.trace_runs.proofs.ticks.run_rows.Goals as goal
 
 pub ticks-init : goal.ticks-init
 ticks-init g c =
-    let run : Run = record { kernel = g.T.Ticker.kernel c.args.ticker.now; budget = c.args.session.now.budget; first = c.args.rows.now } in
+    let left = g.S.Source.left in
+    let at : Stands_at c.args.rows.now 1 c.args.rows.now = record { limit = refl; places = refl; number = ap (λ n. n + 1) c.requires.rows.number } in
     record {
-      reached = reached_start run (g.T.Ticker.follows c.args.ticker.now) (g.S.Source.left c.args.trace.now) (g.K.Sink.held c.args.out.now) c.args.session.now.waiting.bytes.items c.requires.follows
-          (record { limit = c.requires.limit; places = refl; number = ap (λ n. n + 1) c.requires.number }) c.requires.none;
-      asked = asked_start g.S.Source.left g.S.Source.faults g.S.Source.down run (g.T.Ticker.follows c.args.ticker.now) c.args.trace.now c.requires.follows;
-      kernel = refl;
+      reached = λ k s. reached_start (record { kernel = k; budget = c.args.session.now.budget; first = c.args.rows.now }) (g.T.Ticker.follows c.args.ticker.now k) (left c.args.trace.now) (g.K.Sink.held c.args.out.now)
+          c.args.session.now.waiting.bytes.items s.fresh at c.requires.session.none;
+      asked = λ k s. asked_start left g.S.Source.faults g.S.Source.down (record { kernel = k; budget = c.args.session.now.budget; first = c.args.rows.now }) (g.T.Ticker.follows c.args.ticker.now k) c.args.trace.now s.fresh;
+      shape = refl;
       ready = refl;
       inputs = refl;
       outputs = refl;
       live = c.requires.going;
-      reads = c.requires.live;
+      reads = c.requires.rows.live;
+      stands = at;
       low = omega arith;
       high = omega arith;
       names = refl;
@@ -30,19 +39,28 @@ ticks-init g c =
       written = omega arith;
     }
 
+-- ---- a stream failed
+
 pub returns-in-Err-clause-write : goal.returns-in-Err-clause-write
-returns-in-Err-clause-write g c = λ _.
-    let run : Run = record { kernel = g.T.Ticker.kernel c.args.ticker.now; budget = c.args.session.now.budget; first = c.args.rows.now } in
-    let i = c.ticks.invariant in (
-      fell_since _ (g.K.Sink.faults c.ticks.out) _ _ i.written c.in-Err.ensures.cause.failed,
-      front_now run (g.T.Ticker.follows c.ticks.ticker) c.ticks.rows (g.S.Source.left c.args.trace.now) (g.S.Source.left c.ticks.trace) (g.K.Sink.held c.args.out.now) (g.K.Sink.held c.ticks.out) (g.K.Sink.held c.send_due.new.out)
-          c.ticks.session.waiting.bytes.items c.ticks.row i.reached c.in-Err.ensures.err,
-    )
+returns-in-Err-clause-write g c = λ _. fell_since _ (g.K.Sink.faults c.ticks.out) _ _ c.ticks.invariant.written c.in-Err.ensures.cause.failed
+
+pub returns-in-Err-clause-front : goal.returns-in-Err-clause-front
+returns-in-Err-clause-front g c = λ _ k s.
+    let run : Run = record { kernel = k; budget = c.args.session.now.budget; first = c.args.rows.now } in
+    let i = c.ticks.invariant in
+    let l0 = g.S.Source.left c.args.trace.now in
+    let h0 = g.K.Sink.held c.args.out.now in
+    let unsent : List ℕ = c.ticks.session.waiting.bytes.items in
+    some_map l0 _ _ (front_now run (g.T.Ticker.follows c.ticks.ticker k) c.ticks.rows l0 (g.S.Source.left c.ticks.trace) h0 (g.K.Sink.held c.ticks.out) unsent c.ticks.row (i.reached k s))
+    (λ x f. front_sent k c.args.session.now.budget c.args.rows.now h0 (g.K.Sink.held c.ticks.out) (g.K.Sink.held c.send_due.new.out) unsent x f c.in-Err.ensures.err)
 
 pub returns-in-ReadFault-clause-read : goal.returns-in-ReadFault-clause-read
-returns-in-ReadFault-clause-read g c = λ _.
-    let run : Run = record { kernel = g.T.Ticker.kernel c.args.ticker.now; budget = c.args.session.now.budget; first = c.args.rows.now } in
-    let F : State → Type 0 = g.T.Ticker.follows c.ticks.ticker in
+returns-in-ReadFault-clause-read g c = λ _. fell_since _ (g.S.Source.faults c.ticks.trace) _ _ c.ticks.invariant.read ((rw c.in-ReadFault.is at c.in-Err-next.ensures.fault) refl)
+
+pub returns-in-ReadFault-clause-wanted : goal.returns-in-ReadFault-clause-wanted
+returns-in-ReadFault-clause-wanted g c = λ _ k s.
+    let run : Run = record { kernel = k; budget = c.args.session.now.budget; first = c.args.rows.now } in
+    let F = g.T.Ticker.follows c.ticks.ticker k in
     let now = c.ticks.rows in
     let l0 = g.S.Source.left c.args.trace.now in
     let l = g.S.Source.left c.ticks.trace in
@@ -51,18 +69,19 @@ returns-in-ReadFault-clause-read g c = λ _.
     let unsent : List ℕ = c.send_due.new.waiting.bytes.items in
     let row = c.ticks.row in
     let i = c.ticks.invariant in
-    let r : Reached run F now l0 l h0 h unsent row = reached_sent run F now l0 l h0 (g.K.Sink.held c.ticks.out) h c.ticks.session.waiting.bytes.items unsent row i.reached c.in_default.ensures.ok in
-    let new = c.next_row.new.rows in
-    let l' = g.S.Source.left c.next_row.new.trace in
-    let values = c.next_row.new.self.inputs.items in (
-      fell_since _ (g.S.Source.faults c.ticks.trace) _ _ i.read ((rw c.in-ReadFault.is at c.in-Err-next_row.ensures.fell) refl),
-      failed run F now new l0 l l' h0 h unsent row r (rw c.in-ReadFault.is at c.in-Err-next_row.ensures.next) (c.in_default.ensures.all (waited now.held new.held now.ended new.ended l l' (rw c.in-ReadFault.is at c.in-Err-next_row.ensures.next))),
-    )
+    let r : Reached run F now l0 l h0 h unsent row = reached_sent run F now l0 l h0 (g.K.Sink.held c.ticks.out) h c.ticks.session.waiting.bytes.items unsent row (i.reached k s) c.in_default.ensures.ok in
+    let new = c.next.new.self in
+    let l' = g.S.Source.left c.next.new.source in
+    let values : Row = c.next.new.row in
+    let waits = rw c.in-ReadFault.is at c.in-Err-next.ensures.bytes in
+    failed run F now new l0 l l' h0 h unsent row r waits (c.in_default.ensures.all (waited now.held new.held now.ended new.ended l l' waits))
+
+-- ---- the last lines wait
 
 pub returns-in-Ok-End-clause-own : goal.returns-in-Ok-End-clause-own
-returns-in-Ok-End-clause-own g c = λ own.
-    let run : Run = record { kernel = g.T.Ticker.kernel c.args.ticker.now; budget = c.args.session.now.budget; first = c.args.rows.now } in
-    let F : State → Type 0 = g.T.Ticker.follows c.ticks.ticker in
+returns-in-Ok-End-clause-own g c = λ own k s.
+    let run : Run = record { kernel = k; budget = c.args.session.now.budget; first = c.args.rows.now } in
+    let F = g.T.Ticker.follows c.ticks.ticker k in
     let now = c.ticks.rows in
     let l0 = g.S.Source.left c.args.trace.now in
     let l = g.S.Source.left c.ticks.trace in
@@ -71,40 +90,17 @@ returns-in-Ok-End-clause-own g c = λ own.
     let unsent : List ℕ = c.send_due.new.waiting.bytes.items in
     let row = c.ticks.row in
     let i = c.ticks.invariant in
-    let r : Reached run F now l0 l h0 h unsent row = reached_sent run F now l0 l h0 (g.K.Sink.held c.ticks.out) h c.ticks.session.waiting.bytes.items unsent row i.reached c.in_default.ensures.ok in
-    let new = c.next_row.new.rows in
-    let l' = g.S.Source.left c.next_row.new.trace in
-    let values = c.next_row.new.self.inputs.items in
-    let s : Report = record { bytes = rows_line (row - 1); status = status.Done } in
-    own_all run F now l0 l h0 h (g.K.Sink.held c.finish.new.out) unsent c.put_rows.new.self.bytes.items row r s c.finish.result
-    (at_end run F now new l0 l l' h0 h unsent row values r (rw c.in-Ok-End.field-0-is at c.in-Ok-End.ensures.next)) c.put_rows.ensures.bytes_are c.finish.ensures.said c.finish.ensures.all own
-
-pub returns-in-Ok-End-clause-write : goal.returns-in-Ok-End-clause-write
-returns-in-Ok-End-clause-write g c = λ is.
-    let run : Run = record { kernel = g.T.Ticker.kernel c.args.ticker.now; budget = c.args.session.now.budget; first = c.args.rows.now } in
-    let F : State → Type 0 = g.T.Ticker.follows c.ticks.ticker in
-    let now = c.ticks.rows in
-    let l0 = g.S.Source.left c.args.trace.now in
-    let l = g.S.Source.left c.ticks.trace in
-    let h0 = g.K.Sink.held c.args.out.now in
-    let h = g.K.Sink.held c.send_due.new.out in
-    let unsent : List ℕ = c.send_due.new.waiting.bytes.items in
-    let row = c.ticks.row in
-    let i = c.ticks.invariant in
-    let r : Reached run F now l0 l h0 h unsent row = reached_sent run F now l0 l h0 (g.K.Sink.held c.ticks.out) h c.ticks.session.waiting.bytes.items unsent row i.reached c.in_default.ensures.ok in
-    let new = c.next_row.new.rows in
-    let l' = g.S.Source.left c.next_row.new.trace in
-    let values = c.next_row.new.self.inputs.items in
-    let s : Report = record { bytes = rows_line (row - 1); status = status.Done } in (
-      fell_since _ (g.K.Sink.faults c.send_due.new.out) _ _ (omega (arith, i.written, c.in_default.ensures.cause.later)) (c.finish.ensures.fault is),
-      front_all run F now l0 l h0 h (g.K.Sink.held c.finish.new.out) unsent c.put_rows.new.self.bytes.items row r s
-          (at_end run F now new l0 l l' h0 h unsent row values r (rw c.in-Ok-End.field-0-is at c.in-Ok-End.ensures.next)) c.put_rows.ensures.bytes_are (c.finish.ensures.front is),
-    )
+    let r : Reached run F now l0 l h0 h unsent row = reached_sent run F now l0 l h0 (g.K.Sink.held c.ticks.out) h c.ticks.session.waiting.bytes.items unsent row (i.reached k s) c.in_default.ensures.ok in
+    let new = c.next.new.self in
+    let l' = g.S.Source.left c.next.new.source in
+    let values : Row = c.next.new.row in
+    whole_now run F F now l0 l h0 h unsent c.put_rows.new.self.bytes.items row r r.turns (record { bytes = rows_line (row - 1); status = status.Done }) status.Done
+    (at_end run F now new l0 l l' h0 h unsent row values r (rw c.in-Ok-End.field-0-is at c.in-Ok-End.ensures.trace)) c.put_rows.ensures.bytes_are refl r.follows
 
 pub returns-in_default-fault-clause-own : goal.returns-in_default-fault-clause-own
-returns-in_default-fault-clause-own g c = λ own.
-    let run : Run = record { kernel = g.T.Ticker.kernel c.args.ticker.now; budget = c.args.session.now.budget; first = c.args.rows.now } in
-    let F : State → Type 0 = g.T.Ticker.follows c.ticks.ticker in
+returns-in_default-fault-clause-own g c = λ own k s.
+    let run : Run = record { kernel = k; budget = c.args.session.now.budget; first = c.args.rows.now } in
+    let F = g.T.Ticker.follows c.ticks.ticker k in
     let now = c.ticks.rows in
     let l0 = g.S.Source.left c.args.trace.now in
     let l = g.S.Source.left c.ticks.trace in
@@ -113,18 +109,20 @@ returns-in_default-fault-clause-own g c = λ own.
     let unsent : List ℕ = c.send_due.new.waiting.bytes.items in
     let row = c.ticks.row in
     let i = c.ticks.invariant in
-    let r : Reached run F now l0 l h0 h unsent row = reached_sent run F now l0 l h0 (g.K.Sink.held c.ticks.out) h c.ticks.session.waiting.bytes.items unsent row i.reached c.in_default.ensures.ok in
-    let new = c.next_row.new.rows in
-    let l' = g.S.Source.left c.next_row.new.trace in
-    let values = c.next_row.new.self.inputs.items in
-    let s : Report = record { bytes = row_line row c.in-Err-next_row.fault; status = status.Trace } in
-    own_all run F now l0 l h0 h (g.K.Sink.held c.finish-in_default-fault.new.out) unsent c.put_row.new.self.bytes.items row r s c.finish-in_default-fault.result
-    (at_fault run F now new l0 l l' h0 h unsent row values c.in-Err-next_row.fault r (stops_there now new l l' values c.in-Err-next_row.fault c.in_default-fault.not-ReadFault c.in-Err-next_row.ensures.next)) c.put_row.ensures.bytes_are c.finish-in_default-fault.ensures.said c.finish-in_default-fault.ensures.all own
+    let r : Reached run F now l0 l h0 h unsent row = reached_sent run F now l0 l h0 (g.K.Sink.held c.ticks.out) h c.ticks.session.waiting.bytes.items unsent row (i.reached k s) c.in_default.ensures.ok in
+    let new = c.next.new.self in
+    let l' = g.S.Source.left c.next.new.source in
+    let values : Row = c.next.new.row in
+    let e = c.in-Err-next.ensures in
+    let f = c.in-Err-next.fault in
+    let n = gives_next now new _ values l l' (Err f) e.bytes e.trace e.goes e.same e.stays e.memory in
+    whole_now run F F now l0 l h0 h unsent c.put_row.new.self.bytes.items row r r.turns (record { bytes = row_line row f; status = status.Trace }) status.Trace
+    (at_fault run F now new l0 l l' h0 h unsent row values f r c.in_default-fault.not-ReadFault n) c.put_row.ensures.bytes_are refl r.follows
 
-pub returns-in_default-fault-clause-write : goal.returns-in_default-fault-clause-write
-returns-in_default-fault-clause-write g c = λ is.
-    let run : Run = record { kernel = g.T.Ticker.kernel c.args.ticker.now; budget = c.args.session.now.budget; first = c.args.rows.now } in
-    let F : State → Type 0 = g.T.Ticker.follows c.ticks.ticker in
+pub returns-in_default-outcome-clause-own : goal.returns-in_default-outcome-clause-own
+returns-in_default-outcome-clause-own g c = λ own k s.
+    let run : Run = record { kernel = k; budget = c.args.session.now.budget; first = c.args.rows.now } in
+    let F = g.T.Ticker.follows c.ticks.ticker k in
     let now = c.ticks.rows in
     let l0 = g.S.Source.left c.args.trace.now in
     let l = g.S.Source.left c.ticks.trace in
@@ -133,264 +131,34 @@ returns-in_default-fault-clause-write g c = λ is.
     let unsent : List ℕ = c.send_due.new.waiting.bytes.items in
     let row = c.ticks.row in
     let i = c.ticks.invariant in
-    let r : Reached run F now l0 l h0 h unsent row = reached_sent run F now l0 l h0 (g.K.Sink.held c.ticks.out) h c.ticks.session.waiting.bytes.items unsent row i.reached c.in_default.ensures.ok in
-    let new = c.next_row.new.rows in
-    let l' = g.S.Source.left c.next_row.new.trace in
-    let values = c.next_row.new.self.inputs.items in
-    let s : Report = record { bytes = row_line row c.in-Err-next_row.fault; status = status.Trace } in (
-      fell_since _ (g.K.Sink.faults c.send_due.new.out) _ _ (omega (arith, i.written, c.in_default.ensures.cause.later)) (c.finish-in_default-fault.ensures.fault is),
-      front_all run F now l0 l h0 h (g.K.Sink.held c.finish-in_default-fault.new.out) unsent c.put_row.new.self.bytes.items row r s
-          (at_fault run F now new l0 l l' h0 h unsent row values c.in-Err-next_row.fault r (stops_there now new l l' values c.in-Err-next_row.fault c.in_default-fault.not-ReadFault c.in-Err-next_row.ensures.next)) c.put_row.ensures.bytes_are (c.finish-in_default-fault.ensures.front is),
-    )
-
-pub ticks-preserved : goal.ticks-preserved
-ticks-preserved g c =
-    let run : Run = record { kernel = g.T.Ticker.kernel c.args.ticker.now; budget = c.args.session.now.budget; first = c.args.rows.now } in
-    let F : State → Type 0 = g.T.Ticker.follows c.ticks.ticker in
-    let now = c.ticks.rows in
-    let l0 = g.S.Source.left c.args.trace.now in
-    let l = g.S.Source.left c.ticks.trace in
-    let h0 = g.K.Sink.held c.args.out.now in
-    let h = g.K.Sink.held c.send_due.new.out in
-    let unsent : List ℕ = c.send_due.new.waiting.bytes.items in
-    let row = c.ticks.row in
-    let i = c.ticks.invariant in
-    let r : Reached run F now l0 l h0 h unsent row = reached_sent run F now l0 l h0 (g.K.Sink.held c.ticks.out) h c.ticks.session.waiting.bytes.items unsent row i.reached c.in_default.ensures.ok in
-    let new = c.next_row.new.rows in
-    let l' = g.S.Source.left c.next_row.new.trace in
-    let values = c.next_row.new.self.inputs.items in
-    let t = tick run.kernel run.budget r.state values in
+    let r : Reached run F now l0 l h0 h unsent row = reached_sent run F now l0 l h0 (g.K.Sink.held c.ticks.out) h c.ticks.session.waiting.bytes.items unsent row (i.reached k s) c.in_default.ensures.ok in
+    let new = c.next.new.self in
+    let l' = g.S.Source.left c.next.new.source in
+    let values : Row = c.next.new.row in
     let o = c.in-Ok.outcome in
-    let k : g.T.Ticker.kernel c.ticks.ticker ≡ run.kernel = i.kernel in
-    let follows : g.T.Ticker.follows c.ticks.ticker r.state = r.follows in
-    let how : o ≡ t.outcome = c.in-Ok.ensures.outcome r.state follows ∙ ap (λ x. (tick x run.budget r.state values).outcome) k in
-    let put : Gains c.send_due.new.waiting c.put_outcome.new.self (tick_lines run.kernel run.budget row t) =
-    put_tick_lines run.kernel run.budget row t o c.send_due.new.waiting.names c.deref.result.now c.send_due.new.waiting c.put_outcome.new.self
-    (c.send_due.ensures.names ∙ i.names ∙ c.requires.names) how
-    (λ has. c.deref.ensures.value ∙ c.in-Ok.ensures.outputs r.state follows has ∙ ap (λ x. (tick x run.budget r.state values).outputs) k) c.put_outcome.ensures in
-    let gave = (rw c.in-Ok-Row.field-0-is at c.in-Ok-Row.ensures.next) in
-    let a = i.asked in
-    let after : g.T.Ticker.follows c.ticks.ticker a.pace.state = a.follows in
-    let went : o ≡ (tick run.kernel run.budget a.pace.state values).outcome = c.in-Ok.ensures.outcome a.pace.state after ∙ ap (λ x. (tick x run.budget a.pace.state values).outcome) k in
-    record {
-      asked = asked_more g.S.Source.left g.S.Source.faults g.S.Source.down run F (g.T.Ticker.follows c.tick.new.ticker) now new row c.args.trace.now c.ticks.trace c.next_row.new.trace values a r.stands (rw c.in-Ok-Row.field-0-is at c.in-Ok-Row.ensures.trace)
-          gave.stays (ap goes_on (sym went ∙ c.in-Paused.is))
-          (subst (λ x. g.T.Ticker.follows c.tick.new.ticker (tick x run.budget a.pace.state values).state) k (c.in-Ok.ensures.follows a.pace.state after (ap goes_on c.in-Paused.is)));
-      reached = reached_more run F (g.T.Ticker.follows c.tick.new.ticker) now new l0 l l' h0 h unsent c.put_outcome.new.self.bytes.items row values r gave
-          (ap goes_on (sym how ∙ c.in-Paused.is))
-          (subst (λ x. g.T.Ticker.follows c.tick.new.ticker (tick x run.budget r.state values).state) k (c.in-Ok.ensures.follows r.state follows (ap goes_on c.in-Paused.is))) put.bytes_are;
-      kernel = c.tick.ensures.kernel ∙ k;
-      ready = c.tick.ensures.ready ∙ i.ready;
-      inputs = ap (λ v. length v.items) c.tick.ensures.inputs ∙ c.next_row.ensures.inputs ∙ i.inputs;
-      outputs = c.tick.ensures.room ∙ ap (λ v. length v.items) c.next_row.ensures.outputs ∙ i.outputs;
-      live = c.in-Ok.ensures.live ∙ ap goes_on c.in-Paused.is;
-      reads = (rw c.in-Ok-Row.field-0-is at c.in-Ok-Row.ensures.reads) refl;
-      low = omega arith;
-      high = (let w = row_within run row now r.stands gave.within in omega (arith, w));
-      names = put.names ∙ c.send_due.ensures.names ∙ i.names;
-      ended = c.next_row.ensures.ended;
-      read = omega (arith, i.read, c.next_row.ensures.later);
-      written = omega (arith, i.written, c.in_default.ensures.cause.later);
-    }
-
-pub returns-in-Ended-clause-own : goal.returns-in-Ended-clause-own
-returns-in-Ended-clause-own g c = λ own.
-    let run : Run = record { kernel = g.T.Ticker.kernel c.args.ticker.now; budget = c.args.session.now.budget; first = c.args.rows.now } in
-    let F : State → Type 0 = g.T.Ticker.follows c.ticks.ticker in
-    let now = c.ticks.rows in
-    let l0 = g.S.Source.left c.args.trace.now in
-    let l = g.S.Source.left c.ticks.trace in
-    let h0 = g.K.Sink.held c.args.out.now in
-    let h = g.K.Sink.held c.send_due.new.out in
-    let unsent : List ℕ = c.send_due.new.waiting.bytes.items in
-    let row = c.ticks.row in
-    let i = c.ticks.invariant in
-    let r : Reached run F now l0 l h0 h unsent row = reached_sent run F now l0 l h0 (g.K.Sink.held c.ticks.out) h c.ticks.session.waiting.bytes.items unsent row i.reached c.in_default.ensures.ok in
-    let new = c.next_row.new.rows in
-    let l' = g.S.Source.left c.next_row.new.trace in
-    let values = c.next_row.new.self.inputs.items in
-    let t = tick run.kernel run.budget r.state values in
-    let o = c.in-Ok.outcome in
-    let k : g.T.Ticker.kernel c.ticks.ticker ≡ run.kernel = i.kernel in
-    let follows : g.T.Ticker.follows c.ticks.ticker r.state = r.follows in
-    let how : o ≡ t.outcome = c.in-Ok.ensures.outcome r.state follows ∙ ap (λ x. (tick x run.budget r.state values).outcome) k in
-    let put : Gains c.send_due.new.waiting c.put_outcome.new.self (tick_lines run.kernel run.budget row t) =
-    put_tick_lines run.kernel run.budget row t o c.send_due.new.waiting.names c.deref.result.now c.send_due.new.waiting c.put_outcome.new.self
-    (c.send_due.ensures.names ∙ i.names ∙ c.requires.names) how
-    (λ has. c.deref.ensures.value ∙ c.in-Ok.ensures.outputs r.state follows has ∙ ap (λ x. (tick x run.budget r.state values).outputs) k) c.put_outcome.ensures in
-    stop_own run F now new l0 l l' h0 h (g.K.Sink.held c.finish-in-Ended.new.out) unsent c.put_outcome.new.self.bytes.items row values r (rw c.in-Ok-Row.field-0-is at c.in-Ok-Row.ensures.next) o status.Done c.finish-in-Ended.result how
-    (ap goes_on c.in-Ended.is) (ap stop_status c.in-Ended.is) put.bytes_are c.finish-in-Ended.ensures.said c.finish-in-Ended.ensures.all own
-
-pub returns-in-Ended-clause-write : goal.returns-in-Ended-clause-write
-returns-in-Ended-clause-write g c = λ is.
-    let run : Run = record { kernel = g.T.Ticker.kernel c.args.ticker.now; budget = c.args.session.now.budget; first = c.args.rows.now } in
-    let F : State → Type 0 = g.T.Ticker.follows c.ticks.ticker in
-    let now = c.ticks.rows in
-    let l0 = g.S.Source.left c.args.trace.now in
-    let l = g.S.Source.left c.ticks.trace in
-    let h0 = g.K.Sink.held c.args.out.now in
-    let h = g.K.Sink.held c.send_due.new.out in
-    let unsent : List ℕ = c.send_due.new.waiting.bytes.items in
-    let row = c.ticks.row in
-    let i = c.ticks.invariant in
-    let r : Reached run F now l0 l h0 h unsent row = reached_sent run F now l0 l h0 (g.K.Sink.held c.ticks.out) h c.ticks.session.waiting.bytes.items unsent row i.reached c.in_default.ensures.ok in
-    let new = c.next_row.new.rows in
-    let l' = g.S.Source.left c.next_row.new.trace in
-    let values = c.next_row.new.self.inputs.items in
-    let t = tick run.kernel run.budget r.state values in
-    let o = c.in-Ok.outcome in
-    let k : g.T.Ticker.kernel c.ticks.ticker ≡ run.kernel = i.kernel in
-    let follows : g.T.Ticker.follows c.ticks.ticker r.state = r.follows in
-    let how : o ≡ t.outcome = c.in-Ok.ensures.outcome r.state follows ∙ ap (λ x. (tick x run.budget r.state values).outcome) k in
-    let put : Gains c.send_due.new.waiting c.put_outcome.new.self (tick_lines run.kernel run.budget row t) =
-    put_tick_lines run.kernel run.budget row t o c.send_due.new.waiting.names c.deref.result.now c.send_due.new.waiting c.put_outcome.new.self
-    (c.send_due.ensures.names ∙ i.names ∙ c.requires.names) how
-    (λ has. c.deref.ensures.value ∙ c.in-Ok.ensures.outputs r.state follows has ∙ ap (λ x. (tick x run.budget r.state values).outputs) k) c.put_outcome.ensures in (
-      fell_since _ (g.K.Sink.faults c.send_due.new.out) _ _ (omega (arith, i.written, c.in_default.ensures.cause.later)) (c.finish-in-Ended.ensures.fault is),
-      stop_front run F now new l0 l l' h0 h (g.K.Sink.held c.finish-in-Ended.new.out) unsent c.put_outcome.new.self.bytes.items row values r (rw c.in-Ok-Row.field-0-is at c.in-Ok-Row.ensures.next) o how
-          (ap goes_on c.in-Ended.is) put.bytes_are (c.finish-in-Ended.ensures.front is),
-    )
-
-pub returns-in-Trapped-clause-own : goal.returns-in-Trapped-clause-own
-returns-in-Trapped-clause-own g c = λ own.
-    let run : Run = record { kernel = g.T.Ticker.kernel c.args.ticker.now; budget = c.args.session.now.budget; first = c.args.rows.now } in
-    let F : State → Type 0 = g.T.Ticker.follows c.ticks.ticker in
-    let now = c.ticks.rows in
-    let l0 = g.S.Source.left c.args.trace.now in
-    let l = g.S.Source.left c.ticks.trace in
-    let h0 = g.K.Sink.held c.args.out.now in
-    let h = g.K.Sink.held c.send_due.new.out in
-    let unsent : List ℕ = c.send_due.new.waiting.bytes.items in
-    let row = c.ticks.row in
-    let i = c.ticks.invariant in
-    let r : Reached run F now l0 l h0 h unsent row = reached_sent run F now l0 l h0 (g.K.Sink.held c.ticks.out) h c.ticks.session.waiting.bytes.items unsent row i.reached c.in_default.ensures.ok in
-    let new = c.next_row.new.rows in
-    let l' = g.S.Source.left c.next_row.new.trace in
-    let values = c.next_row.new.self.inputs.items in
-    let t = tick run.kernel run.budget r.state values in
-    let o = c.in-Ok.outcome in
-    let k : g.T.Ticker.kernel c.ticks.ticker ≡ run.kernel = i.kernel in
-    let follows : g.T.Ticker.follows c.ticks.ticker r.state = r.follows in
-    let how : o ≡ t.outcome = c.in-Ok.ensures.outcome r.state follows ∙ ap (λ x. (tick x run.budget r.state values).outcome) k in
-    let put : Gains c.send_due.new.waiting c.put_outcome.new.self (tick_lines run.kernel run.budget row t) =
-    put_tick_lines run.kernel run.budget row t o c.send_due.new.waiting.names c.deref.result.now c.send_due.new.waiting c.put_outcome.new.self
-    (c.send_due.ensures.names ∙ i.names ∙ c.requires.names) how
-    (λ has. c.deref.ensures.value ∙ c.in-Ok.ensures.outputs r.state follows has ∙ ap (λ x. (tick x run.budget r.state values).outputs) k) c.put_outcome.ensures in
-    stop_own run F now new l0 l l' h0 h (g.K.Sink.held c.finish-in-Trapped.new.out) unsent c.put_outcome.new.self.bytes.items row values r (rw c.in-Ok-Row.field-0-is at c.in-Ok-Row.ensures.next) o status.Trapped c.finish-in-Trapped.result how
-    (ap goes_on c.in-Trapped.is) (ap stop_status c.in-Trapped.is) put.bytes_are c.finish-in-Trapped.ensures.said c.finish-in-Trapped.ensures.all own
-
-pub returns-in-Trapped-clause-write : goal.returns-in-Trapped-clause-write
-returns-in-Trapped-clause-write g c = λ is.
-    let run : Run = record { kernel = g.T.Ticker.kernel c.args.ticker.now; budget = c.args.session.now.budget; first = c.args.rows.now } in
-    let F : State → Type 0 = g.T.Ticker.follows c.ticks.ticker in
-    let now = c.ticks.rows in
-    let l0 = g.S.Source.left c.args.trace.now in
-    let l = g.S.Source.left c.ticks.trace in
-    let h0 = g.K.Sink.held c.args.out.now in
-    let h = g.K.Sink.held c.send_due.new.out in
-    let unsent : List ℕ = c.send_due.new.waiting.bytes.items in
-    let row = c.ticks.row in
-    let i = c.ticks.invariant in
-    let r : Reached run F now l0 l h0 h unsent row = reached_sent run F now l0 l h0 (g.K.Sink.held c.ticks.out) h c.ticks.session.waiting.bytes.items unsent row i.reached c.in_default.ensures.ok in
-    let new = c.next_row.new.rows in
-    let l' = g.S.Source.left c.next_row.new.trace in
-    let values = c.next_row.new.self.inputs.items in
-    let t = tick run.kernel run.budget r.state values in
-    let o = c.in-Ok.outcome in
-    let k : g.T.Ticker.kernel c.ticks.ticker ≡ run.kernel = i.kernel in
-    let follows : g.T.Ticker.follows c.ticks.ticker r.state = r.follows in
-    let how : o ≡ t.outcome = c.in-Ok.ensures.outcome r.state follows ∙ ap (λ x. (tick x run.budget r.state values).outcome) k in
-    let put : Gains c.send_due.new.waiting c.put_outcome.new.self (tick_lines run.kernel run.budget row t) =
-    put_tick_lines run.kernel run.budget row t o c.send_due.new.waiting.names c.deref.result.now c.send_due.new.waiting c.put_outcome.new.self
-    (c.send_due.ensures.names ∙ i.names ∙ c.requires.names) how
-    (λ has. c.deref.ensures.value ∙ c.in-Ok.ensures.outputs r.state follows has ∙ ap (λ x. (tick x run.budget r.state values).outputs) k) c.put_outcome.ensures in (
-      fell_since _ (g.K.Sink.faults c.send_due.new.out) _ _ (omega (arith, i.written, c.in_default.ensures.cause.later)) (c.finish-in-Trapped.ensures.fault is),
-      stop_front run F now new l0 l l' h0 h (g.K.Sink.held c.finish-in-Trapped.new.out) unsent c.put_outcome.new.self.bytes.items row values r (rw c.in-Ok-Row.field-0-is at c.in-Ok-Row.ensures.next) o how
-          (ap goes_on c.in-Trapped.is) put.bytes_are (c.finish-in-Trapped.ensures.front is),
-    )
-
-pub returns-in-Over-clause-own : goal.returns-in-Over-clause-own
-returns-in-Over-clause-own g c = λ own.
-    let run : Run = record { kernel = g.T.Ticker.kernel c.args.ticker.now; budget = c.args.session.now.budget; first = c.args.rows.now } in
-    let F : State → Type 0 = g.T.Ticker.follows c.ticks.ticker in
-    let now = c.ticks.rows in
-    let l0 = g.S.Source.left c.args.trace.now in
-    let l = g.S.Source.left c.ticks.trace in
-    let h0 = g.K.Sink.held c.args.out.now in
-    let h = g.K.Sink.held c.send_due.new.out in
-    let unsent : List ℕ = c.send_due.new.waiting.bytes.items in
-    let row = c.ticks.row in
-    let i = c.ticks.invariant in
-    let r : Reached run F now l0 l h0 h unsent row = reached_sent run F now l0 l h0 (g.K.Sink.held c.ticks.out) h c.ticks.session.waiting.bytes.items unsent row i.reached c.in_default.ensures.ok in
-    let new = c.next_row.new.rows in
-    let l' = g.S.Source.left c.next_row.new.trace in
-    let values = c.next_row.new.self.inputs.items in
-    let t = tick run.kernel run.budget r.state values in
-    let o = c.in-Ok.outcome in
-    let k : g.T.Ticker.kernel c.ticks.ticker ≡ run.kernel = i.kernel in
-    let follows : g.T.Ticker.follows c.ticks.ticker r.state = r.follows in
-    let how : o ≡ t.outcome = c.in-Ok.ensures.outcome r.state follows ∙ ap (λ x. (tick x run.budget r.state values).outcome) k in
-    let put : Gains c.send_due.new.waiting c.put_outcome.new.self (tick_lines run.kernel run.budget row t) =
-    put_tick_lines run.kernel run.budget row t o c.send_due.new.waiting.names c.deref.result.now c.send_due.new.waiting c.put_outcome.new.self
-    (c.send_due.ensures.names ∙ i.names ∙ c.requires.names) how
-    (λ has. c.deref.ensures.value ∙ c.in-Ok.ensures.outputs r.state follows has ∙ ap (λ x. (tick x run.budget r.state values).outputs) k) c.put_outcome.ensures in
-    stop_own run F now new l0 l l' h0 h (g.K.Sink.held c.finish-in-Over.new.out) unsent c.put_outcome.new.self.bytes.items row values r (rw c.in-Ok-Row.field-0-is at c.in-Ok-Row.ensures.next) o status.Over c.finish-in-Over.result how
-    (ap goes_on c.in-Over.is) (ap stop_status c.in-Over.is) put.bytes_are c.finish-in-Over.ensures.said c.finish-in-Over.ensures.all own
-
-pub returns-in-Over-clause-write : goal.returns-in-Over-clause-write
-returns-in-Over-clause-write g c = λ is.
-    let run : Run = record { kernel = g.T.Ticker.kernel c.args.ticker.now; budget = c.args.session.now.budget; first = c.args.rows.now } in
-    let F : State → Type 0 = g.T.Ticker.follows c.ticks.ticker in
-    let now = c.ticks.rows in
-    let l0 = g.S.Source.left c.args.trace.now in
-    let l = g.S.Source.left c.ticks.trace in
-    let h0 = g.K.Sink.held c.args.out.now in
-    let h = g.K.Sink.held c.send_due.new.out in
-    let unsent : List ℕ = c.send_due.new.waiting.bytes.items in
-    let row = c.ticks.row in
-    let i = c.ticks.invariant in
-    let r : Reached run F now l0 l h0 h unsent row = reached_sent run F now l0 l h0 (g.K.Sink.held c.ticks.out) h c.ticks.session.waiting.bytes.items unsent row i.reached c.in_default.ensures.ok in
-    let new = c.next_row.new.rows in
-    let l' = g.S.Source.left c.next_row.new.trace in
-    let values = c.next_row.new.self.inputs.items in
-    let t = tick run.kernel run.budget r.state values in
-    let o = c.in-Ok.outcome in
-    let k : g.T.Ticker.kernel c.ticks.ticker ≡ run.kernel = i.kernel in
-    let follows : g.T.Ticker.follows c.ticks.ticker r.state = r.follows in
-    let how : o ≡ t.outcome = c.in-Ok.ensures.outcome r.state follows ∙ ap (λ x. (tick x run.budget r.state values).outcome) k in
-    let put : Gains c.send_due.new.waiting c.put_outcome.new.self (tick_lines run.kernel run.budget row t) =
-    put_tick_lines run.kernel run.budget row t o c.send_due.new.waiting.names c.deref.result.now c.send_due.new.waiting c.put_outcome.new.self
-    (c.send_due.ensures.names ∙ i.names ∙ c.requires.names) how
-    (λ has. c.deref.ensures.value ∙ c.in-Ok.ensures.outputs r.state follows has ∙ ap (λ x. (tick x run.budget r.state values).outputs) k) c.put_outcome.ensures in (
-      fell_since _ (g.K.Sink.faults c.send_due.new.out) _ _ (omega (arith, i.written, c.in_default.ensures.cause.later)) (c.finish-in-Over.ensures.fault is),
-      stop_front run F now new l0 l l' h0 h (g.K.Sink.held c.finish-in-Over.new.out) unsent c.put_outcome.new.self.bytes.items row values r (rw c.in-Ok-Row.field-0-is at c.in-Ok-Row.ensures.next) o how
-          (ap goes_on c.in-Over.is) put.bytes_are (c.finish-in-Over.ensures.front is),
-    )
+    let e = c.in-Ok-Row.ensures in
+    let gave : Gave now new l l' values = gave_row now new values values l l' (rw c.in-Ok-Row.field-0-is at e.bytes) (rw c.in-Ok-Row.field-0-is at e.trace) (rw c.in-Ok-Row.field-0-is at e.goes) e.same e.stays in
+    let are : c.deref.result.now ≡ values = c.deref.ensures.value ∙ with_items_is c.ticks.session.image.inputs c.next.new.row (search (rules, places)) in
+    let turn = turn_of run c.deref.result.now in
+    let how : o ≡ (tick k run.budget r.state values).outcome = outcome_at k r.turns turn r.state r.led o (c.in-Ok.ensures.tick.outcome k r.turns r.follows) ∙ ap (λ (v : Row). (tick k run.budget r.state v).outcome) are in
+    let put : Gains c.send_due.new.waiting c.put_outcome.new.self (tick_lines k run.budget row (tick k run.budget r.state values)) =
+    put_tick_lines k run.budget row (tick k run.budget r.state values) o c.send_due.new.waiting.names c.deref-in-ticks.result.now c.send_due.new.waiting c.put_outcome.new.self
+    (c.send_due.ensures.names ∙ i.names ∙ c.requires.session.names ∙ ap outputs_of (sym s.shaped)) how
+    (λ has. c.deref-in-ticks.ensures.value ∙ with_items_is c.ticks.session.image.outputs c.tick.new.outputs (search (rules, places)) ∙ outputs_at k r.turns turn r.state r.led c.tick.new.outputs (c.in-Ok.ensures.tick.outputs k r.turns r.follows has) ∙ ap (λ (v : Row). (tick k run.budget r.state v).outputs) are)
+    c.put_outcome.ensures in
+    let F' = g.T.Ticker.follows c.tick.new.self k in
+    let ran = subst (λ (v : Row). F' (r.turns ++ turn_of run v ∷ [])) are (c.in-Ok.ensures.tick.follows k r.turns r.follows) in
+    whole_stop run F F' now new l0 l l' h0 h unsent c.put_outcome.new.self.bytes.items row values r gave o c.last_status.result how (stops o c.in_default-outcome.not-Paused) c.last_status.ensures put.bytes_are ran
 
 -- ---- memory is wanting between two ticks
 
-pub returns-in_default-tick-clause-write : goal.returns-in_default-tick-clause-write
-returns-in_default-tick-clause-write g c = λ is.
-    let run : Run = record { kernel = g.T.Ticker.kernel c.args.ticker.now; budget = c.args.session.now.budget; first = c.args.rows.now } in
-    let F : State → Type 0 = g.T.Ticker.follows c.ticks.ticker in
-    let now = c.ticks.rows in
-    let l0 = g.S.Source.left c.args.trace.now in
-    let l = g.S.Source.left c.ticks.trace in
-    let h0 = g.K.Sink.held c.args.out.now in
-    let h = g.K.Sink.held c.send_due.new.out in
-    let unsent : List ℕ = c.send_due.new.waiting.bytes.items in
-    let row = c.ticks.row in
-    let i = c.ticks.invariant in
-    let r : Reached run F now l0 l h0 h unsent row = reached_sent run F now l0 l h0 (g.K.Sink.held c.ticks.out) h c.ticks.session.waiting.bytes.items unsent row i.reached c.in_default.ensures.ok in
-    let end = c.finish-in_default-tick in (
-      fell_since _ (g.K.Sink.faults c.send_due.new.out) _ _ (omega (arith, i.written, c.in_default.ensures.cause.later)) (end.ensures.fault is),
-      front_now run F now l0 l h0 h (g.K.Sink.held end.new.out) unsent row r (end.ensures.front is),
-    )
+pub returns-in_default-tick-clause-ready : goal.returns-in_default-tick-clause-ready
+returns-in_default-tick-clause-ready g c = λ _. sym c.ticks.invariant.ready ∙ c.in_default-tick.ensures.memory
 
 pub returns-in_default-tick-clause-memory : goal.returns-in_default-tick-clause-memory
-returns-in_default-tick-clause-memory g c = λ is.
-    let run : Run = record { kernel = g.T.Ticker.kernel c.args.ticker.now; budget = c.args.session.now.budget; first = c.args.rows.now } in
-    let F : State → Type 0 = g.T.Ticker.follows c.ticks.ticker in
+returns-in_default-tick-clause-memory g c = λ _ k s.
+    let run : Run = record { kernel = k; budget = c.args.session.now.budget; first = c.args.rows.now } in
+    let F = g.T.Ticker.follows c.ticks.ticker k in
     let now = c.ticks.rows in
     let l0 = g.S.Source.left c.args.trace.now in
     let l = g.S.Source.left c.ticks.trace in
@@ -399,54 +167,105 @@ returns-in_default-tick-clause-memory g c = λ is.
     let unsent : List ℕ = c.send_due.new.waiting.bytes.items in
     let row = c.ticks.row in
     let i = c.ticks.invariant in
-    let r : Reached run F now l0 l h0 h unsent row = reached_sent run F now l0 l h0 (g.K.Sink.held c.ticks.out) h c.ticks.session.waiting.bytes.items unsent row i.reached c.in_default.ensures.ok in
-    let end = c.finish-in_default-tick in (
-      sym i.ready ∙ c.in_default-tick.ensures.memory,
-      front_now run F now l0 l h0 h (g.K.Sink.held end.new.out) unsent row r (front_whole h (g.K.Sink.held end.new.out) unsent (end.ensures.all (not_write end.result is))),
-    )
+    let r : Reached run F now l0 l h0 h unsent row = reached_sent run F now l0 l h0 (g.K.Sink.held c.ticks.out) h c.ticks.session.waiting.bytes.items unsent row (i.reached k s) c.in_default.ensures.ok in
+    front_now run F now l0 l h0 h unsent row r
 
-pub returns-in-Ended-clause-read : goal.returns-in-Ended-clause-read
-returns-in-Ended-clause-read g c = λ is. absurd (not_read c.finish-in-Ended.result status.Done c.finish-in-Ended.ensures.said (λ e. cc) is)
+-- ---- the program goes on
 
-pub returns-in-Trapped-clause-read : goal.returns-in-Trapped-clause-read
-returns-in-Trapped-clause-read g c = λ is. absurd (not_read c.finish-in-Trapped.result status.Trapped c.finish-in-Trapped.ensures.said (λ e. cc) is)
+pub ticks-preserved : goal.ticks-preserved
+ticks-preserved g c =
+    let i = c.ticks.invariant in
+    let now = c.ticks.rows in
+    let new = c.next.new.self in
+    let l = g.S.Source.left c.ticks.trace in
+    let l' = g.S.Source.left c.next.new.source in
+    let values : Row = c.next.new.row in
+    let e = c.in-Ok-Row.ensures in
+    let gave : Gave now new l l' values = gave_row now new values values l l' (rw c.in-Ok-Row.field-0-is at e.bytes) (rw c.in-Ok-Row.field-0-is at e.trace) (rw c.in-Ok-Row.field-0-is at e.goes) e.same e.stays in
+    let kept_inputs : length c.next.new.row ≡ length c.ticks.session.image.inputs.items = search rules in
+    let kept_outputs : length c.tick.new.outputs ≡ length c.ticks.session.image.outputs.items = search rules in
+    let within = row_within c.args.rows.now c.ticks.row now i.stands gave.within in
+    record {
+      reached = λ k s.
+          let run : Run = record { kernel = k; budget = c.args.session.now.budget; first = c.args.rows.now } in
+          let F = g.T.Ticker.follows c.ticks.ticker k in
+          let now = c.ticks.rows in
+          let l0 = g.S.Source.left c.args.trace.now in
+          let l = g.S.Source.left c.ticks.trace in
+          let h0 = g.K.Sink.held c.args.out.now in
+          let h = g.K.Sink.held c.send_due.new.out in
+          let unsent : List ℕ = c.send_due.new.waiting.bytes.items in
+          let row = c.ticks.row in
+          let i = c.ticks.invariant in
+          let r : Reached run F now l0 l h0 h unsent row = reached_sent run F now l0 l h0 (g.K.Sink.held c.ticks.out) h c.ticks.session.waiting.bytes.items unsent row (i.reached k s) c.in_default.ensures.ok in
+          let new = c.next.new.self in
+          let l' = g.S.Source.left c.next.new.source in
+          let values : Row = c.next.new.row in
+          let o = c.in-Ok.outcome in
+          let e = c.in-Ok-Row.ensures in
+          let gave : Gave now new l l' values = gave_row now new values values l l' (rw c.in-Ok-Row.field-0-is at e.bytes) (rw c.in-Ok-Row.field-0-is at e.trace) (rw c.in-Ok-Row.field-0-is at e.goes) e.same e.stays in
+          let are : c.deref.result.now ≡ values = c.deref.ensures.value ∙ with_items_is c.ticks.session.image.inputs c.next.new.row (search (rules, places)) in
+          let turn = turn_of run c.deref.result.now in
+          let how : o ≡ (tick k run.budget r.state values).outcome = outcome_at k r.turns turn r.state r.led o (c.in-Ok.ensures.tick.outcome k r.turns r.follows) ∙ ap (λ (v : Row). (tick k run.budget r.state v).outcome) are in
+          let put : Gains c.send_due.new.waiting c.put_outcome.new.self (tick_lines k run.budget row (tick k run.budget r.state values)) =
+          put_tick_lines k run.budget row (tick k run.budget r.state values) o c.send_due.new.waiting.names c.deref-in-ticks.result.now c.send_due.new.waiting c.put_outcome.new.self
+          (c.send_due.ensures.names ∙ i.names ∙ c.requires.session.names ∙ ap outputs_of (sym s.shaped)) how
+          (λ has. c.deref-in-ticks.ensures.value ∙ with_items_is c.ticks.session.image.outputs c.tick.new.outputs (search (rules, places)) ∙ outputs_at k r.turns turn r.state r.led c.tick.new.outputs (c.in-Ok.ensures.tick.outputs k r.turns r.follows has) ∙ ap (λ (v : Row). (tick k run.budget r.state v).outputs) are)
+          c.put_outcome.ensures in
+          let F' = g.T.Ticker.follows c.tick.new.self k in
+          let ran = subst (λ (v : Row). F' (r.turns ++ turn_of run v ∷ [])) are (c.in-Ok.ensures.tick.follows k r.turns r.follows) in
+          reached_more run F F' now new l0 l l' h0 h unsent c.put_outcome.new.self.bytes.items row values r gave (ap goes_on (sym how ∙ c.in-Paused.is)) ran put.bytes_are;
+      asked = λ k s.
+          let run : Run = record { kernel = k; budget = c.args.session.now.budget; first = c.args.rows.now } in
+          let a = i.asked k s in
+          let o = c.in-Ok.outcome in
+          let are : c.deref.result.now ≡ values = c.deref.ensures.value ∙ with_items_is c.ticks.session.image.inputs c.next.new.row (search (rules, places)) in
+          let turn = turn_of run c.deref.result.now in
+          let went : o ≡ (tick k run.budget a.pace.state values).outcome = outcome_at k a.turns turn a.pace.state a.led o (c.in-Ok.ensures.tick.outcome k a.turns a.follows) ∙ ap (λ (v : Row). (tick k run.budget a.pace.state v).outcome) are in
+          let F' = g.T.Ticker.follows c.tick.new.self k in
+          asked_more g.S.Source.left g.S.Source.faults g.S.Source.down run (g.T.Ticker.follows c.ticks.ticker k) F' now new c.ticks.row c.args.trace.now c.ticks.trace c.next.new.source values a i.stands (rw c.in-Ok-Row.field-0-is at e.reads) gave.stays
+          (ap goes_on (sym went ∙ c.in-Paused.is)) (subst (λ (v : Row). F' (a.turns ++ turn_of run v ∷ [])) are (c.in-Ok.ensures.tick.follows k a.turns a.follows));
+      shape = c.tick.ensures.shape ∙ i.shape;
+      ready = c.tick.ensures.ready ∙ i.ready;
+      inputs = ap (λ (v : Row). length v) (with_items_is c.ticks.session.image.inputs c.next.new.row (search (rules, places))) ∙ kept_inputs ∙ i.inputs;
+      outputs = ap (λ (v : Row). length v) (with_items_is c.ticks.session.image.outputs c.tick.new.outputs (search (rules, places))) ∙ kept_outputs ∙ i.outputs;
+      live = c.in-Ok.ensures.live (ap goes_on c.in-Paused.is);
+      reads = (rw c.in-Ok-Row.field-0-is at e.goes).2;
+      stands = stands_more c.args.rows.now c.ticks.row now new l l' values i.stands gave;
+      low = omega arith;
+      high = omega (arith, within);
+      names = (c.put_outcome.ensures c.deref-in-ticks.result.now (λ has. refl)).names ∙ c.send_due.ensures.names ∙ i.names;
+      ended = e.ended;
+      read = omega (arith, i.read, e.later);
+      written = omega (arith, i.written, c.in_default.ensures.cause.later);
+    }
 
 -- ---- the reads of the trace
 
-pub returns-in_default-tick-clause-trace : goal.returns-in_default-tick-clause-trace
-returns-in_default-tick-clause-trace g c =
-    let run : Run = record { kernel = g.T.Ticker.kernel c.args.ticker.now; budget = c.args.session.now.budget; first = c.args.rows.now } in
-    asked_last g.S.Source.left g.S.Source.faults g.S.Source.down run (g.T.Ticker.follows c.ticks.ticker) c.ticks.rows c.ticks.row c.args.trace.now c.ticks.trace c.next_row.new.trace _ c.ticks.invariant.asked c.next_row.ensures.trace
-
 pub returns-in-Err-clause-trace : goal.returns-in-Err-clause-trace
-returns-in-Err-clause-trace g c = (c.ticks.invariant.asked.given, c.ticks.invariant.asked.reads)
+returns-in-Err-clause-trace g c = λ k s. let a = c.ticks.invariant.asked k s in (a.given, a.reads)
 
 pub returns-in-ReadFault-clause-trace : goal.returns-in-ReadFault-clause-trace
-returns-in-ReadFault-clause-trace g c =
-    let run : Run = record { kernel = g.T.Ticker.kernel c.args.ticker.now; budget = c.args.session.now.budget; first = c.args.rows.now } in
-    asked_last g.S.Source.left g.S.Source.faults g.S.Source.down run (g.T.Ticker.follows c.ticks.ticker) c.ticks.rows c.ticks.row c.args.trace.now c.ticks.trace c.next_row.new.trace _ c.ticks.invariant.asked c.next_row.ensures.trace
+returns-in-ReadFault-clause-trace g c = λ k s.
+    let run : Run = record { kernel = k; budget = c.args.session.now.budget; first = c.args.rows.now } in
+    asked_last g.S.Source.left g.S.Source.faults g.S.Source.down run (g.T.Ticker.follows c.ticks.ticker k) c.ticks.rows c.ticks.row c.args.trace.now c.ticks.trace c.next.new.source (NextTook c.ticks.rows c.next.new.self c.next.new.row c.next.result) (c.ticks.invariant.asked k s) c.next.ensures.reads
 
 pub returns-in-Ok-End-clause-trace : goal.returns-in-Ok-End-clause-trace
-returns-in-Ok-End-clause-trace g c =
-    let run : Run = record { kernel = g.T.Ticker.kernel c.args.ticker.now; budget = c.args.session.now.budget; first = c.args.rows.now } in
-    asked_last g.S.Source.left g.S.Source.faults g.S.Source.down run (g.T.Ticker.follows c.ticks.ticker) c.ticks.rows c.ticks.row c.args.trace.now c.ticks.trace c.next_row.new.trace _ c.ticks.invariant.asked c.next_row.ensures.trace
+returns-in-Ok-End-clause-trace g c = λ k s.
+    let run : Run = record { kernel = k; budget = c.args.session.now.budget; first = c.args.rows.now } in
+    asked_last g.S.Source.left g.S.Source.faults g.S.Source.down run (g.T.Ticker.follows c.ticks.ticker k) c.ticks.rows c.ticks.row c.args.trace.now c.ticks.trace c.next.new.source (NextTook c.ticks.rows c.next.new.self c.next.new.row c.next.result) (c.ticks.invariant.asked k s) c.next.ensures.reads
 
 pub returns-in_default-fault-clause-trace : goal.returns-in_default-fault-clause-trace
-returns-in_default-fault-clause-trace g c =
-    let run : Run = record { kernel = g.T.Ticker.kernel c.args.ticker.now; budget = c.args.session.now.budget; first = c.args.rows.now } in
-    asked_last g.S.Source.left g.S.Source.faults g.S.Source.down run (g.T.Ticker.follows c.ticks.ticker) c.ticks.rows c.ticks.row c.args.trace.now c.ticks.trace c.next_row.new.trace _ c.ticks.invariant.asked c.next_row.ensures.trace
+returns-in_default-fault-clause-trace g c = λ k s.
+    let run : Run = record { kernel = k; budget = c.args.session.now.budget; first = c.args.rows.now } in
+    asked_last g.S.Source.left g.S.Source.faults g.S.Source.down run (g.T.Ticker.follows c.ticks.ticker k) c.ticks.rows c.ticks.row c.args.trace.now c.ticks.trace c.next.new.source (NextTook c.ticks.rows c.next.new.self c.next.new.row c.next.result) (c.ticks.invariant.asked k s) c.next.ensures.reads
 
-pub returns-in-Ended-clause-trace : goal.returns-in-Ended-clause-trace
-returns-in-Ended-clause-trace g c =
-    let run : Run = record { kernel = g.T.Ticker.kernel c.args.ticker.now; budget = c.args.session.now.budget; first = c.args.rows.now } in
-    asked_last g.S.Source.left g.S.Source.faults g.S.Source.down run (g.T.Ticker.follows c.ticks.ticker) c.ticks.rows c.ticks.row c.args.trace.now c.ticks.trace c.next_row.new.trace _ c.ticks.invariant.asked c.next_row.ensures.trace
+pub returns-in_default-outcome-clause-trace : goal.returns-in_default-outcome-clause-trace
+returns-in_default-outcome-clause-trace g c = λ k s.
+    let run : Run = record { kernel = k; budget = c.args.session.now.budget; first = c.args.rows.now } in
+    asked_last g.S.Source.left g.S.Source.faults g.S.Source.down run (g.T.Ticker.follows c.ticks.ticker k) c.ticks.rows c.ticks.row c.args.trace.now c.ticks.trace c.next.new.source (NextTook c.ticks.rows c.next.new.self c.next.new.row c.next.result) (c.ticks.invariant.asked k s) c.next.ensures.reads
 
-pub returns-in-Trapped-clause-trace : goal.returns-in-Trapped-clause-trace
-returns-in-Trapped-clause-trace g c =
-    let run : Run = record { kernel = g.T.Ticker.kernel c.args.ticker.now; budget = c.args.session.now.budget; first = c.args.rows.now } in
-    asked_last g.S.Source.left g.S.Source.faults g.S.Source.down run (g.T.Ticker.follows c.ticks.ticker) c.ticks.rows c.ticks.row c.args.trace.now c.ticks.trace c.next_row.new.trace _ c.ticks.invariant.asked c.next_row.ensures.trace
-
-pub returns-in-Over-clause-trace : goal.returns-in-Over-clause-trace
-returns-in-Over-clause-trace g c =
-    let run : Run = record { kernel = g.T.Ticker.kernel c.args.ticker.now; budget = c.args.session.now.budget; first = c.args.rows.now } in
-    asked_last g.S.Source.left g.S.Source.faults g.S.Source.down run (g.T.Ticker.follows c.ticks.ticker) c.ticks.rows c.ticks.row c.args.trace.now c.ticks.trace c.next_row.new.trace _ c.ticks.invariant.asked c.next_row.ensures.trace
+pub returns-in_default-tick-clause-trace : goal.returns-in_default-tick-clause-trace
+returns-in_default-tick-clause-trace g c = λ k s.
+    let run : Run = record { kernel = k; budget = c.args.session.now.budget; first = c.args.rows.now } in
+    asked_last g.S.Source.left g.S.Source.faults g.S.Source.down run (g.T.Ticker.follows c.ticks.ticker k) c.ticks.rows c.ticks.row c.args.trace.now c.ticks.trace c.next.new.source (NextTook c.ticks.rows c.next.new.self c.next.new.row c.next.result) (c.ticks.invariant.asked k s) c.next.ensures.reads

@@ -1,27 +1,30 @@
 use Rattle.std.proofs.Common.{◌≡◌, ◌≤◌, ◌+◌, ◌-◌, true, length}
 use Rattle.std.specs.Io.KnownBytes.{IsAtEnd}
-use Rattle.forec_base.specs.declared.limits.TheConstants.{MAX_ROWS}
+use Rattle.forec_kernel.specs.Shapes.{PlainKernel}
+use Rattle.trace_runs.specs.Ticking.{Starts}
 use Rattle.trace_runs.proofs.Asking.{Asked}
-use Rattle.trace_runs.proofs.Running.{Reached}
+use Rattle.trace_runs.proofs.Running.{Reached, Stands_at}
 use Rattle.trace_runs.proofs.ticks.run_rows.Given as goal
 
 abbrev pub invariant-ticks : goal.invariant-ticks
 invariant-ticks g l =
     let left = g.S.Source.left in
     let held = g.K.Sink.held in
-    let kernel = g.T.Ticker.kernel l.fn.ticker in
+    let shape = g.T.Ticker.shape l.fn.ticker in
     record {
-      reached : Reached (record { kernel = kernel; budget = l.budget; first = l.fn.rows })
-          (g.T.Ticker.follows l.ticker) l.rows (left l.fn.trace) (left l.trace) (held l.fn.out) (held l.out) l.session.waiting.bytes.items l.row;
-      asked : Asked left g.S.Source.faults g.S.Source.down (record { kernel = kernel; budget = l.budget; first = l.fn.rows }) (g.T.Ticker.follows l.ticker) l.rows l.row l.fn.trace l.trace;
-      kernel : g.T.Ticker.kernel l.ticker ≡ kernel;
+      reached : (k : PlainKernel) → Starts shape (g.T.Ticker.follows l.fn.ticker) k → Reached (record { kernel = k; budget = l.budget; first = l.fn.rows })
+          (g.T.Ticker.follows l.ticker k) l.rows (left l.fn.trace) (left l.trace) (held l.fn.out) (held l.out) l.session.waiting.bytes.items l.row;
+      asked : (k : PlainKernel) → Starts shape (g.T.Ticker.follows l.fn.ticker) k → Asked left g.S.Source.faults g.S.Source.down (record { kernel = k; budget = l.budget; first = l.fn.rows })
+          (g.T.Ticker.follows l.ticker k) l.rows l.row l.fn.trace l.trace;
+      shape : g.T.Ticker.shape l.ticker ≡ shape;
       ready : g.T.Ticker.ready l.ticker ≡ g.T.Ticker.ready l.fn.ticker;
       inputs : length l.session.image.inputs.items ≡ length l.fn.session.image.inputs.items;
       outputs : length l.session.image.outputs.items ≡ length l.fn.session.image.outputs.items;
-      live : g.T.Ticker.live l.ticker ≡ true;
+      live : g.T.Ticker.live l.ticker;
       reads : l.rows.live ≡ true;
+      stands : Stands_at l.fn.rows l.row l.rows;
       low : 1 ≤ l.row;
-      high : l.row ≤ MAX_ROWS + 1;
+      high : l.row ≤ l.fn.rows.limit + 1;
       names : l.session.waiting.names ≡ l.fn.session.waiting.names;
       ended : l.rows.ended ≡ true → IsAtEnd (left l.trace);
       read : g.S.Source.faults l.fn.trace ≤ g.S.Source.faults l.trace;
@@ -29,4 +32,4 @@ invariant-ticks g l =
     }
 
 abbrev pub decreases-ticks : goal.decreases-ticks
-decreases-ticks g l = MAX_ROWS + 2 - l.row
+decreases-ticks g l = l.fn.rows.limit + 2 - l.row

@@ -1,0 +1,47 @@
+-- What words print.
+use Rattle.std.proofs.Common.{◌≡◌, ◌⊎◌, inl, inr, ℕ, Bool, List, Option, Some, None, refl}
+use Rattle.forec_base.specs.Outside.{Fell}
+use Rattle.command_words.specs.Requests.{PlainRunning, PlainCommand, OnText, OnWorkload, request_of}
+use Rattle.workload.specs.Text.{text_of}
+use Rattle.forec_engine.specs.Answers.{AnswersNamed}
+use Rattle.forec_engine.specs.Commands.{IsReport, Of_usage, Of_text, Of_workload, WorkloadReport, Tells, usage}
+use Rattle.forec_engine.specs.Ends.{WantedByWords, ReadForWords, AcceptedSo, IsMisuse, Asks_nothing, Misplaces, Misplaces_workload, AskForRewriting}
+use Rattle.forec_engine.specs.Placing.{IsMisplaced}
+use Rattle.trace_runs.specs.Ends.{IsOwn}
+use Rattle.trace_runs.specs.Prints.{Prints, Says}
+use Rattle.trace_runs.specs.Report.{Report}
+use Rattle.trace_runs.specs.declared.status.Status.{Status}
+use Rattle.trace_runs.specs.declared.status.Status.TheVariants as status
+use Rattle.trace_runs.proofs.EndLemmas.{neither_fault}
+use Rattle.trace_runs.proofs.Printing.{prints_as}
+
+module _ {S K : Type 0} (left : S → Option (List ℕ)) (faults : S → ℕ) (down : S → Bool) (held : K → Option (List ℕ)) (lost : K → ℕ) (is_down : K → Bool) (words : List (List ℕ)) (content : List ℕ → Option (List ℕ)) (Lost : Type 0)
+    (old new : S) (out out' : K) where
+  abbrev Unread : Type 0
+  Unread = (Lost × (held out' ≡ held out)) ⊎ (Fell (faults old) (faults new) (down new) × WantedByWords words content (left old) (left new) (held out) (held out'))
+
+  abbrev pub WordsPrint : Status → Type 0
+  WordsPrint end = Prints held lost is_down (Tells words content (left old)) (IsReport words content (left old)) (IsMisuse words content) Unread (AskForRewriting words) out out' end
+
+  pub words_text : (name : List ℕ) (command : PlainCommand) (end : Status) → request_of words ≡ Some (OnText name command) → AnswersNamed left faults down held lost is_down command content name Lost old new out out' end → WordsPrint end
+  words_text name command end request p =
+      prints_as held lost is_down _ _ _ _ _ out out' _ _ _ _ _ end (λ told. told name command request) (λ told r is. Of_text name command is.0 request is.1 is.2) (λ m. Misplaces name command request m)
+      (λ u. elim u [ inl store ↦ inl store | inr r ↦ inr (r.2.0, (r.0, name, command, request, r.1, r.2.1)) ]) (λ m. (name, command, request, m)) p.prints
+
+  pub words_trace : (name : List ℕ) (command : PlainCommand) (end : Status) → request_of words ≡ Some (OnText name command) → AnswersNamed left faults down held lost is_down command content name Lost old new out out' end →
+      (new ≡ old) ⊎ ReadForWords left faults down words content old new
+  words_trace name command end request p = elim p.trace [ inl same ↦ inl same | inr r ↦ inr (r.0, name, command, request, r.1, r.2) ]
+
+  pub words_workload : (threads : ℕ) (running : PlainRunning) (end : Status) → request_of words ≡ Some (OnWorkload threads running) →
+      Prints held lost is_down Unit (WorkloadReport threads running) (AcceptedSo (λ k. IsMisplaced k running.placing) (text_of threads)) ⊥ ⊥ out out' end → WordsPrint end
+  words_workload threads running end request p =
+      prints_as held lost is_down _ _ _ _ _ out out' _ _ _ _ _ end (λ told. tt) (λ told r is. Of_workload threads running request is) (λ m. Misplaces_workload threads running request m) (λ n. absurd n) (λ n. absurd n) p
+
+  pub words_nothing : (end : Status) (Misused : Type 0) → request_of words ≡ None → Says held lost is_down usage Misused out out' end → WordsPrint end
+  words_nothing end Misused none p =
+      prints_as held lost is_down _ _ _ _ _ out out' _ _ _ _ _ end (λ told. tt) (λ told r is. Of_usage none is) (λ m. Asks_nothing none) (λ n. absurd n) (λ n. absurd n) p
+
+  -- where no count rises
+  pub words_complete : (end : Status) → WordsPrint end → (Lost → ⊥) → (Fell (faults old) (faults new) (down new) → ⊥) → (Fell (lost out) (lost out') (is_down out') → ⊥) → IsOwn end ⊎ (end ≡ status.NoMemory)
+  words_complete end p kept read written =
+      neither_fault end (λ e. elim (p.read e) [ inl store ↦ kept store.0 | inr r ↦ read r.0 ]) (λ e. written (p.write e).0)

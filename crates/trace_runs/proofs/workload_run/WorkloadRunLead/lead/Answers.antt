@@ -1,0 +1,12 @@
+use Rattle.std.proofs.Common.{refl}
+use Rattle.trace_runs.specs.Workload.{ticked_report}
+use Rattle.trace_runs.proofs.TickingLemmas.{put_said}
+use Rattle.trace_runs.proofs.workload_run.WorkloadRunLead.lead.Goals as goal
+
+pub returns : goal.returns
+returns g c = λ k s.
+    let session = c.args.self.now.session.now in (
+      refl,
+      put_said g.K.Sink.held g.K.Sink.faults g.K.Sink.down session.waiting c.run_workload-status.new.waiting (ticked_report c.args.self.now.threads k session.budget) c.run_workload-status.result c.args.self.now.out.now c.finish.new.out c.finish.result
+          (c.run_workload-status.ensures.report k s) c.requires.can.0.none c.run_workload-status.ensures.usage c.finish.ensures.says,
+    )

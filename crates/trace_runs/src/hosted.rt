@@ -1,0 +1,119 @@
+//! What runs a code: hosts beside one another, one host by itself, or one core alone.
+
+ghost use Rattle.std.specs.Prelude.{◌≡◌, true};
+ghost use Rattle.core_host.specs.Hosted.{is_here};
+
+use crate::setting::Company;
+use crate::ticker::Ticker;
+use copy_slots::Port;
+use core_host::{ForecWork, Host, Serve};
+use forec_base::{Gate, OutOfMemory};
+use forec_kernel::Outcome;
+use one_core::OneCore;
+use std::sync::Wait;
+
+/// The host of thread 0, which ticks beside the hosts of other cores.
+#[derive(Drop)]
+pub struct Root<'c, P: Port<ForecWork> + Drop> {
+    pub host: Host<'c, P>,
+    ghost root: { is_here host 0 ≡ true },
+}
+
+/// A ticker that has workers.
+pub trait StopWorkers {
+    /// Tells the workers to stop.
+    fn stop(&mut self);
+}
+
+impl<'c, P: Port<ForecWork> + Drop> StopWorkers for Root<'c, P> {
+    fn stop(&mut self) {
+        self.host.stop();
+    }
+}
+
+impl<'c, P: Port<ForecWork> + Drop> Ticker for Root<'c, P> {
+    ghost use Rattle.std.specs.Prelude.{◌≡◌, true};
+    ghost use Rattle.core_host.specs.Hosted.{code_of, is_live};
+    ghost use Rattle.trace_runs.specs.Hosting.{HostFollows};
+
+    ghost shape = { λ r. (code_of r.host).shape };
+
+    ghost follows = { λ r. HostFollows r.host };
+
+    ghost live = { λ r. is_live r.host ≡ true };
+
+    ghost ready = { λ r. true };
+
+    fn tick<O: Serve, G: Gate, R: Wait>(
+        &mut self,
+        company: &mut Company<'_, O, G, R>,
+        row: &[i32],
+        budget: u64,
+        outputs: &mut [i32],
+    ) -> Result<Outcome, OutOfMemory> {
+        Ok(
+            self.host.tick_beside(
+                company.rt,
+                row,
+                budget,
+                company.others,
+                company.gate,
+                outputs,
+            ),
+        )
+    }
+}
+
+/// A host that has all threads, and ticks by itself: the one that a log of exchanges and the runs of a farm stand on.
+#[derive(Drop)]
+pub struct Alone<'c, P: Port<ForecWork> + Drop> {
+    pub host: Host<'c, P>,
+}
+
+impl<'c, P: Port<ForecWork> + Drop> Ticker for Alone<'c, P> {
+    ghost use Rattle.std.specs.Prelude.{◌≡◌, true};
+    ghost use Rattle.core_host.specs.Hosted.{code_of, is_live, IsWhole};
+    ghost use Rattle.trace_runs.specs.Hosting.{HostFollows};
+
+    ghost shape = { λ a. (code_of a.host).shape };
+
+    ghost follows = { λ a. HostFollows a.host };
+
+    ghost live = { λ a. IsWhole a.host × (is_live a.host ≡ true) };
+
+    ghost ready = { λ a. true };
+
+    fn tick<O: Serve, G: Gate, R: Wait>(
+        &mut self,
+        company: &mut Company<'_, O, G, R>,
+        row: &[i32],
+        budget: u64,
+        outputs: &mut [i32],
+    ) -> Result<Outcome, OutOfMemory> {
+        Ok(self.host.alone(row, budget, company.gate, outputs))
+    }
+}
+
+impl<'c> Ticker for OneCore<'c> {
+    ghost use Rattle.std.specs.Prelude.{◌≡◌, true};
+    ghost use Rattle.one_core.specs.Single.{code_of, is_live};
+    ghost use Rattle.trace_runs.specs.Hosting.{OneFollows};
+
+    ghost shape = { λ o. (code_of o).shape };
+
+    ghost follows = { λ o. OneFollows o };
+
+    ghost live = { λ o. is_live o ≡ true };
+
+    ghost ready = { λ o. true };
+
+    fn tick<O: Serve, G: Gate, R: Wait>(
+        &mut self,
+        company: &mut Company<'_, O, G, R>,
+        row: &[i32],
+        budget: u64,
+        outputs: &mut [i32],
+    ) -> Result<Outcome, OutOfMemory> {
+        Ok(OneCore::tick(self, row, budget, company.gate, outputs))
+    }
+}
