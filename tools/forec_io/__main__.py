@@ -51,7 +51,7 @@ def parser() -> argparse.ArgumentParser:
     outer = argparse.ArgumentParser(prog="forec", usage=USAGE[len("usage: "):], add_help=False)
     commands = outer.add_subparsers(dest="command", required=True)
     for name in ("loop", "watch", "replay-field"):
-        words = commands.add_parser(name, usage=USAGE[len("usage: "):], add_help=False)
+        words = commands.add_parser(name, prog=f"forec {name}", usage=USAGE[len("usage: "):], add_help=False)
         words.add_argument("path", nargs="?")
         if name != "replay-field":
             words.add_argument("--ticks", type=int)
