@@ -70,7 +70,7 @@ def run(words: argparse.Namespace) -> int:
         return replay.run(words.path)
     config = configuration.read(words.path)
     if words.ticks is not None:
-        config = dataclasses.replace(config, ticks=max(0, words.ticks))
+        config = dataclasses.replace(config, loop=dataclasses.replace(config.loop, ticks=max(0, words.ticks)))
     if words.command == "loop" and words.check:
         print("\n".join(configuration.shown(config)))
         return 0

@@ -12,7 +12,7 @@ from collections import deque
 from typing import Any
 
 from .config import Config
-from .log import Log
+from .log import log_of
 from .loop import Loop
 from .signals import LEAST, MOST
 from .table import ConfigFault
@@ -127,7 +127,7 @@ def run(config: Config) -> int:
     except curses.error as fault:
         raise ConfigFault(f"this terminal can't show it: {fault}") from None
     told: deque[str] = deque(maxlen=100)
-    log = Log(config.log_folder, config.program, config.path, config.log_size, config.log_flush) if config.log_folder else None
+    log = log_of(config)
     loop = Loop(config, log, told.append, lambda line: None)
     for number in (signal.SIGTERM, signal.SIGINT, signal.SIGHUP):
         signal.signal(number, lambda number, _: loop.stop(signal.Signals(number).name))
