@@ -4,6 +4,7 @@ from __future__ import annotations
 
 import contextlib
 import curses
+import os
 import signal
 import sys
 import threading
@@ -82,7 +83,7 @@ class View:
         """The lines of a picture, and whether each is bright."""
         loop = self.loop
         state = "paused" if loop.paused else "runs"
-        found = [(f"{loop.config.program}   tick {loop.tick}   {state}", True)]
+        found = [(f"{os.path.basename(loop.config.program)}   tick {loop.tick}   {state}", True)]
         found += [(f"channel {channel.name}: {channel.fault or 'up'}", bool(channel.fault)) for channel in loop.channels] + [("", False)]
         found += [self._signal(number, kind, name) for number, (kind, name) in enumerate(self.names)] + [("", False)]
         found += [(line, False) for line in loop.statistics()] + [("", False)]
