@@ -124,8 +124,9 @@ class Loop:
         until = time.monotonic() + self.config.loop.wait
         while not all(map(self._is_ready, self.channels)) and time.monotonic() < until and not self.stopping:
             time.sleep(0.005)
+        told = self._events()
         for channel in self.channels:
-            if channel.fault:
+            if channel.fault and channel.name not in told:
                 self._say(f"the channel {channel.name} is down: {channel.fault}")
         # What there is by now is never looked at again by the collector, which takes so little time in a tick.
         gc.collect()
@@ -294,10 +295,12 @@ class Loop:
         self._tell(text)
         self.note(text)
 
-    def _events(self) -> None:
-        for channel in self.channels:
-            for text in channel.told():
-                self._say(f"the channel {channel.name} {text}")
+    def _events(self) -> set[str]:
+        """Says what has happened to the channels, and returns the names of those of which there was something to say."""
+        told = [(channel.name, text) for channel in self.channels for text in channel.told()]
+        for name, text in told:
+            self._say(f"the channel {name} {text}")
+        return {name for name, _ in told}
 
 
 def run(config: Config, show: Callable[[str], None]) -> int:
