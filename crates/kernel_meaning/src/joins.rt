@@ -57,6 +57,7 @@ fn add_marks(branch: &Lookup<'_>, variables: &[u32], marks: &mut Vec<bool>)
 }
 
 /// Which of these variables some branch that ran has marked.
+#[tactic(auto, using(crate::proofs::Marks::marks_more, crate::proofs::Marks::marks_gone))]
 fn marks_of(
     alloc: Global,
     kernel: &KernelParts,

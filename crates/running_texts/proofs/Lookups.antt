@@ -41,11 +41,7 @@ pub not_there : (us : List ℕ) (v k : ℕ) → IsAscending us → IsLowerBound 
 not_there us v k up bound h = is_absent us v apart
   where
     apart : (i : ℕ) → i < length us → get_or us i 0 ≢ v
-    apart i p e =
-        let before : i < k → get_or us i 0 < v = bound.below i in
-        let here : k < length us → v ≤ get_or us k 0 = bound.above k (omega arith) in
-        let behind : k ≤ i → get_or us k 0 ≤ get_or us i 0 = λ q. up k i q p in
-        omega (arith, before, here, behind, h)
+    apart i p e = grind (arith, bound.below, bound.above, up, h)
 
 pub copy_missing : (us : List ℕ) (cs : List VarCopy) (v : ℕ) → contains v us ≡ false → copy_of us cs v ≡ no_copy
 copy_missing [] cs v h = refl
@@ -53,7 +49,7 @@ copy_missing (u ∷ us) [] v h = refl
 copy_missing (u ∷ us) (c ∷ cs) v h = either (u == v) (copy_missing us cs v) h
   where
     either : (b : Bool) → (contains v us ≡ false → copy_of us cs v ≡ no_copy) → cond b true (contains v us) ≡ false → cond b c (copy_of us cs v) ≡ no_copy
-    either true f e = absurd (omega arith)
+    either true f e = absurd (cc)
     either false f e = f e
 
 -- a search as far as it has come

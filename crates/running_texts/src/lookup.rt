@@ -10,7 +10,7 @@ use crate::operators::copy_in;
 use forec_kernel::VarCopy;
 
 /// Whether no variable of a list is below one before it.
-#[tactic(auto, using(running_texts::proofs::Lookups::ascend_more))]
+#[tactic(auto, using(crate::proofs::Lookups::ascend_more))]
 fn ascends(uses: &[u32]) -> bool
     ensures { result ≡ true → IsAscending uses.now }
 {
@@ -23,7 +23,7 @@ fn ascends(uses: &[u32]) -> bool
 }
 
 /// Where the first variable stands that isn't below this one.
-#[tactic(auto, using(running_texts::proofs::Lookups::lower_found, running_texts::proofs::Lookups::search_higher, running_texts::proofs::Lookups::search_lower))]
+#[tactic(auto, using(crate::proofs::Lookups::lower_found, crate::proofs::Lookups::search_higher, crate::proofs::Lookups::search_lower))]
 fn lower_bound(uses: &[u32], variable: u32) -> usize
     requires { IsAscending uses.now }
     ensures { IsLowerBound variable uses.now result }
@@ -54,7 +54,7 @@ fn copy_at(copies: &[VarCopy], at: usize) -> VarCopy
 }
 
 /// The copy of a variable in a list of variables that ascends, none where it isn't there.
-#[tactic(auto, using(running_texts::proofs::Lookups::copy_found, running_texts::proofs::Lookups::is_there, running_texts::proofs::Lookups::not_there))]
+#[tactic(auto, using(crate::proofs::Lookups::copy_found, crate::proofs::Lookups::is_there, crate::proofs::Lookups::not_there))]
 fn search(uses: &[u32], copies: &[VarCopy], variable: u32) -> Option<VarCopy>
     requires { IsAscending uses.now }
     ensures { result ≡ cond (contains variable uses.now) (Some (copy_of uses.now copies.now variable)) None }
@@ -105,7 +105,7 @@ impl<'a> Lookup<'a> {
     }
 
     /// The value of a variable's copy, 0 where there is none.
-    #[tactic(auto, using(running_texts::proofs::Lookups::copy_missing))]
+    #[tactic(auto, using(crate::proofs::Lookups::copy_missing))]
     pub fn value(&self, variable: u32) -> i32
         requires { IsLookup self.now }
         ensures { result ≡ (copy_of self.now.uses.now self.now.copies.now variable).value }
