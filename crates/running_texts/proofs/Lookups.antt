@@ -1,6 +1,7 @@
 -- A variable's place in a list that ascends.
 use Rattle.std.proofs.Common.{◌≡◌, ◌≢◌, ℕ, Bool, zero, suc, ◌<◌, ◌≤◌, ◌-◌, ◌⊎◌, inl, inr, ◌==◌, pos, true, false, cond, Some, None, List, [], ◌∷◌, length, get_or, refl, arith}
 use Rattle.std.proofs.Math.Nat.{eq-or-lt_of_le}
+use Rattle.std.proofs.lemmas.Bool.{cases_lt}
 use Rattle.std.proofs.lemmas.Bool.Decides.{nat_tests}
 use Rattle.forec_kernel.specs.declared.shape.VarCopy.{VarCopy}
 use Rattle.forec_kernel.specs.Values.{copy_of}
@@ -41,7 +42,14 @@ pub not_there : (us : List ℕ) (v k : ℕ) → IsAscending us → IsLowerBound 
 not_there us v k up bound h = is_absent us v apart
   where
     apart : (i : ℕ) → i < length us → get_or us i 0 ≢ v
-    apart i p e = grind (arith, bound.below, bound.above, up, h)
+    apart i p e = sides (cases_lt i k)
+      where
+        sides : (i < k) ⊎ (k ≤ i) → ⊥
+        sides (inl l) = let a : get_or us i 0 < v = bound.below i l in absurd (omega arith)
+        sides (inr g) =
+            let a : v ≤ get_or us k 0 = bound.above k (omega arith) (omega arith) in
+            let b : get_or us k 0 ≤ get_or us i 0 = up k i g p in
+            h (omega arith) (omega arith)
 
 pub copy_missing : (us : List ℕ) (cs : List VarCopy) (v : ℕ) → contains v us ≡ false → copy_of us cs v ≡ no_copy
 copy_missing [] cs v h = refl
