@@ -80,7 +80,7 @@ fn marks_of(
     }
 }
 
-/// A parent's copy after the last branch, where this is known of its mark.
+/// A parent's copy after the last branch; `marked` says whether some branch has marked its own.
 fn end_fold(copy: VarCopy, fold: Fold, marked: bool) -> VarCopy
     ensures { result ≡ record { value = unwrap_or fold.total copy.value; modified = copy.modified || marked } }
 {

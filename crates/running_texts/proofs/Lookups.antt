@@ -2,17 +2,11 @@
 use Rattle.std.proofs.Common.{◌≡◌, ◌≢◌, ℕ, Bool, zero, suc, ◌<◌, ◌≤◌, ◌-◌, ◌⊎◌, inl, inr, ◌==◌, pos, true, false, cond, Some, None, List, [], ◌∷◌, length, get_or, refl, arith}
 use Rattle.std.proofs.Math.Nat.{eq-or-lt_of_le}
 use Rattle.std.proofs.lemmas.Bool.{cases_lt}
-use Rattle.std.proofs.lemmas.Bool.Decides.{nat_tests}
 use Rattle.forec_kernel.specs.declared.shape.VarCopy.{VarCopy}
 use Rattle.forec_kernel.specs.Values.{copy_of}
 use Rattle.forec_kernel.specs.Combining.{contains}
+use Rattle.running_texts.proofs.Copies.{differ, same}
 use Rattle.running_texts.specs.Lookups.{no_copy, IsAscending, IsLowerBound}
-
-differ : (a b : ℕ) → a ≢ b → (a == b) ≡ false
-differ a b h = grind (arith, nat_tests)
-
-same : (a b : ℕ) → a ≡ b → (a == b) ≡ true
-same a b h = grind (arith, nat_tests)
 
 pub copy_found : (us : List ℕ) (cs : List VarCopy) (v k : ℕ) → ((i : ℕ) → i < k → get_or us i 0 < v) → k < length us → get_or us k 0 ≡ v →
     copy_of us cs v ≡ get_or cs k no_copy
@@ -102,6 +96,7 @@ ascend_more us n up some step a b p q = last (eq-or-lt_of_le {n = b} {m = n} (om
     own : (a ≡ n) ⊎ (a < n) → get_or us a 0 ≤ get_or us n 0
     own (inl e) = rw e (omega arith)
     own (inr l) = let c : get_or us a 0 ≤ get_or us (n - 1) 0 = up a (n - 1) (omega arith) (omega arith) in omega arith
+
     last : (b ≡ n) ⊎ (b < n) → get_or us a 0 ≤ get_or us b 0
     last (inl e) = rw e (own (eq-or-lt_of_le {n = a} {m = n} (omega arith)))
     last (inr l) = up a b p l

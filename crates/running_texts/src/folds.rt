@@ -25,7 +25,7 @@ pub struct Fold {
 }
 
 /// Whether a variable is among those that are used.
-pub fn has(uses: &[u32], variable: u32) -> bool
+pub(crate) fn has(uses: &[u32], variable: u32) -> bool
     ensures { result ≡ contains variable uses.now }
 {
     for other in uses {

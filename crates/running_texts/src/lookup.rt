@@ -67,8 +67,8 @@ fn search(uses: &[u32], copies: &[VarCopy], variable: u32) -> Option<VarCopy>
     }
 }
 
-/// A thread's copies beside the variables that it uses. Where these ascend, as those of a kernel do, a copy is found
-/// without a look at all before it.
+/// A thread's copies beside the variables that it uses. Where these ascend, as those of a kernel do, a copy is found by
+/// binary search, elsewhere by a scan.
 #[derive(Clone, Copy)]
 pub struct Lookup<'a> {
     pub uses: &'a [u32],
