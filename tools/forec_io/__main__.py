@@ -51,7 +51,7 @@ def parser() -> argparse.ArgumentParser:
     outer = argparse.ArgumentParser(prog="forec", usage=USAGE[len("usage: "):], add_help=False)
     commands = outer.add_subparsers(dest="command", required=True)
     for name in ("loop", "watch", "replay-field"):
-        words = commands.add_parser(name, usage=USAGE[len("usage: "):], add_help=False)
+        words = commands.add_parser(name, prog=f"forec {name}", usage=USAGE[len("usage: "):], add_help=False)
         words.add_argument("path", nargs="?")
         if name != "replay-field":
             words.add_argument("--ticks", type=int)
@@ -70,7 +70,7 @@ def run(words: argparse.Namespace) -> int:
         return replay.run(words.path)
     config = configuration.read(words.path)
     if words.ticks is not None:
-        config = dataclasses.replace(config, ticks=max(0, words.ticks))
+        config = dataclasses.replace(config, loop=dataclasses.replace(config.loop, ticks=max(0, words.ticks)))
     if words.command == "loop" and words.check:
         print("\n".join(configuration.shown(config)))
         return 0

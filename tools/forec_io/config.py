@@ -65,10 +65,8 @@ scale, offset, limits, invert, unit
 
 
 @dataclass(frozen=True)
-class Config:
-    """What a configuration says."""
-    path: str
-    program: str
+class Timing:
+    """What the table `loop` says."""
     period: float
     overrun: str
     deadline: float
@@ -79,13 +77,46 @@ class Config:
     lock: bool
     tell: float
     options: tuple[str, ...]
-    log_folder: str
-    log_size: int
-    log_flush: str
+
+    @classmethod
+    def of(cls, table: Table) -> Timing:
+        period = table.take("period", float, least=1e-4, most=3600)
+        found = cls(period, table.take("overrun", str, "skip", among=OVERRUNS), table.take("deadline", float, period, least=1e-4),
+                    table.take("watchdog", float, max(1.0, 10 * period), least=1e-3), table.take("wait", float, 5.0, least=0),
+                    table.take("ticks", int, 0, least=0), table.take("priority", int, 0, least=0, most=99), table.take("lock", bool, False),
+                    table.take("tell", float, 0.0, least=0), tuple(map(str, table.take("options", list, []))))
+        table.end()
+        if found.watchdog < found.deadline:
+            raise ConfigFault(f"loop: the watchdog ({found.watchdog} s) comes before the deadline ({found.deadline} s)")
+        return found
+
+
+@dataclass(frozen=True)
+class LogPlace:
+    """What the table `log` says."""
+    folder: str
+    size: int
+    flush: str
+
+    @classmethod
+    def of(cls, table: Table, folder: str) -> LogPlace:
+        found = cls(os.path.join(folder, table.take("folder", str)), table.take("size", int, 10_000_000, least=1),
+                    table.take("flush", str, "tick", among=("tick", "second")))
+        table.end()
+        return found
+
+
+@dataclass(frozen=True)
+class Config:
+    """What a configuration says. `unmapped` are the outputs of the program that have no channel."""
+    path: str
+    program: str
+    loop: Timing
+    log: LogPlace | None
     inputs: dict[str, Input]
     outputs: dict[str, Output]
     channels: dict[str, Channel]
-    unmapped: tuple[str, ...]  # outputs of the program that have no channel
+    unmapped: tuple[str, ...]
 
 
 def read_toml(path: str) -> dict[str, Any]:
@@ -103,30 +134,16 @@ def read(path: str) -> Config:
     folder = os.path.dirname(os.path.abspath(path))
     whole = Table("", read_toml(path))
     program = os.path.join(folder, whole.take("program", str))
-    loop, log = whole.table("loop"), whole.table("log", None) if "log" in whole.keys() else None
-    period = loop.take("period", float, least=1e-4, most=3600)
+    loop = Timing.of(whole.table("loop"))
+    log = LogPlace.of(whole.table("log"), folder) if "log" in whole.keys() else None
     signals = {"input": whole.tables("inputs"), "output": whole.tables("outputs")}
     inputs = {name: input_of(name, table) for name, table in signals["input"].items()}
     outputs = {name: output_of(name, table) for name, table in signals["output"].items()}
-    channels = dict(opened(whole.tables("channels"), signals, inputs, outputs, period, folder))
+    channels = dict(opened(whole.tables("channels"), signals, inputs, outputs, loop.period, folder))
+    whole.end()
     found = signals_of(program)
     fits(os.path.basename(program), found, inputs, outputs)
-    config = Config(
-        path=path, program=program, period=period, inputs=inputs, outputs=outputs, channels=channels,
-        unmapped=tuple(name for name in found[1] if name not in outputs),
-        overrun=loop.take("overrun", str, "skip", among=OVERRUNS), deadline=loop.take("deadline", float, period, least=1e-4),
-        watchdog=loop.take("watchdog", float, max(1.0, 10 * period), least=1e-3), wait=loop.take("wait", float, 5.0, least=0),
-        ticks=loop.take("ticks", int, 0, least=0), priority=loop.take("priority", int, 0, least=0, most=99),
-        lock=loop.take("lock", bool, False), tell=loop.take("tell", float, 0.0, least=0),
-        options=tuple(map(str, loop.take("options", list, []))),
-        log_folder=os.path.join(folder, log.take("folder", str)) if log else "",
-        log_size=log.take("size", int, 10_000_000, least=1) if log else 0,
-        log_flush=log.take("flush", str, "tick", among=("tick", "second")) if log else "tick")
-    for table in (whole, loop, log):
-        table.end() if table else None
-    if config.watchdog < config.deadline:
-        raise ConfigFault(f"loop: the watchdog ({config.watchdog} s) comes before the deadline ({config.deadline} s)")
-    return config
+    return Config(path, program, loop, log, inputs, outputs, channels, tuple(name for name in found[1] if name not in outputs))
 
 
 def opened(tables: dict[str, Table], signals: dict[str, dict[str, Table]], inputs: dict[str, Input], outputs: dict[str, Output],

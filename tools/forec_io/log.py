@@ -16,6 +16,8 @@ import shutil
 import time
 from collections.abc import Iterator
 
+from .config import Config, LogPlace
+
 
 class Parts:
     """A series of files, NAME.0001 and so on, each of at most so many bytes or one piece."""
@@ -73,13 +75,13 @@ def new_folder(parent: str) -> str:
 class Log:
     """The files of a run that goes on."""
 
-    def __init__(self, parent: str, program: str, config: str, size: int, flush: str) -> None:
-        self.folder = new_folder(parent)
+    def __init__(self, place: LogPlace, program: str, config: str) -> None:
+        self.folder = new_folder(place.folder)
         shutil.copyfile(program, os.path.join(self.folder, "program.forec"))
         shutil.copyfile(config, os.path.join(self.folder, "config.toml"))
-        self._parts = {name: Parts(self.folder, name, size) for name in ("trace", "report")}
+        self._parts = {name: Parts(self.folder, name, place.size) for name in ("trace", "report")}
         self._held: dict[str, list[str]] = {name: [] for name in self._parts}
-        self._each_tick = flush == "tick"
+        self._each_tick = place.flush == "tick"
         self._flushed = time.monotonic()
         self._notes = os.open(os.path.join(self.folder, "notes"), os.O_WRONLY | os.O_CREAT | os.O_EXCL | os.O_CLOEXEC, 0o644)
 
@@ -116,3 +118,8 @@ class Log:
         self._held[name].append(line + "\n")
         if self._each_tick or time.monotonic() - self._flushed >= 1:
             self.flush()
+
+
+def log_of(config: Config) -> Log | None:
+    """The log of a new run, where the configuration wants one."""
+    return Log(config.log, config.program, config.path) if config.log else None

@@ -20,7 +20,7 @@ from .beat import Beat, Overrun, ServiceManager, real_time, sleep_until
 from .channel import Channel, EndOfRows, Number
 from .config import Config
 from .latencies import HEAD, Latencies
-from .log import Log
+from .log import Log, log_of
 from .program import command
 from .table import ConfigFault
 
@@ -36,7 +36,7 @@ class Loop:
     def __init__(self, config: Config, log: Log | None, tell: Callable[[str], None], show: Callable[[str], None]) -> None:
         self.config, self.log, self._tell, self._show = config, log, tell, show
         self.channels: list[Channel] = list(config.channels.values())
-        self.beat = Beat(config.period, config.overrun)
+        self.beat = Beat(config.loop.period, config.loop.overrun)
         self.inputs = {name: each.default or 0 for name, each in config.inputs.items()}
         self._last = dict(self.inputs)  # the inputs before any is forced
         self.outputs: dict[str, int] = {}
@@ -59,8 +59,8 @@ class Loop:
         """Runs ticks up to the end, and returns the status: the controller's own, or 1 where the loop ended the run for a fault."""
         try:
             self._start()
-            with Controller(self.config.program, list(self.config.inputs), forec=command(), options=self.config.options, apart=True,
-                            seconds=self.config.watchdog) as controller:
+            with Controller(self.config.program, list(self.config.inputs), forec=command(), options=self.config.loop.options, apart=True,
+                            seconds=self.config.loop.watchdog) as controller:
                 try:
                     self._ticks(controller)
                 finally:
@@ -87,7 +87,7 @@ class Loop:
 
     def statistics(self) -> Iterator[str]:
         """What is told of the run."""
-        yield f"{self.tick} ticks at {1 / self.config.period:g} a second"
+        yield f"{self.tick} ticks at {1 / self.config.loop.period:g} a second"
         if self.whole.count:
             yield HEAD
             yield self.wake.row("begin of the tick, late by")
@@ -114,18 +114,19 @@ class Loop:
     def _start(self) -> None:
         # The threads of the channels, and the controller, get the same priority: threads of Python hold one lock in turn, so a slow one
         # would hold up the loop.
-        for text in real_time(self.config.priority, self.config.lock):
+        for text in real_time(self.config.loop.priority, self.config.loop.lock):
             self._say(text)
         sys.setswitchinterval(0.0005)
         for channel in self.channels:
             channel.start()
             if channel.bound:
                 channel.safe()
-        until = time.monotonic() + self.config.wait
+        until = time.monotonic() + self.config.loop.wait
         while not all(map(self._is_ready, self.channels)) and time.monotonic() < until and not self.stopping:
             time.sleep(0.005)
+        told = self._events()
         for channel in self.channels:
-            if channel.fault:
+            if channel.fault and channel.name not in told:
                 self._say(f"the channel {channel.name} is down: {channel.fault}")
         # What there is by now is never looked at again by the collector, which takes so little time in a tick.
         gc.collect()
@@ -141,7 +142,7 @@ class Loop:
         return all(name in known for name, each in self.config.inputs.items() if each.channel == channel.name)
 
     def _ticks(self, controller: Controller) -> None:
-        while not self.stopping and not 0 < self.config.ticks <= self.tick:
+        while not self.stopping and not 0 < self.config.loop.ticks <= self.tick:
             self._wait()
             if self.stopping:
                 break
@@ -156,7 +157,7 @@ class Loop:
             except Overrun:
                 self._fail(f"tick {self.tick} ended after its period")
             self._manager.tell("READY=1\nWATCHDOG=1")
-            if 0 < self.config.tell <= time.monotonic() - self._told_at:
+            if 0 < self.config.loop.tell <= time.monotonic() - self._told_at:
                 self._told_at = time.monotonic()
                 self._tell("\n".join(self.statistics()))
 
@@ -223,13 +224,13 @@ class Loop:
         """Whether the line comes before the deadline. Where it doesn't, the outputs get their safe values, and the line is waited for. The
         first line has no deadline: the program has to start."""
         first = self.tick == 0
-        if not first and controller.answers(self.config.deadline):
+        if not first and controller.answers(self.config.loop.deadline):
             return True
         if not first:
             self.late_lines += 1
             self._make_safe()
-            self._say(f"no line within {self.config.deadline:g} s of the row of tick {self.tick + 1}: safe outputs")
-        patience = FIRST_SECONDS if first else self.config.watchdog
+            self._say(f"no line within {self.config.loop.deadline:g} s of the row of tick {self.tick + 1}: safe outputs")
+        patience = FIRST_SECONDS if first else self.config.loop.watchdog
         until = time.monotonic() + patience
         while not controller.answers(SLICE):
             if self.stopping and first:
@@ -294,10 +295,12 @@ class Loop:
         self._tell(text)
         self.note(text)
 
-    def _events(self) -> None:
-        for channel in self.channels:
-            for text in channel.told():
-                self._say(f"the channel {channel.name} {text}")
+    def _events(self) -> set[str]:
+        """Says what has happened to the channels, and returns the names of those of which there was something to say."""
+        told = [(channel.name, text) for channel in self.channels for text in channel.told()]
+        for name, text in told:
+            self._say(f"the channel {name} {text}")
+        return {name for name, _ in told}
 
 
 def run(config: Config, show: Callable[[str], None]) -> int:
@@ -305,7 +308,7 @@ def run(config: Config, show: Callable[[str], None]) -> int:
     def tell(text: str) -> None:
         print("\n".join(f"forec loop: {line}" for line in text.split("\n")), file=sys.stderr, flush=True)
 
-    log = Log(config.log_folder, config.program, config.path, config.log_size, config.log_flush) if config.log_folder else None
+    log = log_of(config)
     loop = Loop(config, log, tell, show)
     for number in (signal.SIGTERM, signal.SIGINT, signal.SIGHUP):
         signal.signal(number, lambda number, _: loop.stop(signal.Signals(number).name))

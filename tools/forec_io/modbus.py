@@ -16,7 +16,7 @@ from typing import Any
 from .channel import ChannelFault, Number, Polled, Setup
 from .table import ConfigFault, Table
 
-LIBRARY = ("pymodbus", "python3-pymodbus")
+LIBRARY = ("pymodbus.client", "python3-pymodbus python3-serial-asyncio")  # the first one's client imports the second
 FORMATS = {"int16": "h", "uint16": "H", "int32": "i", "uint32": "I", "float32": "f"}
 READS = {"coil": "read_coils", "discrete": "read_discrete_inputs", "holding": "read_holding_registers", "register": "read_input_registers"}
 WRITES = {"coil": "write_coils", "holding": "write_registers"}

@@ -12,10 +12,11 @@ class ConfigFault(Exception):
 
 
 class Table:
-    """A table, and its name for what is told of it."""
+    """A table, and its name for what is told of it; that of the whole has none."""
 
     def __init__(self, name: str, values: Mapping[str, Any]) -> None:
-        self.name, self._left = name, dict(values)
+        self.name, self._left = name or "the configuration", dict(values)
+        self._prefix = f"{name}." if name else ""
 
     def take(self, key: str, kind: type, default: Any = WANTED, *, least: float | None = None, most: float | None = None,
              among: Sequence[Any] = ()) -> Any:
@@ -37,7 +38,7 @@ class Table:
 
     def table(self, key: str, default: Any = WANTED) -> Table:
         """The table of a key."""
-        return Table(f"{self.name}.{key}" if self.name else key, self.take(key, dict, default))
+        return Table(self._prefix + key, self.take(key, dict, default))
 
     def tables(self, key: str) -> dict[str, Table]:
         """The tables of a table, by their names; none where there is no such key."""
@@ -51,7 +52,7 @@ class Table:
     def end(self) -> None:
         """Refuses what is left."""
         if self._left:
-            raise ConfigFault(f"{self.name or 'the configuration'}: '{next(iter(self._left))}' is none of its keys")
+            raise ConfigFault(f"{self.name}: '{next(iter(self._left))}' is none of its keys")
 
 
 NAMES = {str: "text", int: "whole number", float: "number", bool: "true or false", dict: "table", list: "list"}

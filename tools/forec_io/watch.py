@@ -4,6 +4,7 @@ from __future__ import annotations
 
 import contextlib
 import curses
+import os
 import signal
 import sys
 import threading
@@ -12,7 +13,7 @@ from collections import deque
 from typing import Any
 
 from .config import Config
-from .log import Log
+from .log import log_of
 from .loop import Loop
 from .signals import LEAST, MOST
 from .table import ConfigFault
@@ -82,7 +83,7 @@ class View:
         """The lines of a picture, and whether each is bright."""
         loop = self.loop
         state = "paused" if loop.paused else "runs"
-        found = [(f"{loop.config.program}   tick {loop.tick}   {state}", True)]
+        found = [(f"{os.path.basename(loop.config.program)}   tick {loop.tick}   {state}", True)]
         found += [(f"channel {channel.name}: {channel.fault or 'up'}", bool(channel.fault)) for channel in loop.channels] + [("", False)]
         found += [self._signal(number, kind, name) for number, (kind, name) in enumerate(self.names)] + [("", False)]
         found += [(line, False) for line in loop.statistics()] + [("", False)]
@@ -127,7 +128,7 @@ def run(config: Config) -> int:
     except curses.error as fault:
         raise ConfigFault(f"this terminal can't show it: {fault}") from None
     told: deque[str] = deque(maxlen=100)
-    log = Log(config.log_folder, config.program, config.path, config.log_size, config.log_flush) if config.log_folder else None
+    log = log_of(config)
     loop = Loop(config, log, told.append, lambda line: None)
     for number in (signal.SIGTERM, signal.SIGINT, signal.SIGHUP):
         signal.signal(number, lambda number, _: loop.stop(signal.Signals(number).name))

@@ -6,3 +6,4 @@ pub mod Loops
 pub mod Fates
 pub mod Running
 pub mod Transposed
+pub mod Marks

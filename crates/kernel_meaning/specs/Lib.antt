@@ -1,3 +1,4 @@
+pub mod Marks
 pub mod Moving
 pub mod Waking
 pub mod States

@@ -1,18 +1,18 @@
 //! The step of a fork whose children have all stopped.
 
-ghost use Rattle.std.specs.Prelude.{◌≡◌, ◌<◌, ◌+◌, ℕ, ℤ, IfOk};
+ghost use Rattle.std.specs.Prelude.{◌≡◌, ◌<◌, ◌+◌, ◌||◌, ℕ, ℤ, IfOk, length, get_or, unwrap_or, false};
 ghost use Rattle.forec_kernel.specs.Shapes.{plain_kernel};
-ghost use Rattle.forec_kernel.specs.Combining.{joined_copies, join_cost, shares, some_marked};
+ghost use Rattle.forec_kernel.specs.Combining.{joined_copies, join_cost};
 ghost use Rattle.running_texts.specs.Metered.{IsMetered};
-ghost use Rattle.running_texts.specs.Folding.{all_folds, folded_copies, folded_copy, folding};
+ghost use Rattle.running_texts.specs.Folding.{all_folds, folded_copies, folding};
 ghost use Rattle.running_threads.specs.Views.{threads};
+ghost use Rattle.running_texts.specs.Lookups.{IsLookup};
+ghost use Rattle.kernel_meaning.specs.Marks.{AreMarks, marks_it};
 ghost use Rattle.kernel_meaning.specs.Moving.{AreJoined, ForkMoved};
 
 use crate::moving::Step;
 use forec_kernel::{KernelParts, VarCopy};
-use running_texts::{
-    Fold, Halt, ThreadValues, begin_folds, copy_in, fold_branch, has, thread_uses,
-};
+use running_texts::{Fold, Halt, Lookup, ThreadValues, begin_folds, fold_branch, thread_uses};
 use running_threads::{Children, leftmost_trap, ran};
 use std::alloc::{AllocError, Global};
 
@@ -41,37 +41,49 @@ fn fold_children(
     }
 }
 
-/// Whether some branch that ran has marked its copy of a variable.
-fn some_mark(kernel: &KernelParts, variable: u32, children: &Children<'_>) -> bool
-    ensures { (j : ℕ) → result ≡ some_marked (shares (plain_kernel kernel.now) variable j (threads children.now)) }
+/// Marks each of these variables of which a branch has marked its copy.
+fn add_marks(branch: &Lookup<'_>, variables: &[u32], marks: &mut Vec<bool>)
+    requires lookup { IsLookup branch.now }
+    requires long { length marks.old.items ≡ length variables.now }
+    ensures long { length marks.new.items ≡ length variables.now }
+    ensures each { (i : ℕ) → i < length variables.now → get_or marks.new.items i false
+        ≡ (marks_it branch.now.uses.now branch.now.copies.now (get_or variables.now i 0) || get_or marks.old.items i false) }
 {
-    match children {
-        Children::Nobody => false,
-        Children::Child { first, rest } => {
-            let uses = thread_uses(kernel, first.number);
-            let copies = first.copies.as_slice();
-            if ran(first.status)
-                && has(uses, variable)
-                && copy_in(uses, copies, variable).modified
-            {
-                return true;
-            }
-            some_mark(kernel, variable, rest)
+    for i in 0..variables.len() {
+        if let Some(copy) = branch.find(variables[i]) {
+            marks[i] = copy.modified || marks[i];
         }
     }
 }
 
-/// The parent's copy of a variable after the last branch.
-fn end_fold(
+/// Which of these variables some branch that ran has marked.
+#[tactic(auto, using(crate::proofs::Marks::marks_more, crate::proofs::Marks::marks_gone))]
+fn marks_of(
+    alloc: Global,
     kernel: &KernelParts,
+    variables: &[u32],
     children: &Children<'_>,
-    variable: u32,
-    copy: VarCopy,
-    fold: Fold,
-) -> VarCopy
-    ensures { result ≡ folded_copy (plain_kernel kernel.now) (threads children.now) variable copy fold }
+) -> Result<Vec<bool>, AllocError>
+    ensures long { IfOk result (λ m. length m.items ≡ length variables.now) }
+    ensures each { IfOk result (λ m. AreMarks (plain_kernel kernel.now) (threads children.now) variables.now m.items) }
 {
-    let marked = some_mark(kernel, variable, children);
+    match children {
+        Children::Nobody => Ok(vec![in alloc; false; variables.len()]?),
+        Children::Child { first, rest } => {
+            let mut marks = marks_of(alloc, kernel, variables, rest)?;
+            if ran(first.status) {
+                let branch = Lookup::new(thread_uses(kernel, first.number), &first.copies);
+                add_marks(&branch, variables, &mut marks);
+            }
+            Ok(marks)
+        }
+    }
+}
+
+/// A parent's copy after the last branch; `marked` says whether some branch has marked its own.
+fn end_fold(copy: VarCopy, fold: Fold, marked: bool) -> VarCopy
+    ensures { result ≡ record { value = unwrap_or fold.total copy.value; modified = copy.modified || marked } }
+{
     VarCopy {
         value: fold.total.unwrap_or(copy.value),
         modified: copy.modified || marked,
@@ -90,13 +102,14 @@ fn end_folds(
     ensures { IfOk result (λ v. v.items ≡ folded_copies (plain_kernel kernel.now) (threads children.now) uses.now copies.now folds.now) }
 {
     let some = uses.len().min(folds.len());
+    let marks = marks_of(alloc, kernel, uses, children)?;
     let mut list = Vec::new(alloc);
     for i in 0..copies.len() {
         if some <= i {
             list.push(copies[i])?;
             continue;
         }
-        list.push(end_fold(kernel, children, uses[i], copies[i], folds[i]))?;
+        list.push(end_fold(copies[i], folds[i], marks[i]))?;
     }
     Ok(list)
 }

@@ -1,4 +1,5 @@
 pub mod Copies
+pub mod Lookups
 pub mod Kernels
 pub mod Words
 pub mod MeteredLemmas

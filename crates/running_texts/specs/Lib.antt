@@ -1,3 +1,4 @@
 pub mod Metered
 pub mod Starting
 pub mod Folding
+pub mod Lookups

@@ -4,12 +4,13 @@ ghost use Rattle.std.specs.Prelude.{◌≡◌, ◌<◌, ◌+◌, ℕ, ℤ, Optio
 ghost use Rattle.forec_base.specs.Numbers.{int_same};
 ghost use Rattle.forec_kernel.specs.Shapes.{plain_kernel};
 ghost use Rattle.forec_kernel.specs.Combining.{contains, takes_part, variable_of, combine_of};
+ghost use Rattle.running_texts.specs.Lookups.{IsLookup};
 ghost use Rattle.running_texts.specs.Metered.{IsMetered};
 ghost use Rattle.running_texts.specs.Folding.{added, takes, branch_added, branch_folds, first_folds, adding, folding};
 
 use crate::evaluation::call_function;
+use crate::lookup::Lookup;
 use crate::meter::{Halt, pay};
-use crate::operators::copy_in;
 use forec_base::Policy;
 use forec_kernel::{KernelParts, VarCopy, Variable};
 use std::alloc::{AllocError, Global};
@@ -24,7 +25,7 @@ pub struct Fold {
 }
 
 /// Whether a variable is among those that are used.
-pub fn has(uses: &[u32], variable: u32) -> bool
+pub(crate) fn has(uses: &[u32], variable: u32) -> bool
     ensures { result ≡ contains variable uses.now }
 {
     for other in uses {
@@ -67,15 +68,14 @@ fn partakes(policy: Policy, base: i32, copy: VarCopy) -> bool
     }
 }
 
-fn takes_its_part(kernel: &KernelParts, uses: &[u32], copies: &[VarCopy], fold: Fold) -> bool
-    ensures { result ≡ takes (plain_kernel kernel.now) uses.now copies.now fold }
+fn takes_its_part(kernel: &KernelParts, branch: &Lookup<'_>, fold: Fold) -> bool
+    requires { IsLookup branch.now }
+    ensures { result ≡ takes (plain_kernel kernel.now) branch.now.uses.now branch.now.copies.now fold }
 {
-    has(uses, fold.variable)
-        && partakes(
-            variable_in(kernel, fold.variable).policy,
-            fold.base,
-            copy_in(uses, copies, fold.variable),
-        )
+    match branch.find(fold.variable) {
+        Some(copy) => partakes(variable_in(kernel, fold.variable).policy, fold.base, copy),
+        None => false,
+    }
 }
 
 /// The value of one more branch is added to a fold.
@@ -110,16 +110,17 @@ fn add_value(
 fn add_branch(
     alloc: Global,
     kernel: &KernelParts,
-    uses: &[u32],
-    copies: &[VarCopy],
+    branch: &Lookup<'_>,
     fold: Fold,
     left: &mut u64,
 ) -> Result<Option<i32>, Halt>
-    ensures { IsMetered adding left.old left.new result (branch_added (plain_kernel kernel.now) uses.now copies.now fold) }
+    requires { IsLookup branch.now }
+    ensures { IsMetered adding left.old left.new result
+        (branch_added (plain_kernel kernel.now) branch.now.uses.now branch.now.copies.now fold) }
 {
-    if takes_its_part(kernel, uses, copies, fold) {
+    if takes_its_part(kernel, branch, fold) {
         let combine = variable_in(kernel, fold.variable).combine;
-        let value = copy_in(uses, copies, fold.variable).value;
+        let value = branch.value(fold.variable);
         add_value(alloc, kernel, combine, fold.total, value, left)
     } else {
         Ok(fold.total)
@@ -147,9 +148,10 @@ pub fn fold_branch(
 ) -> Result<Vec<Fold>, Halt>
     ensures { IsMetered folding left.old left.new result (branch_folds (plain_kernel kernel.now) uses.now copies.now folds.now) }
 {
+    let branch = Lookup::new(uses, copies);
     let mut next = Vec::new(alloc);
     for fold in folds {
-        match add_branch(alloc, kernel, uses, copies, *fold, left) {
+        match add_branch(alloc, kernel, &branch, *fold, left) {
             Ok(total) => {
                 if next.push(come_to(*fold, total)).is_err() {
                     return Err(Halt::OutOfMemory);

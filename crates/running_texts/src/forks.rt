@@ -6,7 +6,7 @@ ghost use Rattle.forec_kernel.specs.Texts.{handed_down, uses_of, words_of, param
 ghost use Rattle.running_texts.specs.Starting.{first_words};
 
 use crate::functions::words_from;
-use crate::operators::copy_value;
+use crate::lookup::Lookup;
 use forec_kernel::{KernelParts, VarCopy};
 use std::alloc::{AllocError, Global};
 
@@ -54,10 +54,11 @@ pub fn copies_below(
 ) -> Result<Vec<VarCopy>, AllocError>
     ensures { IfOk result (λ v. v.items ≡ handed_down uses.now copies.now variables.now) }
 {
+    let parent = Lookup::new(uses, copies);
     let mut list = Vec::new(alloc);
     for variable in variables {
         list.push(VarCopy {
-            value: copy_value(uses, copies, *variable),
+            value: parent.value(*variable),
             modified: false,
         })?;
     }

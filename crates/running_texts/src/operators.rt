@@ -16,7 +16,7 @@ pub(crate) fn word_at(words: &[i32], slot: usize) -> i32
 }
 
 /// A thread's copy of a variable.
-pub fn copy_in(uses: &[u32], copies: &[VarCopy], variable: u32) -> VarCopy
+pub(crate) fn copy_in(uses: &[u32], copies: &[VarCopy], variable: u32) -> VarCopy
     ensures { result ≡ copy_of uses.now copies.now variable }
 {
     let mut i = 0;

@@ -5,8 +5,9 @@ use Rattle.running_texts.proofs.forks.copies_below.Goals as goal
 
 pub loop-variable-preserved : goal.loop-variable-preserved
 loop-variable-preserved c =
-    let fits : SFits w32 c.copy_value.result = search rules in
+    let fits : SFits w32 c.value.result = search rules in
     let pushed = simp to_z-of_z at c.in_ok-push.ensures.items in
-    rw (pushed, c.copy_value.ensures)
+    let value = rw (c.new-parent.ensures.uses, c.new-parent.ensures.copies) at c.value.ensures in
+    rw (pushed, value)
     (handed_more c.args.uses.now c.args.copies.now c.args.variables.now c.loop-variable.variable-index 0 c.loop-variable.list.items
     c.loop-variable-test.true c.loop-variable.invariant)
