@@ -3,6 +3,7 @@
 # Usage: source this file, or install it as share/bash-completion/completions/forec under a prefix.
 
 _forec_commands="run check threads code explain gen"
+_forec_tools="why lint test trace table plot new"
 
 # The options that a command takes.
 _forec_options_of() {
@@ -20,6 +21,44 @@ _forec_pages() {
   for page in "$(dirname "$(readlink -f "$command")")"/docs/help/*.txt; do
     [ -f "$page" ] && basename "$page" .txt
   done
+}
+
+# The tools that lie beside the command, if there are any.
+_forec_tools_here() {
+  local command tool
+  command=$(type -P -- "$1") || return
+  for tool in $_forec_tools; do
+    [ ! -x "$(dirname "$(readlink -f "$command")")/tools/$tool" ] || echo "$tool"
+  done
+}
+
+# The options that a tool takes.
+_forec_options_of_tool() {
+  case $1 in
+    why) echo "--cores --place --budget" ;;
+    test) echo "--accept --tap --junit --jobs --seconds" ;;
+    trace) echo "--columns --scale" ;;
+    table) echo "--changes --width" ;;
+    plot) echo "--only --from --to --width --svg" ;;
+  esac
+}
+
+# Offers what fits after the name of a tool: an option, or a file of the sort that it reads.
+_forec_offer_for_tool() {
+  local files='*'
+  case $1 in
+    why | lint | test) files='*.forec' ;;
+    table | plot) files='*.trace' ;;
+  esac
+  if [[ $2 = -* ]]; then
+    _forec_offer_words "$(_forec_options_of_tool "$1") --help" "$2"
+  elif [ "$1" = why ] && [ "$3" -gt 0 ]; then
+    _forec_offer_files '*.trace' "$2"
+  elif [[ $1 = table || $1 = plot ]] && [ "$3" -gt 0 ]; then
+    _forec_offer_files '*.report' "$2"
+  elif [ "$1" != new ]; then
+    _forec_offer_files "$files" "$2"
+  fi
 }
 
 # Offers the files whose names fit a pattern, and folders.
@@ -91,8 +130,9 @@ _forec() {
   done
   pages=$(_forec_pages "${COMP_WORDS[0]}")
   case ${#before[@]}:${before[0]-} in
-    0:*) _forec_offer_words "$_forec_commands ${pages:+help --help --version}" "$word" ;;
+    0:*) _forec_offer_words "$_forec_commands ${pages:+help version --help --version} $(_forec_tools_here "${COMP_WORDS[0]}")" "$word" ;;
     1:help) _forec_offer_words "$pages" "$word" ;;
+    *:why | *:lint | *:test | *:trace | *:table | *:plot | *:new) _forec_offer_for_tool "${before[0]}" "$word" $((${#before[@]} - 1)) ;;
     *:run | *:check | *:threads | *:code | *:explain | *:gen) _forec_offer_after "$word" "${before[@]}" ;;
   esac
 }

@@ -36,6 +36,19 @@ PATIENCE = 10  # seconds for the end of a program whose output has ended, or tha
 FIRST_PATIENCE = 600  # seconds more for the first line, where the program has to be compiled
 
 
+def exit_with(main):
+    """Ends the process with what `main` returns; without a traceback where it is interrupted (130), or where its reader has gone (8)."""
+    try:
+        status = main()
+        sys.stdout.flush()
+    except KeyboardInterrupt:
+        status = 130
+    except BrokenPipeError:
+        os.dup2(os.open(os.devnull, os.O_WRONLY), 1)
+        status = 8
+    sys.exit(status)
+
+
 def is_built():
     """Whether there is a program that runs at once: the one that FOREC_PROGRAM names, that of a release, or one that was built here."""
     places = ("forec_main", "crates/forec_main/out/forec_main", "crates/forec_main/out/unproved/forec")
