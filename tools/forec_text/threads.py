@@ -3,8 +3,9 @@ from __future__ import annotations
 
 import dataclasses
 from collections import Counter
-from collections.abc import Iterator
+from collections.abc import Callable, Iterable, Iterator
 from itertools import islice
+from typing import TypeVar
 
 from forec_text import tree
 from forec_text.loops import Note
@@ -12,6 +13,7 @@ from forec_text.names import Fault, Names
 from forec_text.tree import Function, Global, Place
 
 MOST_SHOWN = 8
+T = TypeVar("T")
 
 
 @dataclasses.dataclass(frozen=True, slots=True)
@@ -40,21 +42,22 @@ class Instance:
     uses: list[Use]
 
 
-def own(body: tuple[tree.Stmt, ...]) -> Iterator[tree.Node]:
-    """All nodes of a list that one thread runs: of the branches of a `par` the arguments alone."""
-    for statement in body:
-        yield from own_of(statement)
+def closure(first: Iterable[T], following: Callable[[T], Iterable[T]]) -> list[T]:
+    """These, what follows them, what follows that, and so on: each once."""
+    known = dict.fromkeys(first)
+    found = list(known)
+    for each in found:
+        fresh = [other for other in dict.fromkeys(following(each)) if other not in known]
+        known.update(dict.fromkeys(fresh))
+        found += fresh
+    return found
 
 
-def own_of(node: tree.Node) -> Iterator[tree.Node]:
-    yield node
-    if isinstance(node, tree.Par):
-        for branch in node.branches:
-            for argument in branch.arguments if isinstance(branch, tree.Call) else ():
-                yield from own_of(argument)
-        return
-    for part in tree.parts(node):
-        yield from own_of(part)
+def own_parts(of: tree.Node) -> list[tree.Node]:
+    """The nodes right below one that the same thread runs: of the branches of a `par` the arguments alone."""
+    if isinstance(of, tree.Par):
+        return [argument for branch in of.branches if isinstance(branch, tree.Call) for argument in branch.arguments]
+    return tree.parts(of)
 
 
 class Threads:
@@ -69,7 +72,7 @@ class Threads:
         self.counts: dict[tuple[Body, bool], Counter[Global]] = {}
 
     def fill(self, body: Body) -> None:
-        for part in own(body.statements):
+        for part in tree.walk(body.statements, own_parts):
             if isinstance(part, (tree.Read, tree.Element, tree.Assign)):
                 item = self.names.item(part.name.place)
                 if isinstance(item, Global):
@@ -90,10 +93,7 @@ class Threads:
 
     def inlined(self, body: Body) -> list[Body]:
         """A body and those of the functions that it calls, each once."""
-        found = [body]
-        for each in found:
-            found += [called for called in each.calls if called not in found]
-        return found
+        return closure([body], lambda each: each.calls)
 
     def uses(self, body: Body) -> list[Use]:
         """What a thread with this body names itself."""

@@ -3,7 +3,7 @@ the operator, and of any other expression its first token."""
 from __future__ import annotations
 
 import dataclasses
-from collections.abc import Iterator
+from collections.abc import Callable, Iterator
 from typing import NamedTuple, TypeAlias
 
 
@@ -227,24 +227,22 @@ Loop: TypeAlias = While | For
 Node: TypeAlias = Expr | Stmt | Local
 
 
-def parts(of: Node) -> Iterator[Node]:
+def parts(of: Node) -> list[Node]:
     """The nodes right below a node, in the order of the text but for the test of an abort, which comes first."""
-    for field in dataclasses.fields(of):
-        value = getattr(of, field.name)
-        for part in value if isinstance(value, tuple) else (value,):
-            if dataclasses.is_dataclass(part):
-                yield part
+    found: list[Node] = []
+    for field in of.__slots__:
+        value = getattr(of, field)
+        found += [part for part in (value if isinstance(value, tuple) else (value,)) if hasattr(part, "__dataclass_fields__")]
+    return found
 
 
-def walk(of: Node | tuple[Node, ...]) -> Iterator[Node]:
-    """A node and all below it; of a list that of each."""
-    if isinstance(of, tuple):
-        for each in of:
-            yield from walk(each)
-        return
-    yield of
-    for part in parts(of):
-        yield from walk(part)
+def walk(of: Node | tuple[Node, ...], below: Callable[[Node], list[Node]] = parts) -> Iterator[Node]:
+    """A node and all below it, where `below` tells those right below one; of a list that of each."""
+    waiting = list(reversed(of)) if isinstance(of, tuple) else [of]
+    while waiting:
+        found = waiting.pop()
+        yield found
+        waiting += reversed(below(found))
 
 
 def listed(of: Stmt) -> tuple[Stmt, ...]:

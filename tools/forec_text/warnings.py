@@ -7,9 +7,10 @@ from collections.abc import Callable, Iterator
 from forec_text import tree
 from forec_text.loops import Loops, Note, is_endless
 from forec_text.names import Names, returns
-from forec_text.threads import Body, Threads, Use, own
+from forec_text.threads import Body, Threads, Use, closure, own_parts
 from forec_text.tree import Function, Global, Place
 
+LONGEST_SCOPE = 1000  # statements behind a declaration that are looked through
 OUTPUTS = ("output", "shared output")
 
 
@@ -30,28 +31,33 @@ class Reading:
         self.program = names.program
         self.reached = self.reach()
         self.uses = [use for body in self.reached_bodies() for use in body.uses]
+        self.endless: dict[Function, bool] = {}
+        self.setting: dict[tuple[Function, Global], bool] = {}
 
     def reach(self) -> set[Function]:
         """The functions that some thread runs, those that combine values among them."""
         combine = [self.names.item(item.combine.place) for item in self.program.globals if item.combine]
         main = [function for function, body in self.threads.bodies.items() if body is self.threads.main]
-        found = [function for function in [*main, *combine] if isinstance(function, Function)]
-        for function in found:
-            found += [each for each in self.names.called(function) if each not in found]
-        return set(found)
+        return set(closure([function for function in [*main, *combine] if isinstance(function, Function)], self.names.called))
 
     def reached_bodies(self) -> list[Body]:
         """The bodies of these functions, and of the blocks in them."""
-        found = [self.threads.bodies[function] for function in self.program.functions if function in self.reached]
-        for body in found:
-            found += [branch for _, branch in body.branches if branch not in found]
-        return found
+        bodies = [self.threads.bodies[function] for function in self.program.functions if function in self.reached]
+        return closure(bodies, lambda body: [branch for _, branch in body.branches])
+
+    def function_ends_never(self, function: Function) -> bool:
+        if function not in self.endless:
+            self.endless[function] = any(ends_never(self, each) for each in function.body)
+        return self.endless[function]
+
+    def function_sets(self, function: Function, item: Global) -> bool:
+        if (function, item) not in self.setting:
+            self.setting[function, item] = sets(self, item, function.body)
+        return self.setting[function, item]
 
     def within(self, body: Body) -> list[Use]:
         """What a thread and those below it name."""
-        found = [body]
-        for each in found:
-            found += [other for other in [*each.calls, *(branch for _, branch in each.branches)] if other not in found]
+        found = closure([body], lambda each: [*each.calls, *(branch for _, branch in each.branches)])
         return [use for each in found for use in each.uses]
 
 
@@ -129,7 +135,7 @@ def ends_never(reading: Reading, what: tree.Stmt | tree.Branch) -> bool:
             return ends_never(reading, call)
         case tree.Call(name, _):
             called = reading.names.item(name.place)
-            return isinstance(called, Function) and any(ends_never(reading, each) for each in called.body)
+            return isinstance(called, Function) and reading.function_ends_never(called)
     return False
 
 
@@ -158,7 +164,7 @@ def kept_by(reading: Reading, item: Global) -> int | None:
 def pars_of(body: Body) -> Iterator[list[Body]]:
     """The branches of each `par` in a body."""
     bodies = iter(body.branches)
-    for part in own(body.statements):
+    for part in tree.walk(body.statements, own_parts):
         if isinstance(part, tree.Par):
             yield [next(bodies)[1] for _ in part.branches]
 
@@ -199,7 +205,7 @@ def sets_it(reading: Reading, item: Global, statement: tree.Stmt) -> bool:
             return no is not None and sets_it(reading, item, yes) and sets_it(reading, item, no)
         case tree.CallStatement(_, call):
             called = reading.names.item(call.place)
-            return isinstance(called, Function) and sets(reading, item, called.body)
+            return isinstance(called, Function) and reading.function_sets(called, item)
     return False
 
 
@@ -241,23 +247,19 @@ def anew(reading: Reading) -> Iterator[Warning]:
 
 def repeated(reading: Reading) -> set[Function]:
     """The functions that are called or started in a loop, or in such a function."""
-    in_loops, calls = [], {}
+    in_loops: list[Function] = []
     for function in reading.program.functions:
-        calls[function] = reading.names.called(function)
         for loop in tree.walk(function.body):
             if isinstance(loop, tree.Loop):
                 called = [reading.names.item(part.place) for part in tree.walk(loop.body) if isinstance(part, tree.Call)]
                 in_loops += [each for each in called if isinstance(each, Function) and not each.gives]
-    found = list(dict.fromkeys(in_loops))
-    for function in found:
-        found += [each for each in calls[function] if each not in found]
-    return set(found)
+    return set(closure(in_loops, reading.names.called))
 
 
 def anew_in(body: tuple[tree.Stmt, ...], again: bool, when: str) -> Iterator[Warning]:
     """The warnings of a list of statements, which is entered again and again or not."""
     for at, statement in enumerate(body):
-        if isinstance(statement, tree.Declare) and again:
+        if isinstance(statement, tree.Declare) and again and len(body) - at <= LONGEST_SCOPE:
             for local in statement.locals:
                 yield from anew_local(local, body[at:], when)
         if isinstance(statement, tree.Loop):
@@ -272,7 +274,7 @@ def anew_local(local: tree.Local, scope: tuple[tree.Stmt, ...], when: str) -> It
     """The warning for a local whose one assignment stands in no loop of its scope: nobody sees what it becomes by it."""
     name, parts = local.name.text, list(tree.walk(scope))
     assigned = [part for part in parts if isinstance(part, tree.Assign) and part.name.text == name]
-    in_loops = [part for loop in parts if isinstance(loop, tree.Loop) for part in tree.walk(loop)]
+    in_loops = {part for loop in parts if isinstance(loop, tree.Loop) for part in tree.walk(loop)} if len(assigned) == 1 else set()
     begins = not local.length and all(isinstance(value, tree.Literal) for value in local.values)
     if len(assigned) != 1 or not begins or assigned[0] in in_loops:
         return
