@@ -18,7 +18,7 @@ FOREC = os.path.join(ROOT, "forec")
 SYSTEM_PYTHON = "/usr/bin/python3"
 PR_SET_PDEATHSIG = 1
 LIBC = ctypes.CDLL(None)
-PATIENCE = float(os.environ.get("PATIENCE", "30"))  # seconds for what has to happen
+PATIENCE = float(os.environ.get("PATIENCE", "60"))  # seconds for what has to happen
 sys.path.insert(0, os.path.join(ROOT, "tools"))
 
 PLANT = """\

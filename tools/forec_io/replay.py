@@ -30,7 +30,7 @@ def judged(recorded: Iterator[bytes], printed: Iterator[bytes]) -> tuple[str, in
     for number, (ours, now) in enumerate(itertools.zip_longest(recorded, printed, fillvalue=b""), 1):
         if not ours:
             more = sum(line.startswith(b"tick ") for line in (now, *printed))
-            return f"{ticks} ticks, and the report is the recorded one as far as that goes: the run was cut off {more} ticks before its end", 0
+            return f"{ticks} ticks, and the report is the recorded one up to there: the run was cut off, {more} ticks before its end", 0
         if ours != now:
             texts = [line.decode(errors="replace").rstrip("\n") or "nothing" for line in (ours, now)]
             return f"line {number} of the report differs\n  recorded: {texts[0]}\n  replayed: {texts[1]}", DIFFERS

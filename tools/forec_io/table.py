@@ -20,7 +20,7 @@ class Table:
 
     def take(self, key: str, kind: type, default: Any = WANTED, *, least: float | None = None, most: float | None = None,
              among: Sequence[Any] = ()) -> Any:
-        """The value of a key, or the default where the table has none. A whole number is taken for a float, too, and anything for object."""
+        """The value of a key, or the default where the table has none. A whole number is a float, too, and anything is an object."""
         if key not in self._left:
             if default is WANTED:
                 raise ConfigFault(f"{self.name}: '{key}' is missing")

@@ -100,8 +100,8 @@ class View:
         marks = [f"forced to {forced}"] if forced is not None else []
         if kind == "input" and signal_.channel and name not in loop.known:
             marks.append("not known")
-        return (f"{'>' if number == self.chosen else ' '} {kind:<7}{name:<20}{values.get(name, '-'):>12} {signal_.unit:<6} {', '.join(marks)}",
-                bool(marks))
+        pointer = ">" if number == self.chosen else " "
+        return f"{pointer} {kind:<7}{name:<20}{values.get(name, '-'):>12} {signal_.unit:<6} {', '.join(marks)}", bool(marks)
 
     def _bottom(self) -> str:
         if self.typed is not None:

@@ -28,6 +28,7 @@ void main(void) { par(a, b); }
 pub type Told = (Outcome, i32);
 
 /// Workers that no OS thread runs.
+#[derive(Drop)]
 pub struct Waiting<'c, P: Port<ForecWork> + Drop> {
     pub workers: Vec<Worker<'c, P>>,
 }

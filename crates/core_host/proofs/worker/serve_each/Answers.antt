@@ -10,6 +10,6 @@ loop-at-preserved g c =
     let new = c.serve_beside-worked.new.self in (
       standing_set c.loop-at.hosts c.loop-at.at new
           (λ y at. same_standing (get_or c.loop-at.hosts c.loop-at.at old) new c.serve_beside-worked.ensures.same ∙ ap standing (get_or_from_slice_get c.loop-at.hosts c.loop-at.at y old at))
-      ∙ c.loop-at.invariant.0,
+          ∙ c.loop-at.invariant.0,
       length-set c.loop-at.hosts c.loop-at.at new ∙ c.loop-at.invariant.1,
     )
