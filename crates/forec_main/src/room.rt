@@ -1,4 +1,5 @@
 //! How much stack a command has, and how deep a program fits in it.
+ghost use Rattle.std.specs.Prelude.{◌≤◌, length, IfSome};
 
 use std::alloc::Global;
 use std::fs;
@@ -34,6 +35,9 @@ pub const LEAST: Room = Room {
 
 const LEAST_STACK: usize = 4_194_304;
 
+/// A piece of stack, in bytes.
+const PAGE: usize = 4096;
+
 /// Where the system tells the limits of the process, a line for each.
 const LIMITS: &str = "/proc/self/limits";
 
@@ -51,8 +55,10 @@ fn stack_limit(limits: &str) -> Option<u64> {
     None
 }
 
-/// Reads from the limits of the process. Nothing where they can't be read.
-fn read_limits(rt: &impl Files, bytes: &mut [u8]) -> Option<usize> {
+/// Reads from the limits of the process. Returns how many bytes, or nothing where they can't be read.
+fn read_limits(rt: &impl Files, bytes: &mut [u8]) -> Option<usize>
+    ensures { IfSome result (λ count. count ≤ length bytes.new) }
+{
     let mut file = fs::open(rt, LIMITS).ok()?;
     file.read(bytes).ok()
 }
@@ -80,18 +86,23 @@ fn can_be_had(rt: &impl Files, alloc: Global, len: usize) -> bool {
     read_limits(rt, &mut bytes).is_some()
 }
 
-/// Writes to as many bytes of this thread's stack as a command takes at least, so that they are its own from now on:
-/// the system hands them in, and can't be kept from reading them.
+/// Writes to so many pages of this thread's stack, so that they are its own from now on: the system hands the last one
+/// in, and can't be kept from reading them.
 #[inline(never)]
-fn take_stack(rt: &impl Files) -> bool {
-    let mut bytes = [0u8; LEAST_STACK];
-    read_limits(rt, &mut bytes).is_some()
+fn take_pages(rt: &impl Files, pages: usize, above: &mut [u8]) -> bool {
+    if pages == 0 {
+        return read_limits(rt, above).is_some();
+    }
+    let mut page = [0; PAGE];
+    take_pages(rt, pages - 1, &mut page)
 }
 
 /// Whether the stack of the first thread has room for a command, which it takes before anything is made.
 pub fn has_room(rt: &(impl AllocGlobal + Files)) -> bool {
     let stack = LEAST.stack + LEAST.stack / 2;
-    may_grow(rt, stack as u64) && can_be_had(rt, rt.alloc(), stack) && take_stack(rt)
+    may_grow(rt, stack as u64)
+        && can_be_had(rt, rt.alloc(), stack)
+        && take_pages(rt, LEAST.stack / PAGE, &mut [])
 }
 
 #[cfg(test)]
