@@ -1,5 +1,5 @@
 -- What a command prints of an accepted text.
-use Rattle.std.proofs.Common.{◌≡◌, ◌≢◌, ◌⊎◌, inl, inr, ℕ, Bool, List, Option, Some, None, refl, sym, ap, subst, ◌∙◌}
+use Rattle.std.proofs.Common.{◌≡◌, ◌≢◌, ◌⊎◌, inl, inr, ℕ, Bool, List, Option, Some, None, refl, sym, ap, ◌∙◌}
 use Rattle.forec_base.specs.declared.limits.TheConstants.{MAX_ROWS}
 use Rattle.forec_kernel.specs.Shapes.{PlainKernel}
 use Rattle.core_alloc.specs.declared.fault.PlacementFault.{PlacementFault}
@@ -13,8 +13,7 @@ use Rattle.trace_runs.specs.Workload.{ticked_report}
 use Rattle.trace_runs.specs.declared.status.Status.{Status}
 use Rattle.trace_runs.proofs.Printing.{prints_as}
 use Rattle.forec_engine.specs.Answers.{Answers}
-use Rattle.forec_engine.specs.Commands.{ThreadsReport, Of_misplaced, Of_placed, AcceptedReport, IsListing, TellsTrace, counted, threads_listed}
-use Rattle.forec_engine.specs.Ends.{CommandIsMisplaced}
+use Rattle.forec_engine.specs.Commands.{ThreadsReport, Of_misplaced, IsListing, counted}
 use Rattle.forec_engine.specs.Placing.{misplaced, misplacing, unless_misplaced, workload_report, IsMisplaced}
 
 -- why a list is refused, where memory isn't wanting
@@ -66,8 +65,8 @@ module _ {K : Type 0} (held : K → Option (List ℕ)) (lost : K → ℕ) (is_do
     pub run_placed : (running : PlainRunning) → misplacing k running.placing ≡ None → RunsRows left faults down held lost is_down MAX_ROWS k running.budget ⊥ old new out out' end → Did (Run running)
     run_placed running e p = record {
       prints = prints_as held lost is_down _ _ _ _ _ out out' _ _ _ _ _ end (λ t. t)
-          (λ t r is. (is.0, is.1, is.2 ∙ unmisplaced (misplacing k running.placing) (trace_report MAX_ROWS k running.budget is.0) e)) (λ n. absurd n) (λ u. (running, refl, u.0, e, u.1)) (λ n. absurd n) p.prints;
-      trace = inr (running, refl, e, p.trace);
+          (λ t r is. (is.0, is.1, is.2 ∙ unmisplaced (misplacing k running.placing) (trace_report MAX_ROWS k running.budget is.0) e)) (λ n. absurd n) (λ u. (running, refl, (u.0, e, u.1))) (λ n. absurd n) p.prints;
+      trace = inr (running, refl, (e, p.trace));
     }
 
     pub run_misplaced : (running : PlainRunning) (why : PlacementFault) → new ≡ old → (why ≡ fault.OutOfMemory) ⊎ (misplacing k running.placing ≡ Some why) → Misplaces held lost is_down why out out' end → Did (Run running)
@@ -80,8 +79,8 @@ module _ {K : Type 0} (held : K → Option (List ℕ)) (lost : K → ℕ) (is_do
 
     pub explained : (budget order : ℕ) → RunsRows left faults down held lost is_down MAX_ROWS k budget Unit old new out out' end → Did (Explain budget order)
     explained budget order p = record {
-      prints = prints_as held lost is_down _ _ _ _ _ out out' _ _ _ _ _ end (λ t. t) (λ t r is. is) (λ n. absurd n) (λ u. (_, refl, u.0, refl, u.1)) (λ _. (budget, order, refl)) p.prints;
-      trace = inr (_, refl, refl, p.trace);
+      prints = prints_as held lost is_down _ _ _ _ _ out out' _ _ _ _ _ end (λ t. t) (λ t r is. is) (λ n. absurd n) (λ u. (_, refl, (u.0, refl, u.1))) (λ _. (budget, order, refl)) p.prints;
+      trace = inr (_, refl, (refl, p.trace));
     }
 
     pub checked : new ≡ old → Says held lost is_down (counted counts) ⊥ out out' end → Did Check

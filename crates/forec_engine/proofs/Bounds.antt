@@ -1,13 +1,12 @@
 -- What words ask for is within its ranges.
-use Rattle.std.proofs.Common.{◌≡◌, ◌≤◌, ℕ, nat_le, cond, if◌then◌else◌, ◌&&◌, ◌||◌, is_some, Bool, true, false, Option, None, Some, option_map, option_and_then, Result, Ok, Err, List, [], ◌∷◌, refl, subst, arith}
-use Rattle.std.specs.Prelude.{codes, IfOk}
+use Rattle.std.proofs.Common.{◌≡◌, ◌≤◌, ℕ, nat_le, cond, if◌then◌else◌, ◌&&◌, ◌||◌, is_some, Bool, true, false, Option, None, Some, option_map, option_and_then, List, [], ◌∷◌, refl, subst, arith}
+use Rattle.std.specs.Prelude.{codes}
 use Rattle.std.proofs.lemmas.Bool.{leb-true}
 use Rattle.forec_base.specs.declared.limits.TheConstants.{MAX_CORES, MAX_BUDGET}
 use Rattle.command_words.specs.CommandLine.{PlainValues, kinds_of, values_of}
 use Rattle.command_words.specs.Numbers.{between, number_of, number_in, number_or}
-use Rattle.command_words.specs.Requests.{PlainPlacing, PlainRunning, PlainCommand, Run, Check, Threads, Code, Explain, PlainRequest, OnText, OnWorkload, placing_of, budget_of, order_of, running_of, explaining_of, placing_alone_of, has_no_options, is_word, command_of, workload_of, request_named, request_by, unless_refused, request_of, plain_request}
+use Rattle.command_words.specs.Requests.{PlainPlacing, PlainRunning, PlainCommand, Run, Check, Threads, Code, Explain, PlainRequest, OnText, OnWorkload, placing_of, budget_of, order_of, running_of, explaining_of, placing_alone_of, has_no_options, is_word, command_of, workload_of, request_named, request_by, unless_refused, request_of}
 use Rattle.command_words.specs.declared.request.TheConstants.{DEFAULT_BUDGET, MAX_WORKLOAD}
-use Rattle.command_words.specs.declared.request.Request.{Request}
 use Rattle.forec_engine.specs.Commands.{IsPlaceable, IsRunnable, IsInRange, HasRanges}
 
 map_some : {A B : Type 0} (f : A → B) (o : Option A) (b : B) → option_map f o ≡ Some b → (x : A) × (o ≡ Some x) × (f x ≡ b)
@@ -114,10 +113,7 @@ module _ (v : PlainValues) (r : PlainRequest) where
   by_kinds [] e = by_values e
   by_kinds (kind ∷ kinds) e = absurd (let g : None ≡ Some r = e in cc)
 
-ranges : (words : List (List ℕ)) (r : PlainRequest) → request_of words ≡ Some r → HasRanges r
+-- what the words ask for
+pub ranges : (words : List (List ℕ)) (r : PlainRequest) → request_of words ≡ Some r → HasRanges r
 unfolding request_of
 ranges words r e = by_kinds (values_of words) r (kinds_of words) e
-
-pub all_ranges : {E : Type 0} (words : List (List ℕ)) (result : Result Request E) → IfOk result (λ r. request_of words ≡ Some (plain_request r)) → IfOk result (λ r. HasRanges (plain_request r))
-all_ranges words (Ok r) e = ranges words (plain_request r) e
-all_ranges words (Err f) e = tt

@@ -1,11 +1,11 @@
 -- What is done with a text, and with the text of a name.
-use Rattle.std.proofs.Common.{◌≡◌, ◌<◌, ◌⊎◌, inl, inr, ℕ, Bool, List, Option, Some, length, refl, sym, subst, ◌∙◌}
+use Rattle.std.proofs.Common.{◌≡◌, ◌<◌, inl, inr, ℕ, Bool, List, Option, Some, length, refl, subst}
 use Rattle.std.specs.Option.{IfSome}
 use Rattle.forec_kernel.specs.Shapes.{PlainKernel}
 use Rattle.command_words.specs.Requests.{PlainCommand}
 use Rattle.forec_engine.specs.Answers.{Answers, AnswersText, AnswersNamed}
-use Rattle.forec_engine.specs.Commands.{Of_refusal, Of_accepted, TextReport, AcceptedReport, TellsTrace, refused}
-use Rattle.forec_engine.specs.Ends.{RunsAs}
+use Rattle.forec_engine.specs.Commands.{Of_refusal, Of_accepted, TextReport, AcceptedReport, refused}
+use Rattle.forec_engine.specs.Ends.{WantedByText, ReadForText, CommandIsMisplaced, AcceptedSo}
 use Rattle.text_verdict.specs.Judging.{Judged, Accepts, Refuses, too_long, most_bytes}
 use Rattle.text_verdict.specs.declared.counts.Counts.{Counts}
 use Rattle.text_verdict.specs.declared.refusal.Refusal.{Refusal}
@@ -26,7 +26,7 @@ module _ {S K : Type 0} (left : S → Option (List ℕ)) (faults : S → ℕ) (d
       AnswersText left faults down held lost is_down command text old new out out' end
   text_accepted text counts k end judged p = record {
     prints = prints_as held lost is_down _ _ _ _ _ out out' _ _ _ _ _ end (λ t. t) (λ t r is. Of_accepted counts k judged is) (λ m. (counts, k, judged, m))
-        (λ u. (u.0, u.1, u.2.0, (k, record { counts = counts; judged = judged; placed = u.2.1 }, u.2.2))) (λ m. m) p.prints;
+        (λ u. (u.0, u.1, (u.2.0, (k, record { counts = counts; judged = judged; placed = u.2.1 }, u.2.2)))) (λ m. m) p.prints;
     trace = elim p.trace [
       | inl same ↦ inl same
       | inr r ↦ inr (r.0, r.1, (k, record { counts = counts; judged = judged; placed = r.2.0 }, r.2.1))
@@ -52,10 +52,10 @@ module _ {S K : Type 0} (left : S → Option (List ℕ)) (faults : S → ℕ) (d
     named_read bytes end same p = record {
       prints = prints_as held lost is_down _ _ _ _ _ out out' _ _ _ _ _ end (λ t. t.2)
           (λ t r is. (t.0, t.1, subst (λ (x : List ℕ). TextReport x (AcceptedReport command (left old)) r) (told_same (content name) (λ x. bytes ≡ x) t.0 same t.1) is))
-          (λ m. some_map (content name) (λ x. bytes ≡ x) _ same (λ x e. subst _ e m)) (λ u. inr (u.0, u.1, (u.2.0, some_map (content name) (λ x. bytes ≡ x) _ same (λ x e. subst _ e u.2.1)))) (λ m. m) p.prints;
+          (λ m. some_map (content name) (λ x. bytes ≡ x) _ same (λ x e. subst (AcceptedSo (CommandIsMisplaced command)) e m)) (λ u. inr (u.0, u.1, (u.2.0, some_map (content name) (λ x. bytes ≡ x) _ same (λ x e. subst (λ (t : List ℕ). WantedByText u.0 t (left old) (left new) (held out) (held out')) e u.2.1)))) (λ m. m) p.prints;
       trace = elim p.trace [
         | inl kept ↦ inl kept
-        | inr r ↦ inr (r.0, r.1, some_map (content name) (λ x. bytes ≡ x) _ same (λ x e. subst _ e r.2))
+        | inr r ↦ inr (r.0, r.1, some_map (content name) (λ x. bytes ≡ x) _ same (λ x e. subst (λ (t : List ℕ). ReadForText left faults down r.0 t old new) e r.2))
       ];
     }
 

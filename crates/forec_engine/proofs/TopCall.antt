@@ -1,15 +1,14 @@
 -- What words print.
-use Rattle.std.proofs.Common.{◌≡◌, ◌⊎◌, inl, inr, ℕ, Bool, List, Option, Some, None, refl}
+use Rattle.std.proofs.Common.{◌≡◌, ◌⊎◌, inl, inr, ℕ, Bool, List, Option, Some, None}
 use Rattle.forec_base.specs.Outside.{Fell}
 use Rattle.command_words.specs.Requests.{PlainRunning, PlainCommand, OnText, OnWorkload, request_of}
 use Rattle.workload.specs.Text.{text_of}
-use Rattle.forec_engine.specs.Answers.{AnswersNamed}
+use Rattle.forec_engine.specs.Answers.{AnswersNamed, AnswersWords}
 use Rattle.forec_engine.specs.Commands.{IsReport, Of_usage, Of_text, Of_workload, WorkloadReport, Tells, usage}
-use Rattle.forec_engine.specs.Ends.{WantedByWords, ReadForWords, AcceptedSo, IsMisuse, Asks_nothing, Misplaces, Misplaces_workload, AskForRewriting}
+use Rattle.forec_engine.specs.Ends.{WantedByWords, ReadForWords, AcceptedSo, IsMisuse, Asks_nothing, Misplaces, Misplaces_workload, NameText, AskForRewriting}
 use Rattle.forec_engine.specs.Placing.{IsMisplaced}
 use Rattle.trace_runs.specs.Ends.{IsOwn}
 use Rattle.trace_runs.specs.Prints.{Prints, Says}
-use Rattle.trace_runs.specs.Report.{Report}
 use Rattle.trace_runs.specs.declared.status.Status.{Status}
 use Rattle.trace_runs.specs.declared.status.Status.TheVariants as status
 use Rattle.trace_runs.proofs.EndLemmas.{neither_fault}
@@ -45,3 +44,20 @@ module _ {S K : Type 0} (left : S → Option (List ℕ)) (faults : S → ℕ) (d
   pub words_complete : (end : Status) → WordsPrint end → (Lost → ⊥) → (Fell (faults old) (faults new) (down new) → ⊥) → (Fell (lost out) (lost out') (is_down out') → ⊥) → IsOwn end ⊎ (end ≡ status.NoMemory)
   words_complete end p kept read written =
       neither_fault end (λ e. elim (p.read e) [ inl store ↦ kept store.0 | inr r ↦ read r.0 ]) (λ e. written (p.write e).0)
+
+-- what the words ask was done, where it prints so
+pub answers_words : {T S K : Type 0} (content : T → List ℕ → Option (List ℕ)) (missed : T → ℕ) (gone : T → Bool) (left : S → Option (List ℕ)) (faults : S → ℕ) (down : S → Bool) (held : K → Option (List ℕ)) (lost : K → ℕ) (is_down : K → Bool)
+    (words : List (List ℕ)) (store store' : T) (old new : S) (out out' : K) (end : Status) →
+    WordsPrint left faults down held lost is_down words (content store) (Fell (missed store) (missed store') (gone store')) old new out out' end →
+    (store' ≡ store) ⊎ NameText words → (new ≡ old) ⊎ ReadForWords left faults down words (content store) old new →
+    AnswersWords content missed gone left faults down held lost is_down words store store' old new out out' end
+answers_words content missed gone left faults down held lost is_down words store store' old new out out' end p texts trace = record {
+  own = p.own;
+  read = p.read;
+  write = p.write;
+  trace = trace;
+  texts = texts;
+  memory = p.memory;
+  usage = p.usage;
+  complete = λ f g h. words_complete left faults down held lost is_down words (content store) (Fell (missed store) (missed store') (gone store')) old new out out' end p (λ x. f x.rose) (λ x. g x.rose) (λ x. h x.rose);
+}

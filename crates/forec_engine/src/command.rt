@@ -4,7 +4,7 @@ ghost use Rattle.forec_base.specs.Outside.{Fell, Rose};
 ghost use Rattle.command_words.specs.Requests.{PlainCommand, OnText, plain_running, plain_command, request_of};
 ghost use Rattle.workload.specs.Text.{text_of};
 ghost use Rattle.trace_runs.specs.Calls.{AppendsFront};
-ghost use Rattle.forec_engine.specs.Answers.{AnswersText, AnswersNamed};
+ghost use Rattle.forec_engine.specs.Answers.{AnswersText, AnswersNamed, AnswersWords};
 ghost use Rattle.forec_engine.specs.Commands.{IsReport, WorkloadReport, Tells, IsInRange, IsRunnable};
 ghost use Rattle.trace_runs.specs.Ends.{IsOwn, Given};
 ghost use Rattle.forec_engine.specs.Ends.{WantedByWords, ReadForWords, AcceptedSo, IsMisuse, NameText, AskForRewriting};
@@ -84,7 +84,7 @@ fn run_workload_text<K: Sink, G: Gate + Sync, R: Threads + Wait + Sync>(
     requires ranges { IsRunnable (plain_running running) }
     ensures { Prints K.held K.faults K.down ⊤ (WorkloadReport threads (plain_running running.entry))
         (AcceptedSo (λ k. IsMisplaced k (plain_running running.entry).placing) (text_of threads)) ⊥ ⊥ out.old out.new
-            result }
+        result }
 {
     let alloc = setting.alloc;
     let Ok(text) = workload_text(alloc, threads) else {
@@ -114,41 +114,11 @@ pub fn forec_within<T: Texts, S: Source, K: Sink, G: Gate + Sync, R: Threads + W
     out: &mut K,
 ) -> Status
     // The text that the words name may be asked for.
-    requires may { (name : List ℕ) (command : PlainCommand) → request_of (map string_bytes words.now) ≡ Some (OnText name command) → T.may texts.old name }
-
-    // Where the text and the trace are known, what is printed is a report of the words, and the status is the report's.
-    ensures own { IsOwn result → Tells (map string_bytes words.now) (T.content texts.old) (S.left trace.old) → (r : Report)
-        × IsReport (map string_bytes words.now) (T.content texts.old) (S.left trace.old) r
-        × Given r result (K.held out.old) (K.held out.new) }
-
-    // A store or a trace that was wanted failed. What was printed is what the rows that had come whole print.
-    ensures read { result ≡ Status.ReadFault →
-        (Fell (T.faults texts.old) (T.faults texts.new) (T.down texts.new) × (K.held out.new ≡ K.held out.old))
-        ⊎ (Fell (S.faults trace.old) (S.faults trace.new) (S.down trace.new)
-        × WantedByWords (map string_bytes words.now) (T.content texts.old) (S.left trace.old) (S.left trace.new) (K.held out.old) (K.held out.new)) }
-
-    // The sink failed. What was printed is a prefix of a report of the words.
-    ensures write { result ≡ Status.WriteFault → Fell (K.faults out.old) (K.faults out.new) (K.down out.new)
-        × (Tells (map string_bytes words.now) (T.content texts.old) (S.left trace.old) → (r : Report)
-        × IsReport (map string_bytes words.now) (T.content texts.old) (S.left trace.old) r
-        × AppendsFront (K.held out.old) (K.held out.new) r.bytes) }
-
-    // The trace is read by `run` and `explain` alone, for a text that is accepted, whose list of places isn't refused, and no read is
-    // asked for once a line that stops the program has come whole.
-    ensures trace { (trace.new ≡ trace.old) ⊎ ReadForWords S.left S.faults S.down (map string_bytes words.now) (T.content texts.old) trace.old trace.new }
-
-    // Where memory ran out, nothing was printed. Of a program that is rewritten a prefix of a report may be.
-    ensures memory { result ≡ Status.NoMemory → (K.held out.new ≡ K.held out.old)
-        ⊎ (AskForRewriting (map string_bytes words.now) × (Tells (map string_bytes words.now) (T.content texts.old) (S.left trace.old) → (r : Report)
-        × IsReport (map string_bytes words.now) (T.content texts.old) (S.left trace.old) r
-        × AppendsFront (K.held out.old) (K.held out.new) r.bytes)) }
-
-    // This status comes only where the words ask for nothing, or the list of places is refused.
-    ensures usage { result ≡ Status.Usage → IsMisuse (map string_bytes words.now) (T.content texts.old) }
-
-    // Where no count of faults rises, the report is given whole, or memory ran out.
-    ensures complete { (Rose (T.faults texts.old) (T.faults texts.new) → ⊥) → (Rose (S.faults trace.old) (S.faults trace.new) → ⊥)
-        → (Rose (K.faults out.old) (K.faults out.new) → ⊥) → IsOwn result ⊎ (result ≡ Status.NoMemory) }
+    requires may { (name : List ℕ) (command : PlainCommand) → request_of (map string_bytes words.now) ≡ Some (OnText
+        name command)
+        → T.may texts.old name }
+    ensures { AnswersWords T.content T.faults T.down S.left S.faults S.down K.held K.faults K.down
+        (map string_bytes words.now) texts.old texts.new trace.old trace.new out.old out.new result }
 {
     match read_words(setting.alloc, words) {
         Ok(Request::Text { program, command }) => {

@@ -31,12 +31,16 @@ fn digits(number: u32) -> u64 {
     count
 }
 
+/// How many bytes a number takes, with its sign.
+fn number(value: i32) -> u64 {
+    digits(value.unsigned_abs()).saturating_add(u64::from(value < 0))
+}
+
 /// How many bytes the operands of an instruction take at most, with a space before the second one.
 fn operands(step: &Instruction) -> u64 {
     match *step {
-        Instruction::Push { value } | Instruction::Quiet { value } => {
-            digits(value.cast_unsigned())
-        }
+        Instruction::Push { value } => number(value),
+        Instruction::Quiet { value } => number(value),
         Instruction::Load { slot: first }
         | Instruction::Store { slot: first }
         | Instruction::Table { table: first, .. }

@@ -1,5 +1,5 @@
 -- A tick more of a program that runs.
-use Rattle.std.proofs.Common.{◌≡◌, ℤ, List, [], ◌∷◌, ◌++◌, refl, sym, ap, subst, ◌∙◌}
+use Rattle.std.proofs.Common.{◌≡◌, ℕ, ℤ, List, [], ◌∷◌, ◌++◌, refl, sym, ap, subst, ◌∙◌}
 use Rattle.forec_kernel.specs.declared.shape.Outcome.{Outcome}
 use Rattle.forec_kernel.specs.Composed.{TickInput, next_state, state_after}
 use Rattle.forec_kernel.specs.Shapes.{PlainKernel}
@@ -9,7 +9,8 @@ use Rattle.thread_code.specs.Alone.{Stands}
 use Rattle.thread_code.specs.Plain.{PlainCode}
 use Rattle.trace_runs.specs.Hosting.{CodeFollows}
 use Rattle.trace_runs.specs.Ticking.{tick_after, RunsOnce, Starts}
-use Rattle.core_host.specs.Outcomes.{HasOutputs}
+use Rattle.tick_jobs.specs.Outcomes.{HasOutputs}
+use Rattle.tick_jobs.specs.Ticks.{Ticking, HasRun, RunsTick}
 
 state_then : (k : PlainKernel) (turns : List TickInput) (last : TickInput) (old : State) → state_after k old (turns ++ last ∷ []) ≡ next_state k (state_after k old turns) last
 state_then k [] last old = refl
@@ -41,4 +42,17 @@ rewritten_once k now same s s' turn values o how outputs state = record {
   outcome = λ m turns f. how ∙ ap (λ (x : PlainKernel). (tick x turn.budget s turn.row).outcome) (sym f.0) ∙ ap (λ (x : State). (tick m turn.budget x turn.row).outcome) f.1;
   outputs = λ m turns f has. outputs has ∙ ap (λ (x : PlainKernel). (tick x turn.budget s turn.row).outputs) (sym f.0) ∙ ap (λ (x : State). (tick m turn.budget x turn.row).outputs) f.1;
   follows = λ m turns f. (f.0 ∙ sym same, state ∙ ap (λ (x : PlainKernel). (tick x turn.budget s turn.row).state) (sym f.0) ∙ led_on m turns turn s f.1);
+}
+
+-- a code is followed by one tick more
+pub code_ticks : (a b : Ticking) (row : List ℤ) (budget : ℕ) (o : Outcome) (before after : List ℤ) → RunsTick a b row budget o before after →
+    RunsOnce (CodeFollows a.code (λ turns. HasRun a turns)) (CodeFollows b.code (λ turns. HasRun b turns)) (record { row = row; budget = budget }) after o
+code_ticks a b row budget o before after runs = record {
+  outcome = λ k turns f. runs.outcome k turns f.formed f.stands f.ran;
+  outputs = λ k turns f has. runs.outputs k turns f.formed f.stands f.ran has;
+  follows = λ k turns f. record {
+    formed = f.formed;
+    stands = subst (λ (p : PlainCode). Stands p k) (sym runs.code) f.stands;
+    ran = runs.turns turns f.ran;
+  };
 }

@@ -12,7 +12,8 @@ use crate::setting::{Company, Setting};
 use crate::status::Status;
 use crate::ticker::Ticker;
 use copy_slots::Port;
-use core_host::{ForecWork, Host, Serve, Worker};
+use core_host::{Host, Worker};
+use core_seats::{ForecWork, Serve};
 use forec_base::{Gate, OutOfMemory};
 use std::alloc::{AllocError, Global};
 use std::sync::{Mutex, Wait};
@@ -27,6 +28,10 @@ struct GatedWorker<'g, 'c, P: Port<ForecWork> + Drop, G> {
 }
 
 impl<'g, 'c, P: Port<ForecWork> + Drop, G: Gate> Serve for GatedWorker<'g, 'c, P, G> {
+    ghost use Rattle.std.specs.Prelude.{[]};
+
+    ghost kept = { λ w. record { borrow = 0; hosts = [] } };
+
     fn serve<R: Wait>(&mut self, rt: &R) -> bool {
         let gate = self.gate;
         self.worker.serve_beside(rt, gate)
@@ -51,6 +56,10 @@ struct Others<H> {
 }
 
 impl<H: Serve> Serve for Others<H> {
+    ghost use Rattle.std.specs.Prelude.{[]};
+
+    ghost kept = { λ o. record { borrow = 0; hosts = [] } };
+
     fn serve<R: Wait>(&mut self, rt: &R) -> bool {
         let mut served = false;
         for worker in self.workers.iter_mut() {

@@ -6,7 +6,8 @@ ghost use Rattle.core_host.specs.Hosted.{is_here};
 use crate::setting::Company;
 use crate::ticker::Ticker;
 use copy_slots::Port;
-use core_host::{ForecWork, Host, Serve};
+use core_host::Host;
+use core_seats::{ForecWork, Serve};
 use forec_base::{Gate, OutOfMemory};
 use forec_kernel::Outcome;
 use one_core::OneCore;
@@ -52,7 +53,7 @@ impl<'c, P: Port<ForecWork> + Drop> Ticker for Root<'c, P> {
         outputs: &mut [i32],
     ) -> Result<Outcome, OutOfMemory> {
         Ok(
-            self.host.tick_beside(
+            self.host.tick(
                 company.rt,
                 row,
                 budget,

@@ -1,9 +1,10 @@
 //! Runs with the threads placed on cores: by hosts, or on one core alone.
 
 ghost use Rattle.forec_base.specs.declared.limits.TheConstants.{MAX_BUDGET};
-ghost use Rattle.std.specs.Prelude.{◌≡◌, ◌≤◌, length, IfOk, OnErr};
+ghost use Rattle.std.specs.Prelude.{◌≡◌, ◌≤◌, length, true, IfOk, OnErr};
 ghost use Rattle.forec_kernel.specs.Shapes.{plain_kernel};
 ghost use Rattle.thread_code.specs.Plain.{plain_code};
+ghost use Rattle.core_alloc.specs.Places.{is_on_one_core};
 ghost use Rattle.board_hosts.specs.Boards.{ArePorts};
 ghost use Rattle.core_bells.specs.Ropes.{new_ropes};
 ghost use Rattle.trace_runs.specs.Hosting.{DidForEach};
@@ -22,7 +23,7 @@ use board_hosts::{Hosts, board_of, hosts_of};
 use code_gen::generate;
 use core_alloc::Placement;
 use core_bells::{Bells, GivesRopes};
-use core_host::ForecWork;
+use core_seats::ForecWork;
 use forec_base::{Gate, MAX_ROWS, OutOfMemory, Sink, Source};
 use forec_kernel::Kernel;
 use one_core::OneCore;
@@ -90,6 +91,7 @@ fn lead_alone<J: Lead, G: Gate, R: Wait>(
     job: &mut J,
 ) -> Result<Status, OutOfMemory>
     requires placed { length placement.now.places ≡ length (plain_code code.now).threads }
+    requires one { is_on_one_core placement.now.places ≡ true }
     requires can { J.can job.old (plain_code code.now).shape }
     ensures ok { IfOk result (DidForEach (plain_code code.now) (J.did job.old job.new)) }
     ensures err { OnErr result (job.new ≡ job.old) }

@@ -7,7 +7,7 @@ ghost use Rattle.trace_runs.specs.declared.status.Status.{Status};
 use crate::setting::Company;
 use crate::status::Status;
 use crate::ticker::Ticker;
-use core_host::Serve;
+use core_seats::Serve;
 use forec_base::Gate;
 use std::sync::Wait;
 

@@ -9,7 +9,7 @@ ghost use Rattle.kernel_meaning.specs.States.{plain_state};
 use crate::orders::order;
 use crate::setting::Company;
 use crate::ticker::Ticker;
-use core_host::Serve;
+use core_seats::Serve;
 use forec_base::{Gate, OutOfMemory};
 use forec_kernel::{Kernel, Outcome};
 use kernel_meaning::{State, rewrite_tick};

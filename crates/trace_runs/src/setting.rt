@@ -1,6 +1,6 @@
 //! What the calls of a run share.
 
-use core_host::Serve;
+use core_seats::Serve;
 use std::alloc::Global;
 use std::sync::Wait;
 
@@ -26,6 +26,10 @@ pub struct Company<'a, O, G, R> {
 pub struct Nobody;
 
 impl Serve for Nobody {
+    ghost use Rattle.std.specs.Prelude.{[]};
+
+    ghost kept = { λ n. record { borrow = 0; hosts = [] } };
+
     fn serve<R: Wait>(&mut self, _rt: &R) -> bool {
         false
     }

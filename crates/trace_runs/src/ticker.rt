@@ -8,7 +8,7 @@ ghost use Rattle.forec_kernel.specs.Ticks.{goes_on};
 ghost use Rattle.trace_runs.specs.Ticking.{RunsOnce};
 
 use crate::setting::Company;
-use core_host::Serve;
+use core_seats::Serve;
 use forec_base::{Gate, OutOfMemory};
 use forec_kernel::Outcome;
 use std::sync::Wait;

@@ -20,7 +20,7 @@ use crate::setting::Company;
 use crate::status::Status;
 use crate::ticker::Ticker;
 use crate::waiting::Waiting;
-use core_host::Serve;
+use core_seats::Serve;
 use forec_base::{Failed, Gate, Sink, Source};
 use forec_kernel::Outcome;
 use std::alloc::Global;

@@ -6,7 +6,7 @@ use crate::setting::Company;
 use crate::status::Status;
 use crate::ticker::Ticker;
 use crate::ticks::run;
-use core_host::Serve;
+use core_seats::Serve;
 use forec_base::{Gate, Sink, Source};
 use std::alloc::Global;
 use std::sync::Wait;

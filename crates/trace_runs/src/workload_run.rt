@@ -6,7 +6,7 @@ use crate::session::Session;
 use crate::setting::Company;
 use crate::status::Status;
 use crate::ticker::Ticker;
-use core_host::Serve;
+use core_seats::Serve;
 use forec_base::{Gate, Sink};
 use std::sync::Wait;
 

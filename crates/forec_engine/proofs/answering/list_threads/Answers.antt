@@ -1,4 +1,4 @@
-use Rattle.std.proofs.Common.{◌≡◌, refl}
+use Rattle.std.proofs.Common.{◌≡◌}
 use Rattle.forec_kernel.specs.Shapes.{plain_kernel}
 use Rattle.command_words.specs.Requests.{plain_placing}
 use Rattle.forec_engine.specs.Commands.{Of_placed, ThreadsReport, threads_listed}

@@ -1,8 +1,7 @@
-use Rattle.std.proofs.Common.{ap, subst, sym, refl, ◌∙◌}
+use Rattle.std.proofs.Common.{subst, refl}
 use Rattle.command_words.specs.Requests.{plain_command}
-use Rattle.forec_base.specs.Outside.{Fell}
 use Rattle.forec_engine.specs.Answers.{AnswersText}
-use Rattle.forec_engine.proofs.Named.{named_read, named_long, named_lost, named_nothing}
+use Rattle.forec_engine.proofs.Named.{named_read, named_long}
 use Rattle.forec_engine.proofs.command.run_named.Goals as goal
 
 pub returns-in-Ok : goal.returns-in-Ok

@@ -7,11 +7,11 @@ use Rattle.trace_runs.proofs.hosting.lead_alone.Goals as goal
 pub lead-requires : goal.lead-requires
 lead-requires g c = record {
   can = subst (λ (p : PlainCode). g.J.Lead.can c.args.job.now p.shape) (sym c.in_ok-one.ensures.code) c.requires.can;
-  live = c.in_ok-one.ensures.live;
+  live = c.in_ok-one.ensures.none.live;
   ready = refl;
 }
 
 pub returns-clause-ok : goal.returns-clause-ok
 returns-clause-ok g c = λ k formed stands.
     let one = c.in_ok-one.one in
-    c.lead.ensures k (code_starts (plain_code c.args.code.now) (code_of one) (HasRun one) k c.in_ok-one.ensures.code formed stands c.in_ok-one.ensures.none)
+    c.lead.ensures k (code_starts (plain_code c.args.code.now) (code_of one) (HasRun one) k c.in_ok-one.ensures.code formed stands c.in_ok-one.ensures.none.turns)

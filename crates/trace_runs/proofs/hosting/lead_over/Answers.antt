@@ -7,7 +7,7 @@ use Rattle.trace_runs.proofs.hosting.lead_over.Goals as goal
 pub lead_hosts-requires-clause-can : goal.lead_hosts-requires-clause-can
 lead_hosts-requires-clause-can g c = λ κs within. record {
   can = subst (λ (p : PlainCode). g.J.Lead.can c.args.job.now p.shape) (sym (ap plain_code c.in_ok-root.ensures.root.code)) c.requires.can;
-  live = c.in_ok-root.ensures.root.live;
+  live = c.in_ok-root.ensures.root.none.live;
   ready = refl;
 }
 

@@ -1,15 +1,6 @@
-use Rattle.std.proofs.Common.{sym, ap, subst}
-use Rattle.thread_code.specs.Alone.{Stands}
-use Rattle.thread_code.specs.Plain.{PlainCode, plain_code}
+use Rattle.core_host.specs.Runs.{ticking}
+use Rattle.trace_runs.proofs.Following.{code_ticks}
 use Rattle.trace_runs.proofs.hosted.RootTicker.tick.Goals as goal
 
 pub returns-clause-tick : goal.returns-clause-tick
-returns-clause-tick g c = record {
-  outcome = λ k turns f. c.tick_beside.ensures.outcome k turns f.formed f.stands f.ran;
-  outputs = λ k turns f has. c.tick_beside.ensures.outputs k turns f.formed f.stands f.ran has;
-  follows = λ k turns f. record {
-    formed = f.formed;
-    stands = subst (λ (p : PlainCode). Stands p k) (sym (ap plain_code c.tick_beside.ensures.code)) f.stands;
-    ran = c.tick_beside.ensures.turns turns f.ran;
-  };
-}
+returns-clause-tick g c = code_ticks _ _ c.args.row.now c.args.budget _ c.args.outputs.now _ c.tick.ensures.runs
