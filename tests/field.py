@@ -83,7 +83,7 @@ safe = 9
 
 def left_out(package):
     """Ends the check with the line that says why it isn't run."""
-    print(f"left out: {package} isn't installed")
+    print(f"{package} isn't installed here: the check is left out")
     sys.exit(0)
 
 
