@@ -31,7 +31,7 @@ WORDS = {
     **dict.fromkeys("IF THEN ELSE ELSIF END_IF then elsif elif endif".split(), "write if (x) { .. } else { .. }, in small letters"),
     **dict.fromkeys("WHILE END_WHILE".split(), "write while (x) { .. }, in small letters, with a pause where each turn is a tick"),
     **dict.fromkeys("FOR TO BY END_FOR".split(), "write for (int i = 1; i <= 3; i++) { .. }, in small letters"),
-    **dict.fromkeys("DO REPEAT UNTIL END_REPEAT begin end".split(), "a body stands in curly brackets: while (x) { .. }"),
+    **dict.fromkeys("DO REPEAT UNTIL END_REPEAT begin".split(), "a body stands in curly brackets: while (x) { .. }"),
     **dict.fromkeys("CASE OF END_CASE".split(), CHOICE),
     **dict.fromkeys("VAR VAR_INPUT VAR_OUTPUT END_VAR PROGRAM FUNCTION_BLOCK".split(),
                     "write input int a; output int b = 0; void main(void) { .. }"),
@@ -41,7 +41,7 @@ WORDS = {
     "halt": "write while (1) pause;",
     "present": "write if (s) { .. } else { .. }",
     "loop": "write while (1) { .. } with a pause in it",
-    "every": "write while (1) { abort { .. while (1) pause; } when (s); }",
+    "every": "write abort { while (1) pause; } when (s); while (1) { abort { .. while (1) pause; } when (s); }",
     "suspend": "what waits while s is on begins with while (s) pause;",
     "signal": "there are no signals: write shared int s = 0 combine mod with last; outside of the functions",
     **dict.fromkeys(("switch", "case", "default"), CHOICE),
@@ -103,7 +103,8 @@ HINTS = [
 
 # The bytes before and at a place at which no token begins, and what they may mean.
 LEX = [
-    (r"\d", r"\.", "numbers are whole: count in tenths, as 15 for 1.5"),
+    (r"#\s*include\b[^\n]*", r"", "there is no #include: a program is one text"),
+    (r"(?<!\w)\d+", r"\.", "numbers are whole: count in tenths, as 15 for 1.5"),
     (r"", r"\.\d", "numbers are whole: count in tenths, as 5 for .5"),
     (r"", r"0[0-9]*[89]", "a number that begins with 0 is octal: leave the 0 out"),
     (r"", r"0[bB][01]+", "there are no binary numbers: write them with 0x, as 0x1A for 11010"),
@@ -129,7 +130,8 @@ TRACE = [
     (2, r"\xff\xfe|\xfe\xff|.?\0", "the trace is UTF-16: save it as UTF-8"),
     (0, r"\s*(//|/\*|#include|(const|input|output|shared|int|void)\s+\w+)", "this looks like a program: it comes first, as in forec why PROGRAM TRACE"),
     (2, r".*#", f"a trace has no comments: {TABLE} comments"),
-    (2, r".*[,;]", f"blanks stand between the words of a trace: {TABLE} commas"),
+    (0, r".*[,;]", f"blanks stand between the words of a trace: {TABLE} commas"),
+    (1, r".*[,;]", "blanks stand between the numbers of a row, and nothing else"),
     (1, r".*\sx\d+\s*$", f"a trace has a row for each tick: {TABLE} repeated rows"),
     (0, r"\s*-?\d", "the first line of a trace names the inputs"),
     (1, r"(.*\s)?[+-]?\d*\.\d", f"numbers are whole: {TABLE} fractions, as tenths with --scale 10"),
@@ -191,17 +193,20 @@ def of_syntax(front: str, back: str) -> str:
     """What it may mean that no program goes on with `back` after `front`."""
     front, back = (COMMENT.sub(blanks, text) for text in (front, back[:LONGEST]))
     open_brace = unclosed(front, back.strip())
+    if open_brace and back.strip() and not (STARTS.match(back) and is_left_of(front, open_brace)):
+        open_brace = None
     front, back = front.strip(), back.strip()
     inside = front.count("{") > front.count("}")
     front, back = (re.sub(r"\w+", lambda word: word[0][:LONGEST_WORD], re.sub(r"\s+", " ", text)) for text in (front, back))
     front, back = front[-SEEN:], back[:SEEN]
-    beside = [re.match(r"#?\s*(\w+)", back), re.search(r"(\w+)\s*(\([^(){};]*\)?)?$", front), re.search(r"\(\s*(\w+)\s*\)$", front)]
+    beside = [re.match(r"#?\s*(\w+)", back), re.search(r"(\w+)$", front), re.search(r"(\w+)\s*(\([^(){};]*\)?)?$", front),
+              re.search(r"\(\s*(\w+)\s*\)$", front)]
     words = [found[1] for found in beside if found]
     if told := next((WORDS[word] for word in words if word in WORDS), ""):
         return told
-    if open_brace and (not back or STARTS.match(back)):
+    if open_brace:
         return f"{'the text ends here, and ' if not back else ''}the {{ of line {open_brace} may be unclosed"
-    if near := misspelt(words[:2]):
+    if near := misspelt(words[:3]):
         return near
     for where, before, behind, text in HINTS:
         if where in (2, inside) and re.match(behind, back) and re.search(f"(?:{before})$", front):
@@ -229,6 +234,12 @@ def misspelt(words: list[str]) -> str:
         if near and word not in known and len(word) > 2:
             return f"'{word}' may be {near[0]}"
     return ""
+
+
+def is_left_of(front: str, line: int) -> bool:
+    """Whether the place behind a text is the first one in its line, and no further to the right than a line of it begins."""
+    *before, last = front.expandtabs().split("\n")
+    return not last.strip() and line <= len(before) and len(last) <= len(before[line - 1]) - len(before[line - 1].lstrip())
 
 
 def unclosed(front: str, back: str) -> int | None:
