@@ -12,7 +12,7 @@ TYPE = "int is the only type; 0 is false, and 1 is true"
 PART = "int is the only type: each part is a variable of its own, or an element of an array"
 MARK = "leave this word out: it changes nothing here"
 KEPT = ("there is no static: int n = 0; before the loop of a thread, or outside of the functions, keeps its value from tick to tick; "
-        "in a function that is called, or inside the loop, it is set anew each time")
+        "in a function that is called, or inside the loop, it is set anew each time (docs/GUIDE.md, Where does state live?)")
 CHOICE = "there is no switch: write if (x == 1) .. else if (x == 2) .. else .."
 WORDS = {
     "define": "there is no #define: write const int NAME = 4; outside of the functions",
@@ -54,6 +54,7 @@ WORDS = {
 # and whether it is told outside of functions alone (0), in them alone (1) or in both (2). They judge nothing: the place is the program's.
 RESERVED = "int|void|const|input|output|shared|combine|all|new|mod|with|par|weak|abort|when|immediate|if|else|while|for|return"
 HINTS = [
+    (2, r"\bint", r"(all|new|mod|with|when|weak|pause|par|input|output|shared|combine|immediate)\b", "this word is reserved: choose another name"),
     (1, r"#", "", "the bound of a loop is a number, and no name"),
     (2, r"", "#", "a # stands behind the bracket of a while or for, and a number behind it"),
     (1, r"\b(if|while|for|when|immediate)", r"", "the condition stands in round brackets"),
