@@ -6,21 +6,21 @@ const { execFile } = require("child_process");
 const vscode = require("vscode");
 
 // The findings of `forec lint --format json` as diagnostics: places count from 1 there, and in bytes.
-function diagnostics(vscodeModule, text, uri, findings) {
+function diagnostics(text, uri, findings) {
   const lines = text.split("\n");
   const at = (line, column) => {
     const shown = lines[line - 1] || "";
     const before = Buffer.from(shown, "utf8").subarray(0, column - 1).toString("utf8").length;
     const word = /^\w+|^./.exec(shown.slice(before));
-    return new vscodeModule.Range(line - 1, before, line - 1, before + (word ? word[0].length : 0));
+    return new vscode.Range(line - 1, before, line - 1, before + (word ? word[0].length : 0));
   };
   return findings.map((found) => {
-    const level = found.severity === "error" ? vscodeModule.DiagnosticSeverity.Error : vscodeModule.DiagnosticSeverity.Warning;
-    const shown = new vscodeModule.Diagnostic(at(found.line, found.column), found.text, level);
+    const level = found.severity === "error" ? vscode.DiagnosticSeverity.Error : vscode.DiagnosticSeverity.Warning;
+    const shown = new vscode.Diagnostic(at(found.line, found.column), found.text, level);
     shown.source = "forec";
     shown.code = /^\d+$/.test(found.kind) ? `rule ${found.kind}` : found.kind;
     shown.relatedInformation = found.notes.map(
-      (note) => new vscodeModule.DiagnosticRelatedInformation(new vscodeModule.Location(uri, at(note.line, note.column)), note.text));
+      (note) => new vscode.DiagnosticRelatedInformation(new vscode.Location(uri, at(note.line, note.column)), note.text));
     return shown;
   });
 }
@@ -37,7 +37,7 @@ function look(document, shown) {
   const words = ["lint", "--check", "--format", "json", "--", document.fileName];
   execFile(command(), words, { timeout: 20000, maxBuffer: 1 << 26 }, (fault, output, said) => {
     try {
-      shown.set(document.uri, diagnostics(vscode, document.getText(), document.uri, JSON.parse(output)));
+      shown.set(document.uri, diagnostics(document.getText(), document.uri, JSON.parse(output)));
     } catch {
       shown.delete(document.uri);
       vscode.window.setStatusBarMessage(`forec lint: ${(said || String(fault)).trim().split("\n")[0]}`, 10000);
@@ -73,4 +73,4 @@ function activate(context) {
   vscode.workspace.textDocuments.forEach((document) => look(document, shown));
 }
 
-module.exports = { activate, diagnostics };
+module.exports = { activate };
