@@ -36,6 +36,7 @@ _forec_tools_here() {
 _forec_options_of_tool() {
   case $1 in
     why) echo "--cores --place --budget" ;;
+    lint) echo "--check --format" ;;
     test) echo "--accept --tap --junit --jobs --seconds" ;;
     trace) echo "--columns --scale" ;;
     table) echo "--changes --width" ;;

@@ -1,12 +1,11 @@
 """What is found in a text: an error where the program refuses it, with all places that it speaks of, and warnings elsewhere."""
 from __future__ import annotations
 
-import dataclasses
 import sys
 import threading
 
 from forec_text import hints, loops, names, text, threads, warnings
-from forec_text.loops import Note
+from forec_text.finding import Finding
 from forec_text.tree import Place
 
 DEEP = 200_000
@@ -18,24 +17,6 @@ REFUSED = {
     "syntax": "no program goes on so",
     "deep": f"this opens level {text.MOST_LEVELS + 1}",
 }
-
-
-@dataclasses.dataclass(frozen=True, slots=True)
-class Finding:
-    """An error or a warning: its place, the page of help, what it says, and other places. `rule` is the number of a broken rule."""
-    place: Place
-    page: str
-    text: str
-    notes: tuple[Note, ...] = ()
-    rule: int | None = None
-    is_error: bool = True
-
-    @property
-    def line(self) -> str:
-        """The line of the program for this error."""
-        if self.page == "long":
-            return "refused long"
-        return f"refused {self.place} {f'rule {self.rule}' if self.rule else self.page}"
 
 
 def of(data: bytes) -> list[Finding]:

@@ -5,14 +5,14 @@ import difflib
 import re
 from typing import NamedTuple
 
-LONGEST_WORD, LONGEST, SEEN = 64, 8192, 1024
+LONGEST_WORD, LONGEST, LONGEST_TEXT, SEEN = 64, 8192, 100_000, 1024
 
 # What a word of C, at a place at which no program goes on or right before it, may mean.
 TYPE = "int is the only type; 0 is false, and 1 is true"
 PART = "int is the only type: each part is a variable of its own, or an element of an array"
 MARK = "leave this word out: it changes nothing here"
 KEPT = ("there is no static: int n = 0; before the loop of a thread, or outside of the functions, keeps its value from tick to tick; "
-        "in a function that is called, or inside the loop, it is set anew each time")
+        "in a function that is called, or inside the loop, it is set anew each time (docs/GUIDE.md, Where does state live?)")
 CHOICE = "there is no switch: write if (x == 1) .. else if (x == 2) .. else .."
 WORDS = {
     "define": "there is no #define: write const int NAME = 4; outside of the functions",
@@ -28,14 +28,22 @@ WORDS = {
     "static": KEPT,
     **dict.fromkeys("and or not AND OR NOT".split(), "write && for and, || for or, ! for not"),
     "MOD": "the rest of a division is %, as in x % 4",
-    **dict.fromkeys("IF THEN ELSE ELSIF END_IF then elsif elif endif begin end".split(), "write if (x) { .. } else { .. }, in small letters"),
-    **dict.fromkeys("WHILE FOR DO END_WHILE END_FOR REPEAT UNTIL END_REPEAT".split(), "write while (x) { .. }, in small letters"),
+    **dict.fromkeys("IF THEN ELSE ELSIF END_IF then elsif elif endif".split(), "write if (x) { .. } else { .. }, in small letters"),
+    **dict.fromkeys("WHILE END_WHILE".split(), "write while (x) { .. }, in small letters, with a pause where each turn is a tick"),
+    **dict.fromkeys("FOR TO BY END_FOR".split(), "write for (int i = 1; i <= 3; i++) { .. }, in small letters"),
+    **dict.fromkeys("DO REPEAT UNTIL END_REPEAT begin".split(), "a body stands in curly brackets: while (x) { .. }"),
     **dict.fromkeys("CASE OF END_CASE".split(), CHOICE),
     **dict.fromkeys("VAR VAR_INPUT VAR_OUTPUT END_VAR PROGRAM FUNCTION_BLOCK".split(),
                     "write input int a; output int b = 0; void main(void) { .. }"),
-    **dict.fromkeys("emit sustain".split(), "there are no signals: write s = 1; (for sustain while (1) { s = 1; pause; })"),
-    **dict.fromkeys("await halt".split(), "write abort { while (1) pause; } when (s); which waits for the next tick with s"),
-    **dict.fromkeys("present suspend every loop signal".split(), "write if (s) { .. }, while (1) { .. }, abort { .. } when (s);"),
+    "emit": "there are no signals: write s = 1; and behind the next pause s = 0;",
+    "sustain": "there are no signals: write while (1) { s = 1; pause; } in an abort, and s = 0; behind it",
+    "await": "write abort { while (1) pause; } when (s); which waits for the next tick with s",
+    "halt": "write while (1) pause;",
+    "present": "write if (s) { .. } else { .. }",
+    "loop": "write while (1) { .. } with a pause in it",
+    "every": "write abort { while (1) pause; } when (s); while (1) { abort { .. while (1) pause; } when (s); }",
+    "suspend": "what waits while s is on begins with while (s) pause;",
+    "signal": "there are no signals: write shared int s = 0 combine mod with last; outside of the functions",
     **dict.fromkeys(("switch", "case", "default"), CHOICE),
     **dict.fromkeys(("struct", "union", "typedef"), PART),
     **dict.fromkeys("bool _Bool char short long float double signed unsigned string size_t".split(), TYPE),
@@ -46,12 +54,14 @@ WORDS = {
 # and whether it is told outside of functions alone (0), in them alone (1) or in both (2). They judge nothing: the place is the program's.
 RESERVED = "int|void|const|input|output|shared|combine|all|new|mod|with|par|weak|abort|when|immediate|if|else|while|for|return"
 HINTS = [
+    (2, r"\bint", r"(all|new|mod|with|when|weak|pause|par|input|output|shared|combine|immediate)\b", "this word is reserved: choose another name"),
     (1, r"#", "", "the bound of a loop is a number, and no name"),
     (2, r"", "#", "a # stands behind the bracket of a while or for, and a number behind it"),
     (1, r"\b(if|while|for|when|immediate)", r"", "the condition stands in round brackets"),
     (1, r"\bpause", r"\(\s*\d", "a pause is one tick; three of them are for (int i = 0; i < 3; i++) pause;"),
     (1, r"\bpause", r"\(", "a pause is one tick; n of them, and one at least, are pause; for (int i = 1; i < n; i++) pause;"),
-    (1, r"\w\s*", ":", "an assignment is =, and a comparison is =="),
+    (1, r"\w\]?\s*", ":=", "an assignment is =, and a comparison is =="),
+    (1, r"\w\s*", ":", "there are no labels, since there is no goto"),
     (1, "<", ">", "what isn't equal is tested by !="),
     (1, r"\bpar", r"\{", "branches stand in round brackets, with commas between: par(left, right(1), { x = 2; });"),
     (1, r"\bpar\s*\([^()]*", r";|\{", "there are commas between branches: par(left, right(1), { x = 2; });"),
@@ -94,20 +104,41 @@ HINTS = [
 
 # The bytes before and at a place at which no token begins, and what they may mean.
 LEX = [
-    (r"\d", r"\.", "numbers are whole: count in tenths, as 15 for 1.5"),
+    (r"#\s*include\b[^\n]*", r"", "there is no #include: a program is one text"),
+    (r"(?<!\w)\d+", r"\.", "numbers are whole: count in tenths, as 15 for 1.5"),
+    (r"", r"\.\d", "numbers are whole: count in tenths, as 5 for .5"),
     (r"", r"0[0-9]*[89]", "a number that begins with 0 is octal: leave the 0 out"),
     (r"", r"0[bB][01]+", "there are no binary numbers: write them with 0x, as 0x1A for 11010"),
     (r"", r"[0-9]+_[0-9_]*", "a number has no _ between its digits"),
-    (r"", r"[0-9]+(?:[uU][lL]{0,2}|[lL]{1,2}[uU]?)\b", "a number has no letters behind it: the only type is int"),
+    (r"", r"(?:0[xX][0-9a-fA-F]+|[0-9]+)(?:[uU][lL]{0,2}|[lL]{1,2}[uU]?)\b", "a number has no letters behind it: the only type is int"),
     (r"", r"[0-9]+[eE][0-9]+", "numbers are whole, and written out"),
-    (r"", r"(?:T#|#)?[0-9]+(?:ms|s|min|h)\b", "time is counted in ticks: at 10 ms a tick, 100 for 1s"),
+    (r"", r"[0-9]+(?:ms|s|min|h)\b", "time is counted in ticks: at 10 ms a tick, 100 for 1s"),
     (r"", r"[0-9]{10,}", "a number has 32 bits: at most 4294967295"),
+    (r"", r"[0-9]+[A-Za-z_]", "a name begins with a letter or _, and a number has digits alone"),
     (r"", r"'[^'\\]'", "there are no characters: write the code, as 97 for 'a'"),
     (r"", r"[\"']", "there are no strings: an output is a number"),
     (r"[\w\])]\s*", r"\.", "there are no structs and no members: a name has letters, digits and _"),
     (r"", r"/\*", "this comment isn't closed: a */ is missing"),
     (r"", r"\\\s*\n", "a line needs no mark at its end: leave the backslash out"),
     (r"", r"[^\x00-\x7f]", "this letter isn't ASCII: names have A to Z, a to z, 0 to 9 and _, and marks are those of the keyboard"),
+]
+
+# Of a line of a trace: whether it is told of the header alone (0), of a row alone (1) or of both (2); a pattern of the line, and what it
+# may mean.
+TABLE = "forec trace TABLE makes a trace of a table with"
+TRACE = [
+    (2, r"\xef\xbb\xbf", "the trace begins with a byte order mark: save it as UTF-8 without one"),
+    (2, r"\xff\xfe|\xfe\xff|.?\0", "the trace is UTF-16: save it as UTF-8"),
+    (0, r"\s*(//|/\*|#include|(const|input|output|shared|int|void)\s+\w+)", "this looks like a program: it comes first, as in forec why PROGRAM TRACE"),
+    (2, r".*#", f"a trace has no comments: {TABLE} comments"),
+    (0, r".*[,;]", f"blanks stand between the words of a trace: {TABLE} commas"),
+    (1, r".*[,;]", "blanks stand between the numbers of a row, and nothing else"),
+    (1, r".*\sx\d+\s*$", f"a trace has a row for each tick: {TABLE} repeated rows"),
+    (0, r"\s*-?\d", "the first line of a trace names the inputs"),
+    (1, r"(.*\s)?[+-]?\d*\.\d", f"numbers are whole: {TABLE} fractions, as tenths with --scale 10"),
+    (1, r"(.*\s)?\+\d", "a number has no +"),
+    (1, r"(.*\s)?0[xX]", "the numbers of a trace are decimal"),
+    (1, r"(.*\s)?(?i:true|false|on|off)\b", "the values are numbers: 0 is false, and 1 is true"),
 ]
 NEAREST = 0.7
 COMMENT = re.compile(r"//[^\n]*|/\*.*?(?:\*/|\Z)", re.S)
@@ -129,11 +160,21 @@ def guess(kind: str, data: bytes, line: int, column: int) -> str:
     back = b"\n".join([lines[line - 1][column - 1:], *lines[line:]]).decode("latin-1")
     if kind == "lex":
         return of_bytes(front[-SEEN:], back[:SEEN])
+    if kind == "1":
+        return of_name(data.decode("latin-1"), re.match(r"\w*", back)[0])  # type: ignore[index]
     if kind != "syntax":
         return ""
     if not front.strip() and re.match(r"[\w \t\r]+\n[-\d \t\r]+(\n|\Z)", back) and not re.match(rf"\s*({RESERVED}|pause|par)\b", back):
         return "this looks like a trace: the program comes first, as in forec why PROGRAM TRACE"
     return of_syntax(front, back)
+
+
+def of_trace(line: bytes, number: int, is_last: bool) -> str:
+    """What may have been meant where the header of a trace, line 0, or another line can't be used."""
+    if number and not line.strip():
+        return "the trace ends right behind its last row, with no empty line" if is_last else "each row has a number for each input"
+    text = line[:LONGEST].decode("latin-1")
+    return next((told for where, form, told in TRACE if where in (2, min(number, 1)) and re.match(form, text)), "")
 
 
 def of_encoding(data: bytes) -> str:
@@ -153,22 +194,32 @@ def of_syntax(front: str, back: str) -> str:
     """What it may mean that no program goes on with `back` after `front`."""
     front, back = (COMMENT.sub(blanks, text) for text in (front, back[:LONGEST]))
     open_brace = unclosed(front, back.strip())
+    if open_brace and back.strip() and not (STARTS.match(back) and is_left_of(front, open_brace)):
+        open_brace = None
     front, back = front.strip(), back.strip()
     inside = front.count("{") > front.count("}")
     front, back = (re.sub(r"\w+", lambda word: word[0][:LONGEST_WORD], re.sub(r"\s+", " ", text)) for text in (front, back))
     front, back = front[-SEEN:], back[:SEEN]
-    beside = [re.match(r"#?\s*(\w+)", back), re.search(r"(\w+)\s*(\([^(){};]*\)?)?$", front), re.search(r"\(\s*(\w+)\s*\)$", front)]
+    beside = [re.match(r"#?\s*(\w+)", back), re.search(r"(\w+)$", front), re.search(r"(\w+)\s*(\([^(){};]*\)?)?$", front),
+              re.search(r"\(\s*(\w+)\s*\)$", front)]
     words = [found[1] for found in beside if found]
     if told := next((WORDS[word] for word in words if word in WORDS), ""):
         return told
-    if open_brace and (not back or STARTS.match(back)):
+    if open_brace:
         return f"{'the text ends here, and ' if not back else ''}the {{ of line {open_brace} may be unclosed"
-    if near := misspelt(words[:2]):
+    if near := misspelt(words[:3]):
         return near
     for where, before, behind, text in HINTS:
         if where in (2, inside) and re.match(behind, back) and re.search(f"(?:{before})$", front):
             return text
     return ""
+
+
+def of_name(text: str, name: str) -> str:
+    """Which other name of a text is like one that isn't declared."""
+    known = set(re.findall(r"\b[A-Za-z_]\w*", COMMENT.sub(blanks, text[:LONGEST_TEXT]))) - {name, *RESERVED.split("|"), "pause", "par"}
+    near = difflib.get_close_matches(name[:LONGEST_WORD], [each for each in sorted(known) if len(each) <= LONGEST_WORD], 1)
+    return f"'{name}' may be {near[0]}" if near else ""
 
 
 def blanks(found: re.Match[str]) -> str:
@@ -184,6 +235,12 @@ def misspelt(words: list[str]) -> str:
         if near and word not in known and len(word) > 2:
             return f"'{word}' may be {near[0]}"
     return ""
+
+
+def is_left_of(front: str, line: int) -> bool:
+    """Whether the place behind a text is the first one in its line, and no further to the right than a line of it begins."""
+    *before, last = front.expandtabs().split("\n")
+    return not last.strip() and line <= len(before) and len(last) <= len(before[line - 1]) - len(before[line - 1].lstrip())
 
 
 def unclosed(front: str, back: str) -> int | None:

@@ -271,12 +271,14 @@ def anew_in(body: tuple[tree.Stmt, ...], again: bool, when: str) -> Iterator[War
 
 
 def anew_local(local: tree.Local, scope: tuple[tree.Stmt, ...], when: str) -> Iterator[Warning]:
-    """The warning for a local whose one assignment stands in no loop of its scope: nobody sees what it becomes by it."""
+    """The warning for a local whose one assignment stands in no loop of its scope: nobody sees what it becomes by it. The same where the
+    first of several always adds to its first value."""
     name, parts = local.name.text, list(tree.walk(scope))
     assigned = [part for part in parts if isinstance(part, tree.Assign) and part.name.text == name]
     in_loops = {part for loop in parts if isinstance(loop, tree.Loop) for part in tree.walk(loop)} if len(assigned) == 1 else set()
     begins = not local.length and all(isinstance(value, tree.Literal) for value in local.values)
-    if len(assigned) != 1 or not begins or assigned[0] in in_loops:
+    always = bool(assigned) and counts(assigned[0]) and any(part is assigned[0] for part in scope)
+    if not begins or not always and (len(assigned) != 1 or assigned[0] in in_loops):
         return
     own_reads = {part.place for part in tree.walk(assigned[0].value) if isinstance(part, tree.Read)}
     reads = [part.place for part in parts if isinstance(part, tree.Read) and part.name.text == name and part.place not in own_reads]

@@ -1,9 +1,8 @@
-" `:make` runs `forec check` on the file, and the line `refused L:C ..` takes the cursor to its place.
+" `:make` runs `forec lint` on the file, and the cursor goes to the first place. It is `forec check` as well, so limits are judged, too.
 if exists("current_compiler")
   finish
 endif
 let current_compiler = "forec"
 
-" The report doesn't name the file, so a line before it does.
-CompilerSet makeprg=(echo\ file\ %:S;\ forec\ check\ %:S)
-CompilerSet errorformat=%-Pfile\ %f,refused\ %l:%c\ %m,%-Gok\ %.%#
+CompilerSet makeprg=forec\ lint\ --check\ --format\ gcc\ --\ %:S
+CompilerSet errorformat=%f:%l:%c:\ %trror:\ %m,%f:%l:%c:\ %tarning:\ %m,%f:%l:%c:\ %tote:\ %m,%-Glint:\ %.%#,%-Gforec:\ %.%#

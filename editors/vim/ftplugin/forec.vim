@@ -1,4 +1,4 @@
-" Vim settings for ForeC programs: comments, indents of two blanks, and `:make`, which runs `forec check` on the file.
+" Vim settings for ForeC programs: comments, indents of two blanks, and `:make`, which runs `forec lint` on the file.
 if exists("b:did_ftplugin")
   finish
 endif
