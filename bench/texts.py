@@ -136,6 +136,25 @@ def front_end(program, scratch):
         f"{seconds[32_000] / seconds[16_000]:.2f}")
 
 
+def constants(statements):
+    """So many statements, each of 14 terms that are folded, in a function that is put in place twice."""
+    sums = "x = 1 + (2 ? x * (3 - 4) : 5 / 0);\n" * statements
+    return f"output int x = 0;\nvoid sums(void) {{\n{sums}}}\nvoid main(void) {{ sums(); sums(); }}\n"
+
+
+def folding(program, scratch):
+    """Making of large programs whose constants are folded, beside the same without folding."""
+    header, seconds = written(scratch, "header", "\n"), {}
+    for statements in (3_500, 7_000):
+        text = written(scratch, "constants.forec", constants(statements))
+        seconds[statements] = best([program, "run", text, "--fold"], header, os.devnull, 5)
+        plain = best([program, "run", text], header, os.devnull, 5)
+        row(f"run --fold, {statements * 28:,} terms, no rows", f"{seconds[statements] * 1000:.1f} ms", f"without --fold: {plain * 1000:.1f} ms",
+            f"{plain / seconds[statements]:.2f}")
+    row("run --fold, twice the terms", f"{seconds[7_000] * 1000:.1f} ms", f"half: {seconds[3_500] * 1000:.1f} ms",
+        f"{seconds[7_000] / seconds[3_500]:.2f}")
+
+
 def checks(program, scratch):
     """Judging and translating texts of 200,000 tokens and of half as many."""
     for name, make, status in (

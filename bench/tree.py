@@ -73,8 +73,10 @@ class Tree:
         if kind == "global":
             constants = self.program.constants
             return Term("number", (constants[e[1]],)) if e[1] in constants else Term("variable", (self.copy(e[1]),))
-        if kind == "global_at":
+        if kind == "global_at" and e[1] in self.tables:
             return Term("table_at", (self.tables.index(e[1]),), self.all([e[2]], base))
+        if kind == "global_at":
+            return Term("variable_at", self.row(e[1]), self.all([e[2]], base))
         if kind == "unary":
             return Term(UNARY[e[1]], (), self.all([e[2]], base))
         if kind == "binary":
@@ -87,6 +89,10 @@ class Tree:
         """Where the thread's copy of a variable stands."""
         return self.uses.index(self.program.arrays[name][0].number)
 
+    def row(self, name):
+        """Where the thread's copies of a shared array begin, and how many they are."""
+        return self.copy(name), len(self.program.arrays[name])
+
     def statement(self, s, base):
         kind = s[0]
         if kind == "list":
@@ -96,6 +102,8 @@ class Tree:
             return Term(*to, self.all([s[2]], base))
         if kind == "set_at":
             return Term("set_at", (base + s[1], s[2]), self.all(s[3:5], base))
+        if kind == "put_at":
+            return Term("set_variable_at", self.row(s[1]), self.all(s[2:4], base))
         if kind == "clear":
             return Term("clear", (base + s[1], s[2]))
         if kind == "if":
@@ -165,6 +173,7 @@ def in_c(text, ticks):
     array("const struct function", "functions", (f"{{ {body}, {program.functions[name].words} }}" for name, body in zip(tree.names, bodies)))
     array("int", "variables", (v.start for v in program.variables))
     array("const char *const", "names", (f'"{v.name}"' for v in program.variables))
+    array("const int", "outputs", (int(v.kind == "output") for v in program.variables))
     count, _, body = tree.threads[0]
     lines.append(f"static int frame[{max(count, 1)}];")
     lines.append(f"static const struct node *const start = {node(body)};")

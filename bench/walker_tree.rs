@@ -12,6 +12,7 @@ pub enum Expr {
     Local(usize),
     LocalAt { first: usize, length: usize, index: Box<Expr> },
     Variable(usize),
+    VariableAt { first: usize, length: usize, index: Box<Expr> },
     TableAt { table: usize, index: Box<Expr> },
     Minus(Box<Expr>),
     Invert(Box<Expr>),
@@ -27,6 +28,7 @@ pub enum Stmt {
     SetLocal { slot: usize, value: Expr },
     SetVariable { copy: usize, value: Expr },
     SetAt { first: usize, length: usize, index: Expr, value: Expr },
+    SetVariableAt { first: usize, length: usize, index: Expr, value: Expr },
     Clear { first: usize, length: usize },
     List(Vec<Stmt>),
     If { test: Expr, yes: Box<Stmt>, no: Box<Stmt> },
@@ -144,6 +146,7 @@ impl<'a> Words<'a> {
             "local" => Expr::Local(self.number()),
             "local_at" => Expr::LocalAt { first: self.number(), length: self.number(), index: self.boxed() },
             "variable" => Expr::Variable(self.number()),
+            "variable_at" => Expr::VariableAt { first: self.number(), length: self.number(), index: self.boxed() },
             "table_at" => Expr::TableAt { table: self.number(), index: self.boxed() },
             "minus" => Expr::Minus(self.boxed()),
             "invert" => Expr::Invert(self.boxed()),
@@ -166,6 +169,9 @@ impl<'a> Words<'a> {
             "set_local" => Stmt::SetLocal { slot: self.number(), value: self.expr() },
             "set_variable" => Stmt::SetVariable { copy: self.number(), value: self.expr() },
             "set_at" => Stmt::SetAt { first: self.number(), length: self.number(), index: self.expr(), value: self.expr() },
+            "set_variable_at" => {
+                Stmt::SetVariableAt { first: self.number(), length: self.number(), index: self.expr(), value: self.expr() }
+            }
             "clear" => Stmt::Clear { first: self.number(), length: self.number() },
             "list" => Stmt::List(self.many(Words::stmt)),
             "if" => Stmt::If { test: self.expr(), yes: Box::new(self.stmt()), no: Box::new(self.stmt()) },

@@ -8,9 +8,11 @@ _forec_tools="why lint test trace table plot new"
 # The options that a command takes.
 _forec_options_of() {
   case $1 in
-    run | gen) echo "--cores --place --budget" ;;
-    threads) echo "--cores --place" ;;
-    explain) echo "--budget --order" ;;
+    run) echo "--cores --place --budget --fold" ;;
+    gen) echo "--cores --place --budget" ;;
+    threads) echo "--cores --place --fold" ;;
+    code) echo "--fold" ;;
+    explain) echo "--budget --order --fold" ;;
   esac
 }
 
@@ -38,9 +40,9 @@ _forec_options_of_tool() {
     why) echo "--cores --place --budget" ;;
     lint) echo "--check --format" ;;
     test) echo "--accept --tap --junit --jobs --seconds" ;;
-    trace) echo "--columns --scale" ;;
+    trace) echo "--columns --scale --changes --rows" ;;
     table) echo "--changes --width" ;;
-    plot) echo "--only --from --to --width --svg" ;;
+    plot) echo "--only --from --to --width --svg --png --cores" ;;
   esac
 }
 
@@ -74,11 +76,11 @@ _forec_offer_words() {
   mapfile -t COMPREPLY < <(compgen -W "$1" -- "$2")
 }
 
-# Offers the value of an option: some numbers of cores, the usual budget, or some orders of steps.
+# Offers the value of an option: some numbers of cores, the usual budget and the bound, or some orders of steps.
 _forec_offer_value() {
   case $1 in
     --cores) _forec_offer_words "1 2 4 8 16 32 64" "$2" ;;
-    --budget) _forec_offer_words 10000000 "$2" ;;
+    --budget) _forec_offer_words "10000000 bound" "$2" ;;
     --order) _forec_offer_words "0 1 2 3" "$2" ;;
   esac
 }
@@ -105,6 +107,8 @@ _forec_offer_after() {
       positional=$((positional + 1))
     elif [ "$each" = -- ]; then
       plain=yes
+    elif [ "$each" = --fold ]; then
+      given+=("$each")
     else
       value=$each given+=("$each")
     fi

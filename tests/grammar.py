@@ -11,13 +11,14 @@ UPDATES, OPERATORS = MARKS[:10], "|| && | ^ & == != < <= > >= << >> + - * / %".s
 # A line for each symbol, its forms separated by ` / `; `name` and `number` are tokens, and so is what has no line.
 RULES = """
 Program  = / Program Item
-Item     = const int Tables ; / input int Names ; / output int Scalars ; / int Scalars ; / Sharing int Scalar combine Policy with name ;
+Item     = const int Tables ; / input int Names ; / output int Scalars ; / int Scalars ; / Sharing int Shared combine Policy with name ;
          / Type name ( Params ) Body
 Tables   = Table / Tables , Table
 Table    = name = Signed / name [ number ] = { Signeds }
 Names    = name / Names , name
 Scalars  = Scalar / Scalars , Scalar
 Scalar   = name / name = Signed
+Shared   = Scalar / name [ number ] / name [ number ] = { Signeds }
 Sharing  = shared / shared output / output shared
 Signed   = number / - number
 Signeds  = Signed / Signeds , Signed

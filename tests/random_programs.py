@@ -3,9 +3,9 @@
 
 Usage: random_programs.py SEED COUNT FOLDER      (writes SEED.forec, SEED.trace and so on for COUNT seeds into the folder)
 
-A program has inputs, plain variables that one thread at most names, shared variables of the three policies with combine
-functions, int functions, a constant array, helpers that are called as statements, branches with and without arguments,
-nested `par`s, and the four aborts, nested and round a `par`. One in four may trap.
+A program has inputs, plain variables that one thread at most names, shared variables and arrays of the three policies with combine
+functions, indices that are numbers, counters of loops or computed, int functions, a constant array, helpers that are called as
+statements, branches with and without arguments, nested `par`s, and the four aborts, nested and round a `par`. One in four may trap.
 """
 import os
 import random
@@ -50,7 +50,7 @@ class Draw:
         self.fresh = 0
         self.threads, self.most = 0, MOST_THREADS
         self.inputs = [f"in{n}" for n in range(self.chance.randint(1, 3))]
-        self.shared, self.plain = [], []
+        self.shared, self.plain, self.arrays = [], [], []
         self.int_functions, self.helpers, self.branches = [], [], []
 
     def pick(self, *choices):
@@ -66,12 +66,23 @@ class Draw:
     # -- expressions
 
     def readable(self, scope):
-        return self.inputs + self.shared * 2 + scope.scalars * 2 + scope.fixed + scope.plain + ["limit"]
+        elements = [f"{name}[{self.chance.randrange(length)}]" for name, length in self.arrays]
+        return self.inputs + self.shared * 2 + elements * 2 + scope.scalars * 2 + scope.fixed + scope.plain + ["limit"]
 
     def literal(self):
         if self.odds(0.05):
             return self.pick("2147483647", "0x80000000", "017", "65536")
         return str(self.chance.randint(0, 9))
+
+    def element(self, scope, depth):
+        """An element of a shared array: its index is a number, or a counter or what is computed brought inside, and may be outside."""
+        name, length = self.pick(*self.arrays)
+        if self.odds(0.4):
+            return f"{name}[{self.chance.randrange(length)}]"
+        if self.traps and self.odds(0.2):
+            return f"{name}[{self.pick(length, -1, self.expression(scope, depth))}]"
+        index = self.pick(*scope.fixed) if scope.fixed and self.odds(0.5) else self.expression(scope, depth)
+        return f"{name}[({index} & 2147483647) % {length}]"
 
     def expression(self, scope, depth):
         if depth == 0 or self.odds(0.3):
@@ -84,6 +95,8 @@ class Draw:
         if scope.arrays:
             array, length = self.pick(*scope.arrays)
             forms += [f"{array}[({a} & 2147483647) % {length}]"] * 2
+        if self.arrays:
+            forms += [self.element(scope, depth - 1)] * 2
         if self.int_functions:
             forms += [f"{self.pick(*self.int_functions)}({a}, {b})"] * 2
         return self.pick(*forms)
@@ -120,7 +133,7 @@ class Draw:
         return self.pick(*kinds)(scope, depth)
 
     def assignment(self, scope, depth):
-        targets = self.shared * 3 + scope.scalars + scope.plain
+        targets = self.shared * 3 + [self.element(scope, 1) for _ in self.arrays] * 3 + scope.scalars + scope.plain
         value = self.expression(scope, 2)
         if scope.arrays and self.odds(0.2):
             array, length = self.pick(*scope.arrays)
@@ -214,7 +227,8 @@ class Draw:
     def trapping_par(self):
         """Branches of which several may trap in one tick, or whose combine calls may."""
         values = self.inputs + ["0", "1", "8", f"limit / {self.pick(*self.inputs)}", f"table[{self.pick(*self.inputs)}]"]
-        branches = [" ".join(f"{v} = {self.pick(*values)};" for v in self.shared if self.odds(0.8)) for _ in range(3)]
+        targets = self.shared + [f"{name}[{i}]" for name, length in self.arrays for i in range(length)]
+        branches = [" ".join(f"{v} = {self.pick(*values)};" for v in targets if self.odds(0.8)) for _ in range(3)]
         self.threads += 3
         return f"par({', '.join(f'{{ {b} }}' for b in branches)});"
 
@@ -236,13 +250,14 @@ class Draw:
 
     def int_function(self):
         name = self.name("f")
-        shared, self.shared, inputs, self.inputs = self.shared, [], self.inputs, []
+        kept = self.shared, self.arrays, self.inputs
+        self.shared, self.arrays, self.inputs = [], [], []
         scope = Scope(False, ["x", "y", "r"])
         body = [f"r {self.pick('=', '+=', '^=')} {self.expression(scope, 2)};"]
         body += [f"if ({self.expression(scope, 1)}) return {self.expression(scope, 1)};"] if self.odds(0.4) else []
         body += [f"for (int i = 0; i < {self.chance.randint(0, 4)}; i++) r = r + {self.expression(scope.inner(['i']), 1)};"] if self.odds(0.5) else []
         text = f"int {name}(int x, int y) {{ int r = x; {' '.join(body)} return {self.expression(scope, 1)}; }}"
-        self.shared, self.inputs = shared, inputs
+        self.shared, self.arrays, self.inputs = kept
         self.int_functions.append(name)
         return text
 
@@ -274,6 +289,15 @@ class Draw:
             return f"void main(void) {{ {start} {inside} {tail} }}"
         return f"void main(void) {{ {start} while (1) {{ {inside} {tail}{rest} }} }}"
 
+    def shared_array(self, name, combine):
+        """The declaration of a shared array, with values for some of its elements, all of them or none."""
+        length = self.pick(1, 2, 3, 4, 5, 6, 17)
+        values = [str(self.chance.randint(-3, 9)) for _ in range(self.chance.randint(0, length))]
+        start = f" = {{{', '.join(values)}}}" if values else ""
+        self.arrays.append((name, length))
+        sharing, policy = self.pick("shared output", "output shared", "shared"), self.pick("all", "new", "mod", "mod")
+        return f"{sharing} int {name}[{length}]{start} combine {policy} with {self.pick(*combine)};"
+
     def program(self):
         """The program's text."""
         functions = {**COMBINE, **COMBINE_TRAPS}
@@ -285,6 +309,7 @@ class Draw:
             policy, start = self.pick("all", "new", "mod", "mod"), self.chance.randint(-3, 9)
             lines.append(f"{sharing} int s{n} = {start} combine {policy} with {self.pick(*combine)};")
             self.shared.append(f"s{n}")
+        lines += [self.shared_array(f"e{n}", combine) for n in range(self.pick(0, 0, 1, 1, 2))]
         for n in range(self.chance.randint(0, 3)):
             lines.append(f"{self.pick('output int', 'int')} g{n} = {self.chance.randint(-2, 5)};")
             self.plain.append(f"g{n}")
@@ -304,9 +329,39 @@ class Draw:
         return self.pick(0, 0, 0, 1, 1, 2, self.chance.randint(-9, 9), self.chance.randint(-2147483648, 2147483647) if self.odds(0.2) else 0)
 
 
-def drawn(seed):
+class Constants(Draw):
+    """Draws a program with many constants: what is computed of numbers alone, tests that they decide, and loops that never turn."""
+
+    def constant(self, depth):
+        """An expression over numbers."""
+        if depth == 0 or self.odds(0.4):
+            return self.pick("limit", "off", "on", self.literal(), self.literal())
+        a, b = self.constant(depth - 1), self.constant(depth - 1)
+        operator = self.pick("+", "-", "*", "&", "|", "^", "<", "<=", ">", ">=", "==", "!=", "&&", "||", "<<", ">>")
+        forms = [f"({a} {operator} {b})"] * 5 + [f"({self.pick('-', '~', '!')}{a})", f"({a} ? {b} : {self.literal()})"]
+        forms += [f"({a} {self.pick('/', '%')} {b})" if self.traps else f"({a} / ({b} & 7 | 1))"]
+        return self.pick(*forms)
+
+    def expression(self, scope, depth):
+        if self.odds(0.4):
+            return self.constant(depth)
+        if depth and self.odds(0.25):
+            sides = [self.constant(depth - 1), super().expression(scope, depth - 1)]
+            self.chance.shuffle(sides)
+            choice = f"({self.constant(1)} ? {sides[0]} : {sides[1]})"
+            return self.pick(f"({sides[0]} {self.pick('&&', '||', '*', '+', '/' if self.traps else '-')} {sides[1]})", choice)
+        return super().expression(scope, depth)
+
+    def test(self, scope):
+        return self.constant(2) if self.odds(0.4) else super().test(scope)
+
+    def program(self):
+        return super().program().replace("const int limit = 5, ", "const int limit = 5, off = 0, on = 1, ", 1)
+
+
+def drawn(seed, draws=Draw):
     """A program's text and a trace for it."""
-    draw = Draw(seed)
+    draw = draws(seed)
     return draw.program(), draw.trace()
 
 

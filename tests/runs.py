@@ -7,6 +7,7 @@ ROOT = os.path.dirname(os.path.dirname(os.path.realpath(__file__)))
 LIMIT = 60  # seconds
 LATE = "late"
 OPTIONS_OF_CORES = ("--cores", "--place")
+FLAGS = ("--fold",)
 
 
 def ended(words, given=b"", limit=LIMIT, **how):
@@ -56,6 +57,8 @@ def parted(words):
         word = rest.pop(0)
         if word == "--":
             plain, rest = plain + rest, []
+        elif word in FLAGS:
+            options.append(word)
         elif word.startswith("--"):
             value = rest.pop(0)
             options += [] if word in OPTIONS_OF_CORES else [word, value]

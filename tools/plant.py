@@ -11,7 +11,8 @@
 
 `step` gives the inputs of one tick by name and returns its outputs as a dict. An input that isn't given keeps its last value. The first
 step, with `inputs` of the constructor, has to name all inputs of the program: `Controller(path, inputs={"stop": 0})` starts with `stop`
-at 0, and `inputs=["stop"]` means the same. Inputs are whole numbers of 32 bits, or truth values.
+at 0, and `inputs=["stop"]` means the same. Inputs are whole numbers of 32 bits, or truth values. With `changes=True` a row has the changes
+alone, and an input that was never given is 0.
 
 Where the program doesn't get to the end of the tick, `step` raises `Ended`, whose `line` is the line that the program printed for it, as
 `trap 7 12:9 divide` or `end 6` (it ended in tick 6, so there is no tick 7), and whose `status` is the exit status. `close`, which also
@@ -19,6 +20,8 @@ leaving the `with` block does, ends the trace and returns the last line, as `row
 
 `give` and `take` are the two halves of `step`, for a loop that has something to do before the line comes; `answers` says whether it comes
 within some time.
+
+The elements of a shared array are outputs of their own: `outputs["h[0]"]`, `outputs["h[1]"]`.
 
 `controller.line` is the printed line of the last tick, `tick` its number, `inputs` and `outputs` its values. With `record="a.trace"` the
 rows are also written to a file: `forec run PROGRAM < a.trace` gives the same ticks again.
@@ -85,10 +88,11 @@ class Controller:
     """A program that runs, and waits for the inputs of its next tick."""
 
     def __init__(self, program, inputs=(), *, budget=None, record=None, forec=os.path.join(ROOT, "forec"), seconds=60, options=(),
-                 apart=False):
+                 apart=False, changes=False):
         """Starts `forec run` on the program; a tick that takes longer than so many seconds is a TimeoutError, and ends the program (the
         first one may take ten minutes more where the program isn't built, since it is compiled then). `options` are more words of the
-        command; `apart` keeps the signals of a terminal, as Ctrl-C, from the program."""
+        command; `apart` keeps the signals of a terminal, as Ctrl-C, from the program; with `changes` the trace has the changes alone."""
+        self._changes, self._written = changes, {}
         self.program, self.seconds, self._patience = program, seconds, 0 if is_built() else FIRST_PATIENCE
         self.inputs = {name: self._number(name, value) for name, value in dict.fromkeys(inputs, 0).items()}
         if isinstance(inputs, dict):
@@ -118,9 +122,12 @@ class Controller:
         self._raise_if_ended()
         self._set(inputs)
         if self._header is None:
-            self._header = list(self.inputs)
-            self._write(" ".join(self._header))
-        self._write(" ".join(str(self.inputs[name]) for name in self._header))
+            self._begin()
+        if self._changes:
+            self._write(" ".join(f"{name}={value}" for name, value in self.inputs.items() if value != self._written.get(name, 0)))
+            self._written = dict(self.inputs)
+        else:
+            self._write(" ".join(str(self.inputs[name]) for name in self._header))
 
     def take(self):
         """Waits for the line of the tick whose row was given, and returns its outputs."""
@@ -135,9 +142,14 @@ class Controller:
         """Ends the trace, waits for the program's end, and returns its last line."""
         if self.status is None:
             if self._header is None:
-                self._write(" ".join(self.inputs))
+                self._begin()
             self._finish(None)
         return self.ended
+
+    def _begin(self):
+        """Writes the header."""
+        self._header = list(self.inputs)
+        self._write("#2" if self._changes else " ".join(self._header))
 
     def _number(self, name, value):
         try:
@@ -150,7 +162,7 @@ class Controller:
 
     def _set(self, inputs):
         """Takes the values, all of them or none."""
-        unknown = [name for name in inputs if self._header is not None and name not in self._header]
+        unknown = [name for name in inputs if self._header is not None and not self._changes and name not in self._header]
         if unknown:
             raise ValueError(f"'{unknown[0]}' wasn't named by the first step, which named: {' '.join(self._header)}")
         self.inputs.update({name: self._number(name, value) for name, value in inputs.items()})
@@ -222,11 +234,14 @@ class Controller:
 
     def _raise_if_ended(self):
         if self.status is not None:
-            raise Ended(self.ended, self.status, self._hint() if self.ended == "row 0 bad" else "")
+            raise Ended(self.ended, self.status, self._hint() if re.fullmatch("row [0-9]+ bad", self.ended or "") else "")
 
     def _hint(self):
         """What is wrong with the names of the first step, where the program's text says which inputs there are."""
         named, inputs = self._header or [], inputs_of(self.program)
+        if self._changes:
+            unknown = [name for name in self.inputs if name not in inputs]
+            return f": {self.program} has no input '{unknown[0]}'" if inputs and unknown else ""
         hint = f": the first step named '{' '.join(named)}', and has to name all inputs of {self.program}"
         for name in named:
             if inputs and name not in inputs:

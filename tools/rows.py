@@ -1,7 +1,7 @@
 """A trace beside the report of its run, tick by tick: what the tools that show runs have in common."""
 import re
 
-TICK = re.compile(r"tick ([0-9]+)((?: [A-Za-z_][A-Za-z_0-9]*=-?[0-9]+)*)")
+TICK = re.compile(r"tick ([0-9]+)((?: [A-Za-z_][A-Za-z_0-9]*(?:\[[0-9]+\])?=-?[0-9]+)*)")
 LAST = re.compile(r"(?:end|rows) [0-9]+|(?:trap|over|row) ([0-9]+) .*")
 
 
@@ -11,6 +11,22 @@ class Fault(Exception):
 
 def text_of(lines):
     return (line.decode(errors="replace").removesuffix("\n") for line in lines)
+
+
+def as_rows(lines):
+    """The lines of a trace, with a number for each name also where it gives changes alone: the names are those that it has, in the order in
+    which they come. A word that is no change changes nothing."""
+    first = next(lines, "")
+    if first.split() != ["#2"]:
+        yield first
+        yield from lines
+        return
+    rows = [[word.split("=", 1) for word in line.split() if "=" in word] for line in lines]
+    now = dict.fromkeys((name for row in rows for name, _ in row), "0")
+    yield " ".join(now)
+    for row in rows:
+        now.update(row)
+        yield " ".join(word or "0" for word in now.values())
 
 
 class Row:
@@ -27,7 +43,7 @@ class Run:
     """A trace beside its report: `rows` reads both, and sets the names and the report's last line as they come."""
 
     def __init__(self, trace, report, trace_name, report_name):
-        self.trace, self.report = text_of(trace), text_of(report)
+        self.trace, self.report = as_rows(text_of(trace)), text_of(report)
         self.trace_name, self.report_name = trace_name, report_name
         self.header, self.outputs, self.last, self.shown = next(self.trace, "").split(), None, "", False
 

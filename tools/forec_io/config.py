@@ -1,6 +1,6 @@
 """The configuration: a TOML file with the program, the loop, the log, the channels, and a table for each input and output.
 
-docs/GUIDE.md, "From the desk to the machine", has one that is whole; `KEYS` lists all keys.
+docs/MACHINE.md, "From the desk to the machine", has one that is whole; `KEYS` lists all keys.
 """
 from __future__ import annotations
 
@@ -56,7 +56,7 @@ invert = false              for what is true or false
 default = -1                the number while it isn't known; "hold" for the last one that was
 unit = "mm"                 is shown
 
-[outputs.NAME]              an output without a table goes nowhere but into the report
+[outputs.NAME]              an output without a table goes nowhere but into the report; that of an element is [outputs."h[0]"]
 channel = "NAME"            and the keys of the place
 safe = 0                    the program's number that is safe
 scale, offset, limits, invert, unit

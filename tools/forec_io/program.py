@@ -21,12 +21,19 @@ def command() -> str:
 
 
 def declared(text: str, kind: str) -> list[str]:
-    """The names that a program which is accepted declares as `input` or `output`, in order."""
+    """The names that a program which is accepted declares as `input` or `output`, in order: of an array those of its elements."""
     text = re.sub(r"//[^\n]*|/\*.*?\*/", " ", text, flags=re.S)
     names: list[str] = []
-    for line in re.findall(rf"\b{kind}\s+int\b([^;]*);", text):
-        names += [re.match(r"\s*(\w+)", each)[1] for each in outer(line.split(" combine")[0])]  # type: ignore[index]
+    for line in re.findall(rf"\b{kind}\s+(?:shared\s+)?int\b([^;]*);", text):
+        for each in outer(re.split(r"\bcombine\b", line)[0]):
+            name, length = re.match(r"\s*(\w+)\s*(?:\[\s*(\w+))?", each).groups()  # type: ignore[union-attr]
+            names += [name] if length is None else [f"{name}[{i}]" for i in range(number_of(length))]
     return names
+
+
+def number_of(word: str) -> int:
+    """The value of a number as a program has it: octal where it begins with 0."""
+    return int(re.sub(r"^0(?=\d)", "0o", word), 0)
 
 
 def outer(line: str) -> list[str]:

@@ -28,7 +28,8 @@ WORDS = {
     "static": KEPT,
     **dict.fromkeys("and or not AND OR NOT".split(), "write && for and, || for or, ! for not"),
     "MOD": "the rest of a division is %, as in x % 4",
-    **dict.fromkeys("IF THEN ELSE ELSIF END_IF then elsif elif endif".split(), "write if (x) { .. } else { .. }, in small letters"),
+    **dict.fromkeys("IF THEN ELSE END_IF then endif".split(), "write if (x) { .. } else { .. }, in small letters"),
+    **dict.fromkeys("ELSIF elsif elif elseif".split(), "write else if (x) { .. }, in two words"),
     **dict.fromkeys("WHILE END_WHILE".split(), "write while (x) { .. }, in small letters, with a pause where each turn is a tick"),
     **dict.fromkeys("FOR TO BY END_FOR".split(), "write for (int i = 1; i <= 3; i++) { .. }, in small letters"),
     **dict.fromkeys("DO REPEAT UNTIL END_REPEAT begin".split(), "a body stands in curly brackets: while (x) { .. }"),
@@ -52,6 +53,9 @@ WORDS = {
 }
 # The same for other pairs of what stands before the place and of what stands there: patterns, of which the first pair that fits is told;
 # and whether it is told outside of functions alone (0), in them alone (1) or in both (2). They judge nothing: the place is the program's.
+MISSING = "a ; or a mark may be missing before this place"
+# The same where a bracket is open in front of the place, and the statement can't end there.
+OPEN = {"(": "a ) may be missing before this place, or a comma or an operator", "[": "a ] may be missing before this place"}
 RESERVED = "int|void|const|input|output|shared|combine|all|new|mod|with|par|weak|abort|when|immediate|if|else|while|for|return"
 HINTS = [
     (2, r"\bint", r"(all|new|mod|with|when|weak|pause|par|input|output|shared|combine|immediate)\b", "this word is reserved: choose another name"),
@@ -73,11 +77,13 @@ HINTS = [
     (1, r"[;{})]", r"(input|output|shared)\b", "inputs, outputs and shared variables stand outside of the functions"),
     (0, r"\b(input|output|shared|const)", r"\w", "int stands before the names"),
     (0, r"\binput\b[^;{}]*", r"=", "an input has no first value, since the trace gives its values"),
-    (0, r"\b(input|output)\b[^;{}]*", r"\[", "an input or output is one number, and no array"),
+    (0, r"\binput\b[^;{}]*", r"\[", "an input is one number, and no array"),
+    (0, r"\boutput\b[^;{}]*", r"\[", "an array that is an output is shared: shared output int a[2] combine mod with last;"),
     (0, r"\bcombine", r"", "a policy stands behind combine: combine mod with last; or all, or new"),
+    (0, r"\bint\b[^;{}]*(\{[^;{}]*\} ?)?", r"combine\b", "what is combined is shared: shared output int n = 0 combine mod with last;"),
     (0, r",", rf"({RESERVED})\b", "a declaration ends with a ; before the next one begins"),
-    (0, r"\bshared\b[^;{}]*", "[;,]", "a shared variable says how values become one: shared int n = 0 combine mod with last;"),
-    (0, r"(^|[;}])\s*int\s+\w+", r"\[", "a global array is const: const int a[2] = {1, 2}; one that changes is a local"),
+    (0, r"\bshared\b[^;{}]*(\{[^;{}]*\} ?)?", "[;,]", "a shared variable says how values become one: shared int n = 0 combine mod with last;"),
+    (0, r"(^|[;}])\s*int\s+\w+", r"\[", "a global array is const, as const int a[2] = {1, 2}; or shared; another one is a local"),
     (0, r"\bconst\b[^;{}]*", r"[;,]", "a constant has its value at once: const int n = 4, a[2] = {1, 2};"),
     (0, r"[(,]\s*int\s+\w+", r"\[", "an array can't be an argument: a function names constant arrays itself"),
     (2, r"\[", r"\]|\w+", "the length of an array is a number between the brackets, and no name"),
@@ -97,10 +103,25 @@ HINTS = [
     (0, r"\}", ";", "no ; stands behind the body of a function"),
     (1, r"[;}]", r"else\b", "no if waits for an else: more than one statement stands in curly brackets"),
     (0, r"", r"\}", "there is a } too many"),
+    (0, r"(^|[;}])", r"\w+( \w+)? ?\(", "the definition of a function begins with void, or with int where it returns a number"),
+    (0, r"(^|[;}])", r"\w", "statements stand in functions: a } before this place may be one too many"),
     (2, r"", "$", "the text ends here: a bracket or a ; is missing"),
     (1, r"\}", r"\}", "the body of an abort is followed by its condition: abort { .. } when (stop);"),
-    (2, rf"\b(?!(?:{RESERVED})$)\w+|[)\]]", r"else\b|\}|\w", "a ; or a mark may be missing before this place"),
+    (2, rf"\b(?!(?:{RESERVED})$)\w+|[)\]]", r"else\b|\}|\w", MISSING),
 ]
+
+# What a name that isn't declared may mean, where no name of the text is like it.
+OWN = "no function is there from the start, so write your own: "
+NAMES = {
+    **dict.fromkeys("true TRUE True on ON".split(), "all values are numbers: 1 is true"),
+    **dict.fromkeys("false FALSE False off OFF".split(), "all values are numbers: 0 is false"),
+    **dict.fromkeys("wait delay sleep usleep".split(), f"{OWN}void wait(int n) {{ pause; for (int i = 1; i < n; i++) pause; }} waits for n ticks"),
+    **dict.fromkeys("printf print puts".split(), "nothing has to print: the outputs are printed at the end of each tick"),
+    **dict.fromkeys("time now clock millis".split(), "there is no clock: count the ticks, or let the time be an input"),
+    "abs": f"{OWN}int abs(int x) {{ return x < 0 ? -x : x; }}",
+    "min": f"{OWN}int min(int x, int y) {{ return x < y ? x : y; }}",
+    "max": f"{OWN}int max(int x, int y) {{ return x > y ? x : y; }}",
+}
 
 # The bytes before and at a place at which no token begins, and what they may mean.
 LEX = [
@@ -130,6 +151,7 @@ TRACE = [
     (2, r"\xef\xbb\xbf", "the trace begins with a byte order mark: save it as UTF-8 without one"),
     (2, r"\xff\xfe|\xfe\xff|.?\0", "the trace is UTF-16: save it as UTF-8"),
     (0, r"\s*(//|/\*|#include|(const|input|output|shared|int|void)\s+\w+)", "this looks like a program: it comes first, as in forec why PROGRAM TRACE"),
+    (0, r"\s*#2\s", "#2 alone is the header of a trace that gives changes"),
     (2, r".*#", f"a trace has no comments: {TABLE} comments"),
     (0, r".*[,;]", f"blanks stand between the words of a trace: {TABLE} commas"),
     (1, r".*[,;]", "blanks stand between the numbers of a row, and nothing else"),
@@ -197,7 +219,7 @@ def of_syntax(front: str, back: str) -> str:
     if open_brace and back.strip() and not (STARTS.match(back) and is_left_of(front, open_brace)):
         open_brace = None
     front, back = front.strip(), back.strip()
-    inside = front.count("{") > front.count("}")
+    inside, open_bracket = front.count("{") > front.count("}"), innermost(front)
     front, back = (re.sub(r"\w+", lambda word: word[0][:LONGEST_WORD], re.sub(r"\s+", " ", text)) for text in (front, back))
     front, back = front[-SEEN:], back[:SEEN]
     beside = [re.match(r"#?\s*(\w+)", back), re.search(r"(\w+)$", front), re.search(r"(\w+)\s*(\([^(){};]*\)?)?$", front),
@@ -209,17 +231,20 @@ def of_syntax(front: str, back: str) -> str:
         return f"{'the text ends here, and ' if not back else ''}the {{ of line {open_brace} may be unclosed"
     if near := misspelt(words[:3]):
         return near
+    if open_bracket == "[" and re.match(r"=(?!=)", back):
+        return OPEN[open_bracket]
     for where, before, behind, text in HINTS:
         if where in (2, inside) and re.match(behind, back) and re.search(f"(?:{before})$", front):
-            return text
-    return ""
+            return OPEN.get(open_bracket, text) if text == MISSING else text
+    return OPEN.get(open_bracket, "") if back[:1] in "{;}" else ""
 
 
 def of_name(text: str, name: str) -> str:
-    """Which other name of a text is like one that isn't declared."""
+    """Which other name of a text is like one that isn't declared, or what this one may mean."""
     known = set(re.findall(r"\b[A-Za-z_]\w*", COMMENT.sub(blanks, text[:LONGEST_TEXT]))) - {name, *RESERVED.split("|"), "pause", "par"}
+    known -= {"main"} if name in NAMES else set()
     near = difflib.get_close_matches(name[:LONGEST_WORD], [each for each in sorted(known) if len(each) <= LONGEST_WORD], 1)
-    return f"'{name}' may be {near[0]}" if near else ""
+    return f"'{name}' may be {near[0]}" if near else NAMES.get(name, "")
 
 
 def blanks(found: re.Match[str]) -> str:
@@ -241,6 +266,17 @@ def is_left_of(front: str, line: int) -> bool:
     """Whether the place behind a text is the first one in its line, and no further to the right than a line of it begins."""
     *before, last = front.expandtabs().split("\n")
     return not last.strip() and line <= len(before) and len(last) <= len(before[line - 1]) - len(before[line - 1].lstrip())
+
+
+def innermost(front: str) -> str:
+    """The last bracket of a text that is open at its end, or nothing."""
+    opened: list[str] = []
+    for mark in re.findall(r"[][(){}]", front):
+        if mark in "([{":
+            opened.append(mark)
+        elif opened:
+            opened.pop()
+    return opened[-1] if opened else ""
 
 
 def unclosed(front: str, back: str) -> int | None:

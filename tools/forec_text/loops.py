@@ -97,7 +97,9 @@ class Loops:
                 if isinstance(loop, tree.Loop) and not self.ends(loop) and not self.is_certain(loop.body):
                     word = "while" if isinstance(loop, tree.While) else "for"
                     notes = list(islice(self.escapes(tree.listed(loop.body)), MOST_NOTES))
-                    why = "and its body isn't certain to pause" if notes else "and no statement of its body pauses"
+                    why = ("and its body isn't certain to pause: one pause is enough that each turn reaches" if notes else
+                           "and its body is the ; alone: take it away where a body follows, else write pause;" if isinstance(loop.body, tree.Nothing) else
+                           "and no statement of its body pauses")
                     yield Fault(loop.place, 20, f"this {word} has no bound, {why}"), notes
 
     def escapes(self, body: tuple[tree.Stmt, ...]) -> Iterator[Note]:

@@ -6,6 +6,7 @@ import difflib
 from collections.abc import Iterable, Iterator
 
 from forec_text import tree
+from forec_text.hints import NAMES
 from forec_text.tree import Function, Global, Name, Place
 
 LONGEST_NAME, MOST_OF_A_SORT, MOST_PARAMS, MOST_FUNCTIONS = 63, 64, 16, 1024
@@ -82,8 +83,12 @@ class Names:
 
     def judge_globals(self) -> None:
         for sort, kinds in (("inputs", INPUTS), ("outputs", OUTPUTS)):
-            for item in [item for item in self.program.globals if item.kind in kinds][MOST_OF_A_SORT:]:
-                self.broken(22, item.name.place, f"there are at most {MOST_OF_A_SORT} {sort}")
+            count = 0
+            for item in [item for item in self.program.globals if item.kind in kinds and variables_of(item)]:
+                count += variables_of(item)
+                if count > MOST_OF_A_SORT:
+                    elements = ", elements of arrays among them" if item.length else ""
+                    self.broken(22, item.name.place, f"there are at most {MOST_OF_A_SORT} {sort}{elements}")
         for item in self.program.globals:
             self.judge_length(item.name, item.length, len(item.values))
             if item.combine and (found := self.use(item.combine)):
@@ -119,9 +124,10 @@ class Names:
     def use(self, name: Name) -> Declared | None:
         found = self.lookup(name.text)
         if not found:
-            known = [text for scope in self.scopes for text in scope]
+            known = [text for scope in self.scopes for text in scope if text != "main" or name.text not in NAMES]
             near = difflib.get_close_matches(name.text, known, 1, 0.6) if len(known) < 5000 else []
-            self.broken(1, name.place, f"'{name.text}' isn't declared here" + (f"; did you mean '{near[0]}'?" if near else ""))
+            meant = f"; did you mean '{near[0]}'?" if near else f"; perhaps: {NAMES[name.text]}" if name.text in NAMES else ""
+            self.broken(1, name.place, f"'{name.text}' isn't declared here{meant}")
             return None
         self.bound[name.place] = found
         if found.is_variable and self.inside and self.inside.gives:
@@ -257,6 +263,11 @@ class Names:
             case tree.Unary() | tree.Binary() | tree.Choose():
                 for part in tree.parts(expression):
                     self.read_expression(part)
+
+
+def variables_of(item: Global) -> int:
+    """How many variables an input, output or shared variable is: an array is one for each element."""
+    return 1 if item.length is None else max(0, item.length.value)
 
 
 def counted(count: int, what: str) -> str:

@@ -202,6 +202,13 @@ class Builder(lark.Transformer):
         name, values = scalar
         return [tree.Global(name, kind, None, values, policy, name_of(combine))]
 
+    def shared_array(self, kind, row, policy, combine):
+        name, length, values = row
+        return [tree.Global(name, kind, length, values, policy, name_of(combine))]
+
+    def row(self, name, length, values=()):
+        return name_of(name), number_of(length), tuple(values)
+
     def sharing(self, output=None):
         return "shared output" if output else "shared"
 

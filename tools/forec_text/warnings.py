@@ -145,7 +145,7 @@ def dropped(reading: Reading) -> Iterator[Warning]:
     """What a thread assigns while a later branch assigns it in each tick, under a combine function that keeps one of both alone."""
     for item in reading.program.globals:
         kept = kept_by(reading, item)
-        if kept is None or item.policy == "new":
+        if kept is None or item.policy == "new" or item.length:  # which element is assigned isn't known
             continue
         for body in reading.reached_bodies():
             for branches in pars_of(body):
@@ -225,7 +225,7 @@ def lost_of(reading: Reading, abort: tree.Abort, behind: tuple[tree.Stmt, ...]) 
     for statement in behind:
         if reading.loops.may_pause(statement):
             break
-        if isinstance(statement, tree.Assign) and statement.operator is None:
+        if isinstance(statement, tree.Assign) and statement.operator is None and statement.index is None:
             item = reading.names.item(statement.name.place)
             reads = any(isinstance(part, tree.Read) and reading.names.item(part.place) is item for part in tree.walk(statement.value))
             if isinstance(item, Global) and not reads:

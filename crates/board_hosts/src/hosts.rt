@@ -91,7 +91,8 @@ fn make_next<'b, 'c>(
     requires port { CanLoad code.now placement.now (parts.core ∷ [])
         (⟦<SlotPort<'b, ForecWork> as Port<ForecWork>>⟧.state parts.port) }
     requires rope { parts.rope ≡ new_rope code.now placement.now parts.core }
-    ensures { OnOk result (MakesNext code.now placement.now parts.entry.core made.old.root made.new.root made.old.others.items made.new.others.items) }
+    ensures { OnOk result (MakesNext code.now placement.now parts.entry.core made.old.root made.new.root
+        made.old.others.items made.new.others.items) }
 {
     let core = parts.core;
     if !has_threads(placement, core) {

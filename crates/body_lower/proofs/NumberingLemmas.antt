@@ -4,8 +4,8 @@ use Rattle.forec_tree.specs.Terms.{Text, PlainItem, PlainGlobal, IsGlobal}
 use Rattle.forec_tree.specs.Scopes.{is_constant}
 use Rattle.text_kernel.specs.declared.names.Stands.TheVariants as st
 use Rattle.body_lower.specs.declared.globals.KernelIndices.{KernelIndices}
-use Rattle.text_kernel.specs.Bindings.{item_id, is_variable, is_table, is_int_function, number_among, first_value, constant_stands, item_stands}
-use Rattle.body_lower.specs.Numbering.{none, counted, before_name, given, noted, global_stands}
+use Rattle.text_kernel.specs.Bindings.{item_id, variables_in, variable_number, is_table, is_int_function, number_among, first_value, constant_stands, item_stands}
+use Rattle.body_lower.specs.Numbering.{none, counted, before_name, given, noted, global_stands, stands_from}
 
 -- one count of the three
 module _ (sort : PlainItem → Bool) (of : KernelIndices → ℕ) (next : (c : KernelIndices) (i : PlainItem) → of (counted c i) ≡ of c + cond (sort i) 1 0) where
@@ -19,8 +19,17 @@ module _ (sort : PlainItem → Bool) (of : KernelIndices → ℕ) (next : (c : K
       pick false true e h = let n = next c i in let m : of (counted c i) ≡ of c + 1 = n ∙ ap (λ q. of c + cond q 1 0) e in rw e (omega (arith, h, m))
       pick false false e h = let n = next c i in let m : of (counted c i) ≡ of c + 0 = n ∙ ap (λ q. of c + cond q 1 0) e in rw e (omega (arith, h, m))
 
-pub variables_are : (id : ℕ) (text : Text) → (before_name id none text).variables ≡ number_among is_variable id text
-variables_are id text = let e = count_is is_variable (λ c. c.variables) (λ c i. refl) id none text in omega (arith, e)
+sum_is : (id : ℕ) (c : KernelIndices) (text : Text) → (before_name id c text).variables ≡ c.variables + variable_number id text
+sum_is id c [] = omega arith
+sum_is id c (i ∷ rest) = pick (item_id i == id) (sum_is id (counted c i) rest)
+  where
+    pick : (b : Bool) → (before_name id (counted c i) rest).variables ≡ (c.variables + variables_in i) + variable_number id rest →
+        (cond b c (before_name id (counted c i) rest)).variables ≡ c.variables + cond b 0 (variables_in i + variable_number id rest)
+    pick true h = omega arith
+    pick false h = omega (arith, h)
+
+pub variables_are : (id : ℕ) (text : Text) → (before_name id none text).variables ≡ variable_number id text
+variables_are id text = let e = sum_is id none text in omega (arith, e)
 
 pub tables_are : (id : ℕ) (text : Text) → (before_name id none text).tables ≡ number_among is_table id text
 tables_are id text = let e = count_is is_table (λ c. c.tables) (λ c i. refl) id none text in omega (arith, e)
@@ -38,5 +47,5 @@ noted_step g c i rest (Some d) = elim (item_id i == g) as (λ b. given (cond b (
 pub global_is : (c : KernelIndices) (text : Text) (g : PlainGlobal) → c ≡ before_name g.name.id none text → global_stands c g ≡ item_stands text (Some (IsGlobal g))
 global_is c text g e =
     ap (λ x. global_stands x g) e
-    ∙ (ap (λ n. cond (is_constant g.kind) (elim g.length [ None ↦ st.AsNumber (first_value g.values) | Some k ↦ st.AsTable n ]) (st.AsVariable (before_name g.name.id none text).variables)) (tables_are g.name.id text)
-    ∙ ap (λ n. cond (is_constant g.kind) (constant_stands text g) (st.AsVariable n)) (variables_are g.name.id text))
+    ∙ (ap (λ n. cond (is_constant g.kind) (elim g.length [ None ↦ st.AsNumber (first_value g.values) | Some k ↦ st.AsTable n ]) (stands_from (before_name g.name.id none text).variables g)) (tables_are g.name.id text)
+    ∙ ap (λ n. cond (is_constant g.kind) (constant_stands text g) (stands_from n g)) (variables_are g.name.id text))

@@ -7,6 +7,7 @@ ghost use Rattle.forec_tree.specs.Terms as tree;
 ghost use Rattle.forec_kernel.specs.Plain as kernel;
 ghost use Rattle.loop_check.specs.Views.{text_of};
 ghost use Rattle.text_kernel.specs.Bindings as bindings;
+ghost use Rattle.text_kernel.specs.declared.names.Stands.TheVariants as st;
 ghost use Rattle.text_kernel.specs.Lowering as lowering;
 ghost use Rattle.body_lower.specs.Assigned.{IsAssigned, AreSet, AreDeclared};
 ghost use Rattle.body_lower.specs.Views.{seen, Kept, SeenAfter, Done};
@@ -16,7 +17,7 @@ use crate::globals::Globals;
 use crate::parts::{boxed_term, sequence, sum};
 use crate::scope::Scope;
 use crate::state::State;
-use crate::term::{lower_boxed, lower_term, place_if, stands};
+use crate::term::{kernel_number, lower_boxed, lower_term, place_if, stands};
 use forec_base::{OutOfMemory, Place};
 use forec_kernel::{Expression, Spot, Statement};
 use forec_tree::{Expr, Local, Number, OpAt, Target};
@@ -57,10 +58,13 @@ fn assign_to(
 {
     let (spot, old) = match to {
         Stands::AtSlot { slot } => (Spot::Local { slot }, Expression::Local { slot }),
-        Stands::AsVariable { variable } => (
-            Spot::Variable { variable },
-            Expression::Variable { variable },
-        ),
+        Stands::AsVariable { variable } => {
+            let variable = kernel_number(variable)?;
+            (
+                Spot::Variable { variable },
+                Expression::Variable { variable },
+            )
+        }
         _ => (Spot::Local { slot: 0 }, Expression::Number { value: 0 }),
     };
     let value = operated(alloc, op, old, value)?;
@@ -97,26 +101,25 @@ fn element_by(
     })
 }
 
-/// An element of what a name stands for is assigned.
-fn assign_at(
+/// An element of the local array of `length` words from `slot` on is assigned.
+fn set_at(
     alloc: Global,
-    to: Stands,
+    slot: u32,
+    length: u32,
     op: Option<OpAt>,
     element: Element,
     value: Box<Expression>,
 ) -> Result<Statement, OutOfMemory>
     requires { kernel.expr element.again.value ≡ kernel.expr element.index.value }
-    ensures { IfOk result (λ k. kernel.stmt k ≡ lowering.assign_at to op (kernel.expr element.index.value) (kernel.expr value.value) element.place) }
+    ensures { IfOk result (λ k. kernel.stmt k
+        ≡ lowering.assign_at (st.AtSlots slot length) op (kernel.expr element.index.value) (kernel.expr value.value)
+        element.place) }
 {
     let Element {
         index,
         again,
         place,
     } = element;
-    let (slot, length) = match to {
-        Stands::AtSlots { slot, size } => (slot, size),
-        _ => (0, 0),
-    };
     let old = Expression::LocalAt {
         slot,
         length,
@@ -131,6 +134,63 @@ fn assign_at(
         value,
         place,
     })
+}
+
+/// An element of the shared array whose `length` elements are the variables from `variable` on is assigned.
+fn put_at(
+    alloc: Global,
+    variable: u32,
+    length: u32,
+    op: Option<OpAt>,
+    element: Element,
+    value: Box<Expression>,
+) -> Result<Statement, OutOfMemory>
+    requires { kernel.expr element.again.value ≡ kernel.expr element.index.value }
+    ensures { IfOk result (λ k. kernel.stmt k
+        ≡ lowering.assign_at (st.AsVariables variable length) op (kernel.expr element.index.value) (kernel.expr value.value)
+        element.place) }
+{
+    let Element {
+        index,
+        again,
+        place,
+    } = element;
+    let old = Expression::SharedAt {
+        variable,
+        length,
+        index: again,
+        place,
+    };
+    let value = operated(alloc, op, old, value)?;
+    Ok(Statement::PutAt {
+        variable,
+        length,
+        index: Box::into_inner(index),
+        value,
+        place,
+    })
+}
+
+/// An element of what a name stands for is assigned.
+fn assign_at(
+    alloc: Global,
+    to: Stands,
+    op: Option<OpAt>,
+    element: Element,
+    value: Box<Expression>,
+) -> Result<Statement, OutOfMemory>
+    requires { kernel.expr element.again.value ≡ kernel.expr element.index.value }
+    ensures { IfOk result (λ k. kernel.stmt k
+        ≡ lowering.assign_at to op (kernel.expr element.index.value) (kernel.expr value.value) element.place) }
+{
+    match to {
+        Stands::AtSlots { slot, size } => set_at(alloc, slot, size, op, element, value),
+        Stands::AsVariables { variable, length } => {
+            let variable = kernel_number(variable)?;
+            put_at(alloc, variable, length, op, element, value)
+        }
+        _ => set_at(alloc, 0, 0, op, element, value),
+    }
 }
 
 /// An assignment.

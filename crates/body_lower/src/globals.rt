@@ -1,8 +1,9 @@
 //! What the names of a program's items stand for.
 
-ghost use Rattle.std.specs.Prelude.{◌≡◌, ℕ, map, None, slice_index_or, IfOk, OnOk};
+ghost use Rattle.std.specs.Prelude.{◌≡◌, ◌+◌, ℕ, map, None, slice_index_or, IfOk, OnOk};
 ghost use Rattle.forec_tree.specs.Plain.{plain_item, plain_global};
 ghost use Rattle.forec_tree.specs.Scopes.{find_item};
+ghost use Rattle.forec_tree.specs.Terms.{IsGlobal};
 ghost use Rattle.loop_check.specs.Views.{text_of};
 ghost use Rattle.text_kernel.specs.Bindings as bindings;
 ghost use Rattle.body_lower.specs.Numbering as numbering;
@@ -13,10 +14,11 @@ use loop_check::{Index, item_name};
 use std::alloc::Global;
 use text_kernel::Stands;
 
-/// How many variables, constant arrays and int functions stand before an item.
+/// How many variables, constant arrays and int functions stand before an item. Each element of a shared array is a
+/// variable.
 #[derive(Clone, Copy)]
 pub struct KernelIndices {
-    pub variables: u32,
+    pub variables: u64,
     pub tables: u32,
     pub functions: u32,
 }
@@ -49,12 +51,32 @@ pub fn is_constant(kind: GlobalKind) -> bool
     matches!(kind, GlobalKind::Const)
 }
 
-fn is_variable(item: &Item) -> bool
-    ensures { result ≡ bindings.is_variable (plain_item item.now) }
+/// How many variables a global is: none where it is a constant.
+fn variables_of(global: &Variable) -> u32
+    ensures { result ≡ bindings.variables_in (IsGlobal (plain_global global.now)) }
+{
+    if is_constant(global.kind) {
+        return 0;
+    }
+    global.width()
+}
+
+/// How many variables an item declares.
+fn variables_in(item: &Item) -> u32
+    ensures { result ≡ bindings.variables_in (plain_item item.now) }
 {
     match item {
-        Item::Global { global } => !is_constant(global.kind),
-        Item::Function { .. } => false,
+        Item::Global { global } => variables_of(global),
+        Item::Function { .. } => 0,
+    }
+}
+
+fn more(count: u64, by: u32) -> Result<u64, OutOfMemory>
+    ensures { IfOk result (λ n. n ≡ count + by) }
+{
+    match count.checked_add(u64::from(by)) {
+        None => Err(OutOfMemory),
+        Some(next) => Ok(next),
     }
 }
 
@@ -81,7 +103,7 @@ fn counted(counts: KernelIndices, item: &Item) -> Result<KernelIndices, OutOfMem
     ensures { IfOk result (λ c. c ≡ numbering.counted counts (plain_item item.now)) }
 {
     Ok(KernelIndices {
-        variables: one_more(counts.variables, is_variable(item))?,
+        variables: more(counts.variables, variables_in(item))?,
         tables: one_more(counts.tables, is_table(item))?,
         functions: one_more(counts.functions, is_int_function(item))?,
     })
@@ -127,8 +149,13 @@ fn global_stands(counts: KernelIndices, global: &Variable) -> Stands
     ensures { result ≡ numbering.global_stands counts (plain_global global.now) }
 {
     if !is_constant(global.kind) {
-        return Stands::AsVariable {
-            variable: counts.variables,
+        let variable = counts.variables;
+        return match global.stated_length() {
+            None => Stands::AsVariable { variable },
+            Some(length) => Stands::AsVariables {
+                variable,
+                length: length.elements(),
+            },
         };
     }
     match global.length {

@@ -36,15 +36,31 @@ pub fn stands(globals: &Globals<'_>, scope: &Scope, id: u32) -> Stands
     }
 }
 
-fn read_as(stands: Stands) -> Expression
-    ensures { kernel.expr result ≡ lowering.read_as stands }
+/// The number of a variable in a kernel.
+///
+/// # Errors
+///
+/// Out of memory: past 32 bits there is none for so many variables.
+pub fn kernel_number(variable: u64) -> Result<u32, OutOfMemory>
+    ensures { IfOk result (λ n. n ≡ variable) }
 {
-    match stands {
+    match u32::try_from(variable) {
+        Err(_) => Err(OutOfMemory),
+        Ok(number) => Ok(number),
+    }
+}
+
+fn read_as(stands: Stands) -> Result<Expression, OutOfMemory>
+    ensures { IfOk result (λ e. kernel.expr e ≡ lowering.read_as stands) }
+{
+    Ok(match stands {
         Stands::AtSlot { slot } => Expression::Local { slot },
-        Stands::AsVariable { variable } => Expression::Variable { variable },
+        Stands::AsVariable { variable } => Expression::Variable {
+            variable: kernel_number(variable)?,
+        },
         Stands::AsNumber { value } => Expression::Number { value },
         _ => Expression::Number { value: 0 },
-    }
+    })
 }
 
 /// An element of what a name stands for.
@@ -61,6 +77,12 @@ pub fn element_as(
         Stands::AtSlots { slot, size } => Expression::LocalAt {
             slot,
             length: size,
+            index,
+            place,
+        },
+        Stands::AsVariables { variable, length } => Expression::SharedAt {
+            variable: kernel_number(variable)?,
+            length,
             index,
             place,
         },
@@ -89,7 +111,7 @@ pub fn lower_term(
 {
     match &e.what {
         ExprKind::Number { value } => Ok(Expression::Number { value: *value }),
-        ExprKind::Read { name } => Ok(read_as(stands(globals, scope, name.id))),
+        ExprKind::Read { name } => read_as(stands(globals, scope, name.id)),
         ExprKind::Element { name, index } => {
             let index = lower_term(alloc, globals, scope, index)?;
             let to = stands(globals, scope, name.id);

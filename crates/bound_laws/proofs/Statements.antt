@@ -5,11 +5,11 @@ use Rattle.forec_base.specs.declared.Place.{Place}
 use Rattle.forec_kernel.specs.declared.terms.Spot.{Spot}
 use Rattle.forec_kernel.specs.declared.terms.Spot.TheVariants as spot
 use Rattle.forec_kernel.specs.declared.shape.VarCopy.{VarCopy}
-use Rattle.forec_kernel.specs.Terms.{Expr, Branch, Stmt, Nop, Set, SetAt, Clear, Seq, If, While, Pause, Par, Enter, Return, Stmts, no_stmts, more_stmts}
+use Rattle.forec_kernel.specs.Terms.{Expr, Branch, Stmt, Nop, Set, SetAt, PutAt, Clear, Seq, If, While, Pause, Par, Enter, Return, Stmts, no_stmts, more_stmts}
 use Rattle.forec_kernel.specs.Shapes.{PlainKernel}
 use Rattle.forec_kernel.specs.Values.{Values, AllGive, OneRaises, Setting, setting, Sight, vals, index_in, fresh_words}
 use Rattle.forec_kernel.specs.Texts.{Go_on, Text, Done, Run, Turning, Fork, Watch, Last, text_of, texts_of, then_list, uses_of, words_of, params_of, body_of, handed_down}
-use Rattle.forec_kernel.specs.Steps.{Owner, evaluated, Moves, move_with, assigned, assigned_at, entered, Arguments, Ready, Refused, arguments_then, arguments, started, forked, statement_move}
+use Rattle.forec_kernel.specs.Steps.{Owner, evaluated, Moves, move_with, assigned, assigned_at, shared_at, entered, Arguments, Ready, Refused, arguments_then, arguments, started, forked, statement_move}
 use Rattle.forec_kernel.specs.WellFormed.{threads_in, pars_of, pars_in}
 use Rattle.tick_bounds.specs.Bound.{Bounds, expr_bound, exprs_bound, args_bound, bodies_bound, join_bound, stmt_bound, stmts_bound, function_bound}
 use Rattle.tick_bounds.proofs.Agreeing.{AllAbove, EachAbove, above_left, above_right}
@@ -87,6 +87,11 @@ module _ (k : PlainKernel) (t size : ℕ) (uses : List ℕ) (thread : ℕ → �
         AfterMove (Within k uses whole m) Rest 1 (assigned_at w c slot i x place)
     assigned_at_within whole m Rest w c slot (Some i) x place = record { left = 0; fits = omega arith; goes = done_within k uses whole m 0 _ _ }
     assigned_at_within whole m Rest w c slot None x place = omega arith
+
+    shared_at_within : (whole m : ℕ) (Rest : Type 0) (w : List ℤ) (c : List VarCopy) (v : ℕ) (i : Option ℕ) (x : ℤ) (place : Place) →
+        AfterMove (Within k uses whole m) Rest 1 (shared_at o w c v i x place)
+    shared_at_within whole m Rest w c v (Some i) x place = assigned_within whole m Rest w c (spot.Variable (v + i)) x
+    shared_at_within whole m Rest w c v None x place = omega arith
 
     started_within : (m : ℕ) (c : List VarCopy) (bs : List Branch) (lists : List (List ℤ)) → AllAbove t (threads_in bs) →
         AllWithin k m (bodies_bound thread (threads_in bs)) (bodies_bound thread (threads_in bs)) (started o c bs lists)
@@ -167,6 +172,15 @@ module _ (k : PlainKernel) (t size : ℕ) (uses : List ℕ) (thread : ℕ → �
           (evaluated_le k uses w' c' i)
           (λ j. with_within (Within k uses most m') Rest (evaluated o w' c' e) (λ x. assigned_at w' c' slot (index_in n j) x place) (expr_bound f e) 1
           (expr_bound f e + 1) (evaluated_le k uses w' c' e) (λ x. assigned_at_within most m' Rest w' c' slot (index_in n j) x place) (omega arith))
+          (omega arith)) m w c z
+      stmt_within (PutAt v n i e place) paced above m w c z =
+          let most = bnd (PutAt v n i e place) in
+          by_move (PutAt v n i e place) most most
+          (λ m' Rest w' c' z'. with_within (Within k uses most m') Rest (evaluated o w' c' i)
+          (λ j. move_with (evaluated o w' c' e) (λ x. shared_at o w' c' v (index_in n j) x place)) (expr_bound f i) (expr_bound f e + 1) most
+          (evaluated_le k uses w' c' i)
+          (λ j. with_within (Within k uses most m') Rest (evaluated o w' c' e) (λ x. shared_at o w' c' v (index_in n j) x place) (expr_bound f e) 1
+          (expr_bound f e + 1) (evaluated_le k uses w' c' e) (λ x. shared_at_within most m' Rest w' c' v (index_in n j) x place) (omega arith))
           (omega arith)) m w c z
       stmt_within (Clear slot n) paced above m w c z =
           by_move (Clear slot n) n n (λ m' Rest w' c' z'. record { left = 0; fits = omega arith; goes = done_within k uses n m' 0 _ _ }) m w c z

@@ -5,9 +5,9 @@ use Rattle.forec_base.specs.declared.Place.{Place}
 use Rattle.forec_base.specs.declared.Trap.TheVariants.{Turns}
 use Rattle.forec_kernel.specs.declared.terms.Spot.{Spot}
 use Rattle.forec_kernel.specs.declared.terms.Spot.TheVariants as spot
-use Rattle.forec_kernel.specs.Terms.{Expr, Num, Local, LocalAt, Var, TableAt, Un, Bin, And, Or, Choose, Call, Exprs, no_exprs, more_exprs, Stmt, Nop, Set, SetAt, Clear, Seq, If, While, Pause, Par, Enter, Return, Stmts, no_stmts, more_stmts}
+use Rattle.forec_kernel.specs.Terms.{Expr, Num, Local, LocalAt, Var, SharedAt, TableAt, Un, Bin, And, Or, Choose, Call, Exprs, no_exprs, more_exprs, Stmt, Nop, Set, SetAt, PutAt, Clear, Seq, If, While, Pause, Par, Enter, Return, Stmts, no_stmts, more_stmts}
 use Rattle.forec_kernel.specs.Shapes.{PlainKernel}
-use Rattle.forec_kernel.specs.Values.{Value, Gives, Raises, more_units, value_then, Values, AllGive, OneRaises, one_more, first_then, values_then, Setting, Sight, word, index_in, at_index, divided, val, vals, Flow, Goes, Returns, Breaks, more_flow, flow_with, flow_then, words_alone, stored_at, stored, turns, flow, flows, returned, fresh_words, function_words, call_within}
+use Rattle.forec_kernel.specs.Values.{Value, Gives, Raises, more_units, value_then, Values, AllGive, OneRaises, one_more, first_then, values_then, Setting, Sight, copy_of, word, index_in, at_index, divided, val, vals, Flow, Goes, Returns, Breaks, more_flow, flow_with, flow_then, words_alone, stored_at, stored, turns, flow, flows, returned, fresh_words, function_words, call_within}
 use Rattle.forec_kernel.specs.WellFormed.{function_body}
 use Rattle.tick_bounds.specs.Bound.{Bounds, expr_bound, exprs_bound, stmt_bound, stmts_bound, function_within}
 
@@ -73,6 +73,9 @@ module _ (f : ℕ → ℕ) (s : Setting) (calls : (g : ℕ) (ns : List ℤ) → 
         then_le (val s e i) (λ k. at_index (index_in n k) (λ j. word e.words (slot + j)) place) (expr_bound f i) 1 (1 + expr_bound f i)
         (val_le e i) (λ k. at_index_le (index_in n k) (λ j. word e.words (slot + j)) place) (omega arith)
     val_le e (Var v) = omega arith
+    val_le e (SharedAt v n i place) =
+        then_le (val s e i) (λ k. at_index (index_in n k) (λ j. (copy_of e.uses e.copies (v + j)).value) place) (expr_bound f i) 1 (1 + expr_bound f i)
+        (val_le e i) (λ k. at_index_le (index_in n k) (λ j. (copy_of e.uses e.copies (v + j)).value) place) (omega arith)
     val_le e (TableAt t i place) =
         let table = get_or s.tables t [] in
         then_le (val s e i) (λ k. at_index (index_in (length table) k) (λ j. word table j) place) (expr_bound f i) 1 (1 + expr_bound f i)
@@ -182,6 +185,7 @@ module _ (k : PlainKernel) (b : Bounds) (uses : List ℕ) (s : Setting) (calls :
         (val_le b.function s calls (words_alone words) i)
         (λ k. flow_with_le (val s (words_alone words) e) (λ x. stored_at words slot (index_in n k) x place) c 1 (c + 1)
         (val_le b.function s calls (words_alone words) e) (λ x. stored_at_le words slot (index_in n k) x place) (omega arith)) (omega arith)
+    flow_le (PutAt v n i e place) words = omega arith
     flow_le (Clear slot n) words = omega arith
     flow_le (Seq list) words = flows_le list words
     flow_le (If e p q) words =

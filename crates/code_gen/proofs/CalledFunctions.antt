@@ -4,7 +4,7 @@ use Rattle.std.specs.Prelude.{pos}
 use Rattle.std.specs.List.{list_all}
 use Rattle.std.proofs.lemmas.Option.{get_or_from_slice_get}
 use Rattle.forec_kernel.specs.declared.terms.Spot.TheVariants as spot
-use Rattle.forec_kernel.specs.Terms.{Expr, Num, Local, LocalAt, Var, TableAt, Un, Bin, And, Or, Choose, Call, Exprs, no_exprs, more_exprs, Stmt, Nop, Set, SetAt, Clear, Seq, If, While, Pause, Par, Enter, Return, Stmts, no_stmts, more_stmts}
+use Rattle.forec_kernel.specs.Terms.{Expr, Num, Local, LocalAt, Var, SharedAt, TableAt, Un, Bin, And, Or, Choose, Call, Exprs, no_exprs, more_exprs, Stmt, Nop, Set, SetAt, PutAt, Clear, Seq, If, While, Pause, Par, Enter, Return, Stmts, no_stmts, more_stmts}
 use Rattle.forec_kernel.specs.Shapes.{PlainKernel, PlainThread}
 use Rattle.forec_kernel.specs.WellFormed.{Scope, FineStmt, FineStmts, calls_of, calls_in, stmt_calls, stmts_calls, function_body, WellFormed}
 use Rattle.forec_kernel.specs.Values.{function_words}
@@ -35,6 +35,7 @@ module _ (P : ℕ → Type 0) where
     expression_calls (Local x) p h = tt
     expression_calls (LocalAt x n i place) p h = allows_join P (expression_code p i) _ (expression_calls i p h) tt
     expression_calls (Var v) p h = tt
+    expression_calls (SharedAt v n i place) p h = allows_join P (expression_code p i) _ (expression_calls i p h) tt
     expression_calls (TableAt t i place) p h = allows_join P (expression_code p i) _ (expression_calls i p h) tt
     expression_calls (Un op a) p h = allows_join P (expression_code p a) _ (expression_calls a p h) tt
     expression_calls (Bin op a b place) p h =
@@ -75,6 +76,9 @@ module _ (P : ℕ → Type 0) where
       statement_calls (Set (spot.Local x) e) a p ok h = allows_join P (expression_code p e) _ (expression_calls e p h) tt
       statement_calls (Set (spot.Variable v) e) a p ok h = allows_join P (expression_code p e) _ (expression_calls e p h) tt
       statement_calls (SetAt x n i e place) a p ok h =
+          let q = p + length (expression_code p i) in
+          allows_join P (expression_code p i) _ (expression_calls i p (each_front P (calls_of i) (calls_of e) h)) (allows_join P (expression_code q e) _ (expression_calls e q (each_back P (calls_of i) (calls_of e) h)) tt)
+      statement_calls (PutAt v n i e place) a p ok h =
           let q = p + length (expression_code p i) in
           allows_join P (expression_code p i) _ (expression_calls i p (each_front P (calls_of i) (calls_of e) h)) (allows_join P (expression_code q e) _ (expression_calls e q (each_back P (calls_of i) (calls_of e) h)) tt)
       statement_calls (Clear x n) a p ok h = tt

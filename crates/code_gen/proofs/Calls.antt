@@ -3,7 +3,7 @@ use Rattle.std.proofs.Common.{◌≡◌, ℕ, zero, suc, ◌+◌, ◌<◌, true,
 use Rattle.std.specs.Prelude.{ℤ, pos, replicate}
 use Rattle.std.proofs.lemmas.Option.{slice_get_within}
 use Rattle.forec_kernel.specs.declared.terms.Spot.TheVariants as spot
-use Rattle.forec_kernel.specs.Terms.{Expr, Num, Local, LocalAt, Var, TableAt, Un, Bin, And, Or, Choose, Call, Exprs, no_exprs, more_exprs, Stmt, Nop, Set, SetAt, Clear, Seq, If, While, Pause, Par, Enter, Return, Stmts, no_stmts, more_stmts}
+use Rattle.forec_kernel.specs.Terms.{Expr, Num, Local, LocalAt, Var, SharedAt, TableAt, Un, Bin, And, Or, Choose, Call, Exprs, no_exprs, more_exprs, Stmt, Nop, Set, SetAt, PutAt, Clear, Seq, If, While, Pause, Par, Enter, Return, Stmts, no_stmts, more_stmts}
 use Rattle.forec_kernel.specs.Shapes.{PlainKernel}
 use Rattle.forec_kernel.specs.Values.{call_within, fresh_words, function_words}
 use Rattle.forec_kernel.specs.WellFormed.{Scope, FineExpr, FineExprs, FineStmt, FineStmts, calls_of, calls_in, stmt_calls, stmts_calls, function_body, function_params, WellFormed}
@@ -17,7 +17,7 @@ use Rattle.code_gen.proofs.Stretch.{HasAt, has_all, point, Yields}
 use Rattle.code_gen.proofs.Each.{Each, each_front, each_back, each_test}
 use Rattle.code_gen.proofs.BlockLemmas.{blocks_length, block_at}
 use Rattle.code_gen.proofs.Deep.{deep, statement_named, all_deep}
-use Rattle.code_gen.proofs.Fits.{FitsCall, Fits, AllFit, Own_expression, BodyFits, BodiesFit, CallsRun}
+use Rattle.code_gen.proofs.Fits.{FitsCall, Fits, AllFit, Own_expression, BodyFits, BodiesFit, CallsRun, no_elements}
 use Rattle.code_gen.proofs.Functions.{function_does}
 
 module _ (k : PlainKernel) (same : length k.functions ≡ length k.shape.functions) (n : ℕ) (words : ℕ) (uses : List ℕ) where
@@ -41,6 +41,7 @@ module _ (k : PlainKernel) (same : length k.functions ≡ length k.shape.functio
     fits (Local x) h d = tt
     fits (LocalAt x m i place) h d = fits i h.1 d
     fits (Var v) h d = tt
+    fits (SharedAt v m i place) h d = fits i h.1 d
     fits (TableAt t i place) h d = fits i h.1 d
     fits (Un op a) h d = fits a h d
     fits (Bin op a b place) h d = (fits a h.1 (each_front Ok (calls_of a) (calls_of b) d), fits b h.2 (each_back Ok (calls_of a) (calls_of b) d))
@@ -71,6 +72,7 @@ module _ (k : PlainKernel) (same : length k.functions ≡ length k.shape.functio
     body_fits (Set (spot.Local x) e) h d = own e h.1 d
     body_fits (Set (spot.Variable v) e) h d = let no_variable : false ≡ true = h.0 in cc
     body_fits (SetAt x m i e place) h d = (own i h.1 (each_front Ok0 (calls_of i) (calls_of e) d), own e h.2 (each_back Ok0 (calls_of i) (calls_of e) d))
+    body_fits (PutAt v m i e place) h d = no_elements k words v m h.0
     body_fits (Clear x m) h d = tt
     body_fits (Seq list) h d = bodies_fit list h d
     body_fits (If e a b) h d =

@@ -3,7 +3,7 @@ use Rattle.std.proofs.Common.{◌≡◌, ℕ, ◌+◌, List, [], ◌∷◌, ◌+
 use Rattle.std.specs.Prelude.{slice_set}
 use Rattle.std.proofs.Math.Seq.{set-append_seam}
 use mir.Val.{bool_byte}
-use Rattle.forec_kernel.specs.Terms.{Expr, Num, Local, LocalAt, Var, TableAt, Un, Bin, And, Or, Choose, Call, Exprs, no_exprs, more_exprs, Branch, Stmt, Nop, Set, SetAt, Clear, Seq, If, While, Pause, Par, Enter, Return, Stmts, no_stmts, more_stmts}
+use Rattle.forec_kernel.specs.Terms.{Expr, Num, Local, LocalAt, Var, SharedAt, TableAt, Un, Bin, And, Or, Choose, Call, Exprs, no_exprs, more_exprs, Branch, Stmt, Nop, Set, SetAt, PutAt, Clear, Seq, If, While, Pause, Par, Enter, Return, Stmts, no_stmts, more_stmts}
 use Rattle.forec_kernel.specs.Shapes.{PlainThread}
 use Rattle.thread_code.specs.declared.instruction.Instruction.TheVariants as instruction
 use Rattle.code_gen.specs.Expressions.{expression_code, expressions_code}
@@ -28,6 +28,7 @@ mutual
   expression_is p (Local x) = refl
   expression_is p (LocalAt x n i place) = omega (arith, expression_is p i, length-append (expression_code p i) (instruction.LoadAt x n place ∷ []))
   expression_is p (Var v) = refl
+  expression_is p (SharedAt v n i place) = omega (arith, expression_is p i, length-append (expression_code p i) (instruction.GetAt v n place ∷ []))
   expression_is p (TableAt t i place) = omega (arith, expression_is p i, length-append (expression_code p i) (instruction.Table t place ∷ []))
   expression_is p (Un op a) = omega (arith, expression_is p a, length-append (expression_code p a) (instruction.Unary op ∷ []))
   expression_is p (Bin op a b place) =
@@ -119,6 +120,10 @@ module _ (ts : List PlainThread) where
         let index = expression_code p i in
         let value = expression_code (p + length index) e in
         omega (arith, expression_is p i, expression_is (p + length index) e, length-append index (value ++ instruction.StoreAt x n place ∷ []), length-append value (instruction.StoreAt x n place ∷ []))
+    statement_is (PutAt v n i e place) a p c w h =
+        let index = expression_code p i in
+        let value = expression_code (p + length index) e in
+        omega (arith, expression_is p i, expression_is (p + length index) e, length-append index (value ++ instruction.PutAt v n place ∷ []), length-append value (instruction.PutAt v n place ∷ []))
     statement_is (Clear x n) a p c w h = refl
     statement_is (Seq list) a p c w h = statements_are list a p c w h
     statement_is (If t x y) a p c w h =

@@ -5,7 +5,7 @@ use Rattle.std.proofs.Math.Dec.{eqb}
 use Rattle.std.proofs.lemmas.Bool.Decides.{nat_tests}
 use Rattle.std.proofs.lemmas.Map.Steps.{length-le_from_distinct_below}
 use Rattle.std.proofs.lemmas.Map.Keys.{IsDistinct-cons}
-use Rattle.forec_kernel.specs.Terms.{Expr, Num, Local, LocalAt, Var, TableAt, Un, Bin, And, Or, Choose, Call, Exprs, no_exprs, more_exprs, Branch, Stmt, Nop, Set, SetAt, Clear, Seq, If, While, Pause, Par, Enter, Return, Stmts, no_stmts, more_stmts}
+use Rattle.forec_kernel.specs.Terms.{Expr, Num, Local, LocalAt, Var, SharedAt, TableAt, Un, Bin, And, Or, Choose, Call, Exprs, no_exprs, more_exprs, Branch, Stmt, Nop, Set, SetAt, PutAt, Clear, Seq, If, While, Pause, Par, Enter, Return, Stmts, no_stmts, more_stmts}
 use Rattle.forec_kernel.specs.Shapes.{PlainKernel}
 use Rattle.forec_kernel.specs.Combining.{contains}
 use Rattle.forec_kernel.specs.WellFormed.{Scope, FineExpr, FineExprs, FineStmt, FineStmts, FineBranches, calls_of, calls_in, branch_calls, stmt_calls, stmts_calls, function_body, Ranked}
@@ -27,6 +27,7 @@ module _ (z : Scope) where
     calls_named (Local x) h = tt
     calls_named (LocalAt x n i place) h = calls_named i h.1
     calls_named (Var v) h = tt
+    calls_named (SharedAt v n i place) h = calls_named i h.1
     calls_named (TableAt t i place) h = calls_named i h.1
     calls_named (Un op a) h = calls_named a h
     calls_named (Bin op a b place) h = each_join Is (calls_of a) (calls_of b) (calls_named a h.1) (calls_named b h.2)
@@ -49,6 +50,7 @@ module _ (z : Scope) where
     statement_named f Nop h = tt
     statement_named f (Set to e) h = calls_named e h.1
     statement_named f (SetAt x n i e place) h = each_join Is (calls_of i) (calls_of e) (calls_named i h.1) (calls_named e h.2)
+    statement_named f (PutAt v n i e place) h = each_join Is (calls_of i) (calls_of e) (calls_named i h.1) (calls_named e h.2)
     statement_named f (Clear x n) h = tt
     statement_named f (Seq list) h = statements_named f list h
     statement_named f (If e a b) h =

@@ -1,7 +1,7 @@
 -- The depth of the stack before each instruction of a term's code.
 use Rattle.std.proofs.Common.{◌≡◌, ℕ, suc, ◌+◌, List, [], ◌∷◌, ◌++◌, length, Option, Some, None, Bool, true, false, refl, ap, ◌∙◌, arith, length-append}
 use Rattle.std.specs.Prelude.{pos}
-use Rattle.forec_kernel.specs.Terms.{Expr, Num, Local, LocalAt, Var, TableAt, Un, Bin, And, Or, Choose, Call, Exprs, no_exprs, more_exprs, count_exprs, Branch, Stmt, Nop, Set, SetAt, Clear, Seq, If, While, Pause, Par, Enter, Return, Stmts, no_stmts, more_stmts}
+use Rattle.forec_kernel.specs.Terms.{Expr, Num, Local, LocalAt, Var, SharedAt, TableAt, Un, Bin, And, Or, Choose, Call, Exprs, no_exprs, more_exprs, count_exprs, Branch, Stmt, Nop, Set, SetAt, PutAt, Clear, Seq, If, While, Pause, Par, Enter, Return, Stmts, no_stmts, more_stmts}
 use Rattle.forec_kernel.specs.Shapes.{PlainThread}
 use Rattle.thread_code.specs.declared.instruction.Instruction.TheVariants as instruction
 use Rattle.code_gen.specs.Expressions.{expression_code, expressions_code}
@@ -14,6 +14,7 @@ abbrev mutual
   expression_depths d (Local x) = d ∷ []
   expression_depths d (LocalAt x n i place) = expression_depths d i ++ (d + 1) ∷ []
   expression_depths d (Var v) = d ∷ []
+  expression_depths d (SharedAt v n i place) = expression_depths d i ++ (d + 1) ∷ []
   expression_depths d (TableAt t i place) = expression_depths d i ++ (d + 1) ∷ []
   expression_depths d (Un op a) = expression_depths d a ++ (d + 1) ∷ []
   expression_depths d (Bin op a b place) = expression_depths d a ++ (expression_depths (d + 1) b ++ (d + 1 + 1) ∷ [])
@@ -75,6 +76,7 @@ abbrev mutual
   statement_depths cs ps Nop = []
   statement_depths cs ps (Set to e) = expression_depths 0 e ++ 1 ∷ []
   statement_depths cs ps (SetAt x n i e place) = expression_depths 0 i ++ (expression_depths 1 e ++ 2 ∷ [])
+  statement_depths cs ps (PutAt v n i e place) = expression_depths 0 i ++ (expression_depths 1 e ++ 2 ∷ [])
   statement_depths cs ps (Clear x n) = 0 ∷ []
   statement_depths cs ps (Seq list) = statements_depths cs ps list
   statement_depths cs ps (If e then other) = expression_depths 0 e ++ (1 ∷ (statement_depths cs ps then ++ 0 ∷ statement_depths cs ps other))
@@ -96,6 +98,7 @@ mutual
   same_length (Local v) d p = refl
   same_length (LocalAt x n i place) d p = omega (arith, same_length i d p, length-append (expression_depths d i) ((d + 1) ∷ []), length-append (expression_code p i) (instruction.LoadAt x n place ∷ []))
   same_length (Var v) d p = refl
+  same_length (SharedAt v n i place) d p = omega (arith, same_length i d p, length-append (expression_depths d i) ((d + 1) ∷ []), length-append (expression_code p i) (instruction.GetAt v n place ∷ []))
   same_length (TableAt t i place) d p = omega (arith, same_length i d p, length-append (expression_depths d i) ((d + 1) ∷ []), length-append (expression_code p i) (instruction.Table t place ∷ []))
   same_length (Un op a) d p = omega (arith, same_length a d p, length-append (expression_depths d a) ((d + 1) ∷ []), length-append (expression_code p a) (instruction.Unary op ∷ []))
   same_length (Bin op a b place) d p =
@@ -183,6 +186,9 @@ module _ (ts : List PlainThread) where
     statement_length (SetAt x n i e place) a p cs ps hc hp =
         let q = p + length (expression_code p i) in
         omega (arith, same_length i 0 p, same_length e 1 q, length-append (expression_depths 0 i) (expression_depths 1 e ++ 2 ∷ []), length-append (expression_depths 1 e) (2 ∷ []), length-append (expression_code p i) (expression_code q e ++ instruction.StoreAt x n place ∷ []), length-append (expression_code q e) (instruction.StoreAt x n place ∷ []))
+    statement_length (PutAt v n i e place) a p cs ps hc hp =
+        let q = p + length (expression_code p i) in
+        omega (arith, same_length i 0 p, same_length e 1 q, length-append (expression_depths 0 i) (expression_depths 1 e ++ 2 ∷ []), length-append (expression_depths 1 e) (2 ∷ []), length-append (expression_code p i) (expression_code q e ++ instruction.PutAt v n place ∷ []), length-append (expression_code q e) (instruction.PutAt v n place ∷ []))
     statement_length (Clear x n) a p cs ps hc hp = refl
     statement_length (Seq list) a p cs ps hc hp = statements_length list a p cs ps hc hp
     statement_length (If e x y) a p cs ps hc hp =

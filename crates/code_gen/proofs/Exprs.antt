@@ -4,8 +4,8 @@ use Rattle.std.specs.Prelude.{ℤ, pos, slice_get, replicate}
 use Rattle.forec_base.specs.Numbers.{is_zero, truth, unary_of, binary_of}
 use Rattle.forec_base.specs.declared.Place.{Place}
 use Rattle.forec_base.specs.declared.Trap.TheVariants.{Divide, Index}
-use Rattle.forec_kernel.specs.Terms.{Expr, Num, Local, LocalAt, Var, TableAt, Un, Bin, And, Or, Choose, Call, Exprs, no_exprs, more_exprs, count_exprs}
-use Rattle.forec_kernel.specs.Values.{word, index_in, Value, Gives, Raises, Values, AllGive, OneRaises, more_units, value_then, first_then, Setting, Sight, place_or, divided, at_index, val, vals, fresh_words}
+use Rattle.forec_kernel.specs.Terms.{Expr, Num, Local, LocalAt, Var, SharedAt, TableAt, Un, Bin, And, Or, Choose, Call, Exprs, no_exprs, more_exprs, count_exprs}
+use Rattle.forec_kernel.specs.Values.{word, copy_of, index_in, Value, Gives, Raises, Values, AllGive, OneRaises, more_units, value_then, first_then, Setting, Sight, place_or, divided, at_index, val, vals, fresh_words}
 use Rattle.thread_code.specs.declared.instruction.Instruction.{Instruction}
 use Rattle.thread_code.specs.declared.instruction.Instruction.TheVariants as instruction
 use Rattle.thread_code.specs.Plain.{PlainCode}
@@ -115,6 +115,15 @@ module _ (c : PlainCode) (t : ℕ) (call : ℕ → List ℤ → Value) (ok : ℕ
         (λ k w. element_at (index_in n k) (λ j. word words (x + j)) place q _ st (top_at q st k w) w len
         (one c t (instruction.LoadAt x n place) (point s q (k ∷ st) words counters) fs o w (has_back s p ci _ has).0))
     expression_runs (Var v) p st u fit has = one c t (instruction.Get v) (point s p st words counters) fs o u has.0
+    expression_runs (SharedAt v n i place) p st u fit has =
+        let ci = expression_code p i in
+        let q = p + length ci in
+        let len : q + 1 ≡ p + length (ci ++ instruction.GetAt v n place ∷ []) = omega (arith, length-append ci (instruction.GetAt v n place ∷ [])) in
+        let get : ℕ → ℤ = λ j. (copy_of (uses_of c t) o.copies (v + j)).value in
+        yields_then c t (here p st u) u (top_at q st) (top_at _ st) (seen i) (λ k. at_index (index_in n k) get place)
+        (expression_runs i p st u fit (has_front s p ci _ has))
+        (λ k w. element_at (index_in n k) get place q _ st (top_at q st k w) w len
+        (one c t (instruction.GetAt v n place) (point s q (k ∷ st) words counters) fs o w (has_back s p ci _ has).0))
     expression_runs (TableAt n i place) p st u fit has =
         let ci = expression_code p i in
         let q = p + length ci in

@@ -1,7 +1,7 @@
 -- Each instruction of an expression's code is fine.
 use Rattle.std.proofs.Common.{◌≡◌, ℕ, ◌+◌, ◌-◌, ◌<◌, List, [], ◌∷◌, ◌++◌, length, Option, Some, true, refl, sym, ap, ◌∙◌, subst, arith, length-append}
 use Rattle.std.specs.Prelude.{pos, slice_get}
-use Rattle.forec_kernel.specs.Terms.{Expr, Num, Local, LocalAt, Var, TableAt, Un, Bin, And, Or, Choose, Call, Exprs, no_exprs, more_exprs, count_exprs}
+use Rattle.forec_kernel.specs.Terms.{Expr, Num, Local, LocalAt, Var, SharedAt, TableAt, Un, Bin, And, Or, Choose, Call, Exprs, no_exprs, more_exprs, count_exprs}
 use Rattle.forec_kernel.specs.Shapes.{PlainKernel}
 use Rattle.forec_kernel.specs.WellFormed as kernel
 use Rattle.forec_kernel.specs.WellFormed.{FineExpr, FineExprs}
@@ -26,6 +26,7 @@ first_costs s (Num n) p h = ap costs h.0
 first_costs s (Local x) p h = ap costs h.0
 first_costs s (LocalAt x n i place) p h = first_costs s i p (has_front s p (expression_code p i) _ h)
 first_costs s (Var v) p h = ap costs h.0
+first_costs s (SharedAt v n i place) p h = first_costs s i p (has_front s p (expression_code p i) _ h)
 first_costs s (TableAt t i place) p h = first_costs s i p (has_front s p (expression_code p i) _ h)
 first_costs s (Un op a) p h = first_costs s a p (has_front s p (expression_code p a) _ h)
 first_costs s (Bin op a b place) p h = first_costs s a p (has_front s p (expression_code p a) _ h)
@@ -46,6 +47,7 @@ module _ (depths : List ℕ) where
     starts (Local x) d p h = h.0
     starts (LocalAt x n i place) d p h = starts i d p (has_front depths p (expression_depths d i) _ h)
     starts (Var v) d p h = h.0
+    starts (SharedAt v n i place) d p h = starts i d p (has_front depths p (expression_depths d i) _ h)
     starts (TableAt t i place) d p h = starts i d p (has_front depths p (expression_depths d i) _ h)
     starts (Un op a) d p h = starts a d p (has_front depths p (expression_depths d a) _ h)
     starts (Bin op a b place) d p h = starts a d p (has_front depths p (expression_depths d a) _ h)
@@ -118,6 +120,9 @@ module _ (k : PlainKernel) (thread : Option ℕ) (b : PlainBlock) (depths : List
         let array = ok.0 in
         indexed i (instruction.LoadAt x n place) d p h (λ g e. expression_fine i d p ok.1 g e) end (λ q g. (array.within, omega arith, g))
     expression_fine (Var v) d p ok h end = ((ok, end), tt)
+    expression_fine (SharedAt v n i place) d p ok h end =
+        let array = ok.0 in
+        indexed i (instruction.GetAt v n place) d p h (λ g e. expression_fine i d p ok.1 g e) end (λ q g. (array.used, omega arith, g))
     expression_fine (TableAt t i place) d p ok h end =
         indexed i (instruction.Table t place) d p h (λ g e. expression_fine i d p ok.1 g e) end (λ q g. (ok.0, omega arith, g))
     expression_fine (Un op a) d p ok h end =

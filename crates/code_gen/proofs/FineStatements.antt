@@ -4,14 +4,14 @@ use Rattle.std.specs.Prelude.{IsTrue, IsSome, IsNone}
 use Rattle.forec_base.specs.declared.Place.{Place}
 use Rattle.forec_kernel.specs.declared.terms.Spot as spot_type
 use Rattle.forec_kernel.specs.declared.terms.Spot.TheVariants as spot
-use Rattle.forec_kernel.specs.Terms.{Expr, Num, Local, LocalAt, Var, TableAt, Un, Bin, And, Or, Choose, Call, Exprs, no_exprs, more_exprs, count_exprs, Branch, Stmt, Nop, Set, SetAt, Clear, Seq, If, While, Pause, Par, Enter, Return, Stmts, no_stmts, more_stmts}
+use Rattle.forec_kernel.specs.Terms.{Expr, Num, Local, LocalAt, Var, SharedAt, TableAt, Un, Bin, And, Or, Choose, Call, Exprs, no_exprs, more_exprs, count_exprs, Branch, Stmt, Nop, Set, SetAt, PutAt, Clear, Seq, If, While, Pause, Par, Enter, Return, Stmts, no_stmts, more_stmts}
 use Rattle.forec_kernel.specs.Shapes.{PlainKernel}
 use Rattle.forec_kernel.specs.WellFormed as kernel
 use Rattle.forec_kernel.specs.WellFormed.{FineExpr, FineExprs, FineStmt, FineStmts, FineBranches, threads_in, thread_of}
 use Rattle.thread_code.specs.declared.instruction.Instruction.{Instruction}
 use Rattle.thread_code.specs.declared.instruction.Instruction.TheVariants as instruction
 use Rattle.thread_code.specs.Plain.{PlainBlock}
-use Rattle.thread_code.specs.Valid.{Leads, IsParOf, branches_in, arguments_of}
+use Rattle.thread_code.specs.Valid.{Leads, IsFine, IsParOf, branches_in, arguments_of}
 use Rattle.thread_code.proofs.AllFine.{fine_join}
 use Rattle.code_gen.specs.Expressions.{expression_code, expressions_code}
 use Rattle.code_gen.specs.Statements.{Around, Outside, InLoop, InAbort, loops, weaks, checks, guard, prologue, pause_code, fork_code, set_code, inner, fill_code, turn_code, loop_code, enter_code, par_number, arguments_code, statement_code, statements_code}
@@ -37,6 +37,7 @@ mutual
   expression_begins (Local x) d = refl
   expression_begins (LocalAt x n i place) d = begins_append d (expression_depths d i) _ (expression_begins i d)
   expression_begins (Var v) d = refl
+  expression_begins (SharedAt v n i place) d = begins_append d (expression_depths d i) _ (expression_begins i d)
   expression_begins (TableAt t i place) d = begins_append d (expression_depths d i) _ (expression_begins i d)
   expression_begins (Un op a) d = begins_append d (expression_depths d a) _ (expression_begins a d)
   expression_begins (Bin op a b place) d = begins_append d (expression_depths d a) _ (expression_begins a d)
@@ -94,6 +95,7 @@ mutual
   statement_first Nop cs ps = tt
   statement_first (Set to e) cs ps = test_first e (1 ∷ [])
   statement_first (SetAt x n i e place) cs ps = test_first i _
+  statement_first (PutAt v n i e place) cs ps = test_first i _
   statement_first (Clear x n) cs ps = refl
   statement_first (Seq list) cs ps = statements_first list cs ps
   statement_first (If e a b) cs ps = test_first e _
@@ -306,6 +308,7 @@ module _ (k : PlainKernel) (thread : Option ℕ) (b : PlainBlock) (depths : List
     ParsFine Nop = Unit {0}
     ParsFine (Set to e) = Unit {0}
     ParsFine (SetAt x n i e place) = Unit {0}
+    ParsFine (PutAt v n i e place) = Unit {0}
     ParsFine (Clear x n) = Unit {0}
     ParsFine (Seq list) = AllParsFine list
     ParsFine (If e x y) = ParsFine x × ParsFine y
@@ -407,6 +410,24 @@ module _ (k : PlainKernel) (thread : Option ℕ) (b : PlainBlock) (depths : List
       pick (spot.Local x) fit next = ((fit, omega arith, next), tt)
       pick (spot.Variable v) fit next = ((fit, omega arith, next), tt)
 
+  -- an index and a value in front of an instruction
+  element_fine : (i e : Expr) (p : ℕ) (last : Instruction) → FineExpr (z k thread b depths) i → FineExpr (z k thread b depths) e → HasAt depths p (expression_depths 0 i ++ (expression_depths 1 e ++ 2 ∷ [])) →
+      Leads depths (p + length (expression_code p i ++ (expression_code (p + length (expression_code p i)) e ++ last ∷ []))) 0 → ((q : ℕ) → Leads depths (q + 1) (2 - 2) → IsFine (scope k thread b depths) b depths q 2 last) →
+      Fine k thread b depths p (expression_code p i ++ (expression_code (p + length (expression_code p i)) e ++ last ∷ [])) (expression_depths 0 i ++ (expression_depths 1 e ++ 2 ∷ []))
+  element_fine i e p last oki oke has end fine =
+      let ci = expression_code p i in
+      let q = p + length ci in
+      let ce = expression_code q e in
+      let h1 = back_at depths p (expression_depths 0 i) (expression_depths 1 e ++ 2 ∷ []) (length ci) (same_length i 0 p) has in
+      let h2 = back_at depths q (expression_depths 1 e) (2 ∷ []) (length ce) (same_length e 1 q) h1 in
+      let n : p + length (ci ++ (ce ++ last ∷ [])) ≡ q + length ce + 1 = omega (arith, length-append ci (ce ++ last ∷ []), length-append ce (last ∷ [])) in
+      let less : 0 ≡ 2 - 2 = omega arith in
+      let one : 1 ≡ 0 + 1 = omega arith in
+      let two : 2 ≡ 1 + 1 = omega arith in
+      fine_join (scope k thread b depths) b depths p ci (ce ++ last ∷ []) (expression_depths 0 i) (expression_depths 1 e ++ 2 ∷ [])
+      (expression_fine k thread b depths i 0 p oki (has_front depths p (expression_depths 0 i) _ has) (lead _ _ _ _ refl one (starts depths e 1 q (has_front depths q (expression_depths 1 e) _ h1))))
+      (then_one q ce last (expression_depths 1 e) 2 (expression_fine k thread b depths e 1 q oke (has_front depths q (expression_depths 1 e) _ h1) (lead _ _ _ _ refl two h2.0)) (fine (q + length ce) (lead _ _ _ _ n less end), tt))
+
   enter_fine : (weak immediate : Bool) (e : Expr) (f x p : ℕ) → IsSome thread → FineExpr (z k thread b depths) e → Leads depths x 0 → (weak ≡ true → f < b.flags) → HasAt depths p (enter_depths weak immediate e) → Leads depths (p + length (enter_code weak immediate f x (expression_code p e))) 0 →
       Fine k thread b depths p (enter_code weak immediate f x (expression_code p e)) (enter_depths weak immediate e)
   enter_fine false false e f x p some ok exit fl has end = tt
@@ -420,20 +441,11 @@ module _ (k : PlainKernel) (thread : Option ℕ) (b : PlainBlock) (depths : List
     statement_fine Nop a p kind cs ps is ok par round lo fl hc hp code has end = tt
     statement_fine (Set to e) a p kind cs ps is ok par round lo fl hc hp code has end = set_fine to e p ok.0 ok.1 has end
     statement_fine (SetAt x n i e place) a p kind cs ps is ok par round lo fl hc hp code has end =
-        let ci = expression_code p i in
-        let q = p + length ci in
-        let ce = expression_code q e in
-        let last = instruction.StoreAt x n place in
         let array = ok.0 in
-        let h1 = back_at depths p (expression_depths 0 i) (expression_depths 1 e ++ 2 ∷ []) (length ci) (same_length i 0 p) has in
-        let h2 = back_at depths q (expression_depths 1 e) (2 ∷ []) (length ce) (same_length e 1 q) h1 in
-        let n : p + length (ci ++ (ce ++ last ∷ [])) ≡ q + length ce + 1 = omega (arith, length-append ci (ce ++ last ∷ []), length-append ce (last ∷ [])) in
-        let less : 0 ≡ 2 - 2 = omega arith in
-        let one : 1 ≡ 0 + 1 = omega arith in
-        let two : 2 ≡ 1 + 1 = omega arith in
-        fine_join (scope k thread b depths) b depths p ci (ce ++ last ∷ []) (expression_depths 0 i) (expression_depths 1 e ++ 2 ∷ [])
-        (expression_fine k thread b depths i 0 p ok.1 (has_front depths p (expression_depths 0 i) _ has) (lead _ _ _ _ refl one (starts depths e 1 q (has_front depths q (expression_depths 1 e) _ h1))))
-        (then_one q ce last (expression_depths 1 e) 2 (expression_fine k thread b depths e 1 q ok.2 (has_front depths q (expression_depths 1 e) _ h1) (lead _ _ _ _ refl two h2.0)) ((array.within, omega arith, lead _ _ _ _ n less end), tt))
+        element_fine i e p (instruction.StoreAt x n place) ok.1 ok.2 has end (λ q g. (array.within, omega arith, g))
+    statement_fine (PutAt v n i e place) a p kind cs ps is ok par round lo fl hc hp code has end =
+        let array = ok.0 in
+        element_fine i e p (instruction.PutAt v n place) ok.1 ok.2 has end (λ q g. (array.used, omega arith, g))
     statement_fine (Clear x n) a p kind cs ps is ok par round lo fl hc hp code has end = ((ok.within, end), tt)
     statement_fine (Seq list) a p kind cs ps is ok par round lo fl hc hp code has end = statements_fine list a p kind cs ps is ok par round lo fl hc hp code has end
     statement_fine (If e x y) a p kind cs ps is ok par round lo fl hc hp code has end =

@@ -1,8 +1,10 @@
 -- What is asked of the calls in a term: each is of an allowed function, with as many arguments as it has parameters.
-use Rattle.std.specs.Prelude.{ℕ, ◌≡◌, ℤ, Bool, true, Some, None, List, [], slice_get, replicate}
+use Rattle.std.proofs.Common.{arith}
+use Rattle.std.specs.Prelude.{ℕ, zero, suc, ◌≡◌, ◌≤◌, ℤ, Bool, true, false, Some, None, List, [], slice_get, replicate}
 use Rattle.forec_kernel.specs.declared.terms.Spot.TheVariants as spot
-use Rattle.forec_kernel.specs.Terms.{Expr, Num, Local, LocalAt, Var, TableAt, Un, Bin, And, Or, Choose, Call, Exprs, no_exprs, more_exprs, count_exprs, Stmt, Nop, Set, SetAt, Clear, Seq, If, While, Pause, Par, Enter, Return, Stmts, no_stmts, more_stmts}
-use Rattle.forec_kernel.specs.WellFormed.{Scope, FineExpr}
+use Rattle.forec_kernel.specs.Terms.{Expr, Num, Local, LocalAt, Var, SharedAt, TableAt, Un, Bin, And, Or, Choose, Call, Exprs, no_exprs, more_exprs, count_exprs, Stmt, Nop, Set, SetAt, PutAt, Clear, Seq, If, While, Pause, Par, Enter, Return, Stmts, no_stmts, more_stmts}
+use Rattle.forec_kernel.specs.Shapes.{PlainKernel}
+use Rattle.forec_kernel.specs.WellFormed.{Scope, IsSharedArray, FineExpr}
 use Rattle.forec_kernel.specs.Values.{Value, fresh_words}
 use Rattle.thread_code.specs.Plain.{PlainBlock, PlainCode}
 use Rattle.thread_code.specs.Valid.{function_arguments}
@@ -22,6 +24,7 @@ module _ (c : PlainCode) (ok : ℕ → Bool) where
     Fits (Local x) = Unit {0}
     Fits (LocalAt x n i place) = Fits i
     Fits (Var v) = Unit {0}
+    Fits (SharedAt v n i place) = Fits i
     Fits (TableAt t i place) = Fits i
     Fits (Un op a) = Fits a
     Fits (Bin op a b place) = Fits a × Fits b
@@ -40,6 +43,11 @@ CallsRun c t ok call =
     (f : ℕ) → ok f ≡ true → (b : PlainBlock) → slice_get c.functions f ≡ Some b → (args : List ℤ) (fs : List Frame) (o : Own) (u : ℕ) →
     Yields c t (On (point b.steps 0 [] (fresh_words args b.words) (replicate b.counters 0)) fs o u) u (λ n v. returned c t n fs o v) (call f args)
 
+-- an int function uses no variable, so no element of a shared array
+pub no_elements : (k : PlainKernel) (words v n : ℕ) → IsSharedArray (record { kernel = k; words = words; uses = [] }) v n → ⊥
+no_elements k words v zero h = let some : 1 ≤ 0 = h.some in absurd (omega arith)
+no_elements k words v (suc n) h = let used : false ≡ true = h.used in cc
+
 -- What stands in an int function's body: it reads no variable.
 module _ (c : PlainCode) (ok : ℕ → Bool) (z : Scope) where
   -- an expression of a function
@@ -53,6 +61,7 @@ module _ (c : PlainCode) (ok : ℕ → Bool) (z : Scope) where
     BodyFits (Set (spot.Local x) e) = Own_expression e
     BodyFits (Set (spot.Variable v) e) = ⊥
     BodyFits (SetAt x n i e place) = Own_expression i × Own_expression e
+    BodyFits (PutAt v n i e place) = ⊥
     BodyFits (Clear x n) = Unit {0}
     BodyFits (Seq list) = BodiesFit list
     BodyFits (If e then other) = Own_expression e × BodyFits then × BodyFits other

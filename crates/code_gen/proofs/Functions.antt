@@ -5,7 +5,7 @@ use Rattle.forec_base.specs.Numbers.{is_zero, truth, unary_of, binary_of}
 use Rattle.forec_base.specs.declared.Place.{Place}
 use Rattle.forec_base.specs.declared.Trap.TheVariants.{Index, Turns}
 use Rattle.forec_kernel.specs.declared.terms.Spot.TheVariants as spot
-use Rattle.forec_kernel.specs.Terms.{Expr, Num, Local, LocalAt, Var, TableAt, Un, Bin, And, Or, Choose, Call, Exprs, no_exprs, more_exprs, Stmt, Nop, Set, SetAt, Clear, Seq, If, While, Pause, Par, Enter, Return, Stmts, no_stmts, more_stmts}
+use Rattle.forec_kernel.specs.Terms.{Expr, Num, Local, LocalAt, Var, SharedAt, TableAt, Un, Bin, And, Or, Choose, Call, Exprs, no_exprs, more_exprs, Stmt, Nop, Set, SetAt, PutAt, Clear, Seq, If, While, Pause, Par, Enter, Return, Stmts, no_stmts, more_stmts}
 use Rattle.forec_kernel.specs.Shapes.{PlainKernel, PlainThread}
 use Rattle.forec_kernel.specs.Values.{word, index_in, Value, Gives, Raises, more_units, value_then, first_then, values_then, Setting, Sight, divided, at_index, val, vals, Flow, Goes, Returns, Breaks, more_flow, flow_with, flow_then, words_alone, cleared, stored_at, turns, flow, flows, returned}
 use Rattle.forec_kernel.specs.WellFormed.{Scope, FineExpr, FineExprs}
@@ -18,7 +18,7 @@ use Rattle.code_gen.specs.Expressions.{expression_code}
 use Rattle.code_gen.specs.Statements.{Around, Outside, InLoop, loops, loop_code, statement_code, statements_code}
 use Rattle.code_gen.proofs.Cells.{put_same, put_other}
 use Rattle.code_gen.proofs.Lengths.{loop_length, if_length}
-use Rattle.code_gen.proofs.Fits.{Own_expression, BodyFits, BodiesFit, CallsRun}
+use Rattle.code_gen.proofs.Fits.{Own_expression, BodyFits, BodiesFit, CallsRun, no_elements}
 use Rattle.code_gen.proofs.Stretch.{HasAt, has_front, has_back, point, Comes, stays, comes_on, comes_at, one, Yields}
 use Rattle.code_gen.proofs.Exprs.{expression_runs}
 
@@ -35,6 +35,7 @@ module _ (s : Setting) (words : List ℤ) (e : Sight) (k : PlainKernel) (n : ℕ
         ap (λ r. value_then r (λ k. at_index (index_in m k) (λ j. word e.words (v + j)) place)) (same_value i h.1)
         ∙ ap (λ w. value_then (val s (words_alone words) i) (λ k. at_index (index_in m k) (λ j. word w (v + j)) place)) same
     same_value (Var v) h = let e : false ≡ true = h in cc
+    same_value (SharedAt v m i place) h = absurd (no_elements k n v m h.0)
     same_value (TableAt v i place) h =
         ap (λ r. value_then r (λ k. let table = get_or s.tables v [] in at_index (index_in (length table) k) (λ j. word table j) place)) (same_value i h.1)
     same_value (Un op a) h = ap (λ r. value_then r (λ x. Gives (unary_of op x) 1)) (same_value a h)
@@ -213,6 +214,7 @@ module _ (c : PlainCode) (t : ℕ) (call : ℕ → List ℤ → Value) (ok : ℕ
         (λ b m. does_test (loops a) _ cs (On (point s q (b ∷ []) w cs) fs o m) m (λ v m. On (point s j (v ∷ b ∷ []) w cs) fs o m) (val set (words_alone w) e) _ (test_does e q (b ∷ []) w cs m fit.1 (has_front s q ce _ hb))
         (λ v m. stored_does (index_in n b) v place x (loops a) j _ w cs (On (point s j (v ∷ b ∷ []) w cs) fs o m) m len
         (one c t (instruction.StoreAt x n place) (point s j (v ∷ b ∷ []) w cs) fs o m (has_back s q ce _ hb).0)))
+    body_does (PutAt v n i e place) a p w cs u fit has = absurd fit
     body_does (Clear x n) a p w cs u fit has = lands (loops a) (p + 1) (cleared w x n) cs _ (u + n) (one c t (instruction.Clear x n) (point s p [] w cs) fs o u has.0)
     body_does (Seq list) a p w cs u fit has = bodies_do list a p w cs u fit has
     body_does (If e then other) a p w cs u fit has =

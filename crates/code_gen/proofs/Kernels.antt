@@ -3,7 +3,7 @@ use Rattle.std.proofs.Common.{◌≡◌, ℕ, zero, suc, ◌+◌, ◌<◌, ◌�
 use Rattle.std.specs.Prelude.{◌≢◌}
 use Rattle.std.proofs.lemmas.Bool.{cases_lt}
 use Rattle.std.proofs.lemmas.Bool.Decides.{nat_tests}
-use Rattle.forec_kernel.specs.Terms.{Expr, Branch, Stmt, Nop, Set, SetAt, Clear, Seq, If, While, Pause, Par, Enter, Return, Stmts, no_stmts, more_stmts}
+use Rattle.forec_kernel.specs.Terms.{Expr, Branch, Stmt, Nop, Set, SetAt, PutAt, Clear, Seq, If, While, Pause, Par, Enter, Return, Stmts, no_stmts, more_stmts}
 use Rattle.forec_kernel.specs.Shapes.{PlainKernel, PlainThread}
 use Rattle.forec_kernel.specs.Texts.{uses_in, params_in, uses_of, words_of, body_of}
 use Rattle.forec_kernel.specs.Combining.{contains, variable_of}
@@ -102,6 +102,7 @@ module _ (k : PlainKernel) (fine : WellFormed k) where
       statement_fits Nop h d p = tt
       statement_fits (Set to e) h d p = fits_of e h.1 d
       statement_fits (SetAt x n i e place) h d p = (fits_of i h.1 (each_front Ok (calls_of i) (calls_of e) d), fits_of e h.2 (each_back Ok (calls_of i) (calls_of e) d))
+      statement_fits (PutAt v n i e place) h d p = (fits_of i h.1 (each_front Ok (calls_of i) (calls_of e) d), fits_of e h.2 (each_back Ok (calls_of i) (calls_of e) d))
       statement_fits (Clear x n) h d p = tt
       statement_fits (Seq list) h d p = statements_fit list h d p
       statement_fits (If e a b) h d p =

@@ -1,6 +1,6 @@
 -- How long code is: it doesn't depend on where the aborts round it end.
 use Rattle.std.proofs.Common.{◌≡◌, ℕ, suc, ◌+◌, List, [], ◌∷◌, ◌++◌, length, Option, Some, None, Bool, true, false, refl, ap, ◌∙◌, length-append, arith}
-use Rattle.forec_kernel.specs.Terms.{Expr, Stmt, Nop, Set, SetAt, Clear, Seq, If, While, Pause, Par, Enter, Return, Stmts, no_stmts, more_stmts}
+use Rattle.forec_kernel.specs.Terms.{Expr, Stmt, Nop, Set, SetAt, PutAt, Clear, Seq, If, While, Pause, Par, Enter, Return, Stmts, no_stmts, more_stmts}
 use Rattle.forec_kernel.specs.Shapes.{PlainThread}
 use Rattle.thread_code.specs.declared.instruction.Instruction.{Instruction}
 use Rattle.thread_code.specs.declared.instruction.Instruction.TheVariants as instruction
@@ -111,6 +111,7 @@ module _ (ts : List PlainThread) where
     alike_length Nop a b p q e h = refl
     alike_length (Set to x) a b p q e h = ap (λ n. length (statement_code ts a n (Set to x))) e
     alike_length (SetAt x n i y place) a b p q e h = ap (λ m. length (statement_code ts a m (SetAt x n i y place))) e
+    alike_length (PutAt v n i y place) a b p q e h = ap (λ m. length (statement_code ts a m (PutAt v n i y place))) e
     alike_length (Clear x n) a b p q e h = refl
     alike_length (Seq list) a b p q e h = alike_lengths list a b p q e h
     alike_length (If t x y) a b p q e h =

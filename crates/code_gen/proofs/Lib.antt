@@ -30,3 +30,4 @@ pub mod Numbers
 pub mod Whole
 pub mod Written
 pub mod WorkedFine
+mod WorkedElements

@@ -2,7 +2,7 @@
 use Rattle.std.proofs.Common.{◌≡◌, ℕ, ◌+◌, ◌<◌, List, [], ◌∷◌, ◌++◌, length, Option, Some, None, Bool, true, false, cond, refl, ap, ◌∙◌, subst, arith, length-append, get_or}
 use Rattle.std.specs.Prelude.{ℤ, ◌≢◌, slice_get}
 use Rattle.forec_kernel.specs.declared.shape.VarCopy.{VarCopy}
-use Rattle.forec_kernel.specs.Terms.{Expr, count_exprs, Branch, Stmt, Nop, Set, SetAt, Clear, Seq, If, While, Pause, Par, Enter, Return, Stmts, no_stmts, more_stmts}
+use Rattle.forec_kernel.specs.Terms.{Expr, count_exprs, Branch, Stmt, Nop, Set, SetAt, PutAt, Clear, Seq, If, While, Pause, Par, Enter, Return, Stmts, no_stmts, more_stmts}
 use Rattle.forec_kernel.specs.Shapes.{PlainKernel}
 use Rattle.forec_kernel.specs.Texts.{Loop, After, Go_on, Again, Running, Paused, Ended, Gone, Trapped, Text, Done, Run, Then, Turning, Resting, Fork, Held, Watch, Last, Threads, no_threads, child, text_of, texts_of, is_running, some_running, params_of}
 use Rattle.forec_kernel.specs.WellFormed.{distinct, threads_in}
@@ -97,6 +97,7 @@ module _ (k : PlainKernel) where
     StatementFits Nop = Unit {0}
     StatementFits (Set to e) = Fits (kernel_code k) ok e
     StatementFits (SetAt x n i e place) = Fits (kernel_code k) ok i × Fits (kernel_code k) ok e
+    StatementFits (PutAt v n i e place) = Fits (kernel_code k) ok i × Fits (kernel_code k) ok e
     StatementFits (Clear x n) = Unit {0}
     StatementFits (Seq list) = StatementsFit list
     StatementFits (If e then other) = Fits (kernel_code k) ok e × StatementFits then × StatementFits other
@@ -276,6 +277,7 @@ module _ (k : PlainKernel) (t : ℕ) (s : List Instruction) where
     text_at Nop a p q c f h = let z : p ≡ p + 0 = omega arith in ends_on (ends_here p (p + 0) z) h.ends
     text_at (Set to e) a p q c f h = h
     text_at (SetAt x n i e place) a p q c f h = h
+    text_at (PutAt v n i e place) a p q c f h = h
     text_at (Clear x n) a p q c f h = h
     text_at (Seq list) a p q c f h = texts_at list a p q c f (record { has = h.has; ends = h.ends; fits = h.fits })
     text_at (If e then other) a p q c f h = h

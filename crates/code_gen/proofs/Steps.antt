@@ -7,17 +7,17 @@ use Rattle.forec_base.specs.declared.Trap.TheVariants.{Index}
 use Rattle.forec_kernel.specs.declared.shape.VarCopy.{VarCopy}
 use Rattle.forec_kernel.specs.declared.terms.Spot.{Spot}
 use Rattle.forec_kernel.specs.declared.terms.Spot.TheVariants as spot
-use Rattle.forec_kernel.specs.Terms.{Expr, Branch, Stmt, Nop, Set, SetAt, Clear, Seq, If, While, Pause, Par, Enter, Return}
+use Rattle.forec_kernel.specs.Terms.{Expr, Branch, Stmt, Nop, Set, SetAt, PutAt, Clear, Seq, If, While, Pause, Par, Enter, Return}
 use Rattle.forec_kernel.specs.Shapes.{PlainKernel}
 use Rattle.forec_kernel.specs.Values.{Value, Gives, Raises, setting, Sight, call, cleared, index_in}
 use Rattle.forec_kernel.specs.Texts.{Loop, After, Go_on, Again, Text, Done, Run, Then, Turning, Resting, Fork, Held, Watch, Last, text_of, texts_of, after_text, uses_of, put_copy}
 use Rattle.forec_kernel.specs.WellFormed.{distinct, threads_in}
-use Rattle.forec_kernel.specs.Steps.{Move, Finished, Halts, Moves, Traps, more_move, move_with, Owner, evaluated, assigned, assigned_at, turned, entered, Arguments, Ready, Refused, arguments, started, forked, statement_move, loop_move, move_before, move_watched, move_last, text_move}
+use Rattle.forec_kernel.specs.Steps.{Move, Finished, Halts, Moves, Traps, more_move, move_with, Owner, evaluated, assigned, assigned_at, shared_at, turned, entered, Arguments, Ready, Refused, arguments, started, forked, statement_move, loop_move, move_before, move_watched, move_last, text_move}
 use Rattle.forec_kernel.specs.Solo.{seeds_for}
 use Rattle.thread_code.specs.declared.instruction.Instruction.{Instruction}
 use Rattle.thread_code.specs.declared.instruction.Instruction.TheVariants as instruction
 use Rattle.thread_code.specs.Valid.{branches_in, arguments_of}
-use Rattle.thread_code.specs.Machine.{Machine, On, Waits, Trapped, act, awaited, starts, with_arguments, unless_none, turn_taken, put_at}
+use Rattle.thread_code.specs.Machine.{Machine, On, Waits, Trapped, act, awaited, starts, with_arguments, unless_none, turn_taken, put_at, put_value}
 use Rattle.code_gen.specs.Expressions.{expression_code}
 use Rattle.code_gen.specs.Statements.{Around, InLoop, InAbort, loops, weaks, checks, guard, prologue, pause_code, fork_code, inner, turn_code, loop_code, enter_code, par_number, arguments_code, statement_code}
 use Rattle.code_gen.specs.Blocks.{kernel_code}
@@ -113,24 +113,53 @@ module _ (k : PlainKernel) (t : ℕ) (run : CallsRun (kernel_code k) t (ok k) (c
   stored_runs None n place x a R j q st c f m u ends h = h
   stored_runs (Some b) n place x a R j q st c f m u ends h = goes k t s false a Done (j + 1) q (record { words = slice_set st.words (x + b) n; copies = st.copies }) c f m (u + 1) ends h
 
-  set_at_runs : (x n : ℕ) (i e : Expr) (place : Place) (a : Around) (p q : ℕ) (st : Store) (c : List ℕ) (f : Marks) (u : ℕ) → StatementAt k t s a (SetAt x n i e place) p q → Follows a (Run (SetAt x n i e place)) q st c f (on k t s p st c f u) u (statement_move o st.words st.copies (SetAt x n i e place))
-  set_at_runs x n i e place a p q st c f u h =
+  advances_shared : (words : List ℤ) (copies : List VarCopy) (v : ℕ) (i : Option ℕ) (n : ℤ) (place : Place) → Advances (shared_at o words copies v i n place)
+  advances_shared words copies v None n place = tt
+  advances_shared words copies v (Some i) n place = tt
+
+  shared_runs : (i : Option ℕ) (n : ℤ) (place : Place) (v : ℕ) (a : Around) (R : Text) (j q : ℕ) (st : Store) (c : List ℕ) (f : Marks) (m : Machine) (u : ℕ) → Ends k t s (j + 1) q →
+      Comes (kernel_code k) t m (unless_none i place Index (u + 1) (λ b. On (point s (j + 1) [] st.words c) [] (put_value (uses_of k t) (v + b) n (own st f)) (u + 1))) →
+      Follows a R q st c f m u (shared_at o st.words st.copies v i n place)
+  shared_runs None n place v a R j q st c f m u ends h = h
+  shared_runs (Some b) n place v a R j q st c f m u ends h =
+      goes k t s false a Done (j + 1) q (record { words = st.words; copies = put_copy (uses_of k t) st.copies (v + b) (record { value = n; modified = true }) }) c f m (u + 1) ends h
+
+  -- an index and a value in front of the instruction that sets an element
+  element_runs : (i e : Expr) (last : Instruction) (go : ℤ → ℤ → Move) (a : Around) (R : Text) (p q : ℕ) (st : Store) (c : List ℕ) (f : Marks) (u : ℕ) → Fits (kernel_code k) (ok k) i → Fits (kernel_code k) (ok k) e →
+      HasAt s p (expression_code p i ++ (expression_code (p + length (expression_code p i)) e ++ last ∷ [])) → Ends k t s (p + length (expression_code p i ++ (expression_code (p + length (expression_code p i)) e ++ last ∷ []))) q → ((b v : ℤ) → Advances (go b v)) →
+      ((j : ℕ) (b v : ℤ) (m : Machine) (w : ℕ) → Ends k t s (j + 1) q → Comes (kernel_code k) t m (act (kernel_code k) t (Some last) (point s j (v ∷ b ∷ []) st.words c) [] (own st f) w) → Follows a R q st c f m w (go b v)) →
+      Follows a R q st c f (on k t s p st c f u) u (move_with (seen st i) (λ b. move_with (seen st e) (go b)))
+  element_runs i e last go a R p q st c f u fit_i fit_e has ends ok_go runs =
       let ci = expression_code p i in
       let r = p + length ci in
       let ce = expression_code r e in
       let j = r + length ce in
-      let hb = has_back s p ci _ h.has in
+      let hb = has_back s p ci _ has in
+      let len : j + 1 ≡ p + length (ci ++ (ce ++ last ∷ [])) = omega (arith, length-append ci (ce ++ last ∷ []), length-append ce (last ∷ [])) in
+      follows_with a R q st c f (on k t s p st c f u) u (λ b w. On (point s r (b ∷ []) st.words c) [] (own st f) w) (seen st i) (λ b. move_with (seen st e) (go b))
+      (λ b. advances_with (seen st e) (go b) (ok_go b))
+      (test_runs i p [] st c f u fit_i (has_front s p ci _ has))
+      (λ b w. follows_with a R q st c f (On (point s r (b ∷ []) st.words c) [] (own st f) w) w (λ v w. On (point s j (v ∷ b ∷ []) st.words c) [] (own st f) w) (seen st e) (go b)
+      (ok_go b)
+      (test_runs e r (b ∷ []) st c f w fit_e (has_front s r ce _ hb))
+      (λ v w. runs j b v (On (point s j (v ∷ b ∷ []) st.words c) [] (own st f) w) w (ends_on k t s (ends_here k t s _ _ len) ends)
+      (one (kernel_code k) t last (point s j (v ∷ b ∷ []) st.words c) [] (own st f) w (has_back s r ce _ hb).0)))
+
+  set_at_runs : (x n : ℕ) (i e : Expr) (place : Place) (a : Around) (p q : ℕ) (st : Store) (c : List ℕ) (f : Marks) (u : ℕ) → StatementAt k t s a (SetAt x n i e place) p q → Follows a (Run (SetAt x n i e place)) q st c f (on k t s p st c f u) u (statement_move o st.words st.copies (SetAt x n i e place))
+  set_at_runs x n i e place a p q st c f u h =
       let fit = h.fits in
-      let len : j + 1 ≡ p + length (statement_code k.shape.threads a p (SetAt x n i e place)) = omega (arith, length-append ci (ce ++ instruction.StoreAt x n place ∷ []), length-append ce (instruction.StoreAt x n place ∷ [])) in
       let R = Run (SetAt x n i e place) in
-      follows_with a R q st c f (on k t s p st c f u) u (λ b w. On (point s r (b ∷ []) st.words c) [] (own st f) w) (seen st i) (λ b. move_with (seen st e) (λ v. assigned_at st.words st.copies x (index_in n b) v place))
-      (λ b. advances_with (seen st e) _ (λ v. advances_at st.words st.copies x (index_in n b) v place))
-      (test_runs i p [] st c f u fit.0 (has_front s p ci _ h.has))
-      (λ b w. follows_with a R q st c f (On (point s r (b ∷ []) st.words c) [] (own st f) w) w (λ v w. On (point s j (v ∷ b ∷ []) st.words c) [] (own st f) w) (seen st e) (λ v. assigned_at st.words st.copies x (index_in n b) v place)
-      (λ v. advances_at st.words st.copies x (index_in n b) v place)
-      (test_runs e r (b ∷ []) st c f w fit.1 (has_front s r ce _ hb))
-      (λ v w. stored_runs (index_in n b) v place x a R j q st c f (On (point s j (v ∷ b ∷ []) st.words c) [] (own st f) w) w (ends_on k t s (ends_here k t s _ _ len) h.ends)
-      (one (kernel_code k) t (instruction.StoreAt x n place) (point s j (v ∷ b ∷ []) st.words c) [] (own st f) w (has_back s r ce _ hb).0)))
+      element_runs i e (instruction.StoreAt x n place) (λ b v. assigned_at st.words st.copies x (index_in n b) v place) a R p q st c f u fit.0 fit.1 h.has h.ends
+      (λ b v. advances_at st.words st.copies x (index_in n b) v place)
+      (λ j b v m w ends g. stored_runs (index_in n b) v place x a R j q st c f m w ends g)
+
+  put_at_runs : (x n : ℕ) (i e : Expr) (place : Place) (a : Around) (p q : ℕ) (st : Store) (c : List ℕ) (f : Marks) (u : ℕ) → StatementAt k t s a (PutAt x n i e place) p q → Follows a (Run (PutAt x n i e place)) q st c f (on k t s p st c f u) u (statement_move o st.words st.copies (PutAt x n i e place))
+  put_at_runs x n i e place a p q st c f u h =
+      let fit = h.fits in
+      let R = Run (PutAt x n i e place) in
+      element_runs i e (instruction.PutAt x n place) (λ b v. shared_at o st.words st.copies x (index_in n b) v place) a R p q st c f u fit.0 fit.1 h.has h.ends
+      (λ b v. advances_shared st.words st.copies x (index_in n b) v place)
+      (λ j b v m w ends g. shared_runs (index_in n b) v place x a R j q st c f m w ends g)
 
   -- after a test
   side : (b : Bool) (a : Around) (x y : Stmt) (m : Machine) (j r q : ℕ) (st : Store) (c : List ℕ) (f : Marks) (u : ℕ) → Comes (kernel_code k) t m (on k t s (cond b r j) st c f (u + 1)) → StatementAt k t s a x j q → StatementAt k t s a y r q →
@@ -388,6 +417,7 @@ module _ (k : PlainKernel) (t : ℕ) (run : CallsRun (kernel_code k) t (ok k) (c
   statement_runs Nop a p q st c f u h = let e : p ≡ p + 0 = omega arith in (ends_on k t s (ends_here k t s p (p + 0) e) h.ends).by st c f u
   statement_runs (Set to e) a p q st c f u h = set_runs to e a p q st c f u h
   statement_runs (SetAt x n i e place) a p q st c f u h = set_at_runs x n i e place a p q st c f u h
+  statement_runs (PutAt x n i e place) a p q st c f u h = put_at_runs x n i e place a p q st c f u h
   statement_runs (Clear x n) a p q st c f u h =
       let has = h.has in
       goes k t s false a Done (p + 1) q (record { words = cleared st.words x n; copies = st.copies }) c f _ (u + n) h.ends (one (kernel_code k) t (instruction.Clear x n) (point s p [] st.words c) [] (own st f) u has.0)

@@ -2,7 +2,7 @@
 use Rattle.std.proofs.Common.{◌≡◌, ℕ, ◌+◌, ◌<◌, ◌≤◌, List, [], ◌∷◌, ◌++◌, length, Option, Some, None, true, false, refl, sym, ap, ◌∙◌, subst, arith, length-append}
 use Rattle.std.specs.Prelude.{pos, slice_get}
 use Rattle.std.proofs.lemmas.Option.{slice_get_within}
-use Rattle.forec_kernel.specs.Terms.{Branch, Stmt, Nop, Set, SetAt, Clear, Seq, If, While, Pause, Par, Enter, Return, Stmts, no_stmts, more_stmts}
+use Rattle.forec_kernel.specs.Terms.{Branch, Stmt, Nop, Set, SetAt, PutAt, Clear, Seq, If, While, Pause, Par, Enter, Return, Stmts, no_stmts, more_stmts}
 use Rattle.forec_kernel.specs.Shapes.{PlainKernel}
 use Rattle.forec_kernel.specs.Values.{function_words}
 use Rattle.forec_kernel.specs.Texts.{params_in, words_in, body_of}
@@ -42,6 +42,7 @@ module _ (k : PlainKernel) (t : ℕ) (b : PlainBlock) (depths : List ℕ) where
     pars_fine Nop h p = tt
     pars_fine (Set to e) h p = tt
     pars_fine (SetAt x n i e place) h p = tt
+    pars_fine (PutAt v n i e place) h p = tt
     pars_fine (Clear x n) h p = tt
     pars_fine (Seq list) h p = all_pars_fine list h p
     pars_fine (If e x y) h p = (pars_fine x h.1 (each_front (FinePar k t) (pars_of x) (pars_of y) p), pars_fine y h.2 (each_back (FinePar k t) (pars_of x) (pars_of y) p))
@@ -73,6 +74,7 @@ module _ (k : PlainKernel) (z : Scope) (b : PlainBlock) (depths : List ℕ) wher
     no_pars Nop h = tt
     no_pars (Set to e) h = tt
     no_pars (SetAt x n i e place) h = tt
+    no_pars (PutAt v n i e place) h = tt
     no_pars (Clear x n) h = tt
     no_pars (Seq list) h = none_have_pars list h
     no_pars (If e x y) h = (no_pars x h.1, no_pars y h.2)
@@ -91,6 +93,7 @@ mutual
   no_flags z Nop h = refl
   no_flags z (Set to e) h = refl
   no_flags z (SetAt x n i e place) h = refl
+  no_flags z (PutAt v n i e place) h = refl
   no_flags z (Clear x n) h = refl
   no_flags z (Seq list) h = none_have_flags z list h
   no_flags z (If e x y) h = omega (arith, no_flags z x h.1, no_flags z y h.2)

@@ -1,6 +1,6 @@
 -- The code of a kernel: a block for each thread and each int function.
 use Rattle.std.specs.Prelude.{ℕ, suc, ◌+◌, max, Bool, true, false, pos, Option, Some, None, List, [], ◌∷◌, ◌++◌}
-use Rattle.forec_kernel.specs.Terms.{Stmt, Nop, Set, SetAt, Clear, Seq, If, While, Pause, Par, Enter, Return, Stmts, no_stmts, more_stmts}
+use Rattle.forec_kernel.specs.Terms.{Stmt, Nop, Set, SetAt, PutAt, Clear, Seq, If, While, Pause, Par, Enter, Return, Stmts, no_stmts, more_stmts}
 use Rattle.forec_kernel.specs.Shapes.{PlainThread, PlainKernel}
 use Rattle.forec_kernel.specs.Values.{function_words}
 use Rattle.forec_kernel.specs.Texts.{words_of, params_of}
@@ -20,6 +20,7 @@ abbrev mutual
   counters_in Nop = 0
   counters_in (Set to e) = 0
   counters_in (SetAt x n i e place) = 0
+  counters_in (PutAt v n i e place) = 0
   counters_in (Clear x n) = 0
   counters_in (Seq list) = counters_of list
   counters_in (If e then other) = max (counters_in then) (counters_in other)
@@ -43,6 +44,7 @@ abbrev mutual
   flags_in Nop = 0
   flags_in (Set to e) = 0
   flags_in (SetAt x n i e place) = 0
+  flags_in (PutAt v n i e place) = 0
   flags_in (Clear x n) = 0
   flags_in (Seq list) = flags_of list
   flags_in (If e then other) = max (flags_in then) (flags_in other)

@@ -1,6 +1,6 @@
 -- The instructions of an expression, from an address of its block on: they leave its number on the stack.
 use Rattle.std.specs.Prelude.{ℕ, ◌+◌, pos, List, [], ◌∷◌, ◌++◌, length}
-use Rattle.forec_kernel.specs.Terms.{Expr, Num, Local, LocalAt, Var, TableAt, Un, Bin, And, Or, Choose, Call, Exprs, no_exprs, more_exprs}
+use Rattle.forec_kernel.specs.Terms.{Expr, Num, Local, LocalAt, Var, SharedAt, TableAt, Un, Bin, And, Or, Choose, Call, Exprs, no_exprs, more_exprs}
 use Rattle.thread_code.specs.declared.instruction.Instruction.{Instruction}
 use Rattle.thread_code.specs.declared.instruction.Instruction.TheVariants as instruction
 
@@ -10,6 +10,7 @@ abbrev mutual
   expression_code p (Local x) = instruction.Load x ∷ []
   expression_code p (LocalAt x n i place) = expression_code p i ++ instruction.LoadAt x n place ∷ []
   expression_code p (Var v) = instruction.Get v ∷ []
+  expression_code p (SharedAt v n i place) = expression_code p i ++ instruction.GetAt v n place ∷ []
   expression_code p (TableAt t i place) = expression_code p i ++ instruction.Table t place ∷ []
   expression_code p (Un op a) = expression_code p a ++ instruction.Unary op ∷ []
   expression_code p (Bin op a b place) =

@@ -1,6 +1,6 @@
 -- How many instructions code has, wherever it stands.
 use Rattle.std.specs.Prelude.{ℕ, ◌+◌, ◌*◌, Bool, cond, Option, Some, None, List, [], ◌∷◌, ◌++◌}
-use Rattle.forec_kernel.specs.Terms.{Expr, Num, Local, LocalAt, Var, TableAt, Un, Bin, And, Or, Choose, Call, Exprs, no_exprs, more_exprs, Branch, Stmt, Nop, Set, SetAt, Clear, Seq, If, While, Pause, Par, Enter, Return, Stmts, no_stmts, more_stmts}
+use Rattle.forec_kernel.specs.Terms.{Expr, Num, Local, LocalAt, Var, SharedAt, TableAt, Un, Bin, And, Or, Choose, Call, Exprs, no_exprs, more_exprs, Branch, Stmt, Nop, Set, SetAt, PutAt, Clear, Seq, If, While, Pause, Par, Enter, Return, Stmts, no_stmts, more_stmts}
 
 abbrev mutual
   pub expression_length : Expr → ℕ
@@ -8,6 +8,7 @@ abbrev mutual
   expression_length (Local x) = 1
   expression_length (LocalAt x n i place) = expression_length i + 1
   expression_length (Var v) = 1
+  expression_length (SharedAt v n i place) = expression_length i + 1
   expression_length (TableAt t i place) = expression_length i + 1
   expression_length (Un op a) = expression_length a + 1
   expression_length (Bin op a b place) = expression_length a + expression_length b + 1
@@ -42,6 +43,7 @@ abbrev mutual
   statement_length c w Nop = 0
   statement_length c w (Set to e) = expression_length e + 1
   statement_length c w (SetAt x n i e place) = expression_length i + expression_length e + 1
+  statement_length c w (PutAt v n i e place) = expression_length i + expression_length e + 1
   statement_length c w (Clear x n) = 1
   statement_length c w (Seq list) = statements_length c w list
   statement_length c w (If e a b) = expression_length e + (statement_length c w a + statement_length c w b) + 2
@@ -67,6 +69,7 @@ abbrev mutual
   aborts_in c w Nop = []
   aborts_in c w (Set to e) = []
   aborts_in c w (SetAt x n i e place) = []
+  aborts_in c w (PutAt v n i e place) = []
   aborts_in c w (Clear x n) = []
   aborts_in c w (Seq list) = aborts_of c w list
   aborts_in c w (If e a b) = aborts_in c w a ++ aborts_in c w b

@@ -3,7 +3,7 @@ use Rattle.std.specs.Prelude.{ℕ, zero, suc, ◌+◌, Bool, true, false, Option
 use Rattle.forec_base.specs.declared.Place.{Place}
 use Rattle.forec_kernel.specs.declared.terms.Spot.{Spot}
 use Rattle.forec_kernel.specs.declared.terms.Spot.TheVariants as spot
-use Rattle.forec_kernel.specs.Terms.{Expr, Branch, Stmt, Nop, Set, SetAt, Clear, Seq, If, While, Pause, Par, Enter, Return, Stmts, no_stmts, more_stmts}
+use Rattle.forec_kernel.specs.Terms.{Expr, Branch, Stmt, Nop, Set, SetAt, PutAt, Clear, Seq, If, While, Pause, Par, Enter, Return, Stmts, no_stmts, more_stmts}
 use Rattle.forec_kernel.specs.Shapes.{PlainThread}
 use Rattle.thread_code.specs.declared.instruction.Instruction.{Instruction}
 use Rattle.thread_code.specs.declared.instruction.Instruction.TheVariants as instruction
@@ -142,6 +142,9 @@ abbrev mutual
   statement_code ts a p (SetAt x n i e place) =
       let index = expression_code p i in
       index ++ (expression_code (p + length index) e ++ instruction.StoreAt x n place ∷ [])
+  statement_code ts a p (PutAt v n i e place) =
+      let index = expression_code p i in
+      index ++ (expression_code (p + length index) e ++ instruction.PutAt v n place ∷ [])
   statement_code ts a p (Clear x n) = instruction.Clear x n ∷ []
   statement_code ts a p (Seq list) = statements_code ts a p list
   statement_code ts a p (If e then other) = if_code p (expression_code p e) (λ q. statement_code ts a q then) (λ r. statement_code ts a r other)

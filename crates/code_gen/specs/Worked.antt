@@ -1,10 +1,10 @@
--- A worked kernel: an abort round a loop with a bound and a par, whose branch is an abort round a pause.
+-- Worked kernels: an abort round a loop with a bound and a par, whose branch is an abort round a pause; and an element of a shared array that is set.
 use Rattle.std.specs.Prelude.{pos, true, false, Some, None, [], ◌∷◌, codes}
 use Rattle.forec_base.specs.declared.Place.{Place}
 use Rattle.forec_base.specs.declared.Policy.TheVariants as policy
 use Rattle.forec_base.specs.declared.operators.Binary.TheVariants as binary
 use Rattle.forec_kernel.specs.declared.terms.Spot.TheVariants as spot
-use Rattle.forec_kernel.specs.Terms.{Num, Var, Bin, no_exprs, Stmt, Set, Seq, While, Pause, Par, Enter, no_stmts, more_stmts}
+use Rattle.forec_kernel.specs.Terms.{Num, Local, Var, SharedAt, Bin, no_exprs, Stmt, Set, PutAt, Seq, While, Pause, Par, Enter, no_stmts, more_stmts}
 use Rattle.forec_kernel.specs.Shapes.{PlainKernel, PlainShape}
 
 abbrev pub at : Place
@@ -53,3 +53,29 @@ surrounded_shape =
 
 abbrev pub surrounded : PlainKernel
 surrounded = record { shape = surrounded_shape; threads = main_body ∷ branch_body ∷ []; functions = [] }
+
+-- `h[i] = h[i] + 1;`, where i is word 0, and h has three elements, the variables from 1 on
+abbrev pub element_adds_one : Stmt
+element_adds_one = PutAt 1 3 (Local 0) (Bin binary.Add (SharedAt 1 3 (Local 0) at) (Num (pos 1)) None) at
+
+abbrev pub three_elements : PlainKernel
+three_elements =
+    record {
+      shape =
+          record {
+            threads = record { parent = None; par = None; name = None; params = 0; words = 1; uses = 0 ∷ 1 ∷ 2 ∷ 3 ∷ [] } ∷ [];
+            variables =
+                record { policy = policy.All; combine = None; start = pos 0; input = true }
+                ∷ record { policy = policy.All; combine = None; start = pos 0; input = false }
+                ∷ record { policy = policy.All; combine = None; start = pos 0; input = false }
+                ∷ record { policy = policy.All; combine = None; start = pos 0; input = false }
+                ∷ [];
+            functions = [];
+            tables = [];
+            inputs = 0 ∷ [];
+            outputs = 1 ∷ 2 ∷ 3 ∷ [];
+            names = codes "r" ∷ codes "h[0]" ∷ codes "h[1]" ∷ codes "h[2]" ∷ [];
+          };
+      threads = element_adds_one ∷ [];
+      functions = [];
+    }

@@ -2,11 +2,12 @@
 
 ghost use Rattle.std.specs.Prelude.{◌≡◌, ◌+◌, [], ◌∷◌, ◌++◌, length, OnOk, IfOk};
 ghost use Rattle.forec_kernel.specs.Plain.{expr, exprs};
+ghost use Rattle.forec_kernel.specs.Terms.{LocalAt, SharedAt};
 ghost use Rattle.thread_code.specs.declared.instruction.Instruction.TheVariants.{Truth, Jump, Quiet};
 ghost use Rattle.code_gen.specs.Expressions.{expression_code, expressions_code};
 
 use crate::writing::{address, put};
-use forec_base::OutOfMemory;
+use forec_base::{OutOfMemory, Place};
 use forec_kernel::Expression;
 use thread_code::Instruction;
 
@@ -26,21 +27,19 @@ pub fn emit_expression(
             length,
             index,
             place,
-        } => {
-            emit_expression(steps, index)?;
-            let element = Instruction::LoadAt {
-                slot: *slot,
-                length: *length,
-                place: *place,
-            };
-            put(steps, element)
-        }
+        } => emit_local_at(steps, *slot, *length, index, *place),
         Expression::Variable { variable } => put(
             steps,
             Instruction::Get {
                 variable: *variable,
             },
         ),
+        Expression::SharedAt {
+            variable,
+            length,
+            index,
+            place,
+        } => emit_shared_at(steps, *variable, *length, index, *place),
         Expression::TableAt {
             table,
             index,
@@ -113,6 +112,50 @@ pub fn emit_expression(
             )
         }
     }
+}
+
+#[cycle(expression)]
+fn emit_local_at(
+    steps: &mut Vec<Instruction>,
+    slot: u32,
+    size: u32,
+    index: &Expression,
+    place: Place,
+) -> Result<(), OutOfMemory>
+    ensures { OnOk result (steps.new.items
+        ≡ steps.old.items ++ expression_code (length steps.old.items) (LocalAt slot size (expr index.now) place)) }
+{
+    emit_expression(steps, index)?;
+    put(
+        steps,
+        Instruction::LoadAt {
+            slot,
+            length: size,
+            place,
+        },
+    )
+}
+
+#[cycle(expression)]
+fn emit_shared_at(
+    steps: &mut Vec<Instruction>,
+    first: u32,
+    count: u32,
+    index: &Expression,
+    place: Place,
+) -> Result<(), OutOfMemory>
+    ensures { OnOk result (steps.new.items
+        ≡ steps.old.items ++ expression_code (length steps.old.items) (SharedAt first count (expr index.now) place)) }
+{
+    emit_expression(steps, index)?;
+    put(
+        steps,
+        Instruction::GetAt {
+            variable: first,
+            length: count,
+            place,
+        },
+    )
 }
 
 /// Behind the sides of an `and` or an `or`: the right side becomes 0 or 1. The result is the address that

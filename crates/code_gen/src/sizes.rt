@@ -21,7 +21,9 @@ fn expression_size(expression: &Expression) -> Result<u32, OutOfMemory>
 {
     match expression {
         Expression::Number { .. } | Expression::Local { .. } | Expression::Variable { .. } => Ok(1),
-        Expression::LocalAt { index, .. } | Expression::TableAt { index, .. } => {
+        Expression::LocalAt { index, .. }
+        | Expression::SharedAt { index, .. }
+        | Expression::TableAt { index, .. } => {
             let inside = expression_size(index)?;
             add(inside, 1)
         }
@@ -109,7 +111,7 @@ pub fn statement_size(
             let inside = expression_size(value)?;
             add(inside, 1)
         }
-        Statement::SetAt { index, value, .. } => {
+        Statement::SetAt { index, value, .. } | Statement::PutAt { index, value, .. } => {
             let first = expression_size(index)?;
             let second = expression_size(value)?;
             let sides = add(first, second)?;

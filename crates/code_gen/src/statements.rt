@@ -3,10 +3,10 @@
 ghost use Rattle.std.specs.Prelude.{◌≡◌, ◌+◌, [], ◌∷◌, ◌++◌, length, map, OnOk, IfOk};
 ghost use Rattle.forec_kernel.specs.Plain.{expr, exprs, stmt, stmts, branch};
 ghost use Rattle.forec_kernel.specs.Shapes.{plain_thread};
-ghost use Rattle.forec_kernel.specs.Terms.{While, Enter};
+ghost use Rattle.forec_kernel.specs.Terms.{SetAt, PutAt, While, Enter};
 ghost use Rattle.code_gen.specs.Statements.{loops, weaks, checks, prologue, wait_code, pause_code, fork_code, set_code, entry_code, par_number, arguments_code};
 ghost use Rattle.code_gen.specs.Arounds.{plain_around, perhaps};
-ghost use Rattle.code_gen.specs.StatementCode.{code_within, codes_within, loop_within};
+ghost use Rattle.code_gen.specs.StatementCode.{assignment_code, code_within, codes_within, loop_within};
 
 use crate::around::{Around, Surroundings};
 use crate::expressions::{emit_expression, emit_expressions};
@@ -190,6 +190,52 @@ fn emit_arguments(steps: &mut Vec<Instruction>, branches: &[Launch]) -> Result<(
     Ok(())
 }
 
+fn emit_set_at(
+    steps: &mut Vec<Instruction>,
+    slot: u32,
+    size: u32,
+    index: &Expression,
+    value: &Expression,
+    place: Place,
+) -> Result<(), OutOfMemory>
+    ensures { OnOk result (steps.new.items ≡ steps.old.items
+        ++ assignment_code (length steps.old.items) (SetAt slot size (expr index.now) (expr value.now) place)) }
+{
+    emit_expression(steps, index)?;
+    emit_expression(steps, value)?;
+    put(
+        steps,
+        Instruction::StoreAt {
+            slot,
+            length: size,
+            place,
+        },
+    )
+}
+
+fn emit_put_at(
+    steps: &mut Vec<Instruction>,
+    first: u32,
+    count: u32,
+    index: &Expression,
+    value: &Expression,
+    place: Place,
+) -> Result<(), OutOfMemory>
+    ensures { OnOk result (steps.new.items ≡ steps.old.items
+        ++ assignment_code (length steps.old.items) (PutAt first count (expr index.now) (expr value.now) place)) }
+{
+    emit_expression(steps, index)?;
+    emit_expression(steps, value)?;
+    put(
+        steps,
+        Instruction::PutAt {
+            variable: first,
+            length: count,
+            place,
+        },
+    )
+}
+
 /// The start of an abort, whose body has so many instructions. The result is the address after it.
 fn emit_entry(
     steps: &mut Vec<Instruction>,
@@ -346,16 +392,14 @@ impl Emitter {
                 index,
                 value,
                 place,
-            } => {
-                emit_expression(&mut self.steps, index)?;
-                emit_expression(&mut self.steps, value)?;
-                let element = Instruction::StoreAt {
-                    slot: *slot,
-                    length: *length,
-                    place: *place,
-                };
-                put(&mut self.steps, element)
-            }
+            } => emit_set_at(&mut self.steps, *slot, *length, index, value, *place),
+            Statement::PutAt {
+                variable,
+                length,
+                index,
+                value,
+                place,
+            } => emit_put_at(&mut self.steps, *variable, *length, index, value, *place),
             Statement::Clear { slot, length } => {
                 let clear = Instruction::Clear {
                     slot: *slot,

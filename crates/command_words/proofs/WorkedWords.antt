@@ -1,34 +1,36 @@
 -- What some words mean.
-use Rattle.std.proofs.Common.{◌≡◌, refl, List, ℕ, [], ◌∷◌, Option, Some, None, codes}
+use Rattle.std.proofs.Common.{◌≡◌, refl, List, ℕ, true, false, [], ◌∷◌, Option, Some, None, codes}
 use Rattle.clap.proofs.OnLiterals.{clap_on_literals}
 use Rattle.clap.specs.Words.{Text}
 use Rattle.command_words.specs.CommandLine.{command_line}
+use Rattle.command_words.specs.declared.request.Budget.{Budget}
+use Rattle.command_words.specs.declared.request.Budget.TheVariants as budget
 use Rattle.command_words.specs.Requests.{PlainPlacing, PlainRunning, PlainRequest, OnText, OnWorkload, Run, Check, Threads, Code, Explain, request_of}
 
 placed : ℕ → Option Text → PlainPlacing
 placed cores list = record { cores = cores; list = list }
 
-running : ℕ → Option Text → ℕ → PlainRunning
+running : ℕ → Option Text → Budget → PlainRunning
 running cores list budget = record { placing = placed cores list; budget = budget }
 
-alone : request_of (codes "run" ∷ codes "p" ∷ []) ≡ Some (OnText (codes "p") (Run (running 1 None 10000000)))
+alone : request_of (codes "run" ∷ codes "p" ∷ []) ≡ Some (OnText (codes "p") (Run (running 1 None (budget.Units 10000000))) false)
 unfolding request_of running placed command_line clap_on_literals
 alone = refl
 
 options_anywhere : request_of (codes "run" ∷ codes "--cores=2" ∷ codes "p" ∷ codes "--place" ∷ codes "0,1,1" ∷ [])
-    ≡ Some (OnText (codes "p") (Run (running 2 (Some (codes "0,1,1")) 10000000)))
+    ≡ Some (OnText (codes "p") (Run (running 2 (Some (codes "0,1,1")) (budget.Units 10000000))) false)
 unfolding request_of running placed command_line clap_on_literals
 options_anywhere = refl
 
-behind_dashes : request_of (codes "run" ∷ codes "--" ∷ codes "--budget" ∷ []) ≡ Some (OnText (codes "--budget") (Run (running 1 None 10000000)))
+behind_dashes : request_of (codes "run" ∷ codes "--" ∷ codes "--budget" ∷ []) ≡ Some (OnText (codes "--budget") (Run (running 1 None (budget.Units 10000000))) false)
 unfolding request_of running placed command_line clap_on_literals
 behind_dashes = refl
 
-leading_zeros : request_of (codes "threads" ∷ codes "p" ∷ codes "--cores" ∷ codes "02" ∷ []) ≡ Some (OnText (codes "p") (Threads (placed 2 None)))
+leading_zeros : request_of (codes "threads" ∷ codes "p" ∷ codes "--cores" ∷ codes "02" ∷ []) ≡ Some (OnText (codes "p") (Threads (placed 2 None)) false)
 unfolding request_of running placed command_line clap_on_literals
 leading_zeros = refl
 
-workload : request_of (codes "gen" ∷ codes "007" ∷ codes "--budget" ∷ codes "9" ∷ []) ≡ Some (OnWorkload 7 (running 1 None 9))
+workload : request_of (codes "gen" ∷ codes "007" ∷ codes "--budget" ∷ codes "9" ∷ []) ≡ Some (OnWorkload 7 (running 1 None (budget.Units 9)))
 unfolding request_of running placed command_line clap_on_literals
 workload = refl
 
@@ -48,7 +50,7 @@ cores_too_many : request_of (codes "run" ∷ codes "p" ∷ codes "--cores" ∷ c
 unfolding request_of running placed command_line clap_on_literals
 cores_too_many = refl
 
-checked : request_of (codes "check" ∷ codes "p" ∷ []) ≡ Some (OnText (codes "p") Check)
+checked : request_of (codes "check" ∷ codes "p" ∷ []) ≡ Some (OnText (codes "p") Check false)
 unfolding request_of running placed command_line clap_on_literals
 checked = refl
 
@@ -60,10 +62,58 @@ no_program : request_of (codes "run" ∷ []) ≡ None
 unfolding request_of running placed command_line clap_on_literals
 no_program = refl
 
-explained : request_of (codes "explain" ∷ codes "p" ∷ codes "--order" ∷ codes "7" ∷ []) ≡ Some (OnText (codes "p") (Explain 10000000 7))
+explained : request_of (codes "explain" ∷ codes "p" ∷ codes "--order" ∷ codes "7" ∷ []) ≡ Some (OnText (codes "p") (Explain (budget.Units 10000000) 7) false)
 unfolding request_of running placed command_line clap_on_literals
 explained = refl
 
 explained_on_cores : request_of (codes "explain" ∷ codes "p" ∷ codes "--cores" ∷ codes "2" ∷ []) ≡ None
 unfolding request_of running placed command_line clap_on_literals
 explained_on_cores = refl
+
+bounded : request_of (codes "run" ∷ codes "p" ∷ codes "--budget" ∷ codes "bound" ∷ []) ≡ Some (OnText (codes "p") (Run (running 1 None budget.Bound)) false)
+unfolding request_of running placed command_line clap_on_literals
+bounded = refl
+
+bounded_behind_an_equals_sign : request_of (codes "explain" ∷ codes "--budget=bound" ∷ codes "p" ∷ []) ≡ Some (OnText (codes "p") (Explain budget.Bound 0) false)
+unfolding request_of command_line clap_on_literals
+bounded_behind_an_equals_sign = refl
+
+bounded_workload : request_of (codes "gen" ∷ codes "7" ∷ codes "--budget" ∷ codes "bound" ∷ []) ≡ Some (OnWorkload 7 (running 1 None budget.Bound))
+unfolding request_of running placed command_line clap_on_literals
+bounded_workload = refl
+
+capital_bound : request_of (codes "run" ∷ codes "p" ∷ codes "--budget" ∷ codes "Bound" ∷ []) ≡ None
+unfolding request_of running placed command_line clap_on_literals
+capital_bound = refl
+
+threads_of_a_bound : request_of (codes "threads" ∷ codes "p" ∷ codes "--budget" ∷ codes "bound" ∷ []) ≡ None
+unfolding request_of running placed command_line clap_on_literals
+threads_of_a_bound = refl
+
+folded : request_of (codes "run" ∷ codes "--fold" ∷ codes "p" ∷ []) ≡ Some (OnText (codes "p") (Run (running 1 None (budget.Units 10000000))) true)
+unfolding request_of running placed command_line clap_on_literals
+folded = refl
+
+folded_code : request_of (codes "code" ∷ codes "p" ∷ codes "--fold" ∷ []) ≡ Some (OnText (codes "p") Code true)
+unfolding request_of command_line clap_on_literals
+folded_code = refl
+
+folded_threads : request_of (codes "threads" ∷ codes "p" ∷ codes "--cores=2" ∷ codes "--fold" ∷ []) ≡ Some (OnText (codes "p") (Threads (placed 2 None)) true)
+unfolding request_of placed command_line clap_on_literals
+folded_threads = refl
+
+folded_with_a_value : request_of (codes "run" ∷ codes "p" ∷ codes "--fold=x" ∷ []) ≡ None
+unfolding request_of command_line clap_on_literals
+folded_with_a_value = refl
+
+folded_twice : request_of (codes "run" ∷ codes "p" ∷ codes "--fold" ∷ codes "--fold" ∷ []) ≡ None
+unfolding request_of command_line clap_on_literals
+folded_twice = refl
+
+folded_check : request_of (codes "check" ∷ codes "p" ∷ codes "--fold" ∷ []) ≡ None
+unfolding request_of command_line clap_on_literals
+folded_check = refl
+
+folded_workload : request_of (codes "gen" ∷ codes "7" ∷ codes "--fold" ∷ []) ≡ None
+unfolding request_of command_line clap_on_literals
+folded_workload = refl

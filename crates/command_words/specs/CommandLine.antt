@@ -1,13 +1,18 @@
 -- The command line as one simple command of clap, and what words mean to it.
-use Rattle.std.specs.Prelude.{true, List, Option, Some, codes, option_map}
+use Rattle.std.specs.Prelude.{Bool, true, false, List, Option, None, Some, nat_eq, codes, option_map}
+use Rattle.std.specs.Cmp.Lexicographic.{pointwise}
 use Rattle.clap.specs.Words.{App, Kinds, Rule, Text, fault_of, first_of, matches_of, new_app, new_rule, with_rule}
 use Rattle.clap.specs.Simple.{on_top}
-use Rattle.clap.specs.declared.builder.ArgAction.TheVariants.{Set}
+use Rattle.clap.specs.declared.builder.ArgAction.TheVariants.{Set, SetTrue}
 use Rattle.command_words.specs.declared.values.Values.{Values}
 
 -- an option that takes one value, and is given at most once
 abbrev pub option_rule : Text → Rule
 option_rule id = record (new_rule id) { long = Some id; action = Some Set }
+
+-- an option without a value, which is given at most once
+abbrev pub flag_rule : Text → Rule
+flag_rule id = record (new_rule id) { long = Some id; action = Some SetTrue }
 
 -- a word that must be there
 abbrev pub word_rule : Text → Rule
@@ -17,9 +22,10 @@ abbrev pub bared : App → App
 bared = on_top (λ s. record s { no_binary_name = true; disable_help_flag = true; disable_version_flag = true })
 
 unfoldable pub command_line : App
-command_line = bared (with_rule (with_rule (with_rule (with_rule (with_rule (with_rule (new_app (codes "forec"))
+command_line = bared (with_rule (with_rule (with_rule (with_rule (with_rule (with_rule (with_rule (new_app (codes "forec"))
     (word_rule (codes "command"))) (word_rule (codes "program")))
     (option_rule (codes "cores"))) (option_rule (codes "place"))) (option_rule (codes "budget"))) (option_rule (codes "order")))
+    (flag_rule (codes "fold")))
 
 -- why clap refuses the words; none where it doesn't
 abbrev pub kinds_of : List Text → Kinds
@@ -29,6 +35,14 @@ kinds_of words = fault_of command_line words
 abbrev pub value_of : List Text → Text → Option Text
 value_of words id = first_of id (matches_of command_line words)
 
+abbrev pub is_word : Text → Text → Bool
+is_word word other = pointwise nat_eq word other
+
+-- what clap keeps of a flag: `true` where it is given, else `false`
+abbrev pub is_set : Option Text → Bool
+is_set None = false
+is_set (Some word) = is_word word (codes "true")
+
 pub record PlainValues : Type 0 where
   pub command : Option Text
   pub program : Option Text
@@ -36,6 +50,7 @@ pub record PlainValues : Type 0 where
   pub place : Option Text
   pub budget : Option Text
   pub order : Option Text
+  pub fold : Bool
 
 -- the value of each name in the words
 abbrev pub values_of : List Text → PlainValues
@@ -47,6 +62,7 @@ values_of words =
       place = value_of words (codes "place");
       budget = value_of words (codes "budget");
       order = value_of words (codes "order");
+      fold = is_set (value_of words (codes "fold"));
     }
 
 -- values, as texts
@@ -59,4 +75,5 @@ plain_values v =
       place = option_map (λ s. s.now) v.place;
       budget = option_map (λ s. s.now) v.budget;
       order = option_map (λ s. s.now) v.order;
+      fold = v.fold;
     }

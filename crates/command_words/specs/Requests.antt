@@ -1,11 +1,12 @@
 -- What words ask for.
-use Rattle.std.specs.Prelude.{ℕ, Bool, not, ◌&&◌, ◌||◌, cond, is_some, is_none, Option, None, Some, option_map, option_and_then, List, [], ◌∷◌, nat_eq, if◌then◌else◌, codes}
-use Rattle.std.specs.Cmp.Lexicographic.{pointwise}
+use Rattle.std.specs.Prelude.{ℕ, Bool, not, ◌&&◌, ◌||◌, cond, is_some, is_none, Option, None, Some, option_map, option_and_then, List, [], ◌∷◌, if◌then◌else◌, codes}
 use Rattle.clap.specs.Words.{Kinds, Text}
 use Rattle.forec_base.specs.declared.limits.TheConstants.{MAX_CORES, MAX_BUDGET}
-use Rattle.command_words.specs.CommandLine.{PlainValues, kinds_of, values_of}
+use Rattle.command_words.specs.CommandLine.{PlainValues, is_word, kinds_of, values_of}
 use Rattle.command_words.specs.Numbers.{number_in, number_or}
 use Rattle.command_words.specs.declared.request.TheConstants.{DEFAULT_BUDGET, MAX_ORDER, MAX_WORKLOAD}
+use Rattle.command_words.specs.declared.request.Budget.{Budget}
+use Rattle.command_words.specs.declared.request.Budget.TheVariants as budget
 use Rattle.command_words.specs.declared.request.Placing.{Placing}
 use Rattle.command_words.specs.declared.request.Running.{Running}
 use Rattle.command_words.specs.declared.request.Command.{Command}
@@ -20,17 +21,18 @@ pub record PlainPlacing : Type 0 where
 
 pub record PlainRunning : Type 0 where
   pub placing : PlainPlacing
-  pub budget : ℕ
+  pub budget : Budget
 
 pub data PlainCommand : Type 0 where
   Run : PlainRunning → PlainCommand
   Check : PlainCommand
   Threads : PlainPlacing → PlainCommand
   Code : PlainCommand
-  Explain : (budget order : ℕ) → PlainCommand
+  Explain : (budget : Budget) (order : ℕ) → PlainCommand
 
+-- a command on a program, whose kernel is folded or not; or a workload
 pub data PlainRequest : Type 0 where
-  OnText : (program : Text) → PlainCommand → PlainRequest
+  OnText : (program : Text) → PlainCommand → (fold : Bool) → PlainRequest
   OnWorkload : (threads : ℕ) → PlainRunning → PlainRequest
 
 -- ---- of the values of words
@@ -38,8 +40,17 @@ pub data PlainRequest : Type 0 where
 abbrev pub placing_of : PlainValues → Option PlainPlacing
 placing_of v = option_map (λ cores. record { cores = cores; list = v.place }) (number_or 1 1 MAX_CORES v.cores)
 
-abbrev pub budget_of : PlainValues → Option ℕ
-budget_of v = number_or DEFAULT_BUDGET 1 MAX_BUDGET v.budget
+-- the budget of a word: the bound of the program, or so many units
+abbrev pub budget_in : Text → Option Budget
+budget_in word = if is_word word (codes "bound") then Some budget.Bound else option_map budget.Units (number_in 1 MAX_BUDGET word)
+
+-- the same, or the usual one where there is no word
+abbrev pub budget_or : Option Text → Option Budget
+budget_or None = Some (budget.Units DEFAULT_BUDGET)
+budget_or (Some word) = budget_in word
+
+abbrev pub budget_of : PlainValues → Option Budget
+budget_of v = budget_or v.budget
 
 abbrev pub order_of : PlainValues → Option ℕ
 order_of v = number_or 0 0 MAX_ORDER v.order
@@ -59,25 +70,29 @@ explaining_of v = cond (is_some v.cores || is_some v.place) None (option_and_the
 abbrev pub has_no_options : PlainValues → Bool
 has_no_options v = is_none v.cores && (is_none v.place && (is_none v.budget && is_none v.order))
 
-abbrev pub is_word : Text → Text → Bool
-is_word word other = pointwise nat_eq word other
+-- nor is the kernel to be folded
+abbrev pub is_bare : PlainValues → Bool
+is_bare v = has_no_options v && not v.fold
 
 abbrev pub command_of : Text → PlainValues → Option PlainCommand
 command_of name v =
     if is_word name (codes "run") then option_map Run (running_of v)
     else (if is_word name (codes "threads") then option_map Threads (placing_alone_of v)
     else (if is_word name (codes "explain") then explaining_of v
-    else (if is_word name (codes "check") then cond (has_no_options v) (Some Check) None
+    else (if is_word name (codes "check") then cond (is_bare v) (Some Check) None
     else (if is_word name (codes "code") then cond (has_no_options v) (Some Code) None
     else None))))
 
--- a workload of 1 to 255 threads
+-- a workload of 1 to 255 threads, which isn't folded
 abbrev pub workload_of : Text → PlainValues → Option PlainRequest
-workload_of number v = option_and_then (λ n. option_map (OnWorkload n) (running_of v)) (number_in 1 MAX_WORKLOAD number)
+workload_of number v = cond v.fold None (option_and_then (λ n. option_map (OnWorkload n) (running_of v)) (number_in 1 MAX_WORKLOAD number))
+
+abbrev pub text_request_of : Text → Text → PlainValues → Option PlainRequest
+text_request_of name program v = option_map (λ c. OnText program c v.fold) (command_of name v)
 
 abbrev pub request_named : Text → Text → PlainValues → Option PlainRequest
 request_named name program v =
-    if is_word name (codes "gen") then workload_of program v else option_map (OnText program) (command_of name v)
+    if is_word name (codes "gen") then workload_of program v else text_request_of name program v
 
 abbrev pub request_by : PlainValues → Option PlainRequest
 request_by v = option_and_then (λ name. option_and_then (λ program. request_named name program v) v.program) v.command
@@ -106,5 +121,5 @@ plain_command command.Code = Code
 plain_command (command.Explain b n) = Explain b n
 
 abbrev pub plain_request : Request → PlainRequest
-plain_request (request.Text program c) = OnText program.now (plain_command c)
+plain_request (request.Text program c fold) = OnText program.now (plain_command c) fold
 plain_request (request.Workload n r) = OnWorkload n (plain_running r)

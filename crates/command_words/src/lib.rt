@@ -11,4 +11,6 @@ mod values;
 
 pub use fault::WordsFault;
 pub use reading::read_words;
-pub use request::{Command, DEFAULT_BUDGET, MAX_ORDER, MAX_WORKLOAD, Placing, Request, Running};
+pub use request::{
+    Budget, Command, DEFAULT_BUDGET, MAX_ORDER, MAX_WORKLOAD, Placing, Request, Running,
+};

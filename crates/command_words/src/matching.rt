@@ -1,8 +1,8 @@
 //! What `clap` makes of the words: a value for each name.
 
-ghost use Rattle.std.specs.Prelude.{◌≡◌, ◌≢◌, [], IfOk, IfErr, Err, map, codes, string_bytes, false};
+ghost use Rattle.std.specs.Prelude.{◌≡◌, ◌≢◌, [], IfOk, IfErr, Err, map, codes, string_bytes, option_map, false};
 ghost use Rattle.clap.specs.Words.{app_of, rule_of, with_rule};
-ghost use Rattle.command_words.specs.CommandLine.{bared, word_rule, option_rule, command_line, kinds_of, values_of, plain_values};
+ghost use Rattle.command_words.specs.CommandLine.{bared, word_rule, option_rule, flag_rule, is_set, command_line, kinds_of, values_of, plain_values};
 ghost use Rattle.command_words.specs.declared.fault.WordsFault.TheVariants as fault;
 
 use crate::fault::WordsFault;
@@ -25,6 +25,24 @@ fn option<'a>(alloc: Global, id: &'a str) -> Arg<'a>
     ensures local { result.global ≡ false }
 {
     Arg::new(alloc, id).long(id).action(ArgAction::Set)
+}
+
+/// An option without a value.
+fn flag<'a>(alloc: Global, id: &'a str) -> Arg<'a>
+    ensures rule { rule_of result ≡ flag_rule id.entry.now }
+    ensures local { result.global ≡ false }
+{
+    Arg::new(alloc, id).long(id).action(ArgAction::SetTrue)
+}
+
+/// Whether a flag is given, by the word that `clap` keeps of it.
+fn is_given(word: Option<&str>) -> bool
+    ensures { result ≡ is_set (option_map (λ s. s.now) word.entry) }
+{
+    match word {
+        Some("true") => true,
+        _ => false,
+    }
 }
 
 fn with_arg<'a>(command: Command<'a>, arg: Arg<'a>) -> Result<Command<'a>, AllocError>
@@ -55,6 +73,7 @@ fn command<'a>(alloc: Global) -> Result<Command<'a>, AllocError>
     let command = with_arg(command, option(alloc, "place"))?;
     let command = with_arg(command, option(alloc, "budget"))?;
     let command = with_arg(command, option(alloc, "order"))?;
+    let command = with_arg(command, flag(alloc, "fold"))?;
     Ok(bare(command))
 }
 
@@ -87,6 +106,7 @@ pub fn values<'a>(alloc: Global, words: &'a [String]) -> Result<Values<'a>, Word
             place: matches.get_str("place"),
             budget: matches.get_str("budget"),
             order: matches.get_str("order"),
+            fold: is_given(matches.get_str("fold")),
         }),
         Err(error) => Err(fault(error.kind())),
     }

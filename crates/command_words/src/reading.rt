@@ -8,7 +8,9 @@ ghost use Rattle.command_words.specs.declared.fault.WordsFault.TheVariants as fa
 use crate::fault::WordsFault;
 use crate::matching::values;
 use crate::number::{in_range, or_usual};
-use crate::request::{Command, DEFAULT_BUDGET, MAX_ORDER, MAX_WORKLOAD, Placing, Request, Running};
+use crate::request::{
+    Budget, Command, DEFAULT_BUDGET, MAX_ORDER, MAX_WORKLOAD, Placing, Request, Running,
+};
 use crate::values::Values;
 use forec_base::{MAX_BUDGET, MAX_CORES};
 use std::alloc::Global;
@@ -24,6 +26,22 @@ fn placing<'a>(values: &Values<'a>) -> Option<Placing<'a>>
     })
 }
 
+/// How many units a tick may have: the number of the word, or the program's bound where the word is `bound`.
+fn budget(word: Option<&str>) -> Option<Budget>
+    ensures { result ≡ asked.budget_or (option_map (λ s. s.now) word.entry) }
+{
+    match word {
+        None => Some(Budget::Units {
+            most: DEFAULT_BUDGET,
+        }),
+        Some("bound") => Some(Budget::Bound),
+        Some(word) => {
+            let most = in_range(word, 1, MAX_BUDGET)?;
+            Some(Budget::Units { most })
+        }
+    }
+}
+
 /// How a program runs.
 fn running<'a>(values: &Values<'a>) -> Option<Running<'a>>
     ensures { option_map asked.plain_running result ≡ asked.running_of (plain_values values.now) }
@@ -32,7 +50,7 @@ fn running<'a>(values: &Values<'a>) -> Option<Running<'a>>
         return None;
     }
     let placing = placing(values)?;
-    let budget = or_usual(values.budget, DEFAULT_BUDGET, 1, MAX_BUDGET)?;
+    let budget = budget(values.budget)?;
     Some(Running { placing, budget })
 }
 
@@ -53,12 +71,12 @@ fn explaining<'a>(values: &Values<'a>) -> Option<Command<'a>>
     if values.cores.is_some() || values.place.is_some() {
         return None;
     }
-    let budget = or_usual(values.budget, DEFAULT_BUDGET, 1, MAX_BUDGET)?;
+    let budget = budget(values.budget)?;
     let order = or_usual(values.order, 0, 0, MAX_ORDER)? as u32;
     Some(Command::Explain { budget, order })
 }
 
-/// Whether no option is given.
+/// Whether no option with a value is given.
 fn is_plain(values: &Values<'_>) -> bool
     ensures { result ≡ asked.has_no_options (plain_values values.now) }
 {
@@ -66,6 +84,13 @@ fn is_plain(values: &Values<'_>) -> bool
         && values.place.is_none()
         && values.budget.is_none()
         && values.order.is_none()
+}
+
+/// Whether no option is given at all.
+fn is_bare(values: &Values<'_>) -> bool
+    ensures { result ≡ asked.is_bare (plain_values values.now) }
+{
+    is_plain(values) && !values.fold
 }
 
 /// The command of a name on a program.
@@ -82,7 +107,7 @@ fn command<'a>(name: &str, values: &Values<'a>) -> Option<Command<'a>>
             Some(Command::Threads { placing })
         }
         "explain" => explaining(values),
-        "check" if is_plain(values) => Some(Command::Check),
+        "check" if is_bare(values) => Some(Command::Check),
         "code" if is_plain(values) => Some(Command::Code),
         _ => None,
     }
@@ -92,6 +117,9 @@ fn command<'a>(name: &str, values: &Values<'a>) -> Option<Command<'a>>
 fn workload<'a>(number: &str, values: &Values<'a>) -> Option<Request<'a>>
     ensures { option_map asked.plain_request result ≡ asked.workload_of number.now (plain_values values.now) }
 {
+    if values.fold {
+        return None;
+    }
     let threads = in_range(number, 1, MAX_WORKLOAD)? as u32;
     let running = running(values)?;
     Some(Request::Workload { threads, running })
@@ -107,7 +135,11 @@ fn request<'a>(values: &Values<'a>) -> Option<Request<'a>>
         return workload(program, values);
     }
     let command = command(name, values)?;
-    Some(Request::Text { program, command })
+    Some(Request::Text {
+        program,
+        command,
+        fold: values.fold,
+    })
 }
 
 /// What the words ask for. They are those after the program's own name.

@@ -16,11 +16,20 @@ pub struct Placing<'a> {
     pub list: Option<&'a str>,
 }
 
-/// How a program runs: where its threads do, and how many units a tick may have, 1 to 2^62.
+/// How many units a tick may have.
+#[derive(Clone, Copy, Debug, PartialEq, Eq)]
+pub enum Budget {
+    /// So many, 1 to 2^62.
+    Units { most: u64 },
+    /// As many as the bound of the program.
+    Bound,
+}
+
+/// How a program runs: where its threads do, and how many units a tick may have.
 #[derive(Clone, Copy, Debug, PartialEq, Eq)]
 pub struct Running<'a> {
     pub placing: Placing<'a>,
-    pub budget: u64,
+    pub budget: Budget,
 }
 
 /// What is done with a program.
@@ -34,18 +43,19 @@ pub enum Command<'a> {
     Threads { placing: Placing<'a> },
     /// Its code is listed.
     Code,
-    /// It runs over the trace by rewriting, in an order of steps that has a number. A tick may have so many units,
-    /// 1 to 2^62.
-    Explain { budget: u64, order: u32 },
+    /// It runs over the trace by rewriting, in an order of steps that has a number. A tick may have so many units.
+    Explain { budget: Budget, order: u32 },
 }
 
 /// What words ask for.
 #[derive(Clone, Copy, Debug, PartialEq, Eq)]
 pub enum Request<'a> {
-    /// A command on the text of this name.
+    /// A command on the text of this name. `fold`: its kernel has its constants folded before the command is done;
+    /// never so where the command is [`Command::Check`].
     Text {
         program: &'a str,
         command: Command<'a>,
+        fold: bool,
     },
     /// The workload of so many threads runs, 1 to 255.
     Workload {

@@ -9,4 +9,5 @@ pub struct Values<'a> {
     pub place: Option<&'a str>,
     pub budget: Option<&'a str>,
     pub order: Option<&'a str>,
+    pub fold: bool,
 }

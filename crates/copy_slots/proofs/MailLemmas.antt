@@ -220,6 +220,7 @@ module _ {W P Q : Type 0} (plain : P → Q) (asks : W → ℕ → List Q → Typ
           box.packet,
           ap (λ (z : Role Q). posed me.0 (opened_role z)) (sym is ∙ is'),
           refl,
+          box.word_is,
           ap (λ (z : List Q). slice_get z k) h.1 ∙ box.blank,
         ),
       )

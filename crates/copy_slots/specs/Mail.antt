@@ -245,7 +245,7 @@ module _ {Q : Type 0} where
 module _ {W P Q : Type 0} where
   abbrev pub opened : (P → Q) → Step (Option P) → Me (Option P) (View W Q) → ℕ → Me (Option P) (View W Q) → Type 0
   opened plain st m found n = (x : Sender Q) (c : Option (Taker Q)) → m.0.role ≡ Mailbox st.word (Some x) c
-      → (p : P) × (n.0 ≡ posed m.0 (Mailbox st.word (Some (sender_opened x)) c)) × (n.1 ≡ (st.word, Some p) ∷ m.1) × (slice_get m.0.blanks st.word ≡ Some (plain p))
+      → (p : P) × (n.0 ≡ posed m.0 (Mailbox st.word (Some (sender_opened x)) c)) × (n.1 ≡ (st.word, Some p) ∷ m.1) × (found ≡ 0) × (slice_get m.0.blanks st.word ≡ Some (plain p))
 
   abbrev pub collected : (P → Q) → (W → ℕ → List Q → Q → Type 0) → Step (Option P) → Me (Option P) (View W Q) → ℕ → Me (Option P) (View W Q) → Type 0
   collected plain answers st m found n = (x : Sender Q) (c : Option (Taker Q)) → m.0.role ≡ Mailbox st.word (Some x) c

@@ -9,7 +9,7 @@ use Rattle.std.proofs.lemmas.List.{length-map}
 use Rattle.std.proofs.lemmas.List.Sums.{fails_before_first}
 use Rattle.std.proofs.lemmas.Str.Parse.{IsNumeralModel, IsDigitsTest, numerals_by_value, parse_gives, digits_value_short}
 use Rattle.core_alloc.specs.Places.{is_number_in, number_in, is_core, numbers_in, refusal}
-use Rattle.core_alloc.specs.declared.fault.PlacementFault.TheVariants.{Core}
+use Rattle.core_alloc.specs.declared.fault.PlaceFault.TheVariants.{Core}
 
 -- ---- one number
 

@@ -4,8 +4,8 @@ use Rattle.std.specs.List.{slice_split, list_all}
 use Rattle.std.specs.Option.{option_or}
 use Rattle.std.specs.Char.{is_ascii_digit}
 use Rattle.std.specs.Str.Parse.{digits_value}
-use Rattle.core_alloc.specs.declared.fault.PlacementFault.{PlacementFault}
-use Rattle.core_alloc.specs.declared.fault.PlacementFault.TheVariants.{Shape, Count, Core}
+use Rattle.core_alloc.specs.declared.fault.PlaceFault.{PlaceFault}
+use Rattle.core_alloc.specs.declared.fault.PlaceFault.TheVariants.{Shape, Count, Core}
 
 -- a number of cores, and the core of each thread
 pub record Places : Type 0 where
@@ -42,7 +42,7 @@ is_core cores None = false
 is_core cores (Some core) = nat_lt core cores
 
 -- why a text lists no place on so many cores for each of so many threads: first the shape of its pieces, then their count, then the cores
-abbrev pub refusal : List ℕ → ℕ → ℕ → Option PlacementFault
+abbrev pub refusal : List ℕ → ℕ → ℕ → Option PlaceFault
 refusal text threads cores =
     let numbers = numbers_in text in
     option_or (option_map (λ at. Shape at) (position is_none numbers))

@@ -6,7 +6,7 @@ use thiserror::Error;
 
 /// Why a list of places is refused. Its pieces are numbered from 0.
 #[derive(Clone, Copy, Debug, PartialEq, Eq, Error)]
-pub enum PlacementFault {
+pub enum PlaceFault {
     /// This piece is not one to three decimal digits.
     #[error("a place is no number")]
     Shape { at: u64 },
@@ -21,24 +21,24 @@ pub enum PlacementFault {
     OutOfMemory,
 }
 
-impl From<OutOfMemory> for PlacementFault {
+impl From<OutOfMemory> for PlaceFault {
     ghost use Rattle.std.specs.Prelude.{◌≡◌};
-    ghost use Rattle.core_alloc.specs.declared.fault.PlacementFault.TheVariants as fault;
+    ghost use Rattle.core_alloc.specs.declared.fault.PlaceFault.TheVariants as fault;
 
     ghost from_gives = { λ _ e. e ≡ fault.OutOfMemory };
 
     fn from(_: OutOfMemory) -> Self {
-        PlacementFault::OutOfMemory
+        PlaceFault::OutOfMemory
     }
 }
 
-impl From<AllocError> for PlacementFault {
+impl From<AllocError> for PlaceFault {
     ghost use Rattle.std.specs.Prelude.{◌≡◌};
-    ghost use Rattle.core_alloc.specs.declared.fault.PlacementFault.TheVariants as fault;
+    ghost use Rattle.core_alloc.specs.declared.fault.PlaceFault.TheVariants as fault;
 
     ghost from_gives = { λ _ e. e ≡ fault.OutOfMemory };
 
     fn from(_: AllocError) -> Self {
-        PlacementFault::OutOfMemory
+        PlaceFault::OutOfMemory
     }
 }

@@ -8,6 +8,6 @@ mod placement;
 mod ranked;
 
 pub use balanced::balance;
-pub use fault::PlacementFault;
+pub use fault::PlaceFault;
 pub use list::given;
 pub use placement::Placement;

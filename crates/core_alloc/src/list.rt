@@ -4,9 +4,9 @@ ghost use Rattle.std.specs.Prelude.{◌≡◌, ◌≤◌, ◌⊎◌, Option, Non
 ghost use Rattle.std.specs.List.{list_all};
 ghost use Rattle.std.specs.Char.{is_ascii_digit};
 ghost use Rattle.core_alloc.specs.Places.{is_number_in, number_in, numbers_in, refusal};
-ghost use Rattle.core_alloc.specs.declared.fault.PlacementFault.TheVariants as fault;
+ghost use Rattle.core_alloc.specs.declared.fault.PlaceFault.TheVariants as fault;
 
-use crate::fault::PlacementFault;
+use crate::fault::PlaceFault;
 use crate::placement::Placement;
 use std::alloc::{AllocError, Global};
 
@@ -70,12 +70,7 @@ fn places_of(alloc: Global, numbers: &[Option<u32>]) -> Result<Vec<u32>, AllocEr
 ///
 /// `Shape`, the first piece that is not one to three decimal digits; else `Count`, where there is not one
 /// piece for each thread; else `Core`, the first piece that is no number of a core. Or out of memory.
-pub fn given(
-    alloc: Global,
-    text: &str,
-    threads: u32,
-    cores: u32,
-) -> Result<Placement, PlacementFault>
+pub fn given(alloc: Global, text: &str, threads: u32, cores: u32) -> Result<Placement, PlaceFault>
     requires some { 1 ≤ cores }
     requires few { cores ≤ 64 }
     ensures cores { IfOk result (λ p. p.cores ≡ cores) }
@@ -85,15 +80,15 @@ pub fn given(
 {
     let numbers = numbers_of(alloc, text)?;
     if let Some(at) = first_without_number(&numbers) {
-        return Err(PlacementFault::Shape { at: at as u64 });
+        return Err(PlaceFault::Shape { at: at as u64 });
     }
     if numbers.len() != threads as usize {
         let found = numbers.len() as u64;
-        return Err(PlacementFault::Count { found });
+        return Err(PlaceFault::Count { found });
     }
     let places = places_of(alloc, &numbers)?;
     if let Some(at) = first_without_core(&places, cores) {
-        return Err(PlacementFault::Core { at: at as u64 });
+        return Err(PlaceFault::Core { at: at as u64 });
     }
     Ok(Placement::of(cores, places))
 }

@@ -7,6 +7,8 @@ use Rattle.combine_tree.specs.Joins.{begun, fold_at, result_of}
 use Rattle.thread_code.specs.Plain.{PlainCode}
 use Rattle.thread_code.specs.Machine.{uses_of}
 use Rattle.thread_state.specs.Kept.{Kept, place_in, no_copy, HavePlaces, with_copy_at, with_live_at}
+use Rattle.thread_state.specs.Pars.{Links, used_by}
+use Rattle.core_machine.specs.Held.{copies_of}
 use Rattle.core_machine.specs.Merging.{AreBelow, HaveUses, marked_live, begun_uses, begun_branches, combined_uses, combined_branches}
 use Rattle.thread_state.proofs.Lists.{drop_next, drop_past}
 
@@ -23,6 +25,14 @@ live_next bs es k own lt lt' = ap (λ l. marked_live l (drop k es) own) (drop_ne
 
 pub live_end : (bs : List ℕ) (es : List Bool) (k : ℕ) (own : Kept) → length bs ≤ k → marked_live (drop k bs) (drop k es) own ≡ own
 live_end bs es k own le = ap (λ l. marked_live l (drop k es) own) (drop_past bs k le)
+
+-- ---- how many copies there are
+
+pub copies_next : (p : Links) (bs : List ℕ) (k : ℕ) → k < length bs → copies_of p (drop k bs) ≡ length (used_by p (get_or bs k 0)) + copies_of p (drop (k + 1) bs)
+copies_next p bs k lt = ap (copies_of p) (drop_next bs k 0 lt)
+
+pub copies_end : (p : Links) (bs : List ℕ) (k : ℕ) → length bs ≤ k → copies_of p (drop k bs) ≡ 0
+copies_end p bs k le = ap (copies_of p) (drop_past bs k le)
 
 -- ---- folds begin
 

@@ -66,6 +66,8 @@ module _ (c : PlainCode) (k : Kept) where
   fork_kind (instruction.Table n place) h = absurd h
   fork_kind (instruction.Get v) h = absurd h
   fork_kind (instruction.Put v) h = absurd h
+  fork_kind (instruction.GetAt v n place) h = absurd h
+  fork_kind (instruction.PutAt v n place) h = absurd h
   fork_kind (instruction.Unary op) h = absurd h
   fork_kind (instruction.Binary op place) h = absurd h
   fork_kind instruction.Truth h = absurd h

@@ -1,12 +1,12 @@
 //! Lists of places are read, and threads are balanced.
 
-use core_alloc::{PlacementFault, balance, given};
+use core_alloc::{PlaceFault, balance, given};
 use forec_base::OutOfMemory;
 use std::alloc::Global;
 use std::test::Fail;
 
 /// The cores of four threads.
-fn cores_of(alloc: Global) -> Result<[u32; 4], PlacementFault> {
+fn cores_of(alloc: Global) -> Result<[u32; 4], PlaceFault> {
     let placement = given(alloc, "0,2,0,1", 4, 3)?;
     Ok([
         placement.core(0),
@@ -28,16 +28,16 @@ fn balanced_cores(alloc: Global) -> Result<[u32; 4], OutOfMemory> {
 }
 
 /// Lists for three threads and two cores, and why they are refused.
-const REFUSED: [(&str, PlacementFault); 6] = [
-    ("0,2,1", PlacementFault::Core { at: 1 }),
-    ("0,1", PlacementFault::Count { found: 2 }),
-    ("0,,1", PlacementFault::Shape { at: 1 }),
-    ("", PlacementFault::Shape { at: 0 }),
-    ("0,1,0001", PlacementFault::Shape { at: 2 }),
-    ("0,+1,5,7", PlacementFault::Shape { at: 1 }),
+const REFUSED: [(&str, PlaceFault); 6] = [
+    ("0,2,1", PlaceFault::Core { at: 1 }),
+    ("0,1", PlaceFault::Count { found: 2 }),
+    ("0,,1", PlaceFault::Shape { at: 1 }),
+    ("", PlaceFault::Shape { at: 0 }),
+    ("0,1,0001", PlaceFault::Shape { at: 2 }),
+    ("0,+1,5,7", PlaceFault::Shape { at: 1 }),
 ];
 
-fn refused_so(alloc: Global, list: &str, fault: PlacementFault) -> bool {
+fn refused_so(alloc: Global, list: &str, fault: PlaceFault) -> bool {
     given(alloc, list, 3, 2).err() == Some(fault)
 }
 

@@ -26,7 +26,15 @@ struct Run {
     second: Option<Told>,
 }
 
-const RUNS: [Run; 3] = [
+/// Each branch sets an element; both copies of each are combined.
+const ELEMENTS: &[u8] = b"shared int h[2] = {1, 2} combine all with plus;
+output int s;
+int plus(int x, int y) { return x + y; }
+void set(int i) { h[i] = h[i] + 3; }
+void main(void) { par(set(0), set(1)); s = h[0] * 10 + h[1]; pause; }
+";
+
+const RUNS: [Run; 4] = [
     Run {
         text: FOLDS_TWICE,
         places: "0,0,0",
@@ -44,6 +52,12 @@ const RUNS: [Run; 3] = [
         places: "0,0,0",
         first: (TRAPPED, 7),
         second: None,
+    },
+    Run {
+        text: ELEMENTS,
+        places: "0,0,0",
+        first: (Outcome::Paused, 57),
+        second: Some((Outcome::Ended, 57)),
     },
 ];
 

@@ -13,7 +13,7 @@ use Rattle.loop_check.proofs.IndexLemmas.{split}
 use Rattle.forec_check.proofs.Recursion.{found_member}
 use Rattle.forec_check.proofs.Started.{nil_right, nil_left, calls_all, called_right, clean_right}
 
-no_members : (fs : List Fault) → ((f : Fault) → Member f fs → ⊥) → fs ≡ []
+pub no_members : (fs : List Fault) → ((f : Fault) → Member f fs → ⊥) → fs ≡ []
 no_members [] h = refl
 no_members (f ∷ fs) h = absurd (h f here)
 

@@ -16,13 +16,13 @@ use Rattle.forec_tree.specs.declared.tree.Combine.{Combine}
 use Rattle.forec_tree.specs.Terms.{Text, PlainGlobal, PlainFunction, PlainItem, IsGlobal, IsFunction, Statement}
 use Rattle.forec_tree.specs.Scopes.{Scope, no_scope, with_name, with_params, is_among}
 use Rattle.forec_tree.specs.Findings.{Finding, Declares, in_params, in_statements}
-use Rattle.forec_tree.specs.Rules.{Judging, fault_if, length_faults, too_many, is_long, some_returns, findings_faults, is_input, is_output, is_none}
-use Rattle.forec_tree.specs.Faults.{Before, item_named, combine_faults, global_faults, function_faults, in_function, item_faults, items_faults, text_faults, main_faults, start_name, main_place, none_before, after_item, one_if}
+use Rattle.forec_tree.specs.Rules.{Judging, fault_if, length_faults, too_many, is_long, some_returns, findings_faults, is_input, is_none}
+use Rattle.forec_tree.specs.Faults.{Before, item_named, combine_faults, global_faults, function_faults, in_function, item_faults, items_faults, text_faults, main_faults, start_name, main_place, none_before, after_item, one_if, output_count}
 use Rattle.forec_check.specs.Least.{least_from, judged}
 use Rattle.forec_check.proofs.LeastLaws.{least-append}
 use Rattle.forec_check.specs.declared.walk.item_counts.ItemCounts.{ItemCounts}
 use Rattle.forec_check.specs.Walk.{NotesView, walked, effects_of, effects_lists}
-use Rattle.forec_check.specs.Items.{is_extra, before_of, head_faults, in_item, counts_after, CountsBelow}
+use Rattle.forec_check.specs.Items.{is_extra, before_of, head_faults, in_item, counts_after}
 use Rattle.forec_check.specs.Views.{judging}
 use Rattle.forec_check.proofs.WalkLemmas.{walked-append, walked-none}
 use Rattle.forec_check.proofs.Parts.{two, then}
@@ -37,7 +37,7 @@ pub global_is : (text : Text) (names : List (List ℕ)) (at : ℕ) (c : ItemCoun
     k3 ≡ least_from k2 (fault_if (too_many g.length (length g.values)) g.name.place 18) →
     k4 ≡ least_from k3 (fault_if (is_long names g.name.id) g.name.place 21) →
     k5 ≡ least_from k4 (combine_faults text g.combine) →
-    k6 ≡ least_from k5 (fault_if (is_extra c g.kind) g.name.place 22) →
+    k6 ≡ least_from k5 (fault_if (is_extra c g.kind (output_count g)) g.name.place 22) →
     k6 ≡ least_from k0 (global_faults text names (before_of text at c) g)
 global_is text names at c g k0 k1 k2 k3 k4 k5 k6 e1 e2 e3 e4 e5 e6 = rw (least-append, least-append, least-append, least-append, least-append) (cc)
 
@@ -110,7 +110,7 @@ item_get (y ∷ ys) (suc i) x h e = item_get ys i x (omega arith) e
 
 pub before_next : (text : Text) (at : ℕ) (c : ItemCounts) (x : PlainItem) → slice_get text at ≡ Some x → before_of text (at + 1) (counts_after c x) ≡ after_item (before_of text at c) x
 before_next text at c (IsGlobal g) h =
-    ap (λ xs. let b : Before = record { items = xs; inputs = c.inputs + one_if (is_input g.kind); outputs = c.outputs + one_if (is_output g.kind); functions = c.functions } in b)
+    ap (λ xs. let b : Before = record { items = xs; inputs = c.inputs + one_if (is_input g.kind); outputs = c.outputs + output_count g; functions = c.functions } in b)
     (next_of text at (IsGlobal g) h)
 before_next text at c (IsFunction f) h =
     ap (λ xs. let b : Before = record { items = xs; inputs = c.inputs; outputs = c.outputs; functions = suc c.functions } in b) (next_of text at (IsFunction f) h)
@@ -135,30 +135,6 @@ pub bodies_step : (text : Text) (at : ℕ) (x : PlainItem) (old new : List (Vec 
 bodies_step text at x old new v f g n e h =
     ap effects_lists n ∙ map-append (λ w. w.items) old (v ∷ []) ∙ ap (λ l. l ++ v.items ∷ []) h ∙ ap (λ i. map f (take at text) ++ i ∷ []) e
     ∙ sym (map-append f (take at text) (x ∷ [])) ∙ ap (map f) (sym (next_of text at x g))
-
-one_le : (b : Bool) → one_if b ≤ 1
-one_le true = omega arith
-one_le false = omega arith
-
-pub few_more : (c after : ItemCounts) (x : PlainItem) (n : ℕ) → after ≡ counts_after c x → CountsBelow c (n + 1) → CountsBelow after (n + 1 + 1)
-few_more c after (IsGlobal g) n h f =
-    let a = ap (λ y. y.inputs) h in
-    let b = ap (λ y. y.outputs) h in
-    let d = ap (λ y. y.functions) h in
-    let i = one_le (is_input g.kind) in
-    let o = one_le (is_output g.kind) in
-    let p = f.inputs in
-    let q = f.outputs in
-    let r = f.functions in
-    record { inputs = omega (arith, a, i, p); outputs = omega (arith, b, o, q); functions = omega (arith, d, r) }
-few_more c after (IsFunction g) n h f =
-    let a = ap (λ y. y.inputs) h in
-    let b = ap (λ y. y.outputs) h in
-    let d = ap (λ y. y.functions) h in
-    let p = f.inputs in
-    let q = f.outputs in
-    let r = f.functions in
-    record { inputs = omega (arith, a, p); outputs = omega (arith, b, q); functions = omega (arith, d, r) }
 
 pub text_is : (text : Text) (names : List (List ℕ)) (k1 k2 : Option Fault) → k1 ≡ least_from None (main_faults text names) →
     k2 ≡ least_from k1 (items_faults text names none_before text) → k2 ≡ least_from None (text_faults text names)

@@ -22,3 +22,4 @@ pub mod InstanceCounts
 pub mod Single
 pub mod Propagation
 pub mod NamesBelow
+pub mod FewOutputs

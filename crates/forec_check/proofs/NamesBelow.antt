@@ -17,7 +17,7 @@ use Rattle.forec_tree.specs.Spelling.{Spelt, IsName, joined, listed, tokens, Spe
 use Rattle.forec_tree.specs.SpelledStatements as st
 use Rattle.forec_tree.specs.SpelledStatements.{Separated, Targets, Simple, Lengths, Declares, Bounds, ForStarts, Tests, ForSteps, HeadParts, Heads, Optional, Says, Block, Lists, Forks, Starting, Launches}
 use Rattle.forec_tree.specs.SpelledPrograms as pr
-use Rattle.forec_tree.specs.SpelledPrograms.{Signed, Named, Scalar, Table, Sharing, Combines, Param, Params, Parameters, Introduces, Programs, IsSpelled}
+use Rattle.forec_tree.specs.SpelledPrograms.{Signed, Named, Scalar, SharedVariable, Table, Sharing, Combines, Param, Params, Parameters, Introduces, Programs, IsSpelled}
 use Rattle.forec_tree.specs.LexedText.{IsNumbered, AreDistinct}
 use Rattle.forec_check.specs.Faultless.{Distinct, term_names, terms_names, optional_names, locals_names, statement_names, statements_names, perhaps_names, branches_names, combine_names, item_names, text_names, IdsBelow}
 
@@ -219,6 +219,12 @@ module _ (n : ℕ) where
   of_scalar (pr.unset id is) h c = (h.0 id is, c)
   of_scalar (pr.set id is also s) h c = (h.0 id is, c)
 
+  of_shared : {kind : GlobalKind} {combine : Option Combine} {v : ℕ} {g : PlainGlobal} {ls : List Spelt} → SharedVariable kind combine g v ls → AreLow ls → AreBelow (combine_names combine)
+      → AreBelow (item_names (IsGlobal g))
+  of_shared (pr.one s) h c = of_scalar s h c
+  of_shared (pr.array id is l) h c = (h.0 id is, c)
+  of_shared (pr.valued_array equal left right id is l also a s b) h c = (h.0 id is, c)
+
   of_table : {v : ℕ} {g : PlainGlobal} {ls : List Spelt} → Table g v ls → AreLow ls → AreBelow (item_names (IsGlobal g))
   of_table (pr.constant id is also s) h = (h.0 id is, tt)
   of_table (pr.table equal left right id is s a b r c) h = (h.0 id is, tt)
@@ -247,8 +253,8 @@ module _ (n : ℕ) where
   of_declaration (pr.outputs semicolon {ls = ls} a b s c) h = of_globals (Scalar _ None) (λ x v ls p low. of_scalar p low tt) s (front ls _ h.1.1)
   of_declaration (pr.globals semicolon {ls = ls} a s b) h = of_globals (Scalar _ None) (λ x v ls p low. of_scalar p low tt) s (front ls _ h.1)
   of_declaration (pr.shared_globals int semicolon {ls = ls} {ms = ms} {rs = rs} a b s r c) h =
-      let scalar = (behind ls _ h).1 in
-      (of_scalar s (front ms _ scalar) (of_combine r (front rs _ (behind ms _ scalar))), tt)
+      let low = (behind ls _ h).1 in
+      (of_shared s (front ms _ low) (of_combine r (front rs _ (behind ms _ low))), tt)
   of_declaration (pr.function {names = xs} {body = body} {ls = ls} gives id a b s r) h =
       let block = behind ls _ h.1.1 in
       ((h.1.0 id b, both xs (statements_names (in_order body)) (of_parameters s (front ls _ h.1.1)) (of_block r block)), tt)

@@ -1,14 +1,14 @@
 -- The items of a program, one after the other.
-use Rattle.std.specs.Prelude.{ℕ, suc, ◌+◌, ◌<◌, ◌≡◌, Bool, Option, ◌||◌, ◌&&◌, nat_le, nat_lt, not, length, List, [], ◌∷◌, ◌++◌, take}
+use Rattle.std.specs.Prelude.{ℕ, suc, ◌+◌, ◌*◌, ◌^◌, ◌<◌, ◌≡◌, Bool, Option, ◌||◌, ◌&&◌, nat_le, nat_lt, not, length, List, [], ◌∷◌, ◌++◌, take}
 use Rattle.forec_base.specs.declared.limits.TheConstants.{MAX_INPUTS, MAX_OUTPUTS, MAX_PARAMS, MAX_FUNCTIONS}
-use Rattle.forec_tree.specs.declared.tree.GlobalKind.{GlobalKind}
 use Rattle.forec_tree.specs.declared.tree.Global.{Global}
+use Rattle.forec_tree.specs.declared.tree.GlobalKind.{GlobalKind}
 use Rattle.forec_tree.specs.declared.tree.Function.{Function}
 use Rattle.forec_tree.specs.declared.tree.Item.{Item}
 use Rattle.forec_tree.specs.Plain as plain
 use Rattle.forec_tree.specs.Terms.{Text, PlainItem, IsGlobal, IsFunction, PlainFunction}
-use Rattle.forec_tree.specs.Rules.{is_input, is_output, is_long, fault_if, some_returns}
-use Rattle.forec_tree.specs.Faults.{Before, none_before, in_function, item_named, one_if, global_faults, function_faults, item_faults, items_faults}
+use Rattle.forec_tree.specs.Rules.{is_input, is_long, fault_if, some_returns}
+use Rattle.forec_tree.specs.Faults.{Before, none_before, in_function, item_named, one_if, output_count, runs_over, global_faults, function_faults, item_faults, items_faults}
 use Rattle.forec_tree.specs.declared.fault.Fault.{Fault}
 use Rattle.forec_tree.specs.declared.rule.TheConstants as rule
 use Rattle.forec_tree.specs.Findings.{Finding}
@@ -19,8 +19,9 @@ use Rattle.forec_check.specs.declared.walk.item_counts.ItemCounts.{ItemCounts}
 abbrev pub before_of : Text → ℕ → ItemCounts → Before
 before_of text at c = record { items = take at text; inputs = c.inputs; outputs = c.outputs; functions = c.functions }
 
-abbrev pub is_extra : ItemCounts → GlobalKind → Bool
-is_extra c kind = (is_input kind && nat_le MAX_INPUTS c.inputs) || (is_output kind && nat_le MAX_OUTPUTS c.outputs)
+-- a global of a kind that is so many outputs
+abbrev pub is_extra : ItemCounts → GlobalKind → ℕ → Bool
+is_extra c kind outputs = (is_input kind && nat_le MAX_INPUTS c.inputs) || runs_over MAX_OUTPUTS c.outputs outputs
 
 -- what stands in an item
 abbrev pub in_item : Text → PlainItem → List Finding
@@ -54,11 +55,15 @@ abbrev pub JudgesItems : Text → List (List ℕ) → Option Fault → Option Fa
 JudgesItems text names old new = new ≡ least_from old (items_faults text names none_before text)
 
 abbrev pub counts_after : ItemCounts → PlainItem → ItemCounts
-counts_after c (IsGlobal g) = record { inputs = c.inputs + one_if (is_input g.kind); outputs = c.outputs + one_if (is_output g.kind); functions = c.functions }
+counts_after c (IsGlobal g) = record { inputs = c.inputs + one_if (is_input g.kind); outputs = c.outputs + output_count g; functions = c.functions }
 counts_after c (IsFunction f) = record { inputs = c.inputs; outputs = c.outputs; functions = suc c.functions }
 
--- fewer of each sort than a number
+-- fewer of each sort than a number, where an output may be an array of any length
 pub record CountsBelow (c : ItemCounts) (n : ℕ) : Type 0 where
   pub inputs : c.inputs < n
-  pub outputs : c.outputs < n
+  pub outputs : c.outputs < n * 2 ^ 32
   pub functions : c.functions < n
+
+-- one item more
+abbrev pub OneMore : ItemCounts → ItemCounts → Type 0
+OneMore old new = (n : ℕ) → CountsBelow old n → CountsBelow new (n + 1)

@@ -1,7 +1,7 @@
 //! Scopes, and the declaration that a name means in one.
 
-ghost use Rattle.std.specs.Prelude.{◌≡◌, ◌&&◌, Some};
-ghost use Rattle.forec_tree.specs.Plain.{plain_item};
+ghost use Rattle.std.specs.Prelude.{◌≡◌, Some};
+ghost use Rattle.forec_tree.specs.Plain.{plain_global, plain_item};
 ghost use Rattle.forec_tree.specs.Scopes.{find_item, item_meaning};
 ghost use Rattle.forec_tree.specs.Scopes as scopes;
 ghost use Rattle.loop_check.specs.Views.{text_of};
@@ -12,22 +12,13 @@ pub mod declarations;
 pub mod scope;
 
 use crate::scopes::scope::Scope;
-use forec_tree::{Global, GlobalKind, Item, Meaning};
+use forec_tree::{Global, Item, Meaning};
 use loop_check::Index;
 
-fn is_constant(kind: GlobalKind) -> bool
-    ensures { result ≡ scopes.is_constant kind }
+fn is_array(global: &Global) -> bool
+    ensures { result ≡ scopes.is_array (scopes.stated_length (plain_global global.now)) }
 {
-    match kind {
-        GlobalKind::Const => true,
-        _ => false,
-    }
-}
-
-fn is_table(global: &Global) -> bool
-    ensures { result ≡ (scopes.is_constant global.now.kind && scopes.is_array global.now.length) }
-{
-    is_constant(global.kind) && global.length.is_some()
+    global.stated_length().is_some()
 }
 
 fn meaning_of_item(item: &Item) -> Meaning
@@ -36,7 +27,7 @@ fn meaning_of_item(item: &Item) -> Meaning
     match item {
         Item::Global { global } => Meaning::Global {
             kind: global.kind,
-            array: is_table(global),
+            array: is_array(global),
         },
         Item::Function { function } => Meaning::Function {
             gives: function.gives,

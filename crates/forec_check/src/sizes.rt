@@ -1,6 +1,6 @@
 //! How large a checked program is: its thread instances, inputs and outputs.
 
-ghost use Rattle.std.specs.Prelude.{◌≡◌, map, IfOk};
+ghost use Rattle.std.specs.Prelude.{◌≡◌, ◌≤◌, map, IfOk};
 ghost use Rattle.forec_tree.specs.Plain as plain;
 ghost use Rattle.forec_check.specs.Checked as checked;
 ghost use Rattle.forec_check.specs.Checked.{text_of, names_of};
@@ -8,9 +8,9 @@ ghost use Rattle.forec_check.specs.Instances as count;
 
 use crate::checked::Checked;
 use crate::instances::instances;
-use crate::rules::items::{is_input, is_output};
+use crate::rules::items::{is_input, output_count};
 use crate::rules::start::start_name;
-use forec_base::{Labels, OutOfMemory};
+use forec_base::{Labels, MAX_OUTPUTS, OutOfMemory};
 use forec_tree::Item;
 use std::alloc::Global;
 
@@ -41,7 +41,7 @@ impl<'n> Checked<'n> {
         count_inputs(self.program().items.as_slice())
     }
 
-    /// How many outputs the program has, plain and shared.
+    /// How many outputs the program has, plain and shared, where each element of an array is one.
     pub fn outputs(&self) -> usize
         ensures { result ≡ checked.outputs_of (text_of self.now) }
     {
@@ -73,16 +73,22 @@ fn count_inputs(items: &[Item]) -> usize
     count
 }
 
+fn outputs_in(item: &Item) -> u32
+    ensures { result ≡ checked.item_outputs (plain.plain_item item.now) }
+{
+    match item {
+        Item::Global { global } => output_count(global),
+        Item::Function { .. } => 0,
+    }
+}
+
 fn count_outputs(items: &[Item]) -> usize
+    requires { checked.outputs_of (map plain.plain_item items.now) ≤ MAX_OUTPUTS }
     ensures { result ≡ checked.outputs_of (map plain.plain_item items.now) }
 {
     let mut count = 0;
     for item in items {
-        if let Item::Global { global } = item {
-            if is_output(global.kind) {
-                count += 1;
-            }
-        }
+        count += outputs_in(item) as usize;
     }
     count
 }

@@ -8,7 +8,7 @@ ghost use Rattle.forec_tree.specs.Faults as faults;
 ghost use Rattle.forec_check.specs.Least.{least_from};
 ghost use Rattle.loop_check.specs.Views.{text_of};
 ghost use Rattle.forec_check.specs.Walk.{effects_of, item_effects, effects_lists};
-ghost use Rattle.forec_check.specs.Items.{in_item, counts_after, CountsBelow, JudgesFunction, JudgesItem, JudgesItems};
+ghost use Rattle.forec_check.specs.Items.{in_item, counts_after, CountsBelow, OneMore, JudgesFunction, JudgesItem, JudgesItems};
 ghost use Rattle.forec_check.specs.Views.{program_text, program_names};
 
 pub mod context;
@@ -18,7 +18,7 @@ pub mod functions;
 pub mod item_counts;
 pub mod statements;
 
-use crate::rules::items::{is_input, is_output, judge_global, judge_head};
+use crate::rules::items::{is_input, judge_global, judge_head, output_count};
 use crate::rules::start::judge_start;
 use crate::scopes::scope::Scope;
 use crate::symbols::Symbols;
@@ -46,12 +46,13 @@ fn one_if(b: bool) -> usize
 
 fn after(counts: ItemCounts, item: &Item) -> ItemCounts
     requires { CountsBelow counts (2 ^ 64 - 1) }
-    ensures { result ≡ counts_after counts (plain.plain_item item.now) }
+    ensures counts { result ≡ counts_after counts (plain.plain_item item.now) }
+    ensures few { OneMore counts result }
 {
     match item {
         Item::Global { global } => ItemCounts {
             inputs: counts.inputs + one_if(is_input(global.kind)),
-            outputs: counts.outputs + one_if(is_output(global.kind)),
+            outputs: counts.outputs + output_count(global) as u128,
             functions: counts.functions,
         },
         Item::Function { .. } => ItemCounts {

@@ -1,56 +1,82 @@
 -- What a command prints of an accepted text.
-use Rattle.std.proofs.Common.{◌≡◌, ◌≢◌, ◌⊎◌, inl, inr, ℕ, Bool, List, Option, Some, None, refl, sym, ap, ◌∙◌}
-use Rattle.forec_base.specs.declared.limits.TheConstants.{MAX_ROWS}
+use Rattle.std.proofs.Common.{◌≡◌, ◌≢◌, ◌⊎◌, ◌≤◌, inl, inr, ℕ, nat_lt, Bool, true, false, cond, List, Option, Some, None, Result, Ok, Err, refl, sym, ap, subst, ◌∙◌}
+use Rattle.std.specs.Option.{IfSome}
+use Rattle.std.specs.Result.{IfOk}
+use Rattle.std.proofs.lemmas.Bool.{ltb-false}
+use Rattle.forec_base.specs.declared.limits.TheConstants.{MAX_BUDGET, MAX_ROWS}
 use Rattle.forec_kernel.specs.Shapes.{PlainKernel}
-use Rattle.core_alloc.specs.declared.fault.PlacementFault.{PlacementFault}
-use Rattle.core_alloc.specs.declared.fault.PlacementFault.TheVariants as fault
+use Rattle.core_alloc.specs.declared.fault.PlaceFault.{PlaceFault}
+use Rattle.core_alloc.specs.declared.fault.PlaceFault.TheVariants as fault
 use Rattle.command_words.specs.Requests.{PlainPlacing, PlainRunning, PlainCommand, Run, Check, Threads, Code, Explain}
+use Rattle.command_words.specs.declared.request.Budget.TheVariants as budget
+use Rattle.tick_bounds.specs.Bound.{worst_case}
+use Rattle.tick_bounds.specs.Capped.{as_budget}
 use Rattle.text_verdict.specs.declared.counts.Counts.{Counts}
 use Rattle.trace_runs.specs.Led.{RunsRows}
 use Rattle.trace_runs.specs.Prints.{Prints, Says}
 use Rattle.trace_runs.specs.Report.{Report, trace_report}
 use Rattle.trace_runs.specs.Workload.{ticked_report}
 use Rattle.trace_runs.specs.declared.status.Status.{Status}
-use Rattle.trace_runs.proofs.Printing.{prints_as}
+use Rattle.trace_runs.specs.declared.status.Status.TheVariants as status
+use Rattle.trace_runs.proofs.Printing.{prints_as, prints_nothing}
 use Rattle.forec_engine.specs.Answers.{Answers}
+use Rattle.command_words.specs.declared.request.Budget.{Budget}
+use Rattle.forec_engine.specs.Budgets.{budget_for, boundless, with_budget, IsBoundless}
 use Rattle.forec_engine.specs.Commands.{ThreadsReport, Of_misplaced, IsListing, counted}
-use Rattle.forec_engine.specs.Placing.{misplaced, misplacing, unless_misplaced, workload_report, IsMisplaced}
+use Rattle.forec_engine.specs.Placing.{misplaced, misplacing, unless_misplaced, workload_report, IsMisplaced, IsRefusedRun}
 
 -- why a list is refused, where memory isn't wanting
-refused_by : (o : Option PlacementFault) (why : PlacementFault) → why ≢ fault.OutOfMemory → (why ≡ fault.OutOfMemory) ⊎ (o ≡ Some why) → o ≡ Some why
+refused_by : (o : Option PlaceFault) (why : PlaceFault) → why ≢ fault.OutOfMemory → (why ≡ fault.OutOfMemory) ⊎ (o ≡ Some why) → o ≡ Some why
 refused_by o why not (inl e) = absurd (not e)
 refused_by o why not (inr e) = e
 
-unmisplaced : (o : Option PlacementFault) (r : Report) → o ≡ None → r ≡ unless_misplaced o r
+unmisplaced : (o : Option PlaceFault) (r : Report) → o ≡ None → r ≡ unless_misplaced o r
 unmisplaced o r e = sym (ap (λ x. unless_misplaced x r) e)
 
-is_misplaced : (o : Option PlacementFault) (why : PlacementFault) (r : Report) → o ≡ Some why → misplaced why ≡ unless_misplaced o r
+is_misplaced : (o : Option PlaceFault) (why : PlaceFault) (r : Report) → o ≡ Some why → misplaced why ≡ unless_misplaced o r
 is_misplaced o why r e = sym (ap (λ x. unless_misplaced x r) e)
 
+-- with so many units, and without a bound
+bounded : (o : Option ℕ) (units : ℕ) (f : ℕ → Report) → o ≡ Some units → f units ≡ with_budget o f
+bounded o units f e = sym (ap (λ x. with_budget x f) e)
+
+unbounded : (o : Option ℕ) (f : ℕ → Report) → o ≡ None → boundless ≡ with_budget o f
+unbounded o f e = sym (ap (λ x. with_budget x f) e)
+
 -- what refuses a list of places prints
-abbrev Misplaces : {K : Type 0} → (K → Option (List ℕ)) → (K → ℕ) → (K → Bool) → PlacementFault → K → K → Status → Type 0
+abbrev Misplaces : {K : Type 0} → (K → Option (List ℕ)) → (K → ℕ) → (K → Bool) → PlaceFault → K → K → Status → Type 0
 Misplaces {K} held lost is_down why out out' end =
     Prints held lost is_down Unit (λ r. (why ≢ fault.OutOfMemory) × (r ≡ misplaced why)) (why ≢ fault.OutOfMemory) ⊥ ⊥ out out' end
 
 module _ {K : Type 0} (held : K → Option (List ℕ)) (lost : K → ℕ) (is_down : K → Bool) (out out' : K) (end : Status) where
   -- a workload
   module _ (threads : ℕ) (k : PlainKernel) (running : PlainRunning) where
-    pub workload_placed : misplacing k running.placing ≡ None → Says held lost is_down (ticked_report threads k running.budget) ⊥ out out' end →
-        Says held lost is_down (workload_report threads running k) (IsMisplaced k running.placing) out out' end
-    workload_placed e p =
-        prints_as held lost is_down Unit (λ q. q ≡ ticked_report threads k running.budget) ⊥ ⊥ ⊥ out out' Unit (λ q. q ≡ workload_report threads running k) (IsMisplaced k running.placing) ⊥ ⊥ end (λ t. t)
-        (λ t r is. is ∙ unmisplaced (misplacing k running.placing) (ticked_report threads k running.budget) e) (λ n. absurd n) (λ n. n) (λ n. n) p
+    abbrev Ticked : ℕ → Report
+    Ticked units = unless_misplaced (misplacing k running.placing) (ticked_report threads k units)
 
-    pub workload_misplaced : (why : PlacementFault) → (why ≡ fault.OutOfMemory) ⊎ (misplacing k running.placing ≡ Some why) → Misplaces held lost is_down why out out' end →
-        Says held lost is_down (workload_report threads running k) (IsMisplaced k running.placing) out out' end
-    workload_misplaced why o p =
-        prints_as held lost is_down Unit (λ r. (why ≢ fault.OutOfMemory) × (r ≡ misplaced why)) (why ≢ fault.OutOfMemory) ⊥ ⊥ out out' Unit (λ q. q ≡ workload_report threads running k) (IsMisplaced k running.placing) ⊥ ⊥ end
-        (λ t. t) (λ t r is. is.1 ∙ is_misplaced (misplacing k running.placing) why (ticked_report threads k running.budget) (refused_by (misplacing k running.placing) why is.0 o))
-        (λ not. (why, refused_by (misplacing k running.placing) why not o)) (λ n. n) (λ n. n) p
+    pub workload_boundless : IsBoundless k running.budget → Says held lost is_down boundless Unit out out' end →
+        Says held lost is_down (workload_report threads running k) (IsRefusedRun k running) out out' end
+    workload_boundless b p =
+        prints_as held lost is_down Unit (λ q. q ≡ boundless) Unit ⊥ ⊥ out out' Unit (λ q. q ≡ workload_report threads running k) (IsRefusedRun k running) ⊥ ⊥ end (λ t. t)
+        (λ t r is. is ∙ unbounded (budget_for k running.budget) Ticked b) (λ _. inl b) (λ n. n) (λ n. n) p
+
+    module _ (units : ℕ) (b : budget_for k running.budget ≡ Some units) where
+      pub workload_placed : misplacing k running.placing ≡ None → Says held lost is_down (ticked_report threads k units) ⊥ out out' end →
+          Says held lost is_down (workload_report threads running k) (IsRefusedRun k running) out out' end
+      workload_placed e p =
+          prints_as held lost is_down Unit (λ q. q ≡ ticked_report threads k units) ⊥ ⊥ ⊥ out out' Unit (λ q. q ≡ workload_report threads running k) (IsRefusedRun k running) ⊥ ⊥ end (λ t. t)
+          (λ t r is. is ∙ unmisplaced (misplacing k running.placing) (ticked_report threads k units) e ∙ bounded (budget_for k running.budget) units Ticked b) (λ n. absurd n) (λ n. n) (λ n. n) p
+
+      pub workload_misplaced : (why : PlaceFault) → (why ≡ fault.OutOfMemory) ⊎ (misplacing k running.placing ≡ Some why) → Misplaces held lost is_down why out out' end →
+          Says held lost is_down (workload_report threads running k) (IsRefusedRun k running) out out' end
+      workload_misplaced why o p =
+          prints_as held lost is_down Unit (λ r. (why ≢ fault.OutOfMemory) × (r ≡ misplaced why)) (why ≢ fault.OutOfMemory) ⊥ ⊥ out out' Unit (λ q. q ≡ workload_report threads running k) (IsRefusedRun k running) ⊥ ⊥ end
+          (λ t. t) (λ t r is. is.1 ∙ is_misplaced (misplacing k running.placing) why (ticked_report threads k units) (refused_by (misplacing k running.placing) why is.0 o) ∙ bounded (budget_for k running.budget) units Ticked b)
+          (λ not. inr (why, refused_by (misplacing k running.placing) why not o)) (λ n. n) (λ n. n) p
 
   -- a list of threads
   module _ (k : PlainKernel) (placing : PlainPlacing) where
-    pub threads_misplaced : (why : PlacementFault) → (why ≡ fault.OutOfMemory) ⊎ (misplacing k placing ≡ Some why) → Misplaces held lost is_down why out out' end →
+    pub threads_misplaced : (why : PlaceFault) → (why ≡ fault.OutOfMemory) ⊎ (misplacing k placing ≡ Some why) → Misplaces held lost is_down why out out' end →
         Prints held lost is_down Unit (ThreadsReport k placing) (IsMisplaced k placing) ⊥ ⊥ out out' end
     threads_misplaced why o p =
         prints_as held lost is_down Unit (λ r. (why ≢ fault.OutOfMemory) × (r ≡ misplaced why)) (why ≢ fault.OutOfMemory) ⊥ ⊥ out out' Unit (ThreadsReport k placing) (IsMisplaced k placing) ⊥ ⊥ end (λ t. t)
@@ -62,25 +88,54 @@ module _ {K : Type 0} (held : K → Option (List ℕ)) (lost : K → ℕ) (is_do
     abbrev Did : PlainCommand → Type 0
     Did command = Answers left faults down held lost is_down command counts k old new out out' end
 
-    pub run_placed : (running : PlainRunning) → misplacing k running.placing ≡ None → RunsRows left faults down held lost is_down MAX_ROWS k running.budget ⊥ old new out out' end → Did (Run running)
-    run_placed running e p = record {
-      prints = prints_as held lost is_down _ _ _ _ _ out out' _ _ _ _ _ end (λ t. t)
-          (λ t r is. (is.0, is.1, is.2 ∙ unmisplaced (misplacing k running.placing) (trace_report MAX_ROWS k running.budget is.0) e)) (λ n. absurd n) (λ u. (running, refl, (u.0, e, u.1))) (λ n. absurd n) p.prints;
-      trace = inr (running, refl, (e, p.trace));
-    }
-
-    pub run_misplaced : (running : PlainRunning) (why : PlacementFault) → new ≡ old → (why ≡ fault.OutOfMemory) ⊎ (misplacing k running.placing ≡ Some why) → Misplaces held lost is_down why out out' end → Did (Run running)
-    run_misplaced running why same o p = record {
+    pub run_boundless : (running : PlainRunning) → IsBoundless k running.budget → new ≡ old → Says held lost is_down boundless Unit out out' end → Did (Run running)
+    run_boundless running b same p = record {
       prints = prints_as held lost is_down _ _ _ _ _ out out' _ _ _ _ _ end (λ t. tt)
-          (λ t r is. (t.0, t.1, is.1 ∙ is_misplaced (misplacing k running.placing) why (trace_report MAX_ROWS k running.budget t.0) (refused_by (misplacing k running.placing) why is.0 o)))
-          (λ not. (running.placing, refl, (why, refused_by (misplacing k running.placing) why not o))) (λ n. absurd n) (λ n. absurd n) p;
+          (λ t r is. (t.0, t.1, is ∙ unbounded (budget_for k running.budget) (λ units. unless_misplaced (misplacing k running.placing) (trace_report MAX_ROWS k units t.0)) b))
+          (λ _. inl (running, refl, b)) (λ n. absurd n) (λ n. absurd n) p;
       trace = inl same;
     }
 
-    pub explained : (budget order : ℕ) → RunsRows left faults down held lost is_down MAX_ROWS k budget Unit old new out out' end → Did (Explain budget order)
-    explained budget order p = record {
-      prints = prints_as held lost is_down _ _ _ _ _ out out' _ _ _ _ _ end (λ t. t) (λ t r is. is) (λ n. absurd n) (λ u. (_, refl, (u.0, refl, u.1))) (λ _. (budget, order, refl)) p.prints;
-      trace = inr (_, refl, (refl, p.trace));
+    pub run_placed : (running : PlainRunning) (units : ℕ) → budget_for k running.budget ≡ Some units → misplacing k running.placing ≡ None →
+        RunsRows left faults down held lost is_down MAX_ROWS k units ⊥ old new out out' end → Did (Run running)
+    run_placed running units b e p = record {
+      prints = prints_as held lost is_down _ _ _ _ _ out out' _ _ _ _ _ end (λ t. t)
+          (λ t r is. (
+            is.0,
+            is.1,
+            is.2 ∙ unmisplaced (misplacing k running.placing) (trace_report MAX_ROWS k units is.0) e
+                ∙ bounded (budget_for k running.budget) units (λ u. unless_misplaced (misplacing k running.placing) (trace_report MAX_ROWS k u is.0)) b,
+          ))
+          (λ n. absurd n) (λ u. (running, refl, (u.0, e, units, b, u.1))) (λ n. absurd n) p.prints;
+      trace = inr (running, refl, (e, units, b, p.trace));
+    }
+
+    pub run_misplaced : (running : PlainRunning) (units : ℕ) → budget_for k running.budget ≡ Some units → (why : PlaceFault) → new ≡ old → (why ≡ fault.OutOfMemory) ⊎ (misplacing k running.placing ≡ Some why) →
+        Misplaces held lost is_down why out out' end → Did (Run running)
+    run_misplaced running units b why same o p = record {
+      prints = prints_as held lost is_down _ _ _ _ _ out out' _ _ _ _ _ end (λ t. tt)
+          (λ t r is. (
+            t.0,
+            t.1,
+            is.1 ∙ is_misplaced (misplacing k running.placing) why (trace_report MAX_ROWS k units t.0) (refused_by (misplacing k running.placing) why is.0 o)
+                ∙ bounded (budget_for k running.budget) units (λ u. unless_misplaced (misplacing k running.placing) (trace_report MAX_ROWS k u t.0)) b,
+          ))
+          (λ not. inr (running.placing, refl, (why, refused_by (misplacing k running.placing) why not o))) (λ n. absurd n) (λ n. absurd n) p;
+      trace = inl same;
+    }
+
+    pub explain_boundless : (b : Budget) (order : ℕ) → IsBoundless k b → new ≡ old → Says held lost is_down boundless Unit out out' end → Did (Explain b order)
+    explain_boundless b order none same p = record {
+      prints = prints_as held lost is_down _ _ _ _ _ out out' _ _ _ _ _ end (λ t. tt)
+          (λ t r is. (t.0, t.1, is ∙ unbounded (budget_for k b) (λ units. trace_report MAX_ROWS k units t.0) none)) (λ _. inl (_, refl, none)) (λ n. absurd n) (λ n. absurd n) p;
+      trace = inl same;
+    }
+
+    pub explained : (b : Budget) (order units : ℕ) → budget_for k b ≡ Some units → RunsRows left faults down held lost is_down MAX_ROWS k units Unit old new out out' end → Did (Explain b order)
+    explained b order units is_so p = record {
+      prints = prints_as held lost is_down _ _ _ _ _ out out' _ _ _ _ _ end (λ t. t)
+          (λ t r is. (is.0, is.1, is.2 ∙ bounded (budget_for k b) units (λ u. trace_report MAX_ROWS k u is.0) is_so)) (λ n. absurd n) (λ u. (_, refl, (u.0, refl, units, is_so, u.1))) (λ _. (b, order, refl)) p.prints;
+      trace = inr (_, refl, (refl, units, is_so, p.trace));
     }
 
     pub checked : new ≡ old → Says held lost is_down (counted counts) ⊥ out out' end → Did Check
@@ -88,9 +143,28 @@ module _ {K : Type 0} (held : K → Option (List ℕ)) (lost : K → ℕ) (is_do
 
     pub threaded : (placing : PlainPlacing) → new ≡ old → Prints held lost is_down Unit (ThreadsReport k placing) (IsMisplaced k placing) ⊥ ⊥ out out' end → Did (Threads placing)
     threaded placing same p = record {
-      prints = prints_as held lost is_down _ _ _ _ _ out out' _ _ _ _ _ end (λ t. tt) (λ t r is. is) (λ m. (placing, refl, m)) (λ n. absurd n) (λ n. absurd n) p;
+      prints = prints_as held lost is_down _ _ _ _ _ out out' _ _ _ _ _ end (λ t. tt) (λ t r is. is) (λ m. inr (placing, refl, m)) (λ n. absurd n) (λ n. absurd n) p;
       trace = inl same;
     }
 
     pub coded : new ≡ old → Prints held lost is_down Unit (IsListing k) ⊥ ⊥ ⊥ out out' end → Did Code
     coded same p = record { prints = prints_as held lost is_down _ _ _ _ _ out out' _ _ _ _ _ end (λ t. tt) (λ t r is. is) (λ n. absurd n) (λ n. absurd n) (λ n. absurd n) p; trace = inl same }
+
+-- memory ran out before anything was done
+pub nothing_done : {S K : Type 0} (left : S → Option (List ℕ)) (faults : S → ℕ) (down : S → Bool) (held : K → Option (List ℕ)) (lost : K → ℕ) (is_down : K → Bool) (command : PlainCommand) (counts : Counts) (k : PlainKernel) (old new : S)
+    (out out' : K) → new ≡ old → out' ≡ out → Answers left faults down held lost is_down command counts k old new out out' status.NoMemory
+nothing_done left faults down held lost is_down command counts k old new out out' same kept =
+    record { prints = prints_nothing held lost is_down _ _ _ _ _ out out' (rw kept refl); trace = inl same }
+
+-- the bound as a budget
+small_bound : (n : ℕ) (over : Bool) → nat_lt MAX_BUDGET n ≡ over → IfSome (cond over None (Some n)) (λ most. most ≤ MAX_BUDGET)
+small_bound n true e = tt
+small_bound n false e = ltb-false MAX_BUDGET n e
+
+pub bound_units : {E : Type 0} (k : PlainKernel) (b : Budget) (r : Result (Option ℕ) E) → b ≡ budget.Bound → IfOk r (λ x. x ≡ as_budget (worst_case k)) → IfOk r (λ units. units ≡ budget_for k b)
+bound_units k b (Ok x) is e = e ∙ sym (ap (budget_for k) is)
+bound_units k b (Err x) is e = tt
+
+pub bound_small : {E : Type 0} (k : PlainKernel) (r : Result (Option ℕ) E) → IfOk r (λ x. x ≡ as_budget (worst_case k)) → IfOk r (λ units. IfSome units (λ most. most ≤ MAX_BUDGET))
+bound_small k (Ok x) e = subst (λ (o : Option ℕ). IfSome o (λ most. most ≤ MAX_BUDGET)) (sym e) (small_bound (worst_case k) (nat_lt MAX_BUDGET (worst_case k)) refl)
+bound_small k (Err x) e = tt

@@ -3,10 +3,13 @@ use Rattle.std.proofs.Common.{◌≡◌, ◌≤◌, ℕ, nat_le, cond, if◌then
 use Rattle.std.specs.Prelude.{codes}
 use Rattle.std.proofs.lemmas.Bool.{leb-true}
 use Rattle.forec_base.specs.declared.limits.TheConstants.{MAX_CORES, MAX_BUDGET}
-use Rattle.command_words.specs.CommandLine.{PlainValues, kinds_of, values_of}
+use Rattle.command_words.specs.CommandLine.{PlainValues, is_word, kinds_of, values_of}
 use Rattle.command_words.specs.Numbers.{between, number_of, number_in, number_or}
-use Rattle.command_words.specs.Requests.{PlainPlacing, PlainRunning, PlainCommand, Run, Check, Threads, Code, Explain, PlainRequest, OnText, OnWorkload, placing_of, budget_of, order_of, running_of, explaining_of, placing_alone_of, has_no_options, is_word, command_of, workload_of, request_named, request_by, unless_refused, request_of}
+use Rattle.command_words.specs.Requests.{PlainPlacing, PlainRunning, PlainCommand, Run, Check, Threads, Code, Explain, PlainRequest, OnText, OnWorkload, placing_of, budget_of, budget_or, order_of, running_of, explaining_of, placing_alone_of, has_no_options, is_bare, command_of, workload_of, text_request_of, request_named, request_by, unless_refused, request_of}
+use Rattle.command_words.specs.declared.request.Budget.{Budget}
+use Rattle.command_words.specs.declared.request.Budget.TheVariants as budget
 use Rattle.command_words.specs.declared.request.TheConstants.{DEFAULT_BUDGET, MAX_WORKLOAD}
+use Rattle.forec_engine.specs.Budgets.{IsSmallBudget}
 use Rattle.forec_engine.specs.Commands.{IsPlaceable, IsRunnable, IsInRange, HasRanges}
 
 map_some : {A B : Type 0} (f : A → B) (o : Option A) (b : B) → option_map f o ≡ Some b → (x : A) × (o ≡ Some x) × (f x ≡ b)
@@ -38,6 +41,19 @@ or_usual : (usual most m : ℕ) (word : Option (List ℕ)) → 1 ≤ usual → u
 or_usual usual most m None some few e = let is : usual ≡ m = (let h : Some usual ≡ Some m = e in cc) in (subst (λ x. 1 ≤ x) is some, subst (λ x. x ≤ most) is few)
 or_usual usual most m (Some word) some few e = in_range 1 most m (number_of word) e
 
+-- ---- budgets
+
+small_units : (o : Option ℕ) (b : Budget) → option_map budget.Units o ≡ Some b → ((m : ℕ) → o ≡ Some m → m ≤ MAX_BUDGET) → IsSmallBudget b
+small_units o b e few = let m = map_some budget.Units o b e in subst IsSmallBudget m.2 (few m.0 m.1)
+
+small_word : (word : List ℕ) (b : Budget) (bound : Bool) → (if bound then Some budget.Bound else option_map budget.Units (number_in 1 MAX_BUDGET word)) ≡ Some b → IsSmallBudget b
+small_word word b true e = let is : budget.Bound ≡ b = (let g : Some budget.Bound ≡ Some b = e in cc) in subst IsSmallBudget is tt
+small_word word b false e = small_units (number_in 1 MAX_BUDGET word) b e (λ m f. (in_range 1 MAX_BUDGET m (number_of word) f).1)
+
+small : (word : Option (List ℕ)) (b : Budget) → budget_or word ≡ Some b → IsSmallBudget b
+small None b e = let is : budget.Units DEFAULT_BUDGET ≡ b = (let g : Some (budget.Units DEFAULT_BUDGET) ≡ Some b = e in cc) in subst IsSmallBudget is (let few : DEFAULT_BUDGET ≤ MAX_BUDGET = omega arith in few)
+small (Some word) b e = small_word word b (is_word word (codes "bound")) e
+
 -- ---- commands
 
 placeable : (v : PlainValues) (p : PlainPlacing) → placing_of v ≡ Some p → IsPlaceable p
@@ -50,8 +66,7 @@ runnable : (v : PlainValues) (r : PlainRunning) → running_of v ≡ Some r → 
 runnable v r e =
     let t = then_some _ (placing_of v) r (unless (is_some v.order) _ r e) in
     let m = map_some _ (budget_of v) r t.2 in
-    let n = or_usual DEFAULT_BUDGET MAX_BUDGET m.0 v.budget (omega arith) (omega arith) m.1 in
-    subst IsRunnable m.2 (record { placeable = placeable v t.0 t.1; small = n.1 })
+    subst IsRunnable m.2 (record { placeable = placeable v t.0 t.1; small = small v.budget m.0 m.1 })
 
 module _ (v : PlainValues) (c : PlainCommand) where
   runs : option_map Run (running_of v) ≡ Some c → IsInRange c
@@ -61,8 +76,7 @@ module _ (v : PlainValues) (c : PlainCommand) where
   explains e =
       let t = then_some _ (budget_of v) c (unless (is_some v.cores || is_some v.place) _ c e) in
       let m = map_some (Explain t.0) (order_of v) c t.2 in
-      let n = or_usual DEFAULT_BUDGET MAX_BUDGET t.0 v.budget (omega arith) (omega arith) t.1 in
-      subst IsInRange m.2 n.1
+      subst IsInRange m.2 (small v.budget t.0 t.1)
 
   lists : option_map Threads (placing_alone_of v) ≡ Some c → IsInRange c
   lists e =
@@ -77,29 +91,29 @@ module _ (v : PlainValues) (c : PlainCommand) where
       (if run then option_map Run (running_of v)
       else (if threads then option_map Threads (placing_alone_of v)
       else (if explain then explaining_of v
-      else (if check then cond (has_no_options v) (Some Check) None
+      else (if check then cond (is_bare v) (Some Check) None
       else (if code then cond (has_no_options v) (Some Code) None
       else None))))) ≡ Some c → IsInRange c
   by_words true threads explain check code e = runs e
   by_words false true explain check code e = lists e
   by_words false false true check code e = explains e
-  by_words false false false true code e = alone (has_no_options v) Check tt e
+  by_words false false false true code e = alone (is_bare v) Check tt e
   by_words false false false false true e = alone (has_no_options v) Code tt e
   by_words false false false false false e = absurd (let g : None ≡ Some c = e in cc)
 
 module _ (v : PlainValues) (r : PlainRequest) where
   workload : (number : List ℕ) → workload_of number v ≡ Some r → HasRanges r
   workload number e =
-      let t = then_some _ (number_in 1 MAX_WORKLOAD number) r e in
+      let t = then_some _ (number_in 1 MAX_WORKLOAD number) r (unless v.fold _ r e) in
       let m = map_some (OnWorkload t.0) (running_of v) r t.2 in
       subst HasRanges m.2 ((in_range 1 MAX_WORKLOAD t.0 (number_of number) t.1).1, runnable v m.0 m.1)
 
-  text : (name program : List ℕ) → option_map (OnText program) (command_of name v) ≡ Some r → HasRanges r
+  text : (name program : List ℕ) → text_request_of name program v ≡ Some r → HasRanges r
   text name program e =
-      let m = map_some (OnText program) (command_of name v) r e in
+      let m = map_some (λ c. OnText program c v.fold) (command_of name v) r e in
       subst HasRanges m.2 (by_words v m.0 (is_word name (codes "run")) (is_word name (codes "threads")) (is_word name (codes "explain")) (is_word name (codes "check")) (is_word name (codes "code")) m.1)
 
-  by_name : (name program : List ℕ) (b : Bool) → (if b then workload_of program v else option_map (OnText program) (command_of name v)) ≡ Some r → HasRanges r
+  by_name : (name program : List ℕ) (b : Bool) → (if b then workload_of program v else text_request_of name program v) ≡ Some r → HasRanges r
   by_name name program true e = workload program e
   by_name name program false e = text name program e
 

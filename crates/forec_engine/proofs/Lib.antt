@@ -1,5 +1,7 @@
 mod Answered
 mod Bounds
+mod Budgets
+mod FoldedReports
 mod Named
 mod Reports
 mod TopCall

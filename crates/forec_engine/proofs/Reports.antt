@@ -1,21 +1,21 @@
 -- Words have one report.
-use Rattle.std.proofs.Common.{◌≡◌, ◌⊎◌, inl, inr, ℕ, List, Option, Some, None, refl, sym, ap, subst, ◌∙◌}
+use Rattle.std.proofs.Common.{◌≡◌, ◌⊎◌, inl, inr, ℕ, Bool, List, Option, Some, None, refl, sym, ap, subst, ◌∙◌}
 use Rattle.forec_kernel.specs.Shapes.{PlainKernel}
-use Rattle.forec_base.specs.declared.limits.TheConstants.{MAX_ROWS}
-use Rattle.core_alloc.specs.declared.fault.PlacementFault.{PlacementFault}
+use Rattle.core_alloc.specs.declared.fault.PlaceFault.{PlaceFault}
 use Rattle.command_words.specs.Requests.{PlainPlacing, PlainRunning, PlainCommand, Run, Check, Threads, Code, Explain, PlainRequest, OnText, OnWorkload, request_of}
 use Rattle.thread_places.specs.Laws.{OnePlacement, SomePlacement}
-use Rattle.forec_engine.specs.Commands.{IsListing, ThreadsReport, Of_misplaced, Of_placed, AcceptedReport, Of_refusal, Of_accepted, TextReport, WorkloadReport, Of_usage, Of_text, Of_workload, IsReport, TellsTrace, Tells, usage, refused, counted, threads_listed, run_report}
+use Rattle.forec_engine.specs.Commands.{IsListing, ThreadsReport, Of_misplaced, Of_placed, AcceptedReport, CommandReport, Of_refusal, Of_accepted, TextReport, WorkloadReport, Of_usage, Of_text, Of_workload, IsReport, TellsTrace, Tells, usage, refused, counted, threads_listed, run_report, explain_report}
 use Rattle.text_verdict.specs.Judging.{Verdict, Refuses, Accepts, Judged}
 use Rattle.text_verdict.specs.Laws.{OneVerdict, SomeVerdict}
 use Rattle.forec_engine.specs.Laws.{AskForCode, OneReport, ListOneKernel, AlikeReports, SomeReport}
 use Rattle.text_verdict.specs.declared.counts.Counts.{Counts}
 use Rattle.text_verdict.specs.declared.refusal.Refusal.{Refusal}
+use Rattle.forec_engine.specs.Folds.{kernel_for}
 use Rattle.forec_engine.specs.Placing.{misplaced, misplacing}
-use Rattle.trace_runs.specs.Report.{Report, trace_report}
+use Rattle.trace_runs.specs.Report.{Report}
 use Rattle.forec_engine.specs.Placing.{workload_report}
 
-some_same : {A : Type 0} (x y : A) → Some x ≡ Some y → x ≡ y
+pub some_same : {A : Type 0} (x y : A) → Some x ≡ Some y → x ≡ y
 some_same x y e = cc
 
 refused_same : (why other : Refusal) → Refuses why ≡ Refuses other → why ≡ other
@@ -27,13 +27,17 @@ counts_same c d k l e = cc
 kernel_same : (c d : Counts) (k l : PlainKernel) → Accepts c k ≡ Accepts d l → k ≡ l
 kernel_same c d k l e = cc
 
+-- and so the kernels that a command is done with
+accepts_for : (fold : Bool) (c d : Counts) (k l : PlainKernel) → Accepts c k ≡ Accepts d l → Accepts c (kernel_for fold k) ≡ Accepts d (kernel_for fold l)
+accepts_for fold c d k l e = ap (λ x. Accepts x (kernel_for fold k)) (counts_same c d k l e) ∙ ap (λ x. Accepts d (kernel_for fold x)) (kernel_same c d k l e)
+
 -- what is accepted isn't refused
 never_both : (why : Refusal) (c : Counts) (k : PlainKernel) → Refuses why ≡ Accepts c k → ⊥
 never_both why c k e = cc
 
 -- ---- one report of an accepted text
 
-never_placed : (why : PlacementFault) (o : Option PlacementFault) → o ≡ Some why → o ≡ None → ⊥
+never_placed : (why : PlaceFault) (o : Option PlaceFault) → o ≡ Some why → o ≡ None → ⊥
 never_placed why o e f = let h : Some why ≡ None = sym e ∙ f in cc
 
 -- two lists of a kernel's threads
@@ -51,7 +55,7 @@ one_accepted one (Run running) c d k l trace r q other e x y =
 one_accepted one Check c d k l trace r q other e x y = x ∙ ap counted (counts_same c d k l e) ∙ sym y
 one_accepted one (Threads placing) c d k l trace r q other e x y = two_threads one l placing r q (subst (λ m. ThreadsReport m placing r) (kernel_same c d k l e) x) y
 one_accepted one (Explain budget order) c d k l trace r q other e x y =
-    x.2 ∙ ap (λ m. trace_report MAX_ROWS m budget x.0) (kernel_same c d k l e) ∙ ap (trace_report MAX_ROWS l budget) (some_same x.0 y.0 (sym x.1 ∙ y.1)) ∙ sym y.2
+    x.2 ∙ ap (λ m. explain_report m budget x.0) (kernel_same c d k l e) ∙ ap (explain_report l budget) (some_same x.0 y.0 (sym x.1 ∙ y.1)) ∙ sym y.2
 one_accepted one Code c d k l trace r q other e x y = absurd (other refl)
 
 -- what any command says of it
@@ -78,34 +82,40 @@ workload_both : (threads : ℕ) (running : PlainRunning) (c d : Counts) (k l : P
     r ≡ workload_report threads running k → q ≡ workload_report threads running l → r ≡ q
 workload_both threads running c d k l r q e x y = x ∙ ap (workload_report threads running) (kernel_same c d k l e) ∙ sym y
 
-name_same : (n m : List ℕ) (c d : PlainCommand) → Some (OnText n c) ≡ Some (OnText m d) → n ≡ m
-name_same n m c d e = cc
+pub name_same : (n m : List ℕ) (c d : PlainCommand) (a b : Bool) → Some (OnText n c a) ≡ Some (OnText m d b) → n ≡ m
+name_same n m c d a b e = cc
 
-command_same : (n m : List ℕ) (c d : PlainCommand) → Some (OnText n c) ≡ Some (OnText m d) → c ≡ d
-command_same n m c d e = cc
+pub command_same : (n m : List ℕ) (c d : PlainCommand) (a b : Bool) → Some (OnText n c a) ≡ Some (OnText m d b) → c ≡ d
+command_same n m c d a b e = cc
 
-threads_same : (n m : ℕ) (c d : PlainRunning) → Some (OnWorkload n c) ≡ Some (OnWorkload m d) → n ≡ m
+pub fold_same : (n m : List ℕ) (c d : PlainCommand) (a b : Bool) → Some (OnText n c a) ≡ Some (OnText m d b) → a ≡ b
+fold_same n m c d a b e = cc
+
+pub threads_same : (n m : ℕ) (c d : PlainRunning) → Some (OnWorkload n c) ≡ Some (OnWorkload m d) → n ≡ m
 threads_same n m c d e = cc
 
-running_same : (n m : ℕ) (c d : PlainRunning) → Some (OnWorkload n c) ≡ Some (OnWorkload m d) → c ≡ d
+pub running_same : (n m : ℕ) (c d : PlainRunning) → Some (OnWorkload n c) ≡ Some (OnWorkload m d) → c ≡ d
 running_same n m c d e = cc
 
 never_none : (x : PlainRequest) → None ≡ Some x → ⊥
 never_none x e = cc
 
-never_text : (n : List ℕ) (c : PlainCommand) (m : ℕ) (d : PlainRunning) → Some (OnText n c) ≡ Some (OnWorkload m d) → ⊥
-never_text n c m d e = cc
+pub never_text : (n : List ℕ) (c : PlainCommand) (a : Bool) (m : ℕ) (d : PlainRunning) → Some (OnText n c a) ≡ Some (OnWorkload m d) → ⊥
+never_text n c a m d e = cc
 
 module _ (one : OneVerdict) (words : List (List ℕ)) (content : List ℕ → Option (List ℕ)) (trace : Option (List ℕ)) (P : Report → Report → Type 0) (same : (r q : Report) → r ≡ q → P r q)
-    (both : (name : List ℕ) (command : PlainCommand) → request_of words ≡ Some (OnText name command) → (c d : Counts) (k l : PlainKernel) (r q : Report) → Accepts c k ≡ Accepts d l →
-    AcceptedReport command trace c k r → AcceptedReport command trace d l q → P r q) where
-  two_of_names : (r q : Report) (name other : List ℕ) (command also : PlainCommand) (text more : List ℕ) → request_of words ≡ Some (OnText name command) → request_of words ≡ Some (OnText other also) →
-      content name ≡ Some text → content other ≡ Some more → TextReport text (AcceptedReport command trace) r → TextReport more (AcceptedReport also trace) q → P r q
-  two_of_names r q name other command also text more n m c d t u =
-      let pairs : Some (OnText name command) ≡ Some (OnText other also) = sym n ∙ m in
-      let texts : text ≡ more = some_same text more (sym c ∙ ap content (name_same name other command also pairs) ∙ d) in
-      two_of_text one (AcceptedReport also trace) P same (both other also m) more r q
-      (subst (λ x. TextReport x (AcceptedReport also trace) r) texts (subst (λ x. TextReport text (AcceptedReport x trace) r) (command_same name other command also pairs) t)) u
+    (both : (name : List ℕ) (command : PlainCommand) (fold : Bool) → request_of words ≡ Some (OnText name command fold) → (c d : Counts) (k l : PlainKernel) (r q : Report) → Accepts c k ≡ Accepts d l →
+    CommandReport command fold trace c k r → CommandReport command fold trace d l q → P r q) where
+  two_of_names : (r q : Report) (name other : List ℕ) (command also : PlainCommand) (fold folds : Bool) (text more : List ℕ) → request_of words ≡ Some (OnText name command fold) →
+      request_of words ≡ Some (OnText other also folds) → content name ≡ Some text → content other ≡ Some more → TextReport text (CommandReport command fold trace) r →
+      TextReport more (CommandReport also folds trace) q → P r q
+  two_of_names r q name other command also fold folds text more n m c d t u =
+      let pairs : Some (OnText name command fold) ≡ Some (OnText other also folds) = sym n ∙ m in
+      let texts : text ≡ more = some_same text more (sym c ∙ ap content (name_same name other command also fold folds pairs) ∙ d) in
+      two_of_text one (CommandReport also folds trace) P same (both other also folds m) more r q
+      (subst (λ x. TextReport x (CommandReport also folds trace) r) texts
+      (subst (λ x. TextReport text (CommandReport also x trace) r) (fold_same name other command also fold folds pairs)
+      (subst (λ x. TextReport text (CommandReport x fold trace) r) (command_same name other command also fold folds pairs) t))) u
 
   two_of_workloads : (r q : Report) (threads others : ℕ) (running also : PlainRunning) → Some (OnWorkload threads running) ≡ Some (OnWorkload others also) →
       WorkloadReport threads running r → WorkloadReport others also q → P r q
@@ -115,27 +125,29 @@ module _ (one : OneVerdict) (words : List (List ℕ)) (content : List ℕ → Op
 
   two_reports : (r q : Report) → IsReport words content trace r → IsReport words content trace q → P r q
   two_reports r q (Of_usage n e) (Of_usage m f) = same r q (e ∙ sym f)
-  two_reports r q (Of_usage n e) (Of_text name command text m c t) = absurd (never_none _ (sym n ∙ m))
+  two_reports r q (Of_usage n e) (Of_text name command fold text m c t) = absurd (never_none _ (sym n ∙ m))
   two_reports r q (Of_usage n e) (Of_workload threads running m t) = absurd (never_none _ (sym n ∙ m))
-  two_reports r q (Of_text name command text n c t) (Of_usage m e) = absurd (never_none _ (sym m ∙ n))
-  two_reports r q (Of_text name command text n c t) (Of_text other also more m d u) = two_of_names r q name other command also text more n m c d t u
-  two_reports r q (Of_text name command text n c t) (Of_workload threads running m u) = absurd (never_text name command threads running (sym n ∙ m))
+  two_reports r q (Of_text name command fold text n c t) (Of_usage m e) = absurd (never_none _ (sym m ∙ n))
+  two_reports r q (Of_text name command fold text n c t) (Of_text other also folds more m d u) = two_of_names r q name other command also fold folds text more n m c d t u
+  two_reports r q (Of_text name command fold text n c t) (Of_workload threads running m u) = absurd (never_text name command fold threads running (sym n ∙ m))
   two_reports r q (Of_workload threads running n t) (Of_usage m e) = absurd (never_none _ (sym m ∙ n))
-  two_reports r q (Of_workload threads running n t) (Of_text name command text m c u) = absurd (never_text name command threads running (sym m ∙ n))
+  two_reports r q (Of_workload threads running n t) (Of_text name command fold text m c u) = absurd (never_text name command fold threads running (sym m ∙ n))
   two_reports r q (Of_workload threads running n t) (Of_workload others also m u) = two_of_workloads r q threads others running also (sym n ∙ m) t u
 
 pub one_report : OneVerdict → OnePlacement → OneReport
 one_report one places words content trace r q not x y =
     two_reports one words content trace (λ a b. a ≡ b) (λ a b e. e)
-    (λ name command is c d k l a b e t u. one_accepted places command c d k l trace a b (λ z. not (name, subst (λ m. request_of words ≡ Some (OnText name m)) z is)) e t u) r q x y
+    (λ name command fold is c d k l a b e t u.
+    one_accepted places command c d (kernel_for fold k) (kernel_for fold l) trace a b (λ z. not (name, fold, subst (λ m. request_of words ≡ Some (OnText name m fold)) z is)) (accepts_for fold c d k l e) t u) r q x y
 
 pub alike_reports : OneVerdict → OnePlacement → AlikeReports
 alike_reports one places words content trace r q x y =
-    two_reports one words content trace (λ a b. (a ≡ b) ⊎ ListOneKernel a b) (λ a b e. inl e) (λ name command is c d k l a b e t u. alike_accepted places command c d k l trace a b e t u) r q x y
+    two_reports one words content trace (λ a b. (a ≡ b) ⊎ ListOneKernel a b) (λ a b e. inl e)
+    (λ name command fold is c d k l a b e t u. alike_accepted places command c d (kernel_for fold k) (kernel_for fold l) trace a b (accepts_for fold c d k l e) t u) r q x y
 
 -- ---- some report
 
-some_threads : SomePlacement → (k : PlainKernel) (placing : PlainPlacing) (o : Option PlacementFault) → misplacing k placing ≡ o → ((r : Report) → ThreadsReport k placing r → ⊥) → ⊥
+some_threads : SomePlacement → (k : PlainKernel) (placing : PlainPlacing) (o : Option PlaceFault) → misplacing k placing ≡ o → ((r : Report) → ThreadsReport k placing r → ⊥) → ⊥
 some_threads some k placing None e never = let p = some k placing e in never (threads_listed k p.0.places) (Of_placed p.0 e p.1 refl)
 some_threads some k placing (Some why) e never = never (misplaced why) (Of_misplaced why e refl)
 
@@ -144,7 +156,7 @@ some_of_accepted : SomePlacement → (command : PlainCommand) (trace : Option (L
 some_of_accepted some (Run running) trace c k other told never = never (run_report k running told.0) (told.0, told.1, refl)
 some_of_accepted some Check trace c k other told never = never (counted c) refl
 some_of_accepted some (Threads placing) trace c k other told never = some_threads some k placing (misplacing k placing) refl never
-some_of_accepted some (Explain budget order) trace c k other told never = never (trace_report MAX_ROWS k budget told.0) (told.0, told.1, refl)
+some_of_accepted some (Explain budget order) trace c k other told never = never (explain_report k budget told.0) (told.0, told.1, refl)
 some_of_accepted some Code trace c k other told never = other refl
 
 some_of_text : SomeVerdict → (text : List ℕ) (Says : Counts → PlainKernel → Report → Type 0) → ((c : Counts) (k : PlainKernel) → ((r : Report) → Says c k r → ⊥) → ⊥) → ((r : Report) → TextReport text Says r → ⊥) → ⊥
@@ -157,10 +169,11 @@ some_of_text verdict text Says some never = verdict text by
 some_of_words : SomeVerdict → SomePlacement → (words : List (List ℕ)) (content : List ℕ → Option (List ℕ)) (trace : Option (List ℕ)) (x : Option PlainRequest) → request_of words ≡ x → (AskForCode words → ⊥) →
     Tells words content trace → ((r : Report) → IsReport words content trace r → ⊥) → ⊥
 some_of_words verdict some words content trace None e not told never = never usage (Of_usage e refl)
-some_of_words verdict some words content trace (Some (OnText name command)) e not told never =
-    let text = told name command e in
-    some_of_text verdict text.0 (AcceptedReport command trace) (λ c k. some_of_accepted some command trace c k (λ z. not (name, subst (λ m. request_of words ≡ Some (OnText name m)) z e)) text.2)
-    (λ r t. never r (Of_text name command text.0 e text.1 t))
+some_of_words verdict some words content trace (Some (OnText name command fold)) e not told never =
+    let text = told name command fold e in
+    some_of_text verdict text.0 (CommandReport command fold trace)
+    (λ c k. some_of_accepted some command trace c (kernel_for fold k) (λ z. not (name, fold, subst (λ m. request_of words ≡ Some (OnText name m fold)) z e)) text.2)
+    (λ r t. never r (Of_text name command fold text.0 e text.1 t))
 some_of_words verdict some words content trace (Some (OnWorkload threads running)) e not told never =
     some_of_text verdict _ (λ c k x. x ≡ workload_report threads running k) (λ c k none. none (workload_report threads running k) refl) (λ r t. never r (Of_workload threads running e t))
 

@@ -5,8 +5,8 @@ use Rattle.command_words.specs.Requests.{PlainRunning, PlainCommand, OnText, OnW
 use Rattle.workload.specs.Text.{text_of}
 use Rattle.forec_engine.specs.Answers.{AnswersNamed, AnswersWords}
 use Rattle.forec_engine.specs.Commands.{IsReport, Of_usage, Of_text, Of_workload, WorkloadReport, Tells, usage}
-use Rattle.forec_engine.specs.Ends.{WantedByWords, ReadForWords, AcceptedSo, IsMisuse, Asks_nothing, Misplaces, Misplaces_workload, NameText, AskForRewriting}
-use Rattle.forec_engine.specs.Placing.{IsMisplaced}
+use Rattle.forec_engine.specs.Ends.{WantedByWords, ReadForWords, AcceptedSo, IsMisuse, Asks_nothing, Misuses, Misuses_workload, NameText, AskForRewriting}
+use Rattle.forec_engine.specs.Placing.{IsRefusedRun}
 use Rattle.trace_runs.specs.Ends.{IsOwn}
 use Rattle.trace_runs.specs.Prints.{Prints, Says}
 use Rattle.trace_runs.specs.declared.status.Status.{Status}
@@ -22,19 +22,21 @@ module _ {S K : Type 0} (left : S → Option (List ℕ)) (faults : S → ℕ) (d
   abbrev pub WordsPrint : Status → Type 0
   WordsPrint end = Prints held lost is_down (Tells words content (left old)) (IsReport words content (left old)) (IsMisuse words content) Unread (AskForRewriting words) out out' end
 
-  pub words_text : (name : List ℕ) (command : PlainCommand) (end : Status) → request_of words ≡ Some (OnText name command) → AnswersNamed left faults down held lost is_down command content name Lost old new out out' end → WordsPrint end
-  words_text name command end request p =
-      prints_as held lost is_down _ _ _ _ _ out out' _ _ _ _ _ end (λ told. told name command request) (λ told r is. Of_text name command is.0 request is.1 is.2) (λ m. Misplaces name command request m)
-      (λ u. elim u [ inl store ↦ inl store | inr r ↦ inr (r.2.0, (r.0, name, command, request, r.1, r.2.1)) ]) (λ m. (name, command, request, m)) p.prints
+  pub words_text : (name : List ℕ) (command : PlainCommand) (fold : Bool) (end : Status) → request_of words ≡ Some (OnText name command fold) →
+      AnswersNamed left faults down held lost is_down command fold content name Lost old new out out' end → WordsPrint end
+  words_text name command fold end request p =
+      prints_as held lost is_down _ _ _ _ _ out out' _ _ _ _ _ end (λ told. told name command fold request) (λ told r is. Of_text name command fold is.0 request is.1 is.2)
+      (λ m. Misuses name command fold request m) (λ u. elim u [ inl store ↦ inl store | inr r ↦ inr (r.2.0, (r.0, name, command, fold, request, r.1, r.2.1)) ])
+      (λ m. (name, command, fold, request, m)) p.prints
 
-  pub words_trace : (name : List ℕ) (command : PlainCommand) (end : Status) → request_of words ≡ Some (OnText name command) → AnswersNamed left faults down held lost is_down command content name Lost old new out out' end →
-      (new ≡ old) ⊎ ReadForWords left faults down words content old new
-  words_trace name command end request p = elim p.trace [ inl same ↦ inl same | inr r ↦ inr (r.0, name, command, request, r.1, r.2) ]
+  pub words_trace : (name : List ℕ) (command : PlainCommand) (fold : Bool) (end : Status) → request_of words ≡ Some (OnText name command fold) →
+      AnswersNamed left faults down held lost is_down command fold content name Lost old new out out' end → (new ≡ old) ⊎ ReadForWords left faults down words content old new
+  words_trace name command fold end request p = elim p.trace [ inl same ↦ inl same | inr r ↦ inr (r.0, name, command, fold, request, r.1, r.2) ]
 
   pub words_workload : (threads : ℕ) (running : PlainRunning) (end : Status) → request_of words ≡ Some (OnWorkload threads running) →
-      Prints held lost is_down Unit (WorkloadReport threads running) (AcceptedSo (λ k. IsMisplaced k running.placing) (text_of threads)) ⊥ ⊥ out out' end → WordsPrint end
+      Prints held lost is_down Unit (WorkloadReport threads running) (AcceptedSo (λ k. IsRefusedRun k running) (text_of threads)) ⊥ ⊥ out out' end → WordsPrint end
   words_workload threads running end request p =
-      prints_as held lost is_down _ _ _ _ _ out out' _ _ _ _ _ end (λ told. tt) (λ told r is. Of_workload threads running request is) (λ m. Misplaces_workload threads running request m) (λ n. absurd n) (λ n. absurd n) p
+      prints_as held lost is_down _ _ _ _ _ out out' _ _ _ _ _ end (λ told. tt) (λ told r is. Of_workload threads running request is) (λ m. Misuses_workload threads running request m) (λ n. absurd n) (λ n. absurd n) p
 
   pub words_nothing : (end : Status) (Misused : Type 0) → request_of words ≡ None → Says held lost is_down usage Misused out out' end → WordsPrint end
   words_nothing end Misused none p =

@@ -5,8 +5,9 @@ use Rattle.forec_base.specs.declared.limits.TheConstants.{MAX_ROWS}
 use Rattle.forec_kernel.specs.Shapes.{PlainKernel}
 use Rattle.command_words.specs.Requests.{PlainRunning, PlainCommand}
 use Rattle.text_verdict.specs.declared.counts.Counts.{Counts}
-use Rattle.forec_engine.specs.Commands.{AcceptedReport, TextReport, IsReport, TellsTrace, TellsNamed, Tells}
-use Rattle.forec_engine.specs.Ends.{WantedByText, WantedByWords, ReadForText, ReadForWords, CommandIsMisplaced, AcceptedSo, IsMisuse, NameText, AskForRewriting, Rewrites, running_in}
+use Rattle.forec_engine.specs.Budgets.{budget_for}
+use Rattle.forec_engine.specs.Commands.{AcceptedReport, CommandReport, TextReport, IsReport, TellsTrace, TellsNamed, Tells}
+use Rattle.forec_engine.specs.Ends.{WantedByText, WantedByWords, ReadForText, ReadForWords, CommandIsMisused, FoldedIsMisused, AcceptedSo, IsMisuse, NameText, AskForRewriting, Rewrites, running_in}
 use Rattle.forec_engine.specs.Placing.{misplacing}
 use Rattle.trace_runs.specs.Calls.{AppendsFront}
 use Rattle.trace_runs.specs.Ends.{IsOwn, Given, Wanted, ReadFor}
@@ -23,29 +24,29 @@ module _ {S K : Type 0} (left : S → Option (List ℕ)) (faults : S → ℕ) (d
     (is_down : K → Bool) (command : PlainCommand) where
   -- it was done with the kernel of a text that is accepted
   pub record Answers (counts : Counts) (k : PlainKernel) (old new : S) (out_old out_new : K) (end : Status) : Type 0 where
-    pub prints : Prints held lost is_down (TellsTrace command (left old)) (AcceptedReport command (left old) counts k) (CommandIsMisplaced command k)
+    pub prints : Prints held lost is_down (TellsTrace command (left old)) (AcceptedReport command (left old) counts k) (CommandIsMisused command k)
         (Running command (λ running. Fell (faults old) (faults new) (down new) × (misplacing k running.placing ≡ None)
-        × Wanted MAX_ROWS k running.budget (left old) (left new) (held out_old) (held out_new))) (Rewrites command) out_old out_new end
+        × (units : ℕ) × (budget_for k running.budget ≡ Some units) × Wanted MAX_ROWS k units (left old) (left new) (held out_old) (held out_new))) (Rewrites command) out_old out_new end
     pub trace : (new ≡ old) ⊎ Running command (λ running. (misplacing k running.placing ≡ None)
-        × ReadFor left faults down MAX_ROWS k running.budget old new)
+        × (units : ℕ) × (budget_for k running.budget ≡ Some units) × ReadFor left faults down MAX_ROWS k units old new)
 
-  -- it was done with a text
-  pub record AnswersText (text : List ℕ) (old new : S) (out_old out_new : K) (end : Status) : Type 0 where
-    pub prints : Prints held lost is_down (TellsTrace command (left old)) (TextReport text (AcceptedReport command (left old)))
-        (AcceptedSo (CommandIsMisplaced command) text)
+  -- it was done with a text, whose kernel was folded first, or not
+  pub record AnswersText (fold : Bool) (text : List ℕ) (old new : S) (out_old out_new : K) (end : Status) : Type 0 where
+    pub prints : Prints held lost is_down (TellsTrace command (left old)) (TextReport text (CommandReport command fold (left old)))
+        (AcceptedSo (FoldedIsMisused command fold) text)
         (Running command (λ running. Fell (faults old) (faults new) (down new)
-        × WantedByText running text (left old) (left new) (held out_old) (held out_new))) (Rewrites command) out_old out_new end
-    pub trace : (new ≡ old) ⊎ Running command (λ running. ReadForText left faults down running text old new)
+        × WantedByText fold running text (left old) (left new) (held out_old) (held out_new))) (Rewrites command) out_old out_new end
+    pub trace : (new ≡ old) ⊎ Running command (λ running. ReadForText left faults down fold running text old new)
 
   -- it was done with the text of a name. `Lost`: the store of the texts failed
-  pub record AnswersNamed (content : List ℕ → Option (List ℕ)) (name : List ℕ) (Lost : Type 0) (old new : S) (out_old out_new : K) (end : Status) : Type 0 where
+  pub record AnswersNamed (fold : Bool) (content : List ℕ → Option (List ℕ)) (name : List ℕ) (Lost : Type 0) (old new : S) (out_old out_new : K) (end : Status) : Type 0 where
     pub prints : Prints held lost is_down (TellsNamed content name command (left old))
-        (λ r. (text : List ℕ) × (content name ≡ Some text) × TextReport text (AcceptedReport command (left old)) r)
-        (IfSome (content name) (AcceptedSo (CommandIsMisplaced command)))
+        (λ r. (text : List ℕ) × (content name ≡ Some text) × TextReport text (CommandReport command fold (left old)) r)
+        (IfSome (content name) (AcceptedSo (FoldedIsMisused command fold)))
         ((Lost × (held out_new ≡ held out_old)) ⊎ Running command (λ running. Fell (faults old) (faults new) (down new)
-        × IfSome (content name) (λ text. WantedByText running text (left old) (left new) (held out_old) (held out_new))))
+        × IfSome (content name) (λ text. WantedByText fold running text (left old) (left new) (held out_old) (held out_new))))
         (Rewrites command) out_old out_new end
-    pub trace : (new ≡ old) ⊎ Running command (λ running. IfSome (content name) (λ text. ReadForText left faults down running text old new))
+    pub trace : (new ≡ old) ⊎ Running command (λ running. IfSome (content name) (λ text. ReadForText left faults down fold running text old new))
 
 -- What the words ask was done. `content`: of a store the text of each name. `missed`, `gone`: how often the store has failed, and whether its
 -- last call failed; `faults` and `down` of the trace, `lost` and `is_down` of the sink.
@@ -61,7 +62,7 @@ pub record AnswersWords {T S K : Type 0} (content : T → List ℕ → Option (L
   -- the sink failed; what was printed is a prefix of a report of the words
   pub write : end ≡ status.WriteFault → Fell (lost out_old) (lost out_new) (is_down out_new) × (Tells words (content store_old) (left old) →
       (r : Report) × IsReport words (content store_old) (left old) r × AppendsFront (held out_old) (held out_new) r.bytes)
-  -- the trace is read by `run` and `explain` alone, for a text that is accepted, whose list of places isn't refused, and no read is asked for
+  -- the trace is read by `run` and `explain` alone, for a text that is accepted, where neither the budget nor the list of places is refused, and no read is asked for
   -- once a line that stops the program has come whole
   pub trace : (new ≡ old) ⊎ ReadForWords left faults down words (content store_old) old new
   -- no text is read but the one that the words name
@@ -69,7 +70,7 @@ pub record AnswersWords {T S K : Type 0} (content : T → List ℕ → Option (L
   -- where memory ran out, nothing was printed; of a program that is rewritten a prefix of a report may be
   pub memory : end ≡ status.NoMemory → (held out_new ≡ held out_old) ⊎ (AskForRewriting words × (Tells words (content store_old) (left old) →
       (r : Report) × IsReport words (content store_old) (left old) r × AppendsFront (held out_old) (held out_new) r.bytes))
-  -- this status comes only where the words ask for nothing, or the list of places is refused
+  -- this status comes only where the words ask for nothing, the budget is a bound that there isn't, or the list of places is refused
   pub usage : end ≡ status.Usage → IsMisuse words (content store_old)
   -- where no count of faults rises, the report is given whole, or memory ran out
   pub complete : (Rose (missed store_old) (missed store_new) → ⊥) → (Rose (faults old) (faults new) → ⊥)

@@ -1,29 +1,32 @@
 -- The report that words give.
-use Rattle.std.specs.Prelude.{◌≡◌, ◌≤◌, ℕ, List, Option, Some, None, codes}
-use Rattle.forec_base.specs.declared.limits.TheConstants.{MAX_CORES, MAX_BUDGET, MAX_ROWS}
+use Rattle.std.specs.Prelude.{◌≡◌, ◌≤◌, ℕ, Bool, List, Option, Some, None, codes}
+use Rattle.forec_base.specs.declared.limits.TheConstants.{MAX_CORES, MAX_ROWS}
 use Rattle.forec_kernel.specs.Shapes.{PlainKernel}
 use Rattle.thread_code.specs.Alone.{Stands}
 use Rattle.thread_code.specs.Listing.{listing_of}
 use Rattle.thread_code.specs.Plain.{PlainCode}
 use Rattle.thread_code.specs.Valid.{IsValidCode}
 use Rattle.core_alloc.specs.Places.{Places}
-use Rattle.core_alloc.specs.declared.fault.PlacementFault.{PlacementFault}
+use Rattle.core_alloc.specs.declared.fault.PlaceFault.{PlaceFault}
 use Rattle.command_words.specs.Requests.{PlainPlacing, PlainRunning, PlainCommand, Run, Check, Threads, Code, Explain, PlainRequest, OnText, OnWorkload, request_of}
 use Rattle.thread_places.specs.Lines.{thread_lines}
 use Rattle.thread_places.specs.Placed.{IsPlacement}
 use Rattle.workload.specs.Text.{text_of}
 use Rattle.text_verdict.specs.Counting.{counts_line}
 use Rattle.text_verdict.specs.Judging.{refusal_line, Accepts, Refuses, Judged}
+use Rattle.command_words.specs.declared.request.Budget.{Budget}
+use Rattle.forec_engine.specs.Budgets.{budget_for, with_budget, IsSmallBudget}
+use Rattle.forec_engine.specs.Folds.{kernel_for}
 use Rattle.forec_engine.specs.Placing.{misplaced, misplacing, unless_misplaced}
 use Rattle.forec_engine.specs.Placing.{workload_report}
 use Rattle.text_verdict.specs.declared.counts.Counts.{Counts}
 use Rattle.text_verdict.specs.declared.refusal.Refusal.{Refusal}
-use Rattle.trace_runs.specs.Led.{IsTold, IsTraceReport}
+use Rattle.trace_runs.specs.Led.{IsTold}
 use Rattle.trace_runs.specs.Report.{Report, trace_report}
 use Rattle.trace_runs.specs.declared.status.Status.TheVariants as status
 
 abbrev pub usage_line : List ℕ
-usage_line = codes "usage: forec run|check|threads|code|explain|gen PROGRAM [--cores N] [--place LIST] [--budget B] [--order N]\n"
+usage_line = codes "usage: forec run|check|threads|code|explain|gen PROGRAM [--cores N] [--place LIST] [--budget B] [--order N] [--fold]\n"
 
 abbrev pub usage : Report
 usage = record { bytes = usage_line; status = status.Usage }
@@ -53,11 +56,16 @@ pub record IsListing (k : PlainKernel) (r : Report) : Type 0 where
 
 -- the report of a kernel that runs over a trace of these bytes; where the threads are placed doesn't show in it
 abbrev pub run_report : PlainKernel → PlainRunning → List ℕ → Report
-run_report k running bytes = unless_misplaced (misplacing k running.placing) (trace_report MAX_ROWS k running.budget bytes)
+run_report k running bytes =
+    with_budget (budget_for k running.budget) (λ units. unless_misplaced (misplacing k running.placing) (trace_report MAX_ROWS k units bytes))
+
+-- the same of a kernel that is rewritten
+abbrev pub explain_report : PlainKernel → Budget → List ℕ → Report
+explain_report k b bytes = with_budget (budget_for k b) (λ units. trace_report MAX_ROWS k units bytes)
 
 -- r lists the threads of a kernel with their cores
 pub data ThreadsReport (k : PlainKernel) (placing : PlainPlacing) (r : Report) : Type 0 where
-  Of_misplaced : (why : PlacementFault) → misplacing k placing ≡ Some why → r ≡ misplaced why → ThreadsReport k placing r
+  Of_misplaced : (why : PlaceFault) → misplacing k placing ≡ Some why → r ≡ misplaced why → ThreadsReport k placing r
   Of_placed : (p : Places) → misplacing k placing ≡ None → IsPlacement k placing p → r ≡ threads_listed k p.places → ThreadsReport k placing r
 
 -- r is the report of a command on a text that is accepted, with these counts and this kernel, where the trace has these bytes.
@@ -66,8 +74,12 @@ abbrev pub AcceptedReport : PlainCommand → Option (List ℕ) → Counts → Pl
 AcceptedReport (Run running) trace counts k r = (bytes : List ℕ) × (trace ≡ Some bytes) × (r ≡ run_report k running bytes)
 AcceptedReport Check trace counts k r = r ≡ counted counts
 AcceptedReport (Threads placing) trace counts k r = ThreadsReport k placing r
-AcceptedReport (Explain b order) trace counts k r = IsTraceReport MAX_ROWS k b trace r
+AcceptedReport (Explain b order) trace counts k r = (bytes : List ℕ) × (trace ≡ Some bytes) × (r ≡ explain_report k b bytes)
 AcceptedReport Code trace counts k r = IsListing k r
+
+-- the same of a command whose kernel has its constants folded first, or not
+abbrev pub CommandReport : PlainCommand → Bool → Option (List ℕ) → Counts → PlainKernel → Report → Type 0
+CommandReport command fold trace counts k r = AcceptedReport command trace counts (kernel_for fold k) r
 
 -- r is the report of a text, where this is said of the counts, the kernel and the report of one that is accepted
 pub data TextReport (text : List ℕ) (Says : Counts → PlainKernel → Report → Type 0) (r : Report) : Type 0 where
@@ -81,8 +93,8 @@ WorkloadReport threads running r = TextReport (text_of threads) (λ counts k q. 
 -- r is the report of these words, where the texts have this content, and the trace these bytes
 pub data IsReport (words : List (List ℕ)) (content : List ℕ → Option (List ℕ)) (trace : Option (List ℕ)) (r : Report) : Type 0 where
   Of_usage : request_of words ≡ None → r ≡ usage → IsReport words content trace r
-  Of_text : (name : List ℕ) (command : PlainCommand) (text : List ℕ) → request_of words ≡ Some (OnText name command) → content name ≡ Some text
-      → TextReport text (AcceptedReport command trace) r → IsReport words content trace r
+  Of_text : (name : List ℕ) (command : PlainCommand) (fold : Bool) (text : List ℕ) → request_of words ≡ Some (OnText name command fold) → content name ≡ Some text
+      → TextReport text (CommandReport command fold trace) r → IsReport words content trace r
   Of_workload : (threads : ℕ) (running : PlainRunning) → request_of words ≡ Some (OnWorkload threads running) → WorkloadReport threads running r
       → IsReport words content trace r
 
@@ -103,7 +115,7 @@ TellsNamed content name command trace = (text : List ℕ) × (content name ≡ S
 -- the text that the words name is told, and the trace where it is read
 abbrev pub Tells : List (List ℕ) → (List ℕ → Option (List ℕ)) → Option (List ℕ) → Type 0
 Tells words content trace =
-    (name : List ℕ) (command : PlainCommand) → request_of words ≡ Some (OnText name command) → TellsNamed content name command trace
+    (name : List ℕ) (command : PlainCommand) (fold : Bool) → request_of words ≡ Some (OnText name command fold) → TellsNamed content name command trace
 
 -- ---- ranges
 
@@ -112,18 +124,18 @@ pub record IsPlaceable (placing : PlainPlacing) : Type 0 where
   pub some : 1 ≤ placing.cores
   pub few : placing.cores ≤ MAX_CORES
 
--- and a budget of at most 2^62
+-- and a budget of at most 2^62, or the bound
 pub record IsRunnable (running : PlainRunning) : Type 0 where
   pub placeable : IsPlaceable running.placing
-  pub small : running.budget ≤ MAX_BUDGET
+  pub small : IsSmallBudget running.budget
 
 abbrev pub IsInRange : PlainCommand → Type 0
 IsInRange (Run running) = IsRunnable running
 IsInRange Check = Unit {0}
 IsInRange (Threads placing) = IsPlaceable placing
 IsInRange Code = Unit {0}
-IsInRange (Explain b order) = b ≤ MAX_BUDGET
+IsInRange (Explain b order) = IsSmallBudget b
 
 abbrev pub HasRanges : PlainRequest → Type 0
-HasRanges (OnText name command) = IsInRange command
+HasRanges (OnText name command fold) = IsInRange command
 HasRanges (OnWorkload threads running) = (threads ≤ 255) × IsRunnable running

@@ -1,24 +1,29 @@
 -- How a command ends.
-use Rattle.std.specs.Prelude.{◌≡◌, ℕ, Bool, List, Option, None, Some, IfSome}
+use Rattle.std.specs.Prelude.{◌≡◌, ◌⊎◌, ℕ, Bool, List, Option, None, Some, IfSome}
 use Rattle.forec_base.specs.declared.limits.TheConstants.{MAX_ROWS}
 use Rattle.forec_kernel.specs.Shapes.{PlainKernel}
 use Rattle.command_words.specs.Requests.{PlainPlacing, PlainRunning, PlainCommand, Run, Check, Threads, Code, Explain, OnText, OnWorkload, request_of}
 use Rattle.workload.specs.Text.{text_of}
 use Rattle.text_verdict.specs.Judging.{Accepts, Judged}
-use Rattle.forec_engine.specs.Placing.{misplacing, IsMisplaced}
+use Rattle.command_words.specs.declared.request.Budget.{Budget}
+use Rattle.forec_engine.specs.Budgets.{budget_for, IsBoundless}
+use Rattle.forec_engine.specs.Folds.{kernel_for}
+use Rattle.forec_engine.specs.Placing.{misplacing, IsMisplaced, IsRefusedRun}
 use Rattle.trace_runs.specs.Ends.{Wanted, ReadFor}
 use Rattle.text_verdict.specs.declared.counts.Counts.{Counts}
 
--- a text runs as this kernel: it is accepted, and no list of places is refused
-pub record RunsAs (text : List ℕ) (placing : PlainPlacing) (k : PlainKernel) : Type 0 where
+-- A text of this kernel runs with so many units a tick: it is accepted, and neither the budget nor a list of places is refused for the
+-- kernel that runs.
+pub record RunsAs (text : List ℕ) (fold : Bool) (running : PlainRunning) (k : PlainKernel) (units : ℕ) : Type 0 where
   pub counts : Counts
   pub judged : Judged text (Accepts counts k)
-  pub placed : misplacing k placing ≡ None
+  pub bounded : budget_for (kernel_for fold k) running.budget ≡ Some units
+  pub placed : misplacing (kernel_for fold k) running.placing ≡ None
 
 -- the trace was wanted by the kernel of a text, which runs
-abbrev pub WantedByText : PlainRunning → List ℕ → Option (List ℕ) → Option (List ℕ) → Option (List ℕ) → Option (List ℕ) → Type 0
-WantedByText running text left_old left_new held_old held_new =
-    (k : PlainKernel) × RunsAs text running.placing k × Wanted MAX_ROWS k running.budget left_old left_new held_old held_new
+abbrev pub WantedByText : Bool → PlainRunning → List ℕ → Option (List ℕ) → Option (List ℕ) → Option (List ℕ) → Option (List ℕ) → Type 0
+WantedByText fold running text left_old left_new held_old held_new =
+    (k : PlainKernel) × (units : ℕ) × RunsAs text fold running k units × Wanted MAX_ROWS (kernel_for fold k) units left_old left_new held_old held_new
 
 -- how a command runs over the trace, where it does; rewriting has no list of places
 abbrev pub running_in : PlainCommand → Option PlainRunning
@@ -31,20 +36,21 @@ running_in Code = None
 -- the same by words, which are a command that runs over the trace
 abbrev pub WantedByWords : List (List ℕ) → (List ℕ → Option (List ℕ)) → Option (List ℕ) → Option (List ℕ) → Option (List ℕ) → Option (List ℕ) → Type 0
 WantedByWords words content left_old left_new held_old held_new =
-    (running : PlainRunning) × (name : List ℕ) × (command : PlainCommand) × (request_of words ≡ Some (OnText name command)) × (running_in command ≡ Some running)
-    × IfSome (content name) (λ text. WantedByText running text left_old left_new held_old held_new)
+    (running : PlainRunning) × (name : List ℕ) × (command : PlainCommand) × (fold : Bool) × (request_of words ≡ Some (OnText name command fold))
+    × (running_in command ≡ Some running) × IfSome (content name) (λ text. WantedByText fold running text left_old left_new held_old held_new)
 
 -- ---- reads of the trace
 
 -- the trace was read for the kernel of a text, which runs
-abbrev pub ReadForText : {S : Type 0} → (S → Option (List ℕ)) → (S → ℕ) → (S → Bool) → PlainRunning → List ℕ → S → S → Type 0
-ReadForText left faults down running text old new = (k : PlainKernel) × RunsAs text running.placing k × ReadFor left faults down MAX_ROWS k running.budget old new
+abbrev pub ReadForText : {S : Type 0} → (S → Option (List ℕ)) → (S → ℕ) → (S → Bool) → Bool → PlainRunning → List ℕ → S → S → Type 0
+ReadForText left faults down fold running text old new =
+    (k : PlainKernel) × (units : ℕ) × RunsAs text fold running k units × ReadFor left faults down MAX_ROWS (kernel_for fold k) units old new
 
 -- the same for words, which are a command that runs over the trace
 abbrev pub ReadForWords : {S : Type 0} → (S → Option (List ℕ)) → (S → ℕ) → (S → Bool) → List (List ℕ) → (List ℕ → Option (List ℕ)) → S → S → Type 0
 ReadForWords left faults down words content old new =
-    (running : PlainRunning) × (name : List ℕ) × (command : PlainCommand) × (request_of words ≡ Some (OnText name command)) × (running_in command ≡ Some running)
-    × IfSome (content name) (λ text. ReadForText left faults down running text old new)
+    (running : PlainRunning) × (name : List ℕ) × (command : PlainCommand) × (fold : Bool) × (request_of words ≡ Some (OnText name command fold))
+    × (running_in command ≡ Some running) × IfSome (content name) (λ text. ReadForText left faults down fold running text old new)
 
 -- ---- misuse
 
@@ -56,32 +62,39 @@ placing_in (Threads placing) = Some placing
 placing_in Code = None
 placing_in (Explain b order) = None
 
--- a command has a list of places that is refused for a kernel
-abbrev pub CommandIsMisplaced : PlainCommand → PlainKernel → Type 0
-CommandIsMisplaced command k = (placing : PlainPlacing) × (placing_in command ≡ Some placing) × IsMisplaced k placing
+-- a command is refused for a kernel: its budget is the bound, and there is none, or its list of places is refused
+abbrev pub CommandIsMisused : PlainCommand → PlainKernel → Type 0
+CommandIsMisused command k =
+    ((running : PlainRunning) × (running_in command ≡ Some running) × IsBoundless k running.budget)
+    ⊎ ((placing : PlainPlacing) × (placing_in command ≡ Some placing) × IsMisplaced k placing)
+
+-- the same of the kernel that the command is done with
+abbrev pub FoldedIsMisused : PlainCommand → Bool → PlainKernel → Type 0
+FoldedIsMisused command fold k = CommandIsMisused command (kernel_for fold k)
 
 -- a text is accepted, and this holds of its kernel
 abbrev pub AcceptedSo : (PlainKernel → Type 0) → List ℕ → Type 0
 AcceptedSo P text = (counts : Counts) × (k : PlainKernel) × Judged text (Accepts counts k) × P k
 
--- the words ask for nothing, or the list of places in them is refused
+-- the words ask for nothing, or they are refused for the kernel of an accepted text
 pub data IsMisuse (words : List (List ℕ)) (content : List ℕ → Option (List ℕ)) : Type 0 where
   Asks_nothing : request_of words ≡ None → IsMisuse words content
-  Misplaces : (name : List ℕ) (command : PlainCommand) → request_of words ≡ Some (OnText name command) → IfSome (content name) (AcceptedSo (CommandIsMisplaced command)) → IsMisuse words content
-  Misplaces_workload : (threads : ℕ) (running : PlainRunning) → request_of words ≡ Some (OnWorkload threads running)
-      → AcceptedSo (λ k. IsMisplaced k running.placing) (text_of threads) → IsMisuse words content
+  Misuses : (name : List ℕ) (command : PlainCommand) (fold : Bool) → request_of words ≡ Some (OnText name command fold)
+      → IfSome (content name) (AcceptedSo (FoldedIsMisused command fold)) → IsMisuse words content
+  Misuses_workload : (threads : ℕ) (running : PlainRunning) → request_of words ≡ Some (OnWorkload threads running)
+      → AcceptedSo (λ k. IsRefusedRun k running) (text_of threads) → IsMisuse words content
 
 -- ---- texts
 
 -- the words name a text
 abbrev pub NameText : List (List ℕ) → Type 0
-NameText words = (name : List ℕ) × (command : PlainCommand) × (request_of words ≡ Some (OnText name command))
+NameText words = (name : List ℕ) × (command : PlainCommand) × (fold : Bool) × (request_of words ≡ Some (OnText name command fold))
 
 -- ---- rewriting
 
 abbrev pub Rewrites : PlainCommand → Type 0
-Rewrites command = (budget : ℕ) × (order : ℕ) × (command ≡ Explain budget order)
+Rewrites command = (budget : Budget) × (order : ℕ) × (command ≡ Explain budget order)
 
 -- the words ask for rewriting
 abbrev pub AskForRewriting : List (List ℕ) → Type 0
-AskForRewriting words = (name : List ℕ) × (command : PlainCommand) × (request_of words ≡ Some (OnText name command)) × Rewrites command
+AskForRewriting words = (name : List ℕ) × (command : PlainCommand) × (fold : Bool) × (request_of words ≡ Some (OnText name command fold)) × Rewrites command

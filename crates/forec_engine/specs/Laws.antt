@@ -1,13 +1,21 @@
 -- What holds of all reports.
-use Rattle.std.specs.Prelude.{◌≡◌, ◌⊎◌, ℕ, List, Option, Some}
+use Rattle.std.specs.Prelude.{◌≡◌, ◌≢◌, ◌⊎◌, ℕ, Bool, true, false, List, Option, Some}
 use Rattle.forec_kernel.specs.Shapes.{PlainKernel}
-use Rattle.command_words.specs.Requests.{OnText, Code, request_of}
+use Rattle.command_words.specs.Requests.{PlainRunning, PlainCommand, OnText, OnWorkload, Code, request_of}
+use Rattle.command_words.specs.declared.request.Budget.TheVariants as budget
+use Rattle.workload.specs.Text.{text_of}
+use Rattle.text_verdict.specs.Judging.{Accepts, Judged}
+use Rattle.text_verdict.specs.declared.counts.Counts.{Counts}
+use Rattle.forec_engine.specs.Budgets.{Covers}
+use Rattle.forec_engine.specs.Folds.{kernel_for}
 use Rattle.forec_engine.specs.Commands.{IsListing, IsReport, Tells}
+use Rattle.forec_engine.specs.Ends.{running_in}
 use Rattle.trace_runs.specs.Report.{Report}
+use Rattle.trace_runs.specs.declared.status.Status.TheVariants as status
 
 -- the words ask for the listing of a code
 abbrev pub AskForCode : List (List ℕ) → Type 0
-AskForCode words = (name : List ℕ) × (request_of words ≡ Some (OnText name Code))
+AskForCode words = (name : List ℕ) × (fold : Bool) × (request_of words ≡ Some (OnText name Code fold))
 
 -- words other than `code P` have one report at most
 abbrev pub OneReport : Type 0
@@ -32,3 +40,51 @@ abbrev pub SomeReport : Type 0
 SomeReport =
     (words : List (List ℕ)) (content : List ℕ → Option (List ℕ)) (trace : Option (List ℕ)) → (AskForCode words → ⊥) → Tells words content trace →
     ((r : Report) → IsReport words content trace r → ⊥) → ⊥
+
+-- the words run a kernel with a budget of at least its worst case, where they run one at all
+pub record CoverTheirKernel (words : List (List ℕ)) (content : List ℕ → Option (List ℕ)) : Type 0 where
+  pub text : (name : List ℕ) (command : PlainCommand) (fold : Bool) (text : List ℕ) (running : PlainRunning) (counts : Counts) (k : PlainKernel)
+      → request_of words ≡ Some (OnText name command fold) → content name ≡ Some text → running_in command ≡ Some running → Judged text (Accepts counts k)
+      → Covers (kernel_for fold k) running.budget
+  pub workload : (threads : ℕ) (running : PlainRunning) (counts : Counts) (k : PlainKernel) → request_of words ≡ Some (OnWorkload threads running)
+      → Judged (text_of threads) (Accepts counts k) → Covers k running.budget
+
+-- with such a budget no report of a run says that it is over
+abbrev pub CoveredNeverOver : Type 0
+CoveredNeverOver =
+    (words : List (List ℕ)) (content : List ℕ → Option (List ℕ)) (trace : Option (List ℕ)) (r : Report) → CoverTheirKernel words content → IsReport words content trace r →
+    r.status ≢ status.Over
+
+-- the bound is such a budget
+abbrev pub BoundCovers : Type 0
+BoundCovers = (k : PlainKernel) → Covers k budget.Bound
+
+-- the words ask for the bound as the budget
+pub data AskForBound (words : List (List ℕ)) : Type 0 where
+  Of_run : (name : List ℕ) (command : PlainCommand) (fold : Bool) (running : PlainRunning) → request_of words ≡ Some (OnText name command fold) → running_in command ≡ Some running
+      → running.budget ≡ budget.Bound → AskForBound words
+  Of_gen : (threads : ℕ) (running : PlainRunning) → request_of words ≡ Some (OnWorkload threads running) → running.budget ≡ budget.Bound → AskForBound words
+
+-- with it no report says that a run is over
+abbrev pub BoundNeverOver : Type 0
+BoundNeverOver =
+    (words : List (List ℕ)) (content : List ℕ → Option (List ℕ)) (trace : Option (List ℕ)) (r : Report) → AskForBound words → IsReport words content trace r → r.status ≢ status.Over
+
+-- ---- folding
+
+-- Two lists of words run or explain one program with so many units a tick, and one of them folds its constants.
+pub record DifferByFold (words folding : List (List ℕ)) : Type 0 where
+  pub name : List ℕ
+  pub command : PlainCommand
+  pub running : PlainRunning
+  pub units : ℕ
+  pub plain : request_of words ≡ Some (OnText name command false)
+  pub folded : request_of folding ≡ Some (OnText name command true)
+  pub runs : running_in command ≡ Some running
+  pub limited : running.budget ≡ budget.Units units
+
+-- then they have the same report, where that without folding doesn't say that a tick is over
+abbrev pub FoldingPrintsTheSame : Type 0
+FoldingPrintsTheSame =
+    (words folding : List (List ℕ)) (content : List ℕ → Option (List ℕ)) (trace : Option (List ℕ)) (r : Report) → DifferByFold words folding → IsReport words content trace r →
+    r.status ≢ status.Over → IsReport folding content trace r

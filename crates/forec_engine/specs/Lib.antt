@@ -1,4 +1,6 @@
 pub mod Answers
+pub mod Budgets
+pub mod Folds
 pub mod Commands
 pub mod Ends
 pub mod Laws

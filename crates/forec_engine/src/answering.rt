@@ -1,19 +1,21 @@
 //! What is done with a text that was judged.
-ghost use Rattle.std.specs.Prelude.{◌≡◌, ◌≢◌, ⊤, length};
+ghost use Rattle.std.specs.Prelude.{◌≡◌, ◌≢◌, ◌≤◌, ⊤, length, Some, IfOk, IfSome};
+ghost use Rattle.forec_base.specs.declared.limits.TheConstants.{MAX_BUDGET};
 ghost use Rattle.forec_kernel.specs.Shapes.{plain_kernel};
-ghost use Rattle.command_words.specs.Requests.{Run, plain_placing, plain_running, plain_command};
-ghost use Rattle.core_alloc.specs.declared.fault.PlacementFault.TheVariants as fault;
+ghost use Rattle.command_words.specs.Requests.{Run, Explain, plain_placing, plain_running, plain_command};
+ghost use Rattle.core_alloc.specs.declared.fault.PlaceFault.TheVariants as fault;
 ghost use Rattle.forec_engine.specs.Answers.{Answers};
+ghost use Rattle.forec_engine.specs.Budgets.{budget_for, boundless, IsSmallBudget};
 ghost use Rattle.forec_engine.specs.Commands.{refused, counted, threads_listed, ThreadsReport, IsListing, IsPlaceable, IsRunnable, IsInRange};
-ghost use Rattle.forec_engine.specs.Placing.{misplaced, workload_report, IsMisplaced};
+ghost use Rattle.forec_engine.specs.Placing.{misplaced, workload_report, IsMisplaced, IsRefusedRun};
 ghost use Rattle.trace_runs.specs.Prints.{Prints, Says};
 
 use crate::lines::{put_counts, put_misplaced, put_refusal};
 use crate::room::has_room;
 use code_gen::generate;
-use command_words::{Command, Placing, Running};
-use core_alloc::{Placement, PlacementFault};
-use forec_base::{Gate, Sink, Source};
+use command_words::{Budget, Command, Placing, Running};
+use core_alloc::{PlaceFault, Placement};
+use forec_base::{Gate, OutOfMemory, Sink, Source};
 use forec_kernel::Kernel;
 use std::alloc::Global;
 use std::sync::Wait;
@@ -21,6 +23,7 @@ use std::thread::Threads;
 use text_verdict::{Accepted, Counts, Refusal};
 use thread_code::listing;
 use thread_places::{place, thread_list};
+use tick_bounds::tick_bound;
 use trace_runs::{Setting, Status, Waiting, host_trace, host_workload, rewrite_trace, say};
 
 /// Says why a text is refused.
@@ -35,7 +38,7 @@ pub fn refuse<K: Sink>(alloc: Global, why: Refusal, out: &mut K) -> Status
 }
 
 /// Says why a list of places is refused.
-fn say_misplaced<K: Sink>(alloc: Global, why: PlacementFault, out: &mut K) -> Status
+fn say_misplaced<K: Sink>(alloc: Global, why: PlaceFault, out: &mut K) -> Status
     ensures { Says K.held K.faults K.down (misplaced why) ⊤ out.old out.new result }
 {
     let Ok(mut waiting) = Waiting::plain(alloc) else {
@@ -46,19 +49,62 @@ fn say_misplaced<K: Sink>(alloc: Global, why: PlacementFault, out: &mut K) -> St
 }
 
 /// Says why a list of places is refused, where memory wasn't wanting.
-fn misplace<K: Sink>(alloc: Global, why: PlacementFault, out: &mut K) -> Status
+fn misplace<K: Sink>(alloc: Global, why: PlaceFault, out: &mut K) -> Status
     ensures { Prints K.held K.faults K.down ⊤ (λ r. (why ≢ fault.OutOfMemory)
         × (r ≡ misplaced why)) (why ≢ fault.OutOfMemory) ⊥ ⊥
         out.old out.new result }
 {
     match why {
-        PlacementFault::OutOfMemory => Status::NoMemory,
+        PlaceFault::OutOfMemory => Status::NoMemory,
         _ => say_misplaced(alloc, why, out),
     }
 }
 
-/// Places the threads, and runs.
+/// How many units a budget is for a kernel. None where it is the bound of a kernel that has none.
+fn budget_units(alloc: Global, kernel: &Kernel, budget: Budget) -> Result<Option<u64>, OutOfMemory>
+    requires { IsSmallBudget budget }
+    ensures units { IfOk result (λ units. units ≡ budget_for (plain_kernel kernel.now) budget) }
+    ensures small { IfOk result (λ units. IfSome units (λ most. most ≤ MAX_BUDGET)) }
+{
+    match budget {
+        Budget::Units { most } => Ok(Some(most)),
+        Budget::Bound => tick_bound(alloc, kernel),
+    }
+}
+
+/// Says that a kernel has no bound.
+fn say_boundless<K: Sink>(out: &mut K) -> Status
+    ensures { Says K.held K.faults K.down boundless ⊤ out.old out.new result }
+{
+    say(out, b"bound none\n", Status::Usage)
+}
+
+/// Places the threads, and runs with so many units a tick.
 fn place_and_start<S: Source, K: Sink, G: Gate + Sync, R: Threads + Wait + Sync>(
+    setting: &Setting<'_, G, R>,
+    accepted: &Accepted,
+    running: Running<'_>,
+    units: u64,
+    trace: &mut S,
+    out: &mut K,
+) -> Status
+    requires runs { IsRunnable (plain_running running) }
+    requires units { budget_for (plain_kernel accepted.now.kernel) (plain_running running).budget ≡ Some units }
+    requires small { units ≤ MAX_BUDGET }
+    ensures { Answers S.left S.faults S.down K.held K.faults K.down (Run (plain_running running.entry))
+        accepted.now.counts
+        (plain_kernel accepted.now.kernel) trace.old trace.new out.old out.new result }
+{
+    let alloc = setting.alloc;
+    let kernel = &accepted.kernel;
+    match place(alloc, kernel, running.placing) {
+        Ok(placement) => host_trace(setting, kernel, &placement, units, trace, out),
+        Err(why) => misplace(alloc, why, out),
+    }
+}
+
+/// Runs, where the budget isn't a bound that there isn't, nor the list of places refused.
+fn start<S: Source, K: Sink, G: Gate + Sync, R: Threads + Wait + Sync>(
     setting: &Setting<'_, G, R>,
     accepted: &Accepted,
     running: Running<'_>,
@@ -70,11 +116,31 @@ fn place_and_start<S: Source, K: Sink, G: Gate + Sync, R: Threads + Wait + Sync>
         accepted.now.counts
         (plain_kernel accepted.now.kernel) trace.old trace.new out.old out.new result }
 {
-    let alloc = setting.alloc;
+    match budget_units(setting.alloc, &accepted.kernel, running.budget) {
+        Ok(Some(units)) => place_and_start(setting, accepted, running, units, trace, out),
+        Ok(None) => say_boundless(out),
+        Err(_) => Status::NoMemory,
+    }
+}
+
+/// Runs by rewriting, where the budget isn't a bound that there isn't.
+fn explain<S: Source, K: Sink, G: Gate + Sync, R: Threads + Wait + Sync>(
+    setting: &Setting<'_, G, R>,
+    accepted: &Accepted,
+    budget: Budget,
+    order: u32,
+    trace: &mut S,
+    out: &mut K,
+) -> Status
+    requires { IsSmallBudget budget }
+    ensures { Answers S.left S.faults S.down K.held K.faults K.down (Explain budget order) accepted.now.counts
+        (plain_kernel accepted.now.kernel) trace.old trace.new out.old out.new result }
+{
     let kernel = &accepted.kernel;
-    match place(alloc, kernel, running.placing) {
-        Ok(placement) => host_trace(setting, kernel, &placement, running.budget, trace, out),
-        Err(why) => misplace(alloc, why, out),
+    match budget_units(setting.alloc, kernel, budget) {
+        Ok(Some(units)) => rewrite_trace(setting, kernel, order, units, trace, out),
+        Ok(None) => say_boundless(out),
+        Err(_) => Status::NoMemory,
     }
 }
 
@@ -156,17 +222,41 @@ pub fn answer<S: Source, K: Sink, G: Gate + Sync, R: Threads + Wait + Sync>(
     let alloc = setting.alloc;
     let kernel = &accepted.kernel;
     match command {
-        Command::Run { running } => place_and_start(setting, accepted, running, trace, out),
+        Command::Run { running } => start(setting, accepted, running, trace, out),
         Command::Check => tell(alloc, accepted.counts, out),
         Command::Threads { placing } => list_threads(alloc, kernel, placing, out),
         Command::Explain { budget, order } => {
-            rewrite_trace(setting, kernel, order, budget, trace, out)
+            explain(setting, accepted, budget, order, trace, out)
         }
         Command::Code => list(alloc, kernel, out),
     }
 }
 
-/// Places the threads of a workload of so many, whose kernel this is, and runs it.
+/// Places the threads of a workload of so many, whose kernel this is, and runs it with so many units a tick.
+fn place_workload<K: Sink, G: Gate + Sync, R: Threads + Wait + Sync>(
+    setting: &Setting<'_, G, R>,
+    threads: u32,
+    running: Running<'_>,
+    units: u64,
+    kernel: &Kernel,
+    out: &mut K,
+) -> Status
+    requires runs { IsRunnable (plain_running running) }
+    requires units { budget_for (plain_kernel kernel.now) (plain_running running).budget ≡ Some units }
+    requires small { units ≤ MAX_BUDGET }
+    ensures { Says K.held K.faults K.down (workload_report threads (plain_running running.entry) (plain_kernel
+        kernel.now))
+        (IsRefusedRun (plain_kernel kernel.now) (plain_running running.entry)) out.old out.new result }
+{
+    let alloc = setting.alloc;
+    match place(alloc, kernel, running.placing) {
+        Ok(placement) => host_workload(setting, kernel, &placement, threads, units, out),
+        Err(why) => misplace(alloc, why, out),
+    }
+}
+
+/// Runs the workload of so many threads, whose kernel this is, where the budget isn't a bound that there isn't, nor the
+/// list of places refused.
 pub fn answer_workload<K: Sink, G: Gate + Sync, R: Threads + Wait + Sync>(
     setting: &Setting<'_, G, R>,
     threads: u32,
@@ -177,11 +267,11 @@ pub fn answer_workload<K: Sink, G: Gate + Sync, R: Threads + Wait + Sync>(
     requires { IsRunnable (plain_running running) }
     ensures { Says K.held K.faults K.down (workload_report threads (plain_running running.entry) (plain_kernel
         kernel.now))
-        (IsMisplaced (plain_kernel kernel.now) (plain_running running.entry).placing) out.old out.new result }
+        (IsRefusedRun (plain_kernel kernel.now) (plain_running running.entry)) out.old out.new result }
 {
-    let alloc = setting.alloc;
-    match place(alloc, kernel, running.placing) {
-        Ok(placement) => host_workload(setting, kernel, &placement, threads, running.budget, out),
-        Err(why) => misplace(alloc, why, out),
+    match budget_units(setting.alloc, kernel, running.budget) {
+        Ok(Some(units)) => place_workload(setting, threads, running, units, kernel, out),
+        Ok(None) => say_boundless(out),
+        Err(_) => Status::NoMemory,
     }
 }

@@ -1,5 +1,5 @@
 //! The top call.
-ghost use Rattle.std.specs.Prelude.{◌≡◌, ◌≤◌, ◌≢◌, ◌⊎◌, ⊤, List, ℕ, map, length, string_bytes, Some};
+ghost use Rattle.std.specs.Prelude.{◌≡◌, ◌≤◌, ◌≢◌, ◌⊎◌, ⊤, List, ℕ, Bool, map, length, string_bytes, Some};
 ghost use Rattle.forec_base.specs.Outside.{Fell, Rose};
 ghost use Rattle.command_words.specs.Requests.{PlainCommand, OnText, plain_running, plain_command, request_of};
 ghost use Rattle.workload.specs.Text.{text_of};
@@ -8,11 +8,12 @@ ghost use Rattle.forec_engine.specs.Answers.{AnswersText, AnswersNamed, AnswersW
 ghost use Rattle.forec_engine.specs.Commands.{IsReport, WorkloadReport, Tells, IsInRange, IsRunnable};
 ghost use Rattle.trace_runs.specs.Ends.{IsOwn, Given};
 ghost use Rattle.forec_engine.specs.Ends.{WantedByWords, ReadForWords, AcceptedSo, IsMisuse, NameText, AskForRewriting};
-ghost use Rattle.forec_engine.specs.Placing.{IsMisplaced};
+ghost use Rattle.forec_engine.specs.Placing.{IsRefusedRun};
 ghost use Rattle.trace_runs.specs.Prints.{Prints};
 ghost use Rattle.trace_runs.specs.Report.{Report};
 
-use crate::answering::{answer, answer_workload, refuse};
+use crate::answering::{answer_workload, refuse};
+use crate::folding::answer_folded;
 use command_words::{Command, Request, Running, WordsFault, read_words};
 use forec_base::{Gate, MAX_DEPTH, MAX_TEXT_BYTES, Sink, Source, TextFault, Texts};
 use std::alloc::Global;
@@ -23,49 +24,56 @@ use trace_runs::{Setting, Status, say};
 use workload::workload_text;
 
 const USAGE: &[u8] =
-    b"usage: forec run|check|threads|code|explain|gen PROGRAM [--cores N] [--place LIST] [--budget B] [--order N]\n";
+    b"usage: forec run|check|threads|code|explain|gen PROGRAM [--cores N] [--place LIST] [--budget B] [--order N] [--fold]\n";
 
-/// Does what a command asks of a text.
+/// A command, and whether the constants of the kernel are folded before it is done.
+#[derive(Clone, Copy)]
+struct Task<'a> {
+    command: Command<'a>,
+    fold: bool,
+}
+
+/// Does what is asked of a text.
 fn run_text<S: Source, K: Sink, G: Gate + Sync, R: Threads + Wait + Sync>(
     setting: &Setting<'_, G, R>,
     deepest: u64,
-    command: Command<'_>,
+    task: Task<'_>,
     text: &[u8],
     trace: &mut S,
     out: &mut K,
 ) -> Status
     requires short { length text.now ≤ MAX_TEXT_BYTES }
-    requires ranges { IsInRange (plain_command command) }
-    ensures { AnswersText S.left S.faults S.down K.held K.faults K.down (plain_command command.entry) text.now
-        trace.old trace.new out.old out.new result }
+    requires ranges { IsInRange (plain_command task.command) }
+    ensures { AnswersText S.left S.faults S.down K.held K.faults K.down (plain_command task.entry.command)
+        task.entry.fold text.now trace.old trace.new out.old out.new result }
 {
     let alloc = setting.alloc;
     match judge(alloc, text, deepest) {
-        Ok(accepted) => answer(setting, command, &accepted, trace, out),
+        Ok(accepted) => answer_folded(setting, task.command, task.fold, accepted, trace, out),
         Err(JudgeFault::Refused { why }) => refuse(alloc, why, out),
         Err(JudgeFault::OutOfMemory) => Status::NoMemory,
     }
 }
 
-/// Does what a command asks of the text of a name.
+/// Does what is asked of the text of a name.
 fn run_named<T: Texts, S: Source, K: Sink, G: Gate + Sync, R: Threads + Wait + Sync>(
     setting: &Setting<'_, G, R>,
     deepest: u64,
     name: &str,
-    command: Command<'_>,
+    task: Task<'_>,
     texts: &mut T,
     trace: &mut S,
     out: &mut K,
 ) -> Status
     requires may { T.may texts.old name.now }
-    requires ranges { IsInRange (plain_command command) }
-    ensures { AnswersNamed S.left S.faults S.down K.held K.faults K.down (plain_command command.entry) (T.content
-        texts.old) name.now
+    requires ranges { IsInRange (plain_command task.command) }
+    ensures { AnswersNamed S.left S.faults S.down K.held K.faults K.down (plain_command task.entry.command)
+        task.entry.fold (T.content texts.old) name.now
         (Fell (T.faults texts.old) (T.faults texts.new) (T.down texts.new)) trace.old trace.new out.old out.new result }
 {
     let alloc = setting.alloc;
     match texts.read(alloc, name, MAX_TEXT_BYTES) {
-        Ok(text) => run_text(setting, deepest, command, &text, trace, out),
+        Ok(text) => run_text(setting, deepest, task, &text, trace, out),
         Err(TextFault::Failed) => Status::ReadFault,
         Err(TextFault::OutOfMemory) => Status::NoMemory,
         Err(TextFault::Long) => refuse(alloc, Refusal::Long, out),
@@ -83,7 +91,7 @@ fn run_workload_text<K: Sink, G: Gate + Sync, R: Threads + Wait + Sync>(
     requires few { threads ≤ 255 }
     requires ranges { IsRunnable (plain_running running) }
     ensures { Prints K.held K.faults K.down ⊤ (WorkloadReport threads (plain_running running.entry))
-        (AcceptedSo (λ k. IsMisplaced k (plain_running running.entry).placing) (text_of threads)) ⊥ ⊥ out.old out.new
+        (AcceptedSo (λ k. IsRefusedRun k (plain_running running.entry)) (text_of threads)) ⊥ ⊥ out.old out.new
         result }
 {
     let alloc = setting.alloc;
@@ -114,15 +122,21 @@ pub fn forec_within<T: Texts, S: Source, K: Sink, G: Gate + Sync, R: Threads + W
     out: &mut K,
 ) -> Status
     // The text that the words name may be asked for.
-    requires may { (name : List ℕ) (command : PlainCommand) → request_of (map string_bytes words.now) ≡ Some (OnText
-        name command)
-        → T.may texts.old name }
+    requires may { (name : List ℕ) (command : PlainCommand) (fold : Bool)
+        → request_of (map string_bytes words.now) ≡ Some (OnText name command fold) → T.may texts.old name }
     ensures { AnswersWords T.content T.faults T.down S.left S.faults S.down K.held K.faults K.down
         (map string_bytes words.now) texts.old texts.new trace.old trace.new out.old out.new result }
 {
     match read_words(setting.alloc, words) {
-        Ok(Request::Text { program, command }) => {
-            run_named(setting, deepest, program, command, texts, trace, out)
+        Ok(
+            Request::Text {
+                program,
+                command,
+                fold,
+            },
+        ) => {
+            let task = Task { command, fold };
+            run_named(setting, deepest, program, task, texts, trace, out)
         }
         Ok(Request::Workload { threads, running }) => {
             run_workload_text(setting, deepest, threads, running, out)
@@ -135,14 +149,16 @@ pub fn forec_within<T: Texts, S: Source, K: Sink, G: Gate + Sync, R: Threads + W
 /// Does what the words ask, and gives the status. The report goes to `out`.
 ///
 /// `run P` runs the program whose text `texts` has under the name `P`, a tick for each row of `trace`, of which each
-/// may have `--budget B` units, or 10,000,000. `check P` counts the program's thread instances, inputs and outputs,
+/// may have `--budget B` units, or 10,000,000; with `--budget bound` as many as the program's bound. `check P` counts the program's thread instances, inputs and outputs,
 /// `threads P` lists its threads with their cores and weights and the bound of a tick, and `code P` its code. `gen N`
 /// runs a workload of `N` threads and `main` for 1,000 ticks, and prints the sum of the outputs. `explain P` prints
 /// what `run P` does, made by rewriting the kernel's texts in the order of steps `--order N`; it alone may run out of
 /// memory between ticks. `run` and `explain` read the trace, and `gen` reads no text.
 ///
 /// `run`, `threads` and `gen` place the threads on `--cores N` cores, or on one: by the list `--place L`, or
-/// balanced. What `run` and `gen` print doesn't depend on it. All other words give the usage line.
+/// balanced. What `run` and `gen` print doesn't depend on it. With `--fold`, of all but `check` and `gen`, the command is
+/// done with the kernel whose constants are folded. Where the budget is the bound and the program has none, the
+/// line is `bound none`. All other words give the usage line.
 pub fn forec<T: Texts, S: Source, K: Sink, G: Gate + Sync, R: Threads + Wait + Sync>(
     rt: &R,
     alloc: Global,
@@ -153,9 +169,8 @@ pub fn forec<T: Texts, S: Source, K: Sink, G: Gate + Sync, R: Threads + Wait + S
     gate: &G,
 ) -> Status
     // The text that the words name may be asked for.
-    requires may { (name : List ℕ) (command : PlainCommand) → request_of (map string_bytes words.now) ≡ Some (OnText
-        name command)
-        → T.may texts.old name }
+    requires may { (name : List ℕ) (command : PlainCommand) (fold : Bool)
+        → request_of (map string_bytes words.now) ≡ Some (OnText name command fold) → T.may texts.old name }
 
     // Where the text and the trace are known, what is printed is a report of the words, and the status is the
     // report's.
@@ -180,8 +195,8 @@ pub fn forec<T: Texts, S: Source, K: Sink, G: Gate + Sync, R: Threads + Wait + S
     // No text is read but the one that the words name.
     ensures texts { (texts.new ≡ texts.old) ⊎ NameText (map string_bytes words.now) }
 
-    // The trace is read by `run` and `explain` alone, for a text that is accepted, whose list of places isn't
-    // refused, and no read is asked for once a line that stops the program has come whole.
+    // The trace is read by `run` and `explain` alone, for a text that is accepted, where neither the budget nor the
+    // list of places is refused, and no read is asked for once a line that stops the program has come whole.
     ensures trace { (trace.new ≡ trace.old)
         ⊎ ReadForWords S.left S.faults S.down (map string_bytes words.now) (T.content texts.old) trace.old trace.new }
 
@@ -192,7 +207,8 @@ pub fn forec<T: Texts, S: Source, K: Sink, G: Gate + Sync, R: Threads + Wait + S
         × IsReport (map string_bytes words.now) (T.content texts.old) (S.left trace.old) r
         × AppendsFront (K.held out.old) (K.held out.new) r.bytes)) }
 
-    // This status comes only where the words ask for nothing, or the list of places is refused.
+    // This status comes only where the words ask for nothing, the budget is a bound that there isn't, or the list of
+    // places is refused.
     ensures usage { result ≡ Status.Usage → IsMisuse (map string_bytes words.now) (T.content texts.old) }
 
     // Where no count of faults rises, the report is given whole, or memory ran out.

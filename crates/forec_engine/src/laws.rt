@@ -1,7 +1,11 @@
 //! Laws of the reports.
-ghost use Rattle.forec_engine.specs.Laws.{OneReport, AlikeReports, SomeReport};
+ghost use Rattle.forec_engine.specs.Laws.{OneReport, AlikeReports, SomeReport, CoveredNeverOver, BoundCovers, BoundNeverOver, FoldingPrintsTheSame};
 
-use text_verdict::{each_text_has_a_verdict, one_verdict};
+use bound_laws::no_tick_passes_the_bound;
+use kernel_fold::{folding_keeps_form, folding_keeps_paced, folding_keeps_runs};
+use text_verdict::{
+    each_accepted_text_is_formed, each_accepted_text_is_paced, each_text_has_a_verdict, one_verdict,
+};
 use thread_places::{one_placement, some_placement};
 
 /// Words other than `code P` have one report at most, and its bytes and status are those that the top
@@ -28,4 +32,26 @@ pub fn each_command_has_a_report()
 {
     each_text_has_a_verdict();
     some_placement();
+}
+
+/// Words that run a program with a budget of at least its worst case have no report that says that a tick is over; the
+/// bound is such a budget. The worst case is that of the kernel that runs, folded or not.
+pub fn enough_is_never_over()
+    ensures covered { CoveredNeverOver }
+    ensures covers { BoundCovers }
+    ensures bound { BoundNeverOver }
+{
+    each_accepted_text_is_formed();
+    each_accepted_text_is_paced();
+    folding_keeps_form();
+    folding_keeps_paced();
+    no_tick_passes_the_bound();
+}
+
+/// Words that run or explain a program with so many units a tick have the same report with `--fold`, where the one
+/// without it doesn't say that a tick is over.
+pub fn folding_prints_the_same()
+    ensures { FoldingPrintsTheSame }
+{
+    folding_keeps_runs();
 }

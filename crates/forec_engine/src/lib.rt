@@ -3,10 +3,14 @@
 
 mod answering;
 mod command;
+mod folding;
 mod laws;
 mod lines;
 mod room;
 
 pub use command::{forec, forec_within};
-pub use laws::{each_command_has_a_report, reports_are_alike, reports_are_unique};
+pub use laws::{
+    each_command_has_a_report, enough_is_never_over, folding_prints_the_same, reports_are_alike,
+    reports_are_unique,
+};
 pub use trace_runs::{Setting, Status};

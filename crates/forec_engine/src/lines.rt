@@ -5,7 +5,7 @@ ghost use Rattle.text_verdict.specs.Judging.{limit_words, refused_at, refusal_li
 ghost use Rattle.trace_runs.specs.WaitingRoom.{HasRoom, Gains};
 ghost use Rattle.forec_engine.specs.Placing.{place_line};
 
-use core_alloc::PlacementFault;
+use core_alloc::PlaceFault;
 use forec_base::Place;
 use itoa::Buffer;
 use text_verdict::{Counts, Quantity, Refusal};
@@ -73,15 +73,15 @@ fn put_numbered(waiting: &mut Waiting, words: &[u8], number: u64)
 }
 
 /// Adds the line of a list of places that is refused.
-pub fn put_misplaced(waiting: &mut Waiting, why: PlacementFault)
+pub fn put_misplaced(waiting: &mut Waiting, why: PlaceFault)
     requires { HasRoom waiting.old 64 }
     ensures { Gains waiting.old waiting.new (place_line why) }
 {
     match why {
-        PlacementFault::Shape { at } => put_numbered(waiting, b"place shape ", at),
-        PlacementFault::Count { found } => put_numbered(waiting, b"place count ", found),
-        PlacementFault::Core { at } => put_numbered(waiting, b"place core ", at),
-        PlacementFault::OutOfMemory => {}
+        PlaceFault::Shape { at } => put_numbered(waiting, b"place shape ", at),
+        PlaceFault::Count { found } => put_numbered(waiting, b"place count ", found),
+        PlaceFault::Core { at } => put_numbered(waiting, b"place core ", at),
+        PlaceFault::OutOfMemory => {}
     }
 }
 

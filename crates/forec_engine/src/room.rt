@@ -64,6 +64,16 @@ fn operands(step: &Instruction) -> u64 {
             length: second,
             ..
         }
+        | Instruction::GetAt {
+            variable: first,
+            length: second,
+            ..
+        }
+        | Instruction::PutAt {
+            variable: first,
+            length: second,
+            ..
+        }
         | Instruction::Clear {
             slot: first,
             length: second,
@@ -97,6 +107,8 @@ fn place(step: &Instruction) -> u64 {
     match step {
         Instruction::LoadAt { .. }
         | Instruction::StoreAt { .. }
+        | Instruction::GetAt { .. }
+        | Instruction::PutAt { .. }
         | Instruction::Table { .. }
         | Instruction::Turn { .. }
         | Instruction::Binary { place: Some(_), .. } => 16,

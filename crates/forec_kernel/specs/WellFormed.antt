@@ -8,7 +8,7 @@ use Rattle.forec_kernel.specs.declared.terms.Spot.{Spot}
 use Rattle.forec_kernel.specs.declared.terms.Spot.TheVariants as spot
 use Rattle.forec_kernel.specs.declared.shape.Variable.{Variable}
 use Rattle.forec_kernel.specs.declared.shape.KernelParts.{KernelParts}
-use Rattle.forec_kernel.specs.Terms.{Expr, Num, Local, LocalAt, Var, TableAt, Un, Bin, And, Or, Choose, Call, Exprs, no_exprs, more_exprs, count_exprs, Branch, Stmt, Nop, Set, SetAt, Clear, Seq, If, While, Pause, Par, Enter, Return, Stmts, no_stmts, more_stmts}
+use Rattle.forec_kernel.specs.Terms.{Expr, Num, Local, LocalAt, Var, SharedAt, TableAt, Un, Bin, And, Or, Choose, Call, Exprs, no_exprs, more_exprs, count_exprs, Branch, Stmt, Nop, Set, SetAt, PutAt, Clear, Seq, If, While, Pause, Par, Enter, Return, Stmts, no_stmts, more_stmts}
 use Rattle.forec_kernel.specs.Shapes.{PlainKernel, PlainThread, plain_kernel}
 use Rattle.forec_kernel.specs.Values.{function_words}
 use Rattle.forec_kernel.specs.Texts.{uses_of, words_of, body_of}
@@ -74,12 +74,19 @@ pub record IsArray (s : Scope) (slot n : ℕ) : Type 0 where
   pub some : 1 ≤ n
   pub most : n ≤ MAX_ARRAY_LENGTH
 
+-- the elements of a shared array: n variables that stand in a row, each with a copy
+pub record IsSharedArray (s : Scope) (v n : ℕ) : Type 0 where
+  pub used : IsTrue (all_in (count_up v n) s.uses)
+  pub some : 1 ≤ n
+  pub most : n ≤ MAX_ARRAY_LENGTH
+
 abbrev mutual
   pub FineExpr : Scope → Expr → Type 0
   FineExpr s (Num n) = Unit {0}
   FineExpr s (Local slot) = slot < s.words
   FineExpr s (LocalAt slot n i place) = IsArray s slot n × FineExpr s i
   FineExpr s (Var v) = IsTrue (contains v s.uses)
+  FineExpr s (SharedAt v n i place) = IsSharedArray s v n × FineExpr s i
   FineExpr s (TableAt t i place) = (t < length s.kernel.shape.tables) × FineExpr s i
   FineExpr s (Un op a) = FineExpr s a
   FineExpr s (Bin op a b place) = (has_place place ≡ can_divide op) × FineExpr s a × FineExpr s b
@@ -116,6 +123,7 @@ abbrev mutual
   FineStmt f s Nop = Unit {0}
   FineStmt f s (Set to e) = FineSpot s to × FineExpr s e
   FineStmt f s (SetAt slot n i e place) = IsArray s slot n × FineExpr s i × FineExpr s e
+  FineStmt f s (PutAt v n i e place) = IsSharedArray s v n × FineExpr s i × FineExpr s e
   FineStmt f s (Clear slot n) = IsArray s slot n
   FineStmt f s (Seq list) = FineStmts f s list
   FineStmt f s (If e a b) = FineExpr s e × FineStmt f s a × FineStmt f s b
@@ -139,6 +147,7 @@ abbrev mutual
   pars_of Nop = []
   pars_of (Set to e) = []
   pars_of (SetAt slot n i e place) = []
+  pars_of (PutAt v n i e place) = []
   pars_of (Clear slot n) = []
   pars_of (Seq list) = pars_in list
   pars_of (If e a b) = pars_of a ++ pars_of b
@@ -183,6 +192,7 @@ abbrev mutual
   calls_of (Local slot) = []
   calls_of (LocalAt slot n i place) = calls_of i
   calls_of (Var v) = []
+  calls_of (SharedAt v n i place) = calls_of i
   calls_of (TableAt t i place) = calls_of i
   calls_of (Un op a) = calls_of a
   calls_of (Bin op a b place) = calls_of a ++ calls_of b
@@ -204,6 +214,7 @@ abbrev mutual
   stmt_calls Nop = []
   stmt_calls (Set to e) = calls_of e
   stmt_calls (SetAt slot n i e place) = calls_of i ++ calls_of e
+  stmt_calls (PutAt v n i e place) = calls_of i ++ calls_of e
   stmt_calls (Clear slot n) = []
   stmt_calls (Seq list) = stmts_calls list
   stmt_calls (If e a b) = calls_of e ++ stmt_calls a ++ stmt_calls b
@@ -222,6 +233,7 @@ abbrev mutual
   returns Nop = false
   returns (Set to e) = false
   returns (SetAt slot n i e place) = false
+  returns (PutAt v n i e place) = false
   returns (Clear slot n) = false
   returns (Seq list) = some_returns list
   returns (If e a b) = returns a && returns b
@@ -271,6 +283,7 @@ abbrev mutual
   stmt_terms Nop = 1
   stmt_terms (Set to e) = 1 + expr_weight e
   stmt_terms (SetAt slot n i e place) = 1 + expr_weight i + expr_weight e
+  stmt_terms (PutAt v n i e place) = 1 + expr_weight i + expr_weight e
   stmt_terms (Clear slot n) = 1
   stmt_terms (Seq list) = 1 + stmts_terms list
   stmt_terms (If e a b) = 1 + expr_weight e + stmt_terms a + stmt_terms b
@@ -294,6 +307,7 @@ abbrev mutual
   expr_depth (Local slot) = 1
   expr_depth (LocalAt slot n i place) = 1 + expr_depth i
   expr_depth (Var v) = 1
+  expr_depth (SharedAt v n i place) = 1 + expr_depth i
   expr_depth (TableAt t i place) = 1 + expr_depth i
   expr_depth (Un op a) = 1 + expr_depth a
   expr_depth (Bin op a b place) = 1 + max (expr_depth a) (expr_depth b)
@@ -315,6 +329,7 @@ abbrev mutual
   stmt_depth Nop = 1
   stmt_depth (Set to e) = 1 + expr_depth e
   stmt_depth (SetAt slot n i e place) = 1 + max (expr_depth i) (expr_depth e)
+  stmt_depth (PutAt v n i e place) = 1 + max (expr_depth i) (expr_depth e)
   stmt_depth (Clear slot n) = 1
   stmt_depth (Seq list) = 1 + stmts_depth list
   stmt_depth (If e a b) = 1 + max (expr_depth e) (max (stmt_depth a) (stmt_depth b))

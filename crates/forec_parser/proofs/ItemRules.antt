@@ -306,6 +306,32 @@ module _ (limit : ℕ) where
   values_read (one_number s) = one_value_reads s
   values_read (more_numbers s) = many_reads s
 
+  -- the same, if it is there
+  pub data MaybeValues (length : Option Number) : List Number → ℕ → List Spelt → Type 0 where
+    no_numbers : {v : ℕ} → MaybeValues length [] v []
+    some_numbers : {v : ℕ} {xs : List Number} {ls : List Spelt} → TableValues length xs v ls → MaybeValues length xs v ls
+
+  pub maybe_values_of : (length : Option Number) → (v w : ℕ) (x : List Number) (ls : List Spelt) (k : Option TokenKind) → If fixed.Assign (Part Any (TableValues length)) (Done []) v x w ls k
+      → Part Any (MaybeValues length) v x w ls k
+  maybe_values_of length v w x ls k (on e (part s c)) = part (some_numbers s) tt
+  maybe_values_of length v w x ls k (off e done) = part no_numbers tt
+
+  a_maybe_values : (length : Option Number) → Exact limit (it.maybe_values limit length) (Part Any (MaybeValues length)) (If fixed.Assign (Reading limit (it.values_by limit length)) (Done []))
+  unfolding it.maybe_values
+  a_maybe_values length = convert (maybe_values_of length) (λ v w x ls k q. q) (either fixed.Assign (values_by length) (done_at []))
+
+  pub maybe_values_by : (length : Option Number) → Exact limit (it.maybe_values limit length) (Part Any (MaybeValues length)) (Reading limit (it.maybe_values limit length))
+  maybe_values_by length = by_reading (a_maybe_values length).sound
+
+  values_first : {length : Option Number} {v : ℕ} {xs : List Number} {ls : List Spelt} → TableValues length xs v ls → (k : Option TokenKind) → is_fixed fixed.Assign (first ls k) ≡ true
+  values_first (one_number (one_is {t = t} h s)) k = is_so fixed.Assign t h
+  values_first (more_numbers (tabled equal left right h hl s hr)) k = is_so fixed.Assign equal h
+
+  pub maybe_values_read : {length : Option Number} {v : ℕ} {xs : List Number} {ls : List Spelt} {k : Option TokenKind} → MaybeValues length xs v ls → is_fixed fixed.Assign k ≡ false
+      → Reading limit (it.maybe_values limit length) v xs v ls k
+  maybe_values_read {length} no_numbers n = reads_by (a_maybe_values length) (off n done)
+  maybe_values_read {length} {k = k} (some_numbers s) n = reads_by (a_maybe_values length) (on (values_first s k) (values_read s))
+
   abbrev pub constant_of : Name → Option Number → List Number → PlainItem
   constant_of n length found = IsGlobal (global_of glob.Const None n length found)
 

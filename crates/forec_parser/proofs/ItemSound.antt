@@ -14,8 +14,8 @@ use Rattle.forec_tree.specs.declared.tree.GlobalKind.TheVariants as glob
 use Rattle.forec_tree.specs.Terms.{Statement, PlainGlobal, PlainItem, IsGlobal, IsFunction}
 use Rattle.forec_tree.specs.Parts.{in_order, global_of}
 use Rattle.forec_tree.specs.Spelling.{Spelt, at, tokens, IsMark, IsWord, IsName, name_at}
-use Rattle.forec_tree.specs.SpelledStatements.{Separated, last_part, next_part, Block, block}
-use Rattle.forec_tree.specs.SpelledPrograms.{positive, negative, Scalar, unset, set, Table, Combines, combines, Parameters, parameters, gives_word, Introduces, constants, inputs, outputs, globals, shared_globals, function}
+use Rattle.forec_tree.specs.SpelledStatements.{Separated, last_part, next_part, Lengths, lengths, Block, block}
+use Rattle.forec_tree.specs.SpelledPrograms.{positive, negative, Scalar, unset, set, SharedVariable, one, array, valued_array, Table, Combines, combines, Parameters, parameters, gives_word, Introduces, constants, inputs, outputs, globals, shared_globals, function}
 use Rattle.forec_tree.specs.SpelledPrograms as sp
 use Rattle.expr_parser.specs.declared.fixed.Fixed.{Fixed}
 use Rattle.expr_parser.specs.declared.fixed.Fixed.TheVariants as fixed
@@ -35,7 +35,8 @@ use Rattle.expr_parser.proofs.Leaves.{Tok, tok, NameIs, name_is, token, a_name, 
 use Rattle.expr_parser.proofs.Operators.{ends}
 use Rattle.forec_parser.proofs.StatementSound.{Bodied, bodied, Braces, block_here, sound_stmt}
 use Rattle.forec_parser.proofs.StatementComplete.{here_reads, block_reads}
-use Rattle.forec_parser.proofs.ItemRules.{MaybeValue, no_value, some_value, IsItem, Wrapped, wrapped, DeclaredAs, wrap_in, items_read, maybe_value_by, maybe_value_reads, combines_by, combines_reads, parameters_by, parameters_read, declared_reads, declared_filled, declared_list}
+use Rattle.forec_parser.proofs.PartRules.{MaybeLength, some_length, no_length, maybe_length_by, maybe_length_reads}
+use Rattle.forec_parser.proofs.ItemRules.{one_is, tabled, one_number, more_numbers, MaybeValues, no_numbers, some_numbers, maybe_values_by, maybe_values_read, MaybeValue, no_value, some_value, IsItem, Wrapped, wrapped, DeclaredAs, wrap_in, items_read, maybe_value_by, maybe_value_reads, combines_by, combines_reads, parameters_by, parameters_read, declared_reads, declared_filled, declared_list}
 
 semicolon_ends : (t : Token) → IsMark mark.Semicolon t → ends (Some t.kind) ≡ true
 semicolon_ends t h = rw h
@@ -50,7 +51,7 @@ pub data Ints (d : Declarator) : List PlainItem → ℕ → List Spelt → Type 
 
 -- a shared variable from `int` on
 pub data SharedRest (kind : GlobalKind) : List PlainItem → ℕ → List Spelt → Type 0 where
-  shared_rest : {v : ℕ} {int : Token} (semicolon : Token) {g : PlainGlobal} {combine : Combine} {ms rs : List Spelt} → IsWord word.Int int → Scalar kind (Some combine) g v ms → Combines combine v rs
+  shared_rest : {v : ℕ} {int : Token} (semicolon : Token) {g : PlainGlobal} {combine : Combine} {ms rs : List Spelt} → IsWord word.Int int → SharedVariable kind (Some combine) g v ms → Combines combine v rs
       → IsMark mark.Semicolon semicolon → SharedRest kind (IsGlobal g ∷ []) v (at int v ∷ (ms ++ (rs ++ (at semicolon v ∷ []))))
 
 abbrev pub function_of : Bool → Name → List Name → List Statement → PlainItem
@@ -96,20 +97,31 @@ module _ (limit : ℕ) where
 
   -- ---- shared variables
 
-  abbrev pub shared_of : GlobalKind → Name → List Number → Combine → List PlainItem
-  shared_of kind n found c = IsGlobal (global_of kind (Some c) n None found) ∷ []
+  abbrev pub shared_of : GlobalKind → Name → Option Number → List Number → Combine → List PlainItem
+  shared_of kind n length found c = IsGlobal (global_of kind (Some c) n length found) ∷ []
 
-  abbrev SharedBy : GlobalKind → Lang (List Number) → Lang Combine → Lang (List PlainItem)
-  SharedBy kind V C = Bind (Tok fixed.Int) (λ _. Bind (Part Any NameIs) (λ n. Bind V (λ found. Bind C (λ c. Map (λ (_ : Token). shared_of kind n found c) (Tok fixed.Semicolon)))))
+  abbrev SharedBy : GlobalKind → Lang (Option Number) → (Option Number → Lang (List Number)) → Lang Combine → Lang (List PlainItem)
+  SharedBy kind L V C = Bind (Tok fixed.Int) (λ _. Bind (Part Any NameIs) (λ n. Bind L (λ length. Bind (V length) (λ found. Bind C (λ c.
+      Map (λ (_ : Token). shared_of kind n length found c) (Tok fixed.Semicolon))))))
 
-  pub shared_rest_of : (q : GlobalKind) → (v w : ℕ) (x : List PlainItem) (ls : List Spelt) (k : Option TokenKind) → SharedBy q (Part Any MaybeValue) (Part Any Combines) v x w ls k → Part Any (SharedRest q) v x w ls k
-  shared_rest_of q v w x ls k (both (tok h) (both (part (name_is id m) c) (both (part no_value d) (both (part s e) (mapped (tok n)))))) = part (shared_rest _ h (unset id m) s n) tt
-  shared_rest_of q v w x ls k (both (tok h) (both (part (name_is id m) c) (both (part (some_value o r) d) (both (part s e) (mapped (tok n)))))) = part (shared_rest _ h (set id m o r) s n) tt
+  pub shared_rest_of : (q : GlobalKind) → (v w : ℕ) (x : List PlainItem) (ls : List Spelt) (k : Option TokenKind)
+      → SharedBy q (Part Any (MaybeLength limit)) (λ length. Part Any (MaybeValues limit length)) (Part Any Combines) v x w ls k → Part Any (SharedRest q) v x w ls k
+  shared_rest_of q v w x ls k (both (tok h) (both (part (name_is id m) c) (both (part no_length a) (both (part no_numbers d) (both (part s e) (mapped (tok n))))))) =
+      part (shared_rest _ h (one (unset id m)) s n) tt
+  shared_rest_of q v w x ls k (both (tok h) (both (part (name_is id m) c) (both (part no_length a) (both (part (some_numbers (one_number (one_is o r))) d) (both (part s e) (mapped (tok n))))))) =
+      part (shared_rest _ h (one (set id m o r)) s n) tt
+  shared_rest_of q v w x ls k (both (tok h) (both (part (name_is id m) c) (both (part (some_length l) a) (both (part no_numbers d) (both (part s e) (mapped (tok n))))))) =
+      part (shared_rest _ h (array id m l) s n) tt
+  shared_rest_of q v w x ls k (both (tok h) (both (part (name_is id m) c) (both (part (some_length (lengths value hl hn hr)) a) (both (part (some_numbers (more_numbers (tabled equal left right o ol r or))) d)
+      (both (part s e) (mapped (tok n))))))) =
+      part (shared_rest _ h (valued_array equal left right id m (lengths value hl hn hr) o ol r or) s n) tt
 
-  a_shared : (q : GlobalKind) → Exact limit (it.shared limit q) (Part Any (SharedRest q)) (SharedBy q (Reading limit it.maybe_value) (Reading limit it.combines))
+  a_shared : (q : GlobalKind) → Exact limit (it.shared limit q) (Part Any (SharedRest q))
+      (SharedBy q (Reading limit (st.maybe_length limit)) (λ length. Reading limit (it.maybe_values limit length)) (Reading limit it.combines))
   unfolding it.shared
   a_shared q = convert (shared_rest_of q) (λ v w x ls k z. z)
-      (bind (token limit fixed.Int) (λ _. bind (a_name limit) (λ n. bind (maybe_value_by limit) (λ found. bind (combines_by limit) (λ c. map_to (λ (_ : Token). shared_of q n found c) (token limit fixed.Semicolon))))))
+      (bind (token limit fixed.Int) (λ _. bind (a_name limit) (λ n. bind (maybe_length_by limit) (λ length. bind (maybe_values_by limit length) (λ found. bind (combines_by limit) (λ c.
+      map_to (λ (_ : Token). shared_of q n length found c) (token limit fixed.Semicolon)))))))
 
   pub shared_by : (q : GlobalKind) → Exact limit (it.shared limit q) (Part Any (SharedRest q)) (Reading limit (it.shared limit q))
   shared_by q = by_reading (a_shared q).sound
@@ -118,10 +130,19 @@ module _ (limit : ℕ) where
   combine_first (combines p id h m n o) rs k = rw h
 
   shared_reads : {q : GlobalKind} {v : ℕ} {xs : List PlainItem} {ls : List Spelt} {k : Option TokenKind} → SharedRest q xs v ls → Reading limit (it.shared limit q) v xs v ls k
-  shared_reads {q} (shared_rest semicolon h (unset id m) s n) =
-      reads_by (a_shared q) (both (tok h) (both (part (name_is id m) tt) (both (maybe_value_reads limit no_value (ap (is_fixed fixed.Assign) (combine_first s _ _))) (both (combines_reads limit s) (mapped (tok n))))))
-  shared_reads {q} (shared_rest semicolon h (set id m o r) s n) =
-      reads_by (a_shared q) (both (tok h) (both (part (name_is id m) tt) (both (maybe_value_reads limit (some_value o r) (ap (is_fixed fixed.Assign) (combine_first s _ _))) (both (combines_reads limit s) (mapped (tok n))))))
+  shared_reads {q} (shared_rest semicolon h (one (unset id m)) s n) =
+      reads_by (a_shared q) (both (tok h) (both (part (name_is id m) tt) (both (maybe_length_reads limit no_length (ap (is_fixed fixed.LeftSquare) (combine_first s _ _)))
+      (both (maybe_values_read limit no_numbers (ap (is_fixed fixed.Assign) (combine_first s _ _))) (both (combines_reads limit s) (mapped (tok n)))))))
+  shared_reads {q} (shared_rest semicolon h (one (set id m o r)) s n) =
+      reads_by (a_shared q) (both (tok h) (both (part (name_is id m) tt) (both (maybe_length_reads limit no_length (rw o))
+      (both (maybe_values_read limit (some_numbers (one_number (one_is o r))) (ap (is_fixed fixed.Assign) (combine_first s _ _))) (both (combines_reads limit s) (mapped (tok n)))))))
+  shared_reads {q} (shared_rest semicolon h (array id m l) s n) =
+      reads_by (a_shared q) (both (tok h) (both (part (name_is id m) tt) (both (maybe_length_reads limit (some_length l) (ap (is_fixed fixed.LeftSquare) (combine_first s _ _)))
+      (both (maybe_values_read limit no_numbers (ap (is_fixed fixed.Assign) (combine_first s _ _))) (both (combines_reads limit s) (mapped (tok n)))))))
+  shared_reads {q} (shared_rest semicolon h (valued_array equal left right id m (lengths value hl hn hr) o ol r or) s n) =
+      reads_by (a_shared q) (both (tok h) (both (part (name_is id m) tt) (both (maybe_length_reads limit (some_length (lengths value hl hn hr)) (rw o))
+      (both (maybe_values_read limit (some_numbers (more_numbers (tabled equal left right o ol r or))) (ap (is_fixed fixed.Assign) (combine_first s _ _)))
+      (both (combines_reads limit s) (mapped (tok n)))))))
 
   -- ---- functions
 

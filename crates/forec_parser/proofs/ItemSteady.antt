@@ -53,6 +53,10 @@ module _ {E : Type 0} (k l : ℕ) (le : Limits E k l) where
   values_by_steady None = one_value_steady
   values_by_steady (Some n) = bind (closed fixed.Assign) (λ _. enclosing k l le fixed.LeftCurly fixed.RightCurly (λ _ xs. xs) (listing signed_steady))
 
+  maybe_values_steady : (o : Option Number) → Steady E 0 (items.maybe_values k o) (items.maybe_values l o)
+  unfolding items.maybe_values
+  maybe_values_steady o = either fixed.Assign (values_by_steady o) (done [])
+
   declared_steady : (d : Declarator) → Steady E 1 (items.declared k d) (items.declared l d)
   unfolding items.declared items.table
   declared_steady declarator.Table = bind named (λ n. bind (maybe_length_steady k l le) (λ o. bind (values_by_steady o) (λ found. done _)))
@@ -65,7 +69,8 @@ module _ {E : Type 0} (k l : ℕ) (le : Limits E k l) where
 
   shared_steady : (g : GlobalKind) → Steady E 1 (items.shared k g) (items.shared l g)
   unfolding items.shared
-  shared_steady g = bind (closed fixed.Int) (λ _. bind named (λ n. bind maybe_value_steady (λ found. bind combines_steady (λ c. bind (closed fixed.Semicolon) (λ _. done _)))))
+  shared_steady g = bind (closed fixed.Int) (λ _. bind named (λ n. bind (maybe_length_steady k l le) (λ o. bind (maybe_values_steady o) (λ found.
+      bind combines_steady (λ c. bind (closed fixed.Semicolon) (λ _. done _))))))
 
   function_steady : (gives : Bool) (n : Name) → Steady E 1 (items.function k gives n) (items.function l gives n)
   unfolding items.function items.parameters

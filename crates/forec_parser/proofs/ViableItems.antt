@@ -103,6 +103,10 @@ module _ (limit low : ℕ) where
   values_at None = convert (λ v w x ls o q. ir.values_one limit q) one_value_at
   values_at (Some n) = convert (λ v w x ls o q. ir.values_many limit q) many_at
 
+  maybe_values_at : {k : Option TokenKind} (length : Option Number) → is_fixed fixed.Assign k ≡ false → Viable limit low (it.maybe_values limit length) (Part Any (ir.MaybeValues limit length)) k k
+  unfolding it.maybe_values
+  maybe_values_at length n = convert (ir.maybe_values_of limit length) (either_off fixed.Assign n (values_at length) (done_at []))
+
   table_at : {k : Option TokenKind} → Viable limit low (it.table limit) (Part Any (IsItem Table)) leaf.a_name k
   unfolding it.table
   table_at = convert (ir.table_of limit) (bind (a_name limit) part_keeps name_here (λ n. bind (maybe_length_by limit) part_keeps (maybe_length_at limit refl) (λ length. map_to (ir.constant_of limit n length) (values_at length))))
@@ -124,8 +128,9 @@ module _ (limit low : ℕ) where
   shared_at : {k : Option TokenKind} (q : GlobalKind) → Viable limit low (it.shared limit q) (Part Any (SharedRest q)) (Some (kind_of fixed.Int)) k
   unfolding it.shared
   shared_at q = convert (is'.shared_rest_of limit q)
-      (bind (token limit fixed.Int) token_keeps (token_at fixed.Int) (λ _. bind (a_name limit) part_keeps name_here (λ n. bind (ir.maybe_value_by limit) part_keeps (maybe_value_at refl) (λ found.
-      bind (ir.combines_by limit) part_keeps combines_at (λ c. map_to (λ (_ : Token). is'.shared_of limit q n found c) (token_at fixed.Semicolon))))))
+      (bind (token limit fixed.Int) token_keeps (token_at fixed.Int) (λ _. bind (a_name limit) part_keeps name_here (λ n.
+      bind (maybe_length_by limit) part_keeps (maybe_length_at limit refl) (λ length. bind (ir.maybe_values_by limit length) part_keeps (maybe_values_at length refl) (λ found.
+      bind (ir.combines_by limit) part_keeps combines_at (λ c. map_to (λ (_ : Token). is'.shared_of limit q n length found c) (token_at fixed.Semicolon)))))))
 
   function_at : {k : Option TokenKind} (gives : Bool) (n : Name) → Viable limit low (it.function limit gives n) (Part Any (FunctionRest gives n)) (Some (kind_of fixed.LeftRound)) k
   unfolding it.function

@@ -84,6 +84,9 @@ module _ (limit : ℕ) where
   values_by None = one_value
   values_by (Some n) = many_values
 
+  unfoldable pub maybe_values : Option Number → Parser (List Number)
+  maybe_values length = λ i. if next_is fixed.Assign i then values_by length i else pure [] i
+
   unfoldable pub table : Parser PlainItem
   table = do
     n ← name
@@ -116,15 +119,16 @@ module _ (limit : ℕ) where
     close fixed.Int
     globals d
 
-  -- a shared variable from `int` on
+  -- a shared variable or array from `int` on
   unfoldable pub shared : GlobalKind → Parser (List PlainItem)
   shared k = do
     close fixed.Int
     n ← name
-    found ← maybe_value
+    length ← maybe_length limit
+    found ← maybe_values length
     c ← combines
     close fixed.Semicolon
-    pure (IsGlobal (global_of k (Some c) n None found) ∷ [])
+    pure (IsGlobal (global_of k (Some c) n length found) ∷ [])
 
   unfoldable pub output_shared : Parser (List PlainItem)
   output_shared = do

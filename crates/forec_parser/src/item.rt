@@ -4,7 +4,6 @@ ghost use Rattle.std.specs.Prelude.{◌≡◌, map};
 ghost use Rattle.forec_base.specs.declared.Policy.{Policy};
 ghost use Rattle.forec_tree.specs.declared.tree.Combine.{Combine};
 ghost use Rattle.forec_tree.specs.declared.tree.Name.{Name};
-ghost use Rattle.forec_tree.specs.declared.tree.Number.{Number};
 ghost use Rattle.std.specs.Prelude.{List};
 ghost use Rattle.forec_tree.specs.Plain.{plain_item};
 ghost use Rattle.expr_parser.specs.Input.{Reads, max_level};
@@ -15,108 +14,15 @@ use crate::meaning::{Declarator, Opening, opening_of, policy_of};
 use crate::parts;
 use crate::simple::maybe_length;
 use crate::statement::block;
+use crate::values::{maybe_value, maybe_values, values_by};
 use expr_parser::{Fault, Fixed, Tokens};
-use forec_base::{Policy, Unary, unary};
-use forec_tree::{Combine, Global as Variable, GlobalKind, Item, Name, Number};
+use forec_base::Policy;
+use forec_tree::{Combine, Global as Variable, GlobalKind, Item, Name};
 use sqlite_items::Items;
 use std::alloc::Global;
 
 /// More than the levels that the statements of a function have.
 const BLOCK_DEPTH: usize = 129;
-
-#[tactic(auto, unfolding(crate::specs::Items::negative))]
-fn negative(tokens: &mut Tokens<'_>) -> Result<Number, Fault>
-    ensures { Reads (λ (n : Number). n) (spec.negative tokens.old) result tokens.new }
-{
-    let token = tokens.close(Fixed::Minus)?;
-    let number = tokens.number()?;
-    Ok(Number {
-        value: unary(Unary::Minus, number.value),
-        place: token.place,
-    })
-}
-
-/// A number with or without a sign.
-#[tactic(auto, unfolding(crate::specs::Items::signed))]
-fn signed(tokens: &mut Tokens<'_>) -> Result<Number, Fault>
-    ensures { Reads (λ (n : Number). n) (spec.signed tokens.old) result tokens.new }
-{
-    if tokens.next_is(Fixed::Minus) {
-        negative(tokens)
-    } else {
-        tokens.number()
-    }
-}
-
-#[tactic(auto, unfolding(crate::specs::Items::one_value))]
-fn one_value(alloc: Global, tokens: &mut Tokens<'_>) -> Result<Items<Number>, Fault>
-    ensures { Reads (λ (ns : List Number). ns) (spec.one_value tokens.old) result tokens.new }
-{
-    tokens.close(Fixed::Assign)?;
-    let number = signed(tokens)?;
-    let mut found = Items::new(alloc);
-    found.push(number)?;
-    Ok(found)
-}
-
-#[tactic(auto, unfolding(crate::specs::Items::maybe_value))]
-fn maybe_value(alloc: Global, tokens: &mut Tokens<'_>) -> Result<Items<Number>, Fault>
-    ensures { Reads (λ (ns : List Number). ns) (spec.maybe_value tokens.old) result tokens.new }
-{
-    if tokens.next_is(Fixed::Assign) {
-        one_value(alloc, tokens)
-    } else {
-        Ok(Items::new(alloc))
-    }
-}
-
-#[tactic(auto, unfolding(expr_parser::specs::Reading::separated, expr_parser::specs::Reading::separated_from))]
-fn signed_values(alloc: Global, tokens: &mut Tokens<'_>) -> Result<Items<Number>, Fault>
-    ensures { Reads (λ (ns : List Number). ns) (separated spec.signed tokens.old) result tokens.new }
-{
-    let mut found = Items::new(alloc);
-    for _turn in 0..tokens.left() {
-        found.push(signed(tokens)?)?;
-        if !tokens.next_is(Fixed::Comma) {
-            return Ok(found);
-        }
-        tokens.take()?;
-    }
-    Err(tokens.refuse())
-}
-
-#[tactic(auto, unfolding(crate::specs::Items::table_values))]
-fn table_values(alloc: Global, tokens: &mut Tokens<'_>) -> Result<Items<Number>, Fault>
-    ensures { Reads (λ (ns : List Number). ns) (spec.table_values max_level tokens.old) result tokens.new }
-{
-    let outer = tokens.level();
-    tokens.enter(Fixed::LeftCurly)?;
-    let found = signed_values(alloc, tokens)?;
-    tokens.close(Fixed::RightCurly)?;
-    tokens.leave(outer);
-    Ok(found)
-}
-
-#[tactic(auto, unfolding(crate::specs::Items::many_values))]
-fn many_values(alloc: Global, tokens: &mut Tokens<'_>) -> Result<Items<Number>, Fault>
-    ensures { Reads (λ (ns : List Number). ns) (spec.many_values max_level tokens.old) result tokens.new }
-{
-    tokens.close(Fixed::Assign)?;
-    table_values(alloc, tokens)
-}
-
-fn values_by(
-    alloc: Global,
-    tokens: &mut Tokens<'_>,
-    length: Option<Number>,
-) -> Result<Items<Number>, Fault>
-    ensures { Reads (λ (ns : List Number). ns) (spec.values_by max_level length tokens.old) result tokens.new }
-{
-    match length {
-        None => one_value(alloc, tokens),
-        Some(_) => many_values(alloc, tokens),
-    }
-}
 
 /// A constant, or a table of constants.
 #[tactic(auto, unfolding(crate::specs::Items::table))]
@@ -241,14 +147,15 @@ fn combines(tokens: &mut Tokens<'_>) -> Result<Combine, Fault>
     Ok(Combine { policy, with })
 }
 
-/// A shared variable from `int` on.
+/// A shared variable or array from `int` on.
 #[tactic(auto, unfolding(crate::specs::Items::shared))]
 fn shared(alloc: Global, tokens: &mut Tokens<'_>, kind: GlobalKind) -> Result<Items<Item>, Fault>
     ensures { Reads (map plain_item) (spec.shared max_level kind tokens.old) result tokens.new }
 {
     tokens.close(Fixed::Int)?;
     let name = tokens.name()?;
-    let values = maybe_value(alloc, tokens)?;
+    let length = maybe_length(tokens)?;
+    let values = maybe_values(alloc, tokens, length)?;
     let combine = combines(tokens)?;
     tokens.close(Fixed::Semicolon)?;
     let mut found = Items::new(alloc);
@@ -256,7 +163,7 @@ fn shared(alloc: Global, tokens: &mut Tokens<'_>, kind: GlobalKind) -> Result<It
         global: Variable {
             name,
             kind,
-            length: None,
+            length,
             values,
             combine: Some(combine),
         },

@@ -7,6 +7,7 @@ mod meaning;
 mod parts;
 mod simple;
 mod statement;
+mod values;
 mod whole;
 
 pub use fault::ParseFault;

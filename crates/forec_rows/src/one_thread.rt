@@ -136,7 +136,7 @@ fn rows(rt: HostRuntime) -> Result<(), Fail> {
 }
 
 /// A text, the word of its budget, what is held in the end over three rows without words, and the status.
-const BUDGETS: [(&[u8], &str, &[u8], Status); 5] = [
+const BUDGETS: [(&[u8], &str, &[u8], Status); 6] = [
     (
         COUNTER,
         "7",
@@ -150,6 +150,12 @@ const BUDGETS: [(&[u8], &str, &[u8], Status); 5] = [
         Status::Done,
     ),
     (COUNTER, "6", b"over 1 budget 6\n", Status::Over),
+    (
+        COUNTER,
+        "bound",
+        b"tick 1 o=1\ntick 2 o=2\nrows 2\n",
+        Status::Done,
+    ),
     (GROWS, "8", b"tick 1 o=1\nover 2 budget 8\n", Status::Over),
     (
         COUNTER,
@@ -204,7 +210,7 @@ fn counts_and_lists(rt: HostRuntime) -> Result<(), Fail> {
 }
 
 const USAGE: &[u8] =
-    b"usage: forec run|check|threads|code|explain|gen PROGRAM [--cores N] [--place LIST] [--budget B] [--order N]\n";
+    b"usage: forec run|check|threads|code|explain|gen PROGRAM [--cores N] [--place LIST] [--budget B] [--order N] [--fold]\n";
 
 /// These words are no command.
 const NO_COMMANDS: [&[&str]; 12] = [

@@ -8,7 +8,7 @@ use std::test::Fail;
 use trace_rows::{Next, RowFault, Rows, line, line_room};
 
 /// What a trace of the inputs `a` and `b` is to give: the values of its rows, one after the other, and the last answer.
-const TWO: [(&[u8], &[i32], Result<Next, RowFault>); 31] = [
+const TWO: [(&[u8], &[i32], Result<Next, RowFault>); 49] = [
     (b"", &[], Err(RowFault::Bad)),
     (b"\n1 2\n", &[], Err(RowFault::Bad)),
     (b"a\n1\n", &[], Err(RowFault::Bad)),
@@ -44,10 +44,38 @@ const TWO: [(&[u8], &[i32], Result<Next, RowFault>); 31] = [
     (b"a b\n1\0 2\n", &[], Err(RowFault::Bad)),
     (b"a b\n1 \xb2\n", &[], Err(RowFault::Bad)),
     (b"a b\n1\x0b2\n", &[], Err(RowFault::Bad)),
+    (b"#2\na=5\nb=2\n", &[5, 0, 5, 2], Ok(Next::End)),
+    (b"#2\na=5\n\n", &[5, 0, 5, 0], Ok(Next::End)),
+    (b"#2\na=1 b=1\na=1 a=2\n", &[1, 1], Err(RowFault::Bad)),
+    (
+        b" #2\t\r\n b=-7\ta=1\r\nb=07",
+        &[1, -7, 1, 7],
+        Ok(Next::End),
+    ),
+    (b"#2\nb=1 a=2\nb=3 a=4\n", &[2, 1, 4, 3], Ok(Next::End)),
+    (b"#2 a\n", &[], Err(RowFault::Bad)),
+    (b"#2 #2\n", &[], Err(RowFault::Bad)),
+    (b"#2\na=\n", &[], Err(RowFault::Bad)),
+    (b"#2\n=5\n", &[], Err(RowFault::Bad)),
+    (b"#2\na= 5\n", &[], Err(RowFault::Bad)),
+    (b"#2\na =5\n", &[], Err(RowFault::Bad)),
+    (b"#2\nA=5\n", &[], Err(RowFault::Bad)),
+    (b"#2\nc=5\n", &[], Err(RowFault::Bad)),
+    (b"#2\n5\n", &[], Err(RowFault::Bad)),
+    (b"#2\na=5=5\n", &[], Err(RowFault::Bad)),
+    (
+        b"#2\na=-2147483648 b=2147483647\n",
+        &[i32::MIN, i32::MAX],
+        Ok(Next::End),
+    ),
+    (b"#2\na=-2147483649\n", &[], Err(RowFault::Bad)),
+    (b"#2\na=2147483648\n", &[], Err(RowFault::Bad)),
 ];
 
 /// How many rows a trace of no inputs and at most two rows is to give, and the last answer.
-const NONE: [(&[u8], u32, Result<Next, RowFault>); 7] = [
+const NONE: [(&[u8], u32, Result<Next, RowFault>); 9] = [
+    (b"#2\n\n \n", 2, Ok(Next::End)),
+    (b"#2\n\na=1\n", 1, Err(RowFault::Bad)),
     (b"", 0, Err(RowFault::Bad)),
     (b"\n", 0, Ok(Next::End)),
     (b"\n \n\t\r\n", 2, Ok(Next::End)),

@@ -43,6 +43,16 @@ pub data Table : PlainGlobal → ℕ → List Spelt → Type 0 where
       → IsName id t → Lengths length v ls → IsMark mark.Assign equal → IsMark mark.LeftCurly left → Separated Signed values (v + 1) rs → IsMark mark.RightCurly right
       → Table (global_of sort.Const None (name_at id t.place) (Some length) values) v (at t v ∷ (ls ++ (at equal v ∷ at left (v + 1) ∷ (rs ++ (at right v ∷ [])))))
 
+-- a shared variable, with or without a value, or a shared array, with or without values
+pub data SharedVariable (kind : GlobalKind) (combine : Option Combine) : PlainGlobal → ℕ → List Spelt → Type 0 where
+  one : {v : ℕ} {global : PlainGlobal} {ls : List Spelt} → Scalar kind combine global v ls → SharedVariable kind combine global v ls
+  array : {v : ℕ} {t : Token} {length : Number} {ls : List Spelt} (id : ℕ) → IsName id t → Lengths length v ls
+      → SharedVariable kind combine (global_of kind combine (name_at id t.place) (Some length) []) v (at t v ∷ ls)
+  valued_array : {v : ℕ} {t : Token} (equal left right : Token) {length : Number} {values : List Number} {ls rs : List Spelt} (id : ℕ)
+      → IsName id t → Lengths length v ls → IsMark mark.Assign equal → IsMark mark.LeftCurly left → Separated Signed values (v + 1) rs → IsMark mark.RightCurly right
+      → SharedVariable kind combine (global_of kind combine (name_at id t.place) (Some length) values) v
+      (at t v ∷ (ls ++ (at equal v ∷ at left (v + 1) ∷ (rs ++ (at right v ∷ [])))))
+
 -- how a shared variable is introduced
 pub data Sharing : GlobalKind → ℕ → List Spelt → Type 0 where
   shared : {v : ℕ} {t : Token} → IsWord word.Shared t → Sharing sort.Shared v (at t v ∷ [])
@@ -92,7 +102,7 @@ pub data Introduces : List PlainItem → ℕ → List Spelt → Type 0 where
       → IsWord word.Int int → Separated (Scalar sort.Plain None) globals v ls → IsMark mark.Semicolon semicolon
       → Introduces (map IsGlobal globals) v (at int v ∷ (ls ++ (at semicolon v ∷ [])))
   shared_globals : {v : ℕ} (int semicolon : Token) {kind : GlobalKind} {global : PlainGlobal} {combine : Combine} {ls ms rs : List Spelt}
-      → Sharing kind v ls → IsWord word.Int int → Scalar kind (Some combine) global v ms → Combines combine v rs → IsMark mark.Semicolon semicolon
+      → Sharing kind v ls → IsWord word.Int int → SharedVariable kind (Some combine) global v ms → Combines combine v rs → IsMark mark.Semicolon semicolon
       → Introduces (IsGlobal global ∷ []) v (ls ++ (at int v ∷ (ms ++ (rs ++ (at semicolon v ∷ [])))))
   function : {v : ℕ} {t name : Token} {place : Place} {names : List Name} {body : List Statement} {ls ms : List Spelt} (gives : Bool) (id : ℕ)
       → IsWord (gives_word gives) t → IsName id name → Parameters names v ls → Block place body v v ms

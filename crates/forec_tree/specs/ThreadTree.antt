@@ -2,10 +2,11 @@
 -- so expanded is one instance. Instances are numbered in preorder from `main`, which is 0.
 use Rattle.std.specs.Prelude.{ℕ, zero, suc, ◌+◌, cond, Option, Some, None, List, [], ◌∷◌, ◌++◌, length, slice_get}
 use Rattle.forec_tree.specs.declared.uses.Meaning.TheVariants as means
-use Rattle.forec_tree.specs.Terms.{Statement, Declare, Nothing, Group, Assign, Invoke, If, While, For, Pause, Par, Abort, Return, Statements, no_statements, more_statements, Perhaps, absent, present, Branches, no_branches, by_call, by_group, Text, IsGlobal, IsFunction, PlainFunction}
-use Rattle.forec_tree.specs.Scopes.{Scope, no_scope, entered, after, after_perhaps, with_params, is_constant, is_in}
+use Rattle.forec_tree.specs.Terms.{Statement, Declare, Nothing, Group, Assign, Invoke, If, While, For, Pause, Par, Abort, Return, Statements, no_statements, more_statements, Perhaps, absent, present, Branches, no_branches, by_call, by_group, Text, PlainFunction}
+use Rattle.forec_tree.specs.Scopes.{Scope, no_scope, entered, after, after_perhaps, with_params, is_in}
 use Rattle.forec_tree.specs.Findings.{Finding, Use, in_term, in_terms, in_optional, in_target, in_locals}
 use Rattle.forec_tree.specs.Pauses.{within, find_function}
+use Rattle.forec_tree.specs.Variables.{PlainVariable, variables}
 
 -- Instances side by side: each with the globals that its own text names, the instances that start in it, and those that follow it.
 pub data Threads : Type 0 where
@@ -108,17 +109,13 @@ abbrev pub in_preorder : Threads → List (List ℕ)
 in_preorder no_threads = []
 in_preorder (thread named below rest) = (named ++ all_named below) ∷ in_preorder below ++ in_preorder rest
 
--- the inputs, outputs, plain globals and shared variables in order of declaration
-abbrev pub variables : Text → List ℕ
-variables [] = []
-variables (IsGlobal g ∷ rest) = cond (is_constant g.kind) (variables rest) (g.name.id ∷ variables rest)
-variables (IsFunction f ∷ rest) = variables rest
-
-abbrev pub those_in : List ℕ → List ℕ → List ℕ
+-- those whose names are among some; the name of an array stands for all its elements
+abbrev pub those_in : List ℕ → List PlainVariable → List PlainVariable
 those_in named [] = []
-those_in named (v ∷ rest) = cond (is_in v named) (v ∷ those_in named rest) (those_in named rest)
+those_in named (v ∷ rest) = cond (is_in v.global.name.id named) (v ∷ those_in named rest) (those_in named rest)
 
--- The variables that occur in the text of thread t or of a thread below it, in order of declaration; `main` has all of them.
-abbrev pub uses : Text → ℕ → ℕ → List ℕ
+-- The variables whose names occur in the text of thread t or of a thread below it, in order of declaration and within an array in order of
+-- index; `main` has all of them.
+abbrev pub uses : Text → ℕ → ℕ → List PlainVariable
 uses text first zero = variables text
 uses text first (suc t) = elim (slice_get (in_preorder (thread_tree text first)) (suc t)) [ None ↦ [] | Some named ↦ those_in named (variables text) ]

@@ -21,6 +21,10 @@ fn expression_calls(calls: &mut Vec<u32>, e: &Expression) -> Result<(), OutOfMem
             expression_calls(calls, index)?;
             Ok(())
         }
+        Expression::SharedAt { index, .. } => {
+            expression_calls(calls, index)?;
+            Ok(())
+        }
         Expression::TableAt { index, .. } => {
             expression_calls(calls, index)?;
             Ok(())
@@ -99,6 +103,11 @@ pub fn statement_calls(calls: &mut Vec<u32>, s: &Statement) -> Result<(), OutOfM
             Ok(())
         }
         Statement::SetAt { index, value, .. } => {
+            expression_calls(calls, index)?;
+            expression_calls(calls, value)?;
+            Ok(())
+        }
+        Statement::PutAt { index, value, .. } => {
             expression_calls(calls, index)?;
             expression_calls(calls, value)?;
             Ok(())

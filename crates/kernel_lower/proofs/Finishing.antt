@@ -5,6 +5,7 @@ use Rattle.forec_base.specs.declared.Policy.TheVariants.{Mod}
 use Rattle.forec_tree.specs.declared.tree.Number.{Number}
 use Rattle.forec_tree.specs.Terms.{Text, PlainGlobal, PlainFunction, IsGlobal, IsFunction}
 use Rattle.forec_tree.specs.Rules.{is_constant}
+use Rattle.forec_tree.specs.Variables.{PlainVariable, variables}
 use Rattle.forec_kernel.specs.declared.shape.Variable.{Variable}
 use Rattle.forec_kernel.specs.declared.shape.FunctionShape.{FunctionShape}
 use Rattle.forec_kernel.specs.Terms as kernel
@@ -22,7 +23,7 @@ use Rattle.kernel_lower.specs.declared.lower_fault.LowerFault.TheVariants as fau
 use Rattle.kernel_lower.specs.declared.measure.Draft.{Draft}
 use Rattle.text_kernel.specs.Bindings.{number_of}
 use Rattle.text_kernel.specs.Lowering.{Lowered}
-use Rattle.text_kernel.specs.Kernels.{kernel_of, root, main_id, variable_count, variable_items, variable_shape, int_functions, tables_of, table_of, padded, thread_shape, root_shape}
+use Rattle.text_kernel.specs.Kernels.{kernel_of, root, main_id, variable_count, variable_shape, int_functions, tables_of, table_of, padded, thread_shape, root_shape}
 use Rattle.text_kernel.specs.Kernels as kernels
 use Rattle.body_lower.specs.Views.{Bare, bare}
 use Rattle.kernel_lower.specs.Drafts.{root_of, main_shape, bare_shapes, function_text, function_shape}
@@ -61,7 +62,7 @@ module _ (text : Text) (names : List (List ℕ)) where
       let same : root_of text first ≡ root text names = ap (root_of text) f in
       ap (λ s. s ∷ rest) (m ∙ ap (λ (l : Lowered). l.stmt) same) ∙ ap (λ l. (root text names).stmt ∷ l) (r ∙ ap (λ (l : Lowered). map (λ x. x.body) l.made) same)
 
-  pub draft_variables : (vs : List PlainGlobal) → vs ≡ variable_items text names text → map (variable_shape text names) vs ≡ (kernel_of text names).shape.variables
+  pub draft_variables : (vs : List PlainVariable) → vs ≡ variables text → map (variable_shape text names) vs ≡ (kernel_of text names).shape.variables
   unfolding kernel_of
   draft_variables vs e = ap (map (variable_shape text names)) e
 
@@ -104,17 +105,17 @@ module _ (text : Text) (names : List (List ℕ)) where
   unfolding kernel_of
   draft_tables tables arrays t a = t ∙ (ap (map array_table) a ∙ sym (tables_are text))
 
-  pub draft_inputs : (vs : List PlainGlobal) → vs ≡ variable_items text names text → kernels.numbers_of text names Rattle.forec_tree.specs.Rules.is_input 0 vs ≡ (kernel_of text names).shape.inputs
+  pub draft_inputs : (vs : List PlainVariable) → vs ≡ variables text → kernels.numbers_of text names Rattle.forec_tree.specs.Rules.is_input 0 vs ≡ (kernel_of text names).shape.inputs
   unfolding kernel_of
   draft_inputs vs e = ap (kernels.numbers_of text names Rattle.forec_tree.specs.Rules.is_input 0) e
 
-  pub draft_outputs : (vs : List PlainGlobal) → vs ≡ variable_items text names text → kernels.numbers_of text names Rattle.forec_tree.specs.Rules.is_output 0 vs ≡ (kernel_of text names).shape.outputs
+  pub draft_outputs : (vs : List PlainVariable) → vs ≡ variables text → kernels.numbers_of text names Rattle.forec_tree.specs.Rules.is_output 0 vs ≡ (kernel_of text names).shape.outputs
   unfolding kernel_of
   draft_outputs vs e = ap (kernels.numbers_of text names Rattle.forec_tree.specs.Rules.is_output 0) e
 
-  pub draft_names : (vs : List PlainGlobal) → vs ≡ variable_items text names text → map (λ g. Rattle.forec_tree.specs.Rules.bytes_of names g.name.id) vs ≡ (kernel_of text names).shape.names
+  pub draft_names : (vs : List PlainVariable) → vs ≡ variables text → map (kernels.variable_name names) vs ≡ (kernel_of text names).shape.names
   unfolding kernel_of
-  draft_names vs e = ap (map (λ g. Rattle.forec_tree.specs.Rules.bytes_of names g.name.id)) e
+  draft_names vs e = ap (map (kernels.variable_name names)) e
 
 -- ---- a kernel by its parts
 

@@ -2,7 +2,7 @@
 use Rattle.std.proofs.Common.{ℕ, zero, suc, ◌+◌, ◌<◌, ◌≤◌, ◌≡◌, ◌∙◌, ◌==◌, sym, ap, refl, subst, ◌⊎◌, inl, inr, ⊎_elim, Bool, true, false, cond, nat_lt, Option, Some, None, List, [], ◌∷◌, ◌++◌, append_assoc, length, get_or, arith}
 use Rattle.std.proofs.lemmas.Bool.Decides.{nat_tests}
 use Rattle.forec_tree.specs.Terms.{Text}
-use Rattle.forec_kernel.specs.Terms.{Expr, Num, Local, LocalAt, Var, TableAt, Un, Bin, And, Or, Choose, Call, Exprs, no_exprs, more_exprs, Branch, Stmt, Nop, Set, SetAt, Clear, Seq, If, While, Pause, Par, Enter, Return, Stmts, no_stmts, more_stmts}
+use Rattle.forec_kernel.specs.Terms.{Expr, Num, Local, LocalAt, Var, SharedAt, TableAt, Un, Bin, And, Or, Choose, Call, Exprs, no_exprs, more_exprs, Branch, Stmt, Nop, Set, SetAt, PutAt, Clear, Seq, If, While, Pause, Par, Enter, Return, Stmts, no_stmts, more_stmts}
 use Rattle.forec_kernel.specs.Shapes.{PlainKernel}
 use Rattle.forec_kernel.specs.Combining.{contains, variable_of}
 use Rattle.forec_kernel.specs.Texts.{body_of, uses_of, words_of}
@@ -36,6 +36,7 @@ module _ (s : Scope) (g : ℕ) where
     expr_low (Num n) h i = none i
     expr_low (Local slot) h i = none i
     expr_low (LocalAt slot n x place) h i = expr_low x h.1 i
+    expr_low (SharedAt v n x place) h i = expr_low x h.1 i
     expr_low (Var v) h i = none i
     expr_low (TableAt t x place) h i = expr_low x h.1 i
     expr_low (Un op a) h i = expr_low a h i
@@ -59,6 +60,7 @@ module _ (s : Scope) (g : ℕ) where
       stmt_low Nop h i = none i
       stmt_low (Set to e) h i = expr_low e h.1 i
       stmt_low (SetAt slot n x e place) h i = two (calls_of x) (calls_of e) (expr_low x h.1) (expr_low e h.2) i
+      stmt_low (PutAt v n x e place) h i = two (calls_of x) (calls_of e) (expr_low x h.1) (expr_low e h.2) i
       stmt_low (Clear slot n) h i = none i
       stmt_low (Seq list) h i = stmts_low list h i
       stmt_low (If e a b) h i = two (calls_of e ++ stmt_calls a) (stmt_calls b) (two (calls_of e) (stmt_calls a) (expr_low e h.0) (stmt_low a h.1)) (stmt_low b h.2) i
@@ -125,7 +127,7 @@ module _ (text : Text) (names : List (List ℕ)) (clean : Clean text names) wher
 
   threads_low : (t g : ℕ) → t < length k.threads → contains g (thread_calls k t) ≡ true → g < length k.functions
   threads_low zero g l i =
-      thread_low k g (combines g) false (record { kernel = k; words = words_of k 0; uses = uses_of k 0 }) 0 refl (main_fine text names (void_clean text names clean) (main_runs text names clean)) i
+      thread_low k g (combines g) false (record { kernel = k; words = words_of k 0; uses = uses_of k 0 }) 0 refl (main_fine text names clean (void_clean text names clean) (main_runs text names clean)) i
   threads_low (suc n) g l i =
       let low = fields.made_count text names n l in
       let made = at (root text names).made n in

@@ -6,3 +6,4 @@ pub mod DraftLemmas
 pub mod Measuring
 pub mod ReachLemmas
 pub mod Reckoning
+pub mod ElementLemmas

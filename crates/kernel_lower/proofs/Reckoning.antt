@@ -1,5 +1,5 @@
 -- What the text tells of words and depth bounds those of the kernel.
-use Rattle.std.proofs.Common.{ℕ, zero, suc, ◌+◌, ◌-◌, ◌^◌, ◌<◌, ◌≤◌, ◌≡◌, ◌∙◌, ◌==◌, min, max, ap, sym, refl, subst, Bool, true, false, cond, List, [], ◌∷◌, length, map, get_or, arith, Result, Ok, Err, OnOk}
+use Rattle.std.proofs.Common.{ℕ, zero, suc, ◌+◌, ◌-◌, ◌^◌, ◌<◌, ◌≤◌, ◌≡◌, ◌∙◌, ◌==◌, min, max, sum, ap, sym, refl, subst, Bool, true, false, cond, List, [], ◌∷◌, length, map, get_or, arith, Result, Ok, Err, OnOk}
 use Rattle.std.proofs.lemmas.Bool.Decides.{nat_tests}
 use Rattle.std.proofs.lemmas.List.{length-map}
 use Rattle.std.specs.Result.{IfErr}
@@ -18,7 +18,11 @@ use Rattle.text_kernel.specs.declared.limits.Quantity.TheVariants.{Threads, Word
 use Rattle.kernel_lower.specs.declared.lower_fault.LowerFault.{LowerFault}
 use Rattle.kernel_lower.specs.declared.lower_fault.LowerFault.TheVariants as fault
 use Rattle.text_kernel.specs.Lowering.{Made}
-use Rattle.text_kernel.specs.Kernels.{kernel_of, variable_items, variable_shape, root, thread_shape, main_id}
+use Rattle.text_kernel.specs.Kernels.{kernel_of, variable_shape, root, thread_shape, main_id}
+use Rattle.text_kernel.specs.Items.{variable_items}
+use Rattle.text_kernel.proofs.VariableItems.{widths_are}
+use Rattle.forec_tree.specs.Variables.{width, variables}
+use Rattle.forec_tree.proofs.VariableCounts.{variables_counted}
 use Rattle.text_sizes.specs.Spans.{span_value}
 use Rattle.text_kernel.specs.Limits.{amount, limit_of, earlier, Fits, thread_words, thread_depth, widest}
 use Rattle.kernel_lower.specs.Measures.{CallsLow, HasWords}
@@ -243,14 +247,14 @@ words_cause text names threads words e many t f w p =
     only Terms (later m) = elim m [ ]
     only Depth (later m) = elim m [ ]
 
-pub tells : (k : PlainKernel) (a : Amounts) → a.threads ≡ min (amount Threads k) (2 ^ 64 - 1) → a.words ≡ min (amount Words k) (2 ^ 64 - 1) → a.globals ≡ amount Globals k → a.tables ≡ min (amount Tables k) (2 ^ 64 - 1) →
+pub tells : (k : PlainKernel) (a : Amounts) → a.threads ≡ min (amount Threads k) (2 ^ 64 - 1) → a.words ≡ min (amount Words k) (2 ^ 64 - 1) → a.globals ≡ min (amount Globals k) (2 ^ 64 - 1) → a.tables ≡ min (amount Tables k) (2 ^ 64 - 1) →
     a.terms ≡ min (amount Terms k) (2 ^ 64 - 1) → a.depth ≤ amount Depth k → Tells k (amount_in a)
 tells k a t w g x e d = record { passes = passes; fits = fits }
   where
     passes : (q : Quantity) → limit_of q < amount_in a q → limit_of q < amount q k
     passes Threads h = exactly 256 a.threads (amount Threads k) (omega arith) t h
     passes Words h = exactly 65536 a.words (amount Words k) (omega arith) w h
-    passes Globals h = omega (arith, g, h)
+    passes Globals h = exactly 4096 a.globals (amount Globals k) (omega arith) g h
     passes Tables h = exactly 1048576 a.tables (amount Tables k) (omega arith) x h
     passes Terms h = exactly 200000 a.terms (amount Terms k) (omega arith) e h
     passes Depth h = omega (arith, d, h)
@@ -258,14 +262,15 @@ tells k a t w g x e d = record { passes = passes; fits = fits }
     fits : (q : Quantity) → (q ≡ Depth → ⊥) → amount_in a q ≤ limit_of q → amount q k ≤ limit_of q
     fits Threads n h = at_most 256 a.threads (amount Threads k) (omega arith) t h
     fits Words n h = at_most 65536 a.words (amount Words k) (omega arith) w h
-    fits Globals n h = omega (arith, g, h)
+    fits Globals n h = at_most 4096 a.globals (amount Globals k) (omega arith) g h
     fits Tables n h = at_most 1048576 a.tables (amount Tables k) (omega arith) x h
     fits Terms n h = at_most 200000 a.terms (amount Terms k) (omega arith) e h
     fits Depth n h = absurd (n refl)
 
-pub variables_amount : (text : Text) (names : List (List ℕ)) (n : ℕ) (vs : List PlainGlobal) → vs ≡ variable_items text names text → n ≡ length vs → n ≡ amount Globals (kernel_of text names)
+pub variables_amount : (text : Text) (names : List (List ℕ)) (n : ℕ) (gs : List PlainGlobal) → gs ≡ variable_items text → n ≡ min (sum (map width gs)) (2 ^ 64 - 1) → n ≡ min (amount Globals (kernel_of text names)) (2 ^ 64 - 1)
 unfolding amount kernel_of
-variables_amount text names n vs e l = l ∙ (ap (λ (x : List PlainGlobal). length x) e ∙ sym (length-map (variable_items text names text) (variable_shape text names)))
+variables_amount text names n gs e l =
+    l ∙ ap (λ m. min m (2 ^ 64 - 1)) (ap (λ (x : List PlainGlobal). sum (map width x)) e ∙ (sym (widths_are text) ∙ (sym (variables_counted text) ∙ sym (length-map (variables text) (variable_shape text names)))))
 
 pub ok_more : {T E : Type 0} (r : Result T E) {P Q : Type 0} → (P → Q) → OnOk r P → OnOk r Q
 ok_more (Ok t) f h = f h

@@ -1,5 +1,5 @@
 -- A fact of an expression or a statement whose kind is known, marks, and limits.
-use Rattle.std.proofs.Common.{ℕ, zero, suc, ◌+◌, ◌<◌, ◌≤◌, ◌≡◌, ◌∙◌, ◌||◌, ◌==◌, sym, ap, refl, subst, Bool, true, false, cond, List, [], ◌∷◌, ◌++◌, length, take, get_or, arith, Vec, Global}
+use Rattle.std.proofs.Common.{ℕ, zero, suc, ◌+◌, ◌-◌, ◌<◌, ◌≤◌, ◌≡◌, ◌∙◌, ◌||◌, ◌==◌, sym, ap, refl, subst, Bool, true, false, cond, List, [], ◌∷◌, ◌++◌, length, take, get_or, arith, Vec, Global}
 use Rattle.std.proofs.Math.Seq.{take-append_seam}
 use Rattle.std.specs.Result.{IsErrAnd, IfErr}
 use Rattle.std.specs.Prelude.{Result, Ok, Err}
@@ -61,6 +61,12 @@ pub marks_step : (old new : List Bool) (a rest all : List ℕ) (whole : ℕ → 
 marks_step old new a rest all whole n h e s w v l =
     ap (λ m. m || is_in v rest) (h.each v (omega (arith, l, s)))
     ∙ (or_assoc (is_marked old v) (is_in v a) (is_in v rest) ∙ (ap (λ m. is_marked old v || m) (sym (in_both v a rest) ∙ ap (is_in v) (sym e)) ∙ w v l))
+
+pub row_more : (first n i : ℕ) → i < n → count_up (first + i) (n - i) ≡ ((first + i) ∷ []) ++ count_up (first + (i + 1)) (n - (i + 1))
+row_more first n i l =
+    let d : n - i ≡ suc (n - (i + 1)) = omega (arith, l) in
+    let z : suc (first + i) ≡ first + (i + 1) = omega arith in
+    ap (count_up (first + i)) d ∙ ap (λ m. (first + i) ∷ count_up m (n - (i + 1))) z
 
 -- a vector whose items were lent as a slice
 pub written_back : (n : ℕ) (new rest : List Bool) → length new ≡ n → take n (new ++ rest) ≡ new

@@ -22,7 +22,7 @@ use crate::measure::{Draft, words_along};
 use crate::tables::{arrays, table_words};
 use crate::variables::variables;
 use body_lower::Source;
-use forec_base::{Labels, MAX_DEPTH, MAX_TERMS, OutOfMemory};
+use forec_base::{Labels, MAX_DEPTH, MAX_GLOBALS, MAX_TERMS, OutOfMemory};
 use forec_tree::{Function, Item};
 use loop_check::Index;
 use std::alloc::Global;
@@ -30,12 +30,13 @@ use text_chains::most_words;
 use text_kernel::Quantity;
 use text_sizes::{span_of, spans};
 
-/// What is counted on the text of a program: the function that it starts with, its threads and terms, and how many
-/// statements at least nest in some thread.
+/// What is counted on the text of a program: the function that it starts with, its threads, variables and terms, and how
+/// many statements at least nest in some thread.
 #[derive(Clone, Copy)]
 pub struct Outlook {
     pub first: u32,
     pub threads: u64,
+    pub variables: u64,
     pub terms: u64,
     pub levels: u64,
 }
@@ -107,13 +108,14 @@ pub fn beyond(
     requires low { CallsLow (kernel_of (text_of source.now.globals.index) names.now) }
     requires first { known.first ≡ main_id (text_of source.now.globals.index) names.now }
     requires threads { known.threads ≡ min (limits.amount quantity.Threads (kernel_of (text_of source.now.globals.index) names.now)) (2 ^ 64 - 1) }
+    requires variables { known.variables ≡ min (limits.amount quantity.Globals (kernel_of (text_of source.now.globals.index) names.now)) (2 ^ 64 - 1) }
     requires terms { known.terms ≡ min (limits.amount quantity.Terms (kernel_of (text_of source.now.globals.index) names.now)) (2 ^ 64 - 1) }
     requires levels { known.levels ≤ limits.amount quantity.Depth (kernel_of (text_of source.now.globals.index) names.now) }
-    ensures ok { OnOk result ((known.terms ≤ MAX_TERMS) × (known.levels ≤ MAX_DEPTH)) }
+    ensures ok { OnOk result ((known.variables ≤ MAX_GLOBALS) × (known.terms ≤ MAX_TERMS) × (known.levels ≤ MAX_DEPTH)) }
     ensures fault { IfErr result (λ e. Causes e (text_of source.now.globals.index) names.now) }
 {
     let values = chain_words(alloc, source, names, functions)?;
-    let globals = variables(alloc, &source.globals, names, items)?;
+    let globals = variables(alloc, items)?;
     let words = most_words(
         alloc,
         &source.globals,
@@ -126,7 +128,7 @@ pub fn beyond(
     judge(Amounts {
         threads: known.threads,
         words,
-        globals: globals.len() as u64,
+        globals: known.variables,
         tables: table_words(&arrays),
         terms: known.terms,
         depth: known.levels,

@@ -17,6 +17,7 @@ fn expression_depth(e: &Expression) -> u64
         Expression::Local { .. } => 1,
         Expression::Variable { .. } => 1,
         Expression::LocalAt { index, .. } => add(1, expression_depth(index)),
+        Expression::SharedAt { index, .. } => add(1, expression_depth(index)),
         Expression::TableAt { index, .. } => add(1, expression_depth(index)),
         Expression::Unary { of, .. } => add(1, expression_depth(of)),
         Expression::Binary { left, right, .. } => {
@@ -74,6 +75,10 @@ pub fn statement_depth(s: &Statement) -> u64
         Statement::Set { value, .. } => add(1, expression_depth(value)),
         Statement::Return { value } => add(1, expression_depth(value)),
         Statement::SetAt { index, value, .. } => {
+            let index = expression_depth(index);
+            add(1, index.max(expression_depth(value)))
+        }
+        Statement::PutAt { index, value, .. } => {
             let index = expression_depth(index);
             add(1, index.max(expression_depth(value)))
         }

@@ -13,12 +13,13 @@ ghost use Rattle.kernel_lower.specs.Reach.{table_items};
 ghost use Rattle.kernel_lower.specs.Measures.{IsDraft};
 ghost use Rattle.text_kernel.specs.Kernels as kernels;
 
+use crate::elements::{elements, labels};
 use crate::expand::{Bodies, expand};
 use crate::int_functions::{Functions, int_functions, lowered_functions};
 use crate::measure::Draft;
 use crate::shapes::threads_of;
 use crate::tables::tables;
-use crate::variables::{inputs, labels, outputs, shapes, variables};
+use crate::variables::{inputs, outputs, shapes, variables};
 use body_lower::{Source, count};
 use forec_base::{Labels, OutOfMemory};
 use forec_kernel::{KernelParts, Shape, Statement};
@@ -52,9 +53,10 @@ pub fn draft(
     ensures { IfOk result (λ d. IsDraft (kernel_of (text_of source.now.globals.index) names.now) d) }
 {
     let globals = &source.globals;
-    let list = variables(alloc, globals, names, items)?;
-    let number = count(list.len())?;
-    let variables = shapes(alloc, globals, names, &list)?;
+    let list = variables(alloc, items)?;
+    let elements = elements(alloc, &list)?;
+    let number = count(elements.len())?;
+    let variables = shapes(alloc, globals, names, &elements)?;
     let list = int_functions(alloc, globals, names, items)?;
     let functions = lowered_functions(alloc, source, names, &list)?;
     let bodies = expand(alloc, source, items.len(), first)?;
@@ -84,11 +86,12 @@ pub fn complete(
     ensures { IfOk result (λ parts. plain_kernel parts ≡ kernel_of (text_of source.now.globals.index) names.now) }
 {
     let globals = &source.globals;
-    let list = variables(alloc, globals, names, items)?;
+    let list = variables(alloc, items)?;
+    let elements = elements(alloc, &list)?;
     let tables = tables(alloc, arrays)?;
-    let inputs = inputs(alloc, globals, names, &list)?;
-    let outputs = outputs(alloc, globals, names, &list)?;
-    let names = labels(alloc, names, &list)?;
+    let inputs = inputs(alloc, globals, names, &elements)?;
+    let outputs = outputs(alloc, globals, names, &elements)?;
+    let names = labels(alloc, names, &elements)?;
     let functions = draft.functions;
     let shape = Shape {
         threads: draft.threads,

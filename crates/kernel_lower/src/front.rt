@@ -16,8 +16,9 @@ use crate::judge::{Amounts, judge, within};
 use crate::lower_fault::LowerFault;
 use crate::measure::most;
 use crate::tables::{arrays, table_words};
+use crate::variables::{variable_total, variables};
 use body_lower::Source;
-use forec_base::{Labels, MAX_DEPTH, MAX_TERMS, OutOfMemory};
+use forec_base::{Labels, MAX_DEPTH, MAX_GLOBALS, MAX_TERMS, OutOfMemory};
 use forec_check::Checked;
 use forec_kernel::{Kernel, KernelParts};
 use std::alloc::Global;
@@ -55,10 +56,13 @@ fn parts_of(
     let functions = int_functions(alloc, &source.globals, names, items)?;
     let terms = program_terms(alloc, &source.globals.index, names, &functions, first)?;
     let levels = foresee(alloc, &source.globals.index, names, first, threads)?;
-    if MAX_TERMS < terms || MAX_DEPTH < levels {
+    let globals = variables(alloc, items)?;
+    let variables = variable_total(&globals);
+    if MAX_GLOBALS < variables || MAX_TERMS < terms || MAX_DEPTH < levels {
         let known = Outlook {
             first,
             threads,
+            variables,
             terms,
             levels,
         };

@@ -4,6 +4,7 @@
 mod beyond;
 mod depths;
 mod draft;
+mod elements;
 mod expand;
 mod front;
 mod int_functions;

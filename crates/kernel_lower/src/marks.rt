@@ -2,6 +2,7 @@
 
 ghost use Rattle.std.specs.Prelude.{◌≡◌, map};
 ghost use Rattle.forec_kernel.specs.Plain as kernel;
+ghost use Rattle.forec_kernel.specs.WellFormed.{count_up};
 ghost use Rattle.text_kernel.specs.Lowering as lowering;
 ghost use Rattle.kernel_lower.specs.Marks.{Marks};
 ghost use Rattle.std.specs.Prelude.{◌∷◌, []};
@@ -9,12 +10,21 @@ ghost use Rattle.std.specs.Prelude.{◌∷◌, []};
 use forec_kernel::{Expression, Launch, Spot, Statement};
 
 /// Sets the mark of a variable.
-fn mark(marks: &mut [bool], variable: u32)
+fn mark(marks: &mut [bool], variable: usize)
     ensures { Marks marks.old marks.new (variable ∷ []) }
 {
-    let at = variable as usize;
-    if at < marks.len() {
-        marks[at] = true;
+    if variable < marks.len() {
+        marks[variable] = true;
+    }
+}
+
+/// Sets the marks of the variables of a shared array, by its first variable and its length.
+fn mark_array(marks: &mut [bool], variable: u32, length: u32)
+    ensures { Marks marks.old marks.new (count_up variable length) }
+{
+    let first = variable as usize;
+    for i in 0..length {
+        mark(marks, first + i as usize);
     }
 }
 
@@ -26,8 +36,17 @@ fn mark_expression(marks: &mut [bool], e: &Expression)
     match e {
         Expression::Number { .. } => {}
         Expression::Local { .. } => {}
-        Expression::Variable { variable } => mark(marks, *variable),
+        Expression::Variable { variable } => mark(marks, *variable as usize),
         Expression::LocalAt { index, .. } => mark_expression(marks, index),
+        Expression::SharedAt {
+            variable,
+            length,
+            index,
+            ..
+        } => {
+            mark_array(marks, *variable, *length);
+            mark_expression(marks, index);
+        }
         Expression::TableAt { index, .. } => mark_expression(marks, index),
         Expression::Unary { of, .. } => mark_expression(marks, of),
         Expression::Binary { left, right, .. } => {
@@ -73,7 +92,7 @@ fn mark_spot(marks: &mut [bool], spot: Spot)
 {
     match spot {
         Spot::Local { .. } => {}
-        Spot::Variable { variable } => mark(marks, variable),
+        Spot::Variable { variable } => mark(marks, variable as usize),
     }
 }
 
@@ -92,6 +111,17 @@ pub fn mark_statement(marks: &mut [bool], s: &Statement)
         }
         Statement::Return { value } => mark_expression(marks, value),
         Statement::SetAt { index, value, .. } => {
+            mark_expression(marks, index);
+            mark_expression(marks, value);
+        }
+        Statement::PutAt {
+            variable,
+            length,
+            index,
+            value,
+            ..
+        } => {
+            mark_array(marks, *variable, *length);
             mark_expression(marks, index);
             mark_expression(marks, value);
         }

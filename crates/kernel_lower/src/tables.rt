@@ -64,7 +64,7 @@ pub fn table_words(arrays: &[&Declared]) -> u64
 }
 
 /// A number by its place; 0 past the last one.
-fn number_at(values: &[Number], i: usize) -> i32
+pub fn number_at(values: &[Number], i: usize) -> i32
     ensures { result ≡ first_value (drop i values.now) }
 {
     if i < values.len() {

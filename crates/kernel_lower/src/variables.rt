@@ -1,17 +1,21 @@
-//! The variables and constant arrays of a program.
+//! What a kernel says of the variables of a program.
 
 ghost use Rattle.std.specs.Prelude.{◌≡◌, ◌+◌, ◌-◌, ◌^◌, ◌++◌, List, [], ◌∷◌, min, sum, map, length, IfOk, OnOk};
-ghost use Rattle.forec_tree.specs.Plain.{plain_item, plain_global};
+ghost use Rattle.forec_tree.specs.Plain.{plain_item};
 ghost use Rattle.forec_tree.specs.Rules as rules;
 ghost use Rattle.loop_check.specs.Views.{text_of};
 ghost use Rattle.text_kernel.specs.Kernels as kernels;
-ghost use Rattle.text_kernel.specs.Items.{globals_of, IsVariable};
+ghost use Rattle.forec_tree.specs.Variables.{width};
+ghost use Rattle.text_kernel.specs.Items.{globals_of, variable_items, IsVariable};
+ghost use Rattle.kernel_lower.specs.Elements.{plain_element, plain_elements};
 
-use body_lower::{Globals, first_value, is_constant, sum};
+use crate::elements::{Element, start_of};
+use body_lower::{Globals, is_constant, sum};
 use forec_base::{Labels, OutOfMemory, Policy};
 use forec_kernel::Variable;
 use forec_tree::{Combine, Global as Declared, GlobalKind, Item};
 use std::alloc::Global;
+use text_sizes::add;
 
 fn is_input(kind: GlobalKind) -> bool
     ensures { result ≡ rules.is_input kind }
@@ -32,7 +36,7 @@ fn is_output(kind: GlobalKind) -> bool
     }
 }
 
-/// The variable that an item declares.
+/// The global that an item declares, where it isn't a constant.
 fn variable(item: &Item) -> Option<&Declared>
     ensures { IsVariable result (plain_item item.now) }
 {
@@ -48,14 +52,9 @@ fn variable(item: &Item) -> Option<&Declared>
     }
 }
 
-/// The variables of a program, in order of declaration.
-pub fn variables<'p>(
-    alloc: Global,
-    globals: &Globals<'_>,
-    names: &Labels,
-    items: &'p [Item],
-) -> Result<Vec<&'p Declared>, OutOfMemory>
-    ensures { IfOk result (λ list. globals_of list.items ≡ kernels.variable_items (text_of globals.now.index) names.now (map plain_item items.now)) }
+/// The globals of a program that aren't constants, in order of declaration.
+pub fn variables<'p>(alloc: Global, items: &'p [Item]) -> Result<Vec<&'p Declared>, OutOfMemory>
+    ensures { IfOk result (λ list. globals_of list.items ≡ variable_items (map plain_item items.now)) }
 {
     let mut list = Vec::new(alloc);
     for item in items {
@@ -64,6 +63,17 @@ pub fn variables<'p>(
         }
     }
     Ok(list)
+}
+
+/// How many variables globals are, each element of a shared array being one.
+pub fn variable_total(globals: &[&Declared]) -> u64
+    ensures { result ≡ min (sum (map width (globals_of globals.now))) (2 ^ 64 - 1) }
+{
+    let mut total = 0;
+    for global in globals {
+        total = add(total, u64::from(global.width()));
+    }
+    total
 }
 
 fn policy_of(globals: &Globals<'_>, names: &Labels, combine: Option<Combine>) -> Policy
@@ -85,14 +95,14 @@ fn combine_of(globals: &Globals<'_>, names: &Labels, combine: Option<Combine>) -
 }
 
 /// What a kernel says of a variable.
-fn shaped(globals: &Globals<'_>, names: &Labels, global: &Declared) -> Variable
-    ensures { result ≡ kernels.variable_shape (text_of globals.now.index) names.now (plain_global global.now) }
+fn shaped(globals: &Globals<'_>, names: &Labels, e: &Element<'_>) -> Variable
+    ensures { result ≡ kernels.variable_shape (text_of globals.now.index) names.now (plain_element e.now) }
 {
     Variable {
-        policy: policy_of(globals, names, global.combine),
-        combine: combine_of(globals, names, global.combine),
-        start: first_value(global),
-        input: is_input(global.kind),
+        policy: policy_of(globals, names, e.global.combine),
+        combine: combine_of(globals, names, e.global.combine),
+        start: start_of(e),
+        input: is_input(e.global.kind),
     }
 }
 
@@ -101,13 +111,13 @@ pub fn shapes(
     alloc: Global,
     globals: &Globals<'_>,
     names: &Labels,
-    variables: &[&Declared],
+    elements: &[Element<'_>],
 ) -> Result<Vec<Variable>, OutOfMemory>
-    ensures { IfOk result (λ list. list.items ≡ map (kernels.variable_shape (text_of globals.now.index) names.now) (globals_of variables.now)) }
+    ensures { IfOk result (λ list. list.items ≡ map (kernels.variable_shape (text_of globals.now.index) names.now) (plain_elements elements.now)) }
 {
     let mut list = Vec::new(alloc);
-    for global in variables {
-        list.push(shaped(globals, names, global))?;
+    for e in elements {
+        list.push(shaped(globals, names, e))?;
     }
     Ok(list)
 }
@@ -117,14 +127,14 @@ pub fn inputs(
     alloc: Global,
     globals: &Globals<'_>,
     names: &Labels,
-    variables: &[&Declared],
+    elements: &[Element<'_>],
 ) -> Result<Vec<u32>, OutOfMemory>
-    ensures { IfOk result (λ list. list.items ≡ kernels.numbers_of (text_of globals.now.index) names.now rules.is_input 0 (globals_of variables.now)) }
+    ensures { IfOk result (λ list. list.items ≡ kernels.numbers_of (text_of globals.now.index) names.now rules.is_input 0 (plain_elements elements.now)) }
 {
     let mut list = Vec::new(alloc);
     let mut number = 0u32;
-    for global in variables {
-        if is_input(global.kind) {
+    for e in elements {
+        if is_input(e.global.kind) {
             list.push(number)?;
         }
         number = sum(number, 1)?;
@@ -137,35 +147,17 @@ pub fn outputs(
     alloc: Global,
     globals: &Globals<'_>,
     names: &Labels,
-    variables: &[&Declared],
+    elements: &[Element<'_>],
 ) -> Result<Vec<u32>, OutOfMemory>
-    ensures { IfOk result (λ list. list.items ≡ kernels.numbers_of (text_of globals.now.index) names.now rules.is_output 0 (globals_of variables.now)) }
+    ensures { IfOk result (λ list. list.items ≡ kernels.numbers_of (text_of globals.now.index) names.now rules.is_output 0 (plain_elements elements.now)) }
 {
     let mut list = Vec::new(alloc);
     let mut number = 0u32;
-    for global in variables {
-        if is_output(global.kind) {
+    for e in elements {
+        if is_output(e.global.kind) {
             list.push(number)?;
         }
         number = sum(number, 1)?;
-    }
-    Ok(list)
-}
-
-/// The names of variables.
-pub fn labels(alloc: Global, names: &Labels, variables: &[&Declared]) -> Result<Labels, OutOfMemory>
-    ensures { IfOk result (λ list. list ≡ map (λ g. rules.bytes_of names.now g.name.id) (globals_of variables.now)) }
-{
-    let mut list = Labels::new(alloc)?;
-    for global in variables {
-        let id = global.name.id;
-        if id >= names.len() {
-            return Err(OutOfMemory);
-        }
-        if list.len() == u32::MAX {
-            return Err(OutOfMemory);
-        }
-        list.push(names.get(id))?;
     }
     Ok(list)
 }

@@ -8,7 +8,7 @@ use Rattle.forec_kernel.specs.declared.terms.Spot.TheVariants as spot
 use Rattle.forec_kernel.specs.Shapes.{PlainKernel}
 use Rattle.forec_kernel.specs.Values.{Value, Gives, Raises}
 use Rattle.forec_kernel.specs.Texts as plain
-use Rattle.forec_kernel.specs.Steps.{Move, Finished, Halts, Moves, Traps, more_move, move_with, units_of, Arguments, Ready, Refused, Owner, forked, started, assigned, assigned_at}
+use Rattle.forec_kernel.specs.Steps.{Move, Finished, Halts, Moves, Traps, more_move, move_with, units_of, Arguments, Ready, Refused, Owner, forked, started, assigned, assigned_at, shared_at}
 use Rattle.forec_kernel.specs.Terms.{Branch}
 use Rattle.running_texts.specs.declared.meter.Halt.{Halt}
 use Rattle.running_texts.specs.declared.meter.Halt.TheVariants.{Trapped, Over, OutOfMemory}
@@ -94,6 +94,7 @@ more_leads s step.Halts u w g = absurd g
 more_leads s (step.Sets (spot.Local slot) n) u w g = refl
 more_leads s (step.Sets (spot.Variable v) n) u w g = refl
 more_leads s (step.SetsAt at n) u w g = refl
+more_leads s (step.Puts v n) u w g = refl
 more_leads s (step.Clears slot n) u w g = refl
 more_leads s (step.Joins copies) u w g = refl
 more_leads s (step.Becomes next) u w g = refl
@@ -139,6 +140,10 @@ operand_err s old new OutOfMemory v go g m = record { by = tt }
 pub assigned_at_has_units : (words : List ℤ) (copies : List VarCopy) (slot : ℕ) (i : Option ℕ) (x : ℤ) (place : Place) → HasUnits (assigned_at words copies slot i x place)
 assigned_at_has_units words copies slot (Some i) x place = tt
 assigned_at_has_units words copies slot None x place = tt
+
+pub shared_at_has_units : (o : Owner) (words : List ℤ) (copies : List VarCopy) (v : ℕ) (i : Option ℕ) (x : ℤ) (place : Place) → HasUnits (shared_at o words copies v i x place)
+shared_at_has_units o words copies v (Some i) x place = tt
+shared_at_has_units o words copies v None x place = tt
 
 -- ---- forks
 

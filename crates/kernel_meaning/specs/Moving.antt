@@ -21,7 +21,7 @@ use Rattle.running_texts.specs.declared.evaluation.ThreadValues.{ThreadValues}
 use Rattle.running_texts.specs.Metered.{Paid, Kind, IsMetered, number}
 use Rattle.running_threads.specs.Moves.{next_text}
 use Rattle.kernel_meaning.specs.declared.moving.Step.{Step}
-use Rattle.kernel_meaning.specs.declared.moving.Step.TheVariants.{Finishes, Halts, Sets, SetsAt, Clears, Joins, Becomes}
+use Rattle.kernel_meaning.specs.declared.moving.Step.TheVariants.{Finishes, Halts, Sets, SetsAt, Puts, Clears, Joins, Becomes}
 
 -- what a step of a focus starts from: the variables that the thread uses, its words and copies, and the focus
 pub record Origin : Type 0 where
@@ -48,6 +48,7 @@ leads s Halts u = plain.Halts
 leads s (Sets (spot.Local slot) n) u = Moves Done (slice_set s.words slot n) s.copies u
 leads s (Sets (spot.Variable v) n) u = Moves Done s.words (put_copy s.uses s.copies v (record { value = n; modified = true })) u
 leads s (SetsAt at n) u = Moves Done (slice_set s.words at n) s.copies u
+leads s (Puts v n) u = Moves Done s.words (put_copy s.uses s.copies v (record { value = n; modified = true })) u
 leads s (Clears slot n) u = Moves Done (cleared s.words slot n) s.copies u
 leads s (Joins copies) u = Moves (rested s.text) s.words copies.items u
 leads s (Becomes next) u = Moves (next_text next) s.words s.copies u

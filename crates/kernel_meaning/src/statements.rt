@@ -6,7 +6,7 @@ ghost use Rattle.forec_kernel.specs.Plain.{expr, exprs, stmt, branch};
 ghost use Rattle.forec_kernel.specs.Terms as terms;
 ghost use Rattle.forec_kernel.specs.Texts as plain;
 ghost use Rattle.forec_kernel.specs.Values.{vals, setting, index_in, cleared};
-ghost use Rattle.forec_kernel.specs.Steps.{Moves, arguments, entered, assigned, assigned_at};
+ghost use Rattle.forec_kernel.specs.Steps.{Moves, arguments, entered, assigned, assigned_at, shared_at};
 ghost use Rattle.running_texts.specs.Metered.{IsMetered, number, numbers, sight_of};
 ghost use Rattle.running_threads.specs.Views.{plain_loop};
 ghost use Rattle.kernel_meaning.specs.Moving.{IsMoved, IsMoveAfter, LoopMoved, StatementMoved, Origin, lists, value_in};
@@ -228,11 +228,69 @@ fn after_assign_at<'k>(
     }
 }
 
+fn after_put_at<'k>(
+    variable: u32,
+    length: u32,
+    index: i32,
+    place: Place,
+    part: Result<i32, Halt>,
+    left: &mut u64,
+) -> Result<Step<'k>, Halt>
+    ensures { (k : PlainKernel) → IsMoveAfter part left.old left.new result
+        (λ s x. shared_at (record { kernel = k; uses = s.uses }) s.words s.copies variable
+        (index_in length index) x place) }
+{
+    match part {
+        Ok(n) => match pay(1, left) {
+            Ok(()) => match index_within(length as usize, index) {
+                Some(at) => Ok(Step::Puts {
+                    variable: variable as usize + at,
+                    value: n,
+                }),
+                None => Err(Halt::Trapped {
+                    place,
+                    trap: Trap::Index,
+                }),
+            },
+            Err(halt) => Err(halt),
+        },
+        Err(halt) => Err(halt),
+    }
+}
+
 fn clear_step<'k>(slot: u32, length: u32, left: &mut u64) -> Result<Step<'k>, Halt>
     ensures { (s : Origin) → IsMoved s left.old left.new result (Moves plain.Done (cleared s.words slot length) s.copies length) }
 {
     match pay(u64::from(length), left) {
         Ok(()) => Ok(Step::Clears { slot, length }),
+        Err(halt) => Err(halt),
+    }
+}
+
+fn if_step<'k>(
+    alloc: Global,
+    kernel: &'k KernelParts,
+    values: &ThreadValues<'_>,
+    test: &Expression,
+    yes: &'k Statement,
+    no: &'k Statement,
+    left: &mut u64,
+) -> Result<Step<'k>, Halt>
+    ensures { StatementMoved kernel.now values.now (terms.If (expr test.now) (stmt yes.now) (stmt no.now))
+        left.old left.new result }
+{
+    let test = number_of(alloc, kernel, values, test, left);
+    match tested(test, left) {
+        Ok(n) => {
+            if n == 0 {
+                return Ok(Step::Becomes {
+                    next: NextText::Does { statement: no },
+                });
+            }
+            Ok(Step::Becomes {
+                next: NextText::Does { statement: yes },
+            })
+        }
         Err(halt) => Err(halt),
     }
 }
@@ -266,26 +324,24 @@ pub(crate) fn statement_step<'k>(
             }
             Err(halt) => Err(halt),
         },
+        Statement::PutAt {
+            variable,
+            length,
+            index,
+            value,
+            place,
+        } => match number_of(alloc, kernel, values, index, left) {
+            Ok(at) => {
+                let part = number_of(alloc, kernel, values, value, left);
+                after_put_at(*variable, *length, at, *place, part, left)
+            }
+            Err(halt) => Err(halt),
+        },
         Statement::Clear { slot, length } => clear_step(*slot, *length, left),
         Statement::Sequence { list } => Ok(Step::Becomes {
             next: NextText::DoesAll { list },
         }),
-        Statement::If { test, yes, no } => {
-            let test = number_of(alloc, kernel, values, test, left);
-            match tested(test, left) {
-                Ok(n) => {
-                    if n == 0 {
-                        return Ok(Step::Becomes {
-                            next: NextText::Does { statement: no },
-                        });
-                    }
-                    Ok(Step::Becomes {
-                        next: NextText::Does { statement: yes },
-                    })
-                }
-                Err(halt) => Err(halt),
-            }
-        }
+        Statement::If { test, yes, no } => if_step(alloc, kernel, values, test, yes, no, left),
         Statement::While {
             test,
             bound,

@@ -8,7 +8,7 @@ ghost use Rattle.running_threads.specs.Views.{threads, focused, standing, plain_
 ghost use Rattle.kernel_meaning.specs.Moving.{FocusMoved, leads, rested, AreStepped, IsForked, IsThread, after_move};
 ghost use Rattle.kernel_meaning.specs.Moving.{place_or_first, first_is_here, place_behind, running_below};
 ghost use Rattle.kernel_meaning.specs.States.{origin_of, after_focus, TakesStep};
-ghost use Rattle.kernel_meaning.specs.declared.moving.Step.TheVariants.{Sets};
+ghost use Rattle.kernel_meaning.specs.declared.moving.Step.TheVariants.{Sets, Puts};
 
 use crate::joins::join_step;
 use crate::moving::{Step, set_copy};
@@ -90,6 +90,19 @@ fn rest(focus: &mut Focus<'_>)
     }
 }
 
+/// A number goes marked to a copy.
+fn put(uses: &[u32], t: &mut Thread<'_>, variable: usize, value: i32)
+    ensures { (u : ℕ) → plain_thread t.new
+        ≡ after_focus t.old (leads (origin_of uses.now t.old) (Puts variable value) u) }
+{
+    let copy = VarCopy {
+        value,
+        modified: true,
+    };
+    set_copy(uses, &mut t.copies, variable, copy);
+    t.focus = Focus::Done;
+}
+
 /// A number goes to a word, or marked to a copy.
 fn set(uses: &[u32], t: &mut Thread<'_>, to: Spot, value: i32)
     ensures { (u : ℕ) → plain_thread t.new ≡ after_focus t.old (leads (origin_of uses.now t.old) (Sets to value) u) }
@@ -99,14 +112,7 @@ fn set(uses: &[u32], t: &mut Thread<'_>, to: Spot, value: i32)
             set_word(&mut t.words, slot as usize, value);
             t.focus = Focus::Done;
         }
-        Spot::Variable { variable } => {
-            let copy = VarCopy {
-                value,
-                modified: true,
-            };
-            set_copy(uses, &mut t.copies, variable, copy);
-            t.focus = Focus::Done;
-        }
+        Spot::Variable { variable } => put(uses, t, variable as usize, value),
     }
 }
 
@@ -146,6 +152,10 @@ fn after_step<'k>(
         Ok(Step::SetsAt { slot, value }) => {
             set_word(&mut t.words, slot, value);
             t.focus = Focus::Done;
+            Ok(())
+        }
+        Ok(Step::Puts { variable, value }) => {
+            put(uses, t, variable, value);
             Ok(())
         }
         Ok(Step::Clears { slot, length }) => {

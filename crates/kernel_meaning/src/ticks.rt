@@ -88,7 +88,7 @@ fn take_row(uses: &[u32], inputs: &[u32], row: &[i32], copies: &mut Vec<VarCopy>
 {
     let count = inputs.len().min(row.len());
     for i in 0..count {
-        set_copy(uses, copies, inputs[i], input_at(row, i));
+        set_copy(uses, copies, inputs[i] as usize, input_at(row, i));
     }
 }
 

@@ -154,3 +154,50 @@ fn a_limit(rt: HostRuntime) -> Result<(), Fail> {
     assert!(rt; fault_of(rt.alloc(), MORE)? == Some(WORDS));
     Ok(())
 }
+
+/// Each element of a shared array is a variable.
+const ALL_VARIABLES: &[u8] = b"shared output int h[64] = { 3 } combine mod with plus;
+shared int g[4031] combine mod with plus;
+int o;
+int plus(int x, int y) { return x + y; }
+void main(void) { g[o] = h[1]; }
+";
+
+const MORE_VARIABLES: &[u8] = b"shared int g[4096] combine mod with plus;
+int o;
+int plus(int x, int y) { return x + y; }
+void main(void) { g[0] = 1; }
+";
+
+const LONG_ARRAYS: &[u8] = b"shared int g[65536] combine mod with plus;
+int plus(int x, int y) { return x + y; }
+void main(void) { int a[40000], b[25537]; g[0] = 1; }
+";
+
+const GLOBALS: LowerFault = LowerFault::Limit {
+    what: Quantity::Globals,
+    count: 4096,
+};
+
+/// The start values of the first variables, how many outputs there are, and the names at the ends.
+fn has_elements(kernel: &Kernel) -> bool {
+    let shape = kernel.shape();
+    let starts = match shape.variables.as_slice() {
+        [first, second, ..] => (first.start, second.start) == (3, 0),
+        _ => false,
+    };
+    starts
+        && shape.outputs.len() == 64
+        && shape.names.len() == 4096
+        && (shape.names.get(0), shape.names.get(63)) == ("h[0]", "h[63]")
+        && (shape.names.get(64), shape.names.get(4095)) == ("g[0]", "o")
+}
+
+#[test]
+fn elements_are_variables(rt: HostRuntime) -> Result<(), Fail> {
+    let kernel = lowered(rt.alloc(), ALL_VARIABLES)??;
+    assert!(rt; has_elements(&kernel));
+    assert!(rt; fault_of(rt.alloc(), MORE_VARIABLES)? == Some(GLOBALS));
+    assert!(rt; fault_of(rt.alloc(), LONG_ARRAYS)? == Some(WORDS));
+    Ok(())
+}

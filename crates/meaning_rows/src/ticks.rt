@@ -49,7 +49,15 @@ const WEAK: &[u8] = b"input int r; output int o = 0;
 void main(void) { while (1) { weak abort { while (1) { o = o + 1; pause; } } when (r); o = o + 100; pause; } }
 ";
 
-const RUNS: [Run; 10] = [
+/// Two branches of which one sets an element after the other, combined element by element.
+const ELEMENTS: &[u8] = b"shared int h[3] combine mod with plus; output int o = 0;
+int plus(int x, int y) { return x + y; }
+void a(int i) { h[i % 3] = 1; }
+void b(void) { h[0] = h[0] + 5; }
+void main(void) { int i = 0; while (1) { par(a(i), b); o = h[0] * 100 + h[1] * 10 + h[2]; i = i + 1; pause; } }
+";
+
+const RUNS: [Run; 11] = [
     Run {
         text: COUNTING,
         budget: 7,
@@ -108,6 +116,16 @@ const RUNS: [Run; 10] = [
             (0, Outcome::Paused, 2),
             (1, Outcome::Paused, 103),
             (0, Outcome::Paused, 104),
+        ],
+    },
+    Run {
+        text: ELEMENTS,
+        budget: 1000,
+        ticks: &[
+            (0, Outcome::Paused, 600),
+            (0, Outcome::Paused, 1110),
+            (0, Outcome::Paused, 1611),
+            (0, Outcome::Paused, 2211),
         ],
     },
 ];

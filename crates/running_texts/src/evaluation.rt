@@ -3,6 +3,7 @@
 ghost use Rattle.std.specs.Prelude.{◌≡◌, ◌<◌, ◌+◌, ℕ, ℤ};
 ghost use Rattle.forec_kernel.specs.Plain.{expr, exprs, stmt, stmts};
 ghost use Rattle.forec_kernel.specs.Shapes.{plain_kernel};
+ghost use Rattle.forec_kernel.specs.Terms.{And, Or};
 ghost use Rattle.forec_kernel.specs.Values.{val, vals, flow, flows, call_within, words_alone};
 ghost use Rattle.running_texts.specs.Metered.{IsMetered, number, numbers, flowing, setting_within, sight_of, bounded_flow};
 
@@ -12,8 +13,8 @@ use crate::functions::{
 };
 use crate::meter::{Halt, give, pay, tested};
 use crate::operators::{
-    after_binary, after_table_index, after_unary, after_word_index, as_truth, copy_value, table_at,
-    word_at,
+    after_binary, after_shared_index, after_table_index, after_unary, after_word_index, as_truth,
+    copy_value, table_at, word_at,
 };
 use forec_base::{Place, Trap};
 use forec_kernel::{Expression, KernelParts, Statement, VarCopy};
@@ -76,6 +77,23 @@ pub fn evaluate(
             let part = evaluate(alloc, kernel, deep, values, index, left);
             after_word_index(values.words, *slot, *length, *place, part, left)
         }
+        Expression::SharedAt {
+            variable,
+            length,
+            index,
+            place,
+        } => {
+            let part = evaluate(alloc, kernel, deep, values, index, left);
+            after_shared_index(
+                values.uses,
+                values.copies,
+                *variable,
+                *length,
+                *place,
+                part,
+                left,
+            )
+        }
         Expression::TableAt {
             table,
             index,
@@ -101,30 +119,10 @@ pub fn evaluate(
             Err(halt) => Err(halt),
         },
         Expression::And { left: first, right } => {
-            let test = evaluate(alloc, kernel, deep, values, first, left);
-            match tested(test, left) {
-                Ok(n) => {
-                    if n == 0 {
-                        return Ok(0);
-                    }
-                    let part = evaluate(alloc, kernel, deep, values, right, left);
-                    as_truth(part)
-                }
-                Err(halt) => Err(halt),
-            }
+            evaluate_and(alloc, kernel, deep, values, first, right, left)
         }
         Expression::Or { left: first, right } => {
-            let test = evaluate(alloc, kernel, deep, values, first, left);
-            match tested(test, left) {
-                Ok(n) => {
-                    if n != 0 {
-                        return Ok(1);
-                    }
-                    let part = evaluate(alloc, kernel, deep, values, right, left);
-                    as_truth(part)
-                }
-                Err(halt) => Err(halt),
-            }
+            evaluate_or(alloc, kernel, deep, values, first, right, left)
         }
         Expression::Choose { test, yes, no } => {
             let test = evaluate(alloc, kernel, deep, values, test, left);
@@ -147,6 +145,62 @@ pub fn evaluate(
                 Err(halt) => Err(halt),
             }
         }
+    }
+}
+
+/// Both sides, the right one only where the left one isn't 0.
+#[cycle(evaluation)]
+fn evaluate_and(
+    alloc: Global,
+    kernel: &KernelParts,
+    deep: usize,
+    values: &ThreadValues<'_>,
+    first: &Expression,
+    second: &Expression,
+    left: &mut u64,
+) -> Result<i32, Halt>
+    ensures { IsMetered number left.old left.new result
+        (val (setting_within (plain_kernel kernel.now) deep) (sight_of values.now)
+        (And (expr first.now) (expr second.now))) }
+{
+    let test = evaluate(alloc, kernel, deep, values, first, left);
+    match tested(test, left) {
+        Ok(n) => {
+            if n == 0 {
+                return Ok(0);
+            }
+            let part = evaluate(alloc, kernel, deep, values, second, left);
+            as_truth(part)
+        }
+        Err(halt) => Err(halt),
+    }
+}
+
+/// Either side, the right one only where the left one is 0.
+#[cycle(evaluation)]
+fn evaluate_or(
+    alloc: Global,
+    kernel: &KernelParts,
+    deep: usize,
+    values: &ThreadValues<'_>,
+    first: &Expression,
+    second: &Expression,
+    left: &mut u64,
+) -> Result<i32, Halt>
+    ensures { IsMetered number left.old left.new result
+        (val (setting_within (plain_kernel kernel.now) deep) (sight_of values.now)
+        (Or (expr first.now) (expr second.now))) }
+{
+    let test = evaluate(alloc, kernel, deep, values, first, left);
+    match tested(test, left) {
+        Ok(n) => {
+            if n != 0 {
+                return Ok(1);
+            }
+            let part = evaluate(alloc, kernel, deep, values, second, left);
+            as_truth(part)
+        }
+        Err(halt) => Err(halt),
     }
 }
 

@@ -98,7 +98,7 @@ impl<'a> Lookup<'a> {
         if self.ascending {
             search(self.uses, self.copies, variable)
         } else if has(self.uses, variable) {
-            Some(copy_in(self.uses, self.copies, variable))
+            Some(copy_in(self.uses, self.copies, variable as usize))
         } else {
             None
         }

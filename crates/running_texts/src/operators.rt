@@ -16,12 +16,12 @@ pub(crate) fn word_at(words: &[i32], slot: usize) -> i32
 }
 
 /// A thread's copy of a variable.
-pub(crate) fn copy_in(uses: &[u32], copies: &[VarCopy], variable: u32) -> VarCopy
+pub(crate) fn copy_in(uses: &[u32], copies: &[VarCopy], variable: usize) -> VarCopy
     ensures { result ≡ copy_of uses.now copies.now variable }
 {
     let mut i = 0;
     while i < uses.len() && i < copies.len() {
-        if uses[i] == variable {
+        if uses[i] as usize == variable {
             return copies[i];
         }
         i += 1;
@@ -36,7 +36,7 @@ pub(crate) fn copy_in(uses: &[u32], copies: &[VarCopy], variable: u32) -> VarCop
 pub fn copy_value(uses: &[u32], copies: &[VarCopy], variable: u32) -> i32
     ensures { result ≡ (copy_of uses.now copies.now variable).value }
 {
-    copy_in(uses, copies, variable).value
+    copy_in(uses, copies, variable as usize).value
 }
 
 pub(crate) fn table_at(tables: &[Vec<i32>], table: u32) -> &[i32]
@@ -123,6 +123,28 @@ pub(crate) fn after_word_index(
     match part {
         Ok(k) => match index_within(length as usize, k) {
             Some(at) => give(word_at(words, slot as usize + at), left),
+            None => stop(place, Trap::Index, left),
+        },
+        Err(halt) => Err(halt),
+    }
+}
+
+/// The thread's own copy of an element of a shared array, after the evaluation of its index.
+pub(crate) fn after_shared_index(
+    uses: &[u32],
+    copies: &[VarCopy],
+    variable: u32,
+    length: u32,
+    place: Place,
+    part: Result<i32, Halt>,
+    left: &mut u64,
+) -> Result<i32, Halt>
+    ensures { IsNumberAfter part left.old left.new result
+        (λ k. at_index (index_in length k) (λ j. (copy_of uses.now copies.now (variable + j)).value) place) }
+{
+    match part {
+        Ok(k) => match index_within(length as usize, k) {
+            Some(at) => give(copy_in(uses, copies, variable as usize + at).value, left),
             None => stop(place, Trap::Index, left),
         },
         Err(halt) => Err(halt),

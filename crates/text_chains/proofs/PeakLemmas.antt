@@ -1,35 +1,41 @@
 -- The peaks that are told of a text are the most words of a thread of its kernel.
-use Rattle.std.proofs.Common.{ℕ, zero, suc, ◌+◌, ◌-◌, ◌^◌, ◌<◌, ◌≤◌, ◌≡◌, ◌∙◌, ◌==◌, min, max, sym, ap, refl, subst, ◌⊎◌, inl, inr, Bool, true, false, cond, nat_lt, Option, Some, None, List, [], ◌∷◌, ◌++◌, length, map, get_or, arith}
+use Rattle.std.proofs.Common.{ℕ, zero, suc, ◌+◌, ◌-◌, ◌^◌, ◌<◌, ◌≤◌, ◌≡◌, ◌∙◌, ◌==◌, min, max, sym, ap, refl, subst, ◌⊎◌, inl, inr, Bool, true, false, cond, nat_lt, is_some, Option, Some, None, List, [], ◌∷◌, ◌++◌, length, map, get_or, arith}
 use Rattle.std.proofs.lemmas.Bool.Decides.{nat_tests}
 use Rattle.std.proofs.lemmas.List.{length-map, get_or-map}
+use Rattle.std.proofs.lemmas.Option.{slice_get-get_or}
 use Rattle.forec_tree.specs.declared.tree.Combine.{Combine}
+use Rattle.forec_tree.specs.declared.tree.Number.{Number}
 use Rattle.forec_tree.specs.declared.tree.GlobalKind.TheVariants.{Plain}
 use Rattle.forec_tree.specs.Terms.{Text, PlainItem, PlainGlobal, IsGlobal, IsFunction}
-use Rattle.forec_tree.specs.Scopes.{find_item}
+use Rattle.forec_tree.specs.Scopes.{find_item, stated_length}
 use Rattle.forec_tree.specs.Rules.{is_constant}
 use Rattle.forec_tree.specs.Faults.{Member, here, later, is_in, none_before}
 use Rattle.forec_tree.specs.Pauses.{within}
-use Rattle.forec_tree.specs.ThreadTree.{variables}
+use Rattle.forec_tree.specs.Variables.{PlainVariable, width, elements, variables}
+use Rattle.forec_tree.proofs.VariableCounts.{variables_counted}
 use Rattle.forec_kernel.specs.Shapes.{PlainKernel, PlainThread}
 use Rattle.forec_kernel.specs.Combining.{contains, variable_of}
 use Rattle.forec_kernel.specs.Texts.{uses_of, words_of, words_in, body_of}
 use Rattle.forec_kernel.specs.WellFormed.{greatest, count_up, stmt_calls, pars_of, all_in, blank_thread, thread_of}
 use Rattle.forec_kernel.specs.declared.shape.Variable.{Variable}
 use Rattle.loop_check.proofs.IndexLemmas.{split}
-use Rattle.text_kernel.specs.Bindings.{number_among, is_variable, is_int_function}
+use Rattle.text_kernel.specs.Bindings.{number_among, variable_number, is_int_function}
+use Rattle.text_kernel.specs.Items.{variable_items}
 use Rattle.text_kernel.specs.Lowering.{stands, read_as, vars_in, NextNumbers, Made}
 use Rattle.text_kernel.specs.declared.names.Slot.{Slot}
-use Rattle.text_kernel.specs.Kernels.{kernel_of, root, main_id, thread_shape, variable_items, variable_shape, variable_count, combine_of, filter_in}
+use Rattle.text_kernel.specs.Kernels.{kernel_of, root, main_id, thread_shape, variable_shape, variable_count, combine_of, filter_in}
 use Rattle.text_kernel.proofs.Faultless.{Clean, own_item}
-use Rattle.text_kernel.proofs.ByNumber.{numbered_in, counted}
+use Rattle.text_kernel.proofs.ByNumber.{Numbered, numbered_in}
+use Rattle.text_kernel.proofs.VariableNumbers.{apart, width_of, numbers_below}
+use Rattle.text_kernel.proofs.Known.{first_of, known_thread}
 use Rattle.text_kernel.proofs.Fields as fields
 use Rattle.text_kernel.proofs.Forks.{at, blank_made}
 use Rattle.text_sizes.proofs.Heights.{made_most}
-use Rattle.text_chains.specs.Tallies.{tally_value, tally_step, nothing, names}
-use Rattle.text_chains.specs.Peaks.{called_words, most_words, peak_by, peak_over}
+use Rattle.text_chains.specs.Tallies.{tally_value, tally_step, nothing, names_alone, names_indexed}
+use Rattle.text_chains.specs.Peaks.{called_words, most_words, peak_by, peak_of, peak_over}
 use Rattle.text_chains.proofs.Parts.{folds, thread_measure, SitsIn, seen}
-use Rattle.text_chains.proofs.Telling.{Tells, place_told}
-use Rattle.text_chains.proofs.Reading.{reads}
+use Rattle.text_chains.proofs.Telling.{row_as, Tells, place_told}
+use Rattle.text_chains.proofs.Reading.{reads, rows}
 use Rattle.text_chains.proofs.Combined.{combined, by_variable, Below, variable_above, none_above, words_least, no_worth, greatest_least, greatest_above, count_below}
 
 -- a measure of threads by number is that of the threads that were made
@@ -103,13 +109,14 @@ module _ (text : Text) (names : List (List ℕ)) where
     abbrev value : ℕ → ℕ
     value id = u (number_among is_int_function id text)
 
-    peak_told : (i v worth : ℕ) (Real : Type 0) → Real ⊎ (worth ≡ 0) → (Real → v < variable_count text names) →
-        (Real → (s : List Slot) (h : Bool) → seen i s ≡ h → (id : ℕ) → is_in v (vars_in (read_as (stands text s id))) ≡ Rattle.text_chains.specs.Tallies.names i h id) →
-        peak_by i value worth text (main_id text names) ≡ min (by_variable u (kernel_of text names) v worth) (2 ^ 64 - 1)
+    peak_told : (i v worth : ℕ) (array : Bool) (Real : Type 0) → Real ⊎ (worth ≡ 0) → (Real → v < variable_count text names) →
+        (Real → (s : List Slot) (h : Bool) → seen i s ≡ h → (id : ℕ) → is_in v (vars_in (read_as (stands text s id))) ≡ names_alone i array h id) →
+        (Real → (s : List Slot) (h : Bool) → seen i s ≡ h → (id : ℕ) → is_in v (row_as (stands text s id)) ≡ names_indexed i array h id) →
+        peak_by i array value worth text (main_id text names) ≡ min (by_variable u (kernel_of text names) v worth) (2 ^ 64 - 1)
     unfolding tally_value
-    peak_told i v worth Real either inside reading =
+    peak_told i v worth array Real either inside reading indexing =
         let from : NextNumbers = record { slot = 0; thread = 1; par = 0 } in
-        let x = place_told text (kernel_of text names) (variable_count text names) i v worth u Real either inside reading (length text) (main_id text names) 0 0 from root_sits in
+        let x = place_told text (kernel_of text names) (variable_count text names) i v worth array u Real either inside reading indexing (length text) (main_id text names) 0 0 from root_sits in
         let c = x.calls in
         let s = x.slot in
         let w = x.words in
@@ -117,8 +124,8 @@ module _ (text : Text) (names : List (List ℕ)) where
         let all = all_threads u v worth in
         omega (arith, c, s, w, p, all)
 
-    none_told : peak_by 0 value 0 text (main_id text names) ≡ min (by_variable u (kernel_of text names) 0 0) (2 ^ 64 - 1)
-    none_told = peak_told 0 0 0 ⊥ (inr refl) (λ r. absurd r) (λ r. absurd r)
+    none_told : peak_by 0 false value 0 text (main_id text names) ≡ min (by_variable u (kernel_of text names) 0 0) (2 ^ 64 - 1)
+    none_told = peak_told 0 0 0 false ⊥ (inr refl) (λ r. absurd r) (λ r. absurd r) (λ r. absurd r)
 
 -- ---- lists
 
@@ -140,91 +147,167 @@ filter_below named from (suc n) x i = pick (is_in from named) (λ j. (let e = fi
     pick false r j = r j
     pick true r j = split (from == x) (λ e. (let q : from ≡ x = grind (arith, nat_tests) in omega (arith, q))) (λ e. r (sym (ap (λ c. cond c true (contains x (filter_in named (count_up (suc from) n)))) e) ∙ j))
 
+-- ---- the globals that aren't constants
+
+record Changing (t : Text) (g : PlainGlobal) : Type 0 where
+  member : Member (IsGlobal g) t
+  changes : is_constant g.kind ≡ false
+
+one_more : (y : PlainItem) (t : Text) (g : PlainGlobal) → Changing t g → Changing (y ∷ t) g
+one_more y t g c = record { member = later c.member; changes = c.changes }
+
+own_first : (h g : PlainGlobal) (t : Text) (gs : List PlainGlobal) → is_constant h.kind ≡ false → (Member g gs → Changing t g) → Member g (h ∷ gs) → Changing (IsGlobal h ∷ t) g
+own_first h g t gs e r here = record { member = here; changes = e }
+own_first h g t gs e r (later m) = one_more (IsGlobal h) t g (r m)
+
+of_items : (t : Text) (g : PlainGlobal) → Member g (variable_items t) → Changing t g
+of_items [] g m = elim m [ ]
+of_items (IsFunction f ∷ t) g m = one_more (IsFunction f) t g (of_items t g m)
+of_items (IsGlobal h ∷ t) g m = pick (is_constant h.kind) refl (of_items t g) m
+  where
+    pick : (b : Bool) → is_constant h.kind ≡ b → (Member g (variable_items t) → Changing t g) → Member g (cond b (variable_items t) (h ∷ variable_items t)) → Changing (IsGlobal h ∷ t) g
+    pick true e r m = one_more (IsGlobal h) t g (r m)
+    pick false e r m = own_first h g t (variable_items t) e r m
+
+in_more : (y : PlainItem) (t : Text) (g : PlainGlobal) → Member g (variable_items t) → Member g (variable_items (y ∷ t))
+in_more (IsFunction f) t g m = m
+in_more (IsGlobal h) t g m = elim (is_constant h.kind) as (λ b. Member g (cond b (variable_items t) (h ∷ variable_items t))) [ true ↦ m | false ↦ later m ]
+
+in_own : (t : Text) (g : PlainGlobal) → is_constant g.kind ≡ false → Member g (variable_items (IsGlobal g ∷ t))
+in_own t g e = subst (λ b. Member g (cond b (variable_items t) (g ∷ variable_items t))) (sym e) here
+
+in_items : (t : Text) (y : PlainItem) (g : PlainGlobal) → y ≡ IsGlobal g → is_constant g.kind ≡ false → Member y t → Member g (variable_items t)
+in_items [] y g e c m = elim m [ ]
+in_items (x ∷ t) y g e c here = subst (λ z. Member g (variable_items (z ∷ t))) (sym e) (in_own t g c)
+in_items (x ∷ t) y g e c (later m) = in_more x t g (in_items t y g e c m)
+
+blank : PlainVariable
+blank = record { global = record { name = record { id = 0; place = record { line = 1; column = 1 } }; kind = Plain; length = None; values = []; combine = None }; index = None }
+
 -- ---- the variables, by number
 
-blank : PlainGlobal
-blank = record { name = record { id = 0; place = record { line = 1; column = 1 } }; kind = Plain; length = None; values = []; combine = None }
-
 module _ (text : Text) (names : List (List ℕ)) where
-  record Item (t : Text) (n : ℕ) (g : PlainGlobal) : Type 0 where
-    member : Member (IsGlobal g) t
-    changes : is_constant g.kind ≡ false
-    named : get_or (variables t) n 0 ≡ g.name.id
-
-  more_item : (y : PlainItem) (t : Text) (m n : ℕ) (g : PlainGlobal) → get_or (variables (y ∷ t)) m 0 ≡ get_or (variables t) n 0 → Item t n g → Item (y ∷ t) m g
-  more_item y t m n g e i = record { member = later i.member; changes = i.changes; named = e ∙ i.named }
-
-  item_at : (t : Text) (n : ℕ) → n < length (variable_items text names t) → Item t n (get_or (variable_items text names t) n blank)
-  item_at [] n l = absurd (omega arith)
-  item_at (IsFunction f ∷ t) n l = more_item (IsFunction f) t n n _ refl (item_at t n l)
-  item_at (IsGlobal g ∷ t) n l = pick (is_constant g.kind) refl n l (item_at t)
-    where
-      pick : (b : Bool) → is_constant g.kind ≡ b → (n : ℕ) → n < length (cond b (variable_items text names t) (g ∷ variable_items text names t)) →
-          ((m : ℕ) → m < length (variable_items text names t) → Item t m (get_or (variable_items text names t) m blank)) →
-          Item (IsGlobal g ∷ t) n (get_or (cond b (variable_items text names t) (g ∷ variable_items text names t)) n blank)
-      pick true e n l r = more_item (IsGlobal g) t n n _ (ap (λ b. get_or (cond b (variables t) (g.name.id ∷ variables t)) n 0) e) (r n l)
-      pick false e zero l r = record { member = here; changes = e; named = ap (λ b. get_or (cond b (variables t) (g.name.id ∷ variables t)) 0 0) e }
-      pick false e (suc n) l r = more_item (IsGlobal g) t (suc n) n _ (ap (λ b. get_or (cond b (variables t) (g.name.id ∷ variables t)) (suc n) 0) e) (r n (omega (arith, l)))
-
   module _ (clean : Clean text names) where
-    abbrev item : ℕ → PlainGlobal
-    item n = get_or (variable_items text names text) n blank
+    numbered : (n : ℕ) → n < variable_count text names → Numbered text names text n
+    numbered n l = let many = variables_counted text in numbered_in text names none_before text clean.items n (omega (arith, l, many))
 
-    is_item : (n : ℕ) → n < variable_count text names → find_item (item n).name.id text ≡ Some (IsGlobal (item n))
-    is_item n l = own_item text names clean (IsGlobal (item n)) (item_at text n l).member
-
-    number_is : (n : ℕ) → n < variable_count text names → number_among is_variable (item n).name.id text ≡ n
-    number_is n l =
-        let many = counted text names text in
-        let r = numbered_in text names none_before text clean.items n (omega (arith, l, many)) in
-        let same : r.global.name.id ≡ (item n).name.id = sym r.named ∙ (item_at text n l).named in
-        ap (λ i. number_among is_variable i text) (sym same) ∙ r.number
-
-    combine_is : (n : ℕ) → n < variable_count text names → (variable_of (kernel_of text names) n).combine ≡ combine_of text names (item n).combine
+    -- the variable of a number combines as its global does
+    combine_is : (n : ℕ) (l : n < variable_count text names) (r : Numbered text names text n) → (variable_of (kernel_of text names) n).combine ≡ combine_of text names r.global.combine
     unfolding kernel_of
-    combine_is n l = ap (λ (x : Variable). x.combine) (get_or-map (variable_shape text names) (variable_items text names text) n blank _ l)
+    combine_is n l r =
+        let many = variables_counted text in
+        let low : n < length (variables text) = omega (arith, l, many) in
+        ap (λ (x : Variable). x.combine) (get_or-map (variable_shape text names) (variables text) n blank _ low)
+        ∙ ap (λ (g : PlainGlobal). combine_of text names g.combine) (r.of (get_or (variables text) n blank) (slice_get-get_or (variables text) n blank low))
+
+    -- an element of a global that isn't a constant
+    record Part (g : PlainGlobal) (n : ℕ) : Type 0 where
+      is_item : find_item g.name.id text ≡ Some (IsGlobal g)
+      changes : is_constant g.kind ≡ false
+      nth : ℕ
+      is_one : nth < width g
+      number : variable_number g.name.id text + nth ≡ n
+      combine : (variable_of (kernel_of text names) n).combine ≡ combine_of text names g.combine
+
+    part_at : (n : ℕ) (l : n < variable_count text names) (r : Numbered text names text n) → Part r.global n
+    part_at n l r =
+        record {
+          is_item = own_item text names clean (IsGlobal r.global) r.member;
+          changes = r.changes;
+          nth = r.index;
+          is_one = r.below;
+          number = r.number;
+          combine = combine_is n l r;
+        }
+
+    same_owner : (g : PlainGlobal) → find_item g.name.id text ≡ Some (IsGlobal g) → is_constant g.kind ≡ false → (nth : ℕ) → nth < width g →
+        (r : Numbered text names text (variable_number g.name.id text + nth)) → r.global ≡ g
+    same_owner g is c nth one r =
+        let own = own_item text names clean (IsGlobal r.global) r.member in
+        let wide = width_of g c in
+        let other = width_of r.global r.changes in
+        let number = r.number in
+        let below = r.below in
+        let same : r.global.name.id ≡ g.name.id =
+        apart r.global.name.id g.name.id nth (IsGlobal r.global) (IsGlobal g) text (first_of r.global.name.id (IsGlobal r.global) text own) (first_of g.name.id (IsGlobal g) text is) (omega (arith, wide, one))
+        (record { low = omega (arith, number); high = omega (arith, number, below, other) }) in
+        let one : Some (IsGlobal r.global) ≡ Some (IsGlobal g) = sym own ∙ (ap (λ i. find_item i text) same ∙ is) in cc
+
+    number_below : (g : PlainGlobal) → find_item g.name.id text ≡ Some (IsGlobal g) → is_constant g.kind ≡ false → (nth : ℕ) → nth < width g → variable_number g.name.id text + nth < variable_count text names
+    number_below g is c nth one =
+        let l = numbers_below g.name.id (IsGlobal g) text (first_of g.name.id (IsGlobal g) text is) in
+        let w = width_of g c in
+        omega (arith, l, w, one)
+
+    -- an array has an element
+    some_width : (g : PlainGlobal) → find_item g.name.id text ≡ Some (IsGlobal g) → is_constant g.kind ≡ false → 0 < width g
+    some_width g is c = pick (stated_length g) refl
+      where
+        wide : (o : Option Number) → stated_length g ≡ o → width g ≡ elim o [ None ↦ 1 | Some n ↦ elements n ]
+        wide o e = ap (λ p. elim p [ None ↦ 1 | Some n ↦ elements n ]) e
+
+        pick : (o : Option Number) → stated_length g ≡ o → 0 < width g
+        pick None e = let w = wide None e in omega (arith, w)
+        pick (Some n) e =
+            let w = wide (Some n) e in
+            let some = (((known_thread text names clean).item g.name.id).sized g n is c refl e).some in
+            omega (arith, w, some)
+
+    first_part : (g : PlainGlobal) → Changing text g → Part g (variable_number g.name.id text + 0)
+    first_part g c =
+        let is = own_item text names clean (IsGlobal g) c.member in
+        let one = some_width g is c.changes in
+        let l = number_below g is c.changes 0 one in
+        let r = numbered (variable_number g.name.id text + 0) l in
+        record {
+          is_item = is;
+          changes = c.changes;
+          nth = 0;
+          is_one = one;
+          number = refl;
+          combine = combine_is (variable_number g.name.id text + 0) l r ∙ ap (λ (x : PlainGlobal). combine_of text names x.combine) (same_owner g is c.changes 0 one r);
+        }
 
     module _ (u : ℕ → ℕ) where
       abbrev valued : ℕ → ℕ
       valued id = u (number_among is_int_function id text)
 
-      -- the peak for the combine function of one variable
+      -- the peak for the combine function of one global
       abbrev part : PlainGlobal → ℕ
-      part g = elim g.combine [ None ↦ 0 | Some c ↦ peak_by g.name.id valued (valued c.with.id) text (main_id text names) ]
+      part g = peak_of valued text (main_id text names) g
 
-      variable_told : (n worth : ℕ) → n < variable_count text names → peak_by (item n).name.id valued worth text (main_id text names) ≡ min (by_variable u (kernel_of text names) n worth) (2 ^ 64 - 1)
-      variable_told n worth l =
-          let i = (item n).name.id in
-          let e = number_is n l in
-          peak_told text names u i (number_among is_variable i text) worth (Unit {0}) (inl tt) (λ r. omega (arith, e, l)) (λ r. reads text (item n) (is_item n l) (item_at text n l).changes)
-          ∙ ap (λ x. min (by_variable u (kernel_of text names) x worth) (2 ^ 64 - 1)) e
+      variable_told : (g : PlainGlobal) (n worth : ℕ) → Part g n → peak_by g.name.id (is_some (stated_length g)) valued worth text (main_id text names) ≡ min (by_variable u (kernel_of text names) n worth) (2 ^ 64 - 1)
+      variable_told g n worth p =
+          peak_told text names u g.name.id (variable_number g.name.id text + p.nth) worth (is_some (stated_length g)) (Unit {0}) (inl tt) (λ r. number_below g p.is_item p.changes p.nth p.is_one)
+          (λ r. reads text g p.is_item p.changes p.nth p.is_one) (λ r. rows text g p.is_item p.changes p.nth p.is_one)
+          ∙ ap (λ x. min (by_variable u (kernel_of text names) x worth) (2 ^ 64 - 1)) p.number
 
-      combined_is : (n : ℕ) (o : Option Combine) → n < variable_count text names → (item n).combine ≡ o → combined u (kernel_of text names) n ≡ elim o [ None ↦ 0 | Some c ↦ valued c.with.id ]
-      combined_is n o l e = ap (λ x. elim x [ None ↦ 0 | Some f ↦ u f ]) (combine_is n l ∙ ap (combine_of text names) e) ∙ pick o
+      combined_is : (g : PlainGlobal) (n : ℕ) (o : Option Combine) → Part g n → g.combine ≡ o → combined u (kernel_of text names) n ≡ elim o [ None ↦ 0 | Some c ↦ valued c.with.id ]
+      combined_is g n o p e = ap (λ x. elim x [ None ↦ 0 | Some f ↦ u f ]) (p.combine ∙ ap (combine_of text names) e) ∙ pick o
         where
           pick : (o : Option Combine) → ◌≡◌ {A = ℕ} (elim (combine_of text names o) [ None ↦ 0 | Some f ↦ u f ]) (elim o [ None ↦ 0 | Some c ↦ valued c.with.id ])
           pick None = refl
           pick (Some c) = refl
 
-      part_none : (n : ℕ) → (item n).combine ≡ None → part (item n) ≡ 0
-      part_none n e = ap (λ o. elim o [ None ↦ 0 | Some c ↦ peak_by (item n).name.id valued (valued c.with.id) text (main_id text names) ]) e
+      part_none : (g : PlainGlobal) → g.combine ≡ None → part g ≡ 0
+      part_none g e = ap (λ o. elim o [ None ↦ 0 | Some c ↦ peak_by g.name.id (is_some (stated_length g)) valued (valued c.with.id) text (main_id text names) ]) e
 
-      part_some : (n : ℕ) (c : Combine) → n < variable_count text names → (item n).combine ≡ Some c → part (item n) ≡ min (by_variable u (kernel_of text names) n (combined u (kernel_of text names) n)) (2 ^ 64 - 1)
-      part_some n c l e =
-          ap (λ o. elim o [ None ↦ 0 | Some c ↦ peak_by (item n).name.id valued (valued c.with.id) text (main_id text names) ]) e
-          ∙ (variable_told n (valued c.with.id) l ∙ ap (λ w. min (by_variable u (kernel_of text names) n w) (2 ^ 64 - 1)) (sym (combined_is n (Some c) l e)))
+      part_some : (g : PlainGlobal) (n : ℕ) (c : Combine) → Part g n → g.combine ≡ Some c → part g ≡ min (by_variable u (kernel_of text names) n (combined u (kernel_of text names) n)) (2 ^ 64 - 1)
+      part_some g n c p e =
+          ap (λ o. elim o [ None ↦ 0 | Some c ↦ peak_by g.name.id (is_some (stated_length g)) valued (valued c.with.id) text (main_id text names) ]) e
+          ∙ (variable_told g n (valued c.with.id) p ∙ ap (λ w. min (by_variable u (kernel_of text names) n w) (2 ^ 64 - 1)) (sym (combined_is g n (Some c) p e)))
 
-      over_least : (gs : List PlainGlobal) (b : ℕ) → ((n : ℕ) → n < length gs → part (get_or gs n blank) ≤ b) → peak_over valued text (main_id text names) gs ≤ b
+      over_least : (gs : List PlainGlobal) (b : ℕ) → ((g : PlainGlobal) → Member g gs → part g ≤ b) → peak_over valued text (main_id text names) gs ≤ b
       over_least [] b h = omega arith
       over_least (g ∷ gs) b h =
-          let e = h 0 (omega arith) in
-          let d = over_least gs b (λ n l. h (suc n) (omega (arith, l))) in
+          let e = h g here in
+          let d = over_least gs b (λ x m. h x (later m)) in
           omega (arith, e, d)
 
-      over_above : (gs : List PlainGlobal) (n : ℕ) → n < length gs → part (get_or gs n blank) ≤ peak_over valued text (main_id text names) gs
-      over_above [] n l = absurd (omega arith)
-      over_above (g ∷ gs) zero l = omega arith
-      over_above (g ∷ gs) (suc n) l = let e = over_above gs n (omega (arith, l)) in omega (arith, e)
+      over_above : (gs : List PlainGlobal) (g : PlainGlobal) → Member g gs → part g ≤ peak_over valued text (main_id text names) gs
+      over_above [] g m = elim m [ ]
+      over_above (x ∷ gs) g here = omega arith
+      over_above (x ∷ gs) g (later m) = let e = over_above gs g m in omega (arith, e)
 
       -- a branch of a par of a thread is below the thread
       root_parent : (thread_of (kernel_of text names) 0).parent ≡ None
@@ -273,39 +356,42 @@ module _ (text : Text) (names : List (List ℕ)) where
           omega (arith, a, b, c))
 
       abbrev told : ℕ
-      told = max (peak_by 0 valued 0 text (main_id text names)) (peak_over valued text (main_id text names) (variable_items text names text))
+      told = max (peak_by 0 false valued 0 text (main_id text names)) (peak_over valued text (main_id text names) (variable_items text))
 
       told_least : told ≤ min (most_words u (kernel_of text names)) (2 ^ 64 - 1)
       told_least =
           let a = none_told text names u in
           let b = none_above u (kernel_of text names) pars_below 0 in
           let c =
-          over_least (variable_items text names text) (min (most_words u (kernel_of text names)) (2 ^ 64 - 1))
-          (λ n l. part_least n (item n).combine refl l) in
+          over_least (variable_items text) (min (most_words u (kernel_of text names)) (2 ^ 64 - 1))
+          (λ g m. part_least g g.combine refl (first_part g (of_items text g m))) in
           omega (arith, a, b, c)
         where
-          part_least : (n : ℕ) (o : Option Combine) → (item n).combine ≡ o → n < variable_count text names → part (item n) ≤ min (most_words u (kernel_of text names)) (2 ^ 64 - 1)
-          part_least n None e l = let z = part_none n e in omega (arith, z)
-          part_least n (Some c) e l =
-              let z = part_some n c l e in
-              let m = variable_above u (kernel_of text names) pars_below n in
+          part_least : (g : PlainGlobal) (o : Option Combine) → g.combine ≡ o → Part g (variable_number g.name.id text + 0) → part g ≤ min (most_words u (kernel_of text names)) (2 ^ 64 - 1)
+          part_least g None e p = let z = part_none g e in omega (arith, z)
+          part_least g (Some c) e p =
+              let z = part_some g (variable_number g.name.id text + 0) c p e in
+              let m = variable_above u (kernel_of text names) pars_below (variable_number g.name.id text + 0) in
               omega (arith, z, m)
 
       told_above : told < 2 ^ 64 - 1 → most_words u (kernel_of text names) ≤ told
       told_above small =
           let a = none_told text names u in
-          words_least u (kernel_of text names) 0 told (omega (arith, a, small)) (λ t x l i. one x (item x).combine refl (uses_low t x l i))
+          words_least u (kernel_of text names) 0 told (omega (arith, a, small)) (λ t x l i. (let low = uses_low t x l i in one x low (numbered x low)))
         where
-          one : (x : ℕ) (o : Option Combine) → (item x).combine ≡ o → x < variable_count text names → by_variable u (kernel_of text names) x (combined u (kernel_of text names) x) ≤ told
-          one x None e l =
-              let z = ap (by_variable u (kernel_of text names) x) (combined_is x None l e) in
+          by_combine : (x : ℕ) (g : PlainGlobal) (o : Option Combine) → g.combine ≡ o → Part g x → Member g (variable_items text) → by_variable u (kernel_of text names) x (combined u (kernel_of text names) x) ≤ told
+          by_combine x g None e p m =
+              let z = ap (by_variable u (kernel_of text names) x) (combined_is g x None p e) in
               let y = zero_least x 0 in
               let a = none_told text names u in
               omega (arith, z, y, a, small)
-          one x (Some c) e l =
-              let z = part_some x c l e in
-              let y = over_above (variable_items text names text) x l in
+          by_combine x g (Some c) e p m =
+              let z = part_some g x c p e in
+              let y = over_above (variable_items text) g m in
               omega (arith, z, y, small)
+
+          one : (x : ℕ) (l : x < variable_count text names) → Numbered text names text x → by_variable u (kernel_of text names) x (combined u (kernel_of text names) x) ≤ told
+          one x l r = by_combine x r.global r.global.combine refl (part_at x l r) (in_items text (IsGlobal r.global) r.global refl r.changes r.member)
 
       -- all peaks together are the most words of a thread
       pub most_told : told ≡ min (most_words u (kernel_of text names)) (2 ^ 64 - 1)

@@ -54,21 +54,25 @@ both a b x y e d = ap (λ t. joined t b) e ∙ ap (joined x) d
 pub join_next : (so_far one rest all next : Tally) → next ≡ joined so_far one → joined so_far (joined one rest) ≡ all → joined next rest ≡ all
 join_next so_far one rest all next e h = ap (λ t. joined t rest) e ∙ (join_assoc so_far one rest ∙ h)
 
-module _ (i : ℕ) (value : ℕ → ℕ) where
-  pub terms_low : (h : Bool) (es : Terms) → (of.of_terms i value h es).words ≤ 2 ^ 64 - 1
+-- one more of which the greatest is sought
+pub most_next : (most one peak rest all next : ℕ) → next ≡ max most one → one ≡ peak → max most (max peak rest) ≡ all → max next rest ≡ all
+most_next most one peak rest all next e d h = omega (arith, e, d, h)
+
+module _ (i : ℕ) (array : Bool) (value : ℕ → ℕ) where
+  pub terms_low : (h : Bool) (es : Terms) → (of.of_terms i array value h es).words ≤ 2 ^ 64 - 1
   terms_low h no_terms = omega arith
   terms_low h (more_terms e rest) = omega arith
 
-  pub locals_low : (h : Bool) (ls : List Declared) → (of.of_locals i value h ls).words ≤ 2 ^ 64 - 1
+  pub locals_low : (h : Bool) (ls : List Declared) → (of.of_locals i array value h ls).words ≤ 2 ^ 64 - 1
   locals_low h [] = omega arith
   locals_low h (l ∷ rest) = omega arith
 
   module _ (worth : ℕ) (called : ℕ → Tally) where
-    pub all_low : (h : Bool) (a : Statements) → (of.all_tally i value worth called h a).words ≤ 2 ^ 64 - 1
+    pub all_low : (h : Bool) (a : Statements) → (of.all_tally i array value worth called h a).words ≤ 2 ^ 64 - 1
     all_low h no_statements = omega arith
     all_low h (more_statements a rest) = omega arith
 
-    pub branches_low : (h : Bool) (a : Branches) → (of.branches_tally i value worth called h a).words ≤ 2 ^ 64 - 1
+    pub branches_low : (h : Bool) (a : Branches) → (of.branches_tally i array value worth called h a).words ≤ 2 ^ 64 - 1
     branches_low h no_branches = omega arith
     branches_low h (by_call name args rest) = omega arith
     branches_low h (by_group at body rest) = omega arith

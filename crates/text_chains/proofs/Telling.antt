@@ -31,14 +31,20 @@ use Rattle.text_sizes.proofs.Heights.{made_most}
 use Rattle.text_chains.proofs.Parts.{greatest_append, sequence_calls, ends_calls, ends_pars, crossed, or_none, in_again, in_swap, most_again, most_swap, folds, folds_append, folds_swap, thread_measure, SitsIn, sits_left, sits_right, filtered, made_append, in_behind, most_behind, folds_behind, seen, seen_locals, seen_params, seen_behind, seen_perhaps}
 use Rattle.text_chains.specs.declared.tally.Tally.{Tally}
 use Rattle.text_chains.specs.Tallies as of
-use Rattle.text_chains.specs.Tallies.{plus, nothing, naming, calling, taking, joined, whole, started, names, hides, hides_locals, hides_params, after, after_perhaps}
+use Rattle.text_chains.specs.Tallies.{plus, nothing, naming, calling, taking, joined, whole, started, names_alone, names_indexed, hides, hides_locals, hides_params, after, after_perhaps}
 
 -- ---- what stands for a name
+
+-- the variables that an index at it names
+abbrev pub row_as : Stands → List ℕ
+row_as (st.AsVariables v n) = count_up v n
+row_as _ = []
 
 read_calls : (x : Stands) → calls_of (read_as x) ≡ []
 read_calls (st.AtSlot slot) = refl
 read_calls (st.AtSlots slot size) = refl
 read_calls (st.AsVariable v) = refl
+read_calls (st.AsVariables v n) = refl
 read_calls (st.AsNumber n) = refl
 read_calls (st.AsTable t) = refl
 read_calls st.AsNothing = refl
@@ -47,14 +53,16 @@ element_calls : (x : Stands) (e : Expr) (place : Place) → calls_of (element_as
 element_calls (st.AtSlot slot) e place = refl
 element_calls (st.AtSlots slot size) e place = refl
 element_calls (st.AsVariable v) e place = refl
+element_calls (st.AsVariables v n) e place = refl
 element_calls (st.AsNumber n) e place = refl
 element_calls (st.AsTable t) e place = refl
 element_calls st.AsNothing e place = refl
 
-element_vars : (x : Stands) (e : Expr) (place : Place) → vars_in (element_as x e place) ≡ vars_in e
+element_vars : (x : Stands) (e : Expr) (place : Place) → vars_in (element_as x e place) ≡ row_as x ++ vars_in e
 element_vars (st.AtSlot slot) e place = refl
 element_vars (st.AtSlots slot size) e place = refl
 element_vars (st.AsVariable v) e place = refl
+element_vars (st.AsVariables v n) e place = refl
 element_vars (st.AsNumber n) e place = refl
 element_vars (st.AsTable t) e place = refl
 element_vars st.AsNothing e place = refl
@@ -68,6 +76,8 @@ set_vars v (st.AtSlots slot size) None e = refl
 set_vars v (st.AtSlots slot size) (Some o) e = refl
 set_vars v (st.AsVariable w) None e = refl
 set_vars v (st.AsVariable w) (Some o) e = in_again v (w ∷ []) (vars_in e)
+set_vars v (st.AsVariables w n) None e = refl
+set_vars v (st.AsVariables w n) (Some o) e = refl
 set_vars v (st.AsNumber n) None e = refl
 set_vars v (st.AsNumber n) (Some o) e = refl
 set_vars v (st.AsTable t) None e = refl
@@ -82,6 +92,8 @@ set_calls (st.AtSlots slot size) None e = refl
 set_calls (st.AtSlots slot size) (Some o) e = refl
 set_calls (st.AsVariable w) None e = refl
 set_calls (st.AsVariable w) (Some o) e = refl
+set_calls (st.AsVariables w n) None e = refl
+set_calls (st.AsVariables w n) (Some o) e = refl
 set_calls (st.AsNumber n) None e = refl
 set_calls (st.AsNumber n) (Some o) e = refl
 set_calls (st.AsTable t) None e = refl
@@ -93,6 +105,7 @@ set_pars : (x : Stands) (op : Option OpAt) (e : Expr) → pars_of (assign_to x o
 set_pars (st.AtSlot slot) op e = refl
 set_pars (st.AtSlots slot size) op e = refl
 set_pars (st.AsVariable w) op e = refl
+set_pars (st.AsVariables w n) op e = refl
 set_pars (st.AsNumber n) op e = refl
 set_pars (st.AsTable t) op e = refl
 set_pars st.AsNothing op e = refl
@@ -101,18 +114,33 @@ at_pars : (x : Stands) (op : Option OpAt) (i e : Expr) (place : Place) → pars_
 at_pars (st.AtSlot slot) op i e place = refl
 at_pars (st.AtSlots slot size) op i e place = refl
 at_pars (st.AsVariable w) op i e place = refl
+at_pars (st.AsVariables w n) op i e place = refl
 at_pars (st.AsNumber n) op i e place = refl
 at_pars (st.AsTable t) op i e place = refl
 at_pars st.AsNothing op i e place = refl
 
--- an element that is set from its old value has its index twice
-at_vars : (v : ℕ) (x : Stands) (op : Option OpAt) (i e : Expr) (place : Place) → is_in v (vars_of (assign_at x op i e place)) ≡ is_in v (vars_in i ++ vars_in e)
+-- an element that is set from its old value has its index twice, and its array
+twice : (a b c : Bool) → (a || (b || ((a || b) || c))) ≡ ((a || b) || c)
+twice true b c = refl
+twice false true c = refl
+twice false false c = refl
+
+row_again : (v : ℕ) (xs ys zs : List ℕ) → is_in v (xs ++ (ys ++ ((xs ++ ys) ++ zs))) ≡ is_in v ((xs ++ ys) ++ zs)
+row_again v xs ys zs =
+    let all = in_append v (xs ++ ys) zs ∙ ap (λ t. t || is_in v zs) (in_append v xs ys) in
+    in_append v xs (ys ++ ((xs ++ ys) ++ zs))
+    ∙ (ap (λ t. is_in v xs || t) (in_append v ys ((xs ++ ys) ++ zs) ∙ ap (λ t. is_in v ys || t) all)
+    ∙ (twice (is_in v xs) (is_in v ys) (is_in v zs) ∙ sym all))
+
+at_vars : (v : ℕ) (x : Stands) (op : Option OpAt) (i e : Expr) (place : Place) → is_in v (vars_of (assign_at x op i e place)) ≡ is_in v ((row_as x ++ vars_in i) ++ vars_in e)
 at_vars v (st.AtSlot slot) None i e place = refl
 at_vars v (st.AtSlot slot) (Some o) i e place = in_again v (vars_in i) (vars_in e)
 at_vars v (st.AtSlots slot size) None i e place = refl
 at_vars v (st.AtSlots slot size) (Some o) i e place = in_again v (vars_in i) (vars_in e)
 at_vars v (st.AsVariable w) None i e place = refl
 at_vars v (st.AsVariable w) (Some o) i e place = in_again v (vars_in i) (vars_in e)
+at_vars v (st.AsVariables w n) None i e place = ap (is_in v) (sym (append_assoc (count_up w n) (vars_in i) (vars_in e)))
+at_vars v (st.AsVariables w n) (Some o) i e place = row_again v (count_up w n) (vars_in i) (vars_in e)
 at_vars v (st.AsNumber n) None i e place = refl
 at_vars v (st.AsNumber n) (Some o) i e place = in_again v (vars_in i) (vars_in e)
 at_vars v (st.AsTable t) None i e place = refl
@@ -127,6 +155,8 @@ at_calls f (st.AtSlots slot size) None i e place = refl
 at_calls f (st.AtSlots slot size) (Some o) i e place = most_again f (calls_of i) (calls_of e)
 at_calls f (st.AsVariable w) None i e place = refl
 at_calls f (st.AsVariable w) (Some o) i e place = most_again f (calls_of i) (calls_of e)
+at_calls f (st.AsVariables w n) None i e place = refl
+at_calls f (st.AsVariables w n) (Some o) i e place = most_again f (calls_of i) (calls_of e)
 at_calls f (st.AsNumber n) None i e place = refl
 at_calls f (st.AsNumber n) (Some o) i e place = most_again f (calls_of i) (calls_of e)
 at_calls f (st.AsTable t) None i e place = refl
@@ -166,8 +196,9 @@ step_pars k v worth absent body a h = ap (folds k v worth) (sym (absent_none par
 step_pars k v worth (present x) body a h = ap (λ l. folds k v worth (pars_of body ++ l)) (append-nil (pars_of a)) ∙ folds_swap k v worth (pars_of body) (pars_of a)
 
 module _
-    (text : Text) (k : PlainKernel) (count i v worth : ℕ) (u : ℕ → ℕ) (Real : Type 0) (either : Real ⊎ (worth ≡ 0)) (inside : Real → v < count)
-    (reads : Real → (s : List Slot) (h : Bool) → seen i s ≡ h → (id : ℕ) → is_in v (vars_in (read_as (stands text s id))) ≡ names i h id) where
+    (text : Text) (k : PlainKernel) (count i v worth : ℕ) (array : Bool) (u : ℕ → ℕ) (Real : Type 0) (either : Real ⊎ (worth ≡ 0)) (inside : Real → v < count)
+    (reads : Real → (s : List Slot) (h : Bool) → seen i s ≡ h → (id : ℕ) → is_in v (vars_in (read_as (stands text s id))) ≡ names_alone i array h id)
+    (rows : Real → (s : List Slot) (h : Bool) → seen i s ≡ h → (id : ℕ) → is_in v (row_as (stands text s id)) ≡ names_indexed i array h id) where
   abbrev pub value : ℕ → ℕ
   value id = u (number_among is_int_function id text)
 
@@ -231,16 +262,21 @@ module _
 
   -- ---- terms
 
-  read_told : (from : ℕ) (s : List Slot) (h : Bool) → seen i s ≡ h → (id : ℕ) → Tells (vars_in (read_as (stands text s id))) [] [] [] from from (naming (names i h id))
+  read_told : (from : ℕ) (s : List Slot) (h : Bool) → seen i s ≡ h → (id : ℕ) → Tells (vars_in (read_as (stands text s id))) [] [] [] from from (naming (names_alone i array h id))
   read_told from s h e id =
       record { taken = 0; named = λ r. or_none (is_in v (vars_in (read_as (stands text s id)))) ∙ reads r s h e id; calls = omega arith; slot = omega arith; words = omega arith; peak = omega arith }
 
+  row_told : (from : ℕ) (s : List Slot) (h : Bool) → seen i s ≡ h → (id : ℕ) → Tells (row_as (stands text s id)) [] [] [] from from (naming (names_indexed i array h id))
+  row_told from s h e id =
+      record { taken = 0; named = λ r. or_none (is_in v (row_as (stands text s id))) ∙ rows r s h e id; calls = omega arith; slot = omega arith; words = omega arith; peak = omega arith }
+
   mutual
-    pub term_told : (from : ℕ) (s : List Slot) (h : Bool) → seen i s ≡ h → (e : Term) → Tells (vars_in (lower_term text s e)) (calls_of (lower_term text s e)) [] [] from from (of.of_term i value h e)
+    pub term_told : (from : ℕ) (s : List Slot) (h : Bool) → seen i s ≡ h → (e : Term) → Tells (vars_in (lower_term text s e)) (calls_of (lower_term text s e)) [] [] from from (of.of_term i array value h e)
     term_told from s h w (Num at n) = none_told from
     term_told from s h w (Read at name) = listed _ _ _ _ [] [] [] from from _ refl (read_calls (stands text s name.id)) refl (read_told from s h w name.id)
     term_told from s h w (Element at name e) =
-        listed _ _ _ _ [] [] [] from from _ (element_vars (stands text s name.id) (lower_term text s e) name.place) (element_calls (stands text s name.id) (lower_term text s e) name.place) refl (term_told from s h w e)
+        listed _ _ _ _ [] [] [] from from _ (element_vars (stands text s name.id) (lower_term text s e) name.place) (element_calls (stands text s name.id) (lower_term text s e) name.place) refl
+        (two _ _ [] _ [] [] [] [] from from from _ _ (row_told from s h w name.id) (term_told from s h w e))
     term_told from s h w (Un at op a) = term_told from s h w a
     term_told from s h w (Bin at op a b) = two _ _ _ _ [] [] [] [] from from from _ _ (term_told from s h w a) (term_told from s h w b)
     term_told from s h w (And at a b) = two _ _ _ _ [] [] [] [] from from from _ _ (term_told from s h w a) (term_told from s h w b)
@@ -253,18 +289,18 @@ module _
         (two _ _ _ _ [] [] [] [] from from from _ _ (term_told from s h w t) (two _ _ _ _ [] [] [] [] from from from _ _ (term_told from s h w a) (term_told from s h w b)))
     term_told from s h w (Call at name args) = two [] _ (number_among is_int_function name.id text ∷ []) _ [] [] [] [] from from from _ _ (called_one from (number_among is_int_function name.id text)) (terms_told from s h w args)
 
-    pub terms_told : (from : ℕ) (s : List Slot) (h : Bool) → seen i s ≡ h → (es : Terms) → Tells (vars_all (lower_terms text s es)) (calls_in (lower_terms text s es)) [] [] from from (of.of_terms i value h es)
+    pub terms_told : (from : ℕ) (s : List Slot) (h : Bool) → seen i s ≡ h → (es : Terms) → Tells (vars_all (lower_terms text s es)) (calls_in (lower_terms text s es)) [] [] from from (of.of_terms i array value h es)
     terms_told from s h w no_terms = none_told from
     terms_told from s h w (more_terms e rest) = two _ _ _ _ [] [] [] [] from from from _ _ (term_told from s h w e) (terms_told from s h w rest)
 
-  optional_told : (from : ℕ) (s : List Slot) (h : Bool) → seen i s ≡ h → (e : Option Term) → Tells (vars_in (optional_test text s e)) (calls_of (optional_test text s e)) [] [] from from (of.of_optional i value h e)
+  optional_told : (from : ℕ) (s : List Slot) (h : Bool) → seen i s ≡ h → (e : Option Term) → Tells (vars_in (optional_test text s e)) (calls_of (optional_test text s e)) [] [] from from (of.of_optional i array value h e)
   optional_told from s h w None = none_told from
   optional_told from s h w (Some e) = term_told from s h w e
 
   -- ---- statements without others
 
   elements_told : (from : ℕ) (s : List Slot) (h : Bool) → seen i s ≡ h → (slot size n : ℕ) (es : Terms) (place : Place) →
-      let list = array_values text s slot size n es place in Tells (vars_list list) (stmts_calls list) (pars_in list) [] from from (of.of_terms i value h es)
+      let list = array_values text s slot size n es place in Tells (vars_list list) (stmts_calls list) (pars_in list) [] from from (of.of_terms i array value h es)
   elements_told from s h w slot size n no_terms place = none_told from
   elements_told from s h w slot size n (more_terms e rest) place =
       two _ _ _ _ [] _ [] [] from from from _ _ (term_told from s h w e) (elements_told from s h w slot size (suc n) rest place)
@@ -275,7 +311,7 @@ module _
         | Some n ↦ sequence (more_stmts (kernel.Clear slot (number_of n)) (array_values text s slot (number_of n) 0 es place))
         | None ↦ elim es [ no_terms ↦ kernel.Clear slot 1 | more_terms e rest ↦ kernel.Set (spot.Local slot) (lower_term text s e) ]
       ] in
-      Tells (vars_of a) (stmt_calls a) (pars_of a) [] slot (slot + slots_of size) (joined (taking (slots_of size)) (elim size [ None ↦ of.of_first i value h es | Some n ↦ of.of_terms i value h es ]))
+      Tells (vars_of a) (stmt_calls a) (pars_of a) [] slot (slot + slots_of size) (joined (taking (slots_of size)) (elim size [ None ↦ of.of_first i array value h es | Some n ↦ of.of_terms i array value h es ]))
   local_told s h w slot None no_terms place = two [] [] [] [] [] [] [] [] slot (slot + 1) (slot + 1) _ _ (took slot 1) (none_told (slot + 1))
   local_told s h w slot None (more_terms e rest) place = two [] _ [] _ [] [] [] [] slot (slot + 1) (slot + 1) _ _ (took slot 1) (term_told (slot + 1) s h w e)
   local_told s h w slot (Some n) es place =
@@ -285,7 +321,7 @@ module _
       (two [] _ [] _ [] _ [] [] slot to to _ _ (took slot (number_of n)) (elements_told to s h w slot (number_of n) 0 es place))
 
   pub locals_told : (s : List Slot) (h : Bool) → seen i s ≡ h → (slot : ℕ) (ls : List Declared) →
-      let list = lower_locals text s slot ls in Tells (vars_list list) (stmts_calls list) (pars_in list) [] slot (slots_after text slot ls) (of.of_locals i value h ls)
+      let list = lower_locals text s slot ls in Tells (vars_list list) (stmts_calls list) (pars_in list) [] slot (slots_after text slot ls) (of.of_locals i array value h ls)
   locals_told s h w slot [] = none_told slot
   locals_told s h w slot (l ∷ rest) =
       two _ _ _ _ _ _ [] [] slot (slot + slots_of l.length) (slots_after text (slot + slots_of l.length) rest) _ _ (local_told s h w slot l.length l.values l.name.place)
@@ -293,7 +329,7 @@ module _
 
   target_told : (from : ℕ) (s : List Slot) (h : Bool) → seen i s ≡ h → (name : Name) (index : Option Term) (op : Option OpAt) (x : Expr) (q : Tally) → Tells (vars_in x) (calls_of x) [] [] from from q →
       let a : Stmt = elim index [ None ↦ assign_to (stands text s name.id) op x | Some e ↦ assign_at (stands text s name.id) op (lower_term text s e) x name.place ] in
-      Tells (vars_of a) (stmt_calls a) (pars_of a) [] from from (joined (elim index [ None ↦ naming (names i h name.id) | Some e ↦ of.of_term i value h e ]) q)
+      Tells (vars_of a) (stmt_calls a) (pars_of a) [] from from (joined (elim index [ None ↦ naming (names_alone i array h name.id) | Some e ↦ joined (naming (names_indexed i array h name.id)) (of.of_term i array value h e) ]) q)
   target_told from s h w name None op x q y =
       let st = stands text s name.id in
       alike _ _ _ _ [] _ [] from from _ (set_vars v st op x) (ap (greatest u) (set_calls st op x)) (ap (folds k v worth) (set_pars st op x)) (two _ _ [] _ [] [] [] [] from from from _ _ (read_told from s h w name.id) y)
@@ -301,10 +337,10 @@ module _
       let st = stands text s name.id in
       let index = lower_term text s e in
       alike _ _ _ _ [] _ [] from from _ (at_vars v st op index x name.place) (at_calls u st op index x name.place) (ap (folds k v worth) (at_pars st op index x name.place))
-      (two _ _ _ _ [] [] [] [] from from from _ _ (term_told from s h w e) y)
+      (two _ _ _ _ [] [] [] [] from from from _ _ (two _ _ [] _ [] [] [] [] from from from _ _ (row_told from s h w name.id) (term_told from s h w e)) y)
 
   sets_told : (from : ℕ) (s : List Slot) (h : Bool) → seen i s ≡ h → (slot : ℕ) (es : Terms) →
-      let list = set_params text s slot es in Tells (vars_list list) (stmts_calls list) (pars_in list) [] from from (of.of_terms i value h es)
+      let list = set_params text s slot es in Tells (vars_list list) (stmts_calls list) (pars_in list) [] from from (of.of_terms i array value h es)
   sets_told from s h w slot no_terms = none_told from
   sets_told from s h w slot (more_terms e rest) = two _ _ _ _ [] _ [] [] from from from _ _ (term_told from s h w e) (sets_told from s h w (suc slot) rest)
 
@@ -356,7 +392,7 @@ module _
     one_user true false m n e d = cc
     one_user false true m n e d = cc
 
-    folds_one : (threads : List ℕ) (n : ℕ) → (Real → users k threads v ≡ n) → folds k v worth (threads ∷ []) ≡ of.folded i value worth known n
+    folds_one : (threads : List ℕ) (n : ℕ) → (Real → users k threads v ≡ n) → folds k v worth (threads ∷ []) ≡ of.folded i array value worth known n
     folds_one threads n h =
         ⊎_elim (λ r. (let e = ap (λ m. cond (nat_lt 1 m) worth 0) (h r) in omega (arith, e)))
         (λ z. (let a = no_worth (nat_lt 1 (users k threads v)) z in let b = no_worth (nat_lt 1 n) z in omega (arith, a, b))) either
@@ -366,14 +402,14 @@ module _
         no_worth false z = refl
 
     par_listed : (ls : List Branch) (made : List Made) (from n : ℕ) (p : Tally) → Branched ls made from p → (Real → users k (threads_in ls) v ≡ n) → (ls ≡ [] → n ≡ 0) →
-        Tells (vars_of (par_of ls)) (stmt_calls (par_of ls)) (pars_of (par_of ls)) made from from (joined (calling (of.folded i value worth known n)) p)
+        Tells (vars_of (par_of ls)) (stmt_calls (par_of ls)) (pars_of (par_of ls)) made from from (joined (calling (of.folded i array value worth known n)) p)
     par_listed [] made from n p x h z =
-        let e = ap (λ m. of.folded i value worth known m) (z refl) in
-        let none : Tells [] [] [] [] from from (calling (of.folded i value worth known n)) = record { taken = 0; named = λ r. refl; calls = omega (arith, e); slot = omega arith; words = omega arith; peak = omega arith } in
+        let e = ap (λ m. of.folded i array value worth known m) (z refl) in
+        let none : Tells [] [] [] [] from from (calling (of.folded i array value worth known n)) = record { taken = 0; named = λ r. refl; calls = omega (arith, e); slot = omega arith; words = omega arith; peak = omega arith } in
         two [] _ [] _ [] [] [] made from from from _ p none x
     par_listed (b ∷ ls) made from n p x h z =
         let e = folds_one (threads_in (b ∷ ls)) n h in
-        let one : Tells [] [] (threads_in (b ∷ ls) ∷ []) [] from from (calling (of.folded i value worth known n)) =
+        let one : Tells [] [] (threads_in (b ∷ ls) ∷ []) [] from from (calling (of.folded i array value worth known n)) =
         record { taken = 0; named = λ r. refl; calls = omega (arith, e); slot = omega arith; words = omega arith; peak = omega arith } in
         two [] _ [] _ (threads_in (b ∷ ls) ∷ []) [] [] made from from from _ p one x
 
@@ -396,7 +432,7 @@ module _
     branches_slot t s q n (by_group at body rest) =
         let l = lower_list text called n.thread [] (record { slot = 0; thread = suc n.thread; par = n.par }) body in branches_slot t s q (record { slot = n.slot; thread = l.next.thread; par = l.next.par }) rest
 
-    no_launch : (t : ℕ) (s : List Slot) (q : ℕ) (n : NextNumbers) (bs : Branches) → (lower_branches text called t s q n bs).launches ≡ [] → of.count_naming i value worth known bs ≡ 0
+    no_launch : (t : ℕ) (s : List Slot) (q : ℕ) (n : NextNumbers) (bs : Branches) → (lower_branches text called t s q n bs).launches ≡ [] → of.count_naming i array value worth known bs ≡ 0
     no_launch t s q n no_branches e = refl
     no_launch t s q n (by_call name args rest) e = cc
     no_launch t s q n (by_group at body rest) e = cc
@@ -406,7 +442,7 @@ module _
 
     mutual
       pub told : (t : ℕ) (s : List Slot) (n : NextNumbers) (h : Bool) (a : Statement) → seen i s ≡ h → SitsIn k count n.thread (lower_statement text called t s n a).made →
-          let l = lower_statement text called t s n a in Tells (vars_of l.stmt) (stmt_calls l.stmt) (pars_of l.stmt) l.made n.slot l.next.slot (of.tally i value worth known h a)
+          let l = lower_statement text called t s n a in Tells (vars_of l.stmt) (stmt_calls l.stmt) (pars_of l.stmt) l.made n.slot l.next.slot (of.tally i array value worth known h a)
       told t s n h (Nothing at) w z = none_told n.slot
       told t s n h (Group at body) w z =
           let l = lower_list text called t s n body in listed _ _ _ _ _ _ l.made n.slot l.next.slot _ (sequence_vars l.list) (sequence_calls l.list) (sequence_pars l.list) (list_told t s n h body w z)
@@ -466,7 +502,7 @@ module _
           let next : NextNumbers = record { slot = n.slot; thread = n.thread; par = par_after bs n.par } in
           let m = lower_branches text called t s n.par next bs in
           ended _ _ _ m.made n.slot n.slot m.next.slot _ (branches_slot t s n.par next bs)
-          (par_listed m.launches m.made n.slot (of.count_naming i value worth known bs) _ (branches_told t s n.par next h bs w z) (users_told t s n.par next bs z) (no_launch t s n.par next bs))
+          (par_listed m.launches m.made n.slot (of.count_naming i array value worth known bs) _ (branches_told t s n.par next h bs w z) (users_told t s n.par next bs z) (no_launch t s n.par next bs))
       told t s n h (Abort at weak immediate test body) w z =
           let l = lower_list text called t s n body in
           listed _ _ _ _ _ _ l.made n.slot l.next.slot _ (ap (λ x. vars_in (lower_term text s test) ++ x) (sequence_vars l.list)) (ap (λ x. calls_of (lower_term text s test) ++ x) (sequence_calls l.list)) (sequence_pars l.list)
@@ -474,7 +510,7 @@ module _
       told t s n h (Return at e) w z = term_told n.slot s h w e
 
       pub list_told : (t : ℕ) (s : List Slot) (n : NextNumbers) (h : Bool) (a : Statements) → seen i s ≡ h → SitsIn k count n.thread (lower_list text called t s n a).made →
-          let l = lower_list text called t s n a in Tells (vars_list l.list) (stmts_calls l.list) (pars_in l.list) l.made n.slot l.next.slot (of.all_tally i value worth known h a)
+          let l = lower_list text called t s n a in Tells (vars_list l.list) (stmts_calls l.list) (pars_in l.list) l.made n.slot l.next.slot (of.all_tally i array value worth known h a)
       list_told t s n h no_statements w z = none_told n.slot
       list_told t s n h (more_statements a rest) w z =
           let l = lower_statement text called t s n a in
@@ -484,12 +520,12 @@ module _
           (list_told t scope l.next (after i h a) rest (seen_behind i text s n.slot a h w) (sits_right k count n.thread l.next.thread l.made m.made (one_thread t s n a) z))
 
       perhaps_told : (t : ℕ) (s : List Slot) (n : NextNumbers) (h : Bool) (a : Perhaps) → seen i s ≡ h → SitsIn k count n.thread (lower_perhaps text called t s n a).made →
-          let l = lower_perhaps text called t s n a in Tells (vars_of l.stmt) (stmt_calls l.stmt) (pars_of l.stmt) l.made n.slot l.next.slot (of.perhaps_tally i value worth known h a)
+          let l = lower_perhaps text called t s n a in Tells (vars_of l.stmt) (stmt_calls l.stmt) (pars_of l.stmt) l.made n.slot l.next.slot (of.perhaps_tally i array value worth known h a)
       perhaps_told t s n h absent w z = none_told n.slot
       perhaps_told t s n h (present a) w z = told t s n h a w z
 
       branches_told : (t : ℕ) (s : List Slot) (q : ℕ) (n : NextNumbers) (h : Bool) (bs : Branches) → seen i s ≡ h → SitsIn k count n.thread (lower_branches text called t s q n bs).made →
-          let m = lower_branches text called t s q n bs in Branched m.launches m.made n.slot (of.branches_tally i value worth known h bs)
+          let m = lower_branches text called t s q n bs in Branched m.launches m.made n.slot (of.branches_tally i array value worth known h bs)
       branches_told t s q n h no_branches w z = none_told n.slot
       branches_told t s q n h (by_call name args rest) w z =
           let inner : NextNumbers = record { slot = count_terms args; thread = suc n.thread; par = n.par } in
@@ -516,7 +552,7 @@ module _
           (branches_told t s q next h rest w (sits_right k count n.thread l.next.thread first m.made (omega (arith, grew)) z))
 
       users_told : (t : ℕ) (s : List Slot) (q : ℕ) (n : NextNumbers) (bs : Branches) → SitsIn k count n.thread (lower_branches text called t s q n bs).made → Real →
-          users k (threads_in (lower_branches text called t s q n bs).launches) v ≡ of.count_naming i value worth known bs
+          users k (threads_in (lower_branches text called t s q n bs).launches) v ≡ of.count_naming i array value worth known bs
       users_told t s q n no_branches z r = refl
       users_told t s q n (by_call name args rest) z r =
           let inner : NextNumbers = record { slot = count_terms args; thread = suc n.thread; par = n.par } in
@@ -527,7 +563,7 @@ module _
           let first = low.thread_of t q (Some name.id) params b in
           let grew = threads_grow (grown name.id 0 n.thread inner).grown in
           let own = right name.id 0 n.thread inner (sits_left k count (suc n.thread) b.made m.made (below_sits n.thread _ (b.made ++ m.made) z)) in
-          one_user (contains v (uses_of k n.thread)) (known name.id).named (users k (threads_in m.launches) v) (of.count_naming i value worth known rest)
+          one_user (contains v (uses_of k n.thread)) (known name.id).named (users k (threads_in m.launches) v) (of.count_naming i array value worth known rest)
           (uses_told n.thread t q (Some name.id) params (count_terms args) b (known name.id) m.made own z r) (users_told t s q next rest (sits_right k count n.thread b.next.thread first m.made (omega (arith, grew)) z) r)
       users_told t s q n (by_group at body rest) z r =
           let inner : NextNumbers = record { slot = 0; thread = suc n.thread; par = n.par } in
@@ -538,7 +574,7 @@ module _
           let first = low.thread_of t q None 0 b in
           let grew = list_thread n.thread [] inner body in
           let own = as_one l 0 _ (list_told n.thread [] inner false body refl (sits_left k count (suc n.thread) l.made m.made (below_sits n.thread _ (l.made ++ m.made) z))) in
-          one_user (contains v (uses_of k n.thread)) (of.all_tally i value worth known false body).named (users k (threads_in m.launches) v) (of.count_naming i value worth known rest)
+          one_user (contains v (uses_of k n.thread)) (of.all_tally i array value worth known false body).named (users k (threads_in m.launches) v) (of.count_naming i array value worth known rest)
           (uses_told n.thread t q None 0 0 b _ m.made own z r) (users_told t s q next rest (sits_right k count n.thread l.next.thread first m.made (omega (arith, grew)) z) r)
 
   -- ---- functions that are put in place
@@ -547,7 +583,7 @@ module _
       ((id first t : ℕ) (n : NextNumbers) → SitsIn k count n.thread (called id first t n).made →
       Tells (vars_of (called id first t n).stmt) (stmt_calls (called id first t n).stmt) (pars_of (called id first t n).stmt) (called id first t n).made n.slot (called id first t n).next.slot (known id)) →
       (f : Option PlainFunction) (first t : ℕ) (n : NextNumbers) → let l = inlined_body text called f first t n in
-      SitsIn k count n.thread l.made → Tells (vars_of l.stmt) (stmt_calls l.stmt) (pars_of l.stmt) l.made n.slot l.next.slot (of.body_tally i value worth known f)
+      SitsIn k count n.thread l.made → Tells (vars_of l.stmt) (stmt_calls l.stmt) (pars_of l.stmt) l.made n.slot l.next.slot (of.body_tally i array value worth known f)
   body_told called known grown right None first t n z = none_told n.slot
   body_told called known grown right (Some f) first t n z =
       let l = lower_list text called t (params_at first f.params) n f.body in
@@ -555,8 +591,8 @@ module _
       (list_told called known grown right t (params_at first f.params) n (hides_params i false f.params) f.body (seen_params i f.params first) z)
 
   pub place_told : (deep id first t : ℕ) (n : NextNumbers) → let l = within nothing_inlined (inlined_step text) deep id first t n in
-      SitsIn k count n.thread l.made → Tells (vars_of l.stmt) (stmt_calls l.stmt) (pars_of l.stmt) l.made n.slot l.next.slot (within nothing (of.tally_step i value worth text) deep id)
+      SitsIn k count n.thread l.made → Tells (vars_of l.stmt) (stmt_calls l.stmt) (pars_of l.stmt) l.made n.slot l.next.slot (within nothing (of.tally_step i array value worth text) deep id)
   unfolding within
   place_told zero id first t n z = none_told n.slot
   place_told (suc deep) id first t n z =
-      body_told (within nothing_inlined (inlined_step text) deep) (within nothing (of.tally_step i value worth text) deep) (inlined_grows text deep) (place_told deep) (find_function id text) first t n z
+      body_told (within nothing_inlined (inlined_step text) deep) (within nothing (of.tally_step i array value worth text) deep) (inlined_grows text deep) (place_told deep) (find_function id text) first t n z

@@ -62,13 +62,20 @@ module _ (variable : ℕ) where
   after_perhaps hidden absent = hidden
   after_perhaps hidden (present a) = after hidden a
 
-  -- with the words of each int function, by its name
-  module _ (value : ℕ → ℕ) where
+  -- whether a name by itself names the variable, and whether one with an index does: an array is named with an index alone
+  abbrev pub names_alone : Bool → Bool → ℕ → Bool
+  names_alone array hidden id = cond array false (names hidden id)
+
+  abbrev pub names_indexed : Bool → Bool → ℕ → Bool
+  names_indexed array hidden id = cond array (names hidden id) false
+
+  -- with whether it is an array, and the words of each int function, by its name
+  module _ (array : Bool) (value : ℕ → ℕ) where
     abbrev mutual
       pub of_term : Bool → Term → Tally
       of_term hidden (Num at n) = nothing
-      of_term hidden (Read at name) = naming (names hidden name.id)
-      of_term hidden (Element at name i) = of_term hidden i
+      of_term hidden (Read at name) = naming (names_alone array hidden name.id)
+      of_term hidden (Element at name i) = joined (naming (names_indexed array hidden name.id)) (of_term hidden i)
       of_term hidden (Un at op a) = of_term hidden a
       of_term hidden (Bin at op a b) = joined (of_term hidden a) (of_term hidden b)
       of_term hidden (And at a b) = joined (of_term hidden a) (of_term hidden b)
@@ -96,7 +103,8 @@ module _ (variable : ℕ) where
     of_locals hidden (l ∷ rest) = joined (of_local hidden l) (of_locals (hides hidden l.name.id) rest)
 
     abbrev pub of_target : Bool → Written → Tally
-    of_target hidden t = elim t.index [ None ↦ naming (names hidden t.name.id) | Some i ↦ of_term hidden i ]
+    of_target hidden t =
+        elim t.index [ None ↦ naming (names_alone array hidden t.name.id) | Some i ↦ joined (naming (names_indexed array hidden t.name.id)) (of_term hidden i) ]
 
     -- a call that is inlined sets its parameters
     abbrev pub of_sets : Bool → Terms → Tally

@@ -16,20 +16,21 @@ value_by w id = value_at w.values.now (number_among is_int_function id (text_of 
 
 -- an order of functions in which what each brings follows from those before it
 abbrev pub Settled : Text → List ℕ → Type 0
-Settled text order = (variable : ℕ) (value : ℕ → ℕ) (worth : ℕ) → Settles nothing (tally_step variable value worth text) (tally_value variable value worth text) order
+Settled text order =
+    (variable : ℕ) (array : Bool) (value : ℕ → ℕ) (worth : ℕ) → Settles nothing (tally_step variable array value worth text) (tally_value variable array value worth text) order
 
 -- what a branch brings, before others
 abbrev pub AddsTally : Weights → List Tally → Bool → Branch → Tally → Type 0
 AddsTally w table hidden b own =
-    (rest : Branches) → joined own (branches_tally w.variable (value_by w) w.worth (tally_at table) hidden rest)
-    ≡ branches_tally w.variable (value_by w) w.worth (tally_at table) hidden (branch_with b rest)
+    (rest : Branches) → joined own (branches_tally w.variable w.array (value_by w) w.worth (tally_at table) hidden rest)
+    ≡ branches_tally w.variable w.array (value_by w) w.worth (tally_at table) hidden (branch_with b rest)
 
 -- how many of a branch and others name the variable
 abbrev pub AddsNaming : Weights → List Tally → Branch → ℕ → Type 0
 AddsNaming w table b own =
-    (rest : Branches) → own + count_naming w.variable (value_by w) w.worth (tally_at table) rest
-    ≡ count_naming w.variable (value_by w) w.worth (tally_at table) (branch_with b rest)
+    (rest : Branches) → own + count_naming w.variable w.array (value_by w) w.worth (tally_at table) rest
+    ≡ count_naming w.variable w.array (value_by w) w.worth (tally_at table) (branch_with b rest)
 
 -- a table of what each function brings
 abbrev pub HasTallies : Weights → List Tally → Type 0
-HasTallies w table = (id : ℕ) → tally_at table id ≡ tally_value w.variable (value_by w) w.worth (text_of w.globals.now.index) id
+HasTallies w table = (id : ℕ) → tally_at table id ≡ tally_value w.variable w.array (value_by w) w.worth (text_of w.globals.now.index) id

@@ -1,5 +1,6 @@
-//! The most words of a thread: each function is looked at once for each variable that has a combine
-//! function, after those that it calls or starts.
+//! The most words of a thread: each function is looked at once for each global that has a combine
+//! function, after those that it calls or starts. All elements of an array have the same function, and
+//! are named by the same threads.
 
 ghost use Rattle.std.specs.Prelude.{◌≡◌, ◌-◌, ◌^◌, ℕ, min, max, Some, None, IfOk, OnOk};
 ghost use Rattle.forec_tree.specs.Plain.{plain_global};
@@ -9,8 +10,8 @@ ghost use Rattle.loop_check.specs.Views.{text_of};
 ghost use Rattle.forec_check.specs.Table.{put_at, Settles};
 ghost use Rattle.forec_check.specs.Faultless.{Faultless};
 ghost use Rattle.text_kernel.specs.Bindings.{number_among, is_int_function};
-ghost use Rattle.text_kernel.specs.Items.{globals_of};
-ghost use Rattle.text_kernel.specs.Kernels.{kernel_of, main_id, variable_items};
+ghost use Rattle.text_kernel.specs.Items.{globals_of, variable_items};
+ghost use Rattle.text_kernel.specs.Kernels.{kernel_of, main_id};
 ghost use Rattle.text_chains.specs.Tallies as of;
 ghost use Rattle.text_chains.specs.Peaks as peaks;
 ghost use Rattle.text_chains.specs.Views.{value_by, Settled, HasTallies};
@@ -26,7 +27,7 @@ use std::alloc::Global;
 
 /// What the text of the function of a number brings.
 fn function_tally(w: &Weights<'_>, table: &[Tally], id: u32) -> Tally
-    ensures { result ≡ of.tally_step w.now.variable (value_by w.now) w.now.worth (text_of w.now.globals.now.index) (of.tally_at table.now) id }
+    ensures { result ≡ of.tally_step w.now.variable w.now.array (value_by w.now) w.now.worth (text_of w.now.globals.now.index) (of.tally_at table.now) id }
 {
     match find_function(&w.globals.index, id) {
         None => nothing(),
@@ -65,7 +66,7 @@ fn table_of(alloc: Global, w: &Weights<'_>, order: &[u32]) -> Result<Vec<Tally>,
 /// function of one variable.
 fn peak(alloc: Global, w: &Weights<'_>, order: &[u32], first: u32) -> Result<u64, OutOfMemory>
     requires { Settled (text_of w.now.globals.now.index) order.now }
-    ensures { IfOk result (λ n. n ≡ peaks.peak_by w.now.variable (value_by w.now) w.now.worth (text_of w.now.globals.now.index) first) }
+    ensures { IfOk result (λ n. n ≡ peaks.peak_by w.now.variable w.now.array (value_by w.now) w.now.worth (text_of w.now.globals.now.index) first) }
 {
     let table = table_of(alloc, w, order)?;
     Ok(started(0, known_of(&table, first)).peak)
@@ -80,10 +81,8 @@ fn peak_with(
     global: &Declared,
 ) -> Result<u64, OutOfMemory>
     requires { Settled (text_of w.now.globals.now.index) order.now }
-    ensures { IfOk result (λ n. n ≡ elim (plain_global global.now).combine [
-      | None ↦ 0
-      | Some c ↦ peaks.peak_by (plain_global global.now).name.id (value_by w.now) (value_by w.now c.with.id) (text_of w.now.globals.now.index) first
-    ]) }
+    ensures { IfOk result (λ n. n ≡ peaks.peak_of (value_by w.now) (text_of w.now.globals.now.index) first
+        (plain_global global.now)) }
 {
     match global.combine {
         None => Ok(0),
@@ -92,6 +91,7 @@ fn peak_with(
                 globals: w.globals,
                 values: w.values,
                 variable: global.name.id,
+                array: global.stated_length().is_some(),
                 worth: value(w, combine.with.id),
             };
             peak(alloc, &own, order, first)
@@ -110,7 +110,7 @@ fn peaks_with(
     requires { Settled (text_of w.now.globals.now.index) order.now }
     ensures { IfOk result (λ n. n ≡ peaks.peak_over (value_by w.now) (text_of w.now.globals.now.index) first (globals_of globals.now)) }
 {
-    let mut most = 0;
+    let mut most: u64 = 0;
     for global in globals {
         most = most.max(peak_with(alloc, w, order, first, global)?);
     }
@@ -120,7 +120,7 @@ fn peaks_with(
 /// The most words of a thread of a program that breaks no rule and starts with the function of a name, with
 /// those along the chains of calls of the int functions that it can call, combine functions among them.
 /// `values` has the words along these chains, by the number of the int function where they begin, and
-/// `variables` all variables. Nothing is inlined for it.
+/// `variables` all globals that aren't constants. Nothing is inlined for it.
 pub fn most_words(
     alloc: Global,
     globals: &Globals<'_>,
@@ -132,7 +132,7 @@ pub fn most_words(
     requires free { (f : ℕ) → Leads (callees_of (text_of globals.now.index)) f f → ⊥ }
     requires faultless { Faultless (text_of globals.now.index) names.now }
     requires first { first ≡ main_id (text_of globals.now.index) names.now }
-    requires variables { globals_of variables.now ≡ variable_items (text_of globals.now.index) names.now (text_of globals.now.index) }
+    requires variables { globals_of variables.now ≡ variable_items (text_of globals.now.index) }
     ensures { IfOk result (λ n. n ≡ min (peaks.most_words (of.value_at values.now) (kernel_of (text_of globals.now.index) names.now)) (2 ^ 64 - 1)) }
 {
     let calls = read_calls(alloc, &globals.index)?;
@@ -141,6 +141,7 @@ pub fn most_words(
         globals,
         values,
         variable: 0,
+        array: false,
         worth: 0,
     };
     let most = peak(alloc, &none, &order, first)?;

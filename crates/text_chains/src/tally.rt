@@ -19,12 +19,13 @@ pub struct Tally {
 }
 
 /// The words of each int function and of all that it calls, by its number, and those of the combine
-/// function of one variable, whose name is given.
+/// function of one variable or array, whose name is given.
 #[derive(Clone, Copy)]
 pub struct Weights<'a> {
     pub globals: &'a Globals<'a>,
     pub values: &'a [u64],
     pub variable: u32,
+    pub array: bool,
     pub worth: u64,
 }
 
@@ -122,10 +123,24 @@ pub fn value(w: &Weights<'_>, id: u32) -> u64
 }
 
 /// Whether a name is the variable's, where no local hides it.
-pub fn names(w: &Weights<'_>, hidden: bool, id: u32) -> bool
+fn names(w: &Weights<'_>, hidden: bool, id: u32) -> bool
     ensures { result ≡ of.names w.now.variable hidden id }
 {
     !hidden && id == w.variable
+}
+
+/// Whether a name by itself names the variable: not where it is an array.
+pub fn names_alone(w: &Weights<'_>, hidden: bool, id: u32) -> bool
+    ensures { result ≡ of.names_alone w.now.variable w.now.array hidden id }
+{
+    !w.array && names(w, hidden, id)
+}
+
+/// Whether a name with an index names the variable: where it is an array.
+pub fn names_indexed(w: &Weights<'_>, hidden: bool, id: u32) -> bool
+    ensures { result ≡ of.names_indexed w.now.variable w.now.array hidden id }
+{
+    w.array && names(w, hidden, id)
 }
 
 /// Whether the variable is hidden after a local of a name.

@@ -5,19 +5,25 @@ ghost use Rattle.forec_tree.specs.Plain as plain;
 ghost use Rattle.text_chains.specs.Tallies as of;
 ghost use Rattle.text_chains.specs.Views.{value_by};
 
-use crate::tally::{Tally, Weights, calling, hides, joined, names, naming, nothing, taking, value};
+use crate::tally::{
+    Tally, Weights, calling, hides, joined, names_alone, names_indexed, naming, nothing, taking,
+    value,
+};
 use forec_tree::{Expr, ExprKind, Local, Name, Target};
 use text_kernel::slots_of;
 
 /// An expression.
 #[cycle(terms)]
 pub fn term(w: &Weights<'_>, hidden: bool, e: &Expr) -> Tally
-    ensures { result ≡ of.of_term w.now.variable (value_by w.now) hidden (plain.term e.now) }
+    ensures { result ≡ of.of_term w.now.variable w.now.array (value_by w.now) hidden (plain.term e.now) }
 {
     match &e.what {
         ExprKind::Number { .. } => nothing(),
-        ExprKind::Read { name } => naming(names(w, hidden, name.id)),
-        ExprKind::Element { index, .. } => term(w, hidden, index),
+        ExprKind::Read { name } => naming(names_alone(w, hidden, name.id)),
+        ExprKind::Element { name, index } => {
+            let named = naming(names_indexed(w, hidden, name.id));
+            joined(named, term(w, hidden, index))
+        }
         ExprKind::Unary { of, .. } => term(w, hidden, of),
         ExprKind::Binary { left, right, .. } => joined(
             term(w, hidden, left),
@@ -41,7 +47,7 @@ pub fn term(w: &Weights<'_>, hidden: bool, e: &Expr) -> Tally
 /// Expressions, one after the other.
 #[cycle(terms)]
 pub fn terms(w: &Weights<'_>, hidden: bool, list: &[Expr]) -> Tally
-    ensures { result ≡ of.of_terms w.now.variable (value_by w.now) hidden (plain.terms list.now) }
+    ensures { result ≡ of.of_terms w.now.variable w.now.array (value_by w.now) hidden (plain.terms list.now) }
 {
     let mut total = nothing();
     for e in list {
@@ -52,7 +58,7 @@ pub fn terms(w: &Weights<'_>, hidden: bool, list: &[Expr]) -> Tally
 
 /// An optional test.
 pub fn optional_term(w: &Weights<'_>, hidden: bool, e: &Option<Expr>) -> Tally
-    ensures { result ≡ of.of_optional w.now.variable (value_by w.now) hidden (plain.optional_term e.now) }
+    ensures { result ≡ of.of_optional w.now.variable w.now.array (value_by w.now) hidden (plain.optional_term e.now) }
 {
     match e {
         None => nothing(),
@@ -62,23 +68,26 @@ pub fn optional_term(w: &Weights<'_>, hidden: bool, e: &Option<Expr>) -> Tally
 
 /// What an assignment writes to.
 pub fn target(w: &Weights<'_>, hidden: bool, t: &Target) -> Tally
-    ensures { result ≡ of.of_target w.now.variable (value_by w.now) hidden (plain.written t.now) }
+    ensures { result ≡ of.of_target w.now.variable w.now.array (value_by w.now) hidden (plain.written t.now) }
 {
     match &t.index {
-        None => naming(names(w, hidden, t.name.id)),
-        Some(index) => term(w, hidden, index),
+        None => naming(names_alone(w, hidden, t.name.id)),
+        Some(index) => {
+            let named = naming(names_indexed(w, hidden, t.name.id));
+            joined(named, term(w, hidden, index))
+        }
     }
 }
 
 /// The arguments of a call that is inlined: each is set to a word of its own.
 pub fn sets(w: &Weights<'_>, hidden: bool, args: &[Expr]) -> Tally
-    ensures { result ≡ of.of_sets w.now.variable (value_by w.now) hidden (plain.terms args.now) }
+    ensures { result ≡ of.of_sets w.now.variable w.now.array (value_by w.now) hidden (plain.terms args.now) }
 {
     joined(taking(args.len() as u64), terms(w, hidden, args))
 }
 
 fn local(w: &Weights<'_>, hidden: bool, l: &Local) -> Tally
-    ensures { result ≡ of.of_local w.now.variable (value_by w.now) hidden (plain.declared l.now) }
+    ensures { result ≡ of.of_local w.now.variable w.now.array (value_by w.now) hidden (plain.declared l.now) }
 {
     let list = l.values.as_slice();
     let values = match l.length {
@@ -93,7 +102,7 @@ fn local(w: &Weights<'_>, hidden: bool, l: &Local) -> Tally
 
 /// A declaration. Each initial value stands before its name.
 pub fn locals(w: &Weights<'_>, hidden: bool, list: &[Local]) -> Tally
-    ensures { result ≡ of.of_locals w.now.variable (value_by w.now) hidden (map plain.declared list.now) }
+    ensures { result ≡ of.of_locals w.now.variable w.now.array (value_by w.now) hidden (map plain.declared list.now) }
 {
     let mut total = nothing();
     let mut now_hidden = hidden;

@@ -155,6 +155,7 @@ module _ (text : Text) where
   read_calls (st.AtSlot slot) = refl
   read_calls (st.AtSlots slot size) = refl
   read_calls (st.AsVariable v) = refl
+  read_calls (st.AsVariables v n) = refl
   read_calls (st.AsNumber n) = refl
   read_calls (st.AsTable t) = refl
   read_calls st.AsNothing = refl
@@ -163,6 +164,7 @@ module _ (text : Text) where
   element_calls (st.AtSlot slot) i place = refl
   element_calls (st.AtSlots slot size) i place = refl
   element_calls (st.AsVariable v) i place = refl
+  element_calls (st.AsVariables v n) i place = refl
   element_calls (st.AsNumber n) i place = refl
   element_calls (st.AsTable t) i place = refl
   element_calls st.AsNothing i place = refl
@@ -219,6 +221,7 @@ module _ (text : Text) where
     to_named fs (st.AtSlot slot) op value g = operated_named fs op (kernel.Local slot) value (none_named fs) g
     to_named fs (st.AsVariable v) op value g = operated_named fs op (kernel.Var v) value (none_named fs) g
     to_named fs (st.AtSlots slot size) op value g = operated_named fs op (kernel.Num (Rattle.std.specs.Prelude.pos 0)) value (none_named fs) g
+    to_named fs (st.AsVariables v n) op value g = operated_named fs op (kernel.Num (Rattle.std.specs.Prelude.pos 0)) value (none_named fs) g
     to_named fs (st.AsNumber n) op value g = operated_named fs op (kernel.Num (Rattle.std.specs.Prelude.pos 0)) value (none_named fs) g
     to_named fs (st.AsTable t) op value g = operated_named fs op (kernel.Num (Rattle.std.specs.Prelude.pos 0)) value (none_named fs) g
     to_named fs st.AsNothing op value g = operated_named fs op (kernel.Num (Rattle.std.specs.Prelude.pos 0)) value (none_named fs) g
@@ -228,6 +231,7 @@ module _ (text : Text) where
     at_named fs (st.AtSlots slot size) op i value place h g = both_named fs (wf.calls_of i) _ h (operated_named fs op (kernel.LocalAt slot size i place) value h g)
     at_named fs (st.AtSlot slot) op i value place h g = both_named fs (wf.calls_of i) _ h (operated_named fs op (kernel.LocalAt 0 0 i place) value h g)
     at_named fs (st.AsVariable v) op i value place h g = both_named fs (wf.calls_of i) _ h (operated_named fs op (kernel.LocalAt 0 0 i place) value h g)
+    at_named fs (st.AsVariables v n) op i value place h g = both_named fs (wf.calls_of i) _ h (operated_named fs op (kernel.SharedAt v n i place) value h g)
     at_named fs (st.AsNumber n) op i value place h g = both_named fs (wf.calls_of i) _ h (operated_named fs op (kernel.LocalAt 0 0 i place) value h g)
     at_named fs (st.AsTable t) op i value place h g = both_named fs (wf.calls_of i) _ h (operated_named fs op (kernel.LocalAt 0 0 i place) value h g)
     at_named fs st.AsNothing op i value place h g = both_named fs (wf.calls_of i) _ h (operated_named fs op (kernel.LocalAt 0 0 i place) value h g)

@@ -4,12 +4,13 @@ use Rattle.std.proofs.lemmas.Bool.Decides.{nat_tests}
 use Rattle.std.proofs.lemmas.Bool.{and_from}
 use Rattle.std.proofs.lemmas.List.{length-map}
 use Rattle.forec_tree.specs.declared.tree.GlobalKind.{GlobalKind}
-use Rattle.forec_tree.specs.Terms.{Text, PlainGlobal}
+use Rattle.forec_tree.specs.Terms.{Text}
+use Rattle.forec_tree.specs.Variables.{PlainVariable, variables}
 use Rattle.forec_tree.specs.Rules.{is_input, is_output}
 use Rattle.forec_tree.specs.Faults.{is_in}
 use Rattle.forec_kernel.specs.Combining.{contains}
 use Rattle.forec_kernel.specs.WellFormed.{ascends, count_up, distinct, all_below}
-use Rattle.text_kernel.specs.Kernels.{kernel_of, filter_in, numbers_of, variable_items, variable_shape}
+use Rattle.text_kernel.specs.Kernels.{kernel_of, filter_in, numbers_of, variable_shape}
 
 -- all of a list is from a number on, and it ascends
 pub data Rising : ℕ → List ℕ → Type 0 where
@@ -44,17 +45,17 @@ filter_rises named from (suc n) = pick (is_in from named) (filter_rises named (s
     pick false r = rises_from from (suc from) (filter_in named (count_up (suc from) n)) (omega arith) r
 
 module _ (text : Text) (names : List (List ℕ)) where
-  numbers_rise : (sort : GlobalKind → Bool) (n : ℕ) (gs : List PlainGlobal) → Rising n (numbers_of text names sort n gs)
+  numbers_rise : (sort : GlobalKind → Bool) (n : ℕ) (vs : List PlainVariable) → Rising n (numbers_of text names sort n vs)
   numbers_rise sort n [] = ends
-  numbers_rise sort n (g ∷ rest) = pick (sort g.kind) (numbers_rise sort (suc n) rest)
+  numbers_rise sort n (v ∷ rest) = pick (sort v.global.kind) (numbers_rise sort (suc n) rest)
     where
       pick : (b : Bool) → Rising (suc n) (numbers_of text names sort (suc n) rest) → Rising n (cond b (n ∷ numbers_of text names sort (suc n) rest) (numbers_of text names sort (suc n) rest))
       pick true r = goes (omega arith) r
       pick false r = rises_from n (suc n) (numbers_of text names sort (suc n) rest) (omega arith) r
 
-  numbers_below : (sort : GlobalKind → Bool) (n to : ℕ) (gs : List PlainGlobal) → n + length gs ≤ to → all_below to (numbers_of text names sort n gs) ≡ true
+  numbers_below : (sort : GlobalKind → Bool) (n to : ℕ) (vs : List PlainVariable) → n + length vs ≤ to → all_below to (numbers_of text names sort n vs) ≡ true
   numbers_below sort n to [] l = refl
-  numbers_below sort n to (g ∷ rest) l = pick (sort g.kind) (numbers_below sort (suc n) to rest (omega arith))
+  numbers_below sort n to (v ∷ rest) l = pick (sort v.global.kind) (numbers_below sort (suc n) to rest (omega arith))
     where
       pick : (b : Bool) → all_below to (numbers_of text names sort (suc n) rest) ≡ true → all_below to (cond b (n ∷ numbers_of text names sort (suc n) rest) (numbers_of text names sort (suc n) rest)) ≡ true
       pick true h = let less : nat_lt n to ≡ true = grind (arith, nat_tests) in and_from (nat_lt n to) (all_below to (numbers_of text names sort (suc n) rest)) less h
@@ -62,24 +63,24 @@ module _ (text : Text) (names : List (List ℕ)) where
 
   pub names_each : length (kernel_of text names).shape.names ≡ length (kernel_of text names).shape.variables
   unfolding kernel_of
-  names_each = length-map (variable_items text names text) _ ∙ sym (length-map (variable_items text names text) (variable_shape text names))
+  names_each = length-map (variables text) _ ∙ sym (length-map (variables text) (variable_shape text names))
 
   pub inputs_once : IsTrue (distinct (kernel_of text names).shape.inputs)
   unfolding kernel_of
-  inputs_once = rising_distinct (numbers_of text names is_input 0 (variable_items text names text)) (numbers_rise is_input 0 (variable_items text names text))
+  inputs_once = rising_distinct (numbers_of text names is_input 0 (variables text)) (numbers_rise is_input 0 (variables text))
 
   pub outputs_once : IsTrue (distinct (kernel_of text names).shape.outputs)
   unfolding kernel_of
-  outputs_once = rising_distinct (numbers_of text names is_output 0 (variable_items text names text)) (numbers_rise is_output 0 (variable_items text names text))
+  outputs_once = rising_distinct (numbers_of text names is_output 0 (variables text)) (numbers_rise is_output 0 (variables text))
 
   pub inputs_named : IsTrue (all_below (length (kernel_of text names).shape.variables) (kernel_of text names).shape.inputs)
   unfolding kernel_of
   inputs_named =
-      let n = length-map (variable_items text names text) (variable_shape text names) in
-      numbers_below is_input 0 (length (map (variable_shape text names) (variable_items text names text))) (variable_items text names text) (omega (arith, n))
+      let n = length-map (variables text) (variable_shape text names) in
+      numbers_below is_input 0 (length (map (variable_shape text names) (variables text))) (variables text) (omega (arith, n))
 
   pub outputs_named : IsTrue (all_below (length (kernel_of text names).shape.variables) (kernel_of text names).shape.outputs)
   unfolding kernel_of
   outputs_named =
-      let n = length-map (variable_items text names text) (variable_shape text names) in
-      numbers_below is_output 0 (length (map (variable_shape text names) (variable_items text names text))) (variable_items text names text) (omega (arith, n))
+      let n = length-map (variables text) (variable_shape text names) in
+      numbers_below is_output 0 (length (map (variable_shape text names) (variables text))) (variables text) (omega (arith, n))

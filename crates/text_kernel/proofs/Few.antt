@@ -1,15 +1,17 @@
 -- How many functions, inputs and outputs there are: rules 24 and 22.
-use Rattle.std.proofs.Common.{ℕ, suc, ◌+◌, ◌≤◌, ◌≡◌, ◌∙◌, sym, ap, refl, Bool, true, false, cond, ◌&&◌, ◌||◌, nat_lt, nat_le, List, [], ◌∷◌, length, arith}
+use Rattle.std.proofs.Common.{ℕ, zero, suc, ◌+◌, ◌≤◌, ◌≡◌, ◌∙◌, sym, ap, refl, Bool, true, false, cond, ◌&&◌, ◌||◌, nat_lt, nat_le, Option, Some, None, List, [], ◌∷◌, ◌++◌, length, arith}
 use Rattle.std.proofs.lemmas.Bool.Decides.{nat_tests}
 use Rattle.std.proofs.lemmas.List.{length-map}
 use Rattle.forec_tree.specs.declared.tree.GlobalKind.{GlobalKind}
 use Rattle.forec_tree.specs.declared.tree.GlobalKind.TheVariants.{Const, Input, Output, Plain, Shared, SharedOutput}
 use Rattle.forec_tree.specs.Terms.{Text, PlainItem, PlainGlobal, IsGlobal, IsFunction}
-use Rattle.forec_tree.specs.Scopes.{is_constant}
+use Rattle.forec_tree.specs.declared.tree.Number.{Number}
+use Rattle.forec_tree.specs.Scopes.{is_constant, may_be_array, stated_length}
+use Rattle.forec_tree.specs.Variables.{PlainVariable, elements, width, elements_from, variables_of, variables}
 use Rattle.forec_tree.specs.Rules.{fault_if, is_input, is_output, is_long, length_faults, too_many}
-use Rattle.forec_tree.specs.Faults.{Before, none_before, after_item, one_if, item_named, combine_faults, item_faults, items_faults}
+use Rattle.forec_tree.specs.Faults.{Before, none_before, after_item, one_if, output_count, runs_over, item_named, combine_faults, item_faults, items_faults}
 use Rattle.text_kernel.specs.Kernels as kernels
-use Rattle.text_kernel.specs.Kernels.{kernel_of, int_functions, variable_items, numbers_of}
+use Rattle.text_kernel.specs.Kernels.{kernel_of, int_functions, numbers_of}
 use Rattle.text_kernel.proofs.Fine.{none_left, none_right, not_broken}
 use Rattle.text_kernel.proofs.Faultless.{Clean}
 
@@ -41,6 +43,22 @@ output_no Plain h = cc
 output_no Shared h = cc
 output_no SharedOutput h = refl
 
+-- an input is no array
+input_array : (k : GlobalKind) → is_input k ≡ true → may_be_array k ≡ false
+input_array Const h = cc
+input_array Input h = refl
+input_array Output h = refl
+input_array Plain h = refl
+input_array Shared h = cc
+input_array SharedOutput h = cc
+
+input_single : (g : PlainGlobal) → is_input g.kind ≡ true → width g ≡ 1
+input_single g h = ap (λ b. elim (cond b g.length None) [ None ↦ 1 | Some n ↦ elements n ]) (input_array g.kind h)
+
+not_over : (most before more : ℕ) → runs_over most before more ≡ false → before ≤ most → before + more ≤ most
+not_over most before zero h l = omega arith
+not_over most before (suc more) h l = grind (arith, nat_tests)
+
 module _ (text : Text) (names : List (List ℕ)) where
   functions_few : (b : Before) (xs : List PlainItem) → items_faults text names b xs ≡ [] → b.functions ≤ 1024 → b.functions + length (int_functions text names xs) ≤ 1024
   functions_few b [] h l = omega arith
@@ -57,7 +75,7 @@ module _ (text : Text) (names : List (List ℕ)) where
       elim f.gives as (λ q. b.functions + length (cond q (f ∷ int_functions text names xs) (int_functions text names xs)) ≤ 1024) [ true ↦ omega (arith, r) | false ↦ omega (arith, r) ]
 
   -- rule 22 at a global
-  limits : (b : Before) (g : PlainGlobal) → item_faults text names b (IsGlobal g) ≡ [] → ((is_input g.kind && nat_le 64 b.inputs) || (is_output g.kind && nat_le 64 b.outputs)) ≡ false
+  limits : (b : Before) (g : PlainGlobal) → item_faults text names b (IsGlobal g) ≡ [] → ((is_input g.kind && nat_le 64 b.inputs) || runs_over 64 b.outputs (output_count g)) ≡ false
   limits b g h =
       let h1 = none_right (fault_if (item_named g.name.id b.items) g.name.place 2) _ h in
       let h2 = none_right (length_faults g.length) _ h1 in
@@ -65,7 +83,64 @@ module _ (text : Text) (names : List (List ℕ)) where
       let h4 = none_right (fault_if (is_long names g.name.id) g.name.place 21) _ h3 in
       not_broken _ g.name.place 22 (none_right (combine_faults text g.combine) _ h4)
 
-  inputs_few : (b : Before) (xs : List PlainItem) (n : ℕ) → items_faults text names b xs ≡ [] → b.inputs ≤ 64 → b.inputs + length (numbers_of text names is_input n (variable_items text names xs)) ≤ 64
+  -- of the variables of a global all are of a sort, or none
+  elements_front : (sort : GlobalKind → Bool) (g : PlainGlobal) (b : Bool) → sort g.kind ≡ b → (n index count : ℕ) (rest : List PlainVariable) →
+      length (numbers_of text names sort n (elements_from g index count ++ rest)) ≡ cond b count 0 + length (numbers_of text names sort (n + count) rest)
+  elements_front sort g true e n index zero rest =
+      let z : n ≡ n + 0 = omega arith in
+      let there = ap (λ m. length (numbers_of text names sort m rest)) z in
+      omega (arith, there)
+  elements_front sort g false e n index zero rest =
+      let z : n ≡ n + 0 = omega arith in
+      let there = ap (λ m. length (numbers_of text names sort m rest)) z in
+      omega (arith, there)
+  elements_front sort g true e n index (suc count) rest =
+      let more = numbers_of text names sort (suc n) (elements_from g (suc index) count ++ rest) in
+      let one = ap (λ b. length (cond b (n ∷ more) more)) e in
+      let others = elements_front sort g true e (suc n) (suc index) count rest in
+      let z : suc n + count ≡ n + suc count = omega arith in
+      let there = ap (λ m. length (numbers_of text names sort m rest)) z in
+      omega (arith, one, others, there)
+  elements_front sort g false e n index (suc count) rest =
+      let more = numbers_of text names sort (suc n) (elements_from g (suc index) count ++ rest) in
+      let one = ap (λ b. length (cond b (n ∷ more) more)) e in
+      let others = elements_front sort g false e (suc n) (suc index) count rest in
+      let z : suc n + count ≡ n + suc count = omega arith in
+      let there = ap (λ m. length (numbers_of text names sort m rest)) z in
+      omega (arith, one, others, there)
+
+  global_front : (sort : GlobalKind → Bool) (g : PlainGlobal) (b : Bool) → sort g.kind ≡ b → (n : ℕ) (rest : List PlainVariable) →
+      length (numbers_of text names sort n (variables_of g ++ rest)) ≡ cond b (width g) 0 + length (numbers_of text names sort (n + width g) rest)
+  global_front sort g b e n rest = pick (stated_length g) b e
+    where
+      pick : (o : Option Number) (b : Bool) → sort g.kind ≡ b →
+          length (numbers_of text names sort n (elim o [ None ↦ record { global = g; index = None } ∷ [] | Some k ↦ elements_from g 0 (elements k) ] ++ rest))
+          ≡ cond b (elim o [ None ↦ 1 | Some k ↦ elements k ]) 0 + length (numbers_of text names sort (n + elim o [ None ↦ 1 | Some k ↦ elements k ]) rest)
+      pick (Some k) b d = elements_front sort g b d n 0 (elements k) rest
+      pick None true d =
+          let more = numbers_of text names sort (suc n) rest in
+          let one = ap (λ b. length (cond b (n ∷ more) more)) d in
+          let z : suc n ≡ n + 1 = omega arith in
+          let there = ap (λ m. length (numbers_of text names sort m rest)) z in
+          omega (arith, one, there)
+      pick None false d =
+          let more = numbers_of text names sort (suc n) rest in
+          let one = ap (λ b. length (cond b (n ∷ more) more)) d in
+          let z : suc n ≡ n + 1 = omega arith in
+          let there = ap (λ m. length (numbers_of text names sort m rest)) z in
+          omega (arith, one, there)
+
+  -- the variables of one item before those of others
+  item_front : (sort : GlobalKind → Bool) (g : PlainGlobal) (c d : Bool) → is_constant g.kind ≡ c → sort g.kind ≡ d → (xs : List PlainItem) (n : ℕ) →
+      length (numbers_of text names sort n (variables (IsGlobal g ∷ xs)))
+      ≡ cond c 0 (cond d (width g) 0) + length (numbers_of text names sort (cond c n (n + width g)) (variables xs))
+  item_front sort g true d e q xs n =
+      let all = ap (λ b. length (numbers_of text names sort n (cond b (variables xs) (variables_of g ++ variables xs)))) e in
+      omega (arith, all)
+  item_front sort g false d e q xs n =
+      ap (λ b. length (numbers_of text names sort n (cond b (variables xs) (variables_of g ++ variables xs)))) e ∙ global_front sort g d q n (variables xs)
+
+  inputs_few : (b : Before) (xs : List PlainItem) (n : ℕ) → items_faults text names b xs ≡ [] → b.inputs ≤ 64 → b.inputs + length (numbers_of text names is_input n (variables xs)) ≤ 64
   inputs_few b [] n h l = omega arith
   inputs_few b (IsFunction f ∷ xs) n h l =
       inputs_few (after_item b (IsFunction f)) xs n (none_right (item_faults text names b (IsFunction f)) (items_faults text names (after_item b (IsFunction f)) xs) h) l
@@ -75,61 +150,51 @@ module _ (text : Text) (names : List (List ℕ)) where
       pick (is_constant g.kind) (is_input g.kind) refl refl broken (λ m k. inputs_few (after_item b (IsGlobal g)) xs m more k)
     where
       pick : (c d : Bool) → is_constant g.kind ≡ c → is_input g.kind ≡ d → (is_input g.kind && nat_le 64 b.inputs) ≡ false →
-          ((m : ℕ) → b.inputs + one_if (is_input g.kind) ≤ 64 → (b.inputs + one_if (is_input g.kind)) + length (numbers_of text names is_input m (variable_items text names xs)) ≤ 64) →
-          b.inputs + length (numbers_of text names is_input n (variable_items text names (IsGlobal g ∷ xs))) ≤ 64
+          ((m : ℕ) → b.inputs + one_if (is_input g.kind) ≤ 64 → (b.inputs + one_if (is_input g.kind)) + length (numbers_of text names is_input m (variables xs)) ≤ 64) →
+          b.inputs + length (numbers_of text names is_input n (variables (IsGlobal g ∷ xs))) ≤ 64
       pick true true e q w r = let bad : true ≡ false = sym e ∙ constant_no g.kind q in cc
       pick true false e q w r =
           let z = ap one_if q in
           let k = r n (omega (arith, z, l)) in
-          let same = ap (λ c. length (numbers_of text names is_input n (cond c (variable_items text names xs) (g ∷ variable_items text names xs)))) e in
-          omega (arith, k, z, same)
+          let front = item_front is_input g true false e q xs n in
+          omega (arith, k, z, front)
       pick false true e q w r =
           let z = ap one_if q in
           let low : nat_le 64 b.inputs ≡ false = and_second (is_input g.kind) (nat_le 64 b.inputs) w q in
           let up : suc b.inputs ≤ 64 = grind (arith, nat_tests) in
-          let k = r (suc n) (omega (arith, z, up)) in
-          let same = ap (λ c. length (numbers_of text names is_input n (cond c (variable_items text names xs) (g ∷ variable_items text names xs)))) e in
-          let next = ap (λ c. length (cond c (n ∷ numbers_of text names is_input (suc n) (variable_items text names xs)) (numbers_of text names is_input (suc n) (variable_items text names xs)))) q in
-          omega (arith, k, z, same, next)
+          let k = r (n + width g) (omega (arith, z, up)) in
+          let front = item_front is_input g false true e q xs n in
+          let one = input_single g q in
+          omega (arith, k, z, front, one)
       pick false false e q w r =
           let z = ap one_if q in
-          let k = r (suc n) (omega (arith, z, l)) in
-          let same = ap (λ c. length (numbers_of text names is_input n (cond c (variable_items text names xs) (g ∷ variable_items text names xs)))) e in
-          let next = ap (λ c. length (cond c (n ∷ numbers_of text names is_input (suc n) (variable_items text names xs)) (numbers_of text names is_input (suc n) (variable_items text names xs)))) q in
-          omega (arith, k, z, same, next)
+          let k = r (n + width g) (omega (arith, z, l)) in
+          let front = item_front is_input g false false e q xs n in
+          omega (arith, k, z, front)
 
-  outputs_few : (b : Before) (xs : List PlainItem) (n : ℕ) → items_faults text names b xs ≡ [] → b.outputs ≤ 64 → b.outputs + length (numbers_of text names is_output n (variable_items text names xs)) ≤ 64
+  outputs_few : (b : Before) (xs : List PlainItem) (n : ℕ) → items_faults text names b xs ≡ [] → b.outputs ≤ 64 → b.outputs + length (numbers_of text names is_output n (variables xs)) ≤ 64
   outputs_few b [] n h l = omega arith
   outputs_few b (IsFunction f ∷ xs) n h l =
       outputs_few (after_item b (IsFunction f)) xs n (none_right (item_faults text names b (IsFunction f)) (items_faults text names (after_item b (IsFunction f)) xs) h) l
   outputs_few b (IsGlobal g ∷ xs) n h l =
       let broken = or_second _ _ (limits b g (none_left (item_faults text names b (IsGlobal g)) (items_faults text names (after_item b (IsGlobal g)) xs) h)) in
       let more = none_right (item_faults text names b (IsGlobal g)) (items_faults text names (after_item b (IsGlobal g)) xs) h in
-      pick (is_constant g.kind) (is_output g.kind) refl refl broken (λ m k. outputs_few (after_item b (IsGlobal g)) xs m more k)
+      let fits = not_over 64 b.outputs (output_count g) broken l in
+      pick (is_constant g.kind) (is_output g.kind) refl refl (λ m. outputs_few (after_item b (IsGlobal g)) xs m more fits)
     where
-      pick : (c d : Bool) → is_constant g.kind ≡ c → is_output g.kind ≡ d → (is_output g.kind && nat_le 64 b.outputs) ≡ false →
-          ((m : ℕ) → b.outputs + one_if (is_output g.kind) ≤ 64 → (b.outputs + one_if (is_output g.kind)) + length (numbers_of text names is_output m (variable_items text names xs)) ≤ 64) →
-          b.outputs + length (numbers_of text names is_output n (variable_items text names (IsGlobal g ∷ xs))) ≤ 64
-      pick true true e q w r = let bad : true ≡ false = sym e ∙ output_no g.kind q in cc
-      pick true false e q w r =
-          let z = ap one_if q in
-          let k = r n (omega (arith, z, l)) in
-          let same = ap (λ c. length (numbers_of text names is_output n (cond c (variable_items text names xs) (g ∷ variable_items text names xs)))) e in
-          omega (arith, k, z, same)
-      pick false true e q w r =
-          let z = ap one_if q in
-          let low : nat_le 64 b.outputs ≡ false = and_second (is_output g.kind) (nat_le 64 b.outputs) w q in
-          let up : suc b.outputs ≤ 64 = grind (arith, nat_tests) in
-          let k = r (suc n) (omega (arith, z, up)) in
-          let same = ap (λ c. length (numbers_of text names is_output n (cond c (variable_items text names xs) (g ∷ variable_items text names xs)))) e in
-          let next = ap (λ c. length (cond c (n ∷ numbers_of text names is_output (suc n) (variable_items text names xs)) (numbers_of text names is_output (suc n) (variable_items text names xs)))) q in
-          omega (arith, k, z, same, next)
-      pick false false e q w r =
-          let z = ap one_if q in
-          let k = r (suc n) (omega (arith, z, l)) in
-          let same = ap (λ c. length (numbers_of text names is_output n (cond c (variable_items text names xs) (g ∷ variable_items text names xs)))) e in
-          let next = ap (λ c. length (cond c (n ∷ numbers_of text names is_output (suc n) (variable_items text names xs)) (numbers_of text names is_output (suc n) (variable_items text names xs)))) q in
-          omega (arith, k, z, same, next)
+      pick : (c d : Bool) → is_constant g.kind ≡ c → is_output g.kind ≡ d →
+          ((m : ℕ) → (b.outputs + output_count g) + length (numbers_of text names is_output m (variables xs)) ≤ 64) →
+          b.outputs + length (numbers_of text names is_output n (variables (IsGlobal g ∷ xs))) ≤ 64
+      pick true true e q r = let bad : true ≡ false = sym e ∙ output_no g.kind q in cc
+      pick true false e q r =
+          let k = r n in
+          let front = item_front is_output g true false e q xs n in
+          omega (arith, k, front)
+      pick false d e q r =
+          let k = r (n + width g) in
+          let front = item_front is_output g false d e q xs n in
+          let count : output_count g ≡ cond d (width g) 0 = ap (λ b. cond b (width g) 0) q in
+          omega (arith, k, front, count)
 
   module _ (clean : Clean text names) where
     pub few_functions : length (kernel_of text names).functions ≤ 1024

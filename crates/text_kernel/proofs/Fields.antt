@@ -2,14 +2,16 @@
 use Rattle.std.proofs.Common.{ℕ, zero, suc, ◌+◌, ◌<◌, ◌≡◌, ◌∙◌, sym, ap, refl, true, IsTrue, is_some, List, [], ◌∷◌, append-nil, length, map, get_or, subst, arith}
 use Rattle.std.proofs.lemmas.List.{length-map, get_or-map}
 use Rattle.forec_tree.specs.Terms.{Text}
+use Rattle.forec_tree.specs.Variables.{variables}
 use Rattle.forec_tree.specs.Faults.{Member, here, later}
+use Rattle.forec_tree.proofs.VariableCounts.{variables_counted}
 use Rattle.forec_kernel.specs.Combining.{contains}
 use Rattle.forec_kernel.specs.Shapes.{PlainKernel}
 use Rattle.forec_kernel.specs.Texts.{uses_in, uses_of, body_of}
 use Rattle.forec_kernel.specs.Terms as kernel
 use Rattle.forec_kernel.specs.WellFormed.{FineRoot, FineChild, FinePar, pars_of, blank_thread, thread_of, count_up, numbered, all_in}
 use Rattle.text_kernel.specs.Lowering.{Made}
-use Rattle.text_kernel.specs.Kernels.{kernel_of, root, thread_shape, variable_count, filter_in, int_functions, variable_items, variable_shape}
+use Rattle.text_kernel.specs.Kernels.{kernel_of, root, thread_shape, variable_count, filter_in, int_functions, variable_shape}
 use Rattle.text_kernel.proofs.Grown.{Fork, lists}
 use Rattle.text_kernel.proofs.Forks.{blank_made, at, in_order, parents_low}
 use Rattle.text_kernel.proofs.Placed.{Placed, root_placed, made_placed, root_grown}
@@ -54,7 +56,7 @@ module _ (text : Text) (names : List (List ℕ)) where
 
   pub root_fine : FineRoot (kernel_of text names)
   unfolding kernel_of
-  root_fine = record { parent = refl; par = refl; params = refl; uses = ap (count_up 0) (sym (length-map (variable_items text names text) (variable_shape text names))) }
+  root_fine = record { parent = refl; par = refl; params = refl; uses = ap (count_up 0) (sym (length-map (variables text) (variable_shape text names) ∙ variables_counted text)) }
 
   pub order : IsTrue (numbered 0 (kernel_of text names).shape.threads)
   unfolding kernel_of

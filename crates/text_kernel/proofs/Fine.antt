@@ -10,7 +10,8 @@ use Rattle.forec_tree.specs.declared.uses.Meaning.{Meaning}
 use Rattle.forec_tree.specs.declared.uses.How.{How}
 use Rattle.forec_tree.specs.declared.uses.How.TheVariants.{Reads, Indexes, Computes}
 use Rattle.forec_tree.specs.Terms.{Term, Num, Read, Element, Un, Bin, And, Or, Choose, Call, Terms, no_terms, more_terms, count_terms, Text, PlainItem, PlainGlobal, PlainFunction, IsGlobal, IsFunction}
-use Rattle.forec_tree.specs.Scopes.{Scope, find_item, find_last, is_array, local_meaning, item_meaning, meaning}
+use Rattle.forec_tree.specs.Scopes.{Scope, find_item, find_last, is_array, stated_length, local_meaning, item_meaning, meaning}
+use Rattle.forec_tree.specs.Variables.{elements, width}
 use Rattle.forec_tree.specs.Findings.{Finding, in_term, in_terms}
 use Rattle.forec_tree.specs.Rules.{Judging, fault_if, is_constant, is_changing, is_input, is_unknown, means_kind, writes, enters_main, fits_use, arguments, miscounts, use_faults, findings_faults}
 use Rattle.forec_tree.specs.Faults.{Member, here, later}
@@ -19,11 +20,12 @@ use Rattle.forec_kernel.specs.Terms.{Expr, count_exprs}
 use Rattle.forec_kernel.specs.Shapes.{PlainKernel}
 use Rattle.forec_kernel.specs.Combining.{contains}
 use Rattle.forec_kernel.specs.WellFormed as wf
-use Rattle.forec_kernel.specs.WellFormed.{FineExpr, FineExprs, IsArray, function_params, has_place, can_divide}
+use Rattle.forec_kernel.specs.WellFormed.{FineExpr, FineExprs, count_up, all_in, function_params, has_place, can_divide}
 use Rattle.text_kernel.specs.declared.names.Slot.{Slot}
 use Rattle.text_kernel.specs.declared.names.Stands.TheVariants as st
-use Rattle.text_kernel.specs.Bindings.{find_slot, slot_stands, item_stands, constant_stands, number_among, is_variable, is_table, is_int_function}
+use Rattle.text_kernel.specs.Bindings.{find_slot, slot_stands, item_stands, constant_stands, variable_stands, number_among, variable_number, is_table, is_int_function}
 use Rattle.text_kernel.specs.Lowering.{read_as, element_as, place_if, lower_term, lower_terms}
+use Rattle.text_kernel.proofs.VariableNumbers.{constant_length}
 
 -- ---- no fault in parts
 
@@ -126,9 +128,15 @@ pub finds : (id : ℕ) (f : Option Slot) (s : List Slot) → FoundSlot s f (find
 finds id f [] = is_old
 finds id f (y ∷ s) = found_more y s f (find_slot id f (y ∷ s)) (y.id == id) (finds id (cond (y.id == id) (Some y) f) s)
 
+-- how many elements a shared array may have
+pub record Sized (n : Number) : Type 0 where
+  pub some : 1 ≤ elements n
+  pub most : elements n ≤ 65536
+
 -- what is known of the item that a name means, in a thread or (`gives`) in an int function
 pub record GoodItem (text : Text) (k : PlainKernel) (uses : List ℕ) (gives : Bool) (id : ℕ) (i : Option PlainItem) : Type 0 where
-  pub variable : (g : PlainGlobal) → i ≡ Some (IsGlobal g) → is_constant g.kind ≡ false → gives ≡ false → contains (number_among is_variable g.name.id text) uses ≡ true
+  pub variables : (g : PlainGlobal) → i ≡ Some (IsGlobal g) → is_constant g.kind ≡ false → gives ≡ false → all_in (count_up (variable_number g.name.id text) (width g)) uses ≡ true
+  pub sized : (g : PlainGlobal) (n : Number) → i ≡ Some (IsGlobal g) → is_constant g.kind ≡ false → gives ≡ false → stated_length g ≡ Some n → Sized n
   pub table : (g : PlainGlobal) → i ≡ Some (IsGlobal g) → is_constant g.kind ≡ true → is_array g.length ≡ true → number_among is_table g.name.id text < length k.shape.tables
   pub function : (f : PlainFunction) → i ≡ Some (IsFunction f) → f.gives ≡ true → number_among is_int_function id text < length k.functions
   pub params : (f : PlainFunction) → i ≡ Some (IsFunction f) → f.gives ≡ true → function_params k (number_among is_int_function id text) ≡ length f.params
@@ -138,6 +146,14 @@ pub record Knows (text : Text) (k : PlainKernel) (uses : List ℕ) (gives : Bool
 
 pub place_has : (op : Binary) (place : Place) → has_place (place_if op place) ≡ can_divide op
 place_has op place = elim (can_divide op) as (λ b. has_place (cond b (Some place) None) ≡ b) [ true ↦ refl | false ↦ refl ]
+
+pub falls : (b : Bool) → (b && true) ≡ false → b ≡ false
+falls true h = cc
+falls false h = refl
+
+pub just : (b : Bool) → (b && true) ≡ true → b ≡ true
+just true h = refl
+just false h = cc
 
 module _ (text : Text) (k : PlainKernel) (words : ℕ) (uses : List ℕ) (j : Judging) (knows : Knows text k uses j.gives) where
   abbrev scope : wf.Scope
@@ -154,15 +170,16 @@ module _ (text : Text) (k : PlainKernel) (words : ℕ) (uses : List ℕ) (j : Ju
   constant_read g None e = tt
   constant_read g (Some n) e = cc
 
+  variable_read : (v : ℕ) (o : Option Number) → all_in (count_up v (elim o [ None ↦ 1 | Some n ↦ elements n ])) uses ≡ true → not (is_array o) ≡ true →
+      FineExpr scope (read_as (elim o [ None ↦ st.AsVariable v | Some n ↦ st.AsVariables v (elements n) ]))
+  variable_read v None h e = just (contains v uses) h
+  variable_read v (Some n) h e = cc
+
   global_read : (id : ℕ) (g : PlainGlobal) (b : Bool) → GoodItem text k uses j.gives id (Some (IsGlobal g)) → is_constant g.kind ≡ b →
-      not (b && is_array g.length) ≡ true → (j.gives && not b) ≡ false →
-      FineExpr scope (read_as (cond b (constant_stands text g) (st.AsVariable (number_among is_variable g.name.id text))))
-  global_read id g true i e f c = constant_read g g.length f
-  global_read id g false i e f c = i.variable g refl e (falls j.gives c)
-    where
-      falls : (b : Bool) → (b && true) ≡ false → b ≡ false
-      falls true h = cc
-      falls false h = refl
+      not (is_array (stated_length g)) ≡ true → (j.gives && not b) ≡ false →
+      FineExpr scope (read_as (cond b (constant_stands text g) (variable_stands text g)))
+  global_read id g true i e f c = constant_read g g.length (subst (λ o. not (is_array o) ≡ true) (constant_length g e) f)
+  global_read id g false i e f c = variable_read (variable_number g.name.id text) (stated_length g) (i.variables g refl e (falls j.gives c)) f
 
   item_read : (id : ℕ) (i : Option PlainItem) → GoodItem text k uses j.gives id i → GoodUse j.gives Reads (item_meaning i) → FineExpr scope (read_as (item_stands text i))
   item_read id None i u = tt
@@ -186,17 +203,25 @@ module _ (text : Text) (k : PlainKernel) (words : ℕ) (uses : List ℕ) (j : Ju
   constant_element g None e place h l f = cc
   constant_element g (Some n) e place h l f = (l, f)
 
+  variable_element : (v : ℕ) (o : Option Number) (e : Expr) (place : Place) → all_in (count_up v (elim o [ None ↦ 1 | Some n ↦ elements n ])) uses ≡ true →
+      ((n : Number) → o ≡ Some n → Sized n) → is_array o ≡ true → FineExpr scope e →
+      FineExpr scope (element_as (elim o [ None ↦ st.AsVariable v | Some n ↦ st.AsVariables v (elements n) ]) e place)
+  variable_element v None e place h z a f = cc
+  variable_element v (Some n) e place h z a f = let r = z n refl in (record { used = h; some = r.some; most = r.most }, f)
+
   global_element : (id : ℕ) (g : PlainGlobal) (b : Bool) (e : Expr) (place : Place) → GoodItem text k uses j.gives id (Some (IsGlobal g)) → is_constant g.kind ≡ b →
-      (b && is_array g.length) ≡ true → FineExpr scope e →
-      FineExpr scope (element_as (cond b (constant_stands text g) (st.AsVariable (number_among is_variable g.name.id text))) e place)
-  global_element id g true e place i c h f = constant_element g g.length e place h (i.table g refl c h) f
-  global_element id g false e place i c h f = cc
+      is_array (stated_length g) ≡ true → (j.gives && not b) ≡ false → FineExpr scope e →
+      FineExpr scope (element_as (cond b (constant_stands text g) (variable_stands text g)) e place)
+  global_element id g true e place i c h w f = let a = subst (λ o. is_array o ≡ true) (constant_length g c) h in constant_element g g.length e place a (i.table g refl c a) f
+  global_element id g false e place i c h w f =
+      let d = falls j.gives w in
+      variable_element (variable_number g.name.id text) (stated_length g) e place (i.variables g refl c d) (λ n s. i.sized g n refl c d s) h f
 
   item_element : (id : ℕ) (i : Option PlainItem) (e : Expr) (place : Place) → GoodItem text k uses j.gives id i → GoodUse j.gives Indexes (item_meaning i) → FineExpr scope e →
       FineExpr scope (element_as (item_stands text i) e place)
   item_element id None e place i u f = let bad = u.known in cc
   item_element id (Some (IsFunction h)) e place i u f = let bad = u.fits in cc
-  item_element id (Some (IsGlobal g)) e place i u f = global_element id g (is_constant g.kind) e place i refl u.fits f
+  item_element id (Some (IsGlobal g)) e place i u f = global_element id g (is_constant g.kind) e place i refl u.fits u.constant f
 
   name_element : (id : ℕ) (o : Option Slot) (i : Option PlainItem) (e : Expr) (place : Place) → ((x : Slot) → o ≡ Some x → GoodSlot words x) → GoodItem text k uses j.gives id i →
       GoodUse j.gives Indexes (local_meaning (seen_option o) (item_meaning i)) → FineExpr scope e → FineExpr scope (element_as (elim o [ Some s ↦ slot_stands s | None ↦ item_stands text i ]) e place)

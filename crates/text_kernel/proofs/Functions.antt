@@ -3,11 +3,13 @@ use Rattle.std.proofs.Common.{ℕ, zero, suc, ◌<◌, ◌≡◌, ◌∙◌, sym
 use Rattle.std.proofs.lemmas.Bool.{and_parts}
 use Rattle.std.proofs.lemmas.Bool.Decides.{nat_tests}
 use Rattle.std.proofs.lemmas.List.{length-map, get_or-map}
+use Rattle.std.proofs.lemmas.Option.{slice_get-get_or}
 use Rattle.forec_tree.specs.declared.fault.Fault.{Fault}
 use Rattle.forec_tree.specs.declared.tree.Combine.{Combine}
 use Rattle.forec_tree.specs.declared.tree.GlobalKind.TheVariants.{Plain}
 use Rattle.forec_tree.specs.Terms.{Text, PlainItem, PlainGlobal, PlainFunction, IsGlobal, IsFunction}
-use Rattle.forec_tree.specs.Scopes.{no_scope, with_params, find_item, is_constant}
+use Rattle.forec_tree.specs.Scopes.{no_scope, with_params, find_item}
+use Rattle.forec_tree.specs.Variables.{PlainVariable, variables}
 use Rattle.forec_tree.specs.Findings.{in_params, in_statements}
 use Rattle.forec_tree.specs.Rules.{Judging, fault_if, is_long, length_faults, too_many, findings_faults}
 use Rattle.forec_tree.specs.Faults.{Member, here, later, in_function, item_named, combine_faults, global_faults, Before, none_before}
@@ -21,7 +23,7 @@ use Rattle.forec_kernel.specs.WellFormed.{FineStmt, FineFunction, FineVariable, 
 use Rattle.text_kernel.specs.Bindings.{params_at, number_among, is_int_function}
 use Rattle.text_kernel.specs.Lowering.{NextNumbers, Inlined, lowered, sequence}
 use Rattle.text_kernel.specs.Kernels as kernels
-use Rattle.text_kernel.specs.Kernels.{kernel_of, int_functions, variable_items, variable_shape, combine_of}
+use Rattle.text_kernel.specs.Kernels.{kernel_of, int_functions, variable_shape, combine_of}
 use Rattle.text_kernel.specs.Limits.{WithinLimits}
 use Rattle.text_kernel.proofs.Fine.{none_left, none_right, not_broken, not_not, parts_left, Matches}
 use Rattle.text_kernel.proofs.FineStatements.{sequence_fine}
@@ -33,6 +35,7 @@ use Rattle.text_kernel.proofs.Rises.{list_rises}
 use Rattle.text_kernel.proofs.FineBodies.{list_fine}
 use Rattle.text_kernel.proofs.Certain.{while_bounded, for_bounded}
 use Rattle.text_kernel.proofs.Runs.{params_match}
+use Rattle.text_kernel.proofs.ByNumber.{numbered_in}
 use Rattle.text_kernel.proofs.Known.{first_of, number_below, known_function, blank_function, functions_long, shape_params, right_params}
 use Rattle.text_kernel.proofs.Returned.{list_returns, sequence_returns}
 use Rattle.text_kernel.proofs.Within.{functions_depth}
@@ -157,25 +160,16 @@ module _ (text : Text) (names : List (List ℕ)) where
     blank_global : PlainGlobal
     blank_global = record { name = record { id = 0; place = record { line = 1; column = 1 } }; kind = Plain; length = None; values = []; combine = None }
 
-    variable_member : (t : Text) (v : ℕ) → v < length (variable_items text names t) → Member (IsGlobal (get_or (variable_items text names t) v blank_global)) t
-    variable_member [] v l = absurd (omega arith)
-    variable_member (IsFunction f ∷ t) v l = later (variable_member t v l)
-    variable_member (IsGlobal g ∷ t) v l = pick (is_constant g.kind) refl v l (λ m k. variable_member t m k)
-      where
-        in_list : (b : Bool) → is_constant g.kind ≡ b → variable_items text names (IsGlobal g ∷ t) ≡ cond b (variable_items text names t) (g ∷ variable_items text names t)
-        in_list b e = ap (λ c. cond c (variable_items text names t) (g ∷ variable_items text names t)) e
+    blank_variable : PlainVariable
+    blank_variable = record { global = blank_global; index = None }
 
-        moved : (gs : List PlainGlobal) (m : ℕ) → variable_items text names (IsGlobal g ∷ t) ≡ gs → Member (IsGlobal (get_or gs m blank_global)) (IsGlobal g ∷ t) →
-            Member (IsGlobal (get_or (variable_items text names (IsGlobal g ∷ t)) m blank_global)) (IsGlobal g ∷ t)
-        moved gs m e p = subst (λ l. Member (IsGlobal (get_or l m blank_global)) (IsGlobal g ∷ t)) (sym e) p
+    abbrev variable_of_number : ℕ → PlainVariable
+    variable_of_number v = get_or (variables text) v blank_variable
 
-        pick : (b : Bool) → is_constant g.kind ≡ b → (m : ℕ) → m < length (variable_items text names (IsGlobal g ∷ t)) →
-            ((m : ℕ) → m < length (variable_items text names t) → Member (IsGlobal (get_or (variable_items text names t) m blank_global)) t) →
-            Member (IsGlobal (get_or (variable_items text names (IsGlobal g ∷ t)) m blank_global)) (IsGlobal g ∷ t)
-        pick true e m k r = let long = ap length (in_list true e) in moved (variable_items text names t) m (in_list true e) (later (r m (omega (arith, k, long))))
-        pick false e zero k r = moved (g ∷ variable_items text names t) zero (in_list false e) here
-        pick false e (suc m) k r =
-            let long = ap length (in_list false e) in moved (g ∷ variable_items text names t) (suc m) (in_list false e) (later (r m (omega (arith, k, long))))
+    variable_member : (v : ℕ) → v < length (variables text) → Member (IsGlobal (variable_of_number v).global) text
+    variable_member v l =
+        let r = numbered_in text names none_before text clean.items v l in
+        subst (λ g. Member (IsGlobal g) text) (sym (r.of (variable_of_number v) (slice_get-get_or (variables text) v blank_variable l))) r.member
 
     -- rule 16
     record IsCombine (c : Combine) : Type 0 where
@@ -217,18 +211,18 @@ module _ (text : Text) (names : List (List ℕ)) where
         let p = right_params text names c.with.id is.function is.found is.gives in
         (omega (arith, l, n, same), ap (function_params (kernel_of text names)) (sym same) ∙ (p ∙ is.two))
 
-    variable_at : (v : ℕ) → v < length (variable_items text names text) → variable_of (kernel_of text names) v ≡ variable_shape text names (get_or (variable_items text names text) v blank_global)
+    variable_at : (v : ℕ) → v < length (variables text) → variable_of (kernel_of text names) v ≡ variable_shape text names (variable_of_number v)
     unfolding kernel_of
-    variable_at v l = get_or-map (variable_shape text names) (variable_items text names text) v blank_global _ l
+    variable_at v l = get_or-map (variable_shape text names) (variables text) v blank_variable _ l
 
-    variable_low : (v : ℕ) → v < length (kernel_of text names).shape.variables → v < length (variable_items text names text)
+    variable_low : (v : ℕ) → v < length (kernel_of text names).shape.variables → v < length (variables text)
     unfolding kernel_of
-    variable_low v l = let e = length-map (variable_items text names text) (variable_shape text names) in omega (arith, e)
+    variable_low v l = let e = length-map (variables text) (variable_shape text names) in omega (arith, e)
 
     pub variable_fine : (v : ℕ) → v < length (kernel_of text names).shape.variables → FineVariable (kernel_of text names) (variable_of (kernel_of text names) v)
     variable_fine v l =
         let low = variable_low v l in
-        let g = get_or (variable_items text names text) v blank_global in
-        let c = item_clean text names none_before text (IsGlobal g) clean.items (variable_member text v low) in
+        let g = (variable_of_number v).global in
+        let c = item_clean text names none_before text (IsGlobal g) clean.items (variable_member v low) in
         let none = combine_faultless c.before g c.none in
         record { combine = λ f e. combined g.combine none f (ap (λ (x : Variable). x.combine) (sym (variable_at v low)) ∙ e) }

@@ -73,6 +73,7 @@ ends_pars (more_stmts b rest) a = ap (λ l. pars_of b ++ l) (ends_pars rest a) �
 to_pars : (x : Stands) (op : Option OpAt) (value : Expr) → pars_of (assign_to x op value) ≡ []
 to_pars (st.AtSlot slot) op value = refl
 to_pars (st.AsVariable v) op value = refl
+to_pars (st.AsVariables v m) op value = refl
 to_pars (st.AtSlots slot size) op value = refl
 to_pars (st.AsNumber m) op value = refl
 to_pars (st.AsTable t) op value = refl
@@ -81,6 +82,7 @@ to_pars st.AsNothing op value = refl
 at_pars : (x : Stands) (op : Option OpAt) (i value : Expr) (place : Place) → pars_of (assign_at x op i value place) ≡ []
 at_pars (st.AtSlot slot) op i value place = refl
 at_pars (st.AsVariable v) op i value place = refl
+at_pars (st.AsVariables v m) op i value place = refl
 at_pars (st.AtSlots slot size) op i value place = refl
 at_pars (st.AsNumber m) op i value place = refl
 at_pars (st.AsTable t) op i value place = refl

@@ -1,17 +1,21 @@
 -- What the names of items become is in range of the kernel of the text.
-use Rattle.std.proofs.Common.{ℕ, zero, suc, ◌+◌, ◌<◌, ◌≤◌, ◌≡◌, ◌∙◌, sym, ap, refl, Bool, true, false, cond, ◌==◌, Option, Some, None, List, [], ◌∷◌, ◌++◌, length, get_or, subst, arith}
+use Rattle.std.proofs.Common.{ℕ, suc, ◌+◌, ◌<◌, ◌≡◌, pos, ◌∙◌, sym, ap, refl, Bool, true, false, cond, ◌==◌, Option, Some, None, List, [], ◌∷◌, ◌++◌, length, get_or, subst, arith}
 use Rattle.std.proofs.lemmas.Bool.Decides.{nat_tests}
 use Rattle.std.proofs.lemmas.List.{length-map, get_or-map}
 use Rattle.forec_tree.specs.declared.tree.Number.{Number}
 use Rattle.forec_tree.specs.Terms.{Text, PlainItem, PlainGlobal, PlainFunction, IsGlobal, IsFunction, no_statements}
-use Rattle.forec_tree.specs.Scopes.{find_item, name_of, is_array}
-use Rattle.forec_tree.specs.Rules.{is_constant}
-use Rattle.forec_kernel.specs.Combining.{contains}
+use Rattle.forec_tree.specs.Scopes.{find_item, name_of, is_array, stated_length}
+use Rattle.forec_tree.specs.Variables.{width}
+use Rattle.forec_tree.specs.Rules.{is_constant, fault_if, outside, length_faults}
+use Rattle.forec_tree.specs.Faults.{none_before, item_named}
 use Rattle.forec_kernel.specs.declared.shape.FunctionShape.{FunctionShape}
 use Rattle.forec_kernel.specs.WellFormed.{count_up, function_params}
-use Rattle.text_kernel.specs.Bindings.{number_among, item_id, is_variable, is_table, is_int_function}
-use Rattle.text_kernel.specs.Kernels.{kernel_of, variable_items, variable_count, tables_of, table_of, int_functions, function_body}
-use Rattle.text_kernel.proofs.Fine.{Knows}
+use Rattle.text_kernel.specs.Bindings.{number_among, variable_number, item_id, is_table, is_int_function}
+use Rattle.text_kernel.specs.Kernels.{kernel_of, variable_count, tables_of, int_functions, function_body}
+use Rattle.text_kernel.proofs.VariableNumbers.{First, first, further, stated_is, row_within, width_of, numbers_below}
+use Rattle.text_kernel.proofs.Fine.{none_left, none_right, not_broken, Sized, Knows}
+use Rattle.text_kernel.proofs.Faultless.{Clean, item_clean, found_member}
+use Rattle.text_kernel.proofs.Locals.{elements_sized}
 
 abbrev pub how_many : (PlainItem → Bool) → Text → ℕ
 how_many sort [] = 0
@@ -20,11 +24,6 @@ how_many sort (i ∷ rest) = cond (sort i) (suc (how_many sort rest)) (how_many 
 same_id : (i : PlainItem) → item_id i ≡ (name_of i).id
 same_id (IsGlobal g) = refl
 same_id (IsFunction f) = refl
-
--- the item that is found is the first one of the name
-pub data First (id : ℕ) (i : PlainItem) : Text → Type 0 where
-  first : {rest : Text} → (item_id i == id) ≡ true → First id i (i ∷ rest)
-  further : {y : PlainItem} {rest : Text} → (item_id y == id) ≡ false → First id i rest → First id i (y ∷ rest)
 
 pub first_of : (id : ℕ) (i : PlainItem) (text : Text) → find_item id text ≡ Some i → First id i text
 first_of id i [] h = cc
@@ -51,25 +50,7 @@ number_below sort id i text (further {y = y} {rest = rest} e f) h = pick (sort y
     pick true d l = rw (e, d) (omega arith)
     pick false d l = rw (e, d) l
 
-in_count : (v from n : ℕ) → from ≤ v → v < from + n → contains v (count_up from n) ≡ true
-in_count v from zero h l = absurd (omega arith)
-in_count v from (suc n) h l = step (from == v) refl (λ g. in_count v (suc from) n g (omega arith))
-  where
-    step : (b : Bool) → (from == v) ≡ b → (suc from ≤ v → contains v (count_up (suc from) n) ≡ true) → cond (from == v) true (contains v (count_up (suc from) n)) ≡ true
-    step true e f = rw e refl
-    step false e f = let more : suc from ≤ v = grind (arith, nat_tests) in rw e (f more)
-
 module _ (text : Text) (names : List (List ℕ)) where
-  pub variables_counted : (t : Text) → length (variable_items text names t) ≡ how_many is_variable t
-  variables_counted [] = refl
-  variables_counted (IsFunction f ∷ rest) = variables_counted rest
-  variables_counted (IsGlobal g ∷ rest) = pick (is_constant g.kind) (variables_counted rest)
-    where
-      pick : (b : Bool) → length (variable_items text names rest) ≡ how_many is_variable rest →
-          length (cond b (variable_items text names rest) (g ∷ variable_items text names rest)) ≡ cond (cond b false true) (suc (how_many is_variable rest)) (how_many is_variable rest)
-      pick true e = e
-      pick false e = ap suc e
-
   pub functions_counted : (t : Text) → length (int_functions text names t) ≡ how_many is_int_function t
   functions_counted [] = refl
   functions_counted (IsGlobal g ∷ rest) = functions_counted rest
@@ -126,10 +107,6 @@ module _ (text : Text) (names : List (List ℕ)) where
   unfolding kernel_of
   tables_long = tables_counted text
 
-  constant_or : (b : Bool) → b ≡ false → cond b false true ≡ true
-  constant_or true h = cc
-  constant_or false h = refl
-
   array_is : (b : Bool) (o : Option Number) → b ≡ true → is_array o ≡ true → cond b (elim o [ None ↦ false | Some n ↦ true ]) false ≡ true
   array_is true None h e = cc
   array_is true (Some n) h e = refl
@@ -146,15 +123,26 @@ module _ (text : Text) (names : List (List ℕ)) where
       shape_params (number_among is_int_function id text) (omega (arith, l, n))
       ∙ ap (λ x. length x.params) (function_at id f text blank_function (first_of id (IsFunction f) text e) g)
 
+  -- rule 17
+  sized : Clean text names → (id : ℕ) (g : PlainGlobal) (n : Number) → find_item id text ≡ Some (IsGlobal g) → stated_length g ≡ Some n → Sized n
+  sized clean id g n e s =
+      let c = item_clean text names none_before text (IsGlobal g) clean.items (found_member id text (IsGlobal g) e) in
+      let lengths = none_left (length_faults g.length) _ (none_right (fault_if (item_named g.name.id c.before.items) g.name.place 2) _ c.none) in
+      elements_sized n (not_broken (outside (pos 65536) n.value) n.place 17 (ap length_faults (sym (stated_is g n s)) ∙ lengths))
+
   -- in a thread
-  pub known_thread : Knows text (kernel_of text names) (count_up 0 (variable_count text names)) false
-  known_thread =
+  pub known_thread : Clean text names → Knows text (kernel_of text names) (count_up 0 (variable_count text names)) false
+  known_thread clean =
       record {
         item = λ id. record {
-          variable = λ g e c d.
-              let l = number_same is_variable id g (first_of id (IsGlobal g) text e) (constant_or (is_constant g.kind) c) in
-              let n = variables_counted text in
-              in_count (number_among is_variable g.name.id text) 0 (variable_count text names) (omega arith) (omega (arith, l, n));
+          variables = λ g e c d.
+              let f = first_of id (IsGlobal g) text e in
+              let named : g.name.id ≡ id = first_id id (IsGlobal g) text f in
+              let n = ap (λ x. variable_number x text) named in
+              let w = width_of g c in
+              let l = numbers_below id (IsGlobal g) text f in
+              row_within (variable_number g.name.id text) (width g) (variable_count text names) (omega (arith, l, n, w));
+          sized = λ g n e c d s. sized clean id g n e s;
           table = λ g e c a.
               let l = number_same is_table id g (first_of id (IsGlobal g) text e) (array_is (is_constant g.kind) g.length c a) in omega (arith, l, tables_long);
           function = λ f e g. let l = number_below is_int_function id (IsFunction f) text (first_of id (IsFunction f) text e) g in omega (arith, l, functions_long);
@@ -167,7 +155,8 @@ module _ (text : Text) (names : List (List ℕ)) where
   known_function =
       record {
         item = λ id. record {
-          variable = λ g e c d. let bad = d in cc;
+          variables = λ g e c d. let bad = d in cc;
+          sized = λ g n e c d s. let bad = d in cc;
           table = λ g e c a.
               let l = number_same is_table id g (first_of id (IsGlobal g) text e) (array_is (is_constant g.kind) g.length c a) in omega (arith, l, tables_long);
           function = λ f e g. let l = number_below is_int_function id (IsFunction f) text (first_of id (IsFunction f) text e) g in omega (arith, l, functions_long);

@@ -4,6 +4,8 @@ pub mod Owned
 pub mod Placed
 pub mod Covered
 pub mod Fields
+pub mod VariableNumbers
+pub mod VariableItems
 pub mod Fine
 pub mod Unbroken
 pub mod Faultless

@@ -20,7 +20,7 @@ use Rattle.text_kernel.specs.declared.names.Slot.{Slot}
 use Rattle.text_kernel.specs.Bindings as binds
 use Rattle.text_kernel.specs.Bindings.{number_of, size_of, slots_of, local_slot}
 use Rattle.text_kernel.specs.Lowering.{array_values, lower_local, lower_locals, slots_after, Inlined}
-use Rattle.text_kernel.proofs.Fine.{none_left, none_right, not_broken, parts_left, parts_right, seen_of, has_size, long_of, GoodSlot, Matches, Knows, fine_term}
+use Rattle.text_kernel.proofs.Fine.{none_left, none_right, not_broken, parts_left, parts_right, seen_of, has_size, long_of, GoodSlot, Matches, Sized, Knows, fine_term}
 use Rattle.text_kernel.proofs.FineStatements.{sequence_fine}
 use Rattle.text_kernel.proofs.Rises.{behind_rises}
 
@@ -31,6 +31,14 @@ pub record InRange (most : ℕ) (n : ℕ) : Type 0 where
 pub number_in : (most : ℕ) (v : ℤ) → most < 4294967296 → outside (pos most) v ≡ false → InRange most (cast_unsigned w32 v)
 number_in most (pos m) l h = record { low = grind (arith, nat_tests); high = grind (arith, nat_tests) }
 number_in most (negsuc m) l h = cc
+
+-- rule 17 at an array whose elements are variables
+pub elements_sized : (n : Number) → outside (pos 65536) n.value ≡ false → Sized n
+elements_sized n h = pick n.value h
+  where
+    pick : (v : ℤ) → outside (pos 65536) v ≡ false → Sized (record { value = v; place = n.place })
+    pick (pos m) e = record { some = grind (arith, nat_tests); most = grind (arith, nat_tests) }
+    pick (negsuc m) e = cc
 
 pub seen_size : (size : Option Number) → has_size (size_of size) ≡ is_array size
 seen_size None = refl

@@ -8,6 +8,7 @@ use Rattle.forec_tree.specs.Pauses.{find_function}
 use Rattle.forec_kernel.specs.Texts.{uses_of, words_of, body_of}
 use Rattle.forec_kernel.specs.WellFormed.{FineStmt, thread_of, count_up}
 use Rattle.text_kernel.specs.Kernels.{kernel_of, root, main_id, variable_count}
+use Rattle.text_kernel.proofs.Faultless.{Clean}
 use Rattle.text_kernel.proofs.Fields.{made_shape}
 use Rattle.text_kernel.proofs.FineBodies.{Sits}
 use Rattle.text_kernel.proofs.Known.{known_thread}
@@ -27,11 +28,11 @@ module _ (text : Text) (names : List (List ℕ)) where
             ap (λ u. (thread_of (kernel_of text names) u).params) n ∙ ap (λ x. x.params) (made_shape text names i l));
       }
 
-  root_fine : ((id : ℕ) (f : PlainFunction) → find_function id text ≡ Some f → f.gives ≡ false → findings_faults (record { names = names; gives = false }) (in_function text f) ≡ []) →
+  root_fine : Clean text names → ((id : ℕ) (f : PlainFunction) → find_function id text ≡ Some f → f.gives ≡ false → findings_faults (record { names = names; gives = false }) (in_function text f) ≡ []) →
       ((f : PlainFunction) → find_function (main_id text names) text ≡ Some f → Runnable 0 f) →
       FineStmt false (record { kernel = kernel_of text names; words = (root text names).next.slot; uses = count_up 0 (variable_count text names) }) (root text names).stmt
-  root_fine faultless main =
-      runs text (kernel_of text names) (root text names).next.slot (count_up 0 (variable_count text names)) names (known_thread text names) faultless
+  root_fine clean faultless main =
+      runs text (kernel_of text names) (root text names).next.slot (count_up 0 (variable_count text names)) names (known_thread text names clean) faultless
       (length text) 0 0 0 (main_id text names) (record { slot = 0; thread = 1; par = 0 }) main (omega arith) (omega arith) root_sits
 
   at_root : FineStmt false (record { kernel = kernel_of text names; words = (root text names).next.slot; uses = count_up 0 (variable_count text names) }) (root text names).stmt →
@@ -40,7 +41,7 @@ module _ (text : Text) (names : List (List ℕ)) where
   at_root h = h
 
   -- thread 0, as `FineThread` wants it
-  pub main_fine : ((id : ℕ) (f : PlainFunction) → find_function id text ≡ Some f → f.gives ≡ false → findings_faults (record { names = names; gives = false }) (in_function text f) ≡ []) →
+  pub main_fine : Clean text names → ((id : ℕ) (f : PlainFunction) → find_function id text ≡ Some f → f.gives ≡ false → findings_faults (record { names = names; gives = false }) (in_function text f) ≡ []) →
       ((f : PlainFunction) → find_function (main_id text names) text ≡ Some f → Runnable 0 f) →
       FineStmt false (record { kernel = kernel_of text names; words = words_of (kernel_of text names) 0; uses = uses_of (kernel_of text names) 0 }) (body_of (kernel_of text names) 0)
-  main_fine faultless main = at_root (root_fine faultless main)
+  main_fine clean faultless main = at_root (root_fine clean faultless main)

@@ -1,5 +1,5 @@
 -- A variable stands in lowered text where the rules say that the text names it.
-use Rattle.std.proofs.Common.{ℕ, suc, ◌+◌, ◌≡◌, ◌∙◌, sym, ap, refl, subst, Bool, true, false, cond, ◌==◌, ◌&&◌, ◌||◌, Option, Some, None, List, [], ◌∷◌, ◌++◌, append-nil, append_assoc, map, arith}
+use Rattle.std.proofs.Common.{ℕ, suc, ◌+◌, ◌<◌, ◌≡◌, ◌∙◌, sym, ap, refl, subst, Bool, true, false, cond, not, ◌==◌, ◌||◌, Option, Some, None, List, [], ◌∷◌, ◌++◌, append-nil, append_assoc, map, arith}
 use Rattle.std.proofs.lemmas.Bool.Decides.{nat_tests}
 use Rattle.std.proofs.lemmas.List.{map-append}
 use Rattle.std.specs.Prelude.{IsTrue}
@@ -14,23 +14,25 @@ use Rattle.forec_tree.specs.declared.uses.How.{How}
 use Rattle.forec_tree.specs.declared.uses.How.TheVariants.{Reads, Indexes, Writes, WritesAt, Computes}
 use Rattle.forec_tree.specs.Terms.{Term, Num, Read, Element, Un, Bin, And, Or, Choose, Call, Terms, no_terms, more_terms, count_terms, Declared, Text, PlainItem, PlainGlobal, IsGlobal, IsFunction}
 use Rattle.forec_tree.specs.Scopes as tree
-use Rattle.forec_tree.specs.Scopes.{Scope, with_name, is_among, find_item, find_last, is_array, local_meaning, item_meaning, meaning}
+use Rattle.forec_tree.specs.Scopes.{Scope, with_name, is_among, find_item, find_last, is_array, stated_length, local_meaning, item_meaning, meaning}
+use Rattle.forec_tree.specs.Variables.{elements, width}
 use Rattle.forec_tree.specs.Findings.{Finding, Use, Declares, Bound, Loop, Synchronous, Gives, Opens, Closes, in_term, in_terms, in_optional, in_target, in_local, in_locals}
 use Rattle.forec_tree.specs.Rules.{Judging, fault_if, is_constant, fits_variable, use_faults, declared_faults, findings_faults}
 use Rattle.forec_tree.specs.Faults.{is_in}
 use Rattle.forec_tree.specs.ThreadTree.{globals_in}
+use Rattle.forec_kernel.specs.WellFormed.{count_up}
 use Rattle.forec_kernel.specs.Terms as kernel
 use Rattle.forec_kernel.specs.Terms.{Expr, Stmt, Stmts, no_stmts, more_stmts}
 use Rattle.text_kernel.specs.declared.names.Slot.{Slot}
-use Rattle.text_kernel.specs.declared.names.Stands.{Stands}
 use Rattle.text_kernel.specs.declared.names.Stands.TheVariants as st
 use Rattle.text_kernel.specs.Bindings as binds
-use Rattle.text_kernel.specs.Bindings.{number_among, is_variable, item_id, number_of, slots_of, local_slot, find_slot, slot_stands, item_stands, constant_stands, first_value}
+use Rattle.text_kernel.specs.Bindings.{number_among, variable_number, number_of, slots_of, local_slot, find_slot, slot_stands, item_stands, constant_stands, variable_stands, first_value}
 use Rattle.text_kernel.specs.Lowering.{stands, lower_term, lower_terms, read_as, element_as, assign_to, assign_at, lower_target, sequence, ends_with, array_values, lower_local, lower_locals, set_params, optional_test, vars_in, vars_all, vars_of, vars_list}
 use Rattle.text_kernel.proofs.OneValue.{one_value, OneValues}
 use Rattle.text_kernel.proofs.Fine.{none_left, none_right, not_broken, parts_left, parts_right, GoodUse, good_use, seen_of, seen_option, has_size, found}
 use Rattle.text_kernel.proofs.Locals.{seen_size}
-use Rattle.text_kernel.proofs.Known.{First, first, further, first_of, first_id}
+use Rattle.text_kernel.proofs.VariableNumbers.{First, in_row, row_of, width_of, apart}
+use Rattle.text_kernel.proofs.Known.{first_of, first_id}
 
 -- ---- lists
 
@@ -106,55 +108,31 @@ agree_more sc s x array m a e = subst (λ z. Agree z (s ++ x ∷ [])) (sym added
               ∙ (ap (λ b. (sc.outer ++ sc.here) ++ record { id = x.id; array = b } ∷ []) a ∙ append_assoc sc.outer sc.here (record { id = x.id; array = array } ∷ [])));
         }
 
--- ---- numbers of variables
+-- ---- tests
 
-apart : (sort : PlainItem → Bool) (m n : ℕ) (a b : PlainItem) (text : Text) → First m a text → First n b text → sort a ≡ true → sort b ≡ true →
-    number_among sort m text ≡ number_among sort n text → m ≡ n
-apart sort m n a b [] p q h k e = elim p [ ]
-apart sort m n a b (y ∷ rest) (first d) (first f) h k e = grind (arith, nat_tests)
-apart sort m n a b (y ∷ rest) (first d) (further f q) h k e =
-    let left : number_among sort m (y ∷ rest) ≡ 0 = ap (λ t. cond t 0 (cond (sort y) (suc (number_among sort m rest)) (number_among sort m rest))) d in
-    let right : number_among sort n (y ∷ rest) ≡ suc (number_among sort n rest) =
-    ap (λ t. cond t 0 (cond (sort y) (suc (number_among sort n rest)) (number_among sort n rest))) f ∙ ap (λ t. cond t (suc (number_among sort n rest)) (number_among sort n rest)) h in
-    let bad : 0 ≡ suc (number_among sort n rest) = sym left ∙ (e ∙ right) in absurd (omega (arith, bad))
-apart sort m n a b (y ∷ rest) (further d p) (first f) h k e =
-    let right : number_among sort n (y ∷ rest) ≡ 0 = ap (λ t. cond t 0 (cond (sort y) (suc (number_among sort n rest)) (number_among sort n rest))) f in
-    let left : number_among sort m (y ∷ rest) ≡ suc (number_among sort m rest) =
-    ap (λ t. cond t 0 (cond (sort y) (suc (number_among sort m rest)) (number_among sort m rest))) d ∙ ap (λ t. cond t (suc (number_among sort m rest)) (number_among sort m rest)) k in
-    let bad : suc (number_among sort m rest) ≡ 0 = sym left ∙ (e ∙ right) in absurd (omega (arith, bad))
-apart sort m n a b (y ∷ rest) (further d p) (further f q) h k e =
-    let left = ap (λ t. cond t 0 (cond (sort y) (suc (number_among sort m rest)) (number_among sort m rest))) d in
-    let right = ap (λ t. cond t 0 (cond (sort y) (suc (number_among sort n rest)) (number_among sort n rest))) f in
-    apart sort m n a b rest p q h k (inner (sort y) (sym left ∙ (e ∙ right)))
-  where
-    inner : (t : Bool) → cond t (suc (number_among sort m rest)) (number_among sort m rest) ≡ cond t (suc (number_among sort n rest)) (number_among sort n rest) →
-        number_among sort m rest ≡ number_among sort n rest
-    inner true e = omega (arith, e)
-    inner false e = e
+said : (b : Bool) → cond b true false ≡ b
+said true = refl
+said false = refl
 
-same_tests : (a b c d : ℕ) → (c ≡ d → a ≡ b) → (a ≡ b → c ≡ d) → (t u : Bool) → (a == b) ≡ t → (c == d) ≡ u → t ≡ u
-same_tests a b c d f k true true e h = refl
-same_tests a b c d f k true false e h = let g : c ≡ d = k (grind (arith, nat_tests)) in let bad : (c == d) ≡ true = grind (arith, nat_tests) in cc
-same_tests a b c d f k false true e h = let g : a ≡ b = f (grind (arith, nat_tests)) in let bad : (a == b) ≡ true = grind (arith, nat_tests) in cc
-same_tests a b c d f k false false e h = refl
+or_is : (a b : Bool) → (a || b) ≡ cond a true b
+or_is true b = refl
+or_is false b = refl
 
-turned : (b : Bool) → b ≡ false → cond b false true ≡ true
-turned true h = cc
-turned false h = refl
-
-only_front : (a b : Bool) → (a && b) ≡ true → a ≡ true
-only_front true b h = refl
-only_front false b h = cc
+thrice : (a b c : Bool) → (a || (b || ((a || b) || c))) ≡ (a || (b || c))
+thrice true b c = refl
+thrice false true c = refl
+thrice false false c = refl
 
 -- ---- one variable
 
-module _ (text : Text) (j : Judging) (g : PlainGlobal) (is_item : find_item g.name.id text ≡ Some (IsGlobal g)) (changes : is_constant g.kind ≡ false) where
+-- the element `nth` of a global, or the global itself
+module _ (text : Text) (j : Judging) (g : PlainGlobal) (is_item : find_item g.name.id text ≡ Some (IsGlobal g)) (changes : is_constant g.kind ≡ false) (nth : ℕ) (is_one : nth < width g) where
   abbrev pub i : ℕ
   i = g.name.id
 
   -- its number
   abbrev pub v : ℕ
-  v = number_among is_variable g.name.id text
+  v = variable_number g.name.id text + nth
 
   abbrev pub Same : List ℕ → List ℕ → Type 0
   Same vs gs = is_in v vs ≡ is_in i gs
@@ -176,17 +154,41 @@ module _ (text : Text) (j : Judging) (g : PlainGlobal) (is_item : find_item g.na
           let same : h ≡ g = cc in
           let bad : true ≡ false = sym c ∙ (ap (λ (x : PlainGlobal). is_constant x.kind) same ∙ changes) in cc
 
-  variable_same : (id : ℕ) (h : PlainGlobal) → find_item id text ≡ Some (IsGlobal h) → is_constant h.kind ≡ false →
-      (number_among is_variable h.name.id text == v) ≡ (id == i)
-  variable_same id h e c =
-      let there = first_of id (IsGlobal h) text e in
-      let here_ = first_of i (IsGlobal g) text is_item in
-      let named : h.name.id ≡ id = first_id id (IsGlobal h) text there in
-      same_tests (number_among is_variable h.name.id text) v id i
-      (λ d. ap (λ n. number_among is_variable n text) (named ∙ d))
-      (λ d. apart is_variable id i (IsGlobal h) (IsGlobal g) text there here_ (turned (is_constant h.kind) c) (turned (is_constant g.kind) changes)
-      (ap (λ n. number_among is_variable n text) (sym named) ∙ d))
-      (number_among is_variable h.name.id text == v) (id == i) refl refl
+  -- a global's row has the number exactly where it is this global
+  row_same : (id : ℕ) (h : PlainGlobal) → find_item id text ≡ Some (IsGlobal h) → is_constant h.kind ≡ false →
+      is_in v (count_up (variable_number h.name.id text) (width h)) ≡ (id == i)
+  row_same id h e c = pick (is_in v (count_up (variable_number h.name.id text) (width h))) (id == i) refl refl
+    where
+      there : First id (IsGlobal h) text
+      there = first_of id (IsGlobal h) text e
+
+      named : h.name.id ≡ id
+      named = first_id id (IsGlobal h) text there
+
+      pick : (a b : Bool) → is_in v (count_up (variable_number h.name.id text) (width h)) ≡ a → (id == i) ≡ b → a ≡ b
+      pick true true d f = refl
+      pick false false d f = refl
+      pick true false d f =
+          let row = row_of v (variable_number h.name.id text) (width h) d in
+          let low = row.low in
+          let high = row.high in
+          let moved = ap (λ n. variable_number n text) named in
+          let wide = width_of h c in
+          let own = width_of g changes in
+          let same : id ≡ i =
+          apart id i nth (IsGlobal h) (IsGlobal g) text there (first_of i (IsGlobal g) text is_item) (omega (arith, is_one, own))
+          (record { low = omega (arith, low, moved); high = omega (arith, high, moved, wide) }) in
+          let bad : (id == i) ≡ true = grind (arith, nat_tests) in cc
+      pick false true d f =
+          let is : id ≡ i = grind (arith, nat_tests) in
+          let one : Some (IsGlobal h) ≡ Some (IsGlobal g) = sym e ∙ (ap (λ n. find_item n text) is ∙ is_item) in
+          let same : h ≡ g = cc in
+          let found_ : is_in v (count_up (variable_number h.name.id text) (width h)) ≡ true =
+          ap (λ (x : PlainGlobal). is_in v (count_up (variable_number x.name.id text) (width x))) same ∙ in_row v (variable_number g.name.id text) (width g) (omega arith) (omega (arith, is_one)) in cc
+
+  -- such a row in front of the rest of a use
+  row_then : (row vs gs : List ℕ) (id : ℕ) → is_in v row ≡ (id == i) → Same vs gs → Same (row ++ vs) (id ∷ gs)
+  row_then row vs gs id e h = in_append v row vs ∙ (ap (λ b. b || is_in v vs) e ∙ (ap (λ b. (id == i) || b) h ∙ or_is (id == i) (is_in i gs)))
 
   -- a name that isn't this variable
   abbrev NotThis : Name → Meaning → Type 0
@@ -201,20 +203,19 @@ module _ (text : Text) (j : Judging) (g : PlainGlobal) (is_item : find_item g.na
   skip how name (means.Global kind array) fs h = ap (λ b. cond b true (is_in i (globals_in fs))) h
   skip how name (means.Function gives params) fs h = refl
 
-  other : (how : How) (name : Name) (o : Option Seen) (it : Option PlainItem) → ((array : Bool) → fits_variable how array ≡ true → array ≡ true) → find_item name.id text ≡ it →
+  other : (how : How) (name : Name) (o : Option Seen) (it : Option PlainItem) → ((array : Bool) → fits_variable how array ≡ false) → find_item name.id text ≡ it →
       GoodUse j.gives how (local_meaning o (item_meaning it)) → NotThis name (local_meaning o (item_meaning it))
-  other how name (Some x) it arrays e u = tt
-  other how name None None arrays e u = tt
-  other how name None (Some (IsFunction f)) arrays e u = tt
-  other how name None (Some (IsGlobal h)) arrays e u =
-      constant_other name.id h e (only_front (is_constant h.kind) (is_array h.length) (arrays (is_constant h.kind && is_array h.length) u.fits))
+  other how name (Some x) it none e u = tt
+  other how name None None none e u = tt
+  other how name None (Some (IsFunction f)) none e u = tt
+  other how name None (Some (IsGlobal h)) none e u = let bad : false ≡ true = sym (none (is_array (stated_length h))) ∙ u.fits in cc
 
-  -- a use that no scalar variable fits
-  pub skipped : (how : How) (name : Name) (sc : Scope) (fs : List Finding) → ((array : Bool) → fits_variable how array ≡ true → array ≡ true) →
+  -- a use that no variable fits
+  pub skipped : (how : How) (name : Name) (sc : Scope) (fs : List Finding) → ((array : Bool) → fits_variable how array ≡ false) →
       use_faults j how name (meaning text sc name.id) ≡ [] → is_in i (globals_in (Use how name (meaning text sc name.id) ∷ fs)) ≡ is_in i (globals_in fs)
-  skipped how name sc fs arrays h =
+  skipped how name sc fs none h =
       skip how name (meaning text sc name.id) fs
-      (other how name (find_last name.id None (sc.outer ++ sc.here)) (find_item name.id text) arrays refl (good_use j how name (meaning text sc name.id) h))
+      (other how name (find_last name.id None (sc.outer ++ sc.here)) (find_item name.id text) none refl (good_use j how name (meaning text sc name.id) h))
 
   means_same : (sc : Scope) (s : List Slot) (id : ℕ) → Agree sc s → meaning text sc id ≡ local_meaning (seen_option (find_slot id None s)) (item_meaning (find_item id text))
   means_same sc s id m = ap (λ o. local_meaning o (item_meaning (find_item id text))) (ap (find_last id None) (sym m.same) ∙ found id None s)
@@ -230,25 +231,52 @@ module _ (text : Text) (j : Judging) (g : PlainGlobal) (is_item : find_item g.na
   constant_read h None = refl
   constant_read h (Some n) = refl
 
-  global_read : (name : Name) (h : PlainGlobal) (b : Bool) → find_item name.id text ≡ Some (IsGlobal h) → is_constant h.kind ≡ b →
-      Same (vars_in (read_as (cond b (constant_stands text h) (st.AsVariable (number_among is_variable h.name.id text))))) (name.id ∷ [])
-  global_read name h true e c = ap (is_in v) (constant_read h h.length) ∙ sym (ap (λ b. cond b true false) (constant_other name.id h e c))
-  global_read name h false e c = ap (λ b. cond b true false) (variable_same name.id h e c)
+  variable_read : (first : ℕ) (o : Option Number) → not (is_array o) ≡ true →
+      vars_in (read_as (elim o [ None ↦ st.AsVariable first | Some n ↦ st.AsVariables first (elements n) ])) ≡ count_up first (elim o [ None ↦ 1 | Some n ↦ elements n ])
+  variable_read first None e = refl
+  variable_read first (Some n) e = cc
 
-  name_read : (name : Name) (o : Option Slot) (it : Option PlainItem) → find_item name.id text ≡ it →
+  global_read : (name : Name) (h : PlainGlobal) (b : Bool) → find_item name.id text ≡ Some (IsGlobal h) → is_constant h.kind ≡ b → not (is_array (stated_length h)) ≡ true →
+      Same (vars_in (read_as (cond b (constant_stands text h) (variable_stands text h)))) (name.id ∷ [])
+  global_read name h true e c a = ap (is_in v) (constant_read h h.length) ∙ sym (ap (λ b. cond b true false) (constant_other name.id h e c))
+  global_read name h false e c a = ap (is_in v) (variable_read (variable_number h.name.id text) (stated_length h) a) ∙ (row_same name.id h e c ∙ sym (said (name.id == i)))
+
+  name_read : (name : Name) (o : Option Slot) (it : Option PlainItem) → find_item name.id text ≡ it → GoodUse j.gives Reads (local_meaning (seen_option o) (item_meaning it)) →
       Same (vars_in (read_as (elim o [ Some s ↦ slot_stands s | None ↦ item_stands text it ]))) (globals_in (Use Reads name (local_meaning (seen_option o) (item_meaning it)) ∷ []))
-  name_read name (Some x) it e = ap (is_in v) (slot_read x.slot x.size)
-  name_read name None None e = refl
-  name_read name None (Some (IsFunction f)) e = refl
-  name_read name None (Some (IsGlobal h)) e = global_read name h (is_constant h.kind) e refl
+  name_read name (Some x) it e u = ap (is_in v) (slot_read x.slot x.size)
+  name_read name None None e u = refl
+  name_read name None (Some (IsFunction f)) e u = refl
+  name_read name None (Some (IsGlobal h)) e u = global_read name h (is_constant h.kind) e refl u.fits
 
-  element_vars : (x : Stands) (e : Expr) (place : Place) → vars_in (element_as x e place) ≡ vars_in e
-  element_vars (st.AtSlot slot) e place = refl
-  element_vars (st.AtSlots slot n) e place = refl
-  element_vars (st.AsVariable n) e place = refl
-  element_vars (st.AsNumber n) e place = refl
-  element_vars (st.AsTable n) e place = refl
-  element_vars st.AsNothing e place = refl
+  slot_element : (slot : ℕ) (o : Option ℕ) (e : Expr) (place : Place) → vars_in (element_as (elim o [ None ↦ st.AtSlot slot | Some n ↦ st.AtSlots slot n ]) e place) ≡ vars_in e
+  slot_element slot None e place = refl
+  slot_element slot (Some n) e place = refl
+
+  constant_element : (h : PlainGlobal) (o : Option Number) (e : Expr) (place : Place) →
+      vars_in (element_as (elim o [ None ↦ st.AsNumber (first_value h.values) | Some n ↦ st.AsTable (number_among binds.is_table h.name.id text) ]) e place) ≡ vars_in e
+  constant_element h None e place = refl
+  constant_element h (Some n) e place = refl
+
+  variable_element : (first : ℕ) (o : Option Number) (e : Expr) (place : Place) → is_array o ≡ true →
+      vars_in (element_as (elim o [ None ↦ st.AsVariable first | Some n ↦ st.AsVariables first (elements n) ]) e place) ≡ count_up first (elim o [ None ↦ 1 | Some n ↦ elements n ]) ++ vars_in e
+  variable_element first None e place h = cc
+  variable_element first (Some n) e place h = refl
+
+  global_element : (name : Name) (h : PlainGlobal) (b : Bool) (e : Expr) (place : Place) (gs : List ℕ) → find_item name.id text ≡ Some (IsGlobal h) → is_constant h.kind ≡ b →
+      is_array (stated_length h) ≡ true → Same (vars_in e) gs → Same (vars_in (element_as (cond b (constant_stands text h) (variable_stands text h)) e place)) (name.id ∷ gs)
+  global_element name h true e place gs f c a k =
+      ap (is_in v) (constant_element h h.length e place) ∙ (k ∙ sym (ap (λ b. cond b true (is_in i gs)) (constant_other name.id h f c)))
+  global_element name h false e place gs f c a k =
+      ap (is_in v) (variable_element (variable_number h.name.id text) (stated_length h) e place a)
+      ∙ row_then (count_up (variable_number h.name.id text) (width h)) (vars_in e) gs name.id (row_same name.id h f c) k
+
+  name_element : (name : Name) (o : Option Slot) (it : Option PlainItem) (e : Expr) (place : Place) (fs : List Finding) → find_item name.id text ≡ it →
+      GoodUse j.gives Indexes (local_meaning (seen_option o) (item_meaning it)) → Same (vars_in e) (globals_in fs) →
+      Same (vars_in (element_as (elim o [ Some s ↦ slot_stands s | None ↦ item_stands text it ]) e place)) (globals_in (Use Indexes name (local_meaning (seen_option o) (item_meaning it)) ∷ fs))
+  name_element name (Some x) it e place fs f u k = ap (is_in v) (slot_element x.slot x.size e place) ∙ k
+  name_element name None None e place fs f u k = k
+  name_element name None (Some (IsFunction h)) e place fs f u k = k
+  name_element name None (Some (IsGlobal h)) e place fs f u k = global_element name h (is_constant h.kind) e place (globals_in fs) f refl u.fits k
 
   both_from : (a b : List ℕ) (xs ys : List Finding) → findings_faults j (xs ++ ys) ≡ [] → (findings_faults j xs ≡ [] → Same a (globals_in xs)) → (findings_faults j ys ≡ [] → Same b (globals_in ys)) →
       Same (a ++ b) (globals_in (xs ++ ys))
@@ -259,13 +287,16 @@ module _ (text : Text) (j : Judging) (g : PlainGlobal) (is_item : find_item g.na
         Same (vars_in (lower_term text s e)) (globals_in (in_term text sc e))
     term_names sc s m (Num at n) h = refl
     term_names sc s m (Read at name) h =
+        let own = use_faults j Reads name (meaning text sc name.id) in
+        let u = subst (GoodUse j.gives Reads) (means_same sc s name.id m) (good_use j Reads name (meaning text sc name.id) (none_left own [] h)) in
         subst (λ x. Same (vars_in (read_as (stands text s name.id))) (globals_in (Use Reads name x ∷ []))) (sym (means_same sc s name.id m))
-        (name_read name (find_slot name.id None s) (find_item name.id text) refl)
+        (name_read name (find_slot name.id None s) (find_item name.id text) refl u)
     term_names sc s m (Element at name k) h =
         let own = use_faults j Indexes name (meaning text sc name.id) in
-        ap (is_in v) (element_vars (stands text s name.id) (lower_term text s k) name.place)
-        ∙ (term_names sc s m k (none_right own (findings_faults j (in_term text sc k)) h)
-        ∙ sym (skipped Indexes name sc (in_term text sc k) (λ array e. e) (none_left own (findings_faults j (in_term text sc k)) h)))
+        let rest = findings_faults j (in_term text sc k) in
+        let u = subst (GoodUse j.gives Indexes) (means_same sc s name.id m) (good_use j Indexes name (meaning text sc name.id) (none_left own rest h)) in
+        subst (λ x. Same (vars_in (element_as (stands text s name.id) (lower_term text s k) name.place)) (globals_in (Use Indexes name x ∷ in_term text sc k))) (sym (means_same sc s name.id m))
+        (name_element name (find_slot name.id None s) (find_item name.id text) (lower_term text s k) name.place (in_term text sc k) refl u (term_names sc s m k (none_right own rest h)))
     term_names sc s m (Un at op a) h = term_names sc s m a h
     term_names sc s m (Bin at op a b) h = both_from (vars_in (lower_term text s a)) (vars_in (lower_term text s b)) (in_term text sc a) (in_term text sc b) h (λ d. term_names sc s m a d) (λ d. term_names sc s m b d)
     term_names sc s m (And at a b) h = both_from (vars_in (lower_term text s a)) (vars_in (lower_term text s b)) (in_term text sc a) (in_term text sc b) h (λ d. term_names sc s m a d) (λ d. term_names sc s m b d)
@@ -280,7 +311,7 @@ module _ (text : Text) (j : Judging) (g : PlainGlobal) (is_item : find_item g.na
         let how = Computes (count_terms args) in
         let own = use_faults j how name (meaning text sc name.id) in
         terms_names sc s m args (none_right own (findings_faults j (in_terms text sc args)) h)
-        ∙ sym (skipped how name sc (in_terms text sc args) (λ array e. cc) (none_left own (findings_faults j (in_terms text sc args)) h))
+        ∙ sym (skipped how name sc (in_terms text sc args) (λ array. refl) (none_left own (findings_faults j (in_terms text sc args)) h))
 
     pub terms_names : (sc : Scope) (s : List Slot) → Agree sc s → (es : Terms) → findings_faults j (in_terms text sc es) ≡ [] →
         Same (vars_all (lower_terms text s es)) (globals_in (in_terms text sc es))
@@ -324,12 +355,17 @@ module _ (text : Text) (j : Judging) (g : PlainGlobal) (is_item : find_item g.na
   variable_write n id (Some op) value gs e h =
       doubled (n == v) (is_in v (vars_in value)) ∙ once (n == v) (id == i) (is_in v (vars_in value)) (is_in i gs) e h
 
-  global_write : (name : Name) (h : PlainGlobal) (b : Bool) (op : Option OpAt) (value : Expr) (fs : List Finding) → find_item name.id text ≡ Some (IsGlobal h) → is_constant h.kind ≡ b →
-      is_constant h.kind ≡ false → Same (vars_in value) (globals_in fs) →
-      Same (vars_of (assign_to (cond b (constant_stands text h) (st.AsVariable (number_among is_variable h.name.id text))) op value)) (name.id ∷ globals_in fs)
-  global_write name h true op value fs e c d k = cc
-  global_write name h false op value fs e c d k =
-      variable_write (number_among is_variable h.name.id text) name.id op value (globals_in fs) (variable_same name.id h e c) k
+  variable_to : (first id : ℕ) (o : Option Number) (op : Option OpAt) (value : Expr) (gs : List ℕ) → not (is_array o) ≡ true →
+      is_in v (count_up first (elim o [ None ↦ 1 | Some n ↦ elements n ])) ≡ (id == i) → Same (vars_in value) gs →
+      Same (vars_of (assign_to (elim o [ None ↦ st.AsVariable first | Some n ↦ st.AsVariables first (elements n) ]) op value)) (id ∷ gs)
+  variable_to first id None op value gs a e h = variable_write first id op value gs (sym (said (first == v)) ∙ e) h
+  variable_to first id (Some n) op value gs a e h = cc
+
+  global_write : (name : Name) (h : PlainGlobal) (b : Bool) (op : Option OpAt) (value : Expr) (gs : List ℕ) → find_item name.id text ≡ Some (IsGlobal h) → is_constant h.kind ≡ b →
+      is_constant h.kind ≡ false → not (is_array (stated_length h)) ≡ true → Same (vars_in value) gs →
+      Same (vars_of (assign_to (cond b (constant_stands text h) (variable_stands text h)) op value)) (name.id ∷ gs)
+  global_write name h true op value gs e c d a k = cc
+  global_write name h false op value gs e c d a k = variable_to (variable_number h.name.id text) name.id (stated_length h) op value gs a (row_same name.id h e c) k
 
   name_write : (name : Name) (o : Option Slot) (it : Option PlainItem) (op : Option OpAt) (value : Expr) (fs : List Finding) → find_item name.id text ≡ it →
       GoodUse j.gives Writes (local_meaning (seen_option o) (item_meaning it)) → Same (vars_in value) (globals_in fs) →
@@ -337,21 +373,51 @@ module _ (text : Text) (j : Judging) (g : PlainGlobal) (is_item : find_item g.na
   name_write name (Some x) it op value fs e u k = ap (is_in v) (slot_write x.slot x.size op value) ∙ k
   name_write name None None op value fs e u k = ap (is_in v) (nothing_write op value) ∙ k
   name_write name None (Some (IsFunction f)) op value fs e u k = ap (is_in v) (nothing_write op value) ∙ k
-  name_write name None (Some (IsGlobal h)) op value fs e u k = global_write name h (is_constant h.kind) op value fs e refl (u.written refl) k
+  name_write name None (Some (IsGlobal h)) op value fs e u k = global_write name h (is_constant h.kind) op value (globals_in fs) e refl (u.written refl) u.fits k
 
-  at_vars : (x : Stands) (op : Option OpAt) (k value : Expr) (place : Place) → is_in v (vars_of (assign_at x op k value place)) ≡ is_in v (vars_in k ++ vars_in value)
-  at_vars (st.AtSlots slot n) None k value place = refl
-  at_vars (st.AtSlots slot n) (Some op) k value place = twice_in v (vars_in k) (vars_in value)
-  at_vars (st.AtSlot slot) None k value place = refl
-  at_vars (st.AtSlot slot) (Some op) k value place = twice_in v (vars_in k) (vars_in value)
-  at_vars (st.AsVariable n) None k value place = refl
-  at_vars (st.AsVariable n) (Some op) k value place = twice_in v (vars_in k) (vars_in value)
-  at_vars (st.AsNumber n) None k value place = refl
-  at_vars (st.AsNumber n) (Some op) k value place = twice_in v (vars_in k) (vars_in value)
-  at_vars (st.AsTable n) None k value place = refl
-  at_vars (st.AsTable n) (Some op) k value place = twice_in v (vars_in k) (vars_in value)
-  at_vars st.AsNothing None k value place = refl
-  at_vars st.AsNothing (Some op) k value place = twice_in v (vars_in k) (vars_in value)
+  slot_to_at : (slot : ℕ) (o : Option ℕ) (op : Option OpAt) (k value : Expr) (place : Place) →
+      is_in v (vars_of (assign_at (elim o [ None ↦ st.AtSlot slot | Some n ↦ st.AtSlots slot n ]) op k value place)) ≡ is_in v (vars_in k ++ vars_in value)
+  slot_to_at slot None None k value place = refl
+  slot_to_at slot None (Some op) k value place = twice_in v (vars_in k) (vars_in value)
+  slot_to_at slot (Some n) None k value place = refl
+  slot_to_at slot (Some n) (Some op) k value place = twice_in v (vars_in k) (vars_in value)
+
+  nothing_to_at : (op : Option OpAt) (k value : Expr) (place : Place) → is_in v (vars_of (assign_at st.AsNothing op k value place)) ≡ is_in v (vars_in k ++ vars_in value)
+  nothing_to_at None k value place = refl
+  nothing_to_at (Some op) k value place = twice_in v (vars_in k) (vars_in value)
+
+  -- the element is read where it is changed by an operator
+  read_too : (a b c : List ℕ) → is_in v (a ++ (b ++ ((a ++ b) ++ c))) ≡ is_in v (a ++ (b ++ c))
+  read_too a b c =
+      in_append v a (b ++ ((a ++ b) ++ c))
+      ∙ (ap (λ t. is_in v a || t) (in_append v b ((a ++ b) ++ c))
+      ∙ (ap (λ t. is_in v a || (is_in v b || t)) (in_append v (a ++ b) c)
+      ∙ (ap (λ t. is_in v a || (is_in v b || (t || is_in v c))) (in_append v a b)
+      ∙ (thrice (is_in v a) (is_in v b) (is_in v c) ∙ (ap (λ t. is_in v a || t) (sym (in_append v b c)) ∙ sym (in_append v a (b ++ c)))))))
+
+  variable_to_at : (first id : ℕ) (o : Option Number) (op : Option OpAt) (k value : Expr) (place : Place) (gs : List ℕ) → is_array o ≡ true →
+      is_in v (count_up first (elim o [ None ↦ 1 | Some n ↦ elements n ])) ≡ (id == i) → Same (vars_in k ++ vars_in value) gs →
+      Same (vars_of (assign_at (elim o [ None ↦ st.AsVariable first | Some n ↦ st.AsVariables first (elements n) ]) op k value place)) (id ∷ gs)
+  variable_to_at first id None op k value place gs a e h = cc
+  variable_to_at first id (Some n) None k value place gs a e h = row_then (count_up first (elements n)) (vars_in k ++ vars_in value) gs id e h
+  variable_to_at first id (Some n) (Some op) k value place gs a e h =
+      read_too (count_up first (elements n)) (vars_in k) (vars_in value) ∙ row_then (count_up first (elements n)) (vars_in k ++ vars_in value) gs id e h
+
+  global_to_at : (name : Name) (h : PlainGlobal) (b : Bool) (op : Option OpAt) (k value : Expr) (place : Place) (gs : List ℕ) → find_item name.id text ≡ Some (IsGlobal h) → is_constant h.kind ≡ b →
+      is_constant h.kind ≡ false → is_array (stated_length h) ≡ true → Same (vars_in k ++ vars_in value) gs →
+      Same (vars_of (assign_at (cond b (constant_stands text h) (variable_stands text h)) op k value place)) (name.id ∷ gs)
+  global_to_at name h true op k value place gs e c d a s = cc
+  global_to_at name h false op k value place gs e c d a s =
+      variable_to_at (variable_number h.name.id text) name.id (stated_length h) op k value place gs a (row_same name.id h e c) s
+
+  name_to_at : (name : Name) (o : Option Slot) (it : Option PlainItem) (op : Option OpAt) (k value : Expr) (place : Place) (fs : List Finding) → find_item name.id text ≡ it →
+      GoodUse j.gives WritesAt (local_meaning (seen_option o) (item_meaning it)) → Same (vars_in k ++ vars_in value) (globals_in fs) →
+      Same (vars_of (assign_at (elim o [ Some s ↦ slot_stands s | None ↦ item_stands text it ]) op k value place))
+      (globals_in (Use WritesAt name (local_meaning (seen_option o) (item_meaning it)) ∷ fs))
+  name_to_at name (Some x) it op k value place fs e u s = slot_to_at x.slot x.size op k value place ∙ s
+  name_to_at name None None op k value place fs e u s = nothing_to_at op k value place ∙ s
+  name_to_at name None (Some (IsFunction f)) op k value place fs e u s = nothing_to_at op k value place ∙ s
+  name_to_at name None (Some (IsGlobal h)) op k value place fs e u s = global_to_at name h (is_constant h.kind) op k value place (globals_in fs) e refl (u.written refl) u.fits s
 
   pub target_names : (sc : Scope) (s : List Slot) → Agree sc s → (name : Name) (index : Option Term) (op : Option OpAt) (value : Term) →
       findings_faults j (in_target text sc (record { name = name; index = index }) ++ in_term text sc value) ≡ [] →
@@ -366,9 +432,11 @@ module _ (text : Text) (j : Judging) (g : PlainGlobal) (is_item : find_item g.na
   target_names sc s m name (Some k) op value h =
       let own = use_faults j WritesAt name (meaning text sc name.id) in
       let fs = in_term text sc k ++ in_term text sc value in
-      at_vars (stands text s name.id) op (lower_term text s k) (lower_term text s value) name.place
-      ∙ (both_names sc s m k value (none_right own (findings_faults j fs) h)
-      ∙ sym (skipped WritesAt name sc fs (λ array e. e) (none_left own (findings_faults j fs) h)))
+      let rest = findings_faults j fs in
+      let u = subst (GoodUse j.gives WritesAt) (means_same sc s name.id m) (good_use j WritesAt name (meaning text sc name.id) (none_left own rest h)) in
+      subst (λ x. Same (vars_of (assign_at (stands text s name.id) op (lower_term text s k) (lower_term text s value) name.place)) (globals_in (Use WritesAt name x ∷ fs))) (sym (means_same sc s name.id m))
+      (name_to_at name (find_slot name.id None s) (find_item name.id text) op (lower_term text s k) (lower_term text s value) name.place fs refl u
+      (both_names sc s m k value (none_right own rest h)))
 
   -- ---- declarations, parameters
 

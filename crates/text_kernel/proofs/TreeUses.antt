@@ -2,7 +2,7 @@
 use Rattle.std.proofs.Common.{ℕ, zero, suc, ◌+◌, ◌<◌, ◌≡◌, ◌∙◌, sym, ap, refl, subst, Bool, false, not, ◌||◌, Option, Some, None, List, [], ◌∷◌, ◌++◌, append-nil, append_assoc, map, length, length-append, get_or, arith}
 use Rattle.std.specs.Prelude.{slice_get}
 use Rattle.std.proofs.lemmas.List.{map-append}
-use Rattle.std.proofs.lemmas.Option.{slice_get-get_or}
+use Rattle.std.proofs.lemmas.Option.{slice_get-get_or, slice_get_within}
 use Rattle.forec_tree.specs.declared.tree.Name.{Name}
 use Rattle.forec_tree.specs.declared.uses.How.TheVariants.{Runs, Starts}
 use Rattle.forec_tree.specs.Terms.{Term, count_terms, Statement, Declare, Nothing, Group, Assign, Invoke, If, While, For, Pause, Par, Abort, Return, Statements, no_statements, more_statements, Perhaps, absent, present, Branches, no_branches, by_call, by_group, Text, PlainGlobal, PlainFunction, IsGlobal, IsFunction}
@@ -11,12 +11,14 @@ use Rattle.forec_tree.specs.Findings.{Closes, in_bound, in_term, in_terms, in_op
 use Rattle.forec_tree.specs.Rules.{Judging, fault_if, is_constant, use_faults, declared_faults, findings_faults}
 use Rattle.forec_tree.specs.Faults.{is_in, in_function, none_before}
 use Rattle.forec_tree.specs.Pauses.{within, find_function}
-use Rattle.forec_tree.specs.ThreadTree.{Threads, no_threads, thread, followed_by, Placed, nothing, joined, started, globals_in, naming, placed, all_placed, perhaps_placed, branches_placed, body_placed, placed_step, thread_tree, all_named, in_preorder, count_threads, variables, those_in}
+use Rattle.forec_tree.specs.ThreadTree.{Threads, no_threads, thread, followed_by, Placed, nothing, joined, started, globals_in, naming, placed, all_placed, perhaps_placed, branches_placed, body_placed, placed_step, thread_tree, all_named, in_preorder, count_threads, those_in}
+use Rattle.forec_tree.specs.Variables.{PlainVariable, width, variables}
+use Rattle.forec_tree.proofs.VariableCounts.{variables_counted}
 use Rattle.forec_kernel.specs.Terms.{Branch, Stmt}
 use Rattle.forec_kernel.specs.Texts.{uses_of}
 use Rattle.forec_kernel.specs.WellFormed.{count_up}
 use Rattle.text_kernel.specs.declared.names.Slot.{Slot}
-use Rattle.text_kernel.specs.Bindings.{params_at, number_among, is_variable}
+use Rattle.text_kernel.specs.Bindings.{params_at, variable_number}
 use Rattle.text_kernel.specs.Lowering.{NextNumbers, Made, Listed, from_slot, scope_after, scope_after_perhaps, par_after, par_of, after_start, then_step, optional_test, set_params, lower_term, lower_terms, lower_locals, lower_target, lower_statement, lower_list, lower_perhaps, lower_branches, Inlined, inlined_body, inlined_step, nothing_inlined, sequence, ends_with, vars_in, vars_all, vars_of, vars_list, vars_launches, vars_made}
 use Rattle.text_kernel.specs.Kernels.{kernel_of, root, main_id, variable_count, filter_in}
 use Rattle.text_kernel.specs.Laws.{UsesAreThoseOfTheTree}
@@ -29,7 +31,7 @@ use Rattle.text_kernel.proofs.Forks.{at}
 use Rattle.text_kernel.proofs.Fields as fields
 use Rattle.text_kernel.proofs.Faultless.{Clean, clean_of, void_clean, start_found, own_item, found_member, function_item}
 use Rattle.text_kernel.proofs.TreeThreads.{threads_of_tree}
-use Rattle.text_kernel.proofs.ByNumber.{numbered_in, counted, name_at, Behind, all_names, filtered_names}
+use Rattle.text_kernel.proofs.ByNumber.{numbered_in, Behind, all_variables, filtered_variables}
 use Rattle.text_kernel.proofs.NamedVariables as named
 use Rattle.text_kernel.proofs.NamedVariables.{Agree, agree_more, in_append, swapped_in, sequence_vars, ends_vars}
 
@@ -62,7 +64,7 @@ launches_vars : (ls : List Branch) → vars_of (par_of ls) ≡ vars_launches ls
 launches_vars [] = refl
 launches_vars (b ∷ rest) = refl
 
-module _ (text : Text) (names : List (List ℕ)) (g : PlainGlobal) (is_item : find_item g.name.id text ≡ Some (IsGlobal g)) (changes : is_constant g.kind ≡ false) where
+module _ (text : Text) (names : List (List ℕ)) (g : PlainGlobal) (is_item : find_item g.name.id text ≡ Some (IsGlobal g)) (changes : is_constant g.kind ≡ false) (nth : ℕ) (is_one : nth < width g) where
   abbrev j : Judging
   j = record { names = names; gives = false }
 
@@ -70,7 +72,7 @@ module _ (text : Text) (names : List (List ℕ)) (g : PlainGlobal) (is_item : fi
   i = g.name.id
 
   abbrev v : ℕ
-  v = number_among is_variable g.name.id text
+  v = variable_number g.name.id text + nth
 
   abbrev Same : List ℕ → List ℕ → Type 0
   Same vs gs = is_in v vs ≡ is_in i gs
@@ -96,10 +98,10 @@ module _ (text : Text) (names : List (List ℕ)) (g : PlainGlobal) (is_item : fi
   two : (a b : List ℕ) (m n : List Made) (p q : Placed) → Names a m p → Names b n q → Names (a ++ b) (m ++ n) (joined p q)
   two a b m n p q x y =
       record {
-        own = named.same_append text j g is_item changes a b p.named q.named x.own y.own;
+        own = named.same_append text j g is_item changes nth is_one a b p.named q.named x.own y.own;
         all =
             ap (is_in v) (vars_append m n)
-            ∙ (named.same_append text j g is_item changes (vars_made m) (vars_made n) (all_named p.below) (all_named q.below) x.all y.all
+            ∙ (named.same_append text j g is_item changes nth is_one (vars_made m) (vars_made n) (all_named p.below) (all_named q.below) x.all y.all
             ∙ ap (is_in i) (sym (all_followed p.below q.below)));
         each =
             map-append own_named m n
@@ -111,14 +113,14 @@ module _ (text : Text) (names : List (List ℕ)) (g : PlainGlobal) (is_item : fi
   branch_first : (x : Made) (a b : List ℕ) (m n : List Made) (p q : Placed) → vars_of x.body ≡ a → x.named ≡ a ++ vars_made m → Names a m p → Names b n q →
       Names b (x ∷ (m ++ n)) (joined (started p) q)
   branch_first x a b m n p q e d y z =
-      let both = named.same_append text j g is_item changes a (vars_made m) p.named (all_named p.below) y.own y.all in
+      let both = named.same_append text j g is_item changes nth is_one a (vars_made m) p.named (all_named p.below) y.own y.all in
       record {
         own = z.own;
         all =
             ap (λ l. is_in v (l ++ vars_made (m ++ n))) e
             ∙ (ap (λ l. is_in v (a ++ l)) (vars_append m n)
             ∙ (ap (is_in v) (sym (append_assoc a (vars_made m) (vars_made n)))
-            ∙ named.same_append text j g is_item changes (a ++ vars_made m) (vars_made n) (p.named ++ all_named p.below) (all_named q.below) both z.all));
+            ∙ named.same_append text j g is_item changes nth is_one (a ++ vars_made m) (vars_made n) (p.named ++ all_named p.below) (all_named q.below) both z.all));
         each =
             ap (λ t. t ∷ map own_named (m ++ n)) (ap (is_in v) d ∙ both)
             ∙ ap (λ l. is_in i (p.named ++ all_named p.below) ∷ l)
@@ -140,7 +142,7 @@ module _ (text : Text) (names : List (List ℕ)) (g : PlainGlobal) (is_item : fi
           let r = startable false n (find_last name.id None (sc.outer ++ sc.here)) (find_item name.id text) (good_use j (Starts n) name (meaning text sc name.id) h) f e in r.void
 
       behind_agree : (sc : Scope) (s : List Slot) (slot : ℕ) (a : Statement) → Agree sc s → OneEach a → findings_faults j (in_statement text sc a) ≡ [] → Agree (after sc a) (scope_after text s slot a)
-      behind_agree sc s slot (Declare at locals) m o h = (named.locals_names text j g is_item changes sc s m slot locals o h).1
+      behind_agree sc s slot (Declare at locals) m o h = (named.locals_names text j g is_item changes nth is_one sc s m slot locals o h).1
       behind_agree sc s slot (Nothing at) m o h = m
       behind_agree sc s slot (Group at body) m o h = m
       behind_agree sc s slot (Assign at target op value) m o h = m
@@ -169,7 +171,7 @@ module _ (text : Text) (names : List (List ℕ)) (g : PlainGlobal) (is_item : fi
       step_vars x t s n (present a) body = swapped_in x (vars_of body) (vars_of (lower_statement text called t s n a).stmt)
 
       tested : (sc : Scope) (s : List Slot) → Agree sc s → (e : Term) → findings_faults j (in_term text sc e) ≡ [] → Names (vars_in (lower_term text s e)) [] (naming (in_term text sc e))
-      tested sc s m e h = leaf (vars_in (lower_term text s e)) (globals_in (in_term text sc e)) (named.term_names text j g is_item changes sc s m e h)
+      tested sc s m e h = leaf (vars_in (lower_term text s e)) (globals_in (in_term text sc e)) (named.term_names text j g is_item changes nth is_one sc s m e h)
 
       as_one_names : (l : Listed) (p : Placed) → Names (vars_list l.list) l.made p → Names (vars_of (sequence l.list)) l.made p
       as_one_names l p h = alike (vars_list l.list) (vars_of (sequence l.list)) l.made p (ap (is_in v) (sequence_vars l.list)) h
@@ -182,10 +184,10 @@ module _ (text : Text) (names : List (List ℕ)) (g : PlainGlobal) (is_item : fi
             as_one_names (lower_list text called t s n body) (all_placed text tree (entered sc) body) (every t s n (entered sc) body (entered_agree sc s m) o h)
         one t s n sc (Declare at locals) m o h =
             leaf (vars_of (sequence (lower_locals text s n.slot locals))) (globals_in (in_locals text sc locals))
-            (ap (is_in v) (sequence_vars (lower_locals text s n.slot locals)) ∙ (named.locals_names text j g is_item changes sc s m n.slot locals o h).0)
+            (ap (is_in v) (sequence_vars (lower_locals text s n.slot locals)) ∙ (named.locals_names text j g is_item changes nth is_one sc s m n.slot locals o h).0)
         one t s n sc (Assign at target op value) m o h =
             leaf (vars_of (lower_target text s target op (lower_term text s value))) (globals_in (in_target text sc target ++ in_term text sc value))
-            (named.target_names text j g is_item changes sc s m target.name target.index op value h)
+            (named.target_names text j g is_item changes nth is_one sc s m target.name target.index op value h)
         one t s n sc (Invoke at name args) m o h =
             let own = use_faults j (Runs (count_terms args)) name (meaning text sc name.id) in
             let sets = set_params text s n.slot args in
@@ -195,7 +197,7 @@ module _ (text : Text) (names : List (List ℕ)) (g : PlainGlobal) (is_item : fi
             (ap (is_in v) (sequence_vars (ends_with sets l.stmt) ∙ ends_vars sets l.stmt))
             (two (vars_list sets) (vars_of l.stmt) [] l.made (naming (in_terms text sc args)) (tree name.id)
             (leaf (vars_list sets) (globals_in (in_terms text sc args))
-            (named.sets_names text j g is_item changes sc s m n.slot args (none_right own (findings_faults j (in_terms text sc args)) h)))
+            (named.sets_names text j g is_item changes nth is_one sc s m n.slot args (none_right own (findings_faults j (in_terms text sc args)) h)))
             (right name.id n.slot t next (runs_void (count_terms args) sc name (none_left own (findings_faults j (in_terms text sc args)) h))))
         one t s n sc (If at test a b) m o h =
             let l = lower_statement text called t s n a in
@@ -239,7 +241,7 @@ module _ (text : Text) (names : List (List ℕ)) (g : PlainGlobal) (is_item : fi
             ∙ behind_same v (vars_of li.stmt) (vars_in test' ++ vars_of body') (vars_in test' ++ (vars_of lj.stmt ++ vars_of ll.stmt))
             (behind_same v (vars_in test') (vars_of body') (vars_of lj.stmt ++ vars_of ll.stmt) (step_vars v t inside li.next step ll.stmt)))
             (two _ _ _ _ _ _ (maybe t s n (entered sc) start (entered_agree sc s m) o.0 h1)
-            (two (vars_in test') _ [] _ (naming f2) _ (leaf (vars_in test') (globals_in f2) (named.optional_names text j g is_item changes own inside m1 test h2))
+            (two (vars_in test') _ [] _ (naming f2) _ (leaf (vars_in test') (globals_in f2) (named.optional_names text j g is_item changes nth is_one own inside m1 test h2))
             (two _ _ _ _ _ _ (maybe t inside li.next own step m1 o.1 h3) (one t last lj.next end_ body (entered_agree (after_perhaps own step) last m2) o.2 h4))))
         one t s n sc (Pause at) m o h = leaf [] [] refl
         one t s n sc (Par at bs) m o h =
@@ -280,7 +282,7 @@ module _ (text : Text) (names : List (List ℕ)) (g : PlainGlobal) (is_item : fi
             let fs = in_terms text sc args ++ in_branches text sc rest in
             let hs = none_right own (findings_faults j fs) h in
             two (vars_all (lower_terms text s args)) _ [] _ (naming (in_terms text sc args)) _
-            (leaf (vars_all (lower_terms text s args)) (globals_in (in_terms text sc args)) (named.terms_names text j g is_item changes sc s m args (parts_left j (in_terms text sc args) (in_branches text sc rest) hs)))
+            (leaf (vars_all (lower_terms text s args)) (globals_in (in_terms text sc args)) (named.terms_names text j g is_item changes nth is_one sc s m args (parts_left j (in_terms text sc args) (in_branches text sc rest) hs)))
             (branch_first _ (vars_of b.stmt) _ b.made _ (tree name.id) _ refl refl
             (right name.id 0 n.thread inner (starts_void (count_terms args) sc name (none_left own (findings_faults j fs) h)))
             (branches t s par next sc rest m o (parts_right j (in_terms text sc args) (in_branches text sc rest) hs)))
@@ -351,21 +353,21 @@ module _ (text : Text) (names : List (List ℕ)) (clean : Clean text names) (one
       ap (λ (h : PlainFunction). h.gives) (sym same) ∙ s.1.void
 
   -- whether a thread names a variable
-  thread_names : (n : ℕ) → n < length (variables text) → (a : ℕ) → a < length (root text names).made →
-      is_in n (at (root text names).made a).named ≡ is_in (name_at (variables text) n) (get_or (in_preorder tree.below) a [])
-  thread_names n l a k =
-      let r = numbered_in text names none_before text clean.items n l in
+  thread_names : (n : ℕ) (x : PlainVariable) → slice_get (variables text) n ≡ Some x → (a : ℕ) → a < length (root text names).made →
+      is_in n (at (root text names).made a).named ≡ is_in x.global.name.id (get_or (in_preorder tree.below) a [])
+  thread_names n x l a k =
+      let r = numbered_in text names none_before text clean.items n (slice_get_within (variables text) n x l) in
       let is = own_item text names clean (IsGlobal r.global) r.member in
-      let whole = in_turn text names r.global is r.changes (void_clean text names clean) ones (length text) (main_id text names) 0 0 (record { slot = 0; thread = 1; par = 0 }) main_void in
-      ap (λ x. is_in x (at (root text names).made a).named) (sym r.number)
-      ∙ (pointwise (λ m. is_in (number_among is_variable r.global.name.id text) m.named) (λ gs. is_in r.global.name.id gs) (root text names).made (in_preorder tree.below) whole.each a k
-      ∙ ap (λ x. is_in x (get_or (in_preorder tree.below) a [])) (sym r.named))
+      let whole = in_turn text names r.global is r.changes r.index r.below (void_clean text names clean) ones (length text) (main_id text names) 0 0 (record { slot = 0; thread = 1; par = 0 }) main_void in
+      ap (λ m. is_in m (at (root text names).made a).named) (sym r.number)
+      ∙ (pointwise (λ m. is_in (variable_number r.global.name.id text + r.index) m.named) (λ gs. is_in r.global.name.id gs) (root text names).made (in_preorder tree.below) whole.each a k
+      ∙ ap (λ (y : PlainGlobal). is_in y.name.id (get_or (in_preorder tree.below) a [])) (sym (r.of x l)))
 
   from_start : Behind (variables text) 0 (variables text)
-  from_start n l = let e : 0 + n ≡ n = omega arith in ap (name_at (variables text)) e
+  from_start n l = let e : 0 + n ≡ n = omega arith in ap (slice_get (variables text)) e
 
   as_many : variable_count text names ≡ length (variables text)
-  as_many = counted text names text
+  as_many = sym (variables_counted text)
 
   root_uses : uses_of (kernel_of text names) 0 ≡ count_up 0 (variable_count text names)
   unfolding kernel_of
@@ -373,7 +375,7 @@ module _ (text : Text) (names : List (List ℕ)) (clean : Clean text names) (one
 
   pub uses_of_tree : UsesOfTree text (main_id text names) (kernel_of text names)
   uses_of_tree zero l =
-      ap (map (name_at (variables text))) (root_uses ∙ ap (count_up 0) as_many) ∙ all_names (variables text) 0 (variables text) from_start
+      ap (map (slice_get (variables text))) (root_uses ∙ ap (count_up 0) as_many) ∙ all_variables (variables text) 0 (variables text) from_start
   uses_of_tree (suc a) l =
       let k = fields.made_count text names a l in
       let vs = (at (root text names).made a).named in
@@ -384,9 +386,9 @@ module _ (text : Text) (names : List (List ℕ)) (clean : Clean text names) (one
       let long = preorder_long all in
       let there : slice_get (in_preorder all) (suc a) ≡ Some gs =
       slice_get-get_or (in_preorder all) (suc a) [] (omega (arith, long, many, l)) ∙ ap (λ (x : List (List ℕ)). Some (get_or x a [])) (append-nil (in_preorder tree.below)) in
-      ap (map (name_at (variables text))) (fields.uses_made text names a k ∙ ap (λ n. filter_in vs (count_up 0 n)) as_many)
-      ∙ (filtered_names (variables text) vs gs 0 (variables text) from_start (λ n d. (let e : 0 + n ≡ n = omega arith in ap (λ x. is_in x vs) e ∙ thread_names n d a k))
-      ∙ sym (ap (λ o. elim o [ None ↦ [] | Some own ↦ those_in own (variables text) ]) there))
+      ap (map (slice_get (variables text))) (fields.uses_made text names a k ∙ ap (λ n. filter_in vs (count_up 0 n)) as_many)
+      ∙ (filtered_variables (variables text) vs gs 0 (variables text) from_start (λ n x d. (let e : 0 + n ≡ n = omega arith in ap (λ y. is_in y vs) e ∙ thread_names n x d a k))
+      ∙ ap (map Some) (sym (ap (λ o. elim o [ None ↦ [] | Some own ↦ those_in own (variables text) ]) there)))
 
 pub uses_are_those : UsesAreThoseOfTheTree
 uses_are_those text names limit tokens spelled h = uses_of_tree text names (clean_of text names h) (spelled_one limit text tokens spelled)

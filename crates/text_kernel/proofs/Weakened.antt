@@ -1,14 +1,15 @@
 -- A body that is in range among all variables is so among those of them that it names.
-use Rattle.std.proofs.Common.{ℕ, ◌≡◌, ◌∙◌, sym, ap, refl, Bool, true, false, cond, ◌==◌, arith, List, [], ◌∷◌, ◌++◌}
+use Rattle.std.proofs.Common.{ℕ, zero, suc, ◌≡◌, ◌∙◌, sym, ap, refl, Bool, true, false, cond, ◌==◌, arith, List, [], ◌∷◌, ◌++◌}
+use Rattle.std.proofs.lemmas.Bool.{and_from, and_parts}
 use Rattle.std.proofs.lemmas.Bool.Decides.{nat_tests}
 use Rattle.forec_tree.specs.Faults.{is_in}
 use Rattle.forec_kernel.specs.declared.terms.Spot.{Spot}
 use Rattle.forec_kernel.specs.declared.terms.Spot.TheVariants as spot
 use Rattle.forec_kernel.specs.Combining.{contains}
-use Rattle.forec_kernel.specs.Terms.{Expr, Num, Local, LocalAt, Var, TableAt, Un, Bin, And, Or, Choose, Call, Exprs, no_exprs, more_exprs, Branch, Stmt, Nop, Set, SetAt, Clear, Seq, If, While, Pause, Par, Enter, Return, Stmts, no_stmts, more_stmts}
+use Rattle.forec_kernel.specs.Terms.{Expr, Num, Local, LocalAt, Var, SharedAt, TableAt, Un, Bin, And, Or, Choose, Call, Exprs, no_exprs, more_exprs, Branch, Stmt, Nop, Set, SetAt, PutAt, Clear, Seq, If, While, Pause, Par, Enter, Return, Stmts, no_stmts, more_stmts}
 use Rattle.forec_kernel.specs.Shapes.{PlainKernel}
 use Rattle.forec_kernel.specs.WellFormed as wf
-use Rattle.forec_kernel.specs.WellFormed.{FineExpr, FineExprs, FineSpot, FineStmt, FineStmts, FineBranch, FineBranches, IsArray}
+use Rattle.forec_kernel.specs.WellFormed.{FineExpr, FineExprs, FineSpot, FineStmt, FineStmts, FineBranch, FineBranches, IsArray, IsSharedArray, count_up, all_in}
 use Rattle.text_kernel.specs.Lowering.{vars_in, vars_all, vars_spot, vars_of, vars_list, vars_launches}
 use Rattle.text_kernel.specs.Kernels.{filter_in}
 use Rattle.text_kernel.proofs.Covered.{in_left, in_right}
@@ -53,12 +54,23 @@ module _ (k : PlainKernel) (words : ℕ) (all uses : List ℕ) where
   array : (slot n : ℕ) → IsArray wide slot n → IsArray narrow slot n
   array slot n a = record { within = a.within; some = a.some; most = a.most }
 
+  row_holds : (v n : ℕ) (xs : List ℕ) → Holds (count_up v n ++ xs) all uses → all_in (count_up v n) all ≡ true → all_in (count_up v n) uses ≡ true
+  row_holds v zero xs h f = refl
+  row_holds v (suc n) xs h f =
+      let parts = and_parts (contains v all) (all_in (count_up (suc v) n) all) f in
+      and_from (contains v uses) (all_in (count_up (suc v) n) uses) (holds_one v (count_up (suc v) n ++ xs) all uses h parts.0)
+      (row_holds (suc v) n xs (holds_right (v ∷ []) (count_up (suc v) n ++ xs) all uses h) parts.1)
+
+  shared_array : (v n : ℕ) (xs : List ℕ) → Holds (count_up v n ++ xs) all uses → IsSharedArray wide v n → IsSharedArray narrow v n
+  shared_array v n xs h a = record { used = row_holds v n xs h a.used; some = a.some; most = a.most }
+
   mutual
     pub weak_expr : (e : Expr) → Holds (vars_in e) all uses → FineExpr wide e → FineExpr narrow e
     weak_expr (Num n) h f = tt
     weak_expr (Local slot) h f = f
     weak_expr (LocalAt slot n i place) h f = (array slot n f.0, weak_expr i h f.1)
     weak_expr (Var v) h f = holds_one v [] all uses h f
+    weak_expr (SharedAt v n i place) h f = (shared_array v n (vars_in i) h f.0, weak_expr i (holds_right (count_up v n) (vars_in i) all uses h) f.1)
     weak_expr (TableAt t i place) h f = (f.0, weak_expr i h f.1)
     weak_expr (Un op a) h f = weak_expr a h f
     weak_expr (Bin op a b place) h f = (f.0, weak_expr a (holds_left (vars_in a) (vars_in b) all uses h) f.1, weak_expr b (holds_right (vars_in a) (vars_in b) all uses h) f.2)
@@ -92,6 +104,12 @@ module _ (k : PlainKernel) (words : ℕ) (all uses : List ℕ) where
     weak_stmt b (Set to e) h f = (weak_spot to (holds_left (vars_spot to) (vars_in e) all uses h) f.0, weak_expr e (holds_right (vars_spot to) (vars_in e) all uses h) f.1)
     weak_stmt b (SetAt slot n i e place) h f =
         (array slot n f.0, weak_expr i (holds_left (vars_in i) (vars_in e) all uses h) f.1, weak_expr e (holds_right (vars_in i) (vars_in e) all uses h) f.2)
+    weak_stmt b (PutAt v n i e place) h f =
+        let r = holds_right (count_up v n) (vars_in i ++ vars_in e) all uses h in (
+          shared_array v n (vars_in i ++ vars_in e) h f.0,
+          weak_expr i (holds_left (vars_in i) (vars_in e) all uses r) f.1,
+          weak_expr e (holds_right (vars_in i) (vars_in e) all uses r) f.2,
+        )
     weak_stmt b (Clear slot n) h f = array slot n f
     weak_stmt b (Seq list) h f = weak_stmts b list h f
     weak_stmt b (If e x y) h f =

@@ -79,7 +79,7 @@ module _ (text : Text) (names : List (List ℕ)) (clean : Clean text names) wher
       subst (Runnable 0) same (record { void = s.1.void; params = s.1.params })
 
   pub made_fine : AllFine k all (root text names).made
-  made_fine = below text k all names (known_thread text names) (void_clean text names clean) (length text) 0 0 0 (main_id text names) (record { slot = 0; thread = 1; par = 0 }) main_runs (root_sits text names)
+  made_fine = below text k all names (known_thread text names clean) (void_clean text names clean) (length text) 0 0 0 (main_id text names) (record { slot = 0; thread = 1; par = 0 }) main_runs (root_sits text names)
 
   words_made : (i : ℕ) → i < length (root text names).made → words_of k (suc i) ≡ (at (root text names).made i).words
   unfolding kernel_of
@@ -123,7 +123,7 @@ module _ (text : Text) (names : List (List ℕ)) (clean : Clean text names) wher
       record {
         params = root_params;
         uses = root_ascends;
-        body = main_fine text names (void_clean text names clean) main_runs;
+        body = main_fine text names clean (void_clean text names clean) main_runs;
         pars = fields.thread_pars text names 0 l;
         words = within.words k h 0 l;
         depth = within.depth k h 0 l;

@@ -6,13 +6,14 @@ use Rattle.forec_base.specs.declared.operators.Binary.TheVariants as op
 use Rattle.forec_tree.specs.declared.tree.Name.{Name}
 use Rattle.forec_tree.specs.declared.tree.Number.{Number}
 use Rattle.forec_tree.specs.declared.tree.OpAt.{OpAt}
-use Rattle.forec_tree.specs.declared.tree.GlobalKind.TheVariants.{Input, Output, SharedOutput}
+use Rattle.forec_tree.specs.declared.tree.GlobalKind.TheVariants.{Input, Output, Plain, SharedOutput}
 use Rattle.forec_tree.specs.Terms.{Num, Read, Element, Bin, no_terms, more_terms, Written, Declare, Assign, Invoke, While, For, Group, Pause, Par, Abort, Return, Statements, no_statements, more_statements, present, no_branches, by_call, by_group, Text, PlainItem, IsGlobal, IsFunction}
 use Rattle.forec_tree.specs.Pauses.{within}
 use Rattle.forec_tree.specs.Threads.{instances}
 use Rattle.forec_tree.specs.Turns.{run_of, is_i32}
 use Rattle.forec_tree.proofs.Runs.{value_at, run_is}
 use Rattle.std.specs.Prelude.{int_lt}
+use Rattle.std.specs.Fmt.{digits}
 use Rattle.forec_tree.specs.Faults.{text_faults, late_faults}
 use Rattle.forec_kernel.specs.declared.terms.Spot.TheVariants as spot
 use Rattle.forec_kernel.specs.Terms as kernel
@@ -277,3 +278,66 @@ p7_threads : (kernel_of p7 p7_names).shape.threads
     ∷ []
 unfolding kernel_of within
 p7_threads = refl
+
+-- output int o = 0;   shared output int h[3] = {4} combine mod with plus;   int c = 7;   int plus(int x, int y) { return x + y; }
+-- void a(void) { h[1] = c; }   void b(void) { h[0] += h[2]; }   void main(void) { par(a, b); o = h[1]; }
+abbrev p8_names : List (List ℕ)
+p8_names = codes "o" ∷ codes "h" ∷ codes "c" ∷ codes "plus" ∷ codes "x" ∷ codes "y" ∷ codes "a" ∷ codes "b" ∷ codes "main" ∷ []
+
+abbrev task : ℕ → Statements → PlainItem
+task id body = IsFunction (record { name = name id; gives = false; params = []; body = body })
+
+abbrev h_at : ℤ → Written
+h_at i = record { name = name 1; index = Some (Num p i) }
+
+abbrev p8 : Text
+p8 =
+    output
+    ∷ IsGlobal (record { name = name 1; kind = SharedOutput; length = Some (num (pos 3)); values = num (pos 4) ∷ []; combine = Some (record { policy = Mod; with = name 3 }) })
+    ∷ IsGlobal (record { name = name 2; kind = Plain; length = None; values = num (pos 7) ∷ []; combine = None })
+    ∷ IsFunction (record { name = name 3; gives = true; params = name 4 ∷ name 5 ∷ []; body = more_statements (Return p (Bin p op.Add (Read p (name 4)) (Read p (name 5)))) no_statements })
+    ∷ task 6 (more_statements (Assign p (h_at (pos 1)) None (Read p (name 2))) no_statements)
+    ∷ task 7 (more_statements (Assign p (h_at (pos 0)) (Some add) (Element p (name 1) (Num p (pos 2)))) no_statements)
+    ∷ task 8
+    (more_statements (Par p (by_call (name 6) no_terms (by_call (name 7) no_terms no_branches)))
+    (more_statements (Assign p (to 0) None (Element p (name 1) (Num p (pos 1)))) no_statements))
+    ∷ []
+
+abbrev p8_kernel : PlainKernel
+p8_kernel =
+    record {
+      shape = record {
+        threads =
+            record { parent = None; par = None; name = Some (codes "main"); params = 0; words = 0; uses = 0 ∷ 1 ∷ 2 ∷ 3 ∷ 4 ∷ [] }
+            ∷ record { parent = Some 0; par = Some 0; name = Some (codes "a"); params = 0; words = 0; uses = 1 ∷ 2 ∷ 3 ∷ 4 ∷ [] }
+            ∷ record { parent = Some 0; par = Some 0; name = Some (codes "b"); params = 0; words = 0; uses = 1 ∷ 2 ∷ 3 ∷ [] }
+            ∷ [];
+        variables =
+            record { policy = Mod; combine = None; start = pos 0; input = false }
+            ∷ record { policy = Mod; combine = Some 0; start = pos 4; input = false }
+            ∷ record { policy = Mod; combine = Some 0; start = pos 0; input = false }
+            ∷ record { policy = Mod; combine = Some 0; start = pos 0; input = false }
+            ∷ record { policy = Mod; combine = None; start = pos 7; input = false }
+            ∷ [];
+        functions = record { params = 2; words = 2 } ∷ [];
+        tables = [];
+        inputs = [];
+        outputs = 0 ∷ 1 ∷ 2 ∷ 3 ∷ [];
+        names = codes "o" ∷ codes "h[0]" ∷ codes "h[1]" ∷ codes "h[2]" ∷ codes "c" ∷ [];
+      };
+      threads =
+          kernel.Seq
+          (more_stmts (kernel.Par (record { thread = 1; args = no_exprs } ∷ record { thread = 2; args = no_exprs } ∷ []))
+          (more_stmts (kernel.Set (spot.Variable 0) (kernel.SharedAt 1 3 (kernel.Num (pos 1)) p)) no_stmts))
+          ∷ kernel.PutAt 1 3 (kernel.Num (pos 1)) (kernel.Var 4) p
+          ∷ kernel.PutAt 1 3 (kernel.Num (pos 0)) (kernel.Bin op.Add (kernel.SharedAt 1 3 (kernel.Num (pos 0)) p) (kernel.SharedAt 1 3 (kernel.Num (pos 2)) p) None) p
+          ∷ [];
+      functions = kernel.Return (kernel.Bin op.Add (kernel.Local 0) (kernel.Local 1) None) ∷ [];
+    }
+
+p8_is : kernel_of p8 p8_names ≡ p8_kernel
+unfolding kernel_of within digits
+p8_is = refl
+
+p8_no_fault : text_faults p8 p8_names ≡ []
+p8_no_fault = refl

@@ -1,7 +1,8 @@
 -- The threads of a kernel, beside the tree of threads that the rules of the language speak of.
-use Rattle.std.specs.Prelude.{ℕ, suc, ◌+◌, ◌≡◌, ◌<◌, Option, Some, None, List, [], ◌∷◌, ◌++◌, map, length, get_or}
+use Rattle.std.specs.Prelude.{ℕ, suc, ◌+◌, ◌≡◌, ◌<◌, Option, Some, None, List, [], ◌∷◌, ◌++◌, map, length, slice_get}
 use Rattle.forec_tree.specs.Terms.{Text}
-use Rattle.forec_tree.specs.ThreadTree.{Threads, no_threads, thread, count_threads, thread_tree, variables, uses}
+use Rattle.forec_tree.specs.Variables.{variables}
+use Rattle.forec_tree.specs.ThreadTree.{Threads, no_threads, thread, count_threads, thread_tree, uses}
 use Rattle.forec_kernel.specs.Shapes.{PlainKernel}
 use Rattle.forec_kernel.specs.Texts.{uses_of}
 
@@ -15,6 +16,7 @@ pub record ThreadsOfTree (text : Text) (first : ℕ) (k : PlainKernel) : Type 0 
   pub count : length k.threads ≡ count_threads (thread_tree text first)
   pub parents : map (λ s. s.parent) k.shape.threads ≡ parents None 0 (thread_tree text first)
 
--- The variables of which a thread of a kernel has copies are those that occur in the text of the instance of its number, or of one below it.
+-- The variables of which a thread of a kernel has copies are those whose names occur in the text of the instance of its number, or of one below
+-- it; each element of a shared array is a variable.
 abbrev pub UsesOfTree : Text → ℕ → PlainKernel → Type 0
-UsesOfTree text first k = (t : ℕ) → t < length k.threads → map (λ v. get_or (variables text) v 0) (uses_of k t) ≡ uses text first t
+UsesOfTree text first k = (t : ℕ) → t < length k.threads → map (slice_get (variables text)) (uses_of k t) ≡ map Some (uses text first t)

@@ -1,4 +1,4 @@
--- The variables, int functions and constant arrays among the items of a program.
+-- The globals that are variables, the int functions and the constant arrays among the items of a program.
 use Rattle.std.specs.Prelude.{◌≡◌, ℕ, ℤ, cond, ◌&&◌, Option, Some, None, is_some, List, [], ◌∷◌, ◌++◌, map}
 use Rattle.std.specs.Borrow.{Bor}
 use Rattle.forec_tree.specs.declared.tree.Global.{Global}
@@ -6,6 +6,7 @@ use Rattle.forec_tree.specs.declared.tree.Function.{Function}
 use Rattle.forec_tree.specs.Terms.{PlainItem, PlainGlobal, PlainFunction, IsGlobal, IsFunction}
 use Rattle.forec_tree.specs.Plain.{plain_global, plain_function}
 use Rattle.forec_tree.specs.Rules.{is_constant}
+use Rattle.forec_tree.specs.Variables.{PlainVariable, variables_of}
 use Rattle.text_kernel.specs.Bindings.{number_of}
 use Rattle.text_kernel.specs.Kernels.{padded}
 
@@ -15,10 +16,20 @@ globals_of = map (λ r. plain_global r.now)
 abbrev pub functions_of : List (Bor Function) → List PlainFunction
 functions_of = map (λ r. plain_function r.now)
 
--- the variable that an item declares
+-- the global whose variables an item declares
 abbrev pub variable_in : PlainItem → Option PlainGlobal
 variable_in (IsFunction f) = None
 variable_in (IsGlobal g) = cond (is_constant g.kind) None (Some g)
+
+abbrev pub variable_items : List PlainItem → List PlainGlobal
+variable_items [] = []
+variable_items (IsFunction f ∷ rest) = variable_items rest
+variable_items (IsGlobal g ∷ rest) = cond (is_constant g.kind) (variable_items rest) (g ∷ variable_items rest)
+
+-- globals that aren't constants, each with all its elements
+abbrev pub each_variable : List PlainGlobal → List PlainVariable
+each_variable [] = []
+each_variable (g ∷ rest) = variables_of g ++ each_variable rest
 
 -- the int function that an item is
 abbrev pub int_in : PlainItem → Option PlainFunction

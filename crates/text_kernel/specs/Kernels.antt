@@ -1,5 +1,5 @@
 -- The kernel of a program.
-use Rattle.std.specs.Prelude.{ℕ, zero, suc, ℤ, pos, Bool, cond, Option, Some, None, List, [], ◌∷◌, ◌++◌, length, map}
+use Rattle.std.specs.Prelude.{ℕ, zero, suc, ℤ, pos, Bool, cond, Option, Some, None, List, [], ◌∷◌, ◌++◌, length, map, codes, decimal}
 use Rattle.forec_base.specs.declared.Policy.{Policy}
 use Rattle.forec_base.specs.declared.Policy.TheVariants.{Mod}
 use Rattle.forec_kernel.specs.declared.shape.Variable.{Variable}
@@ -10,9 +10,10 @@ use Rattle.forec_tree.specs.declared.tree.Combine.{Combine}
 use Rattle.forec_tree.specs.declared.tree.Number.{Number}
 use Rattle.forec_tree.specs.declared.tree.GlobalKind.{GlobalKind}
 use Rattle.forec_tree.specs.Terms.{Text, PlainGlobal, PlainFunction, IsGlobal, IsFunction}
+use Rattle.forec_tree.specs.Variables.{PlainVariable, variables, count_variables}
 use Rattle.forec_tree.specs.Rules.{bytes_of, is_constant, is_input, is_output}
 use Rattle.forec_tree.specs.Faults.{start_name, is_in}
-use Rattle.text_kernel.specs.Bindings.{params_at, number_of, number_among, is_int_function, first_value}
+use Rattle.text_kernel.specs.Bindings.{params_at, number_of, number_among, is_int_function, first_value, nth_value}
 use Rattle.text_kernel.specs.Lowering.{Made, Lowered, Listed, lowered, sequence, lower_list, inlined}
 
 abbrev pub filter_in : List ℕ → List ℕ → List ℕ
@@ -24,14 +25,21 @@ padded zero values = []
 padded (suc n) [] = pos 0 ∷ padded n []
 padded (suc n) (v ∷ rest) = v.value ∷ padded n rest
 
-module _ (text : Text) (names : List (List ℕ)) where
-  abbrev pub variable_items : Text → List PlainGlobal
-  variable_items [] = []
-  variable_items (IsFunction f ∷ rest) = variable_items rest
-  variable_items (IsGlobal g ∷ rest) = cond (is_constant g.kind) (variable_items rest) (g ∷ variable_items rest)
+-- the value of the first number, or the one that an element has; 0 where none is given
+abbrev pub initial_value : PlainVariable → ℤ
+initial_value v = elim v.index [ None ↦ first_value v.global.values | Some i ↦ nth_value i v.global.values ]
 
+-- an element is named by its array and its index, as in h[0]
+abbrev pub element_name : List ℕ → Option ℕ → List ℕ
+element_name name None = name
+element_name name (Some i) = name ++ codes "[" ++ decimal i ++ codes "]"
+
+abbrev pub variable_name : List (List ℕ) → PlainVariable → List ℕ
+variable_name names v = element_name (bytes_of names v.global.name.id) v.index
+
+module _ (text : Text) (names : List (List ℕ)) where
   abbrev pub variable_count : ℕ
-  variable_count = length (variable_items text)
+  variable_count = count_variables text
 
   abbrev pub policy_of : Option Combine → Policy
   policy_of None = Mod
@@ -41,12 +49,13 @@ module _ (text : Text) (names : List (List ℕ)) where
   combine_of None = None
   combine_of (Some c) = Some (number_among is_int_function c.with.id text)
 
-  abbrev pub variable_shape : PlainGlobal → Variable
-  variable_shape g = record { policy = policy_of g.combine; combine = combine_of g.combine; start = first_value g.values; input = is_input g.kind }
+  abbrev pub variable_shape : PlainVariable → Variable
+  variable_shape v =
+      record { policy = policy_of v.global.combine; combine = combine_of v.global.combine; start = initial_value v; input = is_input v.global.kind }
 
-  abbrev pub numbers_of : (GlobalKind → Bool) → ℕ → List PlainGlobal → List ℕ
+  abbrev pub numbers_of : (GlobalKind → Bool) → ℕ → List PlainVariable → List ℕ
   numbers_of sort n [] = []
-  numbers_of sort n (g ∷ rest) = cond (sort g.kind) (n ∷ numbers_of sort (suc n) rest) (numbers_of sort (suc n) rest)
+  numbers_of sort n (v ∷ rest) = cond (sort v.global.kind) (n ∷ numbers_of sort (suc n) rest) (numbers_of sort (suc n) rest)
 
   abbrev pub table_of : PlainGlobal → List (List ℤ)
   table_of g = cond (is_constant g.kind) (elim g.length [ None ↦ [] | Some n ↦ padded (number_of n) g.values ∷ [] ]) []
@@ -101,12 +110,12 @@ module _ (text : Text) (names : List (List ℕ)) where
   shape_of =
       record {
         threads = root_shape ∷ map thread_shape root.made;
-        variables = map variable_shape (variable_items text);
+        variables = map variable_shape (variables text);
         functions = map (λ f. record { params = length f.params; words = (function_body f).next.slot }) (int_functions text);
         tables = tables_of text;
-        inputs = numbers_of is_input 0 (variable_items text);
-        outputs = numbers_of is_output 0 (variable_items text);
-        names = map (λ g. bytes_of names g.name.id) (variable_items text);
+        inputs = numbers_of is_input 0 (variables text);
+        outputs = numbers_of is_output 0 (variables text);
+        names = map (variable_name names) (variables text);
       }
 
   -- `KernelOf`

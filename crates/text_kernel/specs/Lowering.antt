@@ -6,7 +6,7 @@ use Rattle.forec_kernel.specs.declared.terms.Spot.{Spot}
 use Rattle.forec_kernel.specs.declared.terms.Spot.TheVariants as spot
 use Rattle.forec_kernel.specs.Terms as kernel
 use Rattle.forec_kernel.specs.Terms.{Expr, Exprs, no_exprs, more_exprs, Stmt, Stmts, no_stmts, more_stmts, Branch}
-use Rattle.forec_kernel.specs.WellFormed.{can_divide}
+use Rattle.forec_kernel.specs.WellFormed.{can_divide, count_up}
 use Rattle.forec_tree.specs.declared.tree.Name.{Name}
 use Rattle.forec_tree.specs.declared.tree.Number.{Number}
 use Rattle.forec_tree.specs.declared.tree.OpAt.{OpAt}
@@ -32,6 +32,7 @@ read_as _ = kernel.Num (pos 0)
 
 abbrev pub element_as : Stands → Expr → Place → Expr
 element_as (st.AtSlots slot size) i place = kernel.LocalAt slot size i place
+element_as (st.AsVariables v n) i place = kernel.SharedAt v n i place
 element_as (st.AsTable t) i place = kernel.TableAt t i place
 -- never so in a program without faults; the term is of the same size
 element_as _ i place = kernel.TableAt 0 i place
@@ -125,6 +126,7 @@ abbrev mutual
   vars_in (kernel.Local x) = []
   vars_in (kernel.LocalAt x n i place) = vars_in i
   vars_in (kernel.Var v) = v ∷ []
+  vars_in (kernel.SharedAt v n i place) = count_up v n ++ vars_in i
   vars_in (kernel.TableAt t i place) = vars_in i
   vars_in (kernel.Un op a) = vars_in a
   vars_in (kernel.Bin op a b place) = vars_in a ++ vars_in b
@@ -150,6 +152,7 @@ abbrev mutual
   vars_of kernel.Nop = []
   vars_of (kernel.Set to e) = vars_spot to ++ vars_in e
   vars_of (kernel.SetAt x n i e place) = vars_in i ++ vars_in e
+  vars_of (kernel.PutAt v n i e place) = count_up v n ++ (vars_in i ++ vars_in e)
   vars_of (kernel.Clear x n) = []
   vars_of (kernel.Seq list) = vars_list list
   vars_of (kernel.If e a b) = vars_in e ++ (vars_of a ++ vars_of b)
@@ -184,6 +187,8 @@ assign_to _ op value = kernel.Set (spot.Local 0) (operated op (kernel.Num (pos 0
 abbrev pub assign_at : Stands → Option OpAt → Expr → Expr → Place → Stmt
 assign_at (st.AtSlots slot size) op i value place =
     kernel.SetAt slot size i (operated op (kernel.LocalAt slot size i place) value) place
+assign_at (st.AsVariables v n) op i value place =
+    kernel.PutAt v n i (operated op (kernel.SharedAt v n i place) value) place
 assign_at _ op i value place = kernel.SetAt 0 0 i (operated op (kernel.LocalAt 0 0 i place) value) place
 
 abbrev pub bound_of : Option Number → Option ℕ

@@ -13,13 +13,14 @@ pub struct Slot {
     pub size: Option<u32>,
 }
 
-/// What a name stands for in the kernel: a word, the words of an array, a variable, the number of a
-/// constant, or a constant array.
+/// What a name stands for in the kernel: a word, the words of an array, a variable, the variables of a shared
+/// array, of which the first is given, the number of a constant, or a constant array.
 #[derive(Clone, Copy)]
 pub enum Stands {
     AtSlot { slot: u32 },
     AtSlots { slot: u32, size: u32 },
-    AsVariable { variable: u32 },
+    AsVariable { variable: u64 },
+    AsVariables { variable: u64, length: u32 },
     AsNumber { value: i32 },
     AsTable { table: u32 },
     AsNothing,

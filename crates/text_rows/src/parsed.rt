@@ -8,7 +8,7 @@ use std::alloc::Global;
 use std::test::Fail;
 
 /// Texts, each with the number of items of the program that it spells, if it spells one.
-const ROWS: [(&str, Option<usize>); 43] = [
+const ROWS: [(&str, Option<usize>); 55] = [
     ("", Some(0)),
     ("const int a = -1, b[2] = {1, -2};", Some(2)),
     ("input int a, b, c;", Some(3)),
@@ -21,6 +21,12 @@ const ROWS: [(&str, Option<usize>); 43] = [
         "output shared int a combine mod with f; void f(void) { }",
         Some(2),
     ),
+    ("shared int a[2] combine all with f;", Some(1)),
+    (
+        "shared output int a[2] = {1, -2} combine new with f;",
+        Some(1),
+    ),
+    ("output shared int a[2] combine mod with f; int b;", Some(2)),
     ("void f() { ; }", Some(1)),
     ("void f(void) { { pause; } }", Some(1)),
     (
@@ -50,6 +56,15 @@ const ROWS: [(&str, Option<usize>); 43] = [
     ),
     (";", None),
     ("int a[2];", None),
+    ("shared int a[] combine all with f;", None),
+    ("shared int a[-1] combine all with f;", None),
+    ("shared int a[2] = 1 combine all with f;", None),
+    ("shared int a[2] = {} combine all with f;", None),
+    ("shared int a = {1} combine all with f;", None),
+    ("shared int a[2], b combine all with f;", None),
+    ("shared int a[2];", None),
+    ("input int a[2];", None),
+    ("output int a[2];", None),
     ("const int a;", None),
     ("input int a = 1;", None),
     ("shared int a, b combine all with f;", None),

@@ -20,6 +20,7 @@ read_weight : (x : Stands) → expr_weight (read_as x) ≡ 1
 read_weight (st.AtSlot slot) = refl
 read_weight (st.AtSlots slot size) = refl
 read_weight (st.AsVariable v) = refl
+read_weight (st.AsVariables v n) = refl
 read_weight (st.AsNumber n) = refl
 read_weight (st.AsTable t) = refl
 read_weight st.AsNothing = refl
@@ -28,6 +29,7 @@ element_weight : (x : Stands) (i : Expr) (place : Place) → expr_weight (elemen
 element_weight (st.AtSlot slot) i place = refl
 element_weight (st.AtSlots slot size) i place = refl
 element_weight (st.AsVariable v) i place = refl
+element_weight (st.AsVariables v n) i place = refl
 element_weight (st.AsNumber n) i place = refl
 element_weight (st.AsTable t) i place = refl
 element_weight st.AsNothing i place = refl
@@ -77,6 +79,7 @@ assign_terms : (x : Stands) (op : Option OpAt) (value : Expr) (n : ℕ) → expr
 assign_terms (st.AtSlot slot) op value n g = ap (λ k. 1 + k) (operated_weight op (kernel.Local slot) value 1 n refl g)
 assign_terms (st.AsVariable v) op value n g = ap (λ k. 1 + k) (operated_weight op (kernel.Var v) value 1 n refl g)
 assign_terms (st.AtSlots slot size) op value n g = ap (λ k. 1 + k) (operated_weight op _ value 1 n refl g)
+assign_terms (st.AsVariables v k) op value n g = ap (λ k. 1 + k) (operated_weight op _ value 1 n refl g)
 assign_terms (st.AsNumber m) op value n g = ap (λ k. 1 + k) (operated_weight op _ value 1 n refl g)
 assign_terms (st.AsTable t) op value n g = ap (λ k. 1 + k) (operated_weight op _ value 1 n refl g)
 assign_terms st.AsNothing op value n g = ap (λ k. 1 + k) (operated_weight op _ value 1 n refl g)
@@ -85,6 +88,8 @@ at_terms : (x : Stands) (op : Option OpAt) (i value : Expr) (place : Place) (m n
     stmt_terms (assign_at x op i value place) ≡ 1 + m + operated_count op (1 + m) n
 at_terms (st.AtSlots slot size) op i value place m n h g =
     let e = operated_weight op (kernel.LocalAt slot size i place) value (1 + m) n (ap (λ k. 1 + k) h) g in omega (arith, e, h)
+at_terms (st.AsVariables v k) op i value place m n h g =
+    let e = operated_weight op (kernel.SharedAt v k i place) value (1 + m) n (ap (λ k. 1 + k) h) g in omega (arith, e, h)
 at_terms (st.AtSlot slot) op i value place m n h g =
     let e = operated_weight op (kernel.LocalAt 0 0 i place) value (1 + m) n (ap (λ k. 1 + k) h) g in omega (arith, e, h)
 at_terms (st.AsVariable v) op i value place m n h g =

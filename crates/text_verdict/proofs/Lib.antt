@@ -1,3 +1,4 @@
+mod PacedVerdicts
 mod LeastFault
 mod Lexing
 mod Limits

@@ -1,5 +1,5 @@
 //! Laws of the verdicts.
-ghost use Rattle.text_verdict.specs.Laws.{OneVerdict, SomeVerdict};
+ghost use Rattle.text_verdict.specs.Laws.{OneVerdict, SomeVerdict, AcceptedTextsAreFormed, AcceptedTextsArePaced, AcceptedTextsAreNeverOver};
 
 use forec_lexer::one_lexing;
 use forec_parser::one_program;
@@ -16,4 +16,16 @@ pub fn one_verdict()
 /// It can't be that a text has no verdict.
 pub fn each_text_has_a_verdict()
     ensures { SomeVerdict }
+{}
+
+/// The kernel of a text that is accepted keeps the condition of kernels.
+pub fn each_accepted_text_is_formed()
+    ensures { AcceptedTextsAreFormed }
+{}
+
+/// The kernel of a text that is accepted is paced, and with a budget of at least its worst case no run of it has a tick
+/// that is over.
+pub fn each_accepted_text_is_paced()
+    ensures paced { AcceptedTextsArePaced }
+    ensures never_over { AcceptedTextsAreNeverOver }
 {}

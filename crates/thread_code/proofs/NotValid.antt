@@ -5,7 +5,7 @@ use Rattle.forec_base.specs.declared.Place.{Place}
 use Rattle.forec_base.specs.declared.Policy.TheVariants as policy
 use Rattle.forec_base.specs.declared.operators.Binary.TheVariants as binary
 use Rattle.thread_code.specs.declared.instruction.Instruction.{Instruction}
-use Rattle.thread_code.specs.declared.instruction.Instruction.TheVariants.{Push, Load, LoadAt, Clear, Table, Get, Binary, Jump, Unit as Count, Turn, Flag, Flagged, Fork, Again, Pause, End, Call, Return}
+use Rattle.thread_code.specs.declared.instruction.Instruction.TheVariants.{Push, Load, LoadAt, Clear, Table, Get, GetAt, PutAt, Binary, Jump, Unit as Count, Turn, Flag, Flagged, Fork, Again, Pause, End, Call, Return}
 use Rattle.thread_code.specs.Plain.{PlainBlock, PlainCode}
 use Rattle.thread_code.specs.Valid.{IsSound, thread_scope, function_scope, deep_within}
 use Rattle.thread_code.proofs.WorkedCodes.{joined_code}
@@ -100,6 +100,26 @@ not_used s =
     let f = s.valid.each 0 0 (Get 1) refl s.valid.start in
     let e = f.0 in cc
 
+-- each element of a shared array is used
+element_not_used : In_main (Push (pos 0) ∷ GetAt 0 2 at ∷ End ∷ []) → ⊥
+element_not_used s =
+    let f = s.valid.each 0 0 (Push (pos 0)) refl s.valid.start in
+    let g = s.valid.each 1 1 (GetAt 0 2 at) refl f in
+    let e = g.0 in cc
+
+set_element_not_used : In_main (Push (pos 0) ∷ Push (pos 0) ∷ PutAt 0 2 at ∷ End ∷ []) → ⊥
+set_element_not_used s =
+    let f = s.valid.each 0 0 (Push (pos 0)) refl s.valid.start in
+    let g = s.valid.each 1 1 (Push (pos 0)) refl f in
+    let h = s.valid.each 2 2 (PutAt 0 2 at) refl g in
+    let e = h.0 in cc
+
+-- a store into an element finds its index and its number
+one_number : In_main (Push (pos 0) ∷ PutAt 0 1 at ∷ End ∷ []) → ⊥
+one_number s =
+    let f = s.valid.each 0 0 (Push (pos 0)) refl s.valid.start in
+    let g = s.valid.each 1 1 (PutAt 0 1 at) refl f in absurd (omega (arith, g.1))
+
 no_function : In_main (Push (pos 0) ∷ Push (pos 0) ∷ Call 1 ∷ End ∷ []) → ⊥
 no_function s =
     let f = s.valid.each 0 0 (Push (pos 0)) refl s.valid.start in
@@ -145,6 +165,12 @@ function_gets : In_function (Get 0 ∷ Return ∷ []) → ⊥
 function_gets s =
     let f = s.valid.each 0 0 (Get 0) refl s.valid.start in
     let e = f.0 in cc
+
+function_gets_element : In_function (Push (pos 0) ∷ GetAt 0 1 at ∷ Return ∷ []) → ⊥
+function_gets_element s =
+    let f = s.valid.each 0 0 (Push (pos 0)) refl s.valid.start in
+    let g = s.valid.each 1 1 (GetAt 0 1 at) refl f in
+    let e = g.0 in cc
 
 function_pauses : In_function (Pause 0 ∷ []) → ⊥
 function_pauses s =

@@ -18,7 +18,7 @@ use Rattle.thread_code.specs.declared.instruction.Instruction.{Instruction}
 use Rattle.thread_code.specs.declared.instruction.Instruction.TheVariants as instruction
 use Rattle.thread_code.specs.Plain.{PlainBlock, PlainCode}
 use Rattle.thread_code.specs.Valid.{of_shape, branches_in, arguments_of, function_arguments}
-use Rattle.thread_code.specs.Machine.{Point, BranchCopy, Total, Merge, Frame, Caller, Folding, Own, Awaited, Machine, On, Waits, Merges, Failing, Paused, Ended, Trapped, Exceeded, Stuck, onward, with_top, with_arguments, unless_none, turn_taken, put_at, entered, uses_of, settled, folded, merge_step, returned, living, handed, starts, wakes, awaited, waking, act, step, replied, join}
+use Rattle.thread_code.specs.Machine.{Point, BranchCopy, Total, Merge, Frame, Caller, Folding, Own, Awaited, Machine, On, Waits, Merges, Failing, Paused, Ended, Trapped, Exceeded, Stuck, onward, with_top, with_arguments, unless_none, turn_taken, put_at, put_value, entered, uses_of, settled, folded, merge_step, returned, living, handed, starts, wakes, awaited, waking, act, step, replied, join}
 use Rattle.thread_code.specs.Alone.{woken, view_of, code_engine}
 use Rattle.thread_code.specs.Laws.{FitsThread, FitsReply, FitBranches, FitForks, JobsFit, OutputsFit, JobsAndRepliesFit}
 
@@ -180,6 +180,13 @@ module _ (c : PlainCode) (t : ℕ) where
   act_sized (Some (instruction.Get v)) p fs o u h = h
   act_sized (Some (instruction.Put v)) p fs o u h =
       top_sized p.stack u _ (λ n rest. put_length (uses_of c t) o.copies v (record { value = n; modified = true }) ∙ h)
+  act_sized (Some (instruction.GetAt v n place)) p fs o u h =
+      top_sized p.stack u _ (λ i rest. unless_sized (index_in n i) place Index (u + 1)
+      (λ k. On (onward p ((copy_of (uses_of c t) o.copies (v + k)).value ∷ rest)) fs o (u + 1)) (λ k. h))
+  act_sized (Some (instruction.PutAt v n place)) p fs o u h =
+      top_sized p.stack u _ (λ x below. top_sized below u _ (λ i rest. unless_sized (index_in n i) place Index (u + 1)
+      (λ k. On (onward p rest) fs (put_value (uses_of c t) (v + k) x o) (u + 1))
+      (λ k. put_length (uses_of c t) o.copies (v + k) (record { value = x; modified = true }) ∙ h)))
   act_sized (Some (instruction.Unary op)) p fs o u h = top_sized p.stack u _ (λ n rest. h)
   act_sized (Some (instruction.Binary op place)) p fs o u h =
       top_sized p.stack u _ (λ y below. top_sized below u _ (λ x rest. unless_sized (binary_of op x y) (place_or place) Divide (u + 1)

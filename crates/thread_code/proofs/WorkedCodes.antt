@@ -1,10 +1,11 @@
 -- Codes of worked programs.
-use Rattle.std.proofs.Common.{ℤ, pos, None, List, [], ◌∷◌}
+use Rattle.std.proofs.Common.{ℤ, pos, false, None, List, [], ◌∷◌}
+use Rattle.forec_base.specs.declared.Place.{Place}
 use Rattle.forec_base.specs.declared.Policy.{Policy}
 use Rattle.forec_base.specs.declared.operators.Binary.TheVariants as binary
-use Rattle.forec_kernel.proofs.Worked.{counter, joined_sum}
+use Rattle.forec_kernel.proofs.Worked.{counter, joined_sum, root, plain_variable}
 use Rattle.thread_code.specs.declared.instruction.Instruction.{Instruction}
-use Rattle.thread_code.specs.declared.instruction.Instruction.TheVariants.{Push, Load, Get, Put, Binary, Zero, Jump, Unit as Count, Fork, Again, Pause, End, Return}
+use Rattle.thread_code.specs.declared.instruction.Instruction.TheVariants.{Push, Load, Get, Put, GetAt, PutAt, Binary, Zero, Jump, Unit as Count, Fork, Again, Pause, End, Return}
 use Rattle.thread_code.specs.Plain.{PlainBlock, PlainCode}
 
 abbrev pub bare : List Instruction → PlainBlock
@@ -38,3 +39,23 @@ plus = record { steps = Load 0 ∷ Load 1 ∷ Binary binary.Add None ∷ Return 
 abbrev pub joined_code : Policy → PlainCode
 joined_code policy =
     record { shape = (joined_sum policy).shape; threads = bare par_steps ∷ adding (pos 1) ∷ adding (pos 2) ∷ []; functions = plus ∷ [] }
+
+-- h[1] = h[2]; of a shared array of three elements
+abbrev pub array_steps : Place → List Instruction
+array_steps at = Push (pos 1) ∷ Push (pos 2) ∷ GetAt 0 3 at ∷ PutAt 0 3 at ∷ End ∷ []
+
+abbrev pub array_code : Place → PlainCode
+array_code at =
+    record {
+      shape = record {
+        threads = root (0 ∷ 1 ∷ 2 ∷ []) ∷ [];
+        variables = plain_variable false (pos 0) ∷ plain_variable false (pos 0) ∷ plain_variable false (pos 0) ∷ [];
+        functions = [];
+        tables = [];
+        inputs = [];
+        outputs = [];
+        names = [] ∷ [] ∷ [] ∷ [];
+      };
+      threads = bare (array_steps at) ∷ [];
+      functions = [];
+    }

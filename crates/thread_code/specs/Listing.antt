@@ -7,7 +7,7 @@ use Rattle.forec_base.specs.declared.operators.Unary as unary_type
 use Rattle.forec_base.specs.declared.operators.Binary.TheVariants as binary
 use Rattle.forec_base.specs.declared.operators.Binary as binary_type
 use Rattle.thread_code.specs.declared.instruction.Instruction.{Instruction}
-use Rattle.thread_code.specs.declared.instruction.Instruction.TheVariants.{Push, Quiet, Load, Store, LoadAt, StoreAt, Clear, Table, Get, Put, Unary, Binary, Truth, Zero, NonZero, Jump, Unit as Count, Fill, Turn, Flag, Keep, Flagged, Fork, Again, Pause, End, Call, Return}
+use Rattle.thread_code.specs.declared.instruction.Instruction.TheVariants.{Push, Quiet, Load, Store, LoadAt, StoreAt, Clear, Table, Get, Put, GetAt, PutAt, Unary, Binary, Truth, Zero, NonZero, Jump, Unit as Count, Fill, Turn, Flag, Keep, Flagged, Fork, Again, Pause, End, Call, Return}
 use Rattle.thread_code.specs.Plain.{PlainBlock, PlainCode}
 
 abbrev pub unary_name : unary_type.Unary → List ℕ
@@ -59,6 +59,8 @@ instruction_text (Clear x n) = two (codes "clear") x n
 instruction_text (Table t place) = trapping (one (codes "table") t) place
 instruction_text (Get v) = one (codes "get") v
 instruction_text (Put v) = one (codes "put") v
+instruction_text (GetAt v n place) = trapping (two (codes "getat") v n) place
+instruction_text (PutAt v n place) = trapping (two (codes "putat") v n) place
 instruction_text (Unary op) = codes "unary " ++ unary_name op
 instruction_text (Binary op None) = codes "binary " ++ binary_name op
 instruction_text (Binary op (Some place)) = trapping (codes "binary " ++ binary_name op) place

@@ -57,6 +57,21 @@ pub enum Instruction {
     Put {
         variable: u32,
     },
+    /// Pops an index into a shared array, whose `length` elements are the variables from `variable` on, and
+    /// pushes the value of the thread's copy of the element; 1 unit. An index outside the array traps at `place`.
+    GetAt {
+        variable: u32,
+        length: u32,
+        place: Place,
+    },
+    /// Pops a number, then an index into a shared array, whose `length` elements are the variables from
+    /// `variable` on, puts the number into the thread's copy of the element, and marks the copy; 1 unit. An index
+    /// outside the array traps at `place`.
+    PutAt {
+        variable: u32,
+        length: u32,
+        place: Place,
+    },
     /// Pops a number, and pushes the operator's value of it; 1 unit.
     Unary {
         op: Unary,

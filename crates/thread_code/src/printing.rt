@@ -128,6 +128,16 @@ impl fmt::Display for Instruction {
             Instruction::Table { table, place } => write_one_at(f, "table", table, place),
             Instruction::Get { variable } => write_one(f, "get", variable),
             Instruction::Put { variable } => write_one(f, "put", variable),
+            Instruction::GetAt {
+                variable,
+                length,
+                place,
+            } => write_two_at(f, "getat", variable, length, place),
+            Instruction::PutAt {
+                variable,
+                length,
+                place,
+            } => write_two_at(f, "putat", variable, length, place),
             Instruction::Unary { op } => write!(f, "unary {}", unary_word(op)),
             Instruction::Binary { op, place } => write_binary(f, op, place),
             Instruction::Truth => f.write_str("truth"),

@@ -2,7 +2,7 @@
 use Rattle.std.proofs.Common.{◌≡◌, ◌≤◌, ◌+◌, ◌∙◌, ◌++◌, append-nil, ap, sym, length, drop, ℕ, List, [], ◌∷◌, map, sum, arith}
 use Rattle.std.proofs.lemmas.List.{drop_all}
 use Rattle.std.proofs.lemmas.List.Sums.{sum_by-cons}
-use Rattle.forec_kernel.specs.Terms.{Stmt, Nop, Set, SetAt, Clear, Seq, If, While, Pause, Par, Enter, Return, Stmts, no_stmts, more_stmts}
+use Rattle.forec_kernel.specs.Terms.{Stmt, Nop, Set, SetAt, PutAt, Clear, Seq, If, While, Pause, Par, Enter, Return, Stmts, no_stmts, more_stmts}
 use Rattle.forec_kernel.specs.Weight.{stmt_weight, stmts_weight}
 use Rattle.forec_kernel.specs.WellFormed.{stmt_terms, stmts_terms, bodies_terms}
 
@@ -11,6 +11,7 @@ mutual
   light Nop = omega arith
   light (Set to e) = omega arith
   light (SetAt x n i e place) = omega arith
+  light (PutAt v n i e place) = omega arith
   light (Clear x n) = omega arith
   light (Seq list) = omega (arith, all_light list)
   light (If e a b) = omega (arith, light a, light b)

@@ -4,8 +4,8 @@ use Rattle.std.specs.List.{position_or_len}
 use Rattle.std.specs.Option.{option_or}
 use Rattle.std.proofs.lemmas.List.{length-map, length-set, length-replicate}
 use Rattle.std.proofs.lemmas.List.Sorted.{length_permutation}
-use Rattle.core_alloc.specs.declared.fault.PlacementFault.{PlacementFault}
-use Rattle.core_alloc.specs.declared.fault.PlacementFault.TheVariants.{Shape, Count, Core}
+use Rattle.core_alloc.specs.declared.fault.PlaceFault.{PlaceFault}
+use Rattle.core_alloc.specs.declared.fault.PlaceFault.TheVariants.{Shape, Count, Core}
 use Rattle.core_alloc.specs.declared.ranked.Ranked.{Ranked}
 use Rattle.core_alloc.specs.Balance.{ranked_from, Balance, placed, placed_all, nothing_placed, balance_of, IsBalanced}
 use Rattle.core_alloc.specs.Places.{Places, numbers_in, is_core, refusal}
@@ -80,13 +80,13 @@ module _ (text : List ℕ) (threads cores : ℕ) (none : refusal text threads co
   abbrev numbers : List (Option ℕ)
   numbers = numbers_in text
 
-  abbrev shapes : Option PlacementFault
+  abbrev shapes : Option PlaceFault
   shapes = option_map (λ at. Shape at) (position is_none numbers)
 
-  abbrev count : Option PlacementFault
+  abbrev count : Option PlaceFault
   count = cond (length numbers == threads) None (Some (Count (length numbers)))
 
-  abbrev all_cores : Option PlacementFault
+  abbrev all_cores : Option PlaceFault
   all_cores = option_map (λ at. Core at) (position (λ number. not (is_core cores number)) numbers)
 
   each_number : numbered (map value_of numbers) ≡ numbers

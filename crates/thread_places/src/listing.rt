@@ -91,7 +91,8 @@ fn thread_rows(
     placement: &Placement,
 ) -> Result<Vec<u8>, OutOfMemory>
     requires { length placement.now.places ≡ length (plain_kernel kernel.now).threads }
-    ensures { IfOk result (λ text. text.items ≡ lines_to (plain_kernel kernel.now) placement.now.places (length (plain_kernel kernel.now).threads)) }
+    ensures { IfOk result (λ text. text.items
+        ≡ lines_to (plain_kernel kernel.now) placement.now.places (length (plain_kernel kernel.now).threads)) }
 {
     let shapes = kernel.shape().threads.as_slice();
     let mut text = Vec::new(alloc);

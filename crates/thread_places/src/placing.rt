@@ -8,7 +8,7 @@ ghost use Rattle.thread_places.specs.Placed.{IsPlacement, RefusedFor, refusal_of
 
 use crate::weighing::weights;
 use command_words::Placing;
-use core_alloc::{Placement, PlacementFault, balance, given};
+use core_alloc::{PlaceFault, Placement, balance, given};
 use forec_kernel::Kernel;
 use std::alloc::Global;
 
@@ -17,15 +17,12 @@ use std::alloc::Global;
 /// # Errors
 ///
 /// Why the list is refused. Or out of memory.
-pub fn place(
-    alloc: Global,
-    kernel: &Kernel,
-    placing: Placing<'_>,
-) -> Result<Placement, PlacementFault>
+pub fn place(alloc: Global, kernel: &Kernel, placing: Placing<'_>) -> Result<Placement, PlaceFault>
     requires some { 1 ≤ placing.cores }
     requires few { placing.cores ≤ MAX_CORES }
     ensures placement { IfOk result (λ p. IsPlacement (plain_kernel kernel.now) (plain_placing placing.entry) p) }
-    ensures taken { IfOk result (λ _. refusal_of (length (plain_kernel kernel.now).threads) (plain_placing placing.entry) ≡ None) }
+    ensures taken { IfOk result
+        (λ _. refusal_of (length (plain_kernel kernel.now).threads) (plain_placing placing.entry) ≡ None) }
     ensures refused { IfErr result (RefusedFor (plain_kernel kernel.now) (plain_placing placing.entry)) }
 {
     match placing.list {

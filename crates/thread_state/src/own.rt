@@ -1,7 +1,7 @@
 //! What a thread has beside its frames: copies of variables, flags, its living branches, and the
 //! branches of each par.
 
-ghost use Rattle.std.specs.Prelude.{◌≡◌, ◌<◌, ◌≤◌, length, get_or, true, false, cond, IfOk};
+ghost use Rattle.std.specs.Prelude.{◌≡◌, ◌+◌, ◌<◌, ◌≤◌, length, get_or, true, false, cond, IfOk};
 ghost use Rattle.thread_state.specs.Kept.{Kept, AreIndexed, place_in, no_copy, with_copy, with_copy_at, with_flag, with_live_at, without_branches, begun, with_copies, HavePlaces, handed_by};
 ghost use Rattle.thread_state.specs.Pars.{used_by};
 
@@ -108,6 +108,27 @@ impl Own {
         ensures { self.new ≡ with_copy variable (record { value = value; modified = true }) self.old }
     {
         self.copies[self.places[variable as usize] as usize] = VarCopy {
+            value,
+            modified: true,
+        };
+    }
+
+    /// The thread's own copy of the variable that comes so many after another one.
+    pub fn element(&self, first: u32, index: usize) -> i32
+        requires known { first + index < length self.now.places }
+        requires inside { place_in self.now (first + index) < length self.now.copies }
+        ensures { result ≡ (get_or self.now.copies (place_in self.now (first + index)) no_copy).value }
+    {
+        self.copies[self.places[first as usize + index] as usize].value
+    }
+
+    /// Assigns the copy of the variable that comes so many after another one, and marks it.
+    pub fn assign_element(&mut self, first: u32, index: usize, value: i32)
+        requires known { first + index < length self.old.places }
+        requires inside { place_in self.old (first + index) < length self.old.copies }
+        ensures { self.new ≡ with_copy (first + index) (record { value = value; modified = true }) self.old }
+    {
+        self.copies[self.places[first as usize + index] as usize] = VarCopy {
             value,
             modified: true,
         };

@@ -1,7 +1,7 @@
 -- A bound asks for those functions alone that a term calls, and for those threads alone that it starts.
 use Rattle.std.proofs.Common.{ℕ, ◌+◌, ◌-◌, ◌*◌, ◌<◌, ◌≡◌, ◌==◌, Bool, true, cond, false, Option, Some, None, List, [], ◌∷◌, ◌++◌, refl, ap, arith}
 use Rattle.std.proofs.lemmas.Bool.Decides.{nat_tests}
-use Rattle.forec_kernel.specs.Terms.{Expr, Num, Local, LocalAt, Var, TableAt, Un, Bin, And, Or, Choose, Call, Exprs, no_exprs, more_exprs, Branch, Stmt, Nop, Set, SetAt, Clear, Seq, If, While, Pause, Par, Enter, Return, Stmts, no_stmts, more_stmts}
+use Rattle.forec_kernel.specs.Terms.{Expr, Num, Local, LocalAt, Var, SharedAt, TableAt, Un, Bin, And, Or, Choose, Call, Exprs, no_exprs, more_exprs, Branch, Stmt, Nop, Set, SetAt, PutAt, Clear, Seq, If, While, Pause, Par, Enter, Return, Stmts, no_stmts, more_stmts}
 use Rattle.forec_kernel.specs.Shapes.{PlainKernel}
 use Rattle.forec_kernel.specs.Combining.{contains, variable_of}
 use Rattle.forec_kernel.specs.WellFormed.{Scope, FineStmt, FineStmts, users, threads_in, pars_of, pars_in, calls_of, calls_in, stmt_calls, stmts_calls}
@@ -54,6 +54,7 @@ module _ (f g : ℕ → ℕ) where
     expr_same (Local slot) h = refl
     expr_same (LocalAt slot n i place) h = ap (λ a. 1 + a) (expr_same i h)
     expr_same (Var v) h = refl
+    expr_same (SharedAt v n i place) h = ap (λ a. 1 + a) (expr_same i h)
     expr_same (TableAt t i place) h = ap (λ a. 1 + a) (expr_same i h)
     expr_same (Un op a) h = ap (λ a. 1 + a) (expr_same a h)
     expr_same (Bin op a b place) h =
@@ -89,6 +90,12 @@ module _ (k : PlainKernel) (s : Scope) (f g T U : ℕ → ℕ) where
     body_same Nop fine h = refl
     body_same (Set to e) fine h = omega (arith, expr_same f g e h)
     body_same (SetAt slot n i e place) fine h =
+        omega (
+          arith,
+          expr_same f g i (agree_left f g (calls_of i) (calls_of e) h),
+          expr_same f g e (agree_right f g (calls_of i) (calls_of e) h),
+        )
+    body_same (PutAt v n i e place) fine h =
         omega (
           arith,
           expr_same f g i (agree_left f g (calls_of i) (calls_of e) h),
@@ -171,6 +178,7 @@ module _ (k : PlainKernel) (t : ℕ) (uses : List ℕ) (f g T U : ℕ → ℕ) (
     threads_same Nop h = refl
     threads_same (Set to e) h = omega (arith, expr_equal e)
     threads_same (SetAt slot n i e place) h = omega (arith, expr_equal i, expr_equal e)
+    threads_same (PutAt v n i e place) h = omega (arith, expr_equal i, expr_equal e)
     threads_same (Clear slot n) h = refl
     threads_same (Seq list) h = lists_same list h
     threads_same (If e a b) h =

@@ -1,7 +1,7 @@
 -- Tables of capped bounds give the same capped bounds.
 use Rattle.std.proofs.Common.{ℕ, zero, suc, ◌+◌, ◌-◌, ◌*◌, ◌<◌, ◌≤◌, ◌≡◌, nat_lt, Bool, true, false, Option, Some, None, List, [], ◌∷◌, refl, ap, arith}
 use Rattle.std.proofs.lemmas.Bool.Decides.{nat_tests}
-use Rattle.forec_kernel.specs.Terms.{Expr, Num, Local, LocalAt, Var, TableAt, Un, Bin, And, Or, Choose, Call, Exprs, no_exprs, more_exprs, Branch, Stmt, Nop, Set, SetAt, Clear, Seq, If, While, Pause, Par, Enter, Return, Stmts, no_stmts, more_stmts}
+use Rattle.forec_kernel.specs.Terms.{Expr, Num, Local, LocalAt, Var, SharedAt, TableAt, Un, Bin, And, Or, Choose, Call, Exprs, no_exprs, more_exprs, Branch, Stmt, Nop, Set, SetAt, PutAt, Clear, Seq, If, While, Pause, Par, Enter, Return, Stmts, no_stmts, more_stmts}
 use Rattle.forec_kernel.specs.Shapes.{PlainKernel}
 use Rattle.forec_kernel.specs.Combining.{variable_of}
 use Rattle.forec_kernel.specs.WellFormed.{users, threads_in}
@@ -34,6 +34,7 @@ module _ (f : ℕ → ℕ) where
     capped_expr (Local slot) = refl
     capped_expr (LocalAt slot n i place) = omega (arith, capped_expr i)
     capped_expr (Var v) = refl
+    capped_expr (SharedAt v n i place) = omega (arith, capped_expr i)
     capped_expr (TableAt t i place) = omega (arith, capped_expr i)
     capped_expr (Un op a) = omega (arith, capped_expr a)
     capped_expr (Bin op a b place) = omega (arith, capped_expr a, capped_expr b)
@@ -74,6 +75,7 @@ module _ (k : PlainKernel) (f T : ℕ → ℕ) (uses : List ℕ) where
     capped_stmt Nop = refl
     capped_stmt (Set to e) = omega (arith, capped_expr f e)
     capped_stmt (SetAt slot n i e place) = omega (arith, capped_expr f i, capped_expr f e)
+    capped_stmt (PutAt v n i e place) = omega (arith, capped_expr f i, capped_expr f e)
     capped_stmt (Clear slot n) = refl
     capped_stmt (Seq list) = capped_stmts list
     capped_stmt (If e a b) = omega (arith, capped_expr f e, capped_stmt a, capped_stmt b)

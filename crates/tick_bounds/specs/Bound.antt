@@ -1,6 +1,6 @@
 -- The worst case of a tick: the most units that a term costs in one, whatever its values are and whichever way it goes.
 use Rattle.std.specs.Prelude.{ℕ, zero, suc, ◌+◌, ◌-◌, ◌*◌, max, Option, Some, None, List, [], ◌∷◌, length}
-use Rattle.forec_kernel.specs.Terms.{Expr, Num, Local, LocalAt, Var, TableAt, Un, Bin, And, Or, Choose, Call, Exprs, no_exprs, more_exprs, Branch, Stmt, Nop, Set, SetAt, Clear, Seq, If, While, Pause, Par, Enter, Return, Stmts, no_stmts, more_stmts}
+use Rattle.forec_kernel.specs.Terms.{Expr, Num, Local, LocalAt, Var, SharedAt, TableAt, Un, Bin, And, Or, Choose, Call, Exprs, no_exprs, more_exprs, Branch, Stmt, Nop, Set, SetAt, PutAt, Clear, Seq, If, While, Pause, Par, Enter, Return, Stmts, no_stmts, more_stmts}
 use Rattle.forec_kernel.specs.Shapes.{PlainKernel}
 use Rattle.forec_kernel.specs.Texts.{uses_of, body_of}
 use Rattle.forec_kernel.specs.Combining.{variable_of}
@@ -19,6 +19,7 @@ abbrev mutual
   expr_bound f (Local slot) = 1
   expr_bound f (LocalAt slot n i place) = 1 + expr_bound f i
   expr_bound f (Var v) = 1
+  expr_bound f (SharedAt v n i place) = 1 + expr_bound f i
   expr_bound f (TableAt t i place) = 1 + expr_bound f i
   expr_bound f (Un op a) = 1 + expr_bound f a
   expr_bound f (Bin op a b place) = 1 + expr_bound f a + expr_bound f b
@@ -63,6 +64,7 @@ abbrev mutual
   stmt_bound k b uses Nop = 0
   stmt_bound k b uses (Set to e) = expr_bound b.function e + 1
   stmt_bound k b uses (SetAt slot n i e place) = expr_bound b.function i + expr_bound b.function e + 1
+  stmt_bound k b uses (PutAt v n i e place) = expr_bound b.function i + expr_bound b.function e + 1
   stmt_bound k b uses (Clear slot n) = n
   stmt_bound k b uses (Seq list) = stmts_bound k b uses list
   stmt_bound k b uses (If e s r) = expr_bound b.function e + 1 + max (stmt_bound k b uses s) (stmt_bound k b uses r)

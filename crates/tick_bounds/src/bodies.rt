@@ -18,10 +18,9 @@ fn expression_bound(functions: &[Option<u64>], e: &Expression) -> u64
 {
     match e {
         Expression::Number { .. } | Expression::Local { .. } | Expression::Variable { .. } => 1,
-        Expression::LocalAt { index, .. } | Expression::TableAt { index, .. } => plus(
-            1,
-            expression_bound(functions, index),
-        ),
+        Expression::LocalAt { index, .. }
+        | Expression::SharedAt { index, .. }
+        | Expression::TableAt { index, .. } => plus(1, expression_bound(functions, index)),
         Expression::Unary { of, .. } => plus(1, expression_bound(functions, of)),
         Expression::Binary { left, right, .. }
         | Expression::And { left, right }
@@ -84,7 +83,7 @@ pub fn statement_bound(scope: &Scope<'_>, s: &Statement) -> u64
         Statement::Clear { length, .. } => u64::from(*length),
         Statement::Set { value, .. } => plus(expression_bound(scope.functions, value), 1),
         Statement::Return { value } => expression_bound(scope.functions, value),
-        Statement::SetAt { index, value, .. } => plus(
+        Statement::SetAt { index, value, .. } | Statement::PutAt { index, value, .. } => plus(
             plus(
                 expression_bound(scope.functions, index),
                 expression_bound(scope.functions, value),

@@ -19,7 +19,7 @@ use Rattle.thread_code.specs.declared.instruction.Instruction.{Instruction}
 use Rattle.thread_code.specs.declared.instruction.Instruction.TheVariants as instruction
 use Rattle.thread_code.specs.Plain.{PlainBlock, PlainCode}
 use Rattle.thread_code.specs.Valid.{Leads, IsFine, IsParOf, IsValidCode, costs, of_shape, branches_in, arguments_of, function_arguments}
-use Rattle.thread_code.specs.Machine.{Point, BranchCopy, Merge, Frame, Caller, Folding, Own, Awaited, Machine, On, Waits, Merges, Failing, Paused, Ended, Trapped, Exceeded, Stuck, onward, with_top, with_arguments, unless_none, turn_taken, put_at, entered, uses_of, total_of, folded, offered, merge_step, returned, living, starts, wakes, awaited, waking, act, step, is_ended, live_after, back_to, replied, join}
+use Rattle.thread_code.specs.Machine.{Point, BranchCopy, Merge, Frame, Caller, Folding, Own, Awaited, Machine, On, Waits, Merges, Failing, Paused, Ended, Trapped, Exceeded, Stuck, onward, with_top, with_arguments, unless_none, turn_taken, put_at, put_value, entered, uses_of, total_of, folded, offered, merge_step, returned, living, starts, wakes, awaited, waking, act, step, is_ended, live_after, back_to, replied, join}
 use Rattle.thread_code.specs.Alone.{block_of, view_of}
 use Rattle.thread_code.proofs.Unstuck.{IsHere, Good, owner, fetched, fine_at}
 use Rattle.core_machine.specs.Held.{branch_of}
@@ -440,6 +440,12 @@ module _ (c : PlainCode) (valid : IsValidCode c) (t : ℕ) where
           top_fine p.stack u _ (λ i rest. unless_fine (index_in (length table) i) place Index (u + 1) (λ z. On (onward p (word table z ∷ rest)) [] o (u + 1)) (λ z. paid (p.at + 1) (u + 1) (omega arith)))
       own_act (instruction.Get v) is f = paid (p.at + 1) (u + 1) (omega arith)
       own_act (instruction.Put v) is f = top_fine p.stack u _ (λ y rest. paid (p.at + 1) (u + 1) (omega arith))
+      own_act (instruction.GetAt v k place) is f =
+          top_fine p.stack u _ (λ i rest. unless_fine (index_in k i) place Index (u + 1)
+          (λ z. On (onward p ((copy_of (uses_of c t) o.copies (v + z)).value ∷ rest)) [] o (u + 1)) (λ z. paid (p.at + 1) (u + 1) (omega arith)))
+      own_act (instruction.PutAt v k place) is f =
+          top_fine p.stack u _ (λ x below. top_fine below u _ (λ i rest. unless_fine (index_in k i) place Index (u + 1)
+          (λ z. On (onward p rest) [] (put_value (uses_of c t) (v + z) x o) (u + 1)) (λ z. paid (p.at + 1) (u + 1) (omega arith))))
       own_act (instruction.Unary op) is f = top_fine p.stack u _ (λ y rest. paid (p.at + 1) (u + 1) (omega arith))
       own_act (instruction.Binary op place) is f =
           top_fine p.stack u _ (λ y below. top_fine below u _ (λ x rest. unless_fine (binary_of op x y) (place_or place) Divide (u + 1) (λ z. On (onward p (z ∷ rest)) [] o (u + 1))
@@ -509,6 +515,12 @@ module _ (c : PlainCode) (valid : IsValidCode c) (t : ℕ) where
           top_fine p.stack u _ (λ i rest. unless_fine (index_in (length table) i) place Index (u + 1) (λ z. On (onward p (word table z ∷ rest)) (frame ∷ fs) o (u + 1)) (λ z. inside _ (u + 1) (omega arith)))
       inner_act (instruction.Get v) b ds f = inside _ (u + 1) (omega arith)
       inner_act (instruction.Put v) b ds f = top_fine p.stack u _ (λ y rest. inside _ (u + 1) (omega arith))
+      inner_act (instruction.GetAt v k place) b ds f =
+          top_fine p.stack u _ (λ i rest. unless_fine (index_in k i) place Index (u + 1)
+          (λ z. On (onward p ((copy_of (uses_of c t) o.copies (v + z)).value ∷ rest)) (frame ∷ fs) o (u + 1)) (λ z. inside _ (u + 1) (omega arith)))
+      inner_act (instruction.PutAt v k place) b ds f =
+          top_fine p.stack u _ (λ x below. top_fine below u _ (λ i rest. unless_fine (index_in k i) place Index (u + 1)
+          (λ z. On (onward p rest) (frame ∷ fs) (put_value (uses_of c t) (v + z) x o) (u + 1)) (λ z. inside _ (u + 1) (omega arith))))
       inner_act (instruction.Unary op) b ds f = top_fine p.stack u _ (λ y rest. inside _ (u + 1) (omega arith))
       inner_act (instruction.Binary op place) b ds f =
           top_fine p.stack u _ (λ y below. top_fine below u _ (λ x rest. unless_fine (binary_of op x y) (place_or place) Divide (u + 1) (λ z. On (onward p (z ∷ rest)) (frame ∷ fs) o (u + 1))

@@ -54,7 +54,8 @@ fn write_before(packet: &mut Packet, shape: &Shape)
     requires room { HasRoom (of_shape (plain_shape shape.now)) 0 (plain_packet packet.old) }
     ensures kind { packet.new.kind ≡ kind_of packet.old.kind }
     ensures args { packet.new.args.items ≡ packet.old.args.items }
-    ensures copies { packet.new.copies.items ≡ copies_before (plain_shape shape.now) packet.old.kind packet.old.copies.items }
+    ensures copies { packet.new.copies.items
+        ≡ copies_before (plain_shape shape.now) packet.old.kind packet.old.copies.items }
 {
     match packet.kind {
         PacketKind::Blank => {

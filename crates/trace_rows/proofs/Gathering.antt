@@ -1,9 +1,9 @@
 -- Bytes that come by reads.
-use Rattle.std.proofs.Common.{◌≡◌, ◌≤◌, ℕ, Bool, true, false, List, [], ◌++◌, length, Option, Result, Ok, Err, refl, sym, ap, subst, ◌∙◌, append_assoc, append-nil}
+use Rattle.std.proofs.Common.{◌≡◌, ◌≤◌, ℕ, Bool, false, List, [], ◌++◌, length, Option, Ok, Err, refl, sym, ap, subst, ◌∙◌, append_assoc, append-nil}
 use Rattle.std.specs.Io.KnownBytes.{Consumes, Keeps}
 use Rattle.forec_base.specs.Outside.{HasCause}
 use Rattle.trace_rows.specs.Reader.{HasLine, Came}
-use Rattle.trace_rows.specs.SourceReads.{IsRead, Reads, none, more, Lacks, Gathers}
+use Rattle.trace_rows.specs.SourceReads.{IsRead, none, more, Gathers}
 use Rattle.trace_rows.specs.Trace.{most_bytes}
 use Rattle.trace_rows.proofs.Refilling.{consumes_nothing}
 

@@ -1,5 +1,5 @@
 -- What stands in the first line of a trace, and in a row.
-use Rattle.std.proofs.Common.{◌≡◌, ℕ, ℤ, ◌+◌, ◌<◌, ◌≤◌, Bool, true, false, Option, List, [], ◌∷◌, ◌++◌, Some, None, Ok, Err, length, take, drop, refl, sym, ap, ◌∙◌}
+use Rattle.std.proofs.Common.{◌≡◌, ℕ, ◌+◌, ◌<◌, ◌≤◌, Bool, false, Option, List, [], ◌∷◌, ◌++◌, Some, None, Ok, Err, length, take, drop, refl, sym, ap, ◌∙◌}
 use Rattle.std.proofs.lemmas.Bool.{lt-ltb, le-ltb}
 use Rattle.std.proofs.lemmas.List.{take_at}
 use Rattle.trace_rows.specs.declared.fault.RowFault.{RowFault}
@@ -9,7 +9,7 @@ use Rattle.trace_rows.specs.Lines.{lines_of}
 use Rattle.trace_rows.specs.Reader.{Came}
 use Rattle.trace_rows.specs.Steps.{TakesHeader, NoHeader}
 use Rattle.trace_rows.specs.Words.{words_of}
-use Rattle.trace_rows.specs.Trace.{Row, most_bytes, names_each, places_of, header_at, rows_of_lines, stop, behind, rows_from, numbers_in, arranged, row_at, onto}
+use Rattle.trace_rows.specs.Trace.{Row, Form, most_bytes, form_of, form_after, next_form, header_at, rows_of_lines, stop, behind, rows_from, row_of, row_at, onto}
 use Rattle.trace_rows.proofs.Told.{told_map, long_told, LongLine}
 
 -- ---- headers
@@ -17,21 +17,20 @@ use Rattle.trace_rows.proofs.Told.{told_map, long_told, LongLine}
 pub header_long : (inputs : List (List ℕ)) (line : List ℕ) → most_bytes < length line → header_at inputs line ≡ Err fault.Long
 header_long inputs line long = rw (lt-ltb most_bytes (length line) long) refl
 
-pub header_bad : (inputs : List (List ℕ)) (line : List ℕ) → length line ≤ most_bytes → names_each inputs (words_of line) ≡ false → header_at inputs line ≡ Err fault.Bad
+pub header_bad : (inputs : List (List ℕ)) (line : List ℕ) → length line ≤ most_bytes → form_of inputs (words_of line) ≡ None → header_at inputs line ≡ Err fault.Bad
 header_bad inputs line short bad = rw (le-ltb most_bytes (length line) short, bad) refl
 
-pub header_good : (inputs : List (List ℕ)) (line : List ℕ) (places : List ℕ) → length line ≤ most_bytes → names_each inputs (words_of line) ≡ true → places ≡ places_of inputs (words_of line) →
-    header_at inputs line ≡ Ok places
-header_good inputs line places short good e = rw (le-ltb most_bytes (length line) short, good) (ap Ok (sym e))
+pub header_good : (inputs : List (List ℕ)) (line : List ℕ) (form : Form) → length line ≤ most_bytes → form_of inputs (words_of line) ≡ Some form → header_at inputs line ≡ Ok form
+header_good inputs line form short good = rw (le-ltb most_bytes (length line) short, good) refl
 
 -- lines that begin with no header
 pub no_header : (inputs : List (List ℕ)) (line : List ℕ) (f : RowFault) (all lines : List (List ℕ)) → all ≡ line ∷ lines → header_at inputs line ≡ Err f →
     (limit : ℕ) → rows_of_lines inputs limit all ≡ stop (Some f) 0
-no_header inputs line f all lines e bad limit = ap (rows_of_lines inputs limit) e ∙ ap (λ r. behind r (λ places. rows_from limit places 1 lines)) bad
+no_header inputs line f all lines e bad limit = ap (rows_of_lines inputs limit) e ∙ ap (λ r. behind r (λ form. rows_from limit form 1 lines)) bad
 
-pub some_header : (inputs : List (List ℕ)) (line : List ℕ) (places : List ℕ) (all lines : List (List ℕ)) → all ≡ line ∷ lines → header_at inputs line ≡ Ok places →
-    (limit : ℕ) → rows_of_lines inputs limit all ≡ rows_from limit places 1 lines
-some_header inputs line places all lines e good limit = ap (rows_of_lines inputs limit) e ∙ ap (λ r. behind r (λ places. rows_from limit places 1 lines)) good
+pub some_header : (inputs : List (List ℕ)) (line : List ℕ) (form : Form) (all lines : List (List ℕ)) → all ≡ line ∷ lines → header_at inputs line ≡ Ok form →
+    (limit : ℕ) → rows_of_lines inputs limit all ≡ rows_from limit form 1 lines
+some_header inputs line form all lines e good limit = ap (rows_of_lines inputs limit) e ∙ ap (λ r. behind r (λ form. rows_from limit form 1 lines)) good
 
 -- why no header was taken, where no first line was found
 pub header_fault : (inputs : List (List ℕ)) (places w bytes : List ℕ) (was is : Bool) (a b : Option (List ℕ)) (f : RowFault) → Came w bytes a b → (is ≡ false → was ≡ false) → Finds bytes is (Err f) →
@@ -51,27 +50,26 @@ written new old n e = take_at new (drop (length new) old) n (sym e)
 
 -- ---- rows
 
-pub row_many : (limit n : ℕ) (places line : List ℕ) → limit < n → row_at limit places n line ≡ Err fault.Many
-row_many limit n places line h = rw (lt-ltb limit n h) refl
+pub row_many : (limit n : ℕ) (form : Form) (line : List ℕ) → limit < n → row_at limit form n line ≡ Err fault.Many
+row_many limit n form line h = rw (lt-ltb limit n h) refl
 
-pub row_long : (limit n : ℕ) (places line : List ℕ) → n ≤ limit → most_bytes < length line → row_at limit places n line ≡ Err fault.Long
-row_long limit n places line h long = rw (le-ltb limit n h, lt-ltb most_bytes (length line) long) refl
+pub row_long : (limit n : ℕ) (form : Form) (line : List ℕ) → n ≤ limit → most_bytes < length line → row_at limit form n line ≡ Err fault.Long
+row_long limit n form line h long = rw (le-ltb limit n h, lt-ltb most_bytes (length line) long) refl
 
-pub row_bad : (limit n : ℕ) (places line : List ℕ) → n ≤ limit → length line ≤ most_bytes → numbers_in (length places) (words_of line) ≡ None → row_at limit places n line ≡ Err fault.Bad
-row_bad limit n places line h short bad = rw (le-ltb limit n h, le-ltb most_bytes (length line) short, bad) refl
+pub row_bad : (limit n : ℕ) (form : Form) (line : List ℕ) → n ≤ limit → length line ≤ most_bytes → row_of form (words_of line) ≡ None → row_at limit form n line ≡ Err fault.Bad
+row_bad limit n form line h short bad = rw (le-ltb limit n h, le-ltb most_bytes (length line) short, bad) refl
 
-pub row_good : (limit n : ℕ) (places line : List ℕ) (values : List ℤ) (row : Row) → n ≤ limit → length line ≤ most_bytes → numbers_in (length places) (words_of line) ≡ Some values →
-    row ≡ arranged places values → row_at limit places n line ≡ Ok row
-row_good limit n places line values row h short good e = rw (le-ltb limit n h, le-ltb most_bytes (length line) short, good) (ap Ok (sym e))
+pub row_good : (limit n : ℕ) (form : Form) (line : List ℕ) (row : Row) → n ≤ limit → length line ≤ most_bytes → row_of form (words_of line) ≡ Some row → row_at limit form n line ≡ Ok row
+row_good limit n form line row h short good = rw (le-ltb limit n h, le-ltb most_bytes (length line) short, good) refl
 
 -- lines that begin with no row
-pub no_row : (limit n : ℕ) (places line : List ℕ) (f : RowFault) (all lines : List (List ℕ)) → all ≡ line ∷ lines → row_at limit places n line ≡ Err f →
-    rows_from limit places n all ≡ stop (Some f) n
-no_row limit n places line f all lines e bad = ap (rows_from limit places n) e ∙ ap (λ r. onto r n (rows_from limit places (n + 1) lines)) bad
+pub no_row : (limit n : ℕ) (form : Form) (line : List ℕ) (f : RowFault) (all lines : List (List ℕ)) → all ≡ line ∷ lines → row_at limit form n line ≡ Err f →
+    rows_from limit form n all ≡ stop (Some f) n
+no_row limit n form line f all lines e bad = ap (rows_from limit form n) e ∙ ap (λ r. onto r n (rows_from limit (form_after form r) (n + 1) lines)) bad
 
-pub some_row : (limit n : ℕ) (places line : List ℕ) (row : Row) (all lines : List (List ℕ)) → all ≡ line ∷ lines → row_at limit places n line ≡ Ok row →
-    rows_from limit places n all ≡ onto (Ok row) n (rows_from limit places (n + 1) lines)
-some_row limit n places line row all lines e good = ap (rows_from limit places n) e ∙ ap (λ r. onto r n (rows_from limit places (n + 1) lines)) good
+pub some_row : (limit n : ℕ) (form : Form) (line : List ℕ) (row : Row) (all lines : List (List ℕ)) → all ≡ line ∷ lines → row_at limit form n line ≡ Ok row →
+    rows_from limit form n all ≡ onto (Ok row) n (rows_from limit (next_form form row) (n + 1) lines)
+some_row limit n form line row all lines e good = ap (rows_from limit form n) e ∙ ap (λ r. onto r n (rows_from limit (form_after form r) (n + 1) lines)) good
 
-pub end_row : (limit n : ℕ) (places : List ℕ) (all : List (List ℕ)) → all ≡ [] → rows_from limit places n all ≡ stop None n
-end_row limit n places all e = ap (rows_from limit places n) e
+pub end_row : (limit n : ℕ) (form : Form) (all : List (List ℕ)) → all ≡ [] → rows_from limit form n all ≡ stop None n
+end_row limit n form all e = ap (rows_from limit form n) e

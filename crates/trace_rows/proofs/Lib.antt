@@ -1,3 +1,4 @@
+mod ChangeWords
 mod Digits
 mod Splitting
 mod Following
@@ -5,6 +6,7 @@ mod Gathering
 mod HeaderWords
 mod Heads
 mod LineNumbers
+mod NamePlaces
 mod Pairs
 mod Ranges
 mod Refilling

@@ -1,5 +1,5 @@
 -- What the first call says.
-use Rattle.std.proofs.Common.{◌≡◌, ℕ, ◌+◌, ◌<◌, ◌==◌, Bool, true, false, cond, nat_lt, List, [], ◌∷◌, ◌++◌, Option, Some, Result, Ok, Err, length, count_by, get_or, refl, sym, ap, subst, ◌∙◌, arith, eqb-true}
+use Rattle.std.proofs.Common.{◌≡◌, ℕ, ◌+◌, ◌<◌, ◌==◌, ℤ, pos, replicate, Bool, true, false, cond, nat_lt, List, [], ◌∷◌, ◌++◌, Option, Some, None, Result, Ok, Err, length, count_by, get_or, refl, sym, ap, subst, ◌∙◌, arith, eqb-true}
 use Rattle.std.specs.List.{position_or_len, All, list_all}
 use Rattle.std.specs.Io.KnownBytes.{Consumes, IsAtEnd}
 use Rattle.std.specs.Result.{IsErr}
@@ -14,9 +14,10 @@ use Rattle.trace_rows.specs.Calls.{IfTold}
 use Rattle.trace_rows.specs.Lines.{lines_of}
 use Rattle.trace_rows.specs.Words.{words_of}
 use Rattle.trace_rows.specs.Reader.{Reader, Takes, StartSays}
+use Rattle.trace_rows.specs.RowForms.{form_with}
 use Rattle.trace_rows.specs.SourceReads.{StartTook}
 use Rattle.trace_rows.specs.Steps.{TakesHeader, NoHeader}
-use Rattle.trace_rows.specs.Trace.{most_bytes, names_each, places_of, header_at, rows_of_lines, rows_from, stop, trace_of}
+use Rattle.trace_rows.specs.Trace.{Form, InOrder, most_bytes, first_form, is_mark, names_each, or_bad, places_of, header_at, rows_of_lines, rows_from, stop, trace_of}
 use Rattle.trace_rows.proofs.Told.{told_of, told_map, LineOf, line_told}
 use Rattle.trace_rows.proofs.Heads.{some_header}
 use Rattle.trace_rows.proofs.HeaderWords.{stands_once}
@@ -50,16 +51,22 @@ places_within names words each =
     let some : 0 < count_by (bytes_eq (get_or names i [])) words = omega (arith, eqb-true (count_by (bytes_eq (get_or names i [])) words) 1 one) in
     rw (get_or-map place names i [] 0 low_name) (omega (arith, position_within (bytes_eq (get_or names i [])) words some, length-map names place)))
 
-by_tests : (inputs : List (List ℕ)) (words : List (List ℕ)) (places : List ℕ) (long each : Bool) → names_each inputs words ≡ each →
-    cond {A = Result (List ℕ) RowFault} long (Err fault.Long) (cond each (Ok (places_of inputs words)) (Err fault.Bad)) ≡ Ok places → All (λ place. place < length places) places
-by_tests inputs words places true each n e = absurd cc
-by_tests inputs words places false true n e =
+by_tests : (inputs : List (List ℕ)) (words : List (List ℕ)) (places : List ℕ) (long mark each : Bool) → names_each inputs words ≡ each →
+    cond {A = Result Form RowFault} long (Err fault.Long)
+    (or_bad (cond mark (Some (first_form inputs [] true)) (cond each (Some (InOrder (places_of inputs words))) None))) ≡ Ok (InOrder places) →
+    All (λ place. place < length places) places
+by_tests inputs words places true mark each n e = absurd cc
+by_tests inputs words places false true each n e = absurd cc
+by_tests inputs words places false false true n e =
     let same : places_of inputs words ≡ places = cc in
     subst (λ (ps : List ℕ). All (λ place. place < length ps) ps) same (places_within inputs words n)
-by_tests inputs words places false false n e = absurd cc
+by_tests inputs words places false false false n e = absurd cc
 
-pub header_within : (inputs : List (List ℕ)) (line places : List ℕ) → header_at inputs line ≡ Ok places → All (λ place. place < length places) places
-header_within inputs line places e = by_tests inputs (words_of line) places (nat_lt most_bytes (length line)) (names_each inputs (words_of line)) refl e
+pub header_within : (inputs : List (List ℕ)) (line places : List ℕ) (changes : Bool) → header_at inputs line ≡ Ok (first_form inputs places changes) → changes ≡ false →
+    All (λ place. place < length places) places
+header_within inputs line places true e n = absurd cc
+header_within inputs line places false e n =
+    by_tests inputs (words_of line) places (nat_lt most_bytes (length line)) (is_mark (words_of line)) (names_each inputs (words_of line)) refl e
 
 -- ---- the first call
 
@@ -84,11 +91,17 @@ pub took_none : (inputs : List (List ℕ)) (r : Result Reader RowFault) (bytes :
 took_none inputs (Ok r) bytes h = absurd cc
 took_none inputs (Err f) bytes h = tt
 
-pub ok_says : (inputs : List (List ℕ)) (limit : ℕ) (header w : List ℕ) (r : Reader) (a b : Option (List ℕ)) → w ≡ [] → header_at inputs header ≡ Ok r.places → Takes header w r.held r.ended a b →
+pub ok_says : (inputs : List (List ℕ)) (limit : ℕ) (header w : List ℕ) (r : Reader) (a b : Option (List ℕ)) → w ≡ [] → header_at inputs header ≡ Ok r.form → Takes header w r.held r.ended a b →
     (r.ended ≡ true → IsAtEnd b) → r.limit ≡ limit → r.given ≡ 0 → IfTold a b (StartSays inputs limit (Ok r))
 ok_says inputs limit header w r a b none good takes at_end most first =
     told_map a b (LineOf header w r.held) (StartSays inputs limit (Ok r)) (line_told header w r.held r.ended a b takes at_end)
     (λ x y l. trace_of-lines inputs limit x ∙ ap (λ v. rows_of_lines inputs limit (lines_of (v ++ x))) (sym none)
-    ∙ some_header inputs header r.places (lines_of (w ++ x)) (lines_of (r.held ++ y)) l good limit
-    ∙ ap (λ n. rows_from n r.places 1 (lines_of (r.held ++ y))) (sym most)
-    ∙ ap (λ n. rows_from r.limit r.places (n + 1) (lines_of (r.held ++ y))) (sym first))
+    ∙ some_header inputs header r.form (lines_of (w ++ x)) (lines_of (r.held ++ y)) l good limit
+    ∙ ap (λ n. rows_from n r.form 1 (lines_of (r.held ++ y))) (sym most)
+    ∙ ap (λ n. rows_from r.limit r.form (n + 1) (lines_of (r.held ++ y))) (sym first))
+
+-- the form that a reader shows after the header
+pub form_shown : (inputs texts : List (List ℕ)) (places : List ℕ) (values : List ℤ) (changes : Bool) → texts ≡ inputs → values ≡ replicate (length inputs) (pos 0) →
+    first_form inputs places changes ≡ form_with texts places values changes
+form_shown inputs texts places values false t v = refl
+form_shown inputs texts places values true t v = rw (t, v) refl

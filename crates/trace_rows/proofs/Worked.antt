@@ -85,10 +85,38 @@ header_alone : of_two (codes " b\ta \r\n") ≡ trace [] None 1
 unfolding trace_of lines_of words_of
 header_alone = refl
 
-bad_headers : map of_two (map codes ("" ∷ "\n" ∷ "a" ∷ "a a\n" ∷ "a b a\n" ∷ "a b c\n" ∷ "a c\n" ∷ "ab\n" ∷ "A b\n" ∷ "#2\n" ∷ []))
-    ≡ map (λ (n : ℕ). trace [] (Some fault.Bad) 0) (replicate 10 0)
+bad_headers : map of_two (map codes ("" ∷ "\n" ∷ "a" ∷ "a a\n" ∷ "a b a\n" ∷ "a b c\n" ∷ "a c\n" ∷ "ab\n" ∷ "A b\n" ∷ "# 2\n" ∷ "#2 a\n" ∷ "#2 #2\n" ∷ "#2a b\n" ∷ "2\n" ∷ []))
+    ≡ map (λ (n : ℕ). trace [] (Some fault.Bad) 0) (replicate 14 0)
 unfolding trace_of lines_of words_of
 bad_headers = refl
+
+-- ---- changes alone
+
+the_others_stay : of_two (codes "#2\na=5\nb=2\n\na=1 b=1\na=1 a=2\n")
+    ≡ trace ((pos 5 ∷ pos 0 ∷ []) ∷ (pos 5 ∷ pos 2 ∷ []) ∷ (pos 5 ∷ pos 2 ∷ []) ∷ (pos 1 ∷ pos 1 ∷ []) ∷ []) (Some fault.Bad) 5
+unfolding trace_of lines_of words_of
+the_others_stay = refl
+
+blanks_round_words : of_two (codes " #2\t\r\n b=-7\ta=1 \r\nb=2147483647") ≡ trace ((pos 1 ∷ negsuc 6 ∷ []) ∷ (pos 1 ∷ pos 2147483647 ∷ []) ∷ []) None 3
+unfolding trace_of lines_of words_of
+blanks_round_words = refl
+
+bad_changes : map of_two (map (λ (row : List ℕ). codes "#2\n" ++ row) (map codes ("a=" ∷ "=5" ∷ "a" ∷ "5" ∷ "a=5 a=6" ∷ "a= 5" ∷ "a =5" ∷ "A=5" ∷ "a==5" ∷ "a=5=6" ∷ "a=+5" ∷ "a=-2147483649" ∷ "a=2147483648" ∷ "c=1" ∷ "a=5 c=1" ∷ [])))
+    ≡ map (λ (n : ℕ). trace [] (Some fault.Bad) 1) (replicate 15 0)
+unfolding trace_of lines_of words_of
+bad_changes = refl
+
+changes_of_no_inputs : of_none (codes "#2\n\n \na=1\n") ≡ trace ([] ∷ [] ∷ []) (Some fault.Bad) 3
+unfolding trace_of lines_of words_of
+changes_of_no_inputs = refl
+
+long_row_of_changes : of_two (codes "#2\na=1" ++ spaces 8190) ≡ trace [] (Some fault.Long) 1
+unfolding trace_of lines_of words_of
+long_row_of_changes = refl
+
+longest_row_of_changes : of_two (codes "#2\na=1" ++ spaces 8189) ≡ trace ((pos 1 ∷ pos 0 ∷ []) ∷ []) None 2
+unfolding trace_of lines_of words_of
+longest_row_of_changes = refl
 
 -- ---- no inputs
 

@@ -1,10 +1,12 @@
 pub mod Calls
+pub mod Changes
 pub mod Held
 pub mod Lines
 pub mod Numbers
 pub mod Reader
 pub mod SourceReads
 pub mod Report
+pub mod RowForms
 pub mod Shown
 pub mod Steps
 pub mod Trace

@@ -7,15 +7,15 @@ use Rattle.trace_rows.specs.declared.fault.Next.TheVariants as next
 use Rattle.trace_rows.specs.declared.fault.RowFault.{RowFault}
 use Rattle.trace_rows.specs.declared.fault.RowFault.TheVariants as fault
 use Rattle.trace_rows.specs.Lines.{is_newline, lines_of}
-use Rattle.trace_rows.specs.Trace.{Row, Trace, header_at, row_at, rows_from, stop, onto, trace_of}
+use Rattle.trace_rows.specs.Trace.{Row, Form, Trace, header_at, next_form, row_at, row_width, rows_from, stop, onto, trace_of}
 
 pub record Reader : Type 0 where
   -- the bytes that were read and aren't taken yet
   pub held : List ℕ
   -- the source has told its end
   pub ended : Bool
-  -- the place of each input in the header
-  pub places : List ℕ
+  -- how the next row is read
+  pub form : Form
   -- the most rows, and the rows so far
   pub limit : ℕ
   pub given : ℕ
@@ -59,13 +59,13 @@ pub record Waits (held_old held_new : List ℕ) (ended_old ended_new : Bool) (le
 -- what the first call says of the bytes
 abbrev pub StartTakes : List (List ℕ) → Option (List ℕ) → Option (List ℕ) → Result Reader RowFault → Type 0
 StartTakes inputs left_old left_new (Ok r) =
-    (header : List ℕ) × (header_at inputs header ≡ Ok r.places) × Takes header [] r.held r.ended left_old left_new
+    (header : List ℕ) × (header_at inputs header ≡ Ok r.form) × Takes header [] r.held r.ended left_old left_new
 StartTakes inputs left_old left_new (Err fault.ReadFault) = (held : List ℕ) × Waits [] held false false left_old left_new
 StartTakes inputs left_old left_new (Err f) = Unit {0}
 
 -- the trace from where a reader stands, of the bytes that are left
 abbrev pub ahead : Reader → List ℕ → Trace
-ahead r left = rows_from r.limit r.places (r.given + 1) (lines_of (r.held ++ left))
+ahead r left = rows_from r.limit r.form (r.given + 1) (lines_of (r.held ++ left))
 
 -- what the first call says of the trace
 abbrev pub StartSays : List (List ℕ) → ℕ → Result Reader RowFault → List ℕ → List ℕ → Type 0
@@ -81,7 +81,7 @@ StartSays inputs limit (Err fault.OutOfMemory) before now = before ≡ now
 -- what a call that asks for the next row says of the bytes
 abbrev pub NextTakes : Reader → Reader → Row → Option (List ℕ) → Option (List ℕ) → Result Next RowFault → Type 0
 NextTakes old new row left_old left_new (Ok next.Row) =
-    (line : List ℕ) × (row_at old.limit old.places (old.given + 1) line ≡ Ok row) × Takes line old.held new.held new.ended left_old left_new
+    (line : List ℕ) × (row_at old.limit old.form (old.given + 1) line ≡ Ok row) × Takes line old.held new.held new.ended left_old left_new
 NextTakes old new row left_old left_new (Ok next.End) = Unit {0}
 NextTakes old new row left_old left_new (Err fault.ReadFault) = Waits old.held new.held old.ended new.ended left_old left_new
 NextTakes old new row left_old left_new (Err f) = Unit {0}
@@ -98,6 +98,8 @@ NextSays old new row (Err fault.OutOfMemory) before now = ⊥
 
 -- what a call that asks for the next row leaves: a row more was given, or nothing is given any more
 abbrev pub NextLeaves : Reader → Reader → Row → Row → Result Next RowFault → Type 0
-NextLeaves old new row_old row_new (Ok next.Row) = (old.given < old.limit) × (new.given ≡ old.given + 1) × (new.live ≡ true)
+NextLeaves old new row_old row_new (Ok next.Row) =
+    (old.given < old.limit) × (new.given ≡ old.given + 1) × (new.live ≡ true) × (new.form ≡ next_form old.form row_new)
+    × (row_width new.form ≡ row_width old.form)
 NextLeaves old new row_old row_new (Ok next.End) = (row_new ≡ row_old) × (new.live ≡ false)
 NextLeaves old new row_old row_new (Err f) = (row_new ≡ row_old) × (new.live ≡ false)

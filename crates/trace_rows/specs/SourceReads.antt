@@ -8,7 +8,7 @@ use Rattle.trace_rows.specs.declared.fault.Next.TheVariants as next
 use Rattle.trace_rows.specs.declared.fault.RowFault.{RowFault}
 use Rattle.trace_rows.specs.Lines.{is_newline}
 use Rattle.trace_rows.specs.Reader.{Reader, HasLine, first_line}
-use Rattle.trace_rows.specs.Trace.{Row, header_at, most_bytes, row_at}
+use Rattle.trace_rows.specs.Trace.{Row, Form, header_at, most_bytes, row_at}
 
 -- ---- reads, by what a source shows: what is left, how often it has failed, and whether its last call failed
 
@@ -41,17 +41,17 @@ pub record TakesLine (bytes held : List ℕ) (ended : Bool) : Type 0 where
   pub whole : ended ≡ false → HasLine bytes
 
 -- the header was taken
-pub record TakesHead (inputs : List (List ℕ)) (places bytes held : List ℕ) (ended : Bool) : Type 0 where
-  pub header : header_at inputs (first_line bytes) ≡ Ok places
+pub record TakesHead (inputs : List (List ℕ)) (form : Form) (bytes held : List ℕ) (ended : Bool) : Type 0 where
+  pub header : header_at inputs (first_line bytes) ≡ Ok form
   pub takes : TakesLine bytes held ended
 
 -- the next row was taken
 pub record TakesRow (old new : Reader) (row : Row) (bytes : List ℕ) : Type 0 where
-  pub row_is : row_at old.limit old.places (old.given + 1) (first_line bytes) ≡ Ok row
+  pub row_is : row_at old.limit old.form (old.given + 1) (first_line bytes) ≡ Ok row
   pub takes : TakesLine bytes new.held new.ended
 
 abbrev pub StartTook : List (List ℕ) → Result Reader RowFault → List ℕ → Type 0
-StartTook inputs (Ok r) bytes = TakesHead inputs r.places bytes r.held r.ended
+StartTook inputs (Ok r) bytes = TakesHead inputs r.form bytes r.held r.ended
 StartTook inputs (Err f) bytes = Unit {0}
 
 abbrev pub NextTook : Reader → Reader → Row → Result Next RowFault → List ℕ → Type 0

@@ -1,9 +1,9 @@
 //! The header of a trace.
-ghost use Rattle.std.specs.Prelude.{◌≡◌, true, false, length, count_by, IsTrue};
+ghost use Rattle.std.specs.Prelude.{◌≡◌, true, false, length, count_by, IsTrue, IfSome, IfNone, Some, None};
 ghost use Rattle.std.specs.List.{position_or_len};
 ghost use Rattle.std.specs.Str.{bytes_eq};
 ghost use Rattle.trace_rows.specs.Words.{words_of};
-ghost use Rattle.trace_rows.specs.Trace.{names_each, places_of};
+ghost use Rattle.trace_rows.specs.Trace.{first_form, form_of, is_mark, names_each, places_of};
 
 use crate::words::next_word;
 use forec_base::Labels;
@@ -51,8 +51,8 @@ fn first_place(line: &[u8], name: &[u8]) -> usize
     place
 }
 
-/// Reads a header for these inputs, and finds the place of each. Where it is none some places may be written.
-pub fn read_header(line: &[u8], inputs: &Labels, places: &mut [usize]) -> bool
+/// Finds the place of each of these inputs in a header. Where it doesn't have each once, some places may be written.
+fn read_header(line: &[u8], inputs: &Labels, places: &mut [usize]) -> bool
     requires { length places.old ≡ length inputs.now }
     ensures yes { IsTrue result → (names_each inputs.now (words_of line.now) ≡ true) }
     ensures places { IsTrue result → places.new ≡ places_of inputs.now (words_of line.now) }
@@ -69,4 +69,35 @@ pub fn read_header(line: &[u8], inputs: &Labels, places: &mut [usize]) -> bool
         places[i as usize] = first_place(line, name);
     }
     true
+}
+
+/// Whether `#2` is the only word of a line.
+fn marked(line: &[u8]) -> bool
+    ensures { result ≡ is_mark (words_of line.now) }
+{
+    let Some((word, after)) = next_word(line) else {
+        return false;
+    };
+    let Some(_more) = next_word(after) else {
+        let mark: &[u8] = b"#2";
+        return mark == word;
+    };
+    false
+}
+
+/// Reads a header for these inputs: whether the rows have changes alone, else the place of each input. Where it is none
+/// some places may be written.
+pub fn read_form(line: &[u8], inputs: &Labels, places: &mut [usize]) -> Option<bool>
+    requires { length places.old ≡ length inputs.now }
+    ensures some { IfSome result (λ changes. form_of inputs.now (words_of line.now)
+        ≡ Some (first_form inputs.now places.new changes)) }
+    ensures none { IfNone result (form_of inputs.now (words_of line.now) ≡ None) }
+{
+    if marked(line) {
+        return Some(true);
+    }
+    if !read_header(line, inputs, places) {
+        return None;
+    }
+    Some(false)
 }

@@ -5,11 +5,13 @@ ghost use Rattle.forec_base.specs.Outside.{Fell};
 ghost use Rattle.trace_rows.specs.Calls.{IfTold};
 ghost use Rattle.trace_rows.specs.Reader.{HasLine, StartTakes, StartSays, NextTakes, NextSays, NextLeaves};
 ghost use Rattle.trace_rows.specs.SourceReads.{Reading, StartTook, NextTook};
+ghost use Rattle.trace_rows.specs.Trace.{row_width};
 
 use crate::fault::{Next, RowFault};
+use crate::form::RowForm;
 use crate::lines::Lines;
+use crate::names::Names;
 use crate::steps::{find_next, take_header};
-use crate::values::{arrange, read_numbers};
 use forec_base::{Labels, Source};
 use std::alloc::Global;
 use std::marker::Model;
@@ -22,8 +24,7 @@ use std::marker::Model;
 #[derive(Drop)]
 pub struct Rows {
     lines: Lines,
-    places: Vec<usize>,
-    values: Vec<i32>,
+    form: RowForm,
     limit: u64,
     given: u64,
     live: bool,
@@ -34,11 +35,9 @@ impl Model for Rows {
 
     ghost Value = { Reader };
 
-    ghost use Rattle.trace_rows.specs.Shown.{reader_of, IsReader};
+    ghost use Rattle.trace_rows.specs.Shown.{reader_of};
 
     ghost view = { reader_of };
-
-    ghost invariant = { IsReader };
 }
 
 impl Rows {
@@ -57,7 +56,7 @@ impl Rows {
         ensures trace { IfTold (S.left source.old) (S.left source.new) (StartSays inputs.now limit result) }
         ensures bytes { StartTakes inputs.now (S.left source.old) (S.left source.new) result }
         ensures reads { Reading S.left S.faults S.down [] false source.old source.new (StartTook inputs.now result) }
-        ensures rows { IfOk result (λ r. (length r.places ≡ length inputs.now) × (r.limit ≡ limit) × (r.given ≡ 0) × (r.live ≡ true)) }
+        ensures rows { IfOk result (λ r. (row_width r.form ≡ length inputs.now) × (r.limit ≡ limit) × (r.given ≡ 0) × (r.live ≡ true)) }
         ensures ended { IfOk result (λ r. r.ended ≡ true → IsAtEnd (S.left source.new)) }
         ensures memory { result ≡ Err RowFault.OutOfMemory → source.new ≡ source.old }
         ensures many { result ≢ Err RowFault.Many }
@@ -67,13 +66,22 @@ impl Rows {
         let mut lines = Lines::new(alloc)?;
         let mut places = vec![in alloc; 0usize; inputs.len() as usize]?;
         let values = vec![in alloc; 0i32; inputs.len() as usize]?;
-        if let Err(fault) = take_header(&mut lines, source, inputs, &mut places) {
-            return Err(fault);
-        }
-        Ok(Rows {
-            lines,
+        let named = vec![in alloc; false; inputs.len() as usize]?;
+        let names = Names::new(alloc, inputs)?;
+        let changes = match take_header(&mut lines, source, inputs, &mut places) {
+            Ok(changes) => changes,
+            Err(fault) => return Err(fault),
+        };
+        let form = RowForm {
+            changes,
+            names,
             places,
             values,
+            named,
+        };
+        Ok(Rows {
+            lines,
+            form,
             limit,
             given: 0,
             live: true,
@@ -94,21 +102,22 @@ impl Rows {
         self.lines.has_line()
     }
 
-    /// Gives the next row, one value for each input in order of declaration, or tells the end of the trace. At `End` and
-    /// at a fault the row stays, and no further one may be asked for. It takes no memory.
+    /// Gives the next row, one value for each input in order of declaration, or tells the end of the trace. What `row`
+    /// holds before counts for nothing. At `End` and at a fault it stays, and no further one may be asked for. It takes
+    /// no memory.
     ///
     /// Errors: `Many` where `limit` rows were given and a further line begins; else `Long` where the next line has more
     /// than 8,192 bytes, though it may not have come whole; else `Bad` where it is no row; `ReadFault` only where the
     /// source failed and no whole line had come.
     pub fn next<S: Source>(&mut self, source: &mut S, row: &mut [i32]) -> Result<Next, RowFault>
         requires live { self.old.live ≡ true }
-        requires width { length row.old ≡ length self.old.places }
+        requires width { length row.old ≡ row_width self.old.form }
         requires ended { self.old.ended ≡ true → IsAtEnd (S.left source.old) }
         ensures trace { IfTold (S.left source.old) (S.left source.new) (NextSays self.old self.new row.new result) }
         ensures bytes { NextTakes self.old self.new row.new (S.left source.old) (S.left source.new) result }
         ensures reads { Reading S.left S.faults S.down self.old.held self.old.ended source.old source.new (NextTook self.old self.new row.new result) }
         ensures goes { NextLeaves self.old self.new row.old row.new result }
-        ensures same { (self.new.places ≡ self.old.places) × (self.new.limit ≡ self.old.limit) }
+        ensures same { self.new.limit ≡ self.old.limit }
         ensures ended { self.new.ended ≡ true → IsAtEnd (S.left source.new) }
         ensures stays { self.new.ended ≡ false → self.old.ended ≡ false }
         ensures asks { HasLine self.old.held → source.new ≡ source.old }
@@ -123,10 +132,9 @@ impl Rows {
             Ok(Next::End) => return Ok(Next::End),
             Ok(Next::Row) => {}
         }
-        if !read_numbers(self.lines.line(), &mut self.values) {
+        if !self.form.read(self.lines.line(), row) {
             return Err(RowFault::Bad);
         }
-        arrange(&self.values, &self.places, row);
         self.lines.pass();
         self.given += 1;
         self.live = true;

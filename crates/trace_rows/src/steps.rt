@@ -8,17 +8,17 @@ ghost use Rattle.trace_rows.specs.SourceReads.{Gathers};
 ghost use Rattle.trace_rows.specs.Steps.{LinesTakeHeader, LinesReadHeader, FindsNext};
 
 use crate::fault::{Next, RowFault};
-use crate::header::read_header;
+use crate::header::read_form;
 use crate::lines::Lines;
 use forec_base::{Labels, Source};
 
-/// Takes the header off a trace, and finds the places of the inputs.
+/// Takes the header off a trace, and says whether the rows have changes alone. Else the places are those of the inputs.
 pub fn take_header<S: Source>(
     lines: &mut Lines,
     source: &mut S,
     inputs: &Labels,
     places: &mut Vec<usize>,
-) -> Result<(), RowFault>
+) -> Result<bool, RowFault>
     requires places { length places.old.items ≡ length inputs.now }
     requires ended { lines.old.ended ≡ true → IsAtEnd (S.left source.old) }
     ensures header { LinesTakeHeader inputs.now places.new.items lines.old lines.new (S.left source.old) (S.left source.new) result }
@@ -33,11 +33,11 @@ pub fn take_header<S: Source>(
         Ok(Next::End) => return Err(RowFault::Bad),
         Ok(Next::Row) => {}
     }
-    if !read_header(lines.line(), inputs, places) {
+    let Some(changes) = read_form(lines.line(), inputs, places) else {
         return Err(RowFault::Bad);
-    }
+    };
     lines.pass();
-    Ok(())
+    Ok(changes)
 }
 
 /// Looks for the line after so many rows, of at most `limit`. A line beyond the limit needn't be whole.

@@ -6,13 +6,13 @@ use Rattle.forec_kernel.specs.declared.shape.Outcome.TheVariants as outcome
 use Rattle.forec_kernel.specs.Composed.{TickInput}
 use Rattle.forec_kernel.specs.Shapes.{PlainKernel}
 use Rattle.forec_kernel.specs.Ticks.{State, Tick, tick, goes_on, run_from}
-use Rattle.trace_rows.specs.Trace.{Row, Trace, onto, row_at}
+use Rattle.trace_rows.specs.Trace.{Row, Form, Trace, next_form, onto, row_at}
 use Rattle.trace_rows.specs.declared.fault.RowFault.{RowFault}
 use Rattle.trace_runs.specs.Report.{Report, Pace, tick_lines, lines_from, last_outcome, ending, behind_bytes, report_from, turns_from, with_row, printed_before, advance}
 
 -- a row at which the program goes on
-pub record PausesAtRow (limit : ℕ) (k : PlainKernel) (budget : ℕ) (places : List ℕ) (s : State) (n : ℕ) (line : List ℕ) (row : Row) : Type 0 where
-  pub row_is : row_at limit places n line ≡ Ok row
+pub record PausesAtRow (limit : ℕ) (k : PlainKernel) (budget : ℕ) (form : Form) (s : State) (n : ℕ) (line : List ℕ) (row : Row) : Type 0 where
+  pub row_is : row_at limit form n line ≡ Ok row
   pub on : goes_on (tick k budget s row).outcome ≡ true
 
 pub paused : (o : Outcome) → goes_on o ≡ true → o ≡ outcome.Paused
@@ -66,17 +66,17 @@ report_step k budget s n m row rest h =
     ap (λ ts. behind_bytes (lines_from k budget n ts) (ending (last_outcome ts) rest.end)) (run_on k budget s row rest.rows h)
     ∙ ticks_on k budget n t (run_from k budget t.state rest.rows) rest h
 
-pub advance_step : (limit : ℕ) (k : PlainKernel) (budget : ℕ) (places : List ℕ) (s : State) (n : ℕ) (line : List ℕ) (lines : List (List ℕ)) (row : Row) → PausesAtRow limit k budget places s n line row →
-    advance limit k budget places s n (line ∷ lines)
-    ≡ (let t = tick k budget s row in option_map (printed_before (tick_lines k budget n t)) (advance limit k budget places t.state (n + 1) lines))
-advance_step limit k budget places s n line lines row h = rw (h.row_is, h.on) refl
+pub advance_step : (limit : ℕ) (k : PlainKernel) (budget : ℕ) (form : Form) (s : State) (n : ℕ) (line : List ℕ) (lines : List (List ℕ)) (row : Row) → PausesAtRow limit k budget form s n line row →
+    advance limit k budget form s n (line ∷ lines)
+    ≡ (let t = tick k budget s row in option_map (printed_before (tick_lines k budget n t)) (advance limit k budget (next_form form row) t.state (n + 1) lines))
+advance_step limit k budget form s n line lines row h = rw (h.row_is, h.on) refl
 
 -- what an advance over a line and those after it says
-pub record Went (limit : ℕ) (k : PlainKernel) (budget : ℕ) (places : List ℕ) (s : State) (n : ℕ) (line : List ℕ) (lines : List (List ℕ)) (p : Pace) : Type 0 where
+pub record Went (limit : ℕ) (k : PlainKernel) (budget : ℕ) (form : Form) (s : State) (n : ℕ) (line : List ℕ) (lines : List (List ℕ)) (p : Pace) : Type 0 where
   pub row : Row
-  pub goes : PausesAtRow limit k budget places s n line row
+  pub goes : PausesAtRow limit k budget form s n line row
   pub rest : Pace
-  pub rest_is : advance limit k budget places (tick k budget s row).state (n + 1) lines ≡ Some rest
+  pub rest_is : advance limit k budget (next_form form row) (tick k budget s row).state (n + 1) lines ≡ Some rest
   pub whole : p ≡ printed_before (tick_lines k budget n (tick k budget s row)) rest
 
 some_of : {A B : Type 0} (f : A → B) (o : Option A) (y : B) → option_map f o ≡ Some y → (x : A) × (o ≡ Some x) × (y ≡ f x)
@@ -91,9 +91,9 @@ cond_some : {A : Type 0} (b : Bool) (o : Option A) (y : A) → cond b o None ≡
 cond_some true o y e = (refl, e)
 cond_some false o y e = absurd cc
 
-pub went_of : (limit : ℕ) (k : PlainKernel) (budget : ℕ) (places : List ℕ) (s : State) (n : ℕ) (line : List ℕ) (lines : List (List ℕ)) (p : Pace) → advance limit k budget places s n (line ∷ lines) ≡ Some p → Went limit k budget places s n line lines p
-went_of limit k budget places s n line lines p e =
-    let r = with_row_some (row_at limit places n line) _ p e in
+pub went_of : (limit : ℕ) (k : PlainKernel) (budget : ℕ) (form : Form) (s : State) (n : ℕ) (line : List ℕ) (lines : List (List ℕ)) (p : Pace) → advance limit k budget form s n (line ∷ lines) ≡ Some p → Went limit k budget form s n line lines p
+went_of limit k budget form s n line lines p e =
+    let r = with_row_some (row_at limit form n line) _ p e in
     let c = cond_some _ _ p r.2 in
     let m = some_of _ _ p c.1 in
     record { row = r.0; goes = record { row_is = r.1; on = c.0 }; rest = m.0; rest_is = m.1; whole = m.2 }
@@ -104,23 +104,23 @@ behind_twice a b r = ap (λ (bs : List ℕ). record { bytes = bs; status = r.sta
 -- where the program stands after one more line
 abbrev pub pace_after : PlainKernel → ℕ → Pace → Row → Pace
 pace_after k budget p row =
-    let t = tick k budget p.state row in record { state = t.state; next = p.next + 1; bytes = p.bytes ++ tick_lines k budget p.next t }
+    let t = tick k budget p.state row in record { state = t.state; next = p.next + 1; form = next_form p.form row; bytes = p.bytes ++ tick_lines k budget p.next t }
 
 printed_twice : (k : PlainKernel) (budget : ℕ) (a : List ℕ) (p : Pace) (row : Row) → Some (printed_before a (pace_after k budget p row)) ≡ Some (pace_after k budget (printed_before a p) row)
 printed_twice k budget a p row =
     let t = tick k budget p.state row in
-    ap (λ (bs : List ℕ). Some (record { state = t.state; next = p.next + 1; bytes = bs })) (sym (append_assoc a p.bytes (tick_lines k budget p.next t)))
+    ap (λ (bs : List ℕ). Some (record { state = t.state; next = p.next + 1; form = next_form p.form row; bytes = bs })) (sym (append_assoc a p.bytes (tick_lines k budget p.next t)))
 
-pub advance_more : (limit : ℕ) (k : PlainKernel) (budget : ℕ) (places : List ℕ) (s : State) (n : ℕ) (lines : List (List ℕ)) (p : Pace) (line : List ℕ) (row : Row) → advance limit k budget places s n lines ≡ Some p →
-    PausesAtRow limit k budget places p.state p.next line row → advance limit k budget places s n (lines ++ line ∷ []) ≡ Some (pace_after k budget p row)
-advance_more limit k budget places s n [] p line row e h =
-    let same : record { state = s; next = n; bytes = [] } ≡ p = cc in
-    subst (λ (q : Pace). PausesAtRow limit k budget places q.state q.next line row → advance limit k budget places s n (line ∷ []) ≡ Some (pace_after k budget q row)) same
-    (λ g. advance_step limit k budget places s n line [] row g ∙ rw append-nil refl) h
-advance_more limit k budget places s n (first ∷ lines) p line row e h =
-    let w = went_of limit k budget places s n first lines p e in
+pub advance_more : (limit : ℕ) (k : PlainKernel) (budget : ℕ) (form : Form) (s : State) (n : ℕ) (lines : List (List ℕ)) (p : Pace) (line : List ℕ) (row : Row) → advance limit k budget form s n lines ≡ Some p →
+    PausesAtRow limit k budget p.form p.state p.next line row → advance limit k budget form s n (lines ++ line ∷ []) ≡ Some (pace_after k budget p row)
+advance_more limit k budget form s n [] p line row e h =
+    let same : record { state = s; next = n; form = form; bytes = [] } ≡ p = cc in
+    subst (λ (q : Pace). PausesAtRow limit k budget q.form q.state q.next line row → advance limit k budget form s n (line ∷ []) ≡ Some (pace_after k budget q row)) same
+    (λ g. advance_step limit k budget form s n line [] row g ∙ rw append-nil refl) h
+advance_more limit k budget form s n (first ∷ lines) p line row e h =
+    let w = went_of limit k budget form s n first lines p e in
     let t = tick k budget s w.row in
-    subst (λ (q : Pace). PausesAtRow limit k budget places q.state q.next line row → advance limit k budget places s n (first ∷ (lines ++ line ∷ [])) ≡ Some (pace_after k budget q row)) (sym w.whole)
-    (λ g. advance_step limit k budget places s n first (lines ++ line ∷ []) w.row w.goes
-    ∙ ap (option_map (printed_before (tick_lines k budget n t))) (advance_more limit k budget places t.state (n + 1) lines w.rest line row w.rest_is g)
+    subst (λ (q : Pace). PausesAtRow limit k budget q.form q.state q.next line row → advance limit k budget form s n (first ∷ (lines ++ line ∷ [])) ≡ Some (pace_after k budget q row)) (sym w.whole)
+    (λ g. advance_step limit k budget form s n first (lines ++ line ∷ []) w.row w.goes
+    ∙ ap (option_map (printed_before (tick_lines k budget n t))) (advance_more limit k budget (next_form form w.row) t.state (n + 1) lines w.rest line row w.rest_is g)
     ∙ printed_twice k budget (tick_lines k budget n t) w.rest row) h

@@ -7,7 +7,7 @@ use Rattle.forec_kernel.specs.Ticks.{Fresh, tick, goes_on}
 use Rattle.trace_rows.specs.Lines.{is_newline, whole_lines}
 use Rattle.trace_rows.specs.Reader.{Reader, HasLine, first_line}
 use Rattle.trace_rows.specs.SourceReads.{Reads, none, more, Lacks, Reading, TakesHead, TakesRow}
-use Rattle.trace_rows.specs.Trace.{Row, header_at}
+use Rattle.trace_rows.specs.Trace.{Row, header_at, next_form, row_at}
 use Rattle.trace_runs.specs.Ends.{GoesOn, ReadFor}
 use Rattle.trace_runs.specs.KernelNames.{input_names}
 use Rattle.trace_runs.specs.Progress.{GoesOnFrom}
@@ -30,18 +30,19 @@ pub record Covers (run : Run) (now : Reader) (p : Pace) (given : List ℕ) : Typ
   pub on : run.first.ended ≡ false
   pub lines : List (List ℕ)
   pub whole : (rest : List ℕ) → whole_lines (run.first.held ++ (given ++ rest)) ≡ lines ++ whole_lines (now.held ++ rest)
-  pub led : advance run.first.limit run.kernel run.budget run.first.places Fresh 1 lines ≡ Some p
+  pub led : advance run.first.limit run.kernel run.budget run.first.form Fresh 1 lines ≡ Some p
 
 goes_on_from : (run : Run) (now : Reader) (p : Pace) (given came : List ℕ) → Covers run now p given → (HasLine (now.held ++ came) → ⊥) → GoesOnFrom run.kernel run.budget run.first (given ++ came)
 goes_on_from run now p given came c lacks = (
   c.on,
   p,
-  ap (λ ls. advance run.first.limit run.kernel run.budget run.first.places Fresh 1 ls) (c.whole came ∙ (ap (λ ls. c.lines ++ ls) (no_line (now.held ++ came) lacks) ∙ append-nil c.lines)) ∙ c.led,
+  ap (λ ls. advance run.first.limit run.kernel run.budget run.first.form Fresh 1 ls) (c.whole came ∙ (ap (λ ls. c.lines ++ ls) (no_line (now.held ++ came) lacks) ∙ append-nil c.lines)) ∙ c.led,
 )
 
-covers_more : (run : Run) (now new : Reader) (p : Pace) (given came bytes : List ℕ) (values : Row) → Covers run now p given → bytes ≡ now.held ++ came → Stands_at run.first p.next now → TakesRow now new values bytes →
+covers_more : (run : Run) (now new : Reader) (p : Pace) (given came bytes : List ℕ) (values : Row) → Covers run now p given → bytes ≡ now.held ++ came → Stands_at run.first p.next now → p.form ≡ now.form →
+    TakesRow now new values bytes →
     new.ended ≡ false → goes_on (tick run.kernel run.budget p.state values).outcome ≡ true → Covers run new (pace_after run.kernel run.budget p values) (given ++ came)
-covers_more run now new p given came bytes values c behind at takes e on =
+covers_more run now new p given came bytes values c behind at same takes e on =
     record {
       on = c.on;
       lines = c.lines ++ first_line bytes ∷ [];
@@ -49,8 +50,8 @@ covers_more run now new p given came bytes values c behind at takes e on =
           ∙ ap (λ r. c.lines ++ whole_lines r) (sym (append_assoc now.held came rest) ∙ ap (λ r. r ++ rest) (sym behind))
           ∙ ap (λ ls. c.lines ++ ls) (lines_behind bytes new.held rest (takes.takes.whole e) takes.takes.rest)
           ∙ sym (append_assoc c.lines (first_line bytes ∷ []) (whole_lines (new.held ++ rest)));
-      led = advance_more run.first.limit run.kernel run.budget run.first.places Fresh 1 c.lines p (first_line bytes) values c.led
-          (record { row_is = sym (row_here run p.next now (first_line bytes) at) ∙ takes.row_is; on = on });
+      led = advance_more run.first.limit run.kernel run.budget run.first.form Fresh 1 c.lines p (first_line bytes) values c.led
+          (record { row_is = ap (λ f. row_at run.first.limit f p.next (first_line bytes)) same ∙ sym (row_here run p.next now (first_line bytes) at) ∙ takes.row_is; on = on });
     }
 
 module _ {S : Type 0} (left : S → Option (List ℕ)) (faults : S → ℕ) (down : S → Bool) where
@@ -68,6 +69,7 @@ module _ {S : Type 0} (left : S → Option (List ℕ)) (faults : S → ℕ) (dow
     pub pace : Pace
     pub led : pace.state ≡ state_after run.kernel Fresh turns
     pub next : pace.next ≡ row
+    pub form : pace.form ≡ now.form
     pub given : List ℕ
     pub reads : Reads left faults down (GoesOnFrom run.kernel run.budget run.first) old given new
     pub covers : now.ended ≡ false → Covers run now pace given
@@ -76,9 +78,10 @@ module _ {S : Type 0} (left : S → Option (List ℕ)) (faults : S → ℕ) (dow
   asked_start run F s f = record {
     turns = [];
     follows = f;
-    pace = record { state = Fresh; next = 1; bytes = [] };
+    pace = record { state = Fresh; next = 1; form = run.first.form; bytes = [] };
     led = refl;
     next = refl;
+    form = refl;
     given = [];
     reads = none;
     covers = λ e. record { on = e; lines = []; whole = λ rest. refl; led = refl };
@@ -95,10 +98,10 @@ module _ {S : Type 0} (left : S → Option (List ℕ)) (faults : S → ℕ) (dow
       )
 
   -- one more row at which the program goes on
-  pub asked_more : (run : Run) (F F' : List TickInput → Type 0) (now new : Reader) (row : ℕ) (old s t : S) (values : Row) (a : Asked run F now row old s) → Stands_at run.first row now →
+  pub asked_more : (run : Run) (F F' : List TickInput → Type 0) (now new : Reader) (row : ℕ) (old s t : S) (values : Row) (a : Asked run F now row old s) → Stands_at run.first row now → new.form ≡ next_form now.form values →
       Reading left faults down now.held now.ended s t (TakesRow now new values) → (new.ended ≡ false → now.ended ≡ false) →
       goes_on (tick run.kernel run.budget a.pace.state values).outcome ≡ true → F' (a.turns ++ turn_of run values ∷ []) → Asked run F' new (row + 1) old t
-  asked_more run F F' now new row old s t values a at r stays on f =
+  asked_more run F F' now new row old s t values a at follows r stays on f =
       let g = r.1 in
       record {
         turns = a.turns ++ turn_of run values ∷ [];
@@ -106,15 +109,16 @@ module _ {S : Type 0} (left : S → Option (List ℕ)) (faults : S → ℕ) (dow
         pace = pace_after run.kernel run.budget a.pace values;
         led = led_on run.kernel a.turns (turn_of run values) a.pace.state a.led;
         next = ap (λ n. n + 1) a.next;
+        form = ap (λ f. next_form f values) a.form ∙ sym follows;
         given = a.given ++ g.given;
         reads = reads_then (GoesOnFrom run.kernel run.budget run.first) (λ came. Lacks (now.held ++ came) now.ended) old s a.given a.reads
             (λ came lacks. goes_on_from run now a.pace a.given came (a.covers lacks.1) lacks.0) g.reads;
-        covers = λ e. covers_more run now new a.pace a.given g.given r.0 values (a.covers (stays e)) g.behind (subst (λ n. Stands_at run.first n now) (sym a.next) at) r.2 e on;
+        covers = λ e. covers_more run now new a.pace a.given g.given r.0 values (a.covers (stays e)) g.behind (subst (λ n. Stands_at run.first n now) (sym a.next) at) a.form r.2 e on;
       }
 
   -- the header, and the rows after it
   pub asked_all : (k : PlainKernel) (budget : ℕ) (inputs : List (List ℕ)) (first : Reader) (old s t : S) → inputs ≡ input_names k →
-      Reading left faults down [] false old s (λ bytes. TakesHead inputs first.places bytes first.held first.ended) →
+      Reading left faults down [] false old s (λ bytes. TakesHead inputs first.form bytes first.held first.ended) →
       (given : List ℕ) × Reads left faults down (GoesOnFrom k budget first) s given t → ReadFor left faults down first.limit k budget old t
   asked_all k budget inputs first old s t e head rows =
       let g = head.1 in
@@ -127,7 +131,7 @@ module _ {S : Type 0} (left : S → Option (List ℕ)) (faults : S → ℕ) (dow
             (λ came on. (
               on.1.bytes,
               ap (λ b. printed_for first.limit k budget (whole_lines (b ++ came))) (sym g.behind)
-                  ∙ (ap (printed_for first.limit k budget) (lines_behind head.0 first.held came (h.takes.whole on.0) h.takes.rest) ∙ printed_rows first.limit k budget (first_line head.0) first.places (whole_lines (first.held ++ came)) on.1 is on.2),
+                  ∙ (ap (printed_for first.limit k budget) (lines_behind head.0 first.held came (h.takes.whole on.0) h.takes.rest) ∙ printed_rows first.limit k budget (first_line head.0) first.form (whole_lines (first.held ++ came)) on.1 is on.2),
             )) rows.1,
       )
 

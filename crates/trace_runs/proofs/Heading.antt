@@ -8,7 +8,7 @@ use Rattle.forec_kernel.specs.Ticks.{Fresh}
 use Rattle.trace_rows.specs.Calls.{IfTold}
 use Rattle.trace_rows.specs.Lines.{whole_lines}
 use Rattle.trace_rows.specs.Reader.{Reader, StartTakes, StartSays, Takes, Waits, ahead}
-use Rattle.trace_rows.specs.Trace.{Trace, header_at, stop, trace_of}
+use Rattle.trace_rows.specs.Trace.{Form, Trace, header_at, stop, trace_of}
 use Rattle.trace_rows.specs.declared.fault.RowFault.{RowFault}
 use Rattle.trace_runs.specs.Ends.{PrintedFor, Wanted}
 use Rattle.trace_runs.specs.KernelNames.{input_names}
@@ -23,7 +23,7 @@ use Rattle.trace_runs.proofs.Splitting.{no_line, whole_lines-line, came_told, ta
 -- the header is read
 pub record Started (limit : ℕ) (inputs : List (List ℕ)) (left_old left_new : Option (List ℕ)) (r : Reader) : Type 0 where
   pub header : List ℕ
-  pub is : header_at inputs header ≡ Ok r.places
+  pub is : header_at inputs header ≡ Ok r.form
   pub takes : Takes header [] r.held r.ended left_old left_new
   pub trace : IfTold left_old left_new (λ x y. trace_of inputs limit x ≡ ahead r y)
 
@@ -44,10 +44,10 @@ pub printed_none : (limit : ℕ) (k : PlainKernel) (b : ℕ) → printed_for lim
 unfolding printed_for
 printed_none limit k b = refl
 
-pub printed_rows : (limit : ℕ) (k : PlainKernel) (b : ℕ) (line ps : List ℕ) (lines : List (List ℕ)) (p : Pace) → header_at (input_names k) line ≡ Ok ps → advance limit k b ps Fresh 1 lines ≡ Some p →
+pub printed_rows : (limit : ℕ) (k : PlainKernel) (b : ℕ) (line : List ℕ) (form : Form) (lines : List (List ℕ)) (p : Pace) → header_at (input_names k) line ≡ Ok form → advance limit k b form Fresh 1 lines ≡ Some p →
     printed_for limit k b (line ∷ lines) ≡ Some p.bytes
 unfolding printed_for
-printed_rows limit k b line ps lines p h e = rw (h, e) refl
+printed_rows limit k b line form lines p h e = rw (h, e) refl
 
 module _ (limit : ℕ) (k : PlainKernel) (b : ℕ) (inputs : List (List ℕ)) (same : inputs ≡ input_names k) where
   trace_reads : (x : List ℕ) (t : Trace) → trace_of inputs limit x ≡ t → trace_report limit k b x ≡ report_from k b Fresh 1 t
@@ -99,9 +99,9 @@ module _ (limit : ℕ) (k : PlainKernel) (b : ℕ) (inputs : List (List ℕ)) (s
           led.1,
           told_both l l' l2 _ (Led k b r led.0) (PrintedFor limit k b led.0) (takes_told n.header [] r.held r.ended l l' n.takes) led.2 (λ x y u cut m.
               let c = cut m.0 in
-              let on = subst (λ (q : ℕ). advance q k b r.places Fresh 1 (whole_lines m.1) ≡ Some m.3) most m.4 in (
+              let on = subst (λ (q : ℕ). advance q k b r.form Fresh 1 (whole_lines m.1) ≡ Some m.3) most m.4 in (
                 n.header ++ 10 ∷ m.1,
                 c.bytes ∙ ap (λ w. n.header ++ 10 ∷ w) m.2 ∙ sym (append_assoc n.header (10 ∷ m.1) u),
-                ap (printed_for limit k b) (whole_lines-line n.header m.1 c.none) ∙ printed_rows limit k b n.header r.places (whole_lines m.1) m.3 is on ∙ ap Some m.5,
+                ap (printed_for limit k b) (whole_lines-line n.header m.1 c.none) ∙ printed_rows limit k b n.header r.form (whole_lines m.1) m.3 is on ∙ ap Some m.5,
               )),
         )

@@ -2,7 +2,7 @@
 use Rattle.std.proofs.Common.{◌≡◌, ◌≢◌, ℕ, ◌+◌, ◌<◌, false, List, Option, Some, None, Result, Ok, Err, refl}
 use Rattle.trace_rows.specs.Calls.{IfTold}
 use Rattle.trace_rows.specs.Reader.{Reader, Takes, Waits, NextTakes, NextSays, NextLeaves, ahead}
-use Rattle.trace_rows.specs.Trace.{Row, row_at, stop, onto}
+use Rattle.trace_rows.specs.Trace.{Row, next_form, row_at, row_width, stop, onto}
 use Rattle.trace_rows.specs.declared.fault.Next.{Next}
 use Rattle.trace_rows.specs.declared.fault.Next.TheVariants as next
 use Rattle.trace_rows.specs.declared.fault.RowFault.{RowFault}
@@ -11,14 +11,15 @@ use Rattle.trace_rows.specs.declared.fault.RowFault.TheVariants as fault
 -- the next line was a row, and gave these values
 pub record Gave (old new : Reader) (left_old left_new : Option (List ℕ)) (row : Row) : Type 0 where
   pub line : List ℕ
-  pub is : row_at old.limit old.places (old.given + 1) line ≡ Ok row
+  pub is : row_at old.limit old.form (old.given + 1) line ≡ Ok row
   pub takes : Takes line old.held new.held new.ended left_old left_new
   pub stays : new.ended ≡ false → old.ended ≡ false
   pub trace : IfTold left_old left_new (λ x y. ahead old x ≡ onto (Ok row) (old.given + 1) (ahead new y))
   pub within : old.given < old.limit
   pub count : new.given ≡ old.given + 1
   pub most : new.limit ≡ old.limit
-  pub columns : new.places ≡ old.places
+  pub form : new.form ≡ next_form old.form row
+  pub width : row_width new.form ≡ row_width old.form
 
 -- what a call that looks for the next row says; it fails only where no whole line was held or came
 abbrev pub GivesNext : Reader → Reader → Option (List ℕ) → Option (List ℕ) → Row → Result Next RowFault → Type 0
@@ -29,7 +30,7 @@ GivesNext old new left_old left_new row (Err fault.OutOfMemory) = ⊥
 GivesNext old new left_old left_new row (Err f) = IfTold left_old left_new (λ x y. ahead old x ≡ stop (Some f) (old.given + 1))
 
 pub gives_next : (old new : Reader) (row_old row : Row) (a b : Option (List ℕ)) (r : Result Next RowFault) → NextTakes old new row a b r → IfTold a b (NextSays old new row r) → NextLeaves old new row_old row r →
-    (new.places ≡ old.places) × (new.limit ≡ old.limit) → (new.ended ≡ false → old.ended ≡ false) → r ≢ Err fault.OutOfMemory → GivesNext old new a b row r
+    new.limit ≡ old.limit → (new.ended ≡ false → old.ended ≡ false) → r ≢ Err fault.OutOfMemory → GivesNext old new a b row r
 gives_next old new row_old row a b (Ok next.Row) takes says leaves same stays not = record {
   line = takes.0;
   is = takes.1;
@@ -38,8 +39,9 @@ gives_next old new row_old row a b (Ok next.Row) takes says leaves same stays no
   trace = says;
   within = leaves.0;
   count = leaves.1;
-  most = same.1;
-  columns = same.0;
+  most = same;
+  form = leaves.3;
+  width = leaves.4;
 }
 gives_next old new row_old row a b (Ok next.End) takes says leaves same stays not = says
 gives_next old new row_old row a b (Err fault.Bad) takes says leaves same stays not = says
@@ -50,5 +52,5 @@ gives_next old new row_old row a b (Err fault.OutOfMemory) takes says leaves sam
 
 -- the next line was a row
 pub gave_row : (old new : Reader) (row_old row : Row) (a b : Option (List ℕ)) → NextTakes old new row a b (Ok next.Row) → IfTold a b (NextSays old new row (Ok next.Row)) → NextLeaves old new row_old row (Ok next.Row) →
-    (new.places ≡ old.places) × (new.limit ≡ old.limit) → (new.ended ≡ false → old.ended ≡ false) → Gave old new a b row
+    new.limit ≡ old.limit → (new.ended ≡ false → old.ended ≡ false) → Gave old new a b row
 gave_row old new row_old row a b takes says leaves same stays = gives_next old new row_old row a b (Ok next.Row) takes says leaves same stays (λ e. cc)

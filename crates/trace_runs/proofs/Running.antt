@@ -15,7 +15,7 @@ use Rattle.forec_kernel.specs.Ticks.{State, Fresh, tick, goes_on}
 use Rattle.trace_rows.specs.Calls.{IfTold}
 use Rattle.trace_rows.specs.Lines.{is_newline, whole_lines}
 use Rattle.trace_rows.specs.Reader.{Reader, HasLine, Waits, ahead}
-use Rattle.trace_rows.specs.Trace.{Row, End, Trace, stop, onto, row_at}
+use Rattle.trace_rows.specs.Trace.{Row, Form, End, Trace, stop, onto, row_at, row_width}
 use Rattle.trace_rows.specs.declared.fault.RowFault.{RowFault}
 use Rattle.trace_runs.specs.Calls.{AppendsFront}
 use Rattle.trace_runs.specs.Ends.{Given}
@@ -41,7 +41,7 @@ pub record Run : Type 0 where
 -- the reader stands before this row of the trace that the run began with
 pub record Stands_at (first : Reader) (row : ℕ) (now : Reader) : Type 0 where
   pub limit : now.limit ≡ first.limit
-  pub places : now.places ≡ first.places
+  pub width : row_width now.form ≡ row_width first.form
   pub number : now.given + 1 ≡ row
 
 -- the bytes that were taken are whole lines, which led a kernel from its start to a pace
@@ -50,7 +50,7 @@ pub record Taken (k : PlainKernel) (budget : ℕ) (first now : Reader) (p : Pace
   pub split : first.held ++ left_old ≡ given ++ (now.held ++ left_new)
   pub lines : List (List ℕ)
   pub whole : (more : List ℕ) → whole_lines (given ++ more) ≡ lines ++ whole_lines more
-  pub led : advance first.limit k budget first.places Fresh 1 lines ≡ Some p
+  pub led : advance first.limit k budget first.form Fresh 1 lines ≡ Some p
 
 -- rows were taken whose ticks led a kernel from its start to a pace
 pub record Leads (k : PlainKernel) (budget : ℕ) (first now : Reader) (turns : List TickInput) (p : Pace) (left_old left_new : List ℕ) : Type 0 where
@@ -70,11 +70,11 @@ pub record Reached (run : Run) (Follows : List TickInput → Type 0) (now : Read
   pub sent : List ℕ
   pub appended : Appends held_old held sent
   pub split : bytes ≡ sent ++ unsent
-  pub told : IfTold left_old left (Leads run.kernel run.budget run.first now turns (record { state = state; next = row; bytes = bytes }))
+  pub told : IfTold left_old left (Leads run.kernel run.budget run.first now turns (record { state = state; next = row; form = now.form; bytes = bytes }))
 
 -- ---- the start, and what was sent
 
-leads_start : (k : PlainKernel) (budget : ℕ) (first : Reader) (x : List ℕ) → Leads k budget first first [] (record { state = Fresh; next = 1; bytes = [] }) x x
+leads_start : (k : PlainKernel) (budget : ℕ) (first : Reader) (x : List ℕ) → Leads k budget first first [] (record { state = Fresh; next = 1; form = first.form; bytes = [] }) x x
 unfolding report_rest turns_rest
 leads_start k budget first x = record {
   report = refl;
@@ -148,9 +148,9 @@ stops (outcome.Trapped place trap) not = refl
 stops outcome.Over not = refl
 
 -- what stands at the reader's line stands at this row of the run
-pub row_here : (run : Run) (row : ℕ) (now : Reader) (line : List ℕ) → Stands_at run.first row now → row_at now.limit now.places (now.given + 1) line ≡ row_at run.first.limit run.first.places row line
+pub row_here : (run : Run) (row : ℕ) (now : Reader) (line : List ℕ) → Stands_at run.first row now → row_at now.limit now.form (now.given + 1) line ≡ row_at run.first.limit now.form row line
 row_here run row now line at =
-    ap (λ m. row_at m now.places (now.given + 1) line) at.limit ∙ ap (λ ps. row_at run.first.limit ps (now.given + 1) line) at.places ∙ ap (λ n. row_at run.first.limit run.first.places n line) at.number
+    ap (λ m. row_at m now.form (now.given + 1) line) at.limit ∙ ap (λ n. row_at run.first.limit now.form n line) at.number
 
 -- a row stands within the limit
 pub row_within : (first : Reader) (row : ℕ) (now : Reader) → Stands_at first row now → now.given < now.limit → row ≤ first.limit
@@ -160,7 +160,7 @@ row_within first row now at h = let l = at.limit in let n = at.number in omega a
 pub stands_more : (first : Reader) (row : ℕ) (now new : Reader) (l l' : Option (List ℕ)) (values : Row) → Stands_at first row now → Gave now new l l' values → Stands_at first (row + 1) new
 stands_more first row now new l l' values at n = record {
   limit = n.most ∙ at.limit;
-  places = n.columns ∙ at.places;
+  width = n.width ∙ at.width;
   number = ap (λ m. m + 1) (n.count ∙ at.number);
 }
 
@@ -170,14 +170,14 @@ stands_more first row now new l l' values at n = record {
 at_any : (run : Run) (F : List TickInput → Type 0) (now : Reader) (l0 l h0 h : Option (List ℕ)) (unsent : List ℕ) (row : ℕ) (r : Reached run F now l0 l h0 h unsent row) →
     IfSome l0 (λ x. (s : Report) × (report_rest run.kernel run.budget run.first x ≡ behind_bytes r.bytes s))
 at_any run F now l0 l h0 h unsent row r =
-    let p : Pace = record { state = r.state; next = row; bytes = r.bytes } in
+    let p : Pace = record { state = r.state; next = row; form = now.form; bytes = r.bytes } in
     told_some l0 l (Leads run.kernel run.budget run.first now r.turns p) _ r.told (λ x y led. (report_from run.kernel run.budget r.state row (ahead now y), led.report))
 
 -- the trace stops there
 stops_at : (run : Run) (F : List TickInput → Type 0) (now : Reader) (l0 l l' h0 h : Option (List ℕ)) (unsent : List ℕ) (row : ℕ) (r : Reached run F now l0 l h0 h unsent row) (f : Option RowFault) (s : Report) →
     IfTold l l' (λ x y. ahead now x ≡ stop f (now.given + 1)) → report_from run.kernel run.budget r.state row (stop f (now.given + 1)) ≡ s → IfSome l0 (Is run r.bytes r.turns s)
 stops_at run F now l0 l l' h0 h unsent row r f s n is =
-    let p : Pace = record { state = r.state; next = row; bytes = r.bytes } in
+    let p : Pace = record { state = r.state; next = row; form = now.form; bytes = r.bytes } in
     told_some l0 l' (λ x z. Is run r.bytes r.turns s x) (Is run r.bytes r.turns s)
     (told_both l0 l l' (Leads run.kernel run.budget run.first now r.turns p) (λ y z. ahead now y ≡ stop f (now.given + 1)) (λ x z. Is run r.bytes r.turns s x) r.told n
     (λ x y z led stops. record {
@@ -216,7 +216,7 @@ pub at_stop : (run : Run) (F : List TickInput → Type 0) (now new : Reader) (l0
     IfSome l0 (Is run r.bytes (r.turns ++ turn_of run values ∷ [])
     (let t = tick run.kernel run.budget r.state values in record { bytes = tick_lines run.kernel run.budget row t; status = status_after t.outcome }))
 at_stop run F now new l0 l l' h0 h unsent row values r n stops =
-    let p : Pace = record { state = r.state; next = row; bytes = r.bytes } in
+    let p : Pace = record { state = r.state; next = row; form = now.form; bytes = r.bytes } in
     let t = tick run.kernel run.budget r.state values in
     let s : Report = record { bytes = tick_lines run.kernel run.budget row t; status = status_after t.outcome } in
     let all = r.turns ++ turn_of run values ∷ [] in
@@ -232,7 +232,7 @@ at_stop run F now new l0 l l' h0 h unsent row values r n stops =
 
 -- one more line that was taken whole
 taken_more : (run : Run) (now new : Reader) (p : Pace) (line : List ℕ) (values : Row) (x y z : List ℕ) → Taken run.kernel run.budget run.first now p x y → Cut line now.held new.held y z →
-    row_at run.first.limit run.first.places p.next line ≡ Ok values → goes_on (tick run.kernel run.budget p.state values).outcome ≡ true →
+    row_at run.first.limit p.form p.next line ≡ Ok values → goes_on (tick run.kernel run.budget p.state values).outcome ≡ true →
     Taken run.kernel run.budget run.first new (pace_after run.kernel run.budget p values) x z
 taken_more run now new p line values x y z t cut is on = record {
   given = t.given ++ (line ++ 10 ∷ []);
@@ -240,7 +240,7 @@ taken_more run now new p line values x y z t cut is on = record {
   lines = t.lines ++ line ∷ [];
   whole = λ more. ap whole_lines (append_assoc t.given (line ++ 10 ∷ []) more ∙ ap (λ r. t.given ++ r) (append_assoc line (10 ∷ []) more)) ∙ t.whole (line ++ 10 ∷ more)
       ∙ ap (λ r. t.lines ++ r) (whole_lines-line line more cut.none) ∙ sym (append_assoc t.lines (line ∷ []) (whole_lines more));
-  led = advance_more run.first.limit run.kernel run.budget run.first.places Fresh 1 t.lines p line values t.led (record { row_is = is; on = on });
+  led = advance_more run.first.limit run.kernel run.budget run.first.form Fresh 1 t.lines p line values t.led (record { row_is = is; on = on });
 }
 
 told_and : (a b : Option (List ℕ)) (P Q : List ℕ → List ℕ → Type 0) → IfTold a b P → IfTold a b Q → IfTold a b (λ x y. P x y × Q x y)
@@ -254,7 +254,7 @@ pub reached_more : (run : Run) (F F' : List TickInput → Type 0) (now new : Rea
     unsent' ≡ unsent ++ tick_lines run.kernel run.budget row (tick run.kernel run.budget r.state values) → Reached run F' new l0 l' h0 h unsent' (row + 1)
 reached_more run F F' now new l0 l l' h0 h unsent unsent' row values r n on f g =
     let t = tick run.kernel run.budget r.state values in
-    let p : Pace = record { state = r.state; next = row; bytes = r.bytes } in
+    let p : Pace = record { state = r.state; next = row; form = now.form; bytes = r.bytes } in
     record {
       turns = r.turns ++ turn_of run values ∷ [];
       follows = f;
@@ -274,7 +274,8 @@ reached_more run F F' now new l0 l l' h0 h unsent unsent' row values r n on f g 
                 ∙ ap (λ ts. r.turns ++ ts) (turns_on run.kernel run.budget r.state values (ahead new z).rows on)
                 ∙ sym (append_assoc r.turns (turn_of run values ∷ []) (turns_from run.kernel run.budget t.state (ahead new z).rows));
             stays = λ e. led.stays (n.stays e);
-            taken = λ e. taken_more run now new p n.line values x y z (led.taken (n.stays e)) (gave.1 e) (sym (row_here run row now n.line r.stands) ∙ n.is) on;
+            taken = λ e. subst (λ (f : Form). Taken run.kernel run.budget run.first new (record { state = t.state; next = row + 1; form = f; bytes = r.bytes ++ tick_lines run.kernel run.budget row t }) x z) (sym n.form)
+                (taken_more run now new p n.line values x y z (led.taken (n.stays e)) (gave.1 e) (sym (row_here run row now n.line r.stands) ∙ n.is) on);
           });
     }
 
@@ -285,7 +286,7 @@ pub failed : (run : Run) (F : List TickInput → Type 0) (now new : Reader) (l0 
     Waits now.held new.held now.ended new.ended l l' → unsent ≡ [] →
     (bytes : List ℕ) × Appends h0 h bytes × IfTold l0 l' (Led run.kernel run.budget run.first bytes)
 failed run F now new l0 l l' h0 h unsent row r n z =
-    let p : Pace = record { state = r.state; next = row; bytes = r.bytes } in
+    let p : Pace = record { state = r.state; next = row; form = now.form; bytes = r.bytes } in
     let all : r.bytes ≡ r.sent = r.split ∙ ap (λ x. r.sent ++ x) z ∙ append-nil r.sent in (
       r.bytes,
       subst (Appends h0 h) (sym all) r.appended,
@@ -296,7 +297,7 @@ failed run F now new l0 l l' h0 h unsent row r n z =
             t.given ++ new.held,
             t.split ∙ ap (λ r. t.given ++ r) e ∙ sym (append_assoc t.given new.held z),
             p,
-            ap (λ ls. advance run.first.limit run.kernel run.budget run.first.places Fresh 1 ls) lines ∙ t.led,
+            ap (λ ls. advance run.first.limit run.kernel run.budget run.first.form Fresh 1 ls) lines ∙ t.led,
             refl,
           )),
     )

@@ -44,9 +44,9 @@ pub record IsPut (old new : Waiting) (r : Report) (end : Status) : Type 0 where
 abbrev pub Led : PlainKernel → ℕ → Reader → List ℕ → List ℕ → List ℕ → Type 0
 Led k budget first bytes left_old left_new =
     (first.ended ≡ false) × (given : List ℕ) × (first.held ++ left_old ≡ given ++ left_new)
-    × (p : Pace) × (advance first.limit k budget first.places Fresh 1 (whole_lines given) ≡ Some p) × (p.bytes ≡ bytes)
+    × (p : Pace) × (advance first.limit k budget first.form Fresh 1 (whole_lines given) ≡ Some p) × (p.bytes ≡ bytes)
 
 -- the source has not told its end, and the lines that have come whole after a header are rows at which the program goes on
 abbrev pub GoesOnFrom : PlainKernel → ℕ → Reader → List ℕ → Type 0
 GoesOnFrom k budget first came =
-    (first.ended ≡ false) × (p : Pace) × (advance first.limit k budget first.places Fresh 1 (whole_lines (first.held ++ came)) ≡ Some p)
+    (first.ended ≡ false) × (p : Pace) × (advance first.limit k budget first.form Fresh 1 (whole_lines (first.held ++ came)) ≡ Some p)

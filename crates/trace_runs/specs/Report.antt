@@ -6,7 +6,7 @@ use Rattle.forec_kernel.specs.declared.shape.Outcome.TheVariants as outcome
 use Rattle.forec_kernel.specs.Composed.{TickInput}
 use Rattle.forec_kernel.specs.Shapes.{PlainKernel}
 use Rattle.forec_kernel.specs.Ticks.{State, Fresh, Tick, tick, goes_on, run_from}
-use Rattle.trace_rows.specs.Trace.{Row, End, Trace, header_at, row_at, trace_of}
+use Rattle.trace_rows.specs.Trace.{Row, Form, End, Trace, header_at, next_form, row_at, trace_of}
 use Rattle.trace_rows.specs.declared.fault.RowFault.{RowFault}
 use Rattle.trace_runs.specs.KernelNames.{input_names, output_names}
 use Rattle.trace_rows.specs.Report.{outcome_lines, rows_line, row_line}
@@ -80,10 +80,11 @@ trace_turns limit k budget bytes = turns_from k budget Fresh (trace_of (input_na
 
 -- ---- the report so far
 
--- how far lines have led: the state, the number of the next tick, and what was printed
+-- how far lines have led: the state, the number of the next tick, how its row is read, and what was printed
 pub record Pace : Type 0 where
   pub state : State
   pub next : ℕ
+  pub form : Form
   pub bytes : List ℕ
 
 abbrev pub with_row : Result Row RowFault → (Row → Option Pace) → Option Pace
@@ -91,22 +92,21 @@ with_row (Ok row) f = f row
 with_row (Err e) f = None
 
 abbrev pub printed_before : List ℕ → Pace → Pace
-printed_before bytes p = record { state = p.state; next = p.next; bytes = bytes ++ p.bytes }
+printed_before bytes p = record { state = p.state; next = p.next; form = p.form; bytes = bytes ++ p.bytes }
 
--- What these lines print, of which the first is line n, where each is a row and the program goes on at each. The inputs stand at
--- these places of the header.
-abbrev pub advance : (limit : ℕ) → PlainKernel → ℕ → List ℕ → State → ℕ → List (List ℕ) → Option Pace
-advance limit k budget places s n [] = Some (record { state = s; next = n; bytes = [] })
-advance limit k budget places s n (line ∷ lines) = with_row (row_at limit places n line) (λ row.
+-- What these lines print, of which the first is line n and is read so, where each is a row and the program goes on at each.
+abbrev pub advance : (limit : ℕ) → PlainKernel → ℕ → Form → State → ℕ → List (List ℕ) → Option Pace
+advance limit k budget form s n [] = Some (record { state = s; next = n; form = form; bytes = [] })
+advance limit k budget form s n (line ∷ lines) = with_row (row_at limit form n line) (λ row.
     let t = tick k budget s row in
-    if goes_on t.outcome then option_map (printed_before (tick_lines k budget n t)) (advance limit k budget places t.state (n + 1) lines) else None)
+    if goes_on t.outcome then option_map (printed_before (tick_lines k budget n t)) (advance limit k budget (next_form form row) t.state (n + 1) lines) else None)
 
-abbrev pub with_header : Result (List ℕ) RowFault → (List ℕ → Option (List ℕ)) → Option (List ℕ)
-with_header (Ok places) bytes = bytes places
+abbrev pub with_header : Result Form RowFault → (Form → Option (List ℕ)) → Option (List ℕ)
+with_header (Ok form) bytes = bytes form
 with_header (Err e) bytes = None
 
 -- what a kernel has printed for these first lines of a trace, where none of them stops it
 unfoldable pub printed_for : (limit : ℕ) → PlainKernel → ℕ → List (List ℕ) → Option (List ℕ)
 printed_for limit k budget [] = Some []
 printed_for limit k budget (header ∷ lines) =
-    with_header (header_at (input_names k) header) (λ places. option_map (λ p. p.bytes) (advance limit k budget places Fresh 1 lines))
+    with_header (header_at (input_names k) header) (λ form. option_map (λ p. p.bytes) (advance limit k budget form Fresh 1 lines))

@@ -3,6 +3,7 @@ use Rattle.forec_base.specs.declared.limits.TheConstants.{MAX_BUDGET, MAX_INPUTS
 use Rattle.std.specs.Prelude.{◌≡◌, ◌≤◌, [], true, length}
 use Rattle.forec_kernel.specs.Shapes.{PlainShape}
 use Rattle.trace_rows.specs.Reader.{Reader}
+use Rattle.trace_rows.specs.Trace.{row_width}
 use Rattle.trace_runs.specs.KernelNames.{inputs_of, outputs_of}
 use Rattle.trace_runs.specs.WaitingRoom.{HasRoom}
 use Rattle.trace_runs.specs.declared.session.Session.{Session}
@@ -23,5 +24,5 @@ pub record IsSessionOf (shape : PlainShape) (s : Session) : Type 0 where
 pub record AreRowsOf (s : Session) (r : Reader) : Type 0 where
   pub limit : r.limit ≡ s.limit
   pub number : r.given ≡ 0
-  pub each : length r.places ≡ length s.image.inputs.items
+  pub each : row_width r.form ≡ length s.image.inputs.items
   pub live : r.live ≡ true

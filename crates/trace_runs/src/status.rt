@@ -7,7 +7,7 @@ ghost use Rattle.trace_runs.specs.StatusNumbers.{number_of};
 pub enum Status {
     /// It did its work: the program ended, or the trace did, or it was accepted.
     Done,
-    /// The words aren't a command, or their list of places is refused.
+    /// The words aren't a command, the program has no bound and the budget is to be that, or the list of places is refused.
     Usage,
     /// The text is too long, or isn't accepted.
     Refused,

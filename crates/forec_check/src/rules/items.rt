@@ -91,7 +91,7 @@ pub fn is_input(kind: GlobalKind) -> bool
 }
 
 /// An output, plain or shared.
-pub fn is_output(kind: GlobalKind) -> bool
+fn is_output(kind: GlobalKind) -> bool
     ensures { result ≡ rules.is_output kind }
 {
     match kind {
@@ -100,13 +100,28 @@ pub fn is_output(kind: GlobalKind) -> bool
     }
 }
 
-fn extra(counts: ItemCounts, kind: GlobalKind) -> bool
-    ensures { result ≡ is_extra counts kind }
+/// How many outputs a global is: of an array, each element is one.
+pub fn output_count(g: &Global) -> u32
+    ensures { result ≡ faults.output_count (plain.plain_global g.now) }
+{
+    if is_output(g.kind) { g.width() } else { 0 }
+}
+
+/// Whether the last of some more outputs is past the most that there may be.
+fn runs_over(before: u128, more: u32) -> bool
+    ensures { result ≡ faults.runs_over MAX_OUTPUTS before more }
+{
+    let most = MAX_OUTPUTS as u128;
+    more > 0 && (most <= before || most - before < u128::from(more))
+}
+
+fn extra(counts: ItemCounts, kind: GlobalKind, outputs: u32) -> bool
+    ensures { result ≡ is_extra counts kind outputs }
 {
     if is_input(kind) && MAX_INPUTS <= counts.inputs {
         return true;
     }
-    is_output(kind) && MAX_OUTPUTS <= counts.outputs
+    runs_over(counts.outputs, outputs)
 }
 
 /// Judges a global, and keeps the least fault.
@@ -142,7 +157,7 @@ pub fn judge_global(
     judge_combine(index, g.combine, least);
     keep_fault(
         least,
-        extra(counts, g.kind),
+        extra(counts, g.kind, output_count(g)),
         g.name.place,
         rule::TOO_MANY_INPUTS_OR_OUTPUTS,
     );

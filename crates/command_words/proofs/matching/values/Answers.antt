@@ -1,7 +1,7 @@
 use Rattle.std.proofs.Common.{◌≡◌, ◌∙◌, ap, sym, refl, map, string_bytes, codes, List, ℕ, Option, option_map}
 use Rattle.clap.proofs.WalkLemmas.{first_value-rows}
 use Rattle.clap.specs.Words.{App, Row, Text, found_of, app_of, is_simple, is_simple_and_free, fault_of, first_of, first_value, matches_of, rows_of}
-use Rattle.command_words.specs.CommandLine.{value_of, command_line}
+use Rattle.command_words.specs.CommandLine.{value_of, is_set, command_line}
 use Rattle.command_words.specs.declared.fault.WordsFault.TheVariants.{Usage}
 use Rattle.command_words.proofs.Free.{free, simple, no_kind}
 use Rattle.command_words.proofs.matching.values.Goals as goal
@@ -27,6 +27,7 @@ returns-in-Ok-clause-values c =
       c.get_str-in-Ok-3.ensures ∙ value (codes "place"),
       c.get_str-in-Ok-4.ensures ∙ value (codes "budget"),
       c.get_str-in-Ok-5.ensures ∙ value (codes "order"),
+      c.is_given.ensures ∙ ap is_set (c.get_str-in-Ok-6.ensures ∙ value (codes "fold")),
     ) refl
 
 pub returns-in-Err-clause-usage : goal.returns-in-Err-clause-usage

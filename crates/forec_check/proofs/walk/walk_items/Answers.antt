@@ -1,11 +1,11 @@
-use Rattle.std.proofs.Common.{◌≡◌, ◌∙◌, ◌++◌, ◌∷◌, [], sym, ap, refl, map, drop, Some, append-nil}
+use Rattle.std.proofs.Common.{◌≡◌, ◌∙◌, ◌+◌, ◌++◌, ◌∷◌, [], sym, ap, refl, map, drop, Some, append-nil}
 use Rattle.std.specs.Prelude.{slice_get}
 use Rattle.std.proofs.lemmas.List.{drop_all, take_all}
 use Rattle.forec_tree.specs.Plain as plain
 use Rattle.loop_check.specs.Views.{text_of}
 use Rattle.forec_check.specs.Walk.{item_effects, effects_lists}
 use Rattle.forec_check.specs.Items.{before_of}
-use Rattle.forec_check.proofs.ItemRules.{items_at, item_get, least_step, least_end, bodies_step, few_more}
+use Rattle.forec_check.proofs.ItemRules.{items_at, item_get, least_step, least_end, bodies_step}
 use Rattle.forec_check.proofs.walk.walk_items.Goals as goal
 
 pub loop-at-preserved : goal.loop-at-preserved
@@ -16,12 +16,12 @@ loop-at-preserved c =
     let x = plain.plain_item c.index-items-at.result in
     let rest = items_at items at c.index-items-at.result c.loop-at-test.true (sym c.index-items-at.is) in
     let get : slice_get text at ≡ Some x = ap (λ t. slice_get t at) (sym c.requires.items) ∙ item_get items at c.index-items-at.result c.loop-at-test.true (sym c.index-items-at.is) in (
-      least_step text c.args.names.now _ _ at c.loop-at.counts c.after-counts.result x c.loop-at.program_notes.notes.least c.walk_item.new.notes.least _ get c.after-counts.ensures rest
+      least_step text c.args.names.now _ _ at c.loop-at.counts c.after-counts.result x c.loop-at.program_notes.notes.least c.walk_item.new.notes.least _ get c.after-counts.ensures.counts rest
           c.in_ok-walk_item.ensures.least c.loop-at.invariant.0,
       bodies_step text at x c.loop-at.program_notes.bodies.items _ c.replace-effects.result (item_effects text) get c.in_ok-push.ensures.items
           (ap (λ v. v.items) c.replace-effects.ensures.value ∙ c.in_ok-walk_item.ensures.effects) c.loop-at.invariant.1,
       ap (λ v. v.items) c.replace-effects.ensures.after ∙ c.new.ensures.items,
-      few_more c.loop-at.counts c.after-counts.result x at c.after-counts.ensures c.loop-at.invariant.3,
+      c.after-counts.ensures.few (at + 1) c.loop-at.invariant.3,
     )
 
 pub returns-clause-least : goal.returns-clause-least

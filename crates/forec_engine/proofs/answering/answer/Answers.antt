@@ -2,14 +2,14 @@ use Rattle.std.proofs.Common.{sym, ap, subst, refl}
 use Rattle.forec_kernel.specs.Shapes.{plain_kernel}
 use Rattle.command_words.specs.Requests.{plain_placing, plain_command}
 use Rattle.forec_engine.specs.Answers.{Answers}
-use Rattle.forec_engine.proofs.Answered.{explained, checked, threaded, coded}
+use Rattle.forec_engine.proofs.Answered.{checked, threaded, coded}
 use Rattle.forec_engine.proofs.answering.answer.Goals as goal
 
 pub returns-in-Run : goal.returns-in-Run
 returns-in-Run g c =
     let a = c.args.accepted.now in
-    subst (λ m. Answers g.S.Source.left g.S.Source.faults g.S.Source.down g.K.Sink.held g.K.Sink.faults g.K.Sink.down m a.counts (plain_kernel a.kernel) c.args.trace.now c.place_and_start.new.trace c.args.out.now c.place_and_start.new.out c.place_and_start.result)
-    (sym (ap plain_command c.in-Run.is)) c.place_and_start.ensures
+    subst (λ m. Answers g.S.Source.left g.S.Source.faults g.S.Source.down g.K.Sink.held g.K.Sink.faults g.K.Sink.down m a.counts (plain_kernel a.kernel) c.args.trace.now c.start.new.trace c.args.out.now c.start.new.out c.start.result)
+    (sym (ap plain_command c.in-Run.is)) c.start.ensures
 
 pub returns-in-Check : goal.returns-in-Check
 returns-in-Check g c =
@@ -36,7 +36,5 @@ returns-in-Code g c =
 pub returns-in-Explain : goal.returns-in-Explain
 returns-in-Explain g c =
     let a = c.args.accepted.now in
-    subst (λ m. Answers g.S.Source.left g.S.Source.faults g.S.Source.down g.K.Sink.held g.K.Sink.faults g.K.Sink.down m a.counts (plain_kernel a.kernel) c.args.trace.now c.rewrite_trace.new.trace c.args.out.now c.rewrite_trace.new.out c.rewrite_trace.result)
-    (sym (ap plain_command c.in-Explain.is))
-    (explained g.K.Sink.held g.K.Sink.faults g.K.Sink.down c.args.out.now c.rewrite_trace.new.out c.rewrite_trace.result g.S.Source.left g.S.Source.faults g.S.Source.down a.counts (plain_kernel a.kernel) c.args.trace.now c.rewrite_trace.new.trace
-    c.in-Explain.budget c.in-Explain.order c.rewrite_trace.ensures)
+    subst (λ m. Answers g.S.Source.left g.S.Source.faults g.S.Source.down g.K.Sink.held g.K.Sink.faults g.K.Sink.down m a.counts (plain_kernel a.kernel) c.args.trace.now c.explain.new.trace c.args.out.now c.explain.new.out c.explain.result)
+    (sym (ap plain_command c.in-Explain.is)) c.explain.ensures

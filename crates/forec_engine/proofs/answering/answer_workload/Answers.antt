@@ -1,12 +1,10 @@
+use Rattle.std.proofs.Common.{sym}
 use Rattle.forec_kernel.specs.Shapes.{plain_kernel}
 use Rattle.command_words.specs.Requests.{plain_running}
-use Rattle.forec_engine.proofs.Answered.{workload_placed, workload_misplaced}
+use Rattle.forec_engine.proofs.Answered.{workload_boundless}
 use Rattle.forec_engine.proofs.answering.answer_workload.Goals as goal
 
-pub returns-in-Ok : goal.returns-in-Ok
-returns-in-Ok g c =
-    workload_placed g.K.Sink.held g.K.Sink.faults g.K.Sink.down c.args.out.now c.host_workload.new.out c.host_workload.result c.args.threads (plain_kernel c.args.kernel.now) (plain_running c.args.running) c.in-Ok.ensures.taken c.host_workload.ensures
-
-pub returns-in-Err : goal.returns-in-Err
-returns-in-Err g c =
-    workload_misplaced g.K.Sink.held g.K.Sink.faults g.K.Sink.down c.args.out.now c.misplace.new.out c.misplace.result c.args.threads (plain_kernel c.args.kernel.now) (plain_running c.args.running) c.in-Err.why c.in-Err.ensures.refused c.misplace.ensures
+pub returns-in-Ok-None : goal.returns-in-Ok-None
+returns-in-Ok-None g c =
+    let none = rw c.in-Ok-None.field-0-is at c.in-Ok-None.ensures.units in
+    workload_boundless g.K.Sink.held g.K.Sink.faults g.K.Sink.down c.args.out.now c.say_boundless.new.out c.say_boundless.result c.args.threads (plain_kernel c.args.kernel.now) (plain_running c.args.running) (sym none) c.say_boundless.ensures

@@ -10,13 +10,13 @@ use Rattle.forec_engine.proofs.command.forec_within.Goals as goal
 pub returns-in-Ok-Text : goal.returns-in-Ok-Text
 returns-in-Ok-Text g c =
     answers_words g.T.Texts.content g.T.Texts.faults g.T.Texts.down g.S.Source.left g.S.Source.faults g.S.Source.down g.K.Sink.held g.K.Sink.faults g.K.Sink.down (map string_bytes c.args.words.now) c.args.texts.now c.run_named.new.texts c.args.trace.now c.run_named.new.trace c.args.out.now c.run_named.new.out c.run_named.result
-    (words_text g.S.Source.left g.S.Source.faults g.S.Source.down g.K.Sink.held g.K.Sink.faults g.K.Sink.down (map string_bytes c.args.words.now) (g.T.Texts.content c.args.texts.now) (Fell (g.T.Texts.faults c.args.texts.now) (g.T.Texts.faults c.run_named.new.texts) (g.T.Texts.down c.run_named.new.texts)) c.args.trace.now c.run_named.new.trace c.args.out.now c.run_named.new.out c.in-Ok-Text.program.now (plain_command c.in-Ok-Text.command) c.run_named.result (rw c.in-Ok-Text.field-0-is at c.in-Ok-Text.ensures.request) c.run_named.ensures)
-    (inr (c.in-Ok-Text.program.now, plain_command c.in-Ok-Text.command, (rw c.in-Ok-Text.field-0-is at c.in-Ok-Text.ensures.request)))
-    (words_trace g.S.Source.left g.S.Source.faults g.S.Source.down g.K.Sink.held g.K.Sink.faults g.K.Sink.down (map string_bytes c.args.words.now) (g.T.Texts.content c.args.texts.now) (Fell (g.T.Texts.faults c.args.texts.now) (g.T.Texts.faults c.run_named.new.texts) (g.T.Texts.down c.run_named.new.texts)) c.args.trace.now c.run_named.new.trace c.args.out.now c.run_named.new.out c.in-Ok-Text.program.now (plain_command c.in-Ok-Text.command) c.run_named.result (rw c.in-Ok-Text.field-0-is at c.in-Ok-Text.ensures.request) c.run_named.ensures)
+    (words_text g.S.Source.left g.S.Source.faults g.S.Source.down g.K.Sink.held g.K.Sink.faults g.K.Sink.down (map string_bytes c.args.words.now) (g.T.Texts.content c.args.texts.now) (Fell (g.T.Texts.faults c.args.texts.now) (g.T.Texts.faults c.run_named.new.texts) (g.T.Texts.down c.run_named.new.texts)) c.args.trace.now c.run_named.new.trace c.args.out.now c.run_named.new.out c.in-Ok-Text.program.now (plain_command c.in-Ok-Text.command) c.in-Ok-Text.fold c.run_named.result (rw c.in-Ok-Text.field-0-is at c.in-Ok-Text.ensures.request) c.run_named.ensures)
+    (inr (c.in-Ok-Text.program.now, plain_command c.in-Ok-Text.command, c.in-Ok-Text.fold, (rw c.in-Ok-Text.field-0-is at c.in-Ok-Text.ensures.request)))
+    (words_trace g.S.Source.left g.S.Source.faults g.S.Source.down g.K.Sink.held g.K.Sink.faults g.K.Sink.down (map string_bytes c.args.words.now) (g.T.Texts.content c.args.texts.now) (Fell (g.T.Texts.faults c.args.texts.now) (g.T.Texts.faults c.run_named.new.texts) (g.T.Texts.down c.run_named.new.texts)) c.args.trace.now c.run_named.new.trace c.args.out.now c.run_named.new.out c.in-Ok-Text.program.now (plain_command c.in-Ok-Text.command) c.in-Ok-Text.fold c.run_named.result (rw c.in-Ok-Text.field-0-is at c.in-Ok-Text.ensures.request) c.run_named.ensures)
 
 pub run_named-requires-clause-ranges : goal.run_named-requires-clause-ranges
 run_named-requires-clause-ranges g c = λ κs within.
-    ranges (map string_bytes c.args.words.now) (OnText c.in-Ok-Text.program.now (plain_command c.in-Ok-Text.command)) (rw c.in-Ok-Text.field-0-is at c.in-Ok-Text.ensures.request)
+    ranges (map string_bytes c.args.words.now) (OnText c.in-Ok-Text.program.now (plain_command c.in-Ok-Text.command) c.in-Ok-Text.fold) (rw c.in-Ok-Text.field-0-is at c.in-Ok-Text.ensures.request)
 
 -- ---- a workload
 

@@ -12,12 +12,14 @@ use Rattle.kernel_lower.specs.declared.judge.Amounts.{Amounts}
 use Rattle.text_kernel.specs.declared.limits.Quantity.TheVariants.{Terms}
 use Rattle.text_kernel.specs.Limits.{amount}
 use Rattle.kernel_lower.specs.Refusals.{amount_in, Causes}
-use Rattle.text_kernel.specs.Items.{globals_of, array_items, array_length}
+use Rattle.forec_tree.specs.Variables.{width}
+use Rattle.text_kernel.specs.Items.{globals_of, variable_items, array_items, array_length}
 use Rattle.kernel_lower.specs.Measures.{CallsLow, IsDraft, plain_draft}
 use Rattle.text_kernel.proofs.Called.{ranked}
 use Rattle.kernel_lower.proofs.InRange.{calls_low}
 use Rattle.text_kernel.proofs.Faultless.{clean_of}
 use Rattle.kernel_lower.proofs.Finishing.{draft_alike, ranked_same, low_same, words_amounts, depth_amounts, globals_amount, tables_amount, all_amounts, first_causes, within_limits}
+use Rattle.kernel_lower.proofs.Reckoning.{variables_amount}
 use Rattle.kernel_lower.proofs.Tallying.{err_passed}
 use Rattle.kernel_lower.proofs.front.parts_of.Goals as goal
 
@@ -64,7 +66,7 @@ returns-in_err-judge-clause-fault c =
     let alike = draft_alike k d is in
     let a : Amounts = record { threads = c.args.threads; words = c.in_ok-peak.peak.words; globals = c.len.result; tables = c.table_words.result; terms = c.in_ok-terms.terms; depth = c.in_ok-peak.peak.depth } in
     let near = all_amounts k a c.requires.threads (c.in_ok-peak.ensures.words ∙ ap (λ n. min n (2 ^ 64 - 1)) (words_amounts (plain_draft d) k alike)) (globals_amount k d c.len.result is (c.len.ensures ∙ d.variables.ok.0)) c.len.type_inv
-    (tables_amount text names c.table_words.result (globals_of c.in_ok-arrays.arrays.items) (c.in_ok-arrays.ensures ∙ ap array_items all) (c.table_words.ensures ∙ ap (λ l. min (sum (map array_length (globals_of l))) (2 ^ 64 - 1)) c.deref-2.ensures.value))
+    (tables_amount text names c.table_words.result (globals_of c.in_ok-arrays.arrays.items) (c.in_ok-arrays.ensures ∙ ap array_items all) (c.table_words.ensures ∙ ap (λ l. min (sum (map array_length (globals_of l))) (2 ^ 64 - 1)) c.deref-3.ensures.value))
     (c.in_ok-terms.ensures ∙ ap (λ k. min (amount Terms k) (2 ^ 64 - 1)) (ap (λ t. kernel_of t c.args.names.now) same ∙ ap (kernel_of text) c.requires.names))
     (c.in_ok-peak.ensures.depth ∙ ap (λ n. min n (2 ^ 64 - 1)) (depth_amounts (plain_draft d) k alike)) in
     let cause = first_causes text names (amount_in a) c.in_err-judge.field-0.0 near c.in_err-judge.ensures.err in
@@ -83,7 +85,7 @@ returns-clause-within c =
     let alike = draft_alike k d is in
     let a : Amounts = record { threads = c.args.threads; words = c.in_ok-peak.peak.words; globals = c.len.result; tables = c.table_words.result; terms = c.in_ok-terms.terms; depth = c.in_ok-peak.peak.depth } in
     let near = all_amounts k a c.requires.threads (c.in_ok-peak.ensures.words ∙ ap (λ n. min n (2 ^ 64 - 1)) (words_amounts (plain_draft d) k alike)) (globals_amount k d c.len.result is (c.len.ensures ∙ d.variables.ok.0)) c.len.type_inv
-    (tables_amount text names c.table_words.result (globals_of c.in_ok-arrays.arrays.items) (c.in_ok-arrays.ensures ∙ ap array_items all) (c.table_words.ensures ∙ ap (λ l. min (sum (map array_length (globals_of l))) (2 ^ 64 - 1)) c.deref-2.ensures.value))
+    (tables_amount text names c.table_words.result (globals_of c.in_ok-arrays.arrays.items) (c.in_ok-arrays.ensures ∙ ap array_items all) (c.table_words.ensures ∙ ap (λ l. min (sum (map array_length (globals_of l))) (2 ^ 64 - 1)) c.deref-3.ensures.value))
     (c.in_ok-terms.ensures ∙ ap (λ k. min (amount Terms k) (2 ^ 64 - 1)) (ap (λ t. kernel_of t c.args.names.now) same ∙ ap (kernel_of text) c.requires.names))
     (c.in_ok-peak.ensures.depth ∙ ap (λ n. min n (2 ^ 64 - 1)) (depth_amounts (plain_draft d) k alike)) in
     within_limits k (amount_in a) near c.in_ok-judge.ensures.ok
@@ -124,3 +126,9 @@ beyond-requires-clause-faultless c =
     let text = text_of kept in
     let same : views.text_of c.in_ok-source.source.globals.index ≡ text = c.in_ok-source.ensures.text ∙ (ap (map plain.plain_item) c.as_slice-items.ensures ∙ ap plain.program c.program.ensures) in
     subst (λ t. Faultless t c.args.names.now) (sym same) (subst (Faultless text) (sym c.requires.names) kept.faultless)
+
+pub beyond-requires-clause-variables : goal.beyond-requires-clause-variables
+beyond-requires-clause-variables c =
+    let gs = globals_of c.in_ok-globals.globals.items in
+    variables_amount (views.text_of c.in_ok-source.source.globals.index) c.args.names.now c.variable_total-variables.result gs (c.in_ok-globals.ensures ∙ ap variable_items (sym c.in_ok-source.ensures.text))
+    (c.variable_total-variables.ensures ∙ ap (λ l. min (sum (map width (globals_of l))) (2 ^ 64 - 1)) c.deref-2.ensures.value)

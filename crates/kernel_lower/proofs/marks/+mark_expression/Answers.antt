@@ -1,6 +1,7 @@
 use Rattle.std.proofs.Common.{◌∙◌, sym, ap, refl, ◌++◌}
 use Rattle.forec_tree.specs.Faults.{is_in}
 use Rattle.forec_kernel.specs.Plain.{expr, exprs}
+use Rattle.forec_kernel.specs.WellFormed.{count_up}
 use Rattle.text_kernel.specs.Lowering.{vars_in, vars_all}
 use Rattle.kernel_lower.specs.Marks.{is_marked}
 use Rattle.body_lower.proofs.Statements.{drop_next}
@@ -58,3 +59,10 @@ pub mark_expression-returns-in-Call : goal.mark_expression-returns-in-Call
 mark_expression-returns-in-Call t c =
     marks_as c.args.marks.now c.mark_all.new.marks (vars_all (exprs c.as_slice.result.now)) (vars_in (expr c.args.e.now)) c.mark_all.ensures
     (of_call vars_in c.args.e.now c.in-Call.function c.in-Call.args c.as_slice.result.now c.in-Call.is c.as_slice.ensures.value)
+
+pub mark_expression-returns-in-SharedAt : goal.mark_expression-returns-in-SharedAt
+mark_expression-returns-in-SharedAt t c =
+    let i = c.deref-in-SharedAt.result.now in
+    marks_two c.args.marks.now c.mark_array.new.marks c.mark_expression-in-SharedAt.new.marks (count_up c.in-SharedAt.variable c.in-SharedAt.length) (vars_in (expr i)) (vars_in (expr c.args.e.now)) c.mark_array.ensures
+    c.mark_expression-in-SharedAt.ensures
+    (ap (λ x. vars_in (expr x)) c.in-SharedAt.is ∙ ap (λ x. count_up c.in-SharedAt.variable c.in-SharedAt.length ++ vars_in (expr x)) (sym c.deref-in-SharedAt.ensures))

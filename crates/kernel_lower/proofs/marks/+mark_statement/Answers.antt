@@ -1,6 +1,7 @@
 use Rattle.std.proofs.Common.{◌∙◌, ◌+◌, ◌||◌, sym, ap, refl, ◌++◌, drop, length, arith}
 use Rattle.forec_tree.specs.Faults.{is_in}
 use Rattle.forec_kernel.specs.Plain.{expr, stmt, stmts}
+use Rattle.forec_kernel.specs.WellFormed.{count_up}
 use Rattle.text_kernel.specs.Lowering.{vars_in, vars_of, vars_list}
 use Rattle.kernel_lower.specs.Marks.{is_marked}
 use Rattle.body_lower.proofs.Statements.{drop_next}
@@ -47,3 +48,12 @@ mark_statement-returns-in-If t c =
     (marks_two c.mark_expression-in-If.new.marks c.mark_statement.new.marks c.mark_statement-in-If.new.marks (vars_of (stmt a)) (vars_of (stmt b)) _ c.mark_statement.ensures c.mark_statement-in-If.ensures refl)
     (ap (λ x. vars_of (stmt x)) c.in-If.is
     ∙ (ap (λ x. test ++ (vars_of (stmt x) ++ vars_of (stmt c.in-If.no.value))) (sym c.deref.ensures) ∙ ap (λ x. test ++ (vars_of (stmt a) ++ vars_of (stmt x))) (sym c.deref-in-If.ensures)))
+
+pub mark_statement-returns-in-PutAt : goal.mark_statement-returns-in-PutAt
+mark_statement-returns-in-PutAt t c =
+    let row = count_up c.in-PutAt.variable c.in-PutAt.length in
+    let i = vars_in (expr c.in-PutAt.index) in
+    let e = vars_in (expr c.in-PutAt.value) in
+    marks_two c.args.marks.now c.mark_array.new.marks c.mark_expression-in-PutAt-2.new.marks row (i ++ e) (vars_of (stmt c.args.s.now)) c.mark_array.ensures
+    (marks_two c.mark_array.new.marks c.mark_expression-in-PutAt.new.marks c.mark_expression-in-PutAt-2.new.marks i e _ c.mark_expression-in-PutAt.ensures c.mark_expression-in-PutAt-2.ensures refl)
+    (ap (λ x. vars_of (stmt x)) c.in-PutAt.is)

@@ -1,9 +1,10 @@
 use Rattle.std.proofs.Common.{◌≡◌, ◌++◌, map, drop}
 use Rattle.loop_check.specs.Views.{text_of}
 use Rattle.text_kernel.specs.Kernels as kernels
-use Rattle.text_kernel.specs.Items.{globals_of}
+use Rattle.kernel_lower.specs.Elements.{plain_elements}
 use Rattle.kernel_lower.proofs.variables.shapes.Given as goal
 
-abbrev pub invariant-loop-global : goal.invariant-loop-global
-invariant-loop-global l =
-    l.list.items ++ map (kernels.variable_shape (text_of l.globals.index) l.names) (globals_of (drop l.global-index l.variables)) ≡ map (kernels.variable_shape (text_of l.globals.index) l.names) (globals_of l.fn.variables)
+abbrev pub invariant-loop-e : goal.invariant-loop-e
+invariant-loop-e l =
+    l.list.items ++ map (kernels.variable_shape (text_of l.globals.index) l.names) (plain_elements (drop l.e-index l.elements))
+    ≡ map (kernels.variable_shape (text_of l.globals.index) l.names) (plain_elements l.fn.elements)

@@ -43,6 +43,15 @@ returns-in-Ok-SetsAt c = λ old new m h.
     (ap (λ l. record (plain_thread t) { text = plugged t.frames.items plain.Done; words = l })
     (c.set_word.ensures ∙ ap set (to_z-of_z w32 c.in-Ok-SetsAt.value fits)))
 
+pub returns-in-Ok-Puts : goal.returns-in-Ok-Puts
+returns-in-Ok-Puts c = λ old new m h.
+    let t = c.args.t.now in
+    let s = origin_of c.args.uses.now t in
+    let fits : SFits w32 c.in-Ok-Puts.value = search rules in
+    let put : ℤ → ℕ → plain.Thread = λ n u. thread_after (plain_thread t) (plugged_move t.frames.items t.words.items t.copies.items (leads s (step.Puts c.in-Ok-Puts.variable n) u)) in
+    after_ok s (step.Puts c.in-Ok-Puts.variable c.in-Ok-Puts.value) old new m (plain_thread t) _ t.frames.items _
+    (rw (c.in-Ok-Puts.is, c.in-Ok-Puts.field-0-is) at h) (λ u. c.put.ensures u ∙ ap (λ n. put n u) (to_z-of_z w32 c.in-Ok-Puts.value fits))
+
 pub returns-in-Ok-Clears : goal.returns-in-Ok-Clears
 returns-in-Ok-Clears c = λ old new m h.
     let t = c.args.t.now in

@@ -15,8 +15,5 @@ returns-in-Local c = λ u.
 
 pub returns-in-Variable : goal.returns-in-Variable
 returns-in-Variable c = λ u.
-    let t = c.args.t.now in
     let fits : SFits w32 c.args.value = search rules in
-    rw c.in-Variable.is
-    (after_goes (plain_thread t) _ t.frames.items t.words.items _ t.copies.items _ plain.Done u
-    (ap (λ l. record (plain_thread t) { text = plugged t.frames.items plain.Done; copies = l }) (simp to_z-of_z at c.set_copy.ensures)))
+    rw c.in-Variable.is (simp to_z-of_z at (c.put.ensures u))

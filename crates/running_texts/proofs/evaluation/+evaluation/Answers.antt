@@ -1,11 +1,12 @@
-use Rattle.std.proofs.Common.{◌≡◌, ◌<◌, ◌∙◌, length, get_or, map, [], ◌∷◌, ◌++◌, true, not, is_ok, rules, SFits, w32, arith, ap}
+use Rattle.std.proofs.Common.{◌≡◌, ◌<◌, ◌∙◌, length, get_or, map, [], ◌∷◌, ◌++◌, true, not, is_ok, rules, SFits, w32, arith, refl, ap, sym, subst}
 use Rattle.std.proofs.lemmas.Int.{to_z-of_z}
 use Rattle.forec_kernel.specs.Shapes.{plain_kernel}
 use Rattle.running_texts.proofs.Words.{called, body_of_call}
 use Rattle.forec_kernel.specs.Plain.{expr, stmt}
+use Rattle.forec_kernel.specs.Terms as plain
 use Rattle.forec_kernel.proofs.VecTerms.{expr-call, stmt-sequence}
 use Rattle.forec_kernel.specs.Values.{value_then, more_units, function_words, fresh_words, val, vals, flow, words_alone, flow_with, more_flow}
-use Rattle.running_texts.specs.Metered.{number, flowing, setting_within, sight_of}
+use Rattle.running_texts.specs.Metered.{IsMetered, number, flowing, setting_within, sight_of}
 use Rattle.running_texts.proofs.Falls.{expression_within, statement_within, call_falls, call_depth, sequence_depth}
 use Rattle.running_texts.proofs.Tests.{zero_of, nonzero_of, and_zero, and_some, and_err, or_some, or_zero, or_err, choose_no, choose_yes, choose_err, call_ok, call_over, call_err, if_no, if_yes, if_err}
 use Rattle.running_texts.proofs.MeteredLemmas.{then_ok, then_err, binds_value, adds_number, binds_flow, adds_flow}
@@ -32,6 +33,10 @@ pub evaluate-returns-in-LocalAt : goal.evaluate-returns-in-LocalAt
 evaluate-returns-in-LocalAt t c =
     rw (c.in-LocalAt.is, ← c.deref.ensures) (c.after_word_index.ensures _ _ c.evaluate-part.ensures)
 
+pub evaluate-returns-in-SharedAt : goal.evaluate-returns-in-SharedAt
+evaluate-returns-in-SharedAt t c =
+    rw (c.in-SharedAt.is, ← c.deref-in-SharedAt.ensures) (c.after_shared_index.ensures _ _ c.evaluate-part-in-SharedAt.ensures)
+
 pub evaluate-returns-in-TableAt : goal.evaluate-returns-in-TableAt
 evaluate-returns-in-TableAt t c =
     let tables : c.deref-in-TableAt-2.result.now ≡ c.args.kernel.now.shape.tables.items = c.deref-in-TableAt-2.ensures.value in
@@ -54,57 +59,67 @@ evaluate-returns-in-Binary t c =
     rw (c.in-Binary.is, ← c.deref-in-Binary.ensures)
     (then_err number number (λ x. x) value_then more_units binds_value _ _ _ _ _ c.in-Err.ensures)
 
+pub evaluate-returns-in-And : goal.evaluate-returns-in-And
+evaluate-returns-in-And t c =
+    let value = val (setting_within (plain_kernel c.args.kernel.now) c.args.deep) (sight_of c.args.values.now) in
+    let same =
+    ap (λ x. value (plain.And (expr x) (expr c.deref-in-And-2.result.now))) c.deref-in-And.ensures
+    ∙ ap (λ x. value (plain.And (expr c.in-And.first.value) (expr x))) c.deref-in-And-2.ensures
+    ∙ ap (λ x. value (expr x)) (sym c.in-And.is)
+    in
+    subst (λ v. IsMetered number c.args.left.now c.evaluate_and.new.left c.evaluate_and.result v) same c.evaluate_and.ensures
+
+pub evaluate-returns-in-Or : goal.evaluate-returns-in-Or
+evaluate-returns-in-Or t c =
+    let value = val (setting_within (plain_kernel c.args.kernel.now) c.args.deep) (sight_of c.args.values.now) in
+    let same =
+    ap (λ x. value (plain.Or (expr x) (expr c.deref-in-Or-2.result.now))) c.deref-in-Or.ensures
+    ∙ ap (λ x. value (plain.Or (expr c.in-Or.first.value) (expr x))) c.deref-in-Or-2.ensures
+    ∙ ap (λ x. value (expr x)) (sym c.in-Or.is)
+    in
+    subst (λ v. IsMetered number c.args.left.now c.evaluate_or.new.left c.evaluate_or.result v) same c.evaluate_or.ensures
+
+pub evaluate_and-returns-then-n-eq0 : goal.evaluate_and-returns-then-n-eq0
+evaluate_and-returns-then-n-eq0 t c =
+    let fits : SFits w32 c.in-Ok.n = search rules in
+    and_zero _ _ _ _ _ (c.in-Ok.ensures _ _ c.evaluate-test.ensures) (zero_of _ fits c.if-n-eq0.true)
+
+pub evaluate_and-returns-else-n-eq0 : goal.evaluate_and-returns-else-n-eq0
+evaluate_and-returns-else-n-eq0 t c =
+    and_some _ _ _ _ _ _ _ _ refl (c.in-Ok.ensures _ _ c.evaluate-test.ensures) (nonzero_of _ c.if-n-eq0.false) (c.as_truth.ensures _ _ _ c.evaluate-part.ensures)
+
+pub evaluate_and-returns-in-Err : goal.evaluate_and-returns-in-Err
+evaluate_and-returns-in-Err t c = and_err _ _ _ _ _ (c.in-Err.ensures _ _ c.evaluate-test.ensures)
+
+pub evaluate_or-returns-then-n-ne0 : goal.evaluate_or-returns-then-n-ne0
+evaluate_or-returns-then-n-ne0 t c =
+    or_some _ _ _ _ _ (c.in-Ok.ensures _ _ c.evaluate-test.ensures) (nonzero_of _ c.if-n-ne0.true)
+
+pub evaluate_or-returns-else-n-ne0 : goal.evaluate_or-returns-else-n-ne0
+evaluate_or-returns-else-n-ne0 t c =
+    let fits : SFits w32 c.in-Ok.n = search rules in
+    or_zero _ _ _ _ _ _ _ _ refl (c.in-Ok.ensures _ _ c.evaluate-test.ensures) (zero_of _ fits c.if-n-ne0.false) (c.as_truth.ensures _ _ _ c.evaluate-part.ensures)
+
+pub evaluate_or-returns-in-Err : goal.evaluate_or-returns-in-Err
+evaluate_or-returns-in-Err t c = or_err _ _ _ _ _ (c.in-Err.ensures _ _ c.evaluate-test.ensures)
+
 pub evaluate-returns-then-n-eq0 : goal.evaluate-returns-then-n-eq0
 evaluate-returns-then-n-eq0 t c =
     let fits : SFits w32 c.in-Ok-tested.n = search rules in
-    rw (c.in-And.is, ← c.deref-in-And.ensures)
-    (and_zero _ _ _ _ _ (c.in-Ok-tested.ensures _ _ c.evaluate-test.ensures) (zero_of _ fits c.if-n-eq0.true))
+    let side : c.deref-then-n-eq0.result.now ≡ c.in-Choose.no.value = c.deref-then-n-eq0.ensures in
+    rw (c.in-Choose.is, ← c.deref-in-Choose.ensures)
+    (choose_no _ _ _ _ _ _ _ _ _ (ap (λ x. val (setting_within (plain_kernel c.args.kernel.now) c.args.deep) (sight_of c.args.values.now) (expr x)) side)
+    (c.in-Ok-tested.ensures _ _ c.evaluate-test.ensures) (zero_of _ fits c.if-n-eq0.true) c.evaluate-then-n-eq0.ensures)
 
 pub evaluate-returns-in-Ok-tested : goal.evaluate-returns-in-Ok-tested
 evaluate-returns-in-Ok-tested t c =
-    let second : c.deref-in-Ok-tested.result.now ≡ c.in-And.right.value = c.deref-in-Ok-tested.ensures in
-    rw (c.in-And.is, ← c.deref-in-And.ensures)
-    (and_some _ _ _ _ _ _ _ _ (ap (λ x. val (setting_within (plain_kernel c.args.kernel.now) c.args.deep) (sight_of c.args.values.now) (expr x)) second)
-    (c.in-Ok-tested.ensures _ _ c.evaluate-test.ensures) (nonzero_of _ c.if-n-eq0.false)
-    (c.as_truth.ensures _ _ _ c.evaluate-part-in-Ok-tested.ensures))
-
-pub evaluate-returns-in-And : goal.evaluate-returns-in-And
-evaluate-returns-in-And t c = rw (c.in-And.is, ← c.deref-in-And.ensures) (and_err _ _ _ _ _ (c.in-Err-tested.ensures _ _ c.evaluate-test.ensures))
-
-pub evaluate-returns-then-n-ne0 : goal.evaluate-returns-then-n-ne0
-evaluate-returns-then-n-ne0 t c =
-    rw (c.in-Or.is, ← c.deref-in-Or.ensures)
-    (or_some _ _ _ _ _ (c.in-Ok-tested-2.ensures _ _ c.evaluate-test-in-Or.ensures) (nonzero_of _ c.if-n-ne0.true))
-
-pub evaluate-returns-in-Ok-tested-2 : goal.evaluate-returns-in-Ok-tested-2
-evaluate-returns-in-Ok-tested-2 t c =
-    let fits : SFits w32 c.in-Ok-tested-2.n = search rules in
-    let second : c.deref-in-Ok-tested-2.result.now ≡ c.in-Or.right.value = c.deref-in-Ok-tested-2.ensures in
-    rw (c.in-Or.is, ← c.deref-in-Or.ensures)
-    (or_zero _ _ _ _ _ _ _ _ (ap (λ x. val (setting_within (plain_kernel c.args.kernel.now) c.args.deep) (sight_of c.args.values.now) (expr x)) second)
-    (c.in-Ok-tested-2.ensures _ _ c.evaluate-test-in-Or.ensures) (zero_of _ fits c.if-n-ne0.false)
-    (c.as_truth-in-Ok-tested-2.ensures _ _ _ c.evaluate-part-in-Ok-tested-2.ensures))
-
-pub evaluate-returns-in-Or : goal.evaluate-returns-in-Or
-evaluate-returns-in-Or t c = rw (c.in-Or.is, ← c.deref-in-Or.ensures) (or_err _ _ _ _ _ (c.in-Err-tested-2.ensures _ _ c.evaluate-test-in-Or.ensures))
-
-pub evaluate-returns-then-n-eq0-2 : goal.evaluate-returns-then-n-eq0-2
-evaluate-returns-then-n-eq0-2 t c =
-    let fits : SFits w32 c.in-Ok-tested-3.n = search rules in
-    let side : c.deref-then-n-eq0-2.result.now ≡ c.in-Choose.no.value = c.deref-then-n-eq0-2.ensures in
-    rw (c.in-Choose.is, ← c.deref-in-Choose.ensures)
-    (choose_no _ _ _ _ _ _ _ _ _ (ap (λ x. val (setting_within (plain_kernel c.args.kernel.now) c.args.deep) (sight_of c.args.values.now) (expr x)) side)
-    (c.in-Ok-tested-3.ensures _ _ c.evaluate-test-in-Choose.ensures) (zero_of _ fits c.if-n-eq0-2.true) c.evaluate-then-n-eq0-2.ensures)
-
-pub evaluate-returns-in-Ok-tested-3 : goal.evaluate-returns-in-Ok-tested-3
-evaluate-returns-in-Ok-tested-3 t c =
-    let side : c.deref-in-Ok-tested-3.result.now ≡ c.in-Choose.yes.value = c.deref-in-Ok-tested-3.ensures in
+    let side : c.deref-in-Ok-tested.result.now ≡ c.in-Choose.yes.value = c.deref-in-Ok-tested.ensures in
     rw (c.in-Choose.is, ← c.deref-in-Choose.ensures)
     (choose_yes _ _ _ _ _ _ _ _ _ (ap (λ x. val (setting_within (plain_kernel c.args.kernel.now) c.args.deep) (sight_of c.args.values.now) (expr x)) side)
-    (c.in-Ok-tested-3.ensures _ _ c.evaluate-test-in-Choose.ensures) (nonzero_of _ c.if-n-eq0-2.false) c.evaluate-in-Ok-tested-3.ensures)
+    (c.in-Ok-tested.ensures _ _ c.evaluate-test.ensures) (nonzero_of _ c.if-n-eq0.false) c.evaluate-in-Ok-tested.ensures)
 
 pub evaluate-returns-in-Choose : goal.evaluate-returns-in-Choose
-evaluate-returns-in-Choose t c = rw (c.in-Choose.is, ← c.deref-in-Choose.ensures) (choose_err _ _ _ _ _ _ (c.in-Err-tested-3.ensures _ _ c.evaluate-test-in-Choose.ensures))
+evaluate-returns-in-Choose t c = rw (c.in-Choose.is, ← c.deref-in-Choose.ensures) (choose_err _ _ _ _ _ _ (c.in-Err-tested.ensures _ _ c.evaluate-test.ensures))
 
 pub evaluate-evaluate_all-requires : goal.evaluate-evaluate_all-requires
 evaluate-evaluate_all-requires t c =

@@ -14,6 +14,12 @@ decreases-call_function l = below_calls l.kernel.now l.deep
 abbrev pub decreases-evaluate : goal.decreases-evaluate
 decreases-evaluate l = below_calls l.kernel.now l.deep + 2 * expr_depth (expr l.e.now)
 
+abbrev pub decreases-evaluate_and : goal.decreases-evaluate_and
+decreases-evaluate_and l = below_calls l.kernel.now l.deep + 2 * max (expr_depth (expr l.first.now)) (expr_depth (expr l.second.now)) + 1
+
+abbrev pub decreases-evaluate_or : goal.decreases-evaluate_or
+decreases-evaluate_or l = below_calls l.kernel.now l.deep + 2 * max (expr_depth (expr l.first.now)) (expr_depth (expr l.second.now)) + 1
+
 abbrev pub decreases-evaluate_all : goal.decreases-evaluate_all
 decreases-evaluate_all l = below_calls l.kernel.now l.deep + 2 * exprs_depth (exprs l.list.now) + 1
 

@@ -1,4 +1,4 @@
-use Rattle.std.proofs.Common.{◌≡◌, ◌≢◌, false, ◌<◌, length, get_or, arith}
+use Rattle.std.proofs.Common.{◌≡◌, false, arith}
 use Rattle.forec_kernel.specs.Combining.{contains}
 use Rattle.running_texts.proofs.Lookups.{not_there}
 use Rattle.running_texts.proofs.lookup.search.Goals as goal

@@ -1,4 +1,4 @@
-use Rattle.std.proofs.Common.{ℕ, ◌∙◌, max, sym, ap, subst}
+use Rattle.std.proofs.Common.{ℕ, false, ◌∙◌, max, sym, ap, subst}
 use Rattle.loop_check.specs.Graph.{callees, IsOrder}
 use Rattle.loop_check.specs.Views.{text_of}
 use Rattle.text_kernel.specs.Bindings.{number_among, is_int_function}
@@ -20,7 +20,7 @@ peak-requires c =
     let order = c.in_ok-order.order.items in
     let ordered : IsOrder functions (callees lists) order =
     subst (λ l. IsOrder functions (callees l) order) c.deref-2.ensures.value (subst (λ f. IsOrder f (callees c.deref-2.result.now) order) c.deref.ensures.value c.in_ok-order.ensures) in
-    subst (λ o. Settled text o) (sym c.deref-3.ensures.value) (λ i value worth. tallies_settle i value worth text functions order (callees lists) c.in_ok-calls.ensures ordered c.requires.free)
+    subst (λ o. Settled text o) (sym c.deref-3.ensures.value) (λ i array value worth. tallies_settle i array value worth text functions order (callees lists) c.in_ok-calls.ensures ordered c.requires.free)
 
 pub peaks_with-requires : goal.peaks_with-requires
 peaks_with-requires c =
@@ -30,7 +30,7 @@ peaks_with-requires c =
     let order = c.in_ok-order.order.items in
     let ordered : IsOrder functions (callees lists) order =
     subst (λ l. IsOrder functions (callees l) order) c.deref-2.ensures.value (subst (λ f. IsOrder f (callees c.deref-2.result.now) order) c.deref.ensures.value c.in_ok-order.ensures) in
-    subst (λ o. Settled text o) (sym c.deref-4.ensures.value) (λ i value worth. tallies_settle i value worth text functions order (callees lists) c.in_ok-calls.ensures ordered c.requires.free)
+    subst (λ o. Settled text o) (sym c.deref-4.ensures.value) (λ i array value worth. tallies_settle i array value worth text functions order (callees lists) c.in_ok-calls.ensures ordered c.requires.free)
 
 pub returns : goal.returns
 returns c =
@@ -39,6 +39,6 @@ returns c =
     let main = main_id text names in
     let u : ℕ → ℕ = value_at c.args.values.now in
     let value : ℕ → ℕ = λ id. u (number_among is_int_function id text) in
-    let a = c.in_ok-most.ensures ∙ ap (peak_by 0 value 0 text) c.requires.first in
+    let a = c.in_ok-most.ensures ∙ ap (peak_by 0 false value 0 text) c.requires.first in
     let b = c.in_ok-with.ensures ∙ (ap (λ f. peak_over value text f (globals_of c.args.variables.now)) c.requires.first ∙ ap (peak_over value text main) c.requires.variables) in
-    c.max.ensures ∙ (ap (λ n. max n c.in_ok-with.with) a ∙ (ap (max (peak_by 0 value 0 text main)) b ∙ most_told text names (clean_of text names c.requires.faultless) u))
+    c.max.ensures ∙ (ap (λ n. max n c.in_ok-with.with) a ∙ (ap (max (peak_by 0 false value 0 text main)) b ∙ most_told text names (clean_of text names c.requires.faultless) u))

@@ -5,4 +5,4 @@ use Rattle.text_chains.specs.Views.{value_by}
 use Rattle.text_chains.proofs.peaks.table_of.Given as goal
 
 abbrev pub invariant-loop-f : goal.invariant-loop-f
-invariant-loop-f l = Agrees nothing (tally_value l.w.variable (value_by l.w) l.w.worth (text_of l.w.globals.now.index)) l.order l.f-index (tally_at l.table.items)
+invariant-loop-f l = Agrees nothing (tally_value l.w.variable l.w.array (value_by l.w) l.w.worth (text_of l.w.globals.now.index)) l.order l.f-index (tally_at l.table.items)

@@ -12,9 +12,9 @@ term-returns-in-Call t c =
     let w = c.args.w.now in
     c.joined-in-Call.ensures
     ∙ (both _ _ _ _ (c.calling.ensures ∙ ap calling c.value.ensures) c.terms.ensures
-    ∙ of_tree_call (of.of_term w.variable (value_by w) c.args.hidden) c.args.e.now c.in-Call.name c.in-Call.args c.as_slice.result.now c.in-Call.is c.as_slice.ensures)
+    ∙ of_tree_call (of.of_term w.variable w.array (value_by w) c.args.hidden) c.args.e.now c.in-Call.name c.in-Call.args c.as_slice.result.now c.in-Call.is c.as_slice.ensures)
 
 pub terms-loop-e-init : goal.terms-loop-e-init
 terms-loop-e-init t c =
     let w = c.args.w.now in
-    record { small = begin_low c.nothing-total.result c.nothing-total.ensures; told = begin_told c.nothing-total.result _ c.nothing-total.ensures (terms_low w.variable (value_by w) c.args.hidden (terms c.args.list.now)) }
+    record { small = begin_low c.nothing-total.result c.nothing-total.ensures; told = begin_told c.nothing-total.result _ c.nothing-total.ensures (terms_low w.variable w.array (value_by w) c.args.hidden (terms c.args.list.now)) }

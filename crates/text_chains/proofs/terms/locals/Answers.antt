@@ -9,7 +9,7 @@ use Rattle.text_chains.proofs.terms.locals.Goals as goal
 pub loop-l-init : goal.loop-l-init
 loop-l-init c =
     let w = c.args.w.now in
-    record { small = begin_low c.nothing-total.result c.nothing-total.ensures; told = begin_told c.nothing-total.result _ c.nothing-total.ensures (locals_low w.variable (value_by w) c.args.hidden (map plain.declared c.args.list.now)) }
+    record { small = begin_low c.nothing-total.result c.nothing-total.ensures; told = begin_told c.nothing-total.result _ c.nothing-total.ensures (locals_low w.variable w.array (value_by w) c.args.hidden (map plain.declared c.args.list.now)) }
 
 pub loop-l-preserved : goal.loop-l-preserved
 loop-l-preserved c =
@@ -17,10 +17,10 @@ loop-l-preserved c =
     let so_far = c.loop-l.total in
     let rest = map plain.declared (drop (c.loop-l.l-index + 1) c.args.list.now) in
     let d = drop_item c.args.list.now c.loop-l.l-index c.l-item.result c.loop-l-test.true (sym c.l-item.is) in
-    let told = ap (λ l. joined so_far (of.of_locals w.variable (value_by w) c.loop-l.now_hidden (map plain.declared l))) (sym d) ∙ c.loop-l.invariant.told in
+    let told = ap (λ l. joined so_far (of.of_locals w.variable w.array (value_by w) c.loop-l.now_hidden (map plain.declared l))) (sym d) ∙ c.loop-l.invariant.told in
     record {
       small = next_low c.joined-total.result so_far c.local.result c.joined-total.ensures;
       told =
-          ap (λ h. joined c.joined-total.result (of.of_locals w.variable (value_by w) h rest)) c.hides-now_hidden.ensures
+          ap (λ h. joined c.joined-total.result (of.of_locals w.variable w.array (value_by w) h rest)) c.hides-now_hidden.ensures
           ∙ join_next so_far _ _ _ c.joined-total.result (c.joined-total.ensures ∙ ap (joined so_far) c.local.ensures) told;
     }

@@ -1,11 +1,11 @@
-use Rattle.std.proofs.Common.{◌≡◌, ◌≤◌, [], ◌++◌, ℕ, List, length, take, drop, Ok, refl, sym, ap, subst, ◌∙◌, arith}
+use Rattle.std.proofs.Common.{◌≡◌, ◌≤◌, [], ◌++◌, ℕ, List, length, take, drop, Some, Ok, refl, sym, ap, subst, ◌∙◌, arith}
 use Rattle.trace_rows.specs.declared.fault.RowFault.TheVariants as fault
 use Rattle.std.specs.List.{after_first}
 use Rattle.trace_rows.specs.Lines.{is_newline, lines_of}
 use Rattle.trace_rows.specs.Held.{held}
 use Rattle.trace_rows.specs.Reader.{Takes}
 use Rattle.trace_rows.specs.Steps.{NoHeader}
-use Rattle.trace_rows.specs.Trace.{most_bytes, header_at, rows_of_lines}
+use Rattle.trace_rows.specs.Trace.{Form, first_form, most_bytes, header_at, rows_of_lines}
 use Rattle.trace_rows.proofs.Told.{told_map, end_told, LineOf, line_told, takes_first}
 use Rattle.trace_rows.proofs.Heads.{header_bad, header_good, header_fault, no_header, written}
 use Rattle.trace_rows.proofs.steps.take_header.Goals as goal
@@ -25,8 +25,8 @@ returns-in-Err-clause-header g c =
     header_fault c.args.inputs.now c.args.places.now.items (held c.args.lines.now) (held c.find.new.self) c.args.lines.now.ended c.find.new.self.ended (left c.args.source.now) (left c.find.new.source) c.in-Err.fault c.find.ensures.came c.find.ensures.stays
     c.in-Err.ensures.finds
 
-pub returns-then-not-read_header-clause-header : goal.returns-then-not-read_header-clause-header
-returns-then-not-read_header-clause-header g c =
+pub returns-in_default-clause-header : goal.returns-in_default-clause-header
+returns-in_default-clause-header g c =
     let left = g.S.Source.left in
     let w : List ℕ = held c.args.lines.now in
     let bytes : List ℕ = held c.find.new.self in
@@ -38,7 +38,7 @@ returns-then-not-read_header-clause-header g c =
     told_map (left c.args.source.now) (left c.find.new.source) (LineOf line w (after_first is_newline bytes)) (λ x y. NoHeader c.args.inputs.now fault.Bad (lines_of (w ++ x)))
     (line_told line w (after_first is_newline bytes) c.find.new.self.ended (left c.args.source.now) (left c.find.new.source) takes c.find.ensures.ended)
     (λ x y e. no_header c.args.inputs.now line fault.Bad (lines_of (w ++ x)) (lines_of (after_first is_newline bytes ++ y)) e
-    (header_bad c.args.inputs.now line short (c.if-not-read_header.ensures.no refl)))
+    (header_bad c.args.inputs.now line short c.in_default.ensures.none))
 
 pub returns-clause-header : goal.returns-clause-header
 returns-clause-header g c =
@@ -48,10 +48,12 @@ returns-clause-header g c =
     let line : List ℕ = c.line.result.now in
     let f = rw c.in-Ok-Row.field-0-is at c.in-Ok-Row.ensures.finds in
     let short : length line ≤ most_bytes = subst (λ (l : List ℕ). length l ≤ most_bytes) (sym c.line.ensures) f.0 in
-    let same : c.args.places.now.len ≡ length c.read_header.new.places = omega (arith, c.read_header.auto.places, c.deref_mut.ensures.len) in
-    let yes = c.if-not-read_header.ensures in (
+    let same : c.args.places.now.len ≡ length c.read_form.new.places = omega (arith, c.read_form.auto.places, c.deref_mut.ensures.len) in
+    let places : List ℕ = take c.args.places.now.len (c.read_form.new.places ++ drop (length c.read_form.new.places) c.args.places.now.items) in
+    let is : places ≡ c.read_form.new.places = written c.read_form.new.places c.args.places.now.items c.args.places.now.len same in (
       line,
-      header_good c.args.inputs.now line _ short (yes.yes refl) (written c.read_header.new.places c.args.places.now.items c.args.places.now.len same ∙ yes.places refl),
+      header_good c.args.inputs.now line (first_form c.args.inputs.now places c.in-Some.changes) short
+          (c.in-Some.ensures.some ∙ ap (λ (ps : List ℕ). Some (first_form c.args.inputs.now ps c.in-Some.changes)) (sym is)),
       takes_first line w (held c.pass.new.self) bytes c.pass.new.self.ended (left c.args.source.now) (left c.find.new.source) c.find.ensures.came f.1
           (λ e. f.2 (sym c.pass.ensures.ended ∙ e)) c.line.ensures c.pass.ensures.held,
     )
@@ -62,15 +64,16 @@ returns-clause-reads g c =
     let line : List ℕ = c.line.result.now in
     let f = rw c.in-Ok-Row.field-0-is at c.in-Ok-Row.ensures.finds in
     let short : length line ≤ most_bytes = subst (λ (l : List ℕ). length l ≤ most_bytes) (sym c.line.ensures) f.0 in
-    let same : c.args.places.now.len ≡ length c.read_header.new.places = omega (arith, c.read_header.auto.places, c.deref_mut.ensures.len) in
-    let yes = c.if-not-read_header.ensures in
-    let places : List ℕ = take c.args.places.now.len (c.read_header.new.places ++ drop (length c.read_header.new.places) c.args.places.now.items) in
-    let header : header_at c.args.inputs.now line ≡ Ok places =
-    header_good c.args.inputs.now line places short (yes.yes refl) (written c.read_header.new.places c.args.places.now.items c.args.places.now.len same ∙ yes.places refl) in (
+    let same : c.args.places.now.len ≡ length c.read_form.new.places = omega (arith, c.read_form.auto.places, c.deref_mut.ensures.len) in
+    let places : List ℕ = take c.args.places.now.len (c.read_form.new.places ++ drop (length c.read_form.new.places) c.args.places.now.items) in
+    let is : places ≡ c.read_form.new.places = written c.read_form.new.places c.args.places.now.items c.args.places.now.len same in
+    let form : Form = first_form c.args.inputs.now places c.in-Some.changes in
+    let header : header_at c.args.inputs.now line ≡ Ok form =
+    header_good c.args.inputs.now line form short (c.in-Some.ensures.some ∙ ap (λ (ps : List ℕ). Some (first_form c.args.inputs.now ps c.in-Some.changes)) (sym is)) in (
       bytes,
       c.find.ensures.reads,
       record {
-        header = subst (λ (l : List ℕ). header_at c.args.inputs.now l ≡ Ok places) c.line.ensures header;
+        header = subst (λ (l : List ℕ). header_at c.args.inputs.now l ≡ Ok form) c.line.ensures header;
         takes = record { rest = c.pass.ensures.held; whole = λ e. f.2 (sym c.pass.ensures.ended ∙ e) };
       },
     )

@@ -19,7 +19,7 @@ use Rattle.trace_runs.proofs.ticks.run_rows.Goals as goal
 pub ticks-init : goal.ticks-init
 ticks-init g c =
     let left = g.S.Source.left in
-    let at : Stands_at c.args.rows.now 1 c.args.rows.now = record { limit = refl; places = refl; number = ap (λ n. n + 1) c.requires.rows.number } in
+    let at : Stands_at c.args.rows.now 1 c.args.rows.now = record { limit = refl; width = refl; number = ap (λ n. n + 1) c.requires.rows.number } in
     record {
       reached = λ k s. reached_start (record { kernel = k; budget = c.args.session.now.budget; first = c.args.rows.now }) (g.T.Ticker.follows c.args.ticker.now k) (left c.args.trace.now) (g.K.Sink.held c.args.out.now)
           c.args.session.now.waiting.bytes.items s.fresh at c.requires.session.none;
@@ -223,7 +223,7 @@ ticks-preserved g c =
           let turn = turn_of run c.deref.result.now in
           let went : o ≡ (tick k run.budget a.pace.state values).outcome = outcome_at k a.turns turn a.pace.state a.led o (c.in-Ok.ensures.tick.outcome k a.turns a.follows) ∙ ap (λ (v : Row). (tick k run.budget a.pace.state v).outcome) are in
           let F' = g.T.Ticker.follows c.tick.new.self k in
-          asked_more g.S.Source.left g.S.Source.faults g.S.Source.down run (g.T.Ticker.follows c.ticks.ticker k) F' now new c.ticks.row c.args.trace.now c.ticks.trace c.next.new.source values a i.stands (rw c.in-Ok-Row.field-0-is at e.reads) gave.stays
+          asked_more g.S.Source.left g.S.Source.faults g.S.Source.down run (g.T.Ticker.follows c.ticks.ticker k) F' now new c.ticks.row c.args.trace.now c.ticks.trace c.next.new.source values a i.stands gave.form (rw c.in-Ok-Row.field-0-is at e.reads) gave.stays
           (ap goes_on (sym went ∙ c.in-Paused.is)) (subst (λ (v : Row). F' (a.turns ++ turn_of run v ∷ [])) are (c.in-Ok.ensures.tick.follows k a.turns a.follows));
       shape = c.tick.ensures.shape ∙ i.shape;
       ready = c.tick.ensures.ready ∙ i.ready;

@@ -1,0 +1,170 @@
+-- With a budget of at least the worst case no report says that a run is over.
+use Rattle.std.proofs.Common.{◌≡◌, ◌≢◌, ◌≤◌, ℕ, ℤ, nat_lt, Bool, true, false, cond, List, [], ◌∷◌, Option, Some, None, replicate, refl, sym, ap, subst, ◌∙◌, arith}
+use Rattle.forec_base.specs.declared.limits.TheConstants.{MAX_BUDGET, MAX_ROWS}
+use Rattle.trace_runs.specs.declared.generated.TheConstants.{WORKLOAD_TICKS}
+use Rattle.forec_kernel.specs.Shapes.{PlainKernel}
+use Rattle.forec_kernel.specs.Ticks.{Tick, run_of}
+use Rattle.forec_kernel.specs.declared.shape.Outcome.{Outcome}
+use Rattle.forec_kernel.specs.declared.shape.Outcome.TheVariants as outcome
+use Rattle.tick_bounds.specs.Bound.{worst_case}
+use Rattle.bound_laws.specs.Laws.{NoneOver, RunsNeverOver}
+use Rattle.core_alloc.specs.declared.fault.PlaceFault.{PlaceFault}
+use Rattle.command_words.specs.Requests.{PlainPlacing, PlainRunning, PlainCommand, Run, Check, Threads, Code, Explain, OnText, OnWorkload, request_of}
+use Rattle.command_words.specs.declared.request.Budget.{Budget}
+use Rattle.command_words.specs.declared.request.Budget.TheVariants as budget
+use Rattle.workload.specs.Text.{text_of}
+use Rattle.text_verdict.specs.Judging.{Accepts, Judged}
+use Rattle.kernel_fold.specs.Laws.{FoldingKeepsForm, FoldingKeepsPaced}
+use Rattle.kernel_fold.specs.Folding.{folded_kernel}
+use Rattle.text_verdict.specs.Laws.{AcceptedTextsAreFormed, AcceptedTextsArePaced, AcceptedTextsAreNeverOver}
+use Rattle.text_verdict.specs.declared.counts.Counts.{Counts}
+use Rattle.trace_rows.specs.Trace.{End, trace_of}
+use Rattle.trace_rows.specs.declared.fault.RowFault.{RowFault}
+use Rattle.trace_runs.specs.KernelNames.{input_names}
+use Rattle.trace_runs.specs.Report.{Report, last_outcome, end_of_trace, ending, trace_report}
+use Rattle.trace_runs.specs.Workload.{ticks_report, ticked_report, workload_ticks, zero_row}
+use Rattle.trace_runs.specs.declared.status.Status.{Status}
+use Rattle.trace_runs.specs.declared.status.Status.TheVariants as status
+use Rattle.forec_engine.specs.Budgets.{budget_for, with_budget, Covers}
+use Rattle.forec_engine.specs.Folds.{kernel_for}
+use Rattle.forec_engine.specs.Commands.{ThreadsReport, Of_misplaced, Of_placed, AcceptedReport, CommandReport, IsReport, Of_usage, Of_text, Of_workload, TextReport, Of_refusal, Of_accepted}
+use Rattle.forec_engine.specs.Ends.{running_in}
+use Rattle.forec_engine.specs.Laws.{CoverTheirKernel, CoveredNeverOver, BoundCovers, AskForBound, Of_run, Of_gen, BoundNeverOver}
+use Rattle.forec_engine.specs.Placing.{misplacing, unless_misplaced, workload_report}
+use Rattle.forec_engine.proofs.Reports.{some_same, name_same, command_same, threads_same, running_same, never_text}
+
+-- ---- ticks
+
+last_never : (ts : List Tick) → NoneOver ts → last_outcome ts ≢ outcome.Over
+last_never [] h e = cc
+last_never (t ∷ []) h e = h.0 e
+last_never (t ∷ u ∷ ts) h e = last_never (u ∷ ts) h.1 e
+
+trace_end : (f : Option RowFault) (n : ℕ) → (end_of_trace f n).status ≢ status.Over
+trace_end None n e = cc
+trace_end (Some f) n e = cc
+
+ending_never : (o : Outcome) (end : End) → o ≢ outcome.Over → (ending o end).status ≢ status.Over
+ending_never outcome.Paused end h e = trace_end end.cause end.line e
+ending_never outcome.Ended end h e = cc
+ending_never (outcome.Trapped place trap) end h e = cc
+ending_never outcome.Over end h e = h refl
+
+ticks_never : (threads b : ℕ) (ts : List Tick) (o : Outcome) → o ≢ outcome.Over → (ticks_report threads b ts o).status ≢ status.Over
+ticks_never threads b ts outcome.Paused h e = cc
+ticks_never threads b ts outcome.Ended h e = cc
+ticks_never threads b ts (outcome.Trapped place trap) h e = cc
+ticks_never threads b ts outcome.Over h e = h refl
+
+-- no run of a kernel with so many units is over
+abbrev NoRunOver : PlainKernel → ℕ → Type 0
+NoRunOver k units = (rows : List (List ℤ)) → NoneOver (run_of k units rows)
+
+trace_never : (k : PlainKernel) (units : ℕ) (bytes : List ℕ) → NoRunOver k units → (trace_report MAX_ROWS k units bytes).status ≢ status.Over
+unfolding trace_report
+trace_never k units bytes never =
+    let trace = trace_of (input_names k) MAX_ROWS bytes in
+    ending_never (last_outcome (run_of k units trace.rows)) trace.end (last_never (run_of k units trace.rows) (never trace.rows))
+
+ticked_never : (threads : ℕ) (k : PlainKernel) (units : ℕ) → NoRunOver k units → (ticked_report threads k units).status ≢ status.Over
+unfolding ticked_report
+ticked_never threads k units never =
+    let ticks = workload_ticks k units in
+    ticks_never threads units ticks (last_outcome ticks) (last_never ticks (never (replicate WORKLOAD_TICKS (zero_row k.shape))))
+
+-- ---- reports
+
+unless_never : (o : Option PlaceFault) (r : Report) → r.status ≢ status.Over → (unless_misplaced o r).status ≢ status.Over
+unless_never None r h = h
+unless_never (Some why) r h = λ e. cc
+
+with_never : (o : Option ℕ) (f : ℕ → Report) → ((units : ℕ) → o ≡ Some units → (f units).status ≢ status.Over) → (with_budget o f).status ≢ status.Over
+with_never None f h = λ e. cc
+with_never (Some units) f h = h units refl
+
+is_never : (r q : Report) → r ≡ q → q.status ≢ status.Over → r.status ≢ status.Over
+is_never r q e h = λ o. h (sym (ap (λ (x : Report). x.status) e) ∙ o)
+
+threads_never : (k : PlainKernel) (placing : PlainPlacing) (r : Report) → ThreadsReport k placing r → r.status ≢ status.Over
+threads_never k placing r (Of_misplaced why m e) = is_never r _ e (λ o. cc)
+threads_never k placing r (Of_placed p m is e) = is_never r _ e (λ o. cc)
+
+-- each budget that a kernel may run with is enough
+abbrev Suffices : PlainKernel → Budget → Type 0
+Suffices k b = (units : ℕ) → budget_for k b ≡ Some units → NoRunOver k units
+
+accepted_never : (command : PlainCommand) (trace : Option (List ℕ)) (c : Counts) (k : PlainKernel) (r : Report) → ((running : PlainRunning) → running_in command ≡ Some running → Suffices k running.budget) →
+    AcceptedReport command trace c k r → r.status ≢ status.Over
+accepted_never (Run running) trace c k r enough x =
+    is_never r _ x.2 (with_never (budget_for k running.budget) (λ units. unless_misplaced (misplacing k running.placing) (trace_report MAX_ROWS k units x.0))
+    (λ units e. unless_never (misplacing k running.placing) (trace_report MAX_ROWS k units x.0) (trace_never k units x.0 (enough running refl units e))))
+accepted_never Check trace c k r enough x = is_never r _ x (λ o. cc)
+accepted_never (Threads placing) trace c k r enough x = threads_never k placing r x
+accepted_never (Explain b order) trace c k r enough x =
+    is_never r _ x.2 (with_never (budget_for k b) (λ units. trace_report MAX_ROWS k units x.0) (λ units e. trace_never k units x.0 (enough _ refl units e)))
+accepted_never Code trace c k r enough x = is_never r _ x.lists (λ o. cc)
+
+workload_never : (threads : ℕ) (running : PlainRunning) (k : PlainKernel) → Suffices k running.budget → (workload_report threads running k).status ≢ status.Over
+workload_never threads running k enough =
+    with_never (budget_for k running.budget) (λ units. unless_misplaced (misplacing k running.placing) (ticked_report threads k units))
+    (λ units e. unless_never (misplacing k running.placing) (ticked_report threads k units) (ticked_never threads k units (enough units e)))
+
+text_never : (text : List ℕ) (Says : Counts → PlainKernel → Report → Type 0) (r : Report) → ((c : Counts) (k : PlainKernel) → Judged text (Accepts c k) → Says c k r → r.status ≢ status.Over) → TextReport text Says r → r.status ≢ status.Over
+text_never text Says r never (Of_refusal why j e) = is_never r _ e (λ o. cc)
+text_never text Says r never (Of_accepted c k j x) = never c k j x
+
+-- ---- words
+
+-- no run of the kernel of an accepted text, folded or not, is over with a budget of at least its worst case
+abbrev pub KernelsNeverOver : Type 0
+KernelsNeverOver =
+    (text : List ℕ) (c : Counts) (k : PlainKernel) (fold : Bool) → Judged text (Accepts c k) → (units : ℕ) → worst_case (kernel_for fold k) ≤ units → NoRunOver (kernel_for fold k) units
+
+pub kernels_never_over : AcceptedTextsAreFormed → AcceptedTextsArePaced → AcceptedTextsAreNeverOver → FoldingKeepsForm → FoldingKeepsPaced → RunsNeverOver → KernelsNeverOver
+kernels_never_over formed paced never form pace runs text c k false j units fits = never text c k j units fits
+kernels_never_over formed paced never form pace runs text c k true j units fits =
+    runs (folded_kernel k) (form k (formed text c k j)) (pace k (paced text c k j)) units fits
+
+module _ (never : KernelsNeverOver) where
+  suffices : (text : List ℕ) (c : Counts) (k : PlainKernel) (fold : Bool) (b : Budget) → Judged text (Accepts c k) → Covers (kernel_for fold k) b → Suffices (kernel_for fold k) b
+  suffices text c k fold b j covers units e = never text c k fold j units (covers units e)
+
+  pub covered_never_over : CoveredNeverOver
+  covered_never_over words content trace r covers (Of_usage n e) = is_never r _ e (λ o. cc)
+  covered_never_over words content trace r covers (Of_text name command fold text n t x) =
+      text_never text (CommandReport command fold trace) r
+      (λ c k j y. accepted_never command trace c (kernel_for fold k) r (λ running is. suffices text c k fold running.budget j (covers.text name command fold text running c k n t is j)) y) x
+  covered_never_over words content trace r covers (Of_workload threads running n x) =
+      text_never (text_of threads) (λ c k q. q ≡ workload_report threads running k) r
+      (λ c k j y. is_never r _ y (workload_never threads running k (suffices (text_of threads) c k false running.budget j (covers.workload threads running c k n j)))) x
+
+-- ---- the bound
+
+bound_is : (n m : ℕ) (over : Bool) → cond over None (Some n) ≡ Some m → n ≤ m
+bound_is n m true e = absurd (let g : None ≡ Some m = e in cc)
+bound_is n m false e = let same : n ≡ m = some_same n m e in omega arith
+
+pub bound_covers : BoundCovers
+bound_covers k units e = bound_is (worst_case k) units (nat_lt MAX_BUDGET (worst_case k)) e
+
+covers_as : (k : PlainKernel) (b : Budget) → b ≡ budget.Bound → Covers k b
+covers_as k b e = subst (Covers k) (sym e) (bound_covers k)
+
+-- what two requests of the same words have in common
+bound_of_text : (words : List (List ℕ)) → AskForBound words → (name : List ℕ) (command : PlainCommand) (fold : Bool) (running : PlainRunning) → request_of words ≡ Some (OnText name command fold) → running_in command ≡ Some running →
+    running.budget ≡ budget.Bound
+bound_of_text words (Of_run other also folds more m is b) name command fold running n e =
+    let same : also ≡ command = command_same other name also command folds fold (sym m ∙ n) in
+    ap (λ (x : PlainRunning). x.budget) (some_same running more (sym e ∙ ap running_in (sym same) ∙ is)) ∙ b
+bound_of_text words (Of_gen threads more m b) name command fold running n e = absurd (never_text name command fold threads more (sym n ∙ m))
+
+bound_of_workload : (words : List (List ℕ)) → AskForBound words → (threads : ℕ) (running : PlainRunning) → request_of words ≡ Some (OnWorkload threads running) → running.budget ≡ budget.Bound
+bound_of_workload words (Of_run name command fold more m is b) threads running n = absurd (never_text name command fold threads running (sym m ∙ n))
+bound_of_workload words (Of_gen others more m b) threads running n = ap (λ (x : PlainRunning). x.budget) (running_same threads others running more (sym n ∙ m)) ∙ b
+
+pub bound_never_over : KernelsNeverOver → BoundNeverOver
+bound_never_over never words content trace r asks =
+    covered_never_over never words content trace r (record {
+      text = λ name command fold text running c k n t is j. covers_as (kernel_for fold k) running.budget (bound_of_text words asks name command fold running n is);
+      workload = λ threads running c k n j. covers_as k running.budget (bound_of_workload words asks threads running n);
+    })

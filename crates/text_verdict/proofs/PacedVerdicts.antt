@@ -1,0 +1,53 @@
+-- What the verdict on a text says of its kernel.
+use Rattle.std.proofs.Common.{ℕ, ◌≤◌, List}
+use Rattle.forec_tree.specs.Terms as tree
+use Rattle.forec_tree.specs.declared.token.Token.{Token}
+use Rattle.forec_check.specs.Faultless.{Faultless}
+use Rattle.forec_kernel.specs.Shapes.{PlainKernel}
+use Rattle.text_kernel.specs.Kernels.{kernel_of}
+use Rattle.text_kernel.specs.Limits.{WithinLimits}
+use Rattle.forec_kernel.specs.Ticks.{run_of}
+use Rattle.tick_bounds.specs.Bound.{worst_case}
+use Rattle.bound_laws.specs.Paced.{Paced}
+use Rattle.bound_laws.specs.Laws.{NoneOver}
+use Rattle.text_verdict.specs.Judging.{Verdict, Accepts, Refuses, OnUnbroken, beyond, accepted, OnProgram, broken, unbroken, OnTokens, spelled, stuck, too_deep, Judged, too_long, stops, too_many, lexed}
+use Rattle.forec_kernel.specs.WellFormed.{WellFormed}
+use Rattle.text_kernel.proofs.Whole.{well_formed}
+use Rattle.paced_texts.proofs.Accepted.{accepted_programs_are_paced, accepted_runs_never_over}
+use Rattle.text_verdict.specs.Laws.{AcceptedTextsAreFormed, AcceptedTextsArePaced, AcceptedTextsAreNeverOver}
+
+-- what holds of the kernels of all programs that are accepted holds of the kernel of a verdict
+module _ (P : PlainKernel → Type 0) (all : (program : tree.Text) (names : List (List ℕ)) → Faultless program names → WithinLimits (kernel_of program names) → P (kernel_of program names)) where
+  abbrev Told : Verdict → Type 0
+  Told (Accepts counts k) = P k
+  Told (Refuses why) = Unit {0}
+
+  on_unbroken : (program : tree.Text) (names : List (List ℕ)) (v : Verdict) → Faultless program names → OnUnbroken program names v → Told v
+  on_unbroken program names v f (beyond what count is) = tt
+  on_unbroken program names v f (accepted w) = all program names f w
+
+  on_program : (program : tree.Text) (names : List (List ℕ)) (v : Verdict) → OnProgram program names v → Told v
+  on_program program names v (broken place rule least) = tt
+  on_program program names v (unbroken f u) = on_unbroken program names v f u
+
+  on_tokens : (text : List ℕ) (tokens : List Token) (names : List (List ℕ)) (v : Verdict) → OnTokens text tokens names v → Told v
+  on_tokens text tokens names v (spelled program s p) = on_program program names v p
+  on_tokens text tokens names v (stuck n h) = tt
+  on_tokens text tokens names v (too_deep n h) = tt
+
+  on_text : (text : List ℕ) (v : Verdict) → Judged text v → Told v
+  on_text text v (too_long h) = tt
+  on_text text v (stops place l h) = tt
+  on_text text v (too_many place l h) = tt
+  on_text text v (lexed tokens names l x t) = on_tokens text tokens names v t
+
+pub accepted_texts_are_formed : AcceptedTextsAreFormed
+accepted_texts_are_formed text counts k h = on_text WellFormed well_formed text (Accepts counts k) h
+
+pub accepted_texts_are_paced : AcceptedTextsArePaced
+accepted_texts_are_paced text counts k h = on_text Paced accepted_programs_are_paced text (Accepts counts k) h
+
+pub accepted_texts_are_never_over : AcceptedTextsAreNeverOver
+accepted_texts_are_never_over text counts k h budget fits rows =
+    on_text (λ k. worst_case k ≤ budget → NoneOver (run_of k budget rows))
+    (λ program names f w fit. accepted_runs_never_over program names f w budget fit rows) text (Accepts counts k) h fits

@@ -1,0 +1,22 @@
+-- Lemmas.
+pub mod Worked
+pub mod Tools
+pub mod BitLemmas
+pub mod Reached
+pub mod TickLemmas
+pub mod Sound
+pub mod Viable
+pub mod Complete
+pub mod Exact
+pub mod FromLemmas
+pub mod NumberLemmas
+pub mod Alike
+pub mod Between
+pub mod GoesLemmas
+pub mod EndingLemmas
+pub mod ReadWave
+pub mod NameLemmas
+pub mod ValueLemmas
+pub mod AllLemmas
+pub mod AllTicks
+pub mod WritingLemmas
