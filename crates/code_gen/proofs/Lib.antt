@@ -25,7 +25,6 @@ pub mod FineStatements
 pub mod CalledFunctions
 pub mod Valid
 pub mod Patch
-pub mod Copies
 pub mod Numbers
 pub mod Whole
 pub mod Written

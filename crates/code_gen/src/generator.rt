@@ -10,12 +10,11 @@ ghost use Rattle.code_gen.specs.Statements.{Outside, statement_code};
 ghost use Rattle.code_gen.specs.Blocks.{thread_body, function_body, thread_block, function_block, blocks_from, counters_in, counters_of, flags_in, flags_of};
 
 use crate::around::{Around, Surroundings};
-use crate::shapes::copy_shape;
 use crate::sizes::statement_size;
 use crate::statements::Emitter;
 use crate::writing::{MOST_FUSED, MOST_INSTRUCTIONS, put};
 use forec_base::OutOfMemory;
-use forec_kernel::{FunctionShape, Kernel, KernelParts, Statement, ThreadShape};
+use forec_kernel::{FunctionShape, Kernel, KernelParts, Statement, ThreadShape, copy_shape};
 use std::alloc::Global;
 use thread_code::{Block, Code, CodeParts, Instruction};
 

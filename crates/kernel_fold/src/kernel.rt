@@ -7,10 +7,9 @@ ghost use Rattle.bound_laws.specs.Paced.{Paced};
 ghost use Rattle.kernel_fold.specs.Folding.{fold_stmt, IsFoldedKernel};
 ghost use Rattle.kernel_fold.specs.Laws.{RunsAsBefore, TakesNoMoreUnits};
 
-use crate::shapes::copy_shape;
 use crate::statements::fold_statement;
 use forec_base::OutOfMemory;
-use forec_kernel::{Kernel, KernelParts, Statement};
+use forec_kernel::{Kernel, KernelParts, Statement, copy_shape};
 use std::alloc::Global;
 
 fn fold_bodies(alloc: Global, bodies: &[Statement]) -> Result<Vec<Statement>, OutOfMemory>
