@@ -16,6 +16,7 @@ pub mod FoldLoop
 pub mod AtOnce
 pub mod Offering
 pub mod Combining
+pub mod Counting
 pub mod Back
 pub mod Begun
 pub mod Starting

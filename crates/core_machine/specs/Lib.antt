@@ -6,5 +6,6 @@ pub mod RunParts
 pub mod Threads
 pub mod Forks
 pub mod Merging
+pub mod Counting
 pub mod Replies
 pub mod Direct

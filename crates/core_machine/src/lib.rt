@@ -3,6 +3,7 @@
 
 mod branches;
 mod calls;
+mod counted;
 mod depths;
 mod fork;
 mod laws;

@@ -39,9 +39,10 @@ fn write_row(copies: &mut [VarCopy], inputs: &[u32], row: &[i32])
     requires row { length row.now ≡ length inputs.now }
     ensures { copies.new ≡ with_row (count_up 0 (length copies.old)) inputs.now row.now copies.old }
 {
+    let values = &row[..inputs.len()];
     for i in 0..inputs.len() {
         copies[inputs[i] as usize] = VarCopy {
-            value: row[i],
+            value: values[i],
             modified: false,
         };
     }
