@@ -1,5 +1,5 @@
-use Rattle.value_ranges.proofs.Values.{kernel_fits}
+use Rattle.value_ranges.proofs.Ticks.{ticks_fit, values_fit}
 use Rattle.value_ranges.proofs.laws.values_fit.Goals as goal
 
 pub returns : goal.returns
-returns c = record { ticks = let h = kernel_fits in ?; runs = ? }
+returns c = record { ticks = ticks_fit; runs = values_fit }
