@@ -1,14 +1,14 @@
 -- What branches' copies are combined to fits 32 bits.
-use Rattle.std.proofs.Common.{ℕ, suc, ◌==◌, ℤ, Bool, true, false, cond, ◌&&◌, Option, Some, None, List, [], ◌∷◌, FitsSigned, w32}
+use Rattle.std.proofs.Common.{ℕ, suc, ℤ, Bool, true, false, cond, ◌&&◌, Option, Some, None, List, [], ◌∷◌, FitsSigned, w32}
 use Rattle.std.specs.List.{AllByRecursion}
 use Rattle.forec_base.specs.declared.Policy.{Policy}
 use Rattle.forec_kernel.specs.declared.shape.VarCopy.{VarCopy}
 use Rattle.forec_kernel.specs.Shapes.{PlainKernel}
-use Rattle.forec_kernel.specs.Values.{Value, Gives, Raises, more_units, copy_of, call}
+use Rattle.forec_kernel.specs.Values.{Value, Gives, Raises, copy_of, call}
 use Rattle.forec_kernel.specs.Texts.{Threads, no_threads, child, is_active, uses_of}
 use Rattle.forec_kernel.specs.Combining.{Share, contains, shares, takes_part, taking_part, Joint, fold_calls, last_value, variable_calls, combined_value, variable_of, combine_of, part_of, joined_copies}
-use Rattle.value_ranges.specs.Words.{AreWords, HasWords}
-use Rattle.value_ranges.proofs.Values.{CopiesFit, copy_fits, ValueFits, more_fits, SettingFits, kernel_fits}
+use Rattle.value_ranges.specs.Words.{HasWords}
+use Rattle.value_ranges.proofs.Values.{CopiesFit, copy_fits, ValueFits, more_fits, kernel_fits}
 use Rattle.value_ranges.proofs.Texts.{ThreadsFit}
 
 abbrev SharesFit : List Share → Type 0

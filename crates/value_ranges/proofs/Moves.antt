@@ -1,5 +1,5 @@
 -- A step of a thread keeps to 32 bits.
-use Rattle.std.proofs.Common.{ℕ, zero, suc, ◌+◌, ℤ, Bool, true, false, cond, Option, Some, None, List, [], ◌∷◌, slice_set, take, FitsSigned, w32}
+use Rattle.std.proofs.Common.{ℕ, zero, suc, ◌+◌, ℤ, Bool, true, false, cond, Option, Some, None, List, [], ◌∷◌, take, FitsSigned, w32}
 use Rattle.std.specs.List.{AllByRecursion}
 use Rattle.forec_base.specs.Numbers.{is_zero}
 use Rattle.forec_base.specs.declared.Place.{Place}
@@ -9,9 +9,9 @@ use Rattle.forec_kernel.specs.declared.terms.Spot.TheVariants as spot
 use Rattle.forec_kernel.specs.declared.shape.VarCopy.{VarCopy}
 use Rattle.forec_kernel.specs.Terms.{Expr, Branch, Stmt, Nop, Set, SetAt, PutAt, Clear, Seq, If, While, Pause, Par, Enter, Return}
 use Rattle.forec_kernel.specs.Shapes.{PlainKernel}
-use Rattle.forec_kernel.specs.Values.{Value, Gives, Raises, Values, AllGive, OneRaises, Setting, setting, Sight, vals, cleared, index_in, fresh_words}
-use Rattle.forec_kernel.specs.Texts.{Loop, After, Again, Status, Text, Done, Run, Then, Turning, Resting, Fork, Held, Watch, Last, Threads, no_threads, child, child_of, text_of, texts_of, after_text, some_running, all_over, first_trap, ended_are_gone, uses_of, words_of, params_of, body_of, handed_down, put_copy}
-use Rattle.forec_kernel.specs.Combining.{joined_copies, Cost, Costs, Fails, join_cost}
+use Rattle.forec_kernel.specs.Values.{Value, Gives, Raises, Values, AllGive, OneRaises, Setting, setting, Sight, vals, index_in}
+use Rattle.forec_kernel.specs.Texts.{Loop, After, Status, Text, Done, Run, Then, Turning, Resting, Fork, Held, Watch, Last, Threads, no_threads, child, child_of, text_of, some_running, all_over, first_trap, ended_are_gone, uses_of, words_of, params_of, body_of}
+use Rattle.forec_kernel.specs.Combining.{Cost, Costs, Fails, join_cost}
 use Rattle.forec_kernel.specs.Steps.{Path, Owner, evaluated, Move, Finished, Halts, Moves, Traps, more_move, move_with, assigned, assigned_at, shared_at, turned, entered, Arguments, Ready, Refused, one_more_list, arguments_then, arguments, started, forked, statement_move, loop_move, combined, joined, move_before, move_watched, move_last, thread_after, place_at, path_below, text_move, child_move}
 use Rattle.value_ranges.specs.Words.{AreWords, ExprWords, BranchesWords, StmtWords, HasWords}
 use Rattle.value_ranges.proofs.Lists.{all_get, all_set, all_take}

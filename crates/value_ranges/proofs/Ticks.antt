@@ -1,11 +1,10 @@
 -- The outputs of each tick fit 32 bits.
-use Rattle.std.proofs.Common.{ℕ, zero, suc, ◌≡◌, ◌≢◌, ℤ, Bool, true, false, nat_lt, List, [], ◌∷◌, length, refl, ap, FitsSigned, w32}
+use Rattle.std.proofs.Common.{ℕ, zero, suc, ◌≡◌, ℤ, Bool, true, false, nat_lt, List, [], ◌∷◌, length, refl, ap, FitsSigned, w32}
 use Rattle.std.specs.List.{AllByRecursion}
 use Rattle.forec_kernel.specs.declared.shape.VarCopy.{VarCopy}
 use Rattle.forec_kernel.specs.declared.shape.Variable.{Variable}
 use Rattle.forec_kernel.specs.declared.shape.Outcome.TheVariants as outcome
 use Rattle.forec_kernel.specs.Shapes.{PlainKernel}
-use Rattle.forec_kernel.specs.Values.{copy_of, fresh_words}
 use Rattle.forec_kernel.specs.Texts.{Thread, uses_of, words_of, body_of, put_copy}
 use Rattle.forec_kernel.specs.Size.{text_size}
 use Rattle.forec_kernel.specs.Steps.{Move, Finished, Halts, Moves, Traps, thread_move, woken}

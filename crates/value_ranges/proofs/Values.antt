@@ -1,5 +1,5 @@
 -- What expressions and int functions give fits 32 bits.
-use Rattle.std.proofs.Common.{ℕ, zero, suc, ◌+◌, ◌-◌, ◌==◌, ℤ, pos, Bool, true, false, cond, not, Option, Some, None, List, [], ◌∷◌, length, get_or, slice_set, replicate, FitsSigned, w32}
+use Rattle.std.proofs.Common.{ℕ, zero, suc, ◌+◌, ◌-◌, ◌==◌, ℤ, pos, Bool, true, false, cond, not, Option, Some, None, List, [], ◌∷◌, length, get_or, replicate, FitsSigned, w32}
 use Rattle.std.specs.List.{AllByRecursion}
 use Rattle.forec_base.specs.Numbers.{truth, is_zero, unary_of, binary_of}
 use Rattle.forec_base.specs.declared.Place.{Place}

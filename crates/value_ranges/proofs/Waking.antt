@@ -1,14 +1,13 @@
 -- Waking keeps to 32 bits.
-use Rattle.std.proofs.Common.{ℕ, ℤ, Bool, true, false, cond, List, FitsSigned, w32}
+use Rattle.std.proofs.Common.{ℕ, ℤ, Bool, true, false, cond, List}
 use Rattle.forec_base.specs.Numbers.{is_zero}
-use Rattle.forec_base.specs.declared.Place.{Place}
 use Rattle.forec_kernel.specs.declared.shape.VarCopy.{VarCopy}
 use Rattle.forec_kernel.specs.Terms.{Expr}
 use Rattle.forec_kernel.specs.Shapes.{PlainKernel}
 use Rattle.forec_kernel.specs.Values.{Value, Gives, Raises}
-use Rattle.forec_kernel.specs.Texts.{After, Go_on, Again, Status, Running, Paused, Ended, Gone, Trapped, Text, Done, Run, Then, Turning, Resting, Fork, Held, Watch, Last, Threads, no_threads, child, uses_of, handed_down}
-use Rattle.forec_kernel.specs.Steps.{evaluated, Stepped, Woken, Wakes, Stays, more_woken, woken_in, woken_with, refilled, watched_on, text_if, status_of, waking_units, woken, woken_children}
-use Rattle.value_ranges.specs.Words.{AreWords, ExprWords}
+use Rattle.forec_kernel.specs.Texts.{After, Go_on, Again, Running, Paused, Ended, Gone, Trapped, Text, Done, Run, Then, Turning, Resting, Fork, Held, Watch, Last, Threads, no_threads, child, uses_of, handed_down}
+use Rattle.forec_kernel.specs.Steps.{evaluated, Woken, Wakes, Stays, more_woken, woken_in, woken_with, refilled, watched_on, text_if, woken, woken_children}
+use Rattle.value_ranges.specs.Words.{ExprWords}
 use Rattle.value_ranges.proofs.Values.{CopiesFit}
 use Rattle.value_ranges.proofs.Texts.{AfterFits, TextFits, ThreadsFit, handed_fits}
 

@@ -1,5 +1,5 @@
 -- Kernels whose numbers fit 32 bits.
-use Rattle.std.specs.Prelude.{ℕ, ℤ, List, [], ◌∷◌, FitsSigned}
+use Rattle.std.specs.Prelude.{ℤ, List, [], ◌∷◌, FitsSigned}
 use Rattle.std.specs.Int.{w32}
 use Rattle.std.specs.List.{AllByRecursion}
 use Rattle.forec_kernel.specs.declared.shape.Variable.{Variable}
