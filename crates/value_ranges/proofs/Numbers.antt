@@ -25,7 +25,7 @@ truth_fits true = one_fits
 truth_fits false = zero_fits
 
 -- a number of 32 bits, read with its sign
-signed_fits : (n : ℕ) → n < 2 ^ 32 → FitsSigned w32 (cast_signed w32 n)
+pub signed_fits : (n : ℕ) → n < 2 ^ 32 → FitsSigned w32 (cast_signed w32 n)
 signed_fits n h = sfits_to_z {w = w32} {n = n} (record { fits = h })
 
 bits_below : (a : ℤ) → FitsSigned w32 a → cast_unsigned w32 a < 2 ^ 32
