@@ -1,5 +1,5 @@
 //! Laws of the verdicts.
-ghost use Rattle.text_verdict.specs.Laws.{OneVerdict, SomeVerdict, AcceptedTextsAreFormed, AcceptedTextsArePaced, AcceptedTextsAreNeverOver};
+ghost use Rattle.text_verdict.specs.Laws.{OneVerdict, SomeVerdict, AcceptedTextsAreFormed, AcceptedTextsArePaced, AcceptedTextsAreNeverOver, AcceptedTextsHaveWords, AcceptedTextsGiveWords};
 
 use forec_lexer::one_lexing;
 use forec_parser::one_program;
@@ -28,4 +28,11 @@ pub fn each_accepted_text_is_formed()
 pub fn each_accepted_text_is_paced()
     ensures paced { AcceptedTextsArePaced }
     ensures never_over { AcceptedTextsAreNeverOver }
+{}
+
+/// In the kernel of a text that is accepted each number fits 32 bits, and for rows whose numbers do, each output of each
+/// tick of its runs does too.
+pub fn each_accepted_text_has_words()
+    ensures words { AcceptedTextsHaveWords }
+    ensures outputs { AcceptedTextsGiveWords }
 {}

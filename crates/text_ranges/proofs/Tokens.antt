@@ -1,0 +1,75 @@
+-- The numbers among the tokens of a text fit 32 bits.
+use Rattle.std.proofs.Common.{◌≡◌, ℕ, suc, ◌≤◌, ◌∙◌, sym, ap, refl, subst, Some, List, [], ◌∷◌, ◌++◌, length, take, drop, ℤ, FitsSigned, w32, length-append, arith}
+use Rattle.std.specs.Int.{cast_signed}
+use Rattle.std.specs.List.{AllByRecursion}
+use Rattle.forec_tree.specs.declared.token.Token.{Token}
+use Rattle.forec_tree.specs.declared.token.TokenKind.{TokenKind}
+use Rattle.forec_tree.specs.declared.token.TokenKind.TheVariants as kind
+use Rattle.forec_tree.specs.Lexis.{Fits, Piece, blank, name, number, word, mark}
+use Rattle.forec_tree.specs.LexedText.{kind_of, token_at, Cuts, begins, skips, takes, IsLexed}
+use Rattle.forec_tree.specs.Spelling.{Spelt, tokens}
+use Rattle.value_ranges.proofs.Numbers.{signed_fits}
+use Rattle.value_ranges.proofs.Lists.{all_append}
+
+-- if the token is a number, it fits
+abbrev pub TokenFits : Token → Type 0
+TokenFits t = (value : ℤ) → t.kind ≡ kind.Number value → FitsSigned w32 value
+
+-- ---- the tokens of a text
+
+piece_fits : (names : List (List ℕ)) (p : Piece) (bytes after : List ℕ) (k : TokenKind) → Fits p bytes after → kind_of names p bytes ≡ Some k →
+    (value : ℤ) → k ≡ kind.Number value → FitsSigned w32 value
+piece_fits names blank bytes after k f e value i = cc
+piece_fits names name bytes after k f e value i = cc
+piece_fits names (number int) bytes after k f e value i =
+    let is = f.0.same_bits in
+    let small = f.0.small in
+    let same : cast_signed w32 f.0.value ≡ value = cc in subst (FitsSigned w32) same (signed_fits f.0.value (omega arith))
+piece_fits names (word w) bytes after k f e value i = cc
+piece_fits names (mark m) bytes after k f e value i = cc
+
+cuts_fit : {text : List ℕ} {ts : List Token} {names : List (List ℕ)} {at : ℕ} → Cuts text ts names at → AllByRecursion TokenFits ts
+cuts_fit begins = tt
+cuts_fit (skips n c x) = cuts_fit c
+cuts_fit {text} (takes {tokens = ts} {names = names} {at = at} p n k c x e) =
+    all_append TokenFits ts (token_at text at n k ∷ []) (cuts_fit c)
+    ((λ value i. piece_fits names p (take n (drop at text)) (drop n (drop at text)) k x.fits.fits e value i), tt)
+
+-- ---- tokens with their levels
+
+-- at most 200000 tokens, of which each that is a number fits
+pub record SpeltFits (ls : List Spelt) : Type 0 where
+  pub each : AllByRecursion (λ (s : Spelt). TokenFits s.token) ls
+  pub few : length ls ≤ 200000
+
+each_fits : (ls : List Spelt) → AllByRecursion TokenFits (tokens ls) → AllByRecursion (λ (s : Spelt). TokenFits s.token) ls
+each_fits [] h = tt
+each_fits (s ∷ ls) h = (h.0, each_fits ls h.1)
+
+as_many : (ls : List Spelt) → length (tokens ls) ≡ length ls
+as_many [] = refl
+as_many (s ∷ ls) = ap suc (as_many ls)
+
+pub lexed_fit : (bytes : List ℕ) (ts : List Token) (names : List (List ℕ)) (ls : List Spelt) → IsLexed bytes ts names → tokens ls ≡ ts → SpeltFits ls
+lexed_fit bytes ts names ls h e =
+    let few = h.few in
+    let n : length ls ≡ length ts = sym (as_many ls) ∙ ap (λ (us : List Token). length us) e in
+    record { each = each_fits ls (subst (AllByRecursion TokenFits) (sym e) (cuts_fit h.lexes.cuts)); few = omega arith }
+
+-- those after the first
+pub behind : {s : Spelt} {ls : List Spelt} → SpeltFits (s ∷ ls) → SpeltFits ls
+behind h = let few = h.few in record { each = h.each.1; few = omega arith }
+
+left_fits : (ls rs : List Spelt) → AllByRecursion (λ (s : Spelt). TokenFits s.token) (ls ++ rs) → AllByRecursion (λ (s : Spelt). TokenFits s.token) ls
+left_fits [] rs h = tt
+left_fits (s ∷ ls) rs h = (h.0, left_fits ls rs h.1)
+
+right_fits : (ls rs : List Spelt) → AllByRecursion (λ (s : Spelt). TokenFits s.token) (ls ++ rs) → AllByRecursion (λ (s : Spelt). TokenFits s.token) rs
+right_fits [] rs h = h
+right_fits (s ∷ ls) rs h = right_fits ls rs h.1
+
+pub front : (ls rs : List Spelt) → SpeltFits (ls ++ rs) → SpeltFits ls
+front ls rs h = let few = h.few in record { each = left_fits ls rs h.each; few = omega (arith, length-append ls rs, few) }
+
+pub back : (ls rs : List Spelt) → SpeltFits (ls ++ rs) → SpeltFits rs
+back ls rs h = let few = h.few in record { each = right_fits ls rs h.each; few = omega (arith, length-append ls rs, few) }
