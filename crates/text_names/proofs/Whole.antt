@@ -1,6 +1,6 @@
 -- The variables of a program have names of its text.
-use Rattle.std.proofs.Common.{◌≡◌, ℕ, zero, suc, ◌<◌, Bool, true, false, cond, IsTrue, nat_lt, ◌&&◌, Option, Some, None, List, [], ◌∷◌, ◌++◌, map, length, get_or, slice_get, ltb-true, sym, subst, ap, ◌∙◌, arith}
-use Rattle.std.specs.List.{AllByRecursion, All}
+use Rattle.std.proofs.Common.{◌≡◌, ℕ, zero, suc, ◌<◌, Bool, true, false, cond, nat_lt, Option, Some, None, List, [], ◌∷◌, ◌++◌, map, length, get_or, ltb-true, ap, ◌∙◌, arith}
+use Rattle.std.specs.List.{AllByRecursion}
 use Rattle.std.proofs.lemmas.Bool.{and_parts}
 use Rattle.std.proofs.lemmas.Option.{slice_get_within}
 use Rattle.std.proofs.lemmas.List.Elements.{All-weaker}
@@ -12,15 +12,15 @@ use Rattle.forec_tree.specs.Lexis.{IsName}
 use Rattle.forec_tree.specs.LexedText.{IsLexed, IsSpelt, IsNumbered, bytes_of}
 use Rattle.forec_tree.specs.Scopes.{is_constant, stated_length}
 use Rattle.forec_tree.specs.SpelledPrograms.{IsSpelled}
-use Rattle.forec_tree.specs.Terms.{PlainGlobal, PlainItem, IsGlobal, IsFunction, Text}
+use Rattle.forec_tree.specs.Terms.{PlainGlobal, IsGlobal, IsFunction, Text}
 use Rattle.forec_tree.specs.Variables.{PlainVariable, elements, elements_from, variables_of, variables}
 use Rattle.forec_kernel.specs.WellFormed.{all_below}
 use Rattle.forec_lexer.proofs.Whole.{named}
-use Rattle.forec_check.specs.Faultless.{text_names, item_names, combine_names, IdsBelow}
+use Rattle.forec_check.specs.Faultless.{text_names, item_names, IdsBelow}
 use Rattle.forec_check.proofs.NamesBelow.{names_below}
 use Rattle.text_kernel.specs.Kernels.{element_name, variable_name, kernel_of}
 use Rattle.text_kernel.proofs.Counting.{names_each, inputs_named, outputs_named}
-use Rattle.text_names.specs.Names.{IsPlainName, IsVariableName, alone, element, names_at, HasNames}
+use Rattle.text_names.specs.Names.{IsPlainName, IsVariableName, alone, element, names_at}
 use Rattle.text_names.specs.Laws.{SpelledProgramsHaveNames, SpelledVariablesAreNamed, SpelledOutputsAreSafe}
 use Rattle.text_names.proofs.Bytes.{all_append, all_weaker, variable_plain, safe_names}
 use Rattle.text_names.proofs.TextNames.{AreNames, cuts_named}
