@@ -2,7 +2,7 @@
 use Rattle.std.proofs.Common.{◌≡◌, ◌⊎◌, inl, inr, ℕ, Bool, List, Option, Some, None, refl, sym, ap, subst, ◌∙◌}
 use Rattle.forec_kernel.specs.Shapes.{PlainKernel}
 use Rattle.core_alloc.specs.declared.fault.PlaceFault.{PlaceFault}
-use Rattle.command_words.specs.Requests.{PlainPlacing, PlainRunning, PlainCommand, Run, Check, Threads, Code, Explain, PlainRequest, OnText, OnWorkload, request_of}
+use Rattle.command_words.specs.Requests.{PlainPlacing, PlainRunning, PlainCommand, Run, Wave, Check, Threads, Code, Explain, PlainRequest, OnText, OnWorkload, request_of}
 use Rattle.thread_places.specs.Laws.{OnePlacement, SomePlacement}
 use Rattle.forec_engine.specs.Commands.{IsListing, ThreadsReport, Of_misplaced, Of_placed, AcceptedReport, CommandReport, Of_refusal, Of_accepted, TextReport, WorkloadReport, Of_usage, Of_text, Of_workload, IsReport, TellsTrace, Tells, usage, refused, counted, threads_listed, run_report, explain_report}
 use Rattle.text_verdict.specs.Judging.{Verdict, Refuses, Accepts, Judged}
@@ -13,6 +13,8 @@ use Rattle.text_verdict.specs.declared.refusal.Refusal.{Refusal}
 use Rattle.forec_engine.specs.Folds.{kernel_for}
 use Rattle.forec_engine.specs.Placing.{misplaced, misplacing}
 use Rattle.trace_runs.specs.Report.{Report}
+use Rattle.trace_runs.specs.declared.format.Telling.{Telling}
+use Rattle.trace_runs.specs.declared.format.Telling.TheVariants as telling
 use Rattle.forec_engine.specs.Placing.{workload_report}
 
 pub some_same : {A : Type 0} (x y : A) → Some x ≡ Some y → x ≡ y
@@ -47,11 +49,18 @@ two_threads one k placing r q (Of_misplaced why m e) (Of_placed p n is f) = absu
 two_threads one k placing r q (Of_placed p m is e) (Of_misplaced why n f) = absurd (never_placed why (misplacing k placing) n m)
 two_threads one k placing r q (Of_placed p m is e) (Of_placed o n also f) = e ∙ ap (λ x. threads_listed k x.places) (one k placing p o is also) ∙ sym f
 
+-- what is told of two runs
+two_runs : (tells : Telling) (running : PlainRunning) (c d : Counts) (k l : PlainKernel) (trace : Option (List ℕ)) (r q : Report) → Accepts c k ≡ Accepts d l →
+    (bytes : List ℕ) × (trace ≡ Some bytes) × (r ≡ run_report tells k running bytes) → (bytes : List ℕ) × (trace ≡ Some bytes) × (q ≡ run_report tells l running bytes) → r ≡ q
+two_runs tells running c d k l trace r q e x y =
+    x.2 ∙ ap (λ m. run_report tells m running x.0) (kernel_same c d k l e) ∙ ap (run_report tells l running) (some_same x.0 y.0 (sym x.1 ∙ y.1)) ∙ sym y.2
+
 -- what a command other than `code` says of an accepted text
 one_accepted : OnePlacement → (command : PlainCommand) (c d : Counts) (k l : PlainKernel) (trace : Option (List ℕ)) (r q : Report) → (command ≡ Code → ⊥) → Accepts c k ≡ Accepts d l →
     AcceptedReport command trace c k r → AcceptedReport command trace d l q → r ≡ q
 one_accepted one (Run running) c d k l trace r q other e x y =
-    x.2 ∙ ap (λ m. run_report m running x.0) (kernel_same c d k l e) ∙ ap (run_report l running) (some_same x.0 y.0 (sym x.1 ∙ y.1)) ∙ sym y.2
+    two_runs telling.Report running c d k l trace r q e x y
+one_accepted one (Wave running) c d k l trace r q other e x y = two_runs telling.Wave running c d k l trace r q e x y
 one_accepted one Check c d k l trace r q other e x y = x ∙ ap counted (counts_same c d k l e) ∙ sym y
 one_accepted one (Threads placing) c d k l trace r q other e x y = two_threads one l placing r q (subst (λ m. ThreadsReport m placing r) (kernel_same c d k l e) x) y
 one_accepted one (Explain budget order) c d k l trace r q other e x y =
@@ -62,6 +71,7 @@ one_accepted one Code c d k l trace r q other e x y = absurd (other refl)
 alike_accepted : OnePlacement → (command : PlainCommand) (c d : Counts) (k l : PlainKernel) (trace : Option (List ℕ)) (r q : Report) → Accepts c k ≡ Accepts d l →
     AcceptedReport command trace c k r → AcceptedReport command trace d l q → (r ≡ q) ⊎ ListOneKernel r q
 alike_accepted one (Run running) c d k l trace r q e x y = inl (one_accepted one (Run running) c d k l trace r q (λ n. cc) e x y)
+alike_accepted one (Wave running) c d k l trace r q e x y = inl (one_accepted one (Wave running) c d k l trace r q (λ n. cc) e x y)
 alike_accepted one (Explain budget order) c d k l trace r q e x y = inl (one_accepted one (Explain budget order) c d k l trace r q (λ n. cc) e x y)
 alike_accepted one Check c d k l trace r q e x y = inl (one_accepted one Check c d k l trace r q (λ n. cc) e x y)
 alike_accepted one (Threads placing) c d k l trace r q e x y = inl (one_accepted one (Threads placing) c d k l trace r q (λ n. cc) e x y)
@@ -153,7 +163,8 @@ some_threads some k placing (Some why) e never = never (misplaced why) (Of_mispl
 
 some_of_accepted : SomePlacement → (command : PlainCommand) (trace : Option (List ℕ)) (c : Counts) (k : PlainKernel) → (command ≡ Code → ⊥) → TellsTrace command trace →
     ((r : Report) → AcceptedReport command trace c k r → ⊥) → ⊥
-some_of_accepted some (Run running) trace c k other told never = never (run_report k running told.0) (told.0, told.1, refl)
+some_of_accepted some (Run running) trace c k other told never = never (run_report telling.Report k running told.0) (told.0, told.1, refl)
+some_of_accepted some (Wave running) trace c k other told never = never (run_report telling.Wave k running told.0) (told.0, told.1, refl)
 some_of_accepted some Check trace c k other told never = never (counted c) refl
 some_of_accepted some (Threads placing) trace c k other told never = some_threads some k placing (misplacing k placing) refl never
 some_of_accepted some (Explain budget order) trace c k other told never = never (explain_report k budget told.0) (told.0, told.1, refl)

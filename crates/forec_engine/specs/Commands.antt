@@ -8,7 +8,7 @@ use Rattle.thread_code.specs.Plain.{PlainCode}
 use Rattle.thread_code.specs.Valid.{IsValidCode}
 use Rattle.core_alloc.specs.Places.{Places}
 use Rattle.core_alloc.specs.declared.fault.PlaceFault.{PlaceFault}
-use Rattle.command_words.specs.Requests.{PlainPlacing, PlainRunning, PlainCommand, Run, Check, Threads, Code, Explain, PlainRequest, OnText, OnWorkload, request_of}
+use Rattle.command_words.specs.Requests.{PlainPlacing, PlainRunning, PlainCommand, Run, Wave, Check, Threads, Code, Explain, PlainRequest, OnText, OnWorkload, request_of}
 use Rattle.thread_places.specs.Lines.{thread_lines}
 use Rattle.thread_places.specs.Placed.{IsPlacement}
 use Rattle.workload.specs.Text.{text_of}
@@ -21,12 +21,15 @@ use Rattle.forec_engine.specs.Placing.{misplaced, misplacing, unless_misplaced}
 use Rattle.forec_engine.specs.Placing.{workload_report}
 use Rattle.text_verdict.specs.declared.counts.Counts.{Counts}
 use Rattle.text_verdict.specs.declared.refusal.Refusal.{Refusal}
+use Rattle.trace_runs.specs.KernelNames.{run_format}
 use Rattle.trace_runs.specs.Led.{IsTold}
 use Rattle.trace_runs.specs.Report.{Report, trace_report}
+use Rattle.trace_runs.specs.declared.format.Telling.{Telling}
+use Rattle.trace_runs.specs.declared.format.Telling.TheVariants as telling
 use Rattle.trace_runs.specs.declared.status.Status.TheVariants as status
 
 abbrev pub usage_line : List ℕ
-usage_line = codes "usage: forec run|check|threads|code|explain|gen PROGRAM [--cores N] [--place LIST] [--budget B] [--order N] [--fold]\n"
+usage_line = codes "usage: forec run|check|threads|code|explain|gen|wave|unwave PROGRAM [--cores N] [--place LIST] [--budget B] [--order N] [--fold]\n"
 
 abbrev pub usage : Report
 usage = record { bytes = usage_line; status = status.Usage }
@@ -54,14 +57,15 @@ pub record IsListing (k : PlainKernel) (r : Report) : Type 0 where
   pub stands : Stands code k
   pub lists : r ≡ listed code
 
--- the report of a kernel that runs over a trace of these bytes; where the threads are placed doesn't show in it
-abbrev pub run_report : PlainKernel → PlainRunning → List ℕ → Report
-run_report k running bytes =
-    with_budget (budget_for k running.budget) (λ units. unless_misplaced (misplacing k running.placing) (trace_report MAX_ROWS k units bytes))
+-- what is told of a kernel that runs over a trace of these bytes; where the threads are placed doesn't show in it
+abbrev pub run_report : Telling → PlainKernel → PlainRunning → List ℕ → Report
+run_report tells k running bytes =
+    with_budget (budget_for k running.budget)
+    (λ units. unless_misplaced (misplacing k running.placing) (trace_report MAX_ROWS (run_format tells k) k units bytes))
 
 -- the same of a kernel that is rewritten
 abbrev pub explain_report : PlainKernel → Budget → List ℕ → Report
-explain_report k b bytes = with_budget (budget_for k b) (λ units. trace_report MAX_ROWS k units bytes)
+explain_report k b bytes = with_budget (budget_for k b) (λ units. trace_report MAX_ROWS (run_format telling.Report k) k units bytes)
 
 -- r lists the threads of a kernel with their cores
 pub data ThreadsReport (k : PlainKernel) (placing : PlainPlacing) (r : Report) : Type 0 where
@@ -71,7 +75,8 @@ pub data ThreadsReport (k : PlainKernel) (placing : PlainPlacing) (r : Report) :
 -- r is the report of a command on a text that is accepted, with these counts and this kernel, where the trace has these bytes.
 -- Of `code` it is the listing of a valid code that stands for the kernel; which one is left open
 abbrev pub AcceptedReport : PlainCommand → Option (List ℕ) → Counts → PlainKernel → Report → Type 0
-AcceptedReport (Run running) trace counts k r = (bytes : List ℕ) × (trace ≡ Some bytes) × (r ≡ run_report k running bytes)
+AcceptedReport (Run running) trace counts k r = (bytes : List ℕ) × (trace ≡ Some bytes) × (r ≡ run_report telling.Report k running bytes)
+AcceptedReport (Wave running) trace counts k r = (bytes : List ℕ) × (trace ≡ Some bytes) × (r ≡ run_report telling.Wave k running bytes)
 AcceptedReport Check trace counts k r = r ≡ counted counts
 AcceptedReport (Threads placing) trace counts k r = ThreadsReport k placing r
 AcceptedReport (Explain b order) trace counts k r = (bytes : List ℕ) × (trace ≡ Some bytes) × (r ≡ explain_report k b bytes)
@@ -103,6 +108,7 @@ pub data IsReport (words : List (List ℕ)) (content : List ℕ → Option (List
 -- the trace is told, where the command reads it
 abbrev pub TellsTrace : PlainCommand → Option (List ℕ) → Type 0
 TellsTrace (Run running) trace = IsTold trace
+TellsTrace (Wave running) trace = IsTold trace
 TellsTrace Check trace = Unit {0}
 TellsTrace (Threads placing) trace = Unit {0}
 TellsTrace Code trace = Unit {0}
@@ -131,6 +137,7 @@ pub record IsRunnable (running : PlainRunning) : Type 0 where
 
 abbrev pub IsInRange : PlainCommand → Type 0
 IsInRange (Run running) = IsRunnable running
+IsInRange (Wave running) = IsRunnable running
 IsInRange Check = Unit {0}
 IsInRange (Threads placing) = IsPlaceable placing
 IsInRange Code = Unit {0}

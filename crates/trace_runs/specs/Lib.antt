@@ -1,5 +1,6 @@
 pub mod Calls
 pub mod Ends
+pub mod Formats
 pub mod Hosting
 pub mod KernelNames
 pub mod Led

@@ -3,6 +3,7 @@
 #![tactic(auto)]
 
 mod beside;
+mod format;
 mod generated;
 mod hosted;
 mod hosting;
@@ -22,6 +23,7 @@ mod trace_run;
 mod waiting;
 mod workload_run;
 
+pub use format::{Format, Telling};
 pub use hosted::Alone;
 pub use hosting::{host_trace, host_workload};
 pub use rewriting::rewrite_trace;
