@@ -30,7 +30,7 @@ use Rattle.trace_runs.specs.declared.status.Status.{Status}
 use Rattle.trace_runs.specs.declared.status.Status.TheVariants as status
 use Rattle.forec_engine.specs.Budgets.{budget_for, with_budget, Covers}
 use Rattle.forec_engine.specs.Folds.{kernel_for}
-use Rattle.forec_engine.specs.Commands.{ThreadsReport, Of_misplaced, Of_placed, AcceptedReport, CommandReport, IsReport, Of_usage, Of_text, Of_workload, TextReport, Of_refusal, Of_accepted, run_report}
+use Rattle.forec_engine.specs.Commands.{ThreadsReport, Of_misplaced, Of_placed, AcceptedReport, CommandReport, IsReport, Of_usage, Of_text, Of_workload, Of_dump, TextReport, Of_refusal, Of_accepted, run_report}
 use Rattle.forec_engine.specs.Ends.{running_in}
 use Rattle.forec_engine.specs.Laws.{CoverTheirKernel, CoveredNeverOver, BoundCovers, AskForBound, Of_run, Of_gen, BoundNeverOver}
 use Rattle.forec_engine.specs.Placing.{misplacing, unless_misplaced, workload_report}
@@ -141,6 +141,7 @@ module _ (never : KernelsNeverOver) where
   covered_never_over words content trace r covers (Of_text name command fold text n t x) =
       text_never text (CommandReport command fold trace) r
       (λ c k j y. accepted_never command trace c (kernel_for fold k) r (λ running is. suffices text c k fold running.budget j (covers.text name command fold text running c k n t is j)) y) x
+  covered_never_over words content trace r covers (Of_dump name n x) = is_never r _ x.2 (dump_never x.0)
   covered_never_over words content trace r covers (Of_workload threads running n x) =
       text_never (text_of threads) (λ c k q. q ≡ workload_report threads running k) r
       (λ c k j y. is_never r _ y (workload_never threads running k (suffices (text_of threads) c k false running.budget j (covers.workload threads running c k n j)))) x

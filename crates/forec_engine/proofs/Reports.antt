@@ -2,9 +2,10 @@
 use Rattle.std.proofs.Common.{◌≡◌, ◌⊎◌, inl, inr, ℕ, Bool, List, Option, Some, None, refl, sym, ap, subst, ◌∙◌}
 use Rattle.forec_kernel.specs.Shapes.{PlainKernel}
 use Rattle.core_alloc.specs.declared.fault.PlaceFault.{PlaceFault}
-use Rattle.command_words.specs.Requests.{PlainPlacing, PlainRunning, PlainCommand, Run, Wave, Check, Threads, Code, Explain, PlainRequest, OnText, OnWorkload, request_of}
+use Rattle.command_words.specs.Requests.{PlainPlacing, PlainRunning, PlainCommand, Run, Wave, Check, Threads, Code, Explain, PlainRequest, OnText, OnWorkload, OnDump, request_of}
 use Rattle.thread_places.specs.Laws.{OnePlacement, SomePlacement}
-use Rattle.forec_engine.specs.Commands.{IsListing, ThreadsReport, Of_misplaced, Of_placed, AcceptedReport, CommandReport, Of_refusal, Of_accepted, TextReport, WorkloadReport, Of_usage, Of_text, Of_workload, IsReport, TellsTrace, Tells, usage, refused, counted, threads_listed, run_report, explain_report}
+use Rattle.forec_engine.specs.Commands.{IsListing, ThreadsReport, Of_misplaced, Of_placed, AcceptedReport, CommandReport, Of_refusal, Of_accepted, TextReport, WorkloadReport, DumpReport, Of_usage, Of_text, Of_workload, Of_dump, IsReport, TellsTrace, Tells, usage, refused, counted, threads_listed, run_report, explain_report}
+use Rattle.dump_report.specs.Told.{dump_report}
 use Rattle.text_verdict.specs.Judging.{Verdict, Refuses, Accepts, Judged}
 use Rattle.text_verdict.specs.Laws.{OneVerdict, SomeVerdict}
 use Rattle.forec_engine.specs.Laws.{AskForCode, OneReport, ListOneKernel, AlikeReports, SomeReport}
@@ -110,6 +111,15 @@ running_same n m c d e = cc
 never_none : (x : PlainRequest) → None ≡ Some x → ⊥
 never_none x e = cc
 
+dump_same : (n m : List ℕ) → Some (OnDump n) ≡ Some (OnDump m) → n ≡ m
+dump_same n m e = cc
+
+pub text_no_dump : (n : List ℕ) (c : PlainCommand) (a : Bool) (m : List ℕ) → Some (OnText n c a) ≡ Some (OnDump m) → ⊥
+text_no_dump n c a m e = cc
+
+pub workload_no_dump : (n : ℕ) (c : PlainRunning) (m : List ℕ) → Some (OnWorkload n c) ≡ Some (OnDump m) → ⊥
+workload_no_dump n c m e = cc
+
 pub never_text : (n : List ℕ) (c : PlainCommand) (a : Bool) (m : ℕ) (d : PlainRunning) → Some (OnText n c a) ≡ Some (OnWorkload m d) → ⊥
 never_text n c a m d e = cc
 
@@ -133,16 +143,27 @@ module _ (one : OneVerdict) (words : List (List ℕ)) (content : List ℕ → Op
       two_of_text one (λ c k x. x ≡ workload_report others also k) P same (λ c d k l a b v x y. same a b (workload_both others also c d k l a b v x y)) _ r q
       (subst (λ n. WorkloadReport n also r) (threads_same threads others running also e) (subst (λ x. WorkloadReport threads x r) (running_same threads others running also e) t)) u
 
+  two_dumps : (r q : Report) (name other : List ℕ) → Some (OnDump name) ≡ Some (OnDump other) → DumpReport content name r → DumpReport content other q → P r q
+  two_dumps r q name other e x y =
+      same r q (x.2 ∙ ap dump_report (some_same x.0 y.0 (sym x.1 ∙ ap content (dump_same name other e) ∙ y.1)) ∙ sym y.2)
+
   two_reports : (r q : Report) → IsReport words content trace r → IsReport words content trace q → P r q
   two_reports r q (Of_usage n e) (Of_usage m f) = same r q (e ∙ sym f)
   two_reports r q (Of_usage n e) (Of_text name command fold text m c t) = absurd (never_none _ (sym n ∙ m))
   two_reports r q (Of_usage n e) (Of_workload threads running m t) = absurd (never_none _ (sym n ∙ m))
+  two_reports r q (Of_usage n e) (Of_dump name m t) = absurd (never_none _ (sym n ∙ m))
   two_reports r q (Of_text name command fold text n c t) (Of_usage m e) = absurd (never_none _ (sym m ∙ n))
   two_reports r q (Of_text name command fold text n c t) (Of_text other also folds more m d u) = two_of_names r q name other command also fold folds text more n m c d t u
   two_reports r q (Of_text name command fold text n c t) (Of_workload threads running m u) = absurd (never_text name command fold threads running (sym n ∙ m))
+  two_reports r q (Of_text name command fold text n c t) (Of_dump dump m u) = absurd (text_no_dump name command fold dump (sym n ∙ m))
   two_reports r q (Of_workload threads running n t) (Of_usage m e) = absurd (never_none _ (sym m ∙ n))
   two_reports r q (Of_workload threads running n t) (Of_text name command fold text m c u) = absurd (never_text name command fold threads running (sym m ∙ n))
   two_reports r q (Of_workload threads running n t) (Of_workload others also m u) = two_of_workloads r q threads others running also (sym n ∙ m) t u
+  two_reports r q (Of_workload threads running n t) (Of_dump dump m u) = absurd (workload_no_dump threads running dump (sym n ∙ m))
+  two_reports r q (Of_dump dump n t) (Of_usage m e) = absurd (never_none _ (sym m ∙ n))
+  two_reports r q (Of_dump dump n t) (Of_text name command fold text m c u) = absurd (text_no_dump name command fold dump (sym m ∙ n))
+  two_reports r q (Of_dump dump n t) (Of_workload threads running m u) = absurd (workload_no_dump threads running dump (sym m ∙ n))
+  two_reports r q (Of_dump dump n t) (Of_dump other m u) = two_dumps r q dump other (sym n ∙ m) t u
 
 pub one_report : OneVerdict → OnePlacement → OneReport
 one_report one places words content trace r q not x y =
@@ -181,12 +202,14 @@ some_of_words : SomeVerdict → SomePlacement → (words : List (List ℕ)) (con
     Tells words content trace → ((r : Report) → IsReport words content trace r → ⊥) → ⊥
 some_of_words verdict some words content trace None e not told never = never usage (Of_usage e refl)
 some_of_words verdict some words content trace (Some (OnText name command fold)) e not told never =
-    let text = told name command fold e in
+    let text = told.text name command fold e in
     some_of_text verdict text.0 (CommandReport command fold trace)
     (λ c k. some_of_accepted some command trace c (kernel_for fold k) (λ z. not (name, fold, subst (λ m. request_of words ≡ Some (OnText name m fold)) z e)) text.2)
     (λ r t. never r (Of_text name command fold text.0 e text.1 t))
 some_of_words verdict some words content trace (Some (OnWorkload threads running)) e not told never =
     some_of_text verdict _ (λ c k x. x ≡ workload_report threads running k) (λ c k none. none (workload_report threads running k) refl) (λ r t. never r (Of_workload threads running e t))
+
+some_of_words verdict some words content trace (Some (OnDump name)) e not told never = let text = told.dump name e in never (dump_report text.0) (Of_dump name e (text.0, text.1, refl))
 
 pub some_report : SomeVerdict → SomePlacement → SomeReport
 some_report verdict some words content trace not told never = some_of_words verdict some words content trace (request_of words) refl not told never

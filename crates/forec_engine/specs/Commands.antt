@@ -8,10 +8,11 @@ use Rattle.thread_code.specs.Plain.{PlainCode}
 use Rattle.thread_code.specs.Valid.{IsValidCode}
 use Rattle.core_alloc.specs.Places.{Places}
 use Rattle.core_alloc.specs.declared.fault.PlaceFault.{PlaceFault}
-use Rattle.command_words.specs.Requests.{PlainPlacing, PlainRunning, PlainCommand, Run, Wave, Check, Threads, Code, Explain, PlainRequest, OnText, OnWorkload, request_of}
+use Rattle.command_words.specs.Requests.{PlainPlacing, PlainRunning, PlainCommand, Run, Wave, Check, Threads, Code, Explain, PlainRequest, OnText, OnWorkload, OnDump, request_of}
 use Rattle.thread_places.specs.Lines.{thread_lines}
 use Rattle.thread_places.specs.Placed.{IsPlacement}
 use Rattle.workload.specs.Text.{text_of}
+use Rattle.dump_report.specs.Told.{dump_report}
 use Rattle.text_verdict.specs.Counting.{counts_line}
 use Rattle.text_verdict.specs.Judging.{refusal_line, Accepts, Refuses, Judged}
 use Rattle.command_words.specs.declared.request.Budget.{Budget}
@@ -95,6 +96,10 @@ pub data TextReport (text : List ℕ) (Says : Counts → PlainKernel → Report 
 abbrev pub WorkloadReport : ℕ → PlainRunning → Report → Type 0
 WorkloadReport threads running r = TextReport (text_of threads) (λ counts k q. q ≡ workload_report threads running k) r
 
+-- r is what the dump of a name tells
+abbrev pub DumpReport : (List ℕ → Option (List ℕ)) → List ℕ → Report → Type 0
+DumpReport content name r = (text : List ℕ) × (content name ≡ Some text) × (r ≡ dump_report text)
+
 -- r is the report of these words, where the texts have this content, and the trace these bytes
 pub data IsReport (words : List (List ℕ)) (content : List ℕ → Option (List ℕ)) (trace : Option (List ℕ)) (r : Report) : Type 0 where
   Of_usage : request_of words ≡ None → r ≡ usage → IsReport words content trace r
@@ -102,6 +107,7 @@ pub data IsReport (words : List (List ℕ)) (content : List ℕ → Option (List
       → TextReport text (CommandReport command fold trace) r → IsReport words content trace r
   Of_workload : (threads : ℕ) (running : PlainRunning) → request_of words ≡ Some (OnWorkload threads running) → WorkloadReport threads running r
       → IsReport words content trace r
+  Of_dump : (name : List ℕ) → request_of words ≡ Some (OnDump name) → DumpReport content name r → IsReport words content trace r
 
 -- ---- what is told
 
@@ -119,9 +125,10 @@ abbrev pub TellsNamed : (List ℕ → Option (List ℕ)) → List ℕ → PlainC
 TellsNamed content name command trace = (text : List ℕ) × (content name ≡ Some text) × TellsTrace command trace
 
 -- the text that the words name is told, and the trace where it is read
-abbrev pub Tells : List (List ℕ) → (List ℕ → Option (List ℕ)) → Option (List ℕ) → Type 0
-Tells words content trace =
-    (name : List ℕ) (command : PlainCommand) (fold : Bool) → request_of words ≡ Some (OnText name command fold) → TellsNamed content name command trace
+pub record Tells (words : List (List ℕ)) (content : List ℕ → Option (List ℕ)) (trace : Option (List ℕ)) : Type 0 where
+  pub text : (name : List ℕ) (command : PlainCommand) (fold : Bool) → request_of words ≡ Some (OnText name command fold)
+      → TellsNamed content name command trace
+  pub dump : (name : List ℕ) → request_of words ≡ Some (OnDump name) → (text : List ℕ) × (content name ≡ Some text)
 
 -- ---- ranges
 
@@ -146,3 +153,4 @@ IsInRange (Explain b order) = IsSmallBudget b
 abbrev pub HasRanges : PlainRequest → Type 0
 HasRanges (OnText name command fold) = IsInRange command
 HasRanges (OnWorkload threads running) = (threads ≤ 255) × IsRunnable running
+HasRanges (OnDump name) = Unit {0}

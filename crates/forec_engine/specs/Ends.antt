@@ -2,7 +2,7 @@
 use Rattle.std.specs.Prelude.{◌≡◌, ◌⊎◌, ℕ, Bool, List, Option, None, Some, IfSome}
 use Rattle.forec_base.specs.declared.limits.TheConstants.{MAX_ROWS}
 use Rattle.forec_kernel.specs.Shapes.{PlainKernel}
-use Rattle.command_words.specs.Requests.{PlainPlacing, PlainRunning, PlainCommand, Run, Wave, Check, Threads, Code, Explain, OnText, OnWorkload, request_of}
+use Rattle.command_words.specs.Requests.{PlainPlacing, PlainRunning, PlainCommand, Run, Wave, Check, Threads, Code, Explain, PlainRequest, OnText, OnWorkload, OnDump, request_of}
 use Rattle.workload.specs.Text.{text_of}
 use Rattle.text_verdict.specs.Judging.{Accepts, Judged}
 use Rattle.command_words.specs.declared.request.Budget.{Budget}
@@ -107,9 +107,21 @@ pub data IsMisuse (words : List (List ℕ)) (content : List ℕ → Option (List
 
 -- ---- texts
 
+-- the name of the text that is asked for
+abbrev pub name_in : PlainRequest → Option (List ℕ)
+name_in (OnText name command fold) = Some name
+name_in (OnWorkload threads running) = None
+name_in (OnDump name) = Some name
+
+-- the words name this text
+pub record NameThis (words : List (List ℕ)) (name : List ℕ) : Type 0 where
+  pub request : PlainRequest
+  pub asks : request_of words ≡ Some request
+  pub names : name_in request ≡ Some name
+
 -- the words name a text
 abbrev pub NameText : List (List ℕ) → Type 0
-NameText words = (name : List ℕ) × (command : PlainCommand) × (fold : Bool) × (request_of words ≡ Some (OnText name command fold))
+NameText words = (name : List ℕ) × NameThis words name
 
 -- ---- rewriting
 
