@@ -56,7 +56,7 @@ turns_stop k budget s row rows h =
     ap (λ (b : Bool). turn ∷ (if b then turns_from k budget (tick k budget s row).state rows else [])) h
 
 -- a tick changes nothing in how the last line is written
-last_alike : (how : Format) (values : List ℤ) (words : List ℕ) → last_written how words ≡ last_written (format_after how values) words
+pub last_alike : (how : Format) (values : List ℤ) (words : List ℕ) → last_written how words ≡ last_written (format_after how values) words
 last_alike (format.Report names) values words = refl
 last_alike (format.Wave names olds) values words = refl
 

@@ -25,7 +25,7 @@ use Rattle.trace_runs.specs.declared.status.Status.TheVariants as status
 use Rattle.trace_runs.proofs.Asking.{asked_all, asked_none}
 use Rattle.trace_runs.proofs.Heading.{Started, no_header_there, head_fault, head_ran, head_failed, head_report, head_turns, head_wanted}
 use Rattle.trace_runs.proofs.Running.{fell_since, front_sent, whole_given, whole_front}
-use Rattle.trace_runs.proofs.Telling.{unread, unwritten, parted, unbegun, last_said, front_whole}
+use Rattle.trace_runs.proofs.RunEnds.{unread, unwritten, parted, unbegun, last_said, front_whole}
 use Rattle.trace_runs.proofs.Told.{some_map}
 
 -- `mid` is the trace behind the header, and the sink before the last lines

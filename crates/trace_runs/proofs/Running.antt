@@ -148,7 +148,7 @@ ending_stops how outcome.Ended end h = refl
 ending_stops how (outcome.Trapped place trap) end h = refl
 ending_stops how outcome.Over end h = refl
 
-report_stops : (how : Format) (k : PlainKernel) (budget : ℕ) (s : State) (n m : ℕ) (row : Row) (rest : Trace) → goes_on (tick k budget s row).outcome ≡ false →
+pub report_stops : (how : Format) (k : PlainKernel) (budget : ℕ) (s : State) (n m : ℕ) (row : Row) (rest : Trace) → goes_on (tick k budget s row).outcome ≡ false →
     report_from how k budget s n (onto (Ok row) m rest) ≡ (let t = tick k budget s row in record { bytes = tick_lines how budget n t; status = status_after t.outcome })
 report_stops how k budget s n m row rest h =
     let t = tick k budget s row in

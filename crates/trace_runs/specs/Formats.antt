@@ -1,5 +1,5 @@
 -- How what a run tells is written: as a report, or as a value change dump.
-use Rattle.std.specs.Prelude.{◌≡◌, ◌+◌, ◌≤◌, ℕ, List, [], ◌++◌, length, map, ℤ, Some, codes, ⊤}
+use Rattle.std.specs.Prelude.{◌≡◌, ◌≤◌, ℕ, List, [], ◌++◌, length, map, ℤ, Some, codes}
 use Rattle.trace_rows.specs.Report.{tick_line, tick_room}
 use Rattle.wave_dump.specs.Wave.{head_text, tick_text}
 use Rattle.wave_dump.specs.Writing.{none_yet, tick_lines_room}
@@ -18,10 +18,19 @@ abbrev pub names_in : Format → List (List ℕ)
 names_in (format.Report names) = names
 names_in (format.Wave names olds) = names
 
+-- of how many outputs it keeps what they had before, or as many as there are
+abbrev pub kept_in : Format → ℕ
+kept_in (format.Report names) = length names
+kept_in (format.Wave names olds) = length olds
+
+-- a number of outputs that is limited
+abbrev pub limited_in : Format → ℕ
+limited_in (format.Report names) = 0
+limited_in (format.Wave names olds) = length names
+
 -- a dump has at most 64 outputs, each with what it had before
 abbrev pub IsFit : Format → Type 0
-IsFit (format.Report names) = ⊤
-IsFit (format.Wave names olds) = (length olds ≡ length names) × (length names ≤ 64)
+IsFit how = (kept_in how ≡ length (names_in how)) × (limited_in how ≤ 64)
 
 -- what stands before tick 1
 abbrev pub opening : Format → List ℕ

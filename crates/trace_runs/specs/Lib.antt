@@ -4,6 +4,7 @@ pub mod Formats
 pub mod Hosting
 pub mod KernelNames
 pub mod Led
+pub mod OneRun
 pub mod Orders
 pub mod Prints
 pub mod Progress

@@ -1,12 +1,12 @@
 //! Finished lines of the report that aren't with the sink yet.
-ghost use Rattle.std.specs.Prelude.{◌≡◌, ◌≢◌, ◌+◌, ◌-◌, ◌^◌, ◌≤◌, ◌++◌, ◌∷◌, [], ℤ, List, length, min, take, codes, decimal, vec_len, vec_capacity, IfOk, OnOk, OnErr, IsTrue};
+ghost use Rattle.std.specs.Prelude.{◌≡◌, ◌≢◌, ◌+◌, ◌-◌, ◌^◌, ◌≤◌, ◌++◌, ◌∷◌, [], ℤ, List, length, min, take, codes, decimal, vec_len, vec_capacity, true, IfOk, OnOk, OnErr, IsTrue};
 ghost use Rattle.std.specs.Io.KnownBytes.{Appends};
 ghost use Rattle.trace_rows.specs.Calls.{Faults};
 ghost use Rattle.tick_jobs.specs.Outcomes.{HasOutputs};
 ghost use Rattle.trace_runs.specs.Calls.{AppendsFront};
-ghost use Rattle.forec_kernel.specs.declared.shape.Outcome.TheVariants as outcome;
+ghost use Rattle.forec_kernel.specs.Ticks.{goes_on};
 ghost use Rattle.trace_rows.specs.Report.{end_words, trap_word, trap_words, over_words, rows_words, fault_word, row_words};
-ghost use Rattle.trace_runs.specs.Formats.{IsFit, format_after, last_written, names_in, opening, room_in, tick_written};
+ghost use Rattle.trace_runs.specs.Formats.{IsFit, after_words, before_words, format_after, last_written, names_in, opening, room_in, tick_written};
 ghost use Rattle.trace_runs.specs.Report.{outcome_lines};
 ghost use Rattle.trace_runs.specs.Workload.{workload_line};
 
@@ -118,22 +118,48 @@ impl Waiting {
         append(&mut self.bytes, &self.line[..length]);
     }
 
+    /// Adds what stands before the words of the last line.
+    fn begin_last(&mut self)
+        requires { HasRoom self.old 9 }
+        ensures last { Gains self.old self.new (before_words self.old.format) }
+        ensures short { length (before_words self.old.format) ≤ 9 }
+    {
+        let words = self.format.before_words();
+        self.put(words);
+    }
+
+    /// Adds what stands behind the words of the last line.
+    fn end_last(&mut self)
+        requires { HasRoom self.old 6 }
+        ensures { Gains self.old self.new (after_words self.old.format) }
+    {
+        let words = self.format.after_words();
+        self.put(words);
+    }
+
+    fn put_end_words(&mut self, tick: u64)
+        requires { HasRoom self.old 24 }
+        ensures words { Gains self.old self.new (end_words tick) }
+        ensures short { length (end_words tick) ≤ 24 }
+    {
+        self.put(b"end ");
+        self.put_number(tick);
+    }
+
     fn put_end(&mut self, tick: u64)
         requires { HasRoom self.old 96 }
         ensures { Gains self.old self.new (last_written self.old.format (end_words tick)) }
     {
-        self.put(self.format.before_words());
-        self.put(b"end ");
-        self.put_number(tick);
-        self.put(self.format.after_words());
+        self.begin_last();
+        self.put_end_words(tick);
+        self.end_last();
     }
 
-    /// Adds the last line, of a tick that trapped here.
-    pub fn put_trap(&mut self, tick: u64, place: Place, trap: Trap)
-        requires { HasRoom self.old 96 }
-        ensures { Gains self.old self.new (last_written self.old.format (trap_words tick place trap)) }
+    fn put_trap_words(&mut self, tick: u64, place: Place, trap: Trap)
+        requires { HasRoom self.old 64 }
+        ensures words { Gains self.old self.new (trap_words tick place trap) }
+        ensures short { length (trap_words tick place trap) ≤ 64 }
     {
-        self.put(self.format.before_words());
         self.put(b"trap ");
         self.put_number(tick);
         self.put(b" ");
@@ -141,7 +167,27 @@ impl Waiting {
         self.put(b":");
         self.put(Buffer::new().format(place.column).as_bytes());
         self.put(trap_text(trap));
-        self.put(self.format.after_words());
+    }
+
+    /// Adds the last line, of a tick that trapped here.
+    pub fn put_trap(&mut self, tick: u64, place: Place, trap: Trap)
+        requires { HasRoom self.old 96 }
+        ensures { Gains self.old self.new (last_written self.old.format (trap_words tick place trap)) }
+    {
+        self.begin_last();
+        self.put_trap_words(tick, place, trap);
+        self.end_last();
+    }
+
+    fn put_over_words(&mut self, tick: u64, budget: u64)
+        requires { HasRoom self.old 64 }
+        ensures words { Gains self.old self.new (over_words tick budget) }
+        ensures short { length (over_words tick budget) ≤ 64 }
+    {
+        self.put(b"over ");
+        self.put_number(tick);
+        self.put(b" budget ");
+        self.put_number(budget);
     }
 
     /// Adds the last line, of a tick whose units passed the budget.
@@ -149,12 +195,18 @@ impl Waiting {
         requires { HasRoom self.old 96 }
         ensures { Gains self.old self.new (last_written self.old.format (over_words tick budget)) }
     {
-        self.put(self.format.before_words());
-        self.put(b"over ");
-        self.put_number(tick);
-        self.put(b" budget ");
-        self.put_number(budget);
-        self.put(self.format.after_words());
+        self.begin_last();
+        self.put_over_words(tick, budget);
+        self.end_last();
+    }
+
+    fn put_rows_words(&mut self, rows: u64)
+        requires { HasRoom self.old 25 }
+        ensures words { Gains self.old self.new (rows_words rows) }
+        ensures short { length (rows_words rows) ≤ 25 }
+    {
+        self.put(b"rows ");
+        self.put_number(rows);
     }
 
     /// Adds the last line, of a trace that ended after so many rows.
@@ -162,10 +214,19 @@ impl Waiting {
         requires { HasRoom self.old 96 }
         ensures { Gains self.old self.new (last_written self.old.format (rows_words rows)) }
     {
-        self.put(self.format.before_words());
-        self.put(b"rows ");
-        self.put_number(rows);
-        self.put(self.format.after_words());
+        self.begin_last();
+        self.put_rows_words(rows);
+        self.end_last();
+    }
+
+    fn put_row_words(&mut self, row: u64, fault: RowFault)
+        requires { HasRoom self.old 64 }
+        ensures words { Gains self.old self.new (row_words row fault) }
+        ensures short { length (row_words row fault) ≤ 64 }
+    {
+        self.put(b"row ");
+        self.put_number(row);
+        self.put(fault_text(fault));
     }
 
     /// Adds the last line, of a line of the trace that is no row.
@@ -173,11 +234,9 @@ impl Waiting {
         requires { HasRoom self.old 96 }
         ensures { Gains self.old self.new (last_written self.old.format (row_words row fault)) }
     {
-        self.put(self.format.before_words());
-        self.put(b"row ");
-        self.put_number(row);
-        self.put(fault_text(fault));
-        self.put(self.format.after_words());
+        self.begin_last();
+        self.put_row_words(row, fault);
+        self.end_last();
     }
 
     /// Adds the line of a workload of so many threads, whose outputs have this sum.
@@ -199,7 +258,7 @@ impl Waiting {
         requires fits { HasTickRoom self.old }
         ensures lines { (outputs : List ℤ) → (HasOutputs outcome → outputs ≡ values.now)
             → Adds self.old self.new (outcome_lines self.old.format budget tick outcome outputs) }
-        ensures format { outcome ≡ outcome.Paused → self.new.format ≡ format_after self.old.format values.now }
+        ensures format { goes_on outcome ≡ true → self.new.format ≡ format_after self.old.format values.now }
     {
         match outcome {
             Outcome::Paused => self.put_tick(tick, values),

@@ -12,7 +12,7 @@ use Rattle.trace_runs.specs.Ticking.{Starts}
 use Rattle.forec_kernel.specs.Composed.{state_after}
 use Rattle.forec_kernel.specs.Ticks.{Fresh}
 use Rattle.kernel_meaning.specs.States.{plain_state}
-use Rattle.trace_runs.proofs.Telling.{rows_unrun, rows_as}
+use Rattle.trace_runs.proofs.RunEnds.{rows_unrun, rows_as}
 use Rattle.trace_runs.proofs.rewriting.rewrite_trace.Goals as goal
 
 pub returns-in_default : goal.returns-in_default

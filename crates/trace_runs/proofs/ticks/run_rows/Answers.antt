@@ -227,7 +227,7 @@ ticks-preserved g c =
           let F' = g.T.Ticker.follows c.tick.new.self k in
           let ran = subst (λ (v : Row). F' (r.turns ++ turn_of run v ∷ [])) are (c.in-Ok.ensures.tick.follows k r.turns r.follows) in
           let has = subst HasOutputs (sym c.in-Paused.is) tt in
-          let later = c.put_outcome.ensures.format c.in-Paused.is ∙ ap (format_after how) (told has) in
+          let later = c.put_outcome.ensures.format (ap goes_on c.in-Paused.is) ∙ ap (format_after how) (told has) in
           subst (λ (f : Format). Reached run F' new l0 l' h0 h c.put_outcome.new.self.bytes.items f (row + 1)) (sym later)
           (reached_more run F F' now new l0 l l' h0 h unsent c.put_outcome.new.self.bytes.items how row values r gave (ap goes_on (sym went ∙ c.in-Paused.is)) ran put.bytes_are);
       asked = λ k s.
@@ -249,7 +249,7 @@ ticks-preserved g c =
       stands = stands_more c.args.rows.now c.ticks.row now new l l' values i.stands gave;
       low = omega arith;
       high = omega (arith, within);
-      names = ap names_in (c.put_outcome.ensures.format c.in-Paused.is) ∙ names_after c.send_due.new.waiting.format c.deref-in-ticks.result.now ∙ ap names_in c.send_due.ensures.format ∙ i.names;
+      names = ap names_in (c.put_outcome.ensures.format (ap goes_on c.in-Paused.is)) ∙ names_after c.send_due.new.waiting.format c.deref-in-ticks.result.now ∙ ap names_in c.send_due.ensures.format ∙ i.names;
       ended = e.ended;
       read = omega (arith, i.read, e.later);
       written = omega (arith, i.written, c.in_default.ensures.cause.later);

@@ -1,5 +1,5 @@
 use Rattle.std.proofs.Common.{refl, sym, ◌∙◌}
-use Rattle.trace_runs.proofs.Telling.{rows_as}
+use Rattle.trace_runs.proofs.RunEnds.{rows_as}
 use Rattle.trace_runs.proofs.trace_run.TraceRunLead.lead.Goals as goal
 
 pub returns : goal.returns
