@@ -173,7 +173,8 @@ fn request<'a>(values: &Values<'a>) -> Option<Request<'a>>
 /// `Usage` exactly where they ask for nothing: where `clap` refuses them, the command is none, an option isn't the
 /// command's, or a number is out of its range. Or out of memory.
 pub fn read_words<'a>(alloc: Global, words: &'a [String]) -> Result<Request<'a>, WordsFault>
-    ensures request { IfOk result (λ r. asked.request_of (map string_bytes words.entry.now) ≡ Some (asked.plain_request r)) }
+    ensures request { IfOk result (λ r. asked.request_of (map string_bytes words.entry.now)
+        ≡ Some (asked.plain_request r)) }
     ensures usage { result ≡ Err fault.Usage → asked.request_of (map string_bytes words.entry.now) ≡ None }
 {
     let values = values(alloc, words)?;

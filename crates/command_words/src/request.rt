@@ -65,5 +65,7 @@ pub enum Request<'a> {
         running: Running<'a>,
     },
     /// The report is written that the value change dump of this name tells.
-    Dump { dump: &'a str },
+    Dump {
+        dump: &'a str,
+    },
 }
