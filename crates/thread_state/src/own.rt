@@ -207,9 +207,9 @@ impl Own {
         requires room { length copies.old ≡ length (used_by self.now.pars branch) }
         ensures { copies.new ≡ handed_by self.now (used_by self.now.pars branch) }
     {
-        let uses = self.pars.uses(branch);
-        for i in 0..uses.len() {
-            copies[i] = VarCopy {
+        let uses = &self.pars.uses(branch)[..copies.len()];
+        for (i, copy) in copies.iter_mut().enumerate() {
+            *copy = VarCopy {
                 value: self.copy(uses[i]),
                 modified: false,
             };
