@@ -34,6 +34,7 @@ use Rattle.forec_engine.specs.Commands.{ThreadsReport, Of_misplaced, Of_placed, 
 use Rattle.forec_engine.specs.Ends.{running_in}
 use Rattle.forec_engine.specs.Laws.{CoverTheirKernel, CoveredNeverOver, BoundCovers, AskForBound, Of_run, Of_gen, BoundNeverOver}
 use Rattle.forec_engine.specs.Placing.{misplacing, unless_misplaced, workload_report}
+use Rattle.forec_engine.proofs.DumpLemmas.{dump_never}
 use Rattle.forec_engine.proofs.Reports.{some_same, name_same, command_same, threads_same, running_same, never_text}
 
 -- ---- ticks

@@ -4,8 +4,8 @@ use Rattle.forec_kernel.specs.Shapes.{PlainKernel}
 use Rattle.core_alloc.specs.declared.fault.PlaceFault.{PlaceFault}
 use Rattle.command_words.specs.Requests.{PlainPlacing, PlainRunning, PlainCommand, Run, Wave, Check, Threads, Code, Explain, PlainRequest, OnText, OnWorkload, OnDump, request_of}
 use Rattle.thread_places.specs.Laws.{OnePlacement, SomePlacement}
-use Rattle.forec_engine.specs.Commands.{IsListing, ThreadsReport, Of_misplaced, Of_placed, AcceptedReport, CommandReport, Of_refusal, Of_accepted, TextReport, WorkloadReport, DumpReport, Of_usage, Of_text, Of_workload, Of_dump, IsReport, TellsTrace, Tells, usage, refused, counted, threads_listed, run_report, explain_report}
-use Rattle.dump_report.specs.Told.{dump_report}
+use Rattle.forec_engine.specs.Commands.{IsListing, ThreadsReport, Of_misplaced, Of_placed, AcceptedReport, CommandReport, Of_refusal, Of_accepted, TextReport, WorkloadReport, Of_usage, Of_text, Of_workload, Of_dump, IsReport, TellsTrace, Tells, usage, refused, counted, threads_listed, run_report, explain_report}
+use Rattle.forec_engine.specs.Dumps.{DumpReport, dump_printed}
 use Rattle.text_verdict.specs.Judging.{Verdict, Refuses, Accepts, Judged}
 use Rattle.text_verdict.specs.Laws.{OneVerdict, SomeVerdict}
 use Rattle.forec_engine.specs.Laws.{AskForCode, OneReport, ListOneKernel, AlikeReports, SomeReport}
@@ -145,7 +145,7 @@ module _ (one : OneVerdict) (words : List (List ℕ)) (content : List ℕ → Op
 
   two_dumps : (r q : Report) (name other : List ℕ) → Some (OnDump name) ≡ Some (OnDump other) → DumpReport content name r → DumpReport content other q → P r q
   two_dumps r q name other e x y =
-      same r q (x.2 ∙ ap dump_report (some_same x.0 y.0 (sym x.1 ∙ ap content (dump_same name other e) ∙ y.1)) ∙ sym y.2)
+      same r q (x.2 ∙ ap dump_printed (some_same x.0 y.0 (sym x.1 ∙ ap content (dump_same name other e) ∙ y.1)) ∙ sym y.2)
 
   two_reports : (r q : Report) → IsReport words content trace r → IsReport words content trace q → P r q
   two_reports r q (Of_usage n e) (Of_usage m f) = same r q (e ∙ sym f)
@@ -208,8 +208,7 @@ some_of_words verdict some words content trace (Some (OnText name command fold))
     (λ r t. never r (Of_text name command fold text.0 e text.1 t))
 some_of_words verdict some words content trace (Some (OnWorkload threads running)) e not told never =
     some_of_text verdict _ (λ c k x. x ≡ workload_report threads running k) (λ c k none. none (workload_report threads running k) refl) (λ r t. never r (Of_workload threads running e t))
-
-some_of_words verdict some words content trace (Some (OnDump name)) e not told never = let text = told.dump name e in never (dump_report text.0) (Of_dump name e (text.0, text.1, refl))
+some_of_words verdict some words content trace (Some (OnDump name)) e not told never = let text = told.dump name e in never (dump_printed text.0) (Of_dump name e (text.0, text.1, refl))
 
 pub some_report : SomeVerdict → SomePlacement → SomeReport
 some_report verdict some words content trace not told never = some_of_words verdict some words content trace (request_of words) refl not told never

@@ -4,7 +4,8 @@ use Rattle.forec_base.specs.Outside.{Fell}
 use Rattle.command_words.specs.Requests.{PlainRunning, PlainCommand, OnText, OnWorkload, OnDump, request_of}
 use Rattle.workload.specs.Text.{text_of}
 use Rattle.forec_engine.specs.Answers.{AnswersNamed, AnswersWords}
-use Rattle.forec_engine.specs.Commands.{IsReport, Of_usage, Of_text, Of_workload, Of_dump, WorkloadReport, DumpReport, Tells, usage}
+use Rattle.forec_engine.specs.Commands.{IsReport, Of_usage, Of_text, Of_workload, Of_dump, WorkloadReport, Tells, usage}
+use Rattle.forec_engine.specs.Dumps.{DumpReport}
 use Rattle.forec_engine.specs.Ends.{WantedByWords, ReadForWords, AcceptedSo, IsMisuse, Asks_nothing, Misuses, Misuses_workload, NameText, AskForRewriting}
 use Rattle.forec_engine.specs.Placing.{IsRefusedRun}
 use Rattle.trace_runs.specs.Ends.{IsOwn}

@@ -12,7 +12,7 @@ use Rattle.command_words.specs.Requests.{PlainPlacing, PlainRunning, PlainComman
 use Rattle.thread_places.specs.Lines.{thread_lines}
 use Rattle.thread_places.specs.Placed.{IsPlacement}
 use Rattle.workload.specs.Text.{text_of}
-use Rattle.dump_report.specs.Told.{dump_report}
+use Rattle.forec_engine.specs.Dumps.{DumpReport}
 use Rattle.text_verdict.specs.Counting.{counts_line}
 use Rattle.text_verdict.specs.Judging.{refusal_line, Accepts, Refuses, Judged}
 use Rattle.command_words.specs.declared.request.Budget.{Budget}
@@ -95,10 +95,6 @@ pub data TextReport (text : List ℕ) (Says : Counts → PlainKernel → Report 
 -- r is the report of the workload of so many threads, of which the text is judged like any other
 abbrev pub WorkloadReport : ℕ → PlainRunning → Report → Type 0
 WorkloadReport threads running r = TextReport (text_of threads) (λ counts k q. q ≡ workload_report threads running k) r
-
--- r is what the dump of a name tells
-abbrev pub DumpReport : (List ℕ → Option (List ℕ)) → List ℕ → Report → Type 0
-DumpReport content name r = (text : List ℕ) × (content name ≡ Some text) × (r ≡ dump_report text)
 
 -- r is the report of these words, where the texts have this content, and the trace these bytes
 pub data IsReport (words : List (List ℕ)) (content : List ℕ → Option (List ℕ)) (trace : Option (List ℕ)) (r : Report) : Type 0 where
