@@ -12,17 +12,23 @@ use Rattle.command_words.specs.declared.request.Budget.TheVariants as budget
 use Rattle.tick_bounds.specs.Bound.{worst_case}
 use Rattle.tick_bounds.specs.Capped.{as_budget}
 use Rattle.text_verdict.specs.declared.counts.Counts.{Counts}
-use Rattle.trace_runs.specs.Led.{RunsRows}
+use Rattle.trace_runs.specs.Led.{IsTold, RunsRows}
 use Rattle.trace_runs.specs.Prints.{Prints, Says}
 use Rattle.trace_runs.specs.Report.{Report, trace_report}
 use Rattle.trace_runs.specs.Workload.{ticked_report}
 use Rattle.trace_runs.specs.declared.status.Status.{Status}
 use Rattle.trace_runs.specs.declared.status.Status.TheVariants as status
 use Rattle.trace_runs.proofs.Printing.{prints_as, prints_nothing}
+use Rattle.forec_base.specs.Outside.{Fell}
+use Rattle.trace_runs.specs.Ends.{Wanted, ReadFor}
+use Rattle.trace_runs.specs.KernelNames.{run_format}
+use Rattle.trace_runs.specs.declared.format.Telling.{Telling}
+use Rattle.trace_runs.specs.declared.format.Telling.TheVariants as telling
 use Rattle.forec_engine.specs.Answers.{Answers}
+use Rattle.forec_engine.specs.Ends.{run_with}
 use Rattle.command_words.specs.declared.request.Budget.{Budget}
 use Rattle.forec_engine.specs.Budgets.{budget_for, boundless, with_budget, IsBoundless}
-use Rattle.forec_engine.specs.Commands.{ThreadsReport, Of_misplaced, IsListing, counted}
+use Rattle.forec_engine.specs.Commands.{ThreadsReport, Of_misplaced, IsListing, counted, run_report}
 use Rattle.forec_engine.specs.Placing.{misplaced, misplacing, unless_misplaced, workload_report, IsMisplaced, IsRefusedRun}
 
 -- why a list is refused, where memory isn't wanting
@@ -88,53 +94,75 @@ module _ {K : Type 0} (held : K → Option (List ℕ)) (lost : K → ℕ) (is_do
     abbrev Did : PlainCommand → Type 0
     Did command = Answers left faults down held lost is_down command counts k old new out out' end
 
-    pub run_boundless : (running : PlainRunning) → IsBoundless k running.budget → new ≡ old → Says held lost is_down boundless Unit out out' end → Did (Run running)
-    run_boundless running b same p = record {
-      prints = prints_as held lost is_down _ _ _ _ _ out out' _ _ _ _ _ end (λ t. tt)
-          (λ t r is. (t.0, t.1, is ∙ unbounded (budget_for k running.budget) (λ units. unless_misplaced (misplacing k running.placing) (trace_report MAX_ROWS k units t.0)) b))
-          (λ _. inl (running, refl, b)) (λ n. absurd n) (λ n. absurd n) p;
-      trace = inl same;
+    -- what a run did, of which this is told
+    record DidRun (tells : Telling) (running : PlainRunning) : Type 0 where
+      prints : Prints held lost is_down (IsTold (left old)) (λ r. (bytes : List ℕ) × (left old ≡ Some bytes) × (r ≡ run_report tells k running bytes)) (IsRefusedRun k running)
+          (Fell (faults old) (faults new) (down new) × (misplacing k running.placing ≡ None)
+          × (units : ℕ) × (budget_for k running.budget ≡ Some units) × Wanted MAX_ROWS (run_format tells k) k units (left old) (left new) (held out) (held out')) ⊥ out out' end
+      trace : (new ≡ old) ⊎ ((misplacing k running.placing ≡ None)
+          × (units : ℕ) × (budget_for k running.budget ≡ Some units) × ReadFor left faults down MAX_ROWS (run_format tells k) k units old new)
+
+    told_with : (tells : Telling) (running : PlainRunning) → DidRun tells running → Did (run_with tells running)
+    told_with telling.Report running d = record {
+      prints = prints_as held lost is_down _ _ _ _ _ out out' _ _ _ _ _ end (λ t. t) (λ t r is. is)
+          (λ m. elim m [ inl b ↦ inl (running, refl, b) | inr m ↦ inr (running.placing, refl, m) ]) (λ u. (running, refl, u)) (λ n. absurd n) d.prints;
+      trace = elim d.trace [ inl same ↦ inl same | inr r ↦ inr (running, refl, r) ];
+    }
+    told_with telling.Wave running d = record {
+      prints = prints_as held lost is_down _ _ _ _ _ out out' _ _ _ _ _ end (λ t. t) (λ t r is. is)
+          (λ m. elim m [ inl b ↦ inl (running, refl, b) | inr m ↦ inr (running.placing, refl, m) ]) (λ u. (running, refl, u)) (λ n. absurd n) d.prints;
+      trace = elim d.trace [ inl same ↦ inl same | inr r ↦ inr (running, refl, r) ];
     }
 
-    pub run_placed : (running : PlainRunning) (units : ℕ) → budget_for k running.budget ≡ Some units → misplacing k running.placing ≡ None →
-        RunsRows left faults down held lost is_down MAX_ROWS k units ⊥ old new out out' end → Did (Run running)
-    run_placed running units b e p = record {
-      prints = prints_as held lost is_down _ _ _ _ _ out out' _ _ _ _ _ end (λ t. t)
-          (λ t r is. (
-            is.0,
-            is.1,
-            is.2 ∙ unmisplaced (misplacing k running.placing) (trace_report MAX_ROWS k units is.0) e
-                ∙ bounded (budget_for k running.budget) units (λ u. unless_misplaced (misplacing k running.placing) (trace_report MAX_ROWS k u is.0)) b,
-          ))
-          (λ n. absurd n) (λ u. (running, refl, (u.0, e, units, b, u.1))) (λ n. absurd n) p.prints;
-      trace = inr (running, refl, (e, units, b, p.trace));
-    }
+    -- a run, of which this is told
+    module _ (tells : Telling) (running : PlainRunning) where
+      abbrev Reported : ℕ → List ℕ → Report
+      Reported units bytes = unless_misplaced (misplacing k running.placing) (trace_report MAX_ROWS (run_format tells k) k units bytes)
 
-    pub run_misplaced : (running : PlainRunning) (units : ℕ) → budget_for k running.budget ≡ Some units → (why : PlaceFault) → new ≡ old → (why ≡ fault.OutOfMemory) ⊎ (misplacing k running.placing ≡ Some why) →
-        Misplaces held lost is_down why out out' end → Did (Run running)
-    run_misplaced running units b why same o p = record {
-      prints = prints_as held lost is_down _ _ _ _ _ out out' _ _ _ _ _ end (λ t. tt)
-          (λ t r is. (
-            t.0,
-            t.1,
-            is.1 ∙ is_misplaced (misplacing k running.placing) why (trace_report MAX_ROWS k units t.0) (refused_by (misplacing k running.placing) why is.0 o)
-                ∙ bounded (budget_for k running.budget) units (λ u. unless_misplaced (misplacing k running.placing) (trace_report MAX_ROWS k u t.0)) b,
-          ))
-          (λ not. inr (running.placing, refl, (why, refused_by (misplacing k running.placing) why not o))) (λ n. absurd n) (λ n. absurd n) p;
-      trace = inl same;
-    }
+      pub run_boundless : IsBoundless k running.budget → new ≡ old → Says held lost is_down boundless Unit out out' end → Did (run_with tells running)
+      run_boundless b same p = told_with tells running (record {
+        prints = prints_as held lost is_down _ _ _ _ _ out out' _ _ _ _ _ end (λ t. tt)
+            (λ t r is. (t.0, t.1, is ∙ unbounded (budget_for k running.budget) (λ units. Reported units t.0) b)) (λ _. inl b) (λ n. absurd n) (λ n. n) p;
+        trace = inl same;
+      })
+
+      module _ (units : ℕ) (b : budget_for k running.budget ≡ Some units) where
+        pub run_placed : misplacing k running.placing ≡ None → RunsRows left faults down held lost is_down MAX_ROWS (run_format tells k) k units ⊥ old new out out' end → Did (run_with tells running)
+        run_placed e p = told_with tells running (record {
+          prints = prints_as held lost is_down _ _ _ _ _ out out' _ _ _ _ _ end (λ t. t)
+              (λ t r is. (
+                is.0,
+                is.1,
+                is.2 ∙ unmisplaced (misplacing k running.placing) (trace_report MAX_ROWS (run_format tells k) k units is.0) e ∙ bounded (budget_for k running.budget) units (λ u. Reported u is.0) b,
+              ))
+              (λ n. absurd n) (λ u. (u.0, e, units, b, u.1)) (λ n. n) p.prints;
+          trace = inr (e, units, b, p.trace);
+        })
+
+        pub run_misplaced : (why : PlaceFault) → new ≡ old → (why ≡ fault.OutOfMemory) ⊎ (misplacing k running.placing ≡ Some why) → Misplaces held lost is_down why out out' end → Did (run_with tells running)
+        run_misplaced why same o p = told_with tells running (record {
+          prints = prints_as held lost is_down _ _ _ _ _ out out' _ _ _ _ _ end (λ t. tt)
+              (λ t r is. (
+                t.0,
+                t.1,
+                is.1 ∙ is_misplaced (misplacing k running.placing) why (trace_report MAX_ROWS (run_format tells k) k units t.0) (refused_by (misplacing k running.placing) why is.0 o)
+                    ∙ bounded (budget_for k running.budget) units (λ u. Reported u t.0) b,
+              ))
+              (λ not. inr (why, refused_by (misplacing k running.placing) why not o)) (λ n. absurd n) (λ n. n) p;
+          trace = inl same;
+        })
 
     pub explain_boundless : (b : Budget) (order : ℕ) → IsBoundless k b → new ≡ old → Says held lost is_down boundless Unit out out' end → Did (Explain b order)
     explain_boundless b order none same p = record {
       prints = prints_as held lost is_down _ _ _ _ _ out out' _ _ _ _ _ end (λ t. tt)
-          (λ t r is. (t.0, t.1, is ∙ unbounded (budget_for k b) (λ units. trace_report MAX_ROWS k units t.0) none)) (λ _. inl (_, refl, none)) (λ n. absurd n) (λ n. absurd n) p;
+          (λ t r is. (t.0, t.1, is ∙ unbounded (budget_for k b) (λ units. trace_report MAX_ROWS (run_format telling.Report k) k units t.0) none)) (λ _. inl (_, refl, none)) (λ n. absurd n) (λ n. absurd n) p;
       trace = inl same;
     }
 
-    pub explained : (b : Budget) (order units : ℕ) → budget_for k b ≡ Some units → RunsRows left faults down held lost is_down MAX_ROWS k units Unit old new out out' end → Did (Explain b order)
+    pub explained : (b : Budget) (order units : ℕ) → budget_for k b ≡ Some units → RunsRows left faults down held lost is_down MAX_ROWS (run_format telling.Report k) k units Unit old new out out' end → Did (Explain b order)
     explained b order units is_so p = record {
       prints = prints_as held lost is_down _ _ _ _ _ out out' _ _ _ _ _ end (λ t. t)
-          (λ t r is. (is.0, is.1, is.2 ∙ bounded (budget_for k b) units (λ u. trace_report MAX_ROWS k u is.0) is_so)) (λ n. absurd n) (λ u. (_, refl, (u.0, refl, units, is_so, u.1))) (λ _. (b, order, refl)) p.prints;
+          (λ t r is. (is.0, is.1, is.2 ∙ bounded (budget_for k b) units (λ u. trace_report MAX_ROWS (run_format telling.Report k) k u is.0) is_so)) (λ n. absurd n) (λ u. (_, refl, (u.0, refl, units, is_so, u.1))) (λ _. (b, order, refl)) p.prints;
       trace = inr (_, refl, (refl, units, is_so, p.trace));
     }
 

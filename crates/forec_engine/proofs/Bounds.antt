@@ -5,7 +5,7 @@ use Rattle.std.proofs.lemmas.Bool.{leb-true}
 use Rattle.forec_base.specs.declared.limits.TheConstants.{MAX_CORES, MAX_BUDGET}
 use Rattle.command_words.specs.CommandLine.{PlainValues, is_word, kinds_of, values_of}
 use Rattle.command_words.specs.Numbers.{between, number_of, number_in, number_or}
-use Rattle.command_words.specs.Requests.{PlainPlacing, PlainRunning, PlainCommand, Run, Check, Threads, Code, Explain, PlainRequest, OnText, OnWorkload, placing_of, budget_of, budget_or, order_of, running_of, explaining_of, placing_alone_of, has_no_options, is_bare, command_of, workload_of, text_request_of, request_named, request_by, unless_refused, request_of}
+use Rattle.command_words.specs.Requests.{PlainPlacing, PlainRunning, PlainCommand, Run, Wave, Check, Threads, Code, Explain, PlainRequest, OnText, OnWorkload, OnDump, placing_of, budget_of, budget_or, order_of, running_of, explaining_of, placing_alone_of, has_no_options, is_bare, waving_of, command_of, workload_of, dump_of, text_request_of, request_named, request_by, unless_refused, request_of}
 use Rattle.command_words.specs.declared.request.Budget.{Budget}
 use Rattle.command_words.specs.declared.request.Budget.TheVariants as budget
 use Rattle.command_words.specs.declared.request.TheConstants.{DEFAULT_BUDGET, MAX_WORKLOAD}
@@ -83,23 +83,28 @@ module _ (v : PlainValues) (c : PlainCommand) where
       let m = map_some Threads (placing_alone_of v) c e in
       subst IsInRange m.2 (placeable v m.0 (unless (is_some v.budget || is_some v.order) (placing_of v) m.0 m.1))
 
+  waves : waving_of v ≡ Some c → IsInRange c
+  waves e = let m = map_some Wave (running_of v) c (unless v.fold (option_map Wave (running_of v)) c e) in subst IsInRange m.2 (runnable v m.0 m.1)
+
   alone : (b : Bool) (d : PlainCommand) → IsInRange d → cond b (Some d) None ≡ Some c → IsInRange c
   alone true d h e = subst IsInRange (let g : Some d ≡ Some c = e in cc) h
   alone false d h e = absurd (let g : None ≡ Some c = e in cc)
 
-  by_words : (run threads explain check code : Bool) →
+  by_words : (run threads explain wave check code : Bool) →
       (if run then option_map Run (running_of v)
       else (if threads then option_map Threads (placing_alone_of v)
       else (if explain then explaining_of v
+      else (if wave then waving_of v
       else (if check then cond (is_bare v) (Some Check) None
       else (if code then cond (has_no_options v) (Some Code) None
-      else None))))) ≡ Some c → IsInRange c
-  by_words true threads explain check code e = runs e
-  by_words false true explain check code e = lists e
-  by_words false false true check code e = explains e
-  by_words false false false true code e = alone (is_bare v) Check tt e
-  by_words false false false false true e = alone (has_no_options v) Code tt e
-  by_words false false false false false e = absurd (let g : None ≡ Some c = e in cc)
+      else None)))))) ≡ Some c → IsInRange c
+  by_words true threads explain wave check code e = runs e
+  by_words false true explain wave check code e = lists e
+  by_words false false true wave check code e = explains e
+  by_words false false false true check code e = waves e
+  by_words false false false false true code e = alone (is_bare v) Check tt e
+  by_words false false false false false true e = alone (has_no_options v) Code tt e
+  by_words false false false false false false e = absurd (let g : None ≡ Some c = e in cc)
 
 module _ (v : PlainValues) (r : PlainRequest) where
   workload : (number : List ℕ) → workload_of number v ≡ Some r → HasRanges r
@@ -111,17 +116,22 @@ module _ (v : PlainValues) (r : PlainRequest) where
   text : (name program : List ℕ) → text_request_of name program v ≡ Some r → HasRanges r
   text name program e =
       let m = map_some (λ c. OnText program c v.fold) (command_of name v) r e in
-      subst HasRanges m.2 (by_words v m.0 (is_word name (codes "run")) (is_word name (codes "threads")) (is_word name (codes "explain")) (is_word name (codes "check")) (is_word name (codes "code")) m.1)
+      subst HasRanges m.2 (by_words v m.0 (is_word name (codes "run")) (is_word name (codes "threads")) (is_word name (codes "explain")) (is_word name (codes "wave")) (is_word name (codes "check")) (is_word name (codes "code")) m.1)
 
-  by_name : (name program : List ℕ) (b : Bool) → (if b then workload_of program v else text_request_of name program v) ≡ Some r → HasRanges r
-  by_name name program true e = workload program e
-  by_name name program false e = text name program e
+  dump : (name : List ℕ) (bare : Bool) → cond bare (Some (OnDump name)) None ≡ Some r → HasRanges r
+  dump name true e = subst HasRanges (let g : Some (OnDump name) ≡ Some r = e in cc) tt
+  dump name false e = absurd (let g : None ≡ Some r = e in cc)
+
+  by_name : (name program : List ℕ) (gen unwave : Bool) → (if gen then workload_of program v else (if unwave then dump_of program v else text_request_of name program v)) ≡ Some r → HasRanges r
+  by_name name program true unwave e = workload program e
+  by_name name program false true e = dump program (is_bare v) e
+  by_name name program false false e = text name program e
 
   by_values : request_by v ≡ Some r → HasRanges r
   by_values e =
       let n = then_some _ v.command r e in
       let p = then_some (λ program. request_named n.0 program v) v.program r n.2 in
-      by_name n.0 p.0 (is_word n.0 (codes "gen")) p.2
+      by_name n.0 p.0 (is_word n.0 (codes "gen")) (is_word n.0 (codes "unwave")) p.2
 
   by_kinds : (kinds : List _) → unless_refused kinds (request_by v) ≡ Some r → HasRanges r
   by_kinds [] e = by_values e

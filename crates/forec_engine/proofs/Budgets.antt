@@ -9,7 +9,7 @@ use Rattle.forec_kernel.specs.declared.shape.Outcome.TheVariants as outcome
 use Rattle.tick_bounds.specs.Bound.{worst_case}
 use Rattle.bound_laws.specs.Laws.{NoneOver, RunsNeverOver}
 use Rattle.core_alloc.specs.declared.fault.PlaceFault.{PlaceFault}
-use Rattle.command_words.specs.Requests.{PlainPlacing, PlainRunning, PlainCommand, Run, Check, Threads, Code, Explain, OnText, OnWorkload, request_of}
+use Rattle.command_words.specs.Requests.{PlainPlacing, PlainRunning, PlainCommand, Run, Wave, Check, Threads, Code, Explain, OnText, OnWorkload, request_of}
 use Rattle.command_words.specs.declared.request.Budget.{Budget}
 use Rattle.command_words.specs.declared.request.Budget.TheVariants as budget
 use Rattle.workload.specs.Text.{text_of}
@@ -20,17 +20,21 @@ use Rattle.text_verdict.specs.Laws.{AcceptedTextsAreFormed, AcceptedTextsArePace
 use Rattle.text_verdict.specs.declared.counts.Counts.{Counts}
 use Rattle.trace_rows.specs.Trace.{End, trace_of}
 use Rattle.trace_rows.specs.declared.fault.RowFault.{RowFault}
-use Rattle.trace_runs.specs.KernelNames.{input_names}
+use Rattle.trace_runs.specs.KernelNames.{input_names, run_format}
+use Rattle.trace_runs.specs.declared.format.Format.{Format}
+use Rattle.trace_runs.specs.declared.format.Telling.{Telling}
+use Rattle.trace_runs.specs.declared.format.Telling.TheVariants as telling
 use Rattle.trace_runs.specs.Report.{Report, last_outcome, end_of_trace, ending, trace_report}
 use Rattle.trace_runs.specs.Workload.{ticks_report, ticked_report, workload_ticks, zero_row}
 use Rattle.trace_runs.specs.declared.status.Status.{Status}
 use Rattle.trace_runs.specs.declared.status.Status.TheVariants as status
 use Rattle.forec_engine.specs.Budgets.{budget_for, with_budget, Covers}
 use Rattle.forec_engine.specs.Folds.{kernel_for}
-use Rattle.forec_engine.specs.Commands.{ThreadsReport, Of_misplaced, Of_placed, AcceptedReport, CommandReport, IsReport, Of_usage, Of_text, Of_workload, TextReport, Of_refusal, Of_accepted}
+use Rattle.forec_engine.specs.Commands.{ThreadsReport, Of_misplaced, Of_placed, AcceptedReport, CommandReport, IsReport, Of_usage, Of_text, Of_workload, Of_dump, TextReport, Of_refusal, Of_accepted, run_report}
 use Rattle.forec_engine.specs.Ends.{running_in}
 use Rattle.forec_engine.specs.Laws.{CoverTheirKernel, CoveredNeverOver, BoundCovers, AskForBound, Of_run, Of_gen, BoundNeverOver}
 use Rattle.forec_engine.specs.Placing.{misplacing, unless_misplaced, workload_report}
+use Rattle.forec_engine.proofs.DumpLemmas.{dump_never}
 use Rattle.forec_engine.proofs.Reports.{some_same, name_same, command_same, threads_same, running_same, never_text}
 
 -- ---- ticks
@@ -40,15 +44,15 @@ last_never [] h e = cc
 last_never (t ∷ []) h e = h.0 e
 last_never (t ∷ u ∷ ts) h e = last_never (u ∷ ts) h.1 e
 
-trace_end : (f : Option RowFault) (n : ℕ) → (end_of_trace f n).status ≢ status.Over
-trace_end None n e = cc
-trace_end (Some f) n e = cc
+trace_end : (how : Format) (f : Option RowFault) (n : ℕ) → (end_of_trace how f n).status ≢ status.Over
+trace_end how None n e = cc
+trace_end how (Some f) n e = cc
 
-ending_never : (o : Outcome) (end : End) → o ≢ outcome.Over → (ending o end).status ≢ status.Over
-ending_never outcome.Paused end h e = trace_end end.cause end.line e
-ending_never outcome.Ended end h e = cc
-ending_never (outcome.Trapped place trap) end h e = cc
-ending_never outcome.Over end h e = h refl
+ending_never : (how : Format) (o : Outcome) (end : End) → o ≢ outcome.Over → (ending how o end).status ≢ status.Over
+ending_never how outcome.Paused end h e = trace_end how end.cause end.line e
+ending_never how outcome.Ended end h e = cc
+ending_never how (outcome.Trapped place trap) end h e = cc
+ending_never how outcome.Over end h e = h refl
 
 ticks_never : (threads b : ℕ) (ts : List Tick) (o : Outcome) → o ≢ outcome.Over → (ticks_report threads b ts o).status ≢ status.Over
 ticks_never threads b ts outcome.Paused h e = cc
@@ -60,11 +64,11 @@ ticks_never threads b ts outcome.Over h e = h refl
 abbrev NoRunOver : PlainKernel → ℕ → Type 0
 NoRunOver k units = (rows : List (List ℤ)) → NoneOver (run_of k units rows)
 
-trace_never : (k : PlainKernel) (units : ℕ) (bytes : List ℕ) → NoRunOver k units → (trace_report MAX_ROWS k units bytes).status ≢ status.Over
+trace_never : (tells : Telling) (k : PlainKernel) (units : ℕ) (bytes : List ℕ) → NoRunOver k units → (trace_report MAX_ROWS (run_format tells k) k units bytes).status ≢ status.Over
 unfolding trace_report
-trace_never k units bytes never =
+trace_never tells k units bytes never =
     let trace = trace_of (input_names k) MAX_ROWS bytes in
-    ending_never (last_outcome (run_of k units trace.rows)) trace.end (last_never (run_of k units trace.rows) (never trace.rows))
+    ending_never (run_format tells k) (last_outcome (run_of k units trace.rows)) trace.end (last_never (run_of k units trace.rows) (never trace.rows))
 
 ticked_never : (threads : ℕ) (k : PlainKernel) (units : ℕ) → NoRunOver k units → (ticked_report threads k units).status ≢ status.Over
 unfolding ticked_report
@@ -93,15 +97,19 @@ threads_never k placing r (Of_placed p m is e) = is_never r _ e (λ o. cc)
 abbrev Suffices : PlainKernel → Budget → Type 0
 Suffices k b = (units : ℕ) → budget_for k b ≡ Some units → NoRunOver k units
 
+run_never : (tells : Telling) (k : PlainKernel) (running : PlainRunning) (bytes : List ℕ) → Suffices k running.budget → (run_report tells k running bytes).status ≢ status.Over
+run_never tells k running bytes enough =
+    with_never (budget_for k running.budget) (λ units. unless_misplaced (misplacing k running.placing) (trace_report MAX_ROWS (run_format tells k) k units bytes))
+    (λ units e. unless_never (misplacing k running.placing) (trace_report MAX_ROWS (run_format tells k) k units bytes) (trace_never tells k units bytes (enough units e)))
+
 accepted_never : (command : PlainCommand) (trace : Option (List ℕ)) (c : Counts) (k : PlainKernel) (r : Report) → ((running : PlainRunning) → running_in command ≡ Some running → Suffices k running.budget) →
     AcceptedReport command trace c k r → r.status ≢ status.Over
-accepted_never (Run running) trace c k r enough x =
-    is_never r _ x.2 (with_never (budget_for k running.budget) (λ units. unless_misplaced (misplacing k running.placing) (trace_report MAX_ROWS k units x.0))
-    (λ units e. unless_never (misplacing k running.placing) (trace_report MAX_ROWS k units x.0) (trace_never k units x.0 (enough running refl units e))))
+accepted_never (Run running) trace c k r enough x = is_never r _ x.2 (run_never telling.Report k running x.0 (enough running refl))
+accepted_never (Wave running) trace c k r enough x = is_never r _ x.2 (run_never telling.Wave k running x.0 (enough running refl))
 accepted_never Check trace c k r enough x = is_never r _ x (λ o. cc)
 accepted_never (Threads placing) trace c k r enough x = threads_never k placing r x
 accepted_never (Explain b order) trace c k r enough x =
-    is_never r _ x.2 (with_never (budget_for k b) (λ units. trace_report MAX_ROWS k units x.0) (λ units e. trace_never k units x.0 (enough _ refl units e)))
+    is_never r _ x.2 (with_never (budget_for k b) (λ units. trace_report MAX_ROWS (run_format telling.Report k) k units x.0) (λ units e. trace_never telling.Report k units x.0 (enough _ refl units e)))
 accepted_never Code trace c k r enough x = is_never r _ x.lists (λ o. cc)
 
 workload_never : (threads : ℕ) (running : PlainRunning) (k : PlainKernel) → Suffices k running.budget → (workload_report threads running k).status ≢ status.Over
@@ -134,6 +142,7 @@ module _ (never : KernelsNeverOver) where
   covered_never_over words content trace r covers (Of_text name command fold text n t x) =
       text_never text (CommandReport command fold trace) r
       (λ c k j y. accepted_never command trace c (kernel_for fold k) r (λ running is. suffices text c k fold running.budget j (covers.text name command fold text running c k n t is j)) y) x
+  covered_never_over words content trace r covers (Of_dump name n x) = is_never r _ x.2 (dump_never x.0)
   covered_never_over words content trace r covers (Of_workload threads running n x) =
       text_never (text_of threads) (λ c k q. q ≡ workload_report threads running k) r
       (λ c k j y. is_never r _ y (workload_never threads running k (suffices (text_of threads) c k false running.budget j (covers.workload threads running c k n j)))) x

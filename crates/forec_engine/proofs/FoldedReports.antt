@@ -8,7 +8,7 @@ use Rattle.forec_kernel.specs.Shapes.{PlainKernel}
 use Rattle.forec_kernel.specs.Ticks.{State, Fresh, Tick, tick, goes_on, run_from, run_of}
 use Rattle.bound_laws.specs.Laws.{NoneOver}
 use Rattle.core_alloc.specs.declared.fault.PlaceFault.{PlaceFault}
-use Rattle.command_words.specs.Requests.{PlainPlacing, PlainRunning, PlainCommand, Run, Check, Threads, Code, Explain, OnText, OnWorkload, request_of}
+use Rattle.command_words.specs.Requests.{PlainPlacing, PlainRunning, PlainCommand, Run, Wave, Check, Threads, Code, Explain, OnText, OnWorkload, request_of}
 use Rattle.command_words.specs.declared.request.Budget.{Budget}
 use Rattle.command_words.specs.declared.request.Budget.TheVariants as budget
 use Rattle.kernel_fold.specs.Folding.{fold_stmt, folded_kernel}
@@ -16,16 +16,19 @@ use Rattle.kernel_fold.specs.Laws.{UpToOver, FoldingKeepsRuns}
 use Rattle.text_verdict.specs.declared.counts.Counts.{Counts}
 use Rattle.thread_places.specs.Placed.{refusal_of}
 use Rattle.trace_rows.specs.Trace.{End, trace_of}
-use Rattle.trace_rows.specs.Report.{outcome_lines}
-use Rattle.trace_runs.specs.KernelNames.{input_names, output_names}
-use Rattle.trace_runs.specs.Report.{Report, lines_from, last_outcome, ending, behind_bytes, trace_report}
+use Rattle.trace_runs.specs.Formats.{opening, format_after}
+use Rattle.trace_runs.specs.KernelNames.{input_names, run_format}
+use Rattle.trace_runs.specs.declared.format.Format.{Format}
+use Rattle.trace_runs.specs.declared.format.Telling.{Telling}
+use Rattle.trace_runs.specs.declared.format.Telling.TheVariants as telling
+use Rattle.trace_runs.specs.Report.{Report, outcome_lines, lines_from, last_outcome, ending, behind_bytes, trace_report}
 use Rattle.trace_runs.specs.declared.status.Status.TheVariants as status
 use Rattle.forec_engine.specs.Budgets.{budget_for, with_budget}
-use Rattle.forec_engine.specs.Commands.{AcceptedReport, CommandReport, IsReport, Of_usage, Of_text, Of_workload, TextReport, Of_refusal, Of_accepted, run_report, explain_report}
+use Rattle.forec_engine.specs.Commands.{AcceptedReport, CommandReport, IsReport, Of_usage, Of_text, Of_workload, Of_dump, TextReport, Of_refusal, Of_accepted, run_report, explain_report}
 use Rattle.forec_engine.specs.Ends.{running_in}
 use Rattle.forec_engine.specs.Laws.{DifferByFold, FoldingPrintsTheSame}
 use Rattle.forec_engine.specs.Placing.{misplacing, unless_misplaced}
-use Rattle.forec_engine.proofs.Reports.{some_same, name_same, command_same, fold_same, never_text}
+use Rattle.forec_engine.proofs.Reports.{some_same, name_same, command_same, fold_same, never_text, text_no_dump}
 
 -- ---- the ticks of a run whose last one isn't over
 
@@ -61,36 +64,38 @@ last_same (t ∷ []) (y ∷ z ∷ zs) n u = absurd (let bad : z ∷ zs ≡ [] = 
 last_same (t ∷ v ∷ vs) (y ∷ []) n u = absurd (u n.0).2
 last_same (t ∷ v ∷ vs) (y ∷ z ∷ zs) n u = last_same (v ∷ vs) (z ∷ zs) n.1 (u n.0).2
 
-module _ (k : PlainKernel) (budget : ℕ) where
-  abbrev lines_of : ℕ → Outcome → List ℤ → List ℕ
-  lines_of n o outputs = outcome_lines (output_names k) budget n o outputs
+module _ (budget : ℕ) where
+  -- the lines of tick n, which went so, and of the ticks after it
+  abbrev lines_of : Format → ℕ → List Tick → Outcome → List ℤ → List ℕ
+  lines_of how n ts o outputs = outcome_lines how budget n o outputs ++ lines_from (format_after how outputs) budget (n + 1) ts
 
-  lines_same : (n : ℕ) (ts ys : List Tick) → NoneOver ts → UpToOver ts ys → lines_from (folded_kernel k) budget n ys ≡ lines_from k budget n ts
-  lines_same n [] ys none u = ap (lines_from (folded_kernel k) budget n) u
-  lines_same n (t ∷ ts) [] none u = absurd u
-  lines_same n (t ∷ ts) (y ∷ ys) none u =
+  lines_same : (how : Format) (n : ℕ) (ts ys : List Tick) → NoneOver ts → UpToOver ts ys → lines_from how budget n ys ≡ lines_from how budget n ts
+  lines_same how n [] ys none u = ap (lines_from how budget n) u
+  lines_same how n (t ∷ ts) [] none u = absurd u
+  lines_same how n (t ∷ ts) (y ∷ ys) none u =
       let same = u none.0 in
-      ap (λ (o : Outcome). lines_of n o y.outputs ++ lines_from (folded_kernel k) budget (n + 1) ys) same.0
-      ∙ ap (λ (xs : List ℤ). lines_of n t.outcome xs ++ lines_from (folded_kernel k) budget (n + 1) ys) same.1
-      ∙ ap (λ (xs : List ℕ). lines_of n t.outcome t.outputs ++ xs) (lines_same (n + 1) ts ys none.1 same.2)
+      ap (λ (o : Outcome). lines_of how n ys o y.outputs) same.0
+      ∙ ap (λ (xs : List ℤ). lines_of how n ys t.outcome xs) same.1
+      ∙ ap (λ (xs : List ℕ). outcome_lines how budget n t.outcome t.outputs ++ xs) (lines_same (format_after how t.outputs) (n + 1) ts ys none.1 same.2)
 
-  report_same : (n : ℕ) (end : End) (ts ys : List Tick) → NoneOver ts → UpToOver ts ys →
-      behind_bytes (lines_from (folded_kernel k) budget n ys) (ending (last_outcome ys) end) ≡ behind_bytes (lines_from k budget n ts) (ending (last_outcome ts) end)
-  report_same n end ts ys none u =
-      ap (λ (xs : List ℕ). behind_bytes xs (ending (last_outcome ys) end)) (lines_same n ts ys none u)
-      ∙ ap (λ (o : Outcome). behind_bytes (lines_from k budget n ts) (ending o end)) (last_same ts ys none u)
+  report_same : (how : Format) (n : ℕ) (end : End) (ts ys : List Tick) → NoneOver ts → UpToOver ts ys →
+      behind_bytes (lines_from how budget n ys) (ending how (last_outcome ys) end) ≡ behind_bytes (lines_from how budget n ts) (ending how (last_outcome ts) end)
+  report_same how n end ts ys none u =
+      ap (λ (xs : List ℕ). behind_bytes xs (ending how (last_outcome ys) end)) (lines_same how n ts ys none u)
+      ∙ ap (λ (o : Outcome). behind_bytes (lines_from how budget n ts) (ending how o end)) (last_same ts ys none u)
 
-not_over : (o : Outcome) (end : End) (bytes : List ℕ) → (behind_bytes bytes (ending o end)).status ≢ status.Over → o ≢ outcome.Over
-not_over o end bytes h e = h (ap (λ (x : Outcome). (ending x end).status) e)
+not_over : (how : Format) (o : Outcome) (end : End) → (ending how o end).status ≢ status.Over → o ≢ outcome.Over
+not_over how o end h e = h (ap (λ (x : Outcome). (ending how x end).status) e)
 
-trace_same : FoldingKeepsRuns → (k : PlainKernel) (units : ℕ) (bytes : List ℕ) → (trace_report MAX_ROWS k units bytes).status ≢ status.Over →
-    trace_report MAX_ROWS (folded_kernel k) units bytes ≡ trace_report MAX_ROWS k units bytes
+trace_same : FoldingKeepsRuns → (tells : Telling) (k : PlainKernel) (units : ℕ) (bytes : List ℕ) → (trace_report MAX_ROWS (run_format tells k) k units bytes).status ≢ status.Over →
+    trace_report MAX_ROWS (run_format tells (folded_kernel k)) (folded_kernel k) units bytes ≡ trace_report MAX_ROWS (run_format tells k) k units bytes
 unfolding trace_report
-trace_same keeps k units bytes h =
+trace_same keeps tells k units bytes h =
+    let how = run_format tells k in
     let trace = trace_of (input_names k) MAX_ROWS bytes in
     let ticks = run_of k units trace.rows in
-    report_same k units 1 trace.end ticks (run_of (folded_kernel k) units trace.rows)
-    (none_over k units Fresh trace.rows (not_over (last_outcome ticks) trace.end (lines_from k units 1 ticks) h)) (keeps k units trace.rows)
+    ap (behind_bytes (opening how)) (report_same units how 1 trace.end ticks (run_of (folded_kernel k) units trace.rows)
+    (none_over k units Fresh trace.rows (not_over how (last_outcome ticks) trace.end h)) (keeps k units trace.rows))
 
 -- ---- commands
 
@@ -102,20 +107,23 @@ unless_same None r q same h = same h
 unless_same (Some why) r q same h = refl
 
 module _ (keeps : FoldingKeepsRuns) (k : PlainKernel) (bytes : List ℕ) (units : ℕ) where
-  run_same : (running : PlainRunning) → running.budget ≡ budget.Units units → (run_report k running bytes).status ≢ status.Over → run_report (folded_kernel k) running bytes ≡ run_report k running bytes
-  run_same running e h =
-      let so : run_report k running bytes ≡ unless_misplaced (misplacing k running.placing) (trace_report MAX_ROWS k units bytes) =
-      ap (λ b. with_budget (budget_for k b) (λ u. unless_misplaced (misplacing k running.placing) (trace_report MAX_ROWS k u bytes))) e in
-      ap (λ b. with_budget (budget_for (folded_kernel k) b) (λ u. unless_misplaced (misplacing (folded_kernel k) running.placing) (trace_report MAX_ROWS (folded_kernel k) u bytes))) e
-      ∙ ap (λ o. unless_misplaced o (trace_report MAX_ROWS (folded_kernel k) units bytes)) (misplacing_same k running.placing)
-      ∙ unless_same (misplacing k running.placing) (trace_report MAX_ROWS (folded_kernel k) units bytes) (trace_report MAX_ROWS k units bytes) (trace_same keeps k units bytes)
-      (subst (λ (r : Report). r.status ≢ status.Over) so h)
-      ∙ sym so
+  module _ (tells : Telling) where
+    abbrev told_by : PlainKernel → ℕ → Report
+    told_by m u = trace_report MAX_ROWS (run_format tells m) m u bytes
+
+    run_same : (running : PlainRunning) → running.budget ≡ budget.Units units → (run_report tells k running bytes).status ≢ status.Over → run_report tells (folded_kernel k) running bytes ≡ run_report tells k running bytes
+    run_same running e h =
+        let so : run_report tells k running bytes ≡ unless_misplaced (misplacing k running.placing) (told_by k units) =
+        ap (λ b. with_budget (budget_for k b) (λ u. unless_misplaced (misplacing k running.placing) (told_by k u))) e in
+        ap (λ b. with_budget (budget_for (folded_kernel k) b) (λ u. unless_misplaced (misplacing (folded_kernel k) running.placing) (told_by (folded_kernel k) u))) e
+        ∙ ap (λ o. unless_misplaced o (told_by (folded_kernel k) units)) (misplacing_same k running.placing)
+        ∙ unless_same (misplacing k running.placing) (told_by (folded_kernel k) units) (told_by k units) (trace_same keeps tells k units bytes) (subst (λ (r : Report). r.status ≢ status.Over) so h)
+        ∙ sym so
 
   explain_same : (b : Budget) → b ≡ budget.Units units → (explain_report k b bytes).status ≢ status.Over → explain_report (folded_kernel k) b bytes ≡ explain_report k b bytes
   explain_same b e h =
-      let so : explain_report k b bytes ≡ trace_report MAX_ROWS k units bytes = ap (λ c. explain_report k c bytes) e in
-      ap (λ c. explain_report (folded_kernel k) c bytes) e ∙ trace_same keeps k units bytes (subst (λ (r : Report). r.status ≢ status.Over) so h) ∙ sym so
+      let so : explain_report k b bytes ≡ told_by telling.Report k units = ap (λ c. explain_report k c bytes) e in
+      ap (λ c. explain_report (folded_kernel k) c bytes) e ∙ trace_same keeps telling.Report k units bytes (subst (λ (r : Report). r.status ≢ status.Over) so h) ∙ sym so
 
 is_so : (r q : Report) → r ≡ q → r.status ≢ status.Over → q.status ≢ status.Over
 is_so r q e h = subst (λ (x : Report). x.status ≢ status.Over) e h
@@ -124,7 +132,10 @@ accepted_same : FoldingKeepsRuns → (command : PlainCommand) (running : PlainRu
     (trace : Option (List ℕ)) (c : Counts) (k : PlainKernel) (r : Report) → r.status ≢ status.Over → AcceptedReport command trace c k r → AcceptedReport command trace c (folded_kernel k) r
 accepted_same keeps (Run also) running units runs e trace c k r h x =
     let same : also.budget ≡ budget.Units units = ap (λ (y : PlainRunning). y.budget) (some_same also running runs) ∙ e in
-    (x.0, x.1, x.2 ∙ sym (run_same keeps k x.0 units also same (is_so r (run_report k also x.0) x.2 h)))
+    (x.0, x.1, x.2 ∙ sym (run_same keeps k x.0 units telling.Report also same (is_so r (run_report telling.Report k also x.0) x.2 h)))
+accepted_same keeps (Wave also) running units runs e trace c k r h x =
+    let same : also.budget ≡ budget.Units units = ap (λ (y : PlainRunning). y.budget) (some_same also running runs) ∙ e in
+    (x.0, x.1, x.2 ∙ sym (run_same keeps k x.0 units telling.Wave also same (is_so r (run_report telling.Wave k also x.0) x.2 h)))
 accepted_same keeps Check running units runs e trace c k r h x = absurd (let bad : None ≡ Some running = runs in cc)
 accepted_same keeps (Threads placing) running units runs e trace c k r h x = absurd (let bad : None ≡ Some running = runs in cc)
 accepted_same keeps (Explain b order) running units runs e trace c k r h x =
@@ -152,4 +163,5 @@ prints_the_same keeps words folding content trace r d (Of_text name command fold
     Of_text d.name d.command true text d.folded (sym (ap content names) ∙ t)
     (text_same text (CommandReport d.command false trace) (CommandReport d.command true trace) r
     (λ c k y. accepted_same keeps d.command d.running d.units d.runs d.limited trace c k r h y) here)
+prints_the_same keeps words folding content trace r d (Of_dump name n x) h = absurd (text_no_dump d.name d.command false name (sym d.plain ∙ n))
 prints_the_same keeps words folding content trace r d (Of_workload threads running n x) h = absurd (never_text d.name d.command false threads running (sym d.plain ∙ n))

@@ -1,6 +1,7 @@
 mod Answered
 mod Bounds
 mod Budgets
+mod DumpLemmas
 mod FoldedReports
 mod Named
 mod Reports

@@ -5,7 +5,7 @@ use Rattle.forec_kernel.specs.Shapes.{PlainKernel}
 use Rattle.command_words.specs.Requests.{PlainCommand}
 use Rattle.forec_engine.specs.Answers.{Answers, AnswersText, AnswersNamed}
 use Rattle.forec_engine.specs.Commands.{Of_refusal, Of_accepted, TextReport, CommandReport, refused}
-use Rattle.forec_engine.specs.Ends.{WantedByText, ReadForText, FoldedIsMisused, AcceptedSo}
+use Rattle.forec_engine.specs.Ends.{WantedByText, ReadForText, FoldedIsMisused, AcceptedSo, telling_in}
 use Rattle.forec_engine.specs.Folds.{kernel_for}
 use Rattle.text_verdict.specs.Judging.{Judged, Accepts, Refuses, too_long, most_bytes}
 use Rattle.text_verdict.specs.declared.counts.Counts.{Counts}
@@ -54,10 +54,10 @@ module _ {S K : Type 0} (left : S → Option (List ℕ)) (faults : S → ℕ) (d
     named_read bytes end same p = record {
       prints = prints_as held lost is_down _ _ _ _ _ out out' _ _ _ _ _ end (λ t. t.2)
           (λ t r is. (t.0, t.1, subst (λ (x : List ℕ). TextReport x (CommandReport command fold (left old)) r) (told_same (content name) (λ x. bytes ≡ x) t.0 same t.1) is))
-          (λ m. some_map (content name) (λ x. bytes ≡ x) _ same (λ x e. subst (AcceptedSo (FoldedIsMisused command fold)) e m)) (λ u. inr (u.0, u.1, (u.2.0, some_map (content name) (λ x. bytes ≡ x) _ same (λ x e. subst (λ (t : List ℕ). WantedByText fold u.0 t (left old) (left new) (held out) (held out')) e u.2.1)))) (λ m. m) p.prints;
+          (λ m. some_map (content name) (λ x. bytes ≡ x) _ same (λ x e. subst (AcceptedSo (FoldedIsMisused command fold)) e m)) (λ u. inr (u.0, u.1, (u.2.0, some_map (content name) (λ x. bytes ≡ x) _ same (λ x e. subst (λ (t : List ℕ). WantedByText (telling_in command) fold u.0 t (left old) (left new) (held out) (held out')) e u.2.1)))) (λ m. m) p.prints;
       trace = elim p.trace [
         | inl kept ↦ inl kept
-        | inr r ↦ inr (r.0, r.1, some_map (content name) (λ x. bytes ≡ x) _ same (λ x e. subst (λ (t : List ℕ). ReadForText left faults down fold r.0 t old new) e r.2))
+        | inr r ↦ inr (r.0, r.1, some_map (content name) (λ x. bytes ≡ x) _ same (λ x e. subst (λ (t : List ℕ). ReadForText left faults down (telling_in command) fold r.0 t old new) e r.2))
       ];
     }
 

@@ -2,9 +2,10 @@
 use Rattle.std.proofs.Common.{◌≡◌, ◌⊎◌, inl, inr, ℕ, Bool, List, Option, Some, None, refl, sym, ap, subst, ◌∙◌}
 use Rattle.forec_kernel.specs.Shapes.{PlainKernel}
 use Rattle.core_alloc.specs.declared.fault.PlaceFault.{PlaceFault}
-use Rattle.command_words.specs.Requests.{PlainPlacing, PlainRunning, PlainCommand, Run, Check, Threads, Code, Explain, PlainRequest, OnText, OnWorkload, request_of}
+use Rattle.command_words.specs.Requests.{PlainPlacing, PlainRunning, PlainCommand, Run, Wave, Check, Threads, Code, Explain, PlainRequest, OnText, OnWorkload, OnDump, request_of}
 use Rattle.thread_places.specs.Laws.{OnePlacement, SomePlacement}
-use Rattle.forec_engine.specs.Commands.{IsListing, ThreadsReport, Of_misplaced, Of_placed, AcceptedReport, CommandReport, Of_refusal, Of_accepted, TextReport, WorkloadReport, Of_usage, Of_text, Of_workload, IsReport, TellsTrace, Tells, usage, refused, counted, threads_listed, run_report, explain_report}
+use Rattle.forec_engine.specs.Commands.{IsListing, ThreadsReport, Of_misplaced, Of_placed, AcceptedReport, CommandReport, Of_refusal, Of_accepted, TextReport, WorkloadReport, Of_usage, Of_text, Of_workload, Of_dump, IsReport, TellsTrace, Tells, usage, refused, counted, threads_listed, run_report, explain_report}
+use Rattle.forec_engine.specs.Dumps.{DumpReport, dump_printed}
 use Rattle.text_verdict.specs.Judging.{Verdict, Refuses, Accepts, Judged}
 use Rattle.text_verdict.specs.Laws.{OneVerdict, SomeVerdict}
 use Rattle.forec_engine.specs.Laws.{AskForCode, OneReport, ListOneKernel, AlikeReports, SomeReport}
@@ -13,6 +14,8 @@ use Rattle.text_verdict.specs.declared.refusal.Refusal.{Refusal}
 use Rattle.forec_engine.specs.Folds.{kernel_for}
 use Rattle.forec_engine.specs.Placing.{misplaced, misplacing}
 use Rattle.trace_runs.specs.Report.{Report}
+use Rattle.trace_runs.specs.declared.format.Telling.{Telling}
+use Rattle.trace_runs.specs.declared.format.Telling.TheVariants as telling
 use Rattle.forec_engine.specs.Placing.{workload_report}
 
 pub some_same : {A : Type 0} (x y : A) → Some x ≡ Some y → x ≡ y
@@ -47,11 +50,18 @@ two_threads one k placing r q (Of_misplaced why m e) (Of_placed p n is f) = absu
 two_threads one k placing r q (Of_placed p m is e) (Of_misplaced why n f) = absurd (never_placed why (misplacing k placing) n m)
 two_threads one k placing r q (Of_placed p m is e) (Of_placed o n also f) = e ∙ ap (λ x. threads_listed k x.places) (one k placing p o is also) ∙ sym f
 
+-- what is told of two runs
+two_runs : (tells : Telling) (running : PlainRunning) (c d : Counts) (k l : PlainKernel) (trace : Option (List ℕ)) (r q : Report) → Accepts c k ≡ Accepts d l →
+    (bytes : List ℕ) × (trace ≡ Some bytes) × (r ≡ run_report tells k running bytes) → (bytes : List ℕ) × (trace ≡ Some bytes) × (q ≡ run_report tells l running bytes) → r ≡ q
+two_runs tells running c d k l trace r q e x y =
+    x.2 ∙ ap (λ m. run_report tells m running x.0) (kernel_same c d k l e) ∙ ap (run_report tells l running) (some_same x.0 y.0 (sym x.1 ∙ y.1)) ∙ sym y.2
+
 -- what a command other than `code` says of an accepted text
 one_accepted : OnePlacement → (command : PlainCommand) (c d : Counts) (k l : PlainKernel) (trace : Option (List ℕ)) (r q : Report) → (command ≡ Code → ⊥) → Accepts c k ≡ Accepts d l →
     AcceptedReport command trace c k r → AcceptedReport command trace d l q → r ≡ q
 one_accepted one (Run running) c d k l trace r q other e x y =
-    x.2 ∙ ap (λ m. run_report m running x.0) (kernel_same c d k l e) ∙ ap (run_report l running) (some_same x.0 y.0 (sym x.1 ∙ y.1)) ∙ sym y.2
+    two_runs telling.Report running c d k l trace r q e x y
+one_accepted one (Wave running) c d k l trace r q other e x y = two_runs telling.Wave running c d k l trace r q e x y
 one_accepted one Check c d k l trace r q other e x y = x ∙ ap counted (counts_same c d k l e) ∙ sym y
 one_accepted one (Threads placing) c d k l trace r q other e x y = two_threads one l placing r q (subst (λ m. ThreadsReport m placing r) (kernel_same c d k l e) x) y
 one_accepted one (Explain budget order) c d k l trace r q other e x y =
@@ -62,6 +72,7 @@ one_accepted one Code c d k l trace r q other e x y = absurd (other refl)
 alike_accepted : OnePlacement → (command : PlainCommand) (c d : Counts) (k l : PlainKernel) (trace : Option (List ℕ)) (r q : Report) → Accepts c k ≡ Accepts d l →
     AcceptedReport command trace c k r → AcceptedReport command trace d l q → (r ≡ q) ⊎ ListOneKernel r q
 alike_accepted one (Run running) c d k l trace r q e x y = inl (one_accepted one (Run running) c d k l trace r q (λ n. cc) e x y)
+alike_accepted one (Wave running) c d k l trace r q e x y = inl (one_accepted one (Wave running) c d k l trace r q (λ n. cc) e x y)
 alike_accepted one (Explain budget order) c d k l trace r q e x y = inl (one_accepted one (Explain budget order) c d k l trace r q (λ n. cc) e x y)
 alike_accepted one Check c d k l trace r q e x y = inl (one_accepted one Check c d k l trace r q (λ n. cc) e x y)
 alike_accepted one (Threads placing) c d k l trace r q e x y = inl (one_accepted one (Threads placing) c d k l trace r q (λ n. cc) e x y)
@@ -100,6 +111,15 @@ running_same n m c d e = cc
 never_none : (x : PlainRequest) → None ≡ Some x → ⊥
 never_none x e = cc
 
+dump_same : (n m : List ℕ) → Some (OnDump n) ≡ Some (OnDump m) → n ≡ m
+dump_same n m e = cc
+
+pub text_no_dump : (n : List ℕ) (c : PlainCommand) (a : Bool) (m : List ℕ) → Some (OnText n c a) ≡ Some (OnDump m) → ⊥
+text_no_dump n c a m e = cc
+
+pub workload_no_dump : (n : ℕ) (c : PlainRunning) (m : List ℕ) → Some (OnWorkload n c) ≡ Some (OnDump m) → ⊥
+workload_no_dump n c m e = cc
+
 pub never_text : (n : List ℕ) (c : PlainCommand) (a : Bool) (m : ℕ) (d : PlainRunning) → Some (OnText n c a) ≡ Some (OnWorkload m d) → ⊥
 never_text n c a m d e = cc
 
@@ -123,16 +143,27 @@ module _ (one : OneVerdict) (words : List (List ℕ)) (content : List ℕ → Op
       two_of_text one (λ c k x. x ≡ workload_report others also k) P same (λ c d k l a b v x y. same a b (workload_both others also c d k l a b v x y)) _ r q
       (subst (λ n. WorkloadReport n also r) (threads_same threads others running also e) (subst (λ x. WorkloadReport threads x r) (running_same threads others running also e) t)) u
 
+  two_dumps : (r q : Report) (name other : List ℕ) → Some (OnDump name) ≡ Some (OnDump other) → DumpReport content name r → DumpReport content other q → P r q
+  two_dumps r q name other e x y =
+      same r q (x.2 ∙ ap dump_printed (some_same x.0 y.0 (sym x.1 ∙ ap content (dump_same name other e) ∙ y.1)) ∙ sym y.2)
+
   two_reports : (r q : Report) → IsReport words content trace r → IsReport words content trace q → P r q
   two_reports r q (Of_usage n e) (Of_usage m f) = same r q (e ∙ sym f)
   two_reports r q (Of_usage n e) (Of_text name command fold text m c t) = absurd (never_none _ (sym n ∙ m))
   two_reports r q (Of_usage n e) (Of_workload threads running m t) = absurd (never_none _ (sym n ∙ m))
+  two_reports r q (Of_usage n e) (Of_dump name m t) = absurd (never_none _ (sym n ∙ m))
   two_reports r q (Of_text name command fold text n c t) (Of_usage m e) = absurd (never_none _ (sym m ∙ n))
   two_reports r q (Of_text name command fold text n c t) (Of_text other also folds more m d u) = two_of_names r q name other command also fold folds text more n m c d t u
   two_reports r q (Of_text name command fold text n c t) (Of_workload threads running m u) = absurd (never_text name command fold threads running (sym n ∙ m))
+  two_reports r q (Of_text name command fold text n c t) (Of_dump dump m u) = absurd (text_no_dump name command fold dump (sym n ∙ m))
   two_reports r q (Of_workload threads running n t) (Of_usage m e) = absurd (never_none _ (sym m ∙ n))
   two_reports r q (Of_workload threads running n t) (Of_text name command fold text m c u) = absurd (never_text name command fold threads running (sym m ∙ n))
   two_reports r q (Of_workload threads running n t) (Of_workload others also m u) = two_of_workloads r q threads others running also (sym n ∙ m) t u
+  two_reports r q (Of_workload threads running n t) (Of_dump dump m u) = absurd (workload_no_dump threads running dump (sym n ∙ m))
+  two_reports r q (Of_dump dump n t) (Of_usage m e) = absurd (never_none _ (sym m ∙ n))
+  two_reports r q (Of_dump dump n t) (Of_text name command fold text m c u) = absurd (text_no_dump name command fold dump (sym m ∙ n))
+  two_reports r q (Of_dump dump n t) (Of_workload threads running m u) = absurd (workload_no_dump threads running dump (sym m ∙ n))
+  two_reports r q (Of_dump dump n t) (Of_dump other m u) = two_dumps r q dump other (sym n ∙ m) t u
 
 pub one_report : OneVerdict → OnePlacement → OneReport
 one_report one places words content trace r q not x y =
@@ -153,7 +184,8 @@ some_threads some k placing (Some why) e never = never (misplaced why) (Of_mispl
 
 some_of_accepted : SomePlacement → (command : PlainCommand) (trace : Option (List ℕ)) (c : Counts) (k : PlainKernel) → (command ≡ Code → ⊥) → TellsTrace command trace →
     ((r : Report) → AcceptedReport command trace c k r → ⊥) → ⊥
-some_of_accepted some (Run running) trace c k other told never = never (run_report k running told.0) (told.0, told.1, refl)
+some_of_accepted some (Run running) trace c k other told never = never (run_report telling.Report k running told.0) (told.0, told.1, refl)
+some_of_accepted some (Wave running) trace c k other told never = never (run_report telling.Wave k running told.0) (told.0, told.1, refl)
 some_of_accepted some Check trace c k other told never = never (counted c) refl
 some_of_accepted some (Threads placing) trace c k other told never = some_threads some k placing (misplacing k placing) refl never
 some_of_accepted some (Explain budget order) trace c k other told never = never (explain_report k budget told.0) (told.0, told.1, refl)
@@ -170,12 +202,13 @@ some_of_words : SomeVerdict → SomePlacement → (words : List (List ℕ)) (con
     Tells words content trace → ((r : Report) → IsReport words content trace r → ⊥) → ⊥
 some_of_words verdict some words content trace None e not told never = never usage (Of_usage e refl)
 some_of_words verdict some words content trace (Some (OnText name command fold)) e not told never =
-    let text = told name command fold e in
+    let text = told.text name command fold e in
     some_of_text verdict text.0 (CommandReport command fold trace)
     (λ c k. some_of_accepted some command trace c (kernel_for fold k) (λ z. not (name, fold, subst (λ m. request_of words ≡ Some (OnText name m fold)) z e)) text.2)
     (λ r t. never r (Of_text name command fold text.0 e text.1 t))
 some_of_words verdict some words content trace (Some (OnWorkload threads running)) e not told never =
     some_of_text verdict _ (λ c k x. x ≡ workload_report threads running k) (λ c k none. none (workload_report threads running k) refl) (λ r t. never r (Of_workload threads running e t))
+some_of_words verdict some words content trace (Some (OnDump name)) e not told never = let text = told.dump name e in never (dump_printed text.0) (Of_dump name e (text.0, text.1, refl))
 
 pub some_report : SomeVerdict → SomePlacement → SomeReport
 some_report verdict some words content trace not told never = some_of_words verdict some words content trace (request_of words) refl not told never

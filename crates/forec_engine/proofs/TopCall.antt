@@ -1,10 +1,11 @@
 -- What words print.
 use Rattle.std.proofs.Common.{◌≡◌, ◌⊎◌, inl, inr, ℕ, Bool, List, Option, Some, None}
 use Rattle.forec_base.specs.Outside.{Fell}
-use Rattle.command_words.specs.Requests.{PlainRunning, PlainCommand, OnText, OnWorkload, request_of}
+use Rattle.command_words.specs.Requests.{PlainRunning, PlainCommand, OnText, OnWorkload, OnDump, request_of}
 use Rattle.workload.specs.Text.{text_of}
 use Rattle.forec_engine.specs.Answers.{AnswersNamed, AnswersWords}
-use Rattle.forec_engine.specs.Commands.{IsReport, Of_usage, Of_text, Of_workload, WorkloadReport, Tells, usage}
+use Rattle.forec_engine.specs.Commands.{IsReport, Of_usage, Of_text, Of_workload, Of_dump, WorkloadReport, Tells, usage}
+use Rattle.forec_engine.specs.Dumps.{DumpReport}
 use Rattle.forec_engine.specs.Ends.{WantedByWords, ReadForWords, AcceptedSo, IsMisuse, Asks_nothing, Misuses, Misuses_workload, NameText, AskForRewriting}
 use Rattle.forec_engine.specs.Placing.{IsRefusedRun}
 use Rattle.trace_runs.specs.Ends.{IsOwn}
@@ -25,7 +26,7 @@ module _ {S K : Type 0} (left : S → Option (List ℕ)) (faults : S → ℕ) (d
   pub words_text : (name : List ℕ) (command : PlainCommand) (fold : Bool) (end : Status) → request_of words ≡ Some (OnText name command fold) →
       AnswersNamed left faults down held lost is_down command fold content name Lost old new out out' end → WordsPrint end
   words_text name command fold end request p =
-      prints_as held lost is_down _ _ _ _ _ out out' _ _ _ _ _ end (λ told. told name command fold request) (λ told r is. Of_text name command fold is.0 request is.1 is.2)
+      prints_as held lost is_down _ _ _ _ _ out out' _ _ _ _ _ end (λ told. told.text name command fold request) (λ told r is. Of_text name command fold is.0 request is.1 is.2)
       (λ m. Misuses name command fold request m) (λ u. elim u [ inl store ↦ inl store | inr r ↦ inr (r.2.0, (r.0, name, command, fold, request, r.1, r.2.1)) ])
       (λ m. (name, command, fold, request, m)) p.prints
 
@@ -37,6 +38,11 @@ module _ {S K : Type 0} (left : S → Option (List ℕ)) (faults : S → ℕ) (d
       Prints held lost is_down Unit (WorkloadReport threads running) (AcceptedSo (λ k. IsRefusedRun k running) (text_of threads)) ⊥ ⊥ out out' end → WordsPrint end
   words_workload threads running end request p =
       prints_as held lost is_down _ _ _ _ _ out out' _ _ _ _ _ end (λ told. tt) (λ told r is. Of_workload threads running request is) (λ m. Misuses_workload threads running request m) (λ n. absurd n) (λ n. absurd n) p
+
+  pub words_dump : (name : List ℕ) (end : Status) → request_of words ≡ Some (OnDump name) →
+      Prints held lost is_down ((text : List ℕ) × (content name ≡ Some text)) (DumpReport content name) ⊥ (Lost × (held out' ≡ held out)) ⊥ out out' end → WordsPrint end
+  words_dump name end request p =
+      prints_as held lost is_down _ _ _ _ _ out out' _ _ _ _ _ end (λ told. told.dump name request) (λ told r is. Of_dump name request is) (λ n. absurd n) (λ store. inl store) (λ n. absurd n) p
 
   pub words_nothing : (end : Status) (Misused : Type 0) → request_of words ≡ None → Says held lost is_down usage Misused out out' end → WordsPrint end
   words_nothing end Misused none p =

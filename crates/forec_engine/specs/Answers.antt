@@ -7,10 +7,11 @@ use Rattle.command_words.specs.Requests.{PlainRunning, PlainCommand}
 use Rattle.text_verdict.specs.declared.counts.Counts.{Counts}
 use Rattle.forec_engine.specs.Budgets.{budget_for}
 use Rattle.forec_engine.specs.Commands.{AcceptedReport, CommandReport, TextReport, IsReport, TellsTrace, TellsNamed, Tells}
-use Rattle.forec_engine.specs.Ends.{WantedByText, WantedByWords, ReadForText, ReadForWords, CommandIsMisused, FoldedIsMisused, AcceptedSo, IsMisuse, NameText, AskForRewriting, Rewrites, running_in}
+use Rattle.forec_engine.specs.Ends.{WantedByText, WantedByWords, ReadForText, ReadForWords, CommandIsMisused, FoldedIsMisused, AcceptedSo, IsMisuse, NameText, AskForRewriting, Rewrites, running_in, telling_in}
 use Rattle.forec_engine.specs.Placing.{misplacing}
 use Rattle.trace_runs.specs.Calls.{AppendsFront}
 use Rattle.trace_runs.specs.Ends.{IsOwn, Given, Wanted, ReadFor}
+use Rattle.trace_runs.specs.KernelNames.{run_format}
 use Rattle.trace_runs.specs.Prints.{Prints}
 use Rattle.trace_runs.specs.Report.{Report}
 use Rattle.trace_runs.specs.declared.status.Status.{Status}
@@ -26,17 +27,17 @@ module _ {S K : Type 0} (left : S → Option (List ℕ)) (faults : S → ℕ) (d
   pub record Answers (counts : Counts) (k : PlainKernel) (old new : S) (out_old out_new : K) (end : Status) : Type 0 where
     pub prints : Prints held lost is_down (TellsTrace command (left old)) (AcceptedReport command (left old) counts k) (CommandIsMisused command k)
         (Running command (λ running. Fell (faults old) (faults new) (down new) × (misplacing k running.placing ≡ None)
-        × (units : ℕ) × (budget_for k running.budget ≡ Some units) × Wanted MAX_ROWS k units (left old) (left new) (held out_old) (held out_new))) (Rewrites command) out_old out_new end
+        × (units : ℕ) × (budget_for k running.budget ≡ Some units) × Wanted MAX_ROWS (run_format (telling_in command) k) k units (left old) (left new) (held out_old) (held out_new))) (Rewrites command) out_old out_new end
     pub trace : (new ≡ old) ⊎ Running command (λ running. (misplacing k running.placing ≡ None)
-        × (units : ℕ) × (budget_for k running.budget ≡ Some units) × ReadFor left faults down MAX_ROWS k units old new)
+        × (units : ℕ) × (budget_for k running.budget ≡ Some units) × ReadFor left faults down MAX_ROWS (run_format (telling_in command) k) k units old new)
 
   -- it was done with a text, whose kernel was folded first, or not
   pub record AnswersText (fold : Bool) (text : List ℕ) (old new : S) (out_old out_new : K) (end : Status) : Type 0 where
     pub prints : Prints held lost is_down (TellsTrace command (left old)) (TextReport text (CommandReport command fold (left old)))
         (AcceptedSo (FoldedIsMisused command fold) text)
         (Running command (λ running. Fell (faults old) (faults new) (down new)
-        × WantedByText fold running text (left old) (left new) (held out_old) (held out_new))) (Rewrites command) out_old out_new end
-    pub trace : (new ≡ old) ⊎ Running command (λ running. ReadForText left faults down fold running text old new)
+        × WantedByText (telling_in command) fold running text (left old) (left new) (held out_old) (held out_new))) (Rewrites command) out_old out_new end
+    pub trace : (new ≡ old) ⊎ Running command (λ running. ReadForText left faults down (telling_in command) fold running text old new)
 
   -- it was done with the text of a name. `Lost`: the store of the texts failed
   pub record AnswersNamed (fold : Bool) (content : List ℕ → Option (List ℕ)) (name : List ℕ) (Lost : Type 0) (old new : S) (out_old out_new : K) (end : Status) : Type 0 where
@@ -44,9 +45,9 @@ module _ {S K : Type 0} (left : S → Option (List ℕ)) (faults : S → ℕ) (d
         (λ r. (text : List ℕ) × (content name ≡ Some text) × TextReport text (CommandReport command fold (left old)) r)
         (IfSome (content name) (AcceptedSo (FoldedIsMisused command fold)))
         ((Lost × (held out_new ≡ held out_old)) ⊎ Running command (λ running. Fell (faults old) (faults new) (down new)
-        × IfSome (content name) (λ text. WantedByText fold running text (left old) (left new) (held out_old) (held out_new))))
+        × IfSome (content name) (λ text. WantedByText (telling_in command) fold running text (left old) (left new) (held out_old) (held out_new))))
         (Rewrites command) out_old out_new end
-    pub trace : (new ≡ old) ⊎ Running command (λ running. IfSome (content name) (λ text. ReadForText left faults down fold running text old new))
+    pub trace : (new ≡ old) ⊎ Running command (λ running. IfSome (content name) (λ text. ReadForText left faults down (telling_in command) fold running text old new))
 
 -- What the words ask was done. `content`: of a store the text of each name. `missed`, `gone`: how often the store has failed, and whether its
 -- last call failed; `faults` and `down` of the trace, `lost` and `is_down` of the sink.

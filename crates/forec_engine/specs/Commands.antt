@@ -8,10 +8,11 @@ use Rattle.thread_code.specs.Plain.{PlainCode}
 use Rattle.thread_code.specs.Valid.{IsValidCode}
 use Rattle.core_alloc.specs.Places.{Places}
 use Rattle.core_alloc.specs.declared.fault.PlaceFault.{PlaceFault}
-use Rattle.command_words.specs.Requests.{PlainPlacing, PlainRunning, PlainCommand, Run, Check, Threads, Code, Explain, PlainRequest, OnText, OnWorkload, request_of}
+use Rattle.command_words.specs.Requests.{PlainPlacing, PlainRunning, PlainCommand, Run, Wave, Check, Threads, Code, Explain, PlainRequest, OnText, OnWorkload, OnDump, request_of}
 use Rattle.thread_places.specs.Lines.{thread_lines}
 use Rattle.thread_places.specs.Placed.{IsPlacement}
 use Rattle.workload.specs.Text.{text_of}
+use Rattle.forec_engine.specs.Dumps.{DumpReport}
 use Rattle.text_verdict.specs.Counting.{counts_line}
 use Rattle.text_verdict.specs.Judging.{refusal_line, Accepts, Refuses, Judged}
 use Rattle.command_words.specs.declared.request.Budget.{Budget}
@@ -21,12 +22,15 @@ use Rattle.forec_engine.specs.Placing.{misplaced, misplacing, unless_misplaced}
 use Rattle.forec_engine.specs.Placing.{workload_report}
 use Rattle.text_verdict.specs.declared.counts.Counts.{Counts}
 use Rattle.text_verdict.specs.declared.refusal.Refusal.{Refusal}
+use Rattle.trace_runs.specs.KernelNames.{run_format}
 use Rattle.trace_runs.specs.Led.{IsTold}
 use Rattle.trace_runs.specs.Report.{Report, trace_report}
+use Rattle.trace_runs.specs.declared.format.Telling.{Telling}
+use Rattle.trace_runs.specs.declared.format.Telling.TheVariants as telling
 use Rattle.trace_runs.specs.declared.status.Status.TheVariants as status
 
 abbrev pub usage_line : List ℕ
-usage_line = codes "usage: forec run|check|threads|code|explain|gen PROGRAM [--cores N] [--place LIST] [--budget B] [--order N] [--fold]\n"
+usage_line = codes "usage: forec run|check|threads|code|explain|gen|wave|unwave PROGRAM [--cores N] [--place LIST] [--budget B] [--order N] [--fold]\n"
 
 abbrev pub usage : Report
 usage = record { bytes = usage_line; status = status.Usage }
@@ -54,14 +58,15 @@ pub record IsListing (k : PlainKernel) (r : Report) : Type 0 where
   pub stands : Stands code k
   pub lists : r ≡ listed code
 
--- the report of a kernel that runs over a trace of these bytes; where the threads are placed doesn't show in it
-abbrev pub run_report : PlainKernel → PlainRunning → List ℕ → Report
-run_report k running bytes =
-    with_budget (budget_for k running.budget) (λ units. unless_misplaced (misplacing k running.placing) (trace_report MAX_ROWS k units bytes))
+-- what is told of a kernel that runs over a trace of these bytes; where the threads are placed doesn't show in it
+abbrev pub run_report : Telling → PlainKernel → PlainRunning → List ℕ → Report
+run_report tells k running bytes =
+    with_budget (budget_for k running.budget)
+    (λ units. unless_misplaced (misplacing k running.placing) (trace_report MAX_ROWS (run_format tells k) k units bytes))
 
 -- the same of a kernel that is rewritten
 abbrev pub explain_report : PlainKernel → Budget → List ℕ → Report
-explain_report k b bytes = with_budget (budget_for k b) (λ units. trace_report MAX_ROWS k units bytes)
+explain_report k b bytes = with_budget (budget_for k b) (λ units. trace_report MAX_ROWS (run_format telling.Report k) k units bytes)
 
 -- r lists the threads of a kernel with their cores
 pub data ThreadsReport (k : PlainKernel) (placing : PlainPlacing) (r : Report) : Type 0 where
@@ -71,7 +76,8 @@ pub data ThreadsReport (k : PlainKernel) (placing : PlainPlacing) (r : Report) :
 -- r is the report of a command on a text that is accepted, with these counts and this kernel, where the trace has these bytes.
 -- Of `code` it is the listing of a valid code that stands for the kernel; which one is left open
 abbrev pub AcceptedReport : PlainCommand → Option (List ℕ) → Counts → PlainKernel → Report → Type 0
-AcceptedReport (Run running) trace counts k r = (bytes : List ℕ) × (trace ≡ Some bytes) × (r ≡ run_report k running bytes)
+AcceptedReport (Run running) trace counts k r = (bytes : List ℕ) × (trace ≡ Some bytes) × (r ≡ run_report telling.Report k running bytes)
+AcceptedReport (Wave running) trace counts k r = (bytes : List ℕ) × (trace ≡ Some bytes) × (r ≡ run_report telling.Wave k running bytes)
 AcceptedReport Check trace counts k r = r ≡ counted counts
 AcceptedReport (Threads placing) trace counts k r = ThreadsReport k placing r
 AcceptedReport (Explain b order) trace counts k r = (bytes : List ℕ) × (trace ≡ Some bytes) × (r ≡ explain_report k b bytes)
@@ -97,12 +103,14 @@ pub data IsReport (words : List (List ℕ)) (content : List ℕ → Option (List
       → TextReport text (CommandReport command fold trace) r → IsReport words content trace r
   Of_workload : (threads : ℕ) (running : PlainRunning) → request_of words ≡ Some (OnWorkload threads running) → WorkloadReport threads running r
       → IsReport words content trace r
+  Of_dump : (name : List ℕ) → request_of words ≡ Some (OnDump name) → DumpReport content name r → IsReport words content trace r
 
 -- ---- what is told
 
 -- the trace is told, where the command reads it
 abbrev pub TellsTrace : PlainCommand → Option (List ℕ) → Type 0
 TellsTrace (Run running) trace = IsTold trace
+TellsTrace (Wave running) trace = IsTold trace
 TellsTrace Check trace = Unit {0}
 TellsTrace (Threads placing) trace = Unit {0}
 TellsTrace Code trace = Unit {0}
@@ -113,9 +121,10 @@ abbrev pub TellsNamed : (List ℕ → Option (List ℕ)) → List ℕ → PlainC
 TellsNamed content name command trace = (text : List ℕ) × (content name ≡ Some text) × TellsTrace command trace
 
 -- the text that the words name is told, and the trace where it is read
-abbrev pub Tells : List (List ℕ) → (List ℕ → Option (List ℕ)) → Option (List ℕ) → Type 0
-Tells words content trace =
-    (name : List ℕ) (command : PlainCommand) (fold : Bool) → request_of words ≡ Some (OnText name command fold) → TellsNamed content name command trace
+pub record Tells (words : List (List ℕ)) (content : List ℕ → Option (List ℕ)) (trace : Option (List ℕ)) : Type 0 where
+  pub text : (name : List ℕ) (command : PlainCommand) (fold : Bool) → request_of words ≡ Some (OnText name command fold)
+      → TellsNamed content name command trace
+  pub dump : (name : List ℕ) → request_of words ≡ Some (OnDump name) → (text : List ℕ) × (content name ≡ Some text)
 
 -- ---- ranges
 
@@ -131,6 +140,7 @@ pub record IsRunnable (running : PlainRunning) : Type 0 where
 
 abbrev pub IsInRange : PlainCommand → Type 0
 IsInRange (Run running) = IsRunnable running
+IsInRange (Wave running) = IsRunnable running
 IsInRange Check = Unit {0}
 IsInRange (Threads placing) = IsPlaceable placing
 IsInRange Code = Unit {0}
@@ -139,3 +149,4 @@ IsInRange (Explain b order) = IsSmallBudget b
 abbrev pub HasRanges : PlainRequest → Type 0
 HasRanges (OnText name command fold) = IsInRange command
 HasRanges (OnWorkload threads running) = (threads ≤ 255) × IsRunnable running
+HasRanges (OnDump name) = Unit {0}

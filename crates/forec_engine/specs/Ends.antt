@@ -2,7 +2,7 @@
 use Rattle.std.specs.Prelude.{◌≡◌, ◌⊎◌, ℕ, Bool, List, Option, None, Some, IfSome}
 use Rattle.forec_base.specs.declared.limits.TheConstants.{MAX_ROWS}
 use Rattle.forec_kernel.specs.Shapes.{PlainKernel}
-use Rattle.command_words.specs.Requests.{PlainPlacing, PlainRunning, PlainCommand, Run, Check, Threads, Code, Explain, OnText, OnWorkload, request_of}
+use Rattle.command_words.specs.Requests.{PlainPlacing, PlainRunning, PlainCommand, Run, Wave, Check, Threads, Code, Explain, PlainRequest, OnText, OnWorkload, OnDump, request_of}
 use Rattle.workload.specs.Text.{text_of}
 use Rattle.text_verdict.specs.Judging.{Accepts, Judged}
 use Rattle.command_words.specs.declared.request.Budget.{Budget}
@@ -10,6 +10,9 @@ use Rattle.forec_engine.specs.Budgets.{budget_for, IsBoundless}
 use Rattle.forec_engine.specs.Folds.{kernel_for}
 use Rattle.forec_engine.specs.Placing.{misplacing, IsMisplaced, IsRefusedRun}
 use Rattle.trace_runs.specs.Ends.{Wanted, ReadFor}
+use Rattle.trace_runs.specs.KernelNames.{run_format}
+use Rattle.trace_runs.specs.declared.format.Telling.{Telling}
+use Rattle.trace_runs.specs.declared.format.Telling.TheVariants as telling
 use Rattle.text_verdict.specs.declared.counts.Counts.{Counts}
 
 -- A text of this kernel runs with so many units a tick: it is accepted, and neither the budget nor a list of places is refused for the
@@ -20,14 +23,30 @@ pub record RunsAs (text : List ℕ) (fold : Bool) (running : PlainRunning) (k : 
   pub bounded : budget_for (kernel_for fold k) running.budget ≡ Some units
   pub placed : misplacing (kernel_for fold k) running.placing ≡ None
 
--- the trace was wanted by the kernel of a text, which runs
-abbrev pub WantedByText : Bool → PlainRunning → List ℕ → Option (List ℕ) → Option (List ℕ) → Option (List ℕ) → Option (List ℕ) → Type 0
-WantedByText fold running text left_old left_new held_old held_new =
-    (k : PlainKernel) × (units : ℕ) × RunsAs text fold running k units × Wanted MAX_ROWS (kernel_for fold k) units left_old left_new held_old held_new
+-- the command that runs so and tells this
+abbrev pub run_with : Telling → PlainRunning → PlainCommand
+run_with telling.Report running = Run running
+run_with telling.Wave running = Wave running
+
+-- what a command tells of a run
+abbrev pub telling_in : PlainCommand → Telling
+telling_in (Run running) = telling.Report
+telling_in (Wave running) = telling.Wave
+telling_in Check = telling.Report
+telling_in (Threads placing) = telling.Report
+telling_in (Explain budget order) = telling.Report
+telling_in Code = telling.Report
+
+-- the trace was wanted by the kernel of a text, of which this is told
+abbrev pub WantedByText : Telling → Bool → PlainRunning → List ℕ → Option (List ℕ) → Option (List ℕ) → Option (List ℕ) → Option (List ℕ) → Type 0
+WantedByText tells fold running text left_old left_new held_old held_new =
+    (k : PlainKernel) × (units : ℕ) × RunsAs text fold running k units
+    × Wanted MAX_ROWS (run_format tells (kernel_for fold k)) (kernel_for fold k) units left_old left_new held_old held_new
 
 -- how a command runs over the trace, where it does; rewriting has no list of places
 abbrev pub running_in : PlainCommand → Option PlainRunning
 running_in (Run running) = Some running
+running_in (Wave running) = Some running
 running_in Check = None
 running_in (Threads placing) = None
 running_in (Explain budget order) = Some (record { placing = record { cores = 1; list = None }; budget = budget })
@@ -37,26 +56,28 @@ running_in Code = None
 abbrev pub WantedByWords : List (List ℕ) → (List ℕ → Option (List ℕ)) → Option (List ℕ) → Option (List ℕ) → Option (List ℕ) → Option (List ℕ) → Type 0
 WantedByWords words content left_old left_new held_old held_new =
     (running : PlainRunning) × (name : List ℕ) × (command : PlainCommand) × (fold : Bool) × (request_of words ≡ Some (OnText name command fold))
-    × (running_in command ≡ Some running) × IfSome (content name) (λ text. WantedByText fold running text left_old left_new held_old held_new)
+    × (running_in command ≡ Some running) × IfSome (content name) (λ text. WantedByText (telling_in command) fold running text left_old left_new held_old held_new)
 
 -- ---- reads of the trace
 
 -- the trace was read for the kernel of a text, which runs
-abbrev pub ReadForText : {S : Type 0} → (S → Option (List ℕ)) → (S → ℕ) → (S → Bool) → Bool → PlainRunning → List ℕ → S → S → Type 0
-ReadForText left faults down fold running text old new =
-    (k : PlainKernel) × (units : ℕ) × RunsAs text fold running k units × ReadFor left faults down MAX_ROWS (kernel_for fold k) units old new
+abbrev pub ReadForText : {S : Type 0} → (S → Option (List ℕ)) → (S → ℕ) → (S → Bool) → Telling → Bool → PlainRunning → List ℕ → S → S → Type 0
+ReadForText left faults down tells fold running text old new =
+    (k : PlainKernel) × (units : ℕ) × RunsAs text fold running k units
+    × ReadFor left faults down MAX_ROWS (run_format tells (kernel_for fold k)) (kernel_for fold k) units old new
 
 -- the same for words, which are a command that runs over the trace
 abbrev pub ReadForWords : {S : Type 0} → (S → Option (List ℕ)) → (S → ℕ) → (S → Bool) → List (List ℕ) → (List ℕ → Option (List ℕ)) → S → S → Type 0
 ReadForWords left faults down words content old new =
     (running : PlainRunning) × (name : List ℕ) × (command : PlainCommand) × (fold : Bool) × (request_of words ≡ Some (OnText name command fold))
-    × (running_in command ≡ Some running) × IfSome (content name) (λ text. ReadForText left faults down fold running text old new)
+    × (running_in command ≡ Some running) × IfSome (content name) (λ text. ReadForText left faults down (telling_in command) fold running text old new)
 
 -- ---- misuse
 
 -- how a command places threads, where it does
 abbrev pub placing_in : PlainCommand → Option PlainPlacing
 placing_in (Run running) = Some running.placing
+placing_in (Wave running) = Some running.placing
 placing_in Check = None
 placing_in (Threads placing) = Some placing
 placing_in Code = None
@@ -86,9 +107,21 @@ pub data IsMisuse (words : List (List ℕ)) (content : List ℕ → Option (List
 
 -- ---- texts
 
+-- the name of the text that is asked for
+abbrev pub name_in : PlainRequest → Option (List ℕ)
+name_in (OnText name command fold) = Some name
+name_in (OnWorkload threads running) = None
+name_in (OnDump name) = Some name
+
+-- the words name this text
+pub record NameThis (words : List (List ℕ)) (name : List ℕ) : Type 0 where
+  pub request : PlainRequest
+  pub asks : request_of words ≡ Some request
+  pub names : name_in request ≡ Some name
+
 -- the words name a text
 abbrev pub NameText : List (List ℕ) → Type 0
-NameText words = (name : List ℕ) × (command : PlainCommand) × (fold : Bool) × (request_of words ≡ Some (OnText name command fold))
+NameText words = (name : List ℕ) × NameThis words name
 
 -- ---- rewriting
 

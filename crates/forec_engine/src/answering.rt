@@ -2,11 +2,12 @@
 ghost use Rattle.std.specs.Prelude.{◌≡◌, ◌≢◌, ◌≤◌, ⊤, length, Some, IfOk, IfSome};
 ghost use Rattle.forec_base.specs.declared.limits.TheConstants.{MAX_BUDGET};
 ghost use Rattle.forec_kernel.specs.Shapes.{plain_kernel};
-ghost use Rattle.command_words.specs.Requests.{Run, Explain, plain_placing, plain_running, plain_command};
+ghost use Rattle.command_words.specs.Requests.{Explain, plain_placing, plain_running, plain_command};
 ghost use Rattle.core_alloc.specs.declared.fault.PlaceFault.TheVariants as fault;
 ghost use Rattle.forec_engine.specs.Answers.{Answers};
 ghost use Rattle.forec_engine.specs.Budgets.{budget_for, boundless, IsSmallBudget};
 ghost use Rattle.forec_engine.specs.Commands.{refused, counted, threads_listed, ThreadsReport, IsListing, IsPlaceable, IsRunnable, IsInRange};
+ghost use Rattle.forec_engine.specs.Ends.{run_with};
 ghost use Rattle.forec_engine.specs.Placing.{misplaced, workload_report, IsMisplaced, IsRefusedRun};
 ghost use Rattle.trace_runs.specs.Prints.{Prints, Says};
 
@@ -24,7 +25,9 @@ use text_verdict::{Accepted, Counts, Refusal};
 use thread_code::listing;
 use thread_places::{place, thread_list};
 use tick_bounds::tick_bound;
-use trace_runs::{Setting, Status, Waiting, host_trace, host_workload, rewrite_trace, say};
+use trace_runs::{
+    Setting, Status, Telling, Waiting, host_trace, host_workload, rewrite_trace, say,
+};
 
 /// Says why a text is refused.
 pub fn refuse<K: Sink>(alloc: Global, why: Refusal, out: &mut K) -> Status
@@ -79,10 +82,11 @@ fn say_boundless<K: Sink>(out: &mut K) -> Status
     say(out, b"bound none\n", Status::Usage)
 }
 
-/// Places the threads, and runs with so many units a tick.
+/// Places the threads, and runs with so many units a tick. What is told of the run is written.
 fn place_and_start<S: Source, K: Sink, G: Gate + Sync, R: Threads + Wait + Sync>(
     setting: &Setting<'_, G, R>,
     accepted: &Accepted,
+    telling: Telling,
     running: Running<'_>,
     units: u64,
     trace: &mut S,
@@ -91,33 +95,37 @@ fn place_and_start<S: Source, K: Sink, G: Gate + Sync, R: Threads + Wait + Sync>
     requires runs { IsRunnable (plain_running running) }
     requires units { budget_for (plain_kernel accepted.now.kernel) (plain_running running).budget ≡ Some units }
     requires small { units ≤ MAX_BUDGET }
-    ensures { Answers S.left S.faults S.down K.held K.faults K.down (Run (plain_running running.entry))
+    ensures { Answers S.left S.faults S.down K.held K.faults K.down (run_with telling (plain_running running.entry))
         accepted.now.counts
         (plain_kernel accepted.now.kernel) trace.old trace.new out.old out.new result }
 {
     let alloc = setting.alloc;
     let kernel = &accepted.kernel;
     match place(alloc, kernel, running.placing) {
-        Ok(placement) => host_trace(setting, kernel, &placement, units, trace, out),
+        Ok(placement) => host_trace(setting, kernel, &placement, telling, units, trace, out),
         Err(why) => misplace(alloc, why, out),
     }
 }
 
-/// Runs, where the budget isn't a bound that there isn't, nor the list of places refused.
+/// Runs, where the budget isn't a bound that there isn't, nor the list of places refused. What is told of the run is
+/// written.
 fn start<S: Source, K: Sink, G: Gate + Sync, R: Threads + Wait + Sync>(
     setting: &Setting<'_, G, R>,
     accepted: &Accepted,
+    telling: Telling,
     running: Running<'_>,
     trace: &mut S,
     out: &mut K,
 ) -> Status
     requires { IsRunnable (plain_running running) }
-    ensures { Answers S.left S.faults S.down K.held K.faults K.down (Run (plain_running running.entry))
+    ensures { Answers S.left S.faults S.down K.held K.faults K.down (run_with telling (plain_running running.entry))
         accepted.now.counts
         (plain_kernel accepted.now.kernel) trace.old trace.new out.old out.new result }
 {
     match budget_units(setting.alloc, &accepted.kernel, running.budget) {
-        Ok(Some(units)) => place_and_start(setting, accepted, running, units, trace, out),
+        Ok(Some(units)) => {
+            place_and_start(setting, accepted, telling, running, units, trace, out)
+        }
         Ok(None) => say_boundless(out),
         Err(_) => Status::NoMemory,
     }
@@ -138,7 +146,15 @@ fn explain<S: Source, K: Sink, G: Gate + Sync, R: Threads + Wait + Sync>(
 {
     let kernel = &accepted.kernel;
     match budget_units(setting.alloc, kernel, budget) {
-        Ok(Some(units)) => rewrite_trace(setting, kernel, order, units, trace, out),
+        Ok(Some(units)) => rewrite_trace(
+            setting,
+            kernel,
+            order,
+            Telling::Report,
+            units,
+            trace,
+            out,
+        ),
         Ok(None) => say_boundless(out),
         Err(_) => Status::NoMemory,
     }
@@ -222,7 +238,12 @@ pub fn answer<S: Source, K: Sink, G: Gate + Sync, R: Threads + Wait + Sync>(
     let alloc = setting.alloc;
     let kernel = &accepted.kernel;
     match command {
-        Command::Run { running } => start(setting, accepted, running, trace, out),
+        Command::Run { running } => {
+            start(setting, accepted, Telling::Report, running, trace, out)
+        }
+        Command::Wave { running } => {
+            start(setting, accepted, Telling::Wave, running, trace, out)
+        }
         Command::Check => tell(alloc, accepted.counts, out),
         Command::Threads { placing } => list_threads(alloc, kernel, placing, out),
         Command::Explain { budget, order } => {

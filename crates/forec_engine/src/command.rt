@@ -1,18 +1,19 @@
 //! The top call.
 ghost use Rattle.std.specs.Prelude.{◌≡◌, ◌≤◌, ◌≢◌, ◌⊎◌, ⊤, List, ℕ, Bool, map, length, string_bytes, Some};
 ghost use Rattle.forec_base.specs.Outside.{Fell, Rose};
-ghost use Rattle.command_words.specs.Requests.{PlainCommand, OnText, plain_running, plain_command, request_of};
+ghost use Rattle.command_words.specs.Requests.{plain_running, plain_command};
 ghost use Rattle.workload.specs.Text.{text_of};
 ghost use Rattle.trace_runs.specs.Calls.{AppendsFront};
 ghost use Rattle.forec_engine.specs.Answers.{AnswersText, AnswersNamed, AnswersWords};
 ghost use Rattle.forec_engine.specs.Commands.{IsReport, WorkloadReport, Tells, IsInRange, IsRunnable};
 ghost use Rattle.trace_runs.specs.Ends.{IsOwn, Given};
-ghost use Rattle.forec_engine.specs.Ends.{WantedByWords, ReadForWords, AcceptedSo, IsMisuse, NameText, AskForRewriting};
+ghost use Rattle.forec_engine.specs.Ends.{WantedByWords, ReadForWords, AcceptedSo, IsMisuse, NameThis, NameText, AskForRewriting};
 ghost use Rattle.forec_engine.specs.Placing.{IsRefusedRun};
 ghost use Rattle.trace_runs.specs.Prints.{Prints};
 ghost use Rattle.trace_runs.specs.Report.{Report};
 
 use crate::answering::{answer_workload, refuse};
+use crate::dumps::tell_named;
 use crate::folding::answer_folded;
 use command_words::{Command, Request, Running, WordsFault, read_words};
 use forec_base::{Gate, MAX_DEPTH, MAX_TEXT_BYTES, Sink, Source, TextFault, Texts};
@@ -24,7 +25,7 @@ use trace_runs::{Setting, Status, say};
 use workload::workload_text;
 
 const USAGE: &[u8] =
-    b"usage: forec run|check|threads|code|explain|gen PROGRAM [--cores N] [--place LIST] [--budget B] [--order N] [--fold]\n";
+    b"usage: forec run|check|threads|code|explain|gen|wave|unwave PROGRAM [--cores N] [--place LIST] [--budget B] [--order N] [--fold]\n";
 
 /// A command, and whether the constants of the kernel are folded before it is done.
 #[derive(Clone, Copy)]
@@ -122,8 +123,7 @@ pub fn forec_within<T: Texts, S: Source, K: Sink, G: Gate + Sync, R: Threads + W
     out: &mut K,
 ) -> Status
     // The text that the words name may be asked for.
-    requires may { (name : List ℕ) (command : PlainCommand) (fold : Bool)
-        → request_of (map string_bytes words.now) ≡ Some (OnText name command fold) → T.may texts.old name }
+    requires may { (name : List ℕ) → NameThis (map string_bytes words.now) name → T.may texts.old name }
     ensures { AnswersWords T.content T.faults T.down S.left S.faults S.down K.held K.faults K.down
         (map string_bytes words.now) texts.old texts.new trace.old trace.new out.old out.new result }
 {
@@ -141,6 +141,7 @@ pub fn forec_within<T: Texts, S: Source, K: Sink, G: Gate + Sync, R: Threads + W
         Ok(Request::Workload { threads, running }) => {
             run_workload_text(setting, deepest, threads, running, out)
         }
+        Ok(Request::Dump { dump }) => tell_named(setting.alloc, dump, texts, out),
         Err(WordsFault::Usage) => say(out, USAGE, Status::Usage),
         Err(WordsFault::OutOfMemory) => Status::NoMemory,
     }
@@ -169,8 +170,7 @@ pub fn forec<T: Texts, S: Source, K: Sink, G: Gate + Sync, R: Threads + Wait + S
     gate: &G,
 ) -> Status
     // The text that the words name may be asked for.
-    requires may { (name : List ℕ) (command : PlainCommand) (fold : Bool)
-        → request_of (map string_bytes words.now) ≡ Some (OnText name command fold) → T.may texts.old name }
+    requires may { (name : List ℕ) → NameThis (map string_bytes words.now) name → T.may texts.old name }
 
     // Where the text and the trace are known, what is printed is a report of the words, and the status is the
     // report's.

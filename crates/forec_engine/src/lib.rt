@@ -3,6 +3,7 @@
 
 mod answering;
 mod command;
+mod dumps;
 mod folding;
 mod laws;
 mod lines;

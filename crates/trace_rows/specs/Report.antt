@@ -4,8 +4,6 @@ use Rattle.std.specs.Fmt.{signed_decimal}
 use Rattle.forec_base.specs.declared.Place.{Place}
 use Rattle.forec_base.specs.declared.Trap.{Trap}
 use Rattle.forec_base.specs.declared.Trap.TheVariants as trap
-use Rattle.forec_kernel.specs.declared.shape.Outcome.{Outcome}
-use Rattle.forec_kernel.specs.declared.shape.Outcome.TheVariants as outcome
 use Rattle.trace_rows.specs.declared.fault.RowFault.{RowFault}
 use Rattle.trace_rows.specs.declared.fault.RowFault.TheVariants as fault
 
@@ -30,47 +28,38 @@ pairs_room (name ∷ names) = (length name + 13) + pairs_room names
 abbrev pub tick_room : List (List ℕ) → ℕ
 tick_room names = 26 + pairs_room names
 
--- ---- the lines of an outcome
+-- ---- the last line, without its byte 10
 
 -- the program ended in tick n
-abbrev pub end_line : ℕ → List ℕ
-end_line n = codes "end " ++ decimal n ++ codes "\n"
+abbrev pub end_words : ℕ → List ℕ
+end_words n = codes "end " ++ decimal n
 
 abbrev pub trap_word : Trap → List ℕ
-trap_word trap.Divide = codes " divide\n"
-trap_word trap.Index = codes " index\n"
-trap_word trap.Turns = codes " turns\n"
+trap_word trap.Divide = codes " divide"
+trap_word trap.Index = codes " index"
+trap_word trap.Turns = codes " turns"
 
 -- tick n traps at a place
-abbrev pub trap_line : ℕ → Place → Trap → List ℕ
-trap_line n place trap =
+abbrev pub trap_words : ℕ → Place → Trap → List ℕ
+trap_words n place trap =
     codes "trap " ++ decimal n ++ codes " " ++ decimal place.line ++ codes ":" ++ decimal place.column ++ trap_word trap
 
 -- the units of tick n pass the budget
-abbrev pub over_line : ℕ → ℕ → List ℕ
-over_line n budget = codes "over " ++ decimal n ++ codes " budget " ++ decimal budget ++ codes "\n"
-
--- the lines of tick n, which went so and gave these outputs
-abbrev pub outcome_lines : List (List ℕ) → ℕ → ℕ → Outcome → List ℤ → List ℕ
-outcome_lines names budget n outcome.Paused outputs = tick_line n names outputs
-outcome_lines names budget n outcome.Ended outputs = tick_line n names outputs ++ end_line n
-outcome_lines names budget n (outcome.Trapped place trap) outputs = trap_line n place trap
-outcome_lines names budget n outcome.Over outputs = over_line n budget
-
--- ---- how a trace ends
+abbrev pub over_words : ℕ → ℕ → List ℕ
+over_words n budget = codes "over " ++ decimal n ++ codes " budget " ++ decimal budget
 
 -- the trace ended after so many rows, and the program goes on
-abbrev pub rows_line : ℕ → List ℕ
-rows_line rows = codes "rows " ++ decimal rows ++ codes "\n"
+abbrev pub rows_words : ℕ → List ℕ
+rows_words rows = codes "rows " ++ decimal rows
 
 -- what a line is that is no row; the faults that no line has are no words
 abbrev pub fault_word : RowFault → List ℕ
-fault_word fault.Bad = codes " bad\n"
-fault_word fault.Long = codes " long\n"
-fault_word fault.Many = codes " many\n"
+fault_word fault.Bad = codes " bad"
+fault_word fault.Long = codes " long"
+fault_word fault.Many = codes " many"
 fault_word fault.ReadFault = []
 fault_word fault.OutOfMemory = []
 
 -- line n of the trace is no row; the header is line 0
-abbrev pub row_line : ℕ → RowFault → List ℕ
-row_line n f = codes "row " ++ decimal n ++ fault_word f
+abbrev pub row_words : ℕ → RowFault → List ℕ
+row_words n f = codes "row " ++ decimal n ++ fault_word f

@@ -1,14 +1,19 @@
 -- The report of a trace, line by line.
-use Rattle.std.proofs.Common.{◌≡◌, ℕ, ◌+◌, Bool, true, false, cond, if◌then◌else◌, List, [], ◌∷◌, ◌++◌, Option, Some, None, Result, Ok, Err, refl, sym, ap, subst, ◌∙◌, append_assoc, append-nil}
+use Rattle.std.proofs.Common.{◌≡◌, ℕ, ◌+◌, ◌-◌, ℤ, Bool, true, false, cond, if◌then◌else◌, List, [], ◌∷◌, ◌++◌, Option, Some, None, Result, Ok, Err, refl, sym, ap, subst, ◌∙◌, append_assoc, append-nil}
 use Rattle.std.specs.Option.{option_map}
 use Rattle.forec_kernel.specs.declared.shape.Outcome.{Outcome}
 use Rattle.forec_kernel.specs.declared.shape.Outcome.TheVariants as outcome
 use Rattle.forec_kernel.specs.Composed.{TickInput}
 use Rattle.forec_kernel.specs.Shapes.{PlainKernel}
 use Rattle.forec_kernel.specs.Ticks.{State, Tick, tick, goes_on, run_from}
-use Rattle.trace_rows.specs.Trace.{Row, Form, Trace, next_form, onto, row_at}
+use Rattle.trace_rows.specs.Report.{rows_words, row_words}
+use Rattle.trace_rows.specs.Trace.{Row, Form, End, Trace, next_form, onto, row_at}
 use Rattle.trace_rows.specs.declared.fault.RowFault.{RowFault}
-use Rattle.trace_runs.specs.Report.{Report, Pace, tick_lines, lines_from, last_outcome, ending, behind_bytes, report_from, turns_from, with_row, printed_before, advance}
+use Rattle.trace_runs.specs.Formats.{before_words, after_words, last_written, format_after}
+use Rattle.trace_runs.specs.declared.format.Format.{Format}
+use Rattle.trace_runs.specs.declared.format.Format.TheVariants as format
+use Rattle.trace_runs.specs.Report.{Report, Pace, tick_lines, lines_from, last_outcome, end_of_trace, ending, behind_bytes, report_from, turns_from, with_row, printed_before, advance}
+use Rattle.trace_runs.specs.declared.status.Status.TheVariants as status
 
 -- a row at which the program goes on
 pub record PausesAtRow (limit : ℕ) (k : PlainKernel) (budget : ℕ) (form : Form) (s : State) (n : ℕ) (line : List ℕ) (row : Row) : Type 0 where
@@ -50,34 +55,55 @@ turns_stop k budget s row rows h =
     let turn : TickInput = record { row = row; budget = budget } in
     ap (λ (b : Bool). turn ∷ (if b then turns_from k budget (tick k budget s row).state rows else [])) h
 
-ticks_on : (k : PlainKernel) (budget n : ℕ) (t : Tick) (ts : List Tick) (trace : Trace) → goes_on t.outcome ≡ true →
-    behind_bytes (lines_from k budget n (t ∷ ts)) (ending (last_outcome (t ∷ ts)) trace.end)
-    ≡ behind_bytes (tick_lines k budget n t) (behind_bytes (lines_from k budget (n + 1) ts) (ending (last_outcome ts) trace.end))
-ticks_on k budget n t ts trace h =
-    let e = ending (last_outcome ts) trace.end in
-    ap (λ (o : Outcome). behind_bytes (tick_lines k budget n t ++ lines_from k budget (n + 1) ts) (ending o trace.end)) (last_on t ts h)
-    ∙ ap (λ (bs : List ℕ). record { bytes = bs; status = e.status }) (append_assoc (tick_lines k budget n t) (lines_from k budget (n + 1) ts) e.bytes)
+-- a tick changes nothing in how the last line is written
+pub last_alike : (how : Format) (values : List ℤ) (words : List ℕ) → last_written how words ≡ last_written (format_after how values) words
+last_alike (format.Report names) values words = refl
+last_alike (format.Wave names olds) values words = refl
+
+end_alike : (how : Format) (values : List ℤ) (cause : Option RowFault) (n : ℕ) → end_of_trace how cause n ≡ end_of_trace (format_after how values) cause n
+end_alike how values None n = ap (λ (bs : List ℕ). record { bytes = bs; status = status.Done }) (last_alike how values (rows_words (n - 1)))
+end_alike how values (Some f) n = ap (λ (bs : List ℕ). record { bytes = bs; status = status.Trace }) (last_alike how values (row_words n f))
+
+ending_alike : (how : Format) (values : List ℤ) (o : Outcome) (end : End) → ending how o end ≡ ending (format_after how values) o end
+ending_alike how values outcome.Paused end = end_alike how values end.cause end.line
+ending_alike how values outcome.Ended end = refl
+ending_alike how values (outcome.Trapped place trap) end = refl
+ending_alike how values outcome.Over end = refl
+
+ticks_on : (how : Format) (budget n : ℕ) (t : Tick) (ts : List Tick) (trace : Trace) → goes_on t.outcome ≡ true →
+    behind_bytes (lines_from how budget n (t ∷ ts)) (ending how (last_outcome (t ∷ ts)) trace.end)
+    ≡ behind_bytes (tick_lines how budget n t)
+    (behind_bytes (lines_from (format_after how t.outputs) budget (n + 1) ts) (ending (format_after how t.outputs) (last_outcome ts) trace.end))
+ticks_on how budget n t ts trace h =
+    let later = format_after how t.outputs in
+    let e = ending later (last_outcome ts) trace.end in
+    ap (λ (o : Outcome). behind_bytes (tick_lines how budget n t ++ lines_from later budget (n + 1) ts) (ending how o trace.end)) (last_on t ts h)
+    ∙ ap (behind_bytes (tick_lines how budget n t ++ lines_from later budget (n + 1) ts)) (ending_alike how t.outputs (last_outcome ts) trace.end)
+    ∙ ap (λ (bs : List ℕ). record { bytes = bs; status = e.status }) (append_assoc (tick_lines how budget n t) (lines_from later budget (n + 1) ts) e.bytes)
 
 -- one tick more, of a row and those after it
-pub report_step : (k : PlainKernel) (budget : ℕ) (s : State) (n m : ℕ) (row : Row) (rest : Trace) → goes_on (tick k budget s row).outcome ≡ true →
-    report_from k budget s n (onto (Ok row) m rest) ≡ (let t = tick k budget s row in behind_bytes (tick_lines k budget n t) (report_from k budget t.state (n + 1) rest))
-report_step k budget s n m row rest h =
+pub report_step : (how : Format) (k : PlainKernel) (budget : ℕ) (s : State) (n m : ℕ) (row : Row) (rest : Trace) → goes_on (tick k budget s row).outcome ≡ true →
+    report_from how k budget s n (onto (Ok row) m rest)
+    ≡ (let t = tick k budget s row in behind_bytes (tick_lines how budget n t) (report_from (format_after how t.outputs) k budget t.state (n + 1) rest))
+report_step how k budget s n m row rest h =
     let t = tick k budget s row in
-    ap (λ ts. behind_bytes (lines_from k budget n ts) (ending (last_outcome ts) rest.end)) (run_on k budget s row rest.rows h)
-    ∙ ticks_on k budget n t (run_from k budget t.state rest.rows) rest h
+    ap (λ ts. behind_bytes (lines_from how budget n ts) (ending how (last_outcome ts) rest.end)) (run_on k budget s row rest.rows h)
+    ∙ ticks_on how budget n t (run_from k budget t.state rest.rows) rest h
 
-pub advance_step : (limit : ℕ) (k : PlainKernel) (budget : ℕ) (form : Form) (s : State) (n : ℕ) (line : List ℕ) (lines : List (List ℕ)) (row : Row) → PausesAtRow limit k budget form s n line row →
-    advance limit k budget form s n (line ∷ lines)
-    ≡ (let t = tick k budget s row in option_map (printed_before (tick_lines k budget n t)) (advance limit k budget (next_form form row) t.state (n + 1) lines))
-advance_step limit k budget form s n line lines row h = rw (h.row_is, h.on) refl
+pub advance_step : (limit : ℕ) (how : Format) (k : PlainKernel) (budget : ℕ) (form : Form) (s : State) (n : ℕ) (line : List ℕ) (lines : List (List ℕ)) (row : Row) →
+    PausesAtRow limit k budget form s n line row →
+    advance limit how k budget form s n (line ∷ lines)
+    ≡ (let t = tick k budget s row in
+    option_map (printed_before (tick_lines how budget n t)) (advance limit (format_after how t.outputs) k budget (next_form form row) t.state (n + 1) lines))
+advance_step limit how k budget form s n line lines row h = rw (h.row_is, h.on) refl
 
 -- what an advance over a line and those after it says
-pub record Went (limit : ℕ) (k : PlainKernel) (budget : ℕ) (form : Form) (s : State) (n : ℕ) (line : List ℕ) (lines : List (List ℕ)) (p : Pace) : Type 0 where
+pub record Went (limit : ℕ) (how : Format) (k : PlainKernel) (budget : ℕ) (form : Form) (s : State) (n : ℕ) (line : List ℕ) (lines : List (List ℕ)) (p : Pace) : Type 0 where
   pub row : Row
   pub goes : PausesAtRow limit k budget form s n line row
   pub rest : Pace
-  pub rest_is : advance limit k budget (next_form form row) (tick k budget s row).state (n + 1) lines ≡ Some rest
-  pub whole : p ≡ printed_before (tick_lines k budget n (tick k budget s row)) rest
+  pub rest_is : advance limit (format_after how (tick k budget s row).outputs) k budget (next_form form row) (tick k budget s row).state (n + 1) lines ≡ Some rest
+  pub whole : p ≡ printed_before (tick_lines how budget n (tick k budget s row)) rest
 
 some_of : {A B : Type 0} (f : A → B) (o : Option A) (y : B) → option_map f o ≡ Some y → (x : A) × (o ≡ Some x) × (y ≡ f x)
 some_of f None y e = absurd cc
@@ -91,8 +117,9 @@ cond_some : {A : Type 0} (b : Bool) (o : Option A) (y : A) → cond b o None ≡
 cond_some true o y e = (refl, e)
 cond_some false o y e = absurd cc
 
-pub went_of : (limit : ℕ) (k : PlainKernel) (budget : ℕ) (form : Form) (s : State) (n : ℕ) (line : List ℕ) (lines : List (List ℕ)) (p : Pace) → advance limit k budget form s n (line ∷ lines) ≡ Some p → Went limit k budget form s n line lines p
-went_of limit k budget form s n line lines p e =
+pub went_of : (limit : ℕ) (how : Format) (k : PlainKernel) (budget : ℕ) (form : Form) (s : State) (n : ℕ) (line : List ℕ) (lines : List (List ℕ)) (p : Pace) →
+    advance limit how k budget form s n (line ∷ lines) ≡ Some p → Went limit how k budget form s n line lines p
+went_of limit how k budget form s n line lines p e =
     let r = with_row_some (row_at limit form n line) _ p e in
     let c = cond_some _ _ p r.2 in
     let m = some_of _ _ p c.1 in
@@ -104,23 +131,33 @@ behind_twice a b r = ap (λ (bs : List ℕ). record { bytes = bs; status = r.sta
 -- where the program stands after one more line
 abbrev pub pace_after : PlainKernel → ℕ → Pace → Row → Pace
 pace_after k budget p row =
-    let t = tick k budget p.state row in record { state = t.state; next = p.next + 1; form = next_form p.form row; bytes = p.bytes ++ tick_lines k budget p.next t }
-
-printed_twice : (k : PlainKernel) (budget : ℕ) (a : List ℕ) (p : Pace) (row : Row) → Some (printed_before a (pace_after k budget p row)) ≡ Some (pace_after k budget (printed_before a p) row)
-printed_twice k budget a p row =
     let t = tick k budget p.state row in
-    ap (λ (bs : List ℕ). Some (record { state = t.state; next = p.next + 1; form = next_form p.form row; bytes = bs })) (sym (append_assoc a p.bytes (tick_lines k budget p.next t)))
+    record {
+      state = t.state;
+      next = p.next + 1;
+      form = next_form p.form row;
+      format = format_after p.format t.outputs;
+      bytes = p.bytes ++ tick_lines p.format budget p.next t;
+    }
 
-pub advance_more : (limit : ℕ) (k : PlainKernel) (budget : ℕ) (form : Form) (s : State) (n : ℕ) (lines : List (List ℕ)) (p : Pace) (line : List ℕ) (row : Row) → advance limit k budget form s n lines ≡ Some p →
-    PausesAtRow limit k budget p.form p.state p.next line row → advance limit k budget form s n (lines ++ line ∷ []) ≡ Some (pace_after k budget p row)
-advance_more limit k budget form s n [] p line row e h =
-    let same : record { state = s; next = n; form = form; bytes = [] } ≡ p = cc in
-    subst (λ (q : Pace). PausesAtRow limit k budget q.form q.state q.next line row → advance limit k budget form s n (line ∷ []) ≡ Some (pace_after k budget q row)) same
-    (λ g. advance_step limit k budget form s n line [] row g ∙ rw append-nil refl) h
-advance_more limit k budget form s n (first ∷ lines) p line row e h =
-    let w = went_of limit k budget form s n first lines p e in
+pub printed_after : (k : PlainKernel) (budget : ℕ) (a : List ℕ) (p : Pace) (row : Row) → printed_before a (pace_after k budget p row) ≡ pace_after k budget (printed_before a p) row
+printed_after k budget a p row =
+    let t = tick k budget p.state row in
+    ap (λ (bs : List ℕ). record { state = t.state; next = p.next + 1; form = next_form p.form row; format = format_after p.format t.outputs; bytes = bs })
+    (sym (append_assoc a p.bytes (tick_lines p.format budget p.next t)))
+
+pub advance_more : (limit : ℕ) (how : Format) (k : PlainKernel) (budget : ℕ) (form : Form) (s : State) (n : ℕ) (lines : List (List ℕ)) (p : Pace) (line : List ℕ) (row : Row) →
+    advance limit how k budget form s n lines ≡ Some p →
+    PausesAtRow limit k budget p.form p.state p.next line row → advance limit how k budget form s n (lines ++ line ∷ []) ≡ Some (pace_after k budget p row)
+advance_more limit how k budget form s n [] p line row e h =
+    let same : record { state = s; next = n; form = form; format = how; bytes = [] } ≡ p = cc in
+    subst (λ (q : Pace). PausesAtRow limit k budget q.form q.state q.next line row → advance limit how k budget form s n (line ∷ []) ≡ Some (pace_after k budget q row)) same
+    (λ g. advance_step limit how k budget form s n line [] row g ∙ rw append-nil refl) h
+advance_more limit how k budget form s n (first ∷ lines) p line row e h =
+    let w = went_of limit how k budget form s n first lines p e in
     let t = tick k budget s w.row in
-    subst (λ (q : Pace). PausesAtRow limit k budget q.form q.state q.next line row → advance limit k budget form s n (first ∷ (lines ++ line ∷ [])) ≡ Some (pace_after k budget q row)) (sym w.whole)
-    (λ g. advance_step limit k budget form s n first (lines ++ line ∷ []) w.row w.goes
-    ∙ ap (option_map (printed_before (tick_lines k budget n t))) (advance_more limit k budget (next_form form w.row) t.state (n + 1) lines w.rest line row w.rest_is g)
-    ∙ printed_twice k budget (tick_lines k budget n t) w.rest row) h
+    subst (λ (q : Pace). PausesAtRow limit k budget q.form q.state q.next line row → advance limit how k budget form s n (first ∷ (lines ++ line ∷ [])) ≡ Some (pace_after k budget q row)) (sym w.whole)
+    (λ g. advance_step limit how k budget form s n first (lines ++ line ∷ []) w.row w.goes
+    ∙ ap (option_map (printed_before (tick_lines how budget n t)))
+    (advance_more limit (format_after how t.outputs) k budget (next_form form w.row) t.state (n + 1) lines w.rest line row w.rest_is g)
+    ∙ ap Some (printed_after k budget (tick_lines how budget n t) w.rest row)) h

@@ -9,6 +9,8 @@ use Rattle.trace_rows.specs.Reader.{Reader, HasLine, first_line}
 use Rattle.trace_rows.specs.SourceReads.{Reads, none, more, Lacks, Reading, TakesHead, TakesRow}
 use Rattle.trace_rows.specs.Trace.{Row, header_at, next_form, row_at}
 use Rattle.trace_runs.specs.Ends.{GoesOn, ReadFor}
+use Rattle.trace_runs.specs.Formats.{opening}
+use Rattle.trace_runs.specs.declared.format.Format.{Format}
 use Rattle.trace_runs.specs.KernelNames.{input_names}
 use Rattle.trace_runs.specs.Progress.{GoesOnFrom}
 use Rattle.trace_runs.specs.Report.{Pace, advance, printed_for}
@@ -30,13 +32,13 @@ pub record Covers (run : Run) (now : Reader) (p : Pace) (given : List ℕ) : Typ
   pub on : run.first.ended ≡ false
   pub lines : List (List ℕ)
   pub whole : (rest : List ℕ) → whole_lines (run.first.held ++ (given ++ rest)) ≡ lines ++ whole_lines (now.held ++ rest)
-  pub led : advance run.first.limit run.kernel run.budget run.first.form Fresh 1 lines ≡ Some p
+  pub led : advance run.first.limit run.format run.kernel run.budget run.first.form Fresh 1 lines ≡ Some p
 
-goes_on_from : (run : Run) (now : Reader) (p : Pace) (given came : List ℕ) → Covers run now p given → (HasLine (now.held ++ came) → ⊥) → GoesOnFrom run.kernel run.budget run.first (given ++ came)
+goes_on_from : (run : Run) (now : Reader) (p : Pace) (given came : List ℕ) → Covers run now p given → (HasLine (now.held ++ came) → ⊥) → GoesOnFrom run.format run.kernel run.budget run.first (given ++ came)
 goes_on_from run now p given came c lacks = (
   c.on,
   p,
-  ap (λ ls. advance run.first.limit run.kernel run.budget run.first.form Fresh 1 ls) (c.whole came ∙ (ap (λ ls. c.lines ++ ls) (no_line (now.held ++ came) lacks) ∙ append-nil c.lines)) ∙ c.led,
+  ap (λ ls. advance run.first.limit run.format run.kernel run.budget run.first.form Fresh 1 ls) (c.whole came ∙ (ap (λ ls. c.lines ++ ls) (no_line (now.held ++ came) lacks) ∙ append-nil c.lines)) ∙ c.led,
 )
 
 covers_more : (run : Run) (now new : Reader) (p : Pace) (given came bytes : List ℕ) (values : Row) → Covers run now p given → bytes ≡ now.held ++ came → Stands_at run.first p.next now → p.form ≡ now.form →
@@ -50,7 +52,7 @@ covers_more run now new p given came bytes values c behind at same takes e on =
           ∙ ap (λ r. c.lines ++ whole_lines r) (sym (append_assoc now.held came rest) ∙ ap (λ r. r ++ rest) (sym behind))
           ∙ ap (λ ls. c.lines ++ ls) (lines_behind bytes new.held rest (takes.takes.whole e) takes.takes.rest)
           ∙ sym (append_assoc c.lines (first_line bytes ∷ []) (whole_lines (new.held ++ rest)));
-      led = advance_more run.first.limit run.kernel run.budget run.first.form Fresh 1 c.lines p (first_line bytes) values c.led
+      led = advance_more run.first.limit run.format run.kernel run.budget run.first.form Fresh 1 c.lines p (first_line bytes) values c.led
           (record { row_is = ap (λ f. row_at run.first.limit f p.next (first_line bytes)) same ∙ sym (row_here run p.next now (first_line bytes) at) ∙ takes.row_is; on = on });
     }
 
@@ -71,14 +73,14 @@ module _ {S : Type 0} (left : S → Option (List ℕ)) (faults : S → ℕ) (dow
     pub next : pace.next ≡ row
     pub form : pace.form ≡ now.form
     pub given : List ℕ
-    pub reads : Reads left faults down (GoesOnFrom run.kernel run.budget run.first) old given new
+    pub reads : Reads left faults down (GoesOnFrom run.format run.kernel run.budget run.first) old given new
     pub covers : now.ended ≡ false → Covers run now pace given
 
   pub asked_start : (run : Run) (F : List TickInput → Type 0) (s : S) → F [] → Asked run F run.first 1 s s
   asked_start run F s f = record {
     turns = [];
     follows = f;
-    pace = record { state = Fresh; next = 1; form = run.first.form; bytes = [] };
+    pace = record { state = Fresh; next = 1; form = run.first.form; format = run.format; bytes = [] };
     led = refl;
     next = refl;
     form = refl;
@@ -89,11 +91,11 @@ module _ {S : Type 0} (left : S → Option (List ℕ)) (faults : S → ℕ) (dow
 
   -- what a call reads more
   pub asked_last : (run : Run) (F : List TickInput → Type 0) (now : Reader) (row : ℕ) (old s t : S) (Took : List ℕ → Type 0) → Asked run F now row old s → Reading left faults down now.held now.ended s t Took →
-      (given : List ℕ) × Reads left faults down (GoesOnFrom run.kernel run.budget run.first) old given t
+      (given : List ℕ) × Reads left faults down (GoesOnFrom run.format run.kernel run.budget run.first) old given t
   asked_last run F now row old s t Took a r =
       let g = r.1 in (
         a.given ++ g.given,
-        reads_then (GoesOnFrom run.kernel run.budget run.first) (λ came. Lacks (now.held ++ came) now.ended) old s a.given a.reads
+        reads_then (GoesOnFrom run.format run.kernel run.budget run.first) (λ came. Lacks (now.held ++ came) now.ended) old s a.given a.reads
             (λ came lacks. goes_on_from run now a.pace a.given came (a.covers lacks.1) lacks.0) g.reads,
       )
 
@@ -111,33 +113,33 @@ module _ {S : Type 0} (left : S → Option (List ℕ)) (faults : S → ℕ) (dow
         next = ap (λ n. n + 1) a.next;
         form = ap (λ f. next_form f values) a.form ∙ sym follows;
         given = a.given ++ g.given;
-        reads = reads_then (GoesOnFrom run.kernel run.budget run.first) (λ came. Lacks (now.held ++ came) now.ended) old s a.given a.reads
+        reads = reads_then (GoesOnFrom run.format run.kernel run.budget run.first) (λ came. Lacks (now.held ++ came) now.ended) old s a.given a.reads
             (λ came lacks. goes_on_from run now a.pace a.given came (a.covers lacks.1) lacks.0) g.reads;
         covers = λ e. covers_more run now new a.pace a.given g.given r.0 values (a.covers (stays e)) g.behind (subst (λ n. Stands_at run.first n now) (sym a.next) at) a.form r.2 e on;
       }
 
   -- the header, and the rows after it
-  pub asked_all : (k : PlainKernel) (budget : ℕ) (inputs : List (List ℕ)) (first : Reader) (old s t : S) → inputs ≡ input_names k →
+  pub asked_all : (how : Format) (k : PlainKernel) (budget : ℕ) (inputs : List (List ℕ)) (first : Reader) (old s t : S) → inputs ≡ input_names k →
       Reading left faults down [] false old s (λ bytes. TakesHead inputs first.form bytes first.held first.ended) →
-      (given : List ℕ) × Reads left faults down (GoesOnFrom k budget first) s given t → ReadFor left faults down first.limit k budget old t
-  asked_all k budget inputs first old s t e head rows =
+      (given : List ℕ) × Reads left faults down (GoesOnFrom how k budget first) s given t → ReadFor left faults down first.limit how k budget old t
+  asked_all how k budget inputs first old s t e head rows =
       let g = head.1 in
       let h = head.2 in
       let is = ap (λ ns. header_at ns (first_line head.0)) (sym e) ∙ h.header in
-      let before : Reads left faults down (GoesOn first.limit k budget) old g.given s =
-      reads_then (GoesOn first.limit k budget) (λ came. Lacks ([] ++ came) false) old old [] none (λ came lacks. ([], ap (printed_for first.limit k budget) (no_line came lacks.0) ∙ printed_none first.limit k budget)) g.reads in (
+      let before : Reads left faults down (GoesOn first.limit how k budget) old g.given s =
+      reads_then (GoesOn first.limit how k budget) (λ came. Lacks ([] ++ came) false) old old [] none (λ came lacks. ([], ap (printed_for first.limit how k budget) (no_line came lacks.0) ∙ printed_none first.limit how k budget)) g.reads in (
         g.given ++ rows.0,
-        reads_then (GoesOn first.limit k budget) (GoesOnFrom k budget first) old s g.given before
+        reads_then (GoesOn first.limit how k budget) (GoesOnFrom how k budget first) old s g.given before
             (λ came on. (
-              on.1.bytes,
-              ap (λ b. printed_for first.limit k budget (whole_lines (b ++ came))) (sym g.behind)
-                  ∙ (ap (printed_for first.limit k budget) (lines_behind head.0 first.held came (h.takes.whole on.0) h.takes.rest) ∙ printed_rows first.limit k budget (first_line head.0) first.form (whole_lines (first.held ++ came)) on.1 is on.2),
+              opening how ++ on.1.bytes,
+              ap (λ b. printed_for first.limit how k budget (whole_lines (b ++ came))) (sym g.behind)
+                  ∙ (ap (printed_for first.limit how k budget) (lines_behind head.0 first.held came (h.takes.whole on.0) h.takes.rest) ∙ printed_rows first.limit how k budget (first_line head.0) first.form (whole_lines (first.held ++ came)) on.1 is on.2),
             )) rows.1,
       )
 
   -- no header came
-  pub asked_none : (limit : ℕ) (k : PlainKernel) (budget : ℕ) (old s : S) (Took : List ℕ → Type 0) → Reading left faults down [] false old s Took → ReadFor left faults down limit k budget old s
-  asked_none limit k budget old s Took r = (
+  pub asked_none : (limit : ℕ) (how : Format) (k : PlainKernel) (budget : ℕ) (old s : S) (Took : List ℕ → Type 0) → Reading left faults down [] false old s Took → ReadFor left faults down limit how k budget old s
+  asked_none limit how k budget old s Took r = (
     r.1.given,
-    reads_then (GoesOn limit k budget) (λ came. Lacks ([] ++ came) false) old old [] none (λ came lacks. ([], ap (printed_for limit k budget) (no_line came lacks.0) ∙ printed_none limit k budget)) r.1.reads,
+    reads_then (GoesOn limit how k budget) (λ came. Lacks ([] ++ came) false) old old [] none (λ came lacks. ([], ap (printed_for limit how k budget) (no_line came lacks.0) ∙ printed_none limit how k budget)) r.1.reads,
   )

@@ -12,8 +12,10 @@ use Rattle.trace_rows.specs.Trace.{Form, Trace, header_at, stop, trace_of}
 use Rattle.trace_rows.specs.declared.fault.RowFault.{RowFault}
 use Rattle.trace_runs.specs.Ends.{PrintedFor, Wanted}
 use Rattle.trace_runs.specs.KernelNames.{input_names}
-use Rattle.trace_rows.specs.Report.{row_line}
-use Rattle.trace_runs.specs.Report.{Report, Pace, turns_from, advance, report_from, trace_report, trace_turns, printed_for}
+use Rattle.trace_rows.specs.Report.{row_words}
+use Rattle.trace_runs.specs.Formats.{opening, last_written}
+use Rattle.trace_runs.specs.declared.format.Format.{Format}
+use Rattle.trace_runs.specs.Report.{Report, Pace, behind_bytes, turns_from, advance, report_from, trace_report, trace_turns, printed_for}
 use Rattle.trace_runs.specs.Progress.{Led, report_rest, turns_rest}
 use Rattle.trace_rows.specs.declared.fault.RowFault.TheVariants as fault
 use Rattle.trace_runs.specs.declared.status.Status.TheVariants as status
@@ -40,25 +42,26 @@ no_header_there limit inputs l l' fault.Many read memory n = told_map l l' _ (λ
 no_header_there limit inputs l l' fault.ReadFault read memory n = absurd (read refl)
 no_header_there limit inputs l l' fault.OutOfMemory read memory n = absurd (memory refl)
 
-pub printed_none : (limit : ℕ) (k : PlainKernel) (b : ℕ) → printed_for limit k b [] ≡ Some []
+pub printed_none : (limit : ℕ) (how : Format) (k : PlainKernel) (b : ℕ) → printed_for limit how k b [] ≡ Some []
 unfolding printed_for
-printed_none limit k b = refl
+printed_none limit how k b = refl
 
-pub printed_rows : (limit : ℕ) (k : PlainKernel) (b : ℕ) (line : List ℕ) (form : Form) (lines : List (List ℕ)) (p : Pace) → header_at (input_names k) line ≡ Ok form → advance limit k b form Fresh 1 lines ≡ Some p →
-    printed_for limit k b (line ∷ lines) ≡ Some p.bytes
+pub printed_rows : (limit : ℕ) (how : Format) (k : PlainKernel) (b : ℕ) (line : List ℕ) (form : Form) (lines : List (List ℕ)) (p : Pace) → header_at (input_names k) line ≡ Ok form → advance limit how k b form Fresh 1 lines ≡ Some p →
+    printed_for limit how k b (line ∷ lines) ≡ Some (opening how ++ p.bytes)
 unfolding printed_for
-printed_rows limit k b line form lines p h e = rw (h, e) refl
+printed_rows limit how k b line form lines p h e = rw (h, e) refl
 
-module _ (limit : ℕ) (k : PlainKernel) (b : ℕ) (inputs : List (List ℕ)) (same : inputs ≡ input_names k) where
-  trace_reads : (x : List ℕ) (t : Trace) → trace_of inputs limit x ≡ t → trace_report limit k b x ≡ report_from k b Fresh 1 t
+module _ (limit : ℕ) (how : Format) (k : PlainKernel) (b : ℕ) (inputs : List (List ℕ)) (same : inputs ≡ input_names k) where
+  trace_reads : (x : List ℕ) (t : Trace) → trace_of inputs limit x ≡ t → trace_report limit how k b x ≡ behind_bytes (opening how) (report_from how k b Fresh 1 t)
   unfolding trace_report
-  trace_reads x t h = ap (λ ns. report_from k b Fresh 1 (trace_of ns limit x)) (sym same) ∙ ap (report_from k b Fresh 1) h
+  trace_reads x t h =
+      ap (λ ns. behind_bytes (opening how) (report_from how k b Fresh 1 (trace_of ns limit x))) (sym same) ∙ ap (λ (u : Trace). behind_bytes (opening how) (report_from how k b Fresh 1 u)) h
 
   turns_read : (x : List ℕ) (t : Trace) → trace_of inputs limit x ≡ t → trace_turns limit k b x ≡ turns_from k b Fresh t.rows
   unfolding trace_turns
   turns_read x t h = ap (λ ns. turns_from k b Fresh (trace_of ns limit x).rows) (sym same) ∙ ap (λ (u : Trace). turns_from k b Fresh u.rows) h
 
-  header_row : (r : Reader) (x y : List ℕ) → trace_of inputs limit x ≡ ahead r y → trace_report limit k b x ≡ report_rest k b r y
+  header_row : (r : Reader) (x y : List ℕ) → trace_of inputs limit x ≡ ahead r y → trace_report limit how k b x ≡ report_rest how k b r y
   unfolding report_rest
   header_row r x y h = trace_reads x (ahead r y) h
 
@@ -69,39 +72,39 @@ module _ (limit : ℕ) (k : PlainKernel) (b : ℕ) (inputs : List (List ℕ)) (s
   -- ---- no header
 
   pub head_fault : (l l' : Option (List ℕ)) (f : RowFault) → IfTold l l' (λ x y. trace_of inputs limit x ≡ stop (Some f) 0) →
-      IfSome l (λ x. trace_report limit k b x ≡ record { bytes = row_line 0 f; status = status.Trace })
+      IfSome l (λ x. trace_report limit how k b x ≡ record { bytes = opening how ++ last_written how (row_words 0 f); status = status.Trace })
   head_fault l l' f n = told_some l l' (λ x y. trace_of inputs limit x ≡ stop (Some f) 0) _ n (λ x y h. trace_reads x (stop (Some f) 0) h)
 
   pub head_ran : (F : List TickInput → Type 0) (l l' : Option (List ℕ)) (f : RowFault) → IfTold l l' (λ x y. trace_of inputs limit x ≡ stop (Some f) 0) → F [] → IfSome l (λ x. F (trace_turns limit k b x))
   head_ran F l l' f n none = told_some l l' (λ x y. trace_of inputs limit x ≡ stop (Some f) 0) _ n (λ x y h. subst F (sym (turns_read x (stop (Some f) 0) h)) none)
 
-  pub head_failed : (l l' h0 h2 : Option (List ℕ)) → h2 ≡ h0 → (held : List ℕ) × Waits [] held false false l l' → Wanted limit k b l l' h0 h2
+  pub head_failed : (l l' h0 h2 : Option (List ℕ)) → h2 ≡ h0 → (held : List ℕ) × Waits [] held false false l l' → Wanted limit how k b l l' h0 h2
   head_failed l l' h0 h2 e n = (
     [],
     subst (λ h. Appends h0 h []) (sym e) (appends_refl h0),
-    told_map l l' _ (PrintedFor limit k b []) (came_told [] n.0 l l' n.1.came) (λ x y e. (n.0, e, rw (no_line n.0 n.1.none) (printed_none limit k b))),
+    told_map l l' _ (PrintedFor limit how k b []) (came_told [] n.0 l l' n.1.came) (λ x y e. (n.0, e, rw (no_line n.0 n.1.none) (printed_none limit how k b))),
   )
 
   -- ---- after a header
 
   module _ (r : Reader) (l l' : Option (List ℕ)) (n : Started limit inputs l l' r) where
     -- what holds of the report of the rows holds of the whole one
-    pub head_report : (P : Report → Type 0) → IfSome l' (λ y. P (report_rest k b r y)) → IfSome l (λ x. P (trace_report limit k b x))
+    pub head_report : (P : Report → Type 0) → IfSome l' (λ y. P (report_rest how k b r y)) → IfSome l (λ x. P (trace_report limit how k b x))
     head_report P g = told_some_both l l' _ _ _ n.trace g (λ x y is p. subst P (sym (header_row r x y is)) p)
 
     pub head_turns : (F : List TickInput → Type 0) → IfSome l' (λ y. F (turns_rest k b r y)) → IfSome l (λ x. F (trace_turns limit k b x))
     head_turns F g = told_some_both l l' _ _ _ n.trace g (λ x y is p. subst F (sym (header_turns r x y is)) p)
 
-    pub head_wanted : r.limit ≡ limit → (l2 h0 h2 : Option (List ℕ)) → (bytes : List ℕ) × Appends h0 h2 bytes × IfTold l' l2 (Led k b r bytes) → Wanted limit k b l l2 h0 h2
+    pub head_wanted : r.limit ≡ limit → (l2 h0 h2 : Option (List ℕ)) → (bytes : List ℕ) × Appends h0 h2 bytes × IfTold l' l2 (Led how k b r bytes) → Wanted limit how k b l l2 h0 h2
     head_wanted most l2 h0 h2 led =
         let is = ap (λ ns. header_at ns n.header) (sym same) ∙ n.is in (
           led.0,
           led.1,
-          told_both l l' l2 _ (Led k b r led.0) (PrintedFor limit k b led.0) (takes_told n.header [] r.held r.ended l l' n.takes) led.2 (λ x y u cut m.
+          told_both l l' l2 _ (Led how k b r led.0) (PrintedFor limit how k b led.0) (takes_told n.header [] r.held r.ended l l' n.takes) led.2 (λ x y u cut m.
               let c = cut m.0 in
-              let on = subst (λ (q : ℕ). advance q k b r.form Fresh 1 (whole_lines m.1) ≡ Some m.3) most m.4 in (
+              let on = subst (λ (q : ℕ). advance q how k b r.form Fresh 1 (whole_lines m.1) ≡ Some m.3) most m.4 in (
                 n.header ++ 10 ∷ m.1,
                 c.bytes ∙ ap (λ w. n.header ++ 10 ∷ w) m.2 ∙ sym (append_assoc n.header (10 ∷ m.1) u),
-                ap (printed_for limit k b) (whole_lines-line n.header m.1 c.none) ∙ printed_rows limit k b n.header r.form (whole_lines m.1) m.3 is on ∙ ap Some m.5,
+                ap (printed_for limit how k b) (whole_lines-line n.header m.1 c.none) ∙ printed_rows limit how k b n.header r.form (whole_lines m.1) m.3 is on ∙ ap Some m.5,
               )),
         )

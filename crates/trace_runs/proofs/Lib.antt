@@ -6,13 +6,14 @@ mod Fine
 mod Following
 mod Heading
 mod NextRows
+mod OneTelling
 mod Numbered
 mod Picking
 pub mod Printing
 mod Ranges
 mod Running
 mod Splitting
-mod Telling
+mod RunEnds
 mod TickLines
 mod TickingLemmas
 pub mod Told

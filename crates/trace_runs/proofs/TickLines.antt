@@ -1,22 +1,28 @@
 -- The lines that were put for a tick are those of the tick.
-use Rattle.std.proofs.Common.{◌≡◌, ℕ, ℤ, List, length, sym, ap, subst, ◌∙◌}
+use Rattle.std.proofs.Common.{◌≡◌, ℕ, ℤ, List, length, refl, sym, ap, subst, ◌∙◌}
 use Rattle.std.proofs.lemmas.List.{length-map}
 use Rattle.forec_kernel.specs.declared.shape.Outcome.{Outcome}
 use Rattle.forec_kernel.specs.Shapes.{PlainShape, PlainKernel}
 use Rattle.forec_kernel.specs.Ticks.{Tick}
 use Rattle.tick_jobs.specs.Outcomes.{HasOutputs}
 use Rattle.trace_runs.specs.KernelNames.{inputs_of, output_names}
-use Rattle.trace_rows.specs.Report.{outcome_lines}
-use Rattle.trace_runs.specs.Report.{tick_lines}
-use Rattle.trace_runs.specs.WaitingRoom.{Gains}
+use Rattle.trace_runs.specs.Formats.{names_in, format_after}
+use Rattle.trace_runs.specs.Report.{outcome_lines, tick_lines}
+use Rattle.trace_runs.specs.WaitingRoom.{Adds}
+use Rattle.trace_runs.specs.declared.format.Format.{Format}
+use Rattle.trace_runs.specs.declared.format.Format.TheVariants as format
 use Rattle.trace_runs.specs.declared.waiting.Waiting.{Waiting}
 
-pub put_tick_lines : (k : PlainKernel) (budget row : ℕ) (t : Tick) (o : Outcome) (names : List (List ℕ)) (values : List ℤ) (old new : Waiting) →
-    names ≡ output_names k → o ≡ t.outcome → (HasOutputs o → values ≡ t.outputs) →
-    ((outputs : List ℤ) → (HasOutputs o → outputs ≡ values) → Gains old new (outcome_lines names budget row o outputs)) → Gains old new (tick_lines k budget row t)
-put_tick_lines k budget row t o names values old new are how outputs gains =
-    subst (Gains old new) (ap (λ ns. outcome_lines ns budget row o t.outputs) are ∙ ap (λ q. outcome_lines (output_names k) budget row q t.outputs) how)
-    (gains t.outputs (λ has. sym (outputs has)))
+pub put_tick_lines : (how : Format) (budget row : ℕ) (t : Tick) (o : Outcome) (values : List ℤ) (old new : Waiting) →
+    o ≡ t.outcome → (HasOutputs o → values ≡ t.outputs) →
+    ((outputs : List ℤ) → (HasOutputs o → outputs ≡ values) → Adds old new (outcome_lines how budget row o outputs)) → Adds old new (tick_lines how budget row t)
+put_tick_lines how budget row t o values old new went outputs adds =
+    subst (Adds old new) (ap (λ q. outcome_lines how budget row q t.outputs) went) (adds t.outputs (λ has. sym (outputs has)))
+
+-- a tick changes no name
+pub names_after : (how : Format) (values : List ℤ) → names_in (format_after how values) ≡ names_in how
+names_after (format.Report names) values = refl
+names_after (format.Wave names olds) values = refl
 
 -- as many names as outputs, and as inputs
 pub names_each : (k : PlainKernel) → length (output_names k) ≡ length k.shape.outputs

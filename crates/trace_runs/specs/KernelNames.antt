@@ -3,6 +3,9 @@ use Rattle.std.specs.Prelude.{◌≤◌, ℕ, IsTrue, List, [], map, length, get
 use Rattle.forec_base.specs.declared.limits.TheConstants.{MAX_INPUTS, MAX_OUTPUTS}
 use Rattle.forec_kernel.specs.Shapes.{PlainShape, PlainKernel}
 use Rattle.forec_kernel.specs.WellFormed.{all_below}
+use Rattle.trace_runs.specs.Formats.{format_for}
+use Rattle.trace_runs.specs.declared.format.Format.{Format}
+use Rattle.trace_runs.specs.declared.format.Telling.{Telling}
 
 -- the names of these variables
 abbrev pub names_at : List (List ℕ) → List ℕ → List (List ℕ)
@@ -27,3 +30,7 @@ input_names k = inputs_of k.shape
 
 abbrev pub output_names : PlainKernel → List (List ℕ)
 output_names k = outputs_of k.shape
+
+-- how a run of a kernel is written that tells this, before tick 1
+abbrev pub run_format : Telling → PlainKernel → Format
+run_format tells k = format_for tells (output_names k)

@@ -5,6 +5,7 @@ use Rattle.forec_kernel.specs.Shapes.{PlainKernel}
 use Rattle.trace_runs.specs.Ends.{Wanted, ReadFor}
 use Rattle.trace_runs.specs.Prints.{Prints}
 use Rattle.trace_runs.specs.Report.{Report, trace_report}
+use Rattle.trace_runs.specs.declared.format.Format.{Format}
 use Rattle.trace_runs.specs.declared.status.Status.{Status}
 
 -- the bytes of the trace are told
@@ -12,15 +13,15 @@ abbrev pub IsTold : Option (List ℕ) → Type 0
 IsTold left = (bytes : List ℕ) × (left ≡ Some bytes)
 
 -- r is the report of a kernel for the bytes of the trace
-abbrev pub IsTraceReport : ℕ → PlainKernel → ℕ → Option (List ℕ) → Report → Type 0
-IsTraceReport limit k budget left r = (bytes : List ℕ) × (left ≡ Some bytes) × (r ≡ trace_report limit k budget bytes)
+abbrev pub IsTraceReport : ℕ → Format → PlainKernel → ℕ → Option (List ℕ) → Report → Type 0
+IsTraceReport limit how k budget left r = (bytes : List ℕ) × (left ≡ Some bytes) × (r ≡ trace_report limit how k budget bytes)
 
--- A kernel was run over a trace, of which at most `limit` rows: what the trace shows is what is left of it, how often it has failed, and
+-- A kernel was run over a trace, of which at most `limit` rows, and told in a format: what the trace shows is what is left of it, how often it has failed, and
 -- whether its last call failed; the sink as in `Prints`. `Parted`: memory may run out between two ticks.
 pub record RunsRows {S K : Type 0} (left : S → Option (List ℕ)) (faults : S → ℕ) (down : S → Bool) (held : K → Option (List ℕ))
-    (lost : K → ℕ) (is_down : K → Bool) (limit : ℕ) (k : PlainKernel) (budget : ℕ) (Parted : Type 0) (old new : S) (out_old out_new : K)
+    (lost : K → ℕ) (is_down : K → Bool) (limit : ℕ) (how : Format) (k : PlainKernel) (budget : ℕ) (Parted : Type 0) (old new : S) (out_old out_new : K)
     (end : Status) : Type 0 where
-  pub prints : Prints held lost is_down (IsTold (left old)) (IsTraceReport limit k budget (left old)) ⊥
-      (Fell (faults old) (faults new) (down new) × Wanted limit k budget (left old) (left new) (held out_old) (held out_new)) Parted
+  pub prints : Prints held lost is_down (IsTold (left old)) (IsTraceReport limit how k budget (left old)) ⊥
+      (Fell (faults old) (faults new) (down new) × Wanted limit how k budget (left old) (left new) (held out_old) (held out_new)) Parted
       out_old out_new end
-  pub trace : ReadFor left faults down limit k budget old new
+  pub trace : ReadFor left faults down limit how k budget old new

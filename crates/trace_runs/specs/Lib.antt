@@ -1,8 +1,10 @@
 pub mod Calls
 pub mod Ends
+pub mod Formats
 pub mod Hosting
 pub mod KernelNames
 pub mod Led
+pub mod OneRun
 pub mod Orders
 pub mod Prints
 pub mod Progress

@@ -1,5 +1,6 @@
 -- Room for lines that wait.
 use Rattle.std.specs.Prelude.{◌≡◌, ◌+◌, ◌≤◌, ◌++◌, ℕ, List, length, vec_len, vec_capacity}
+use Rattle.trace_runs.specs.declared.format.Format.TheVariants as format
 use Rattle.trace_runs.specs.declared.waiting.Waiting.{Waiting}
 
 -- so many bytes more fit
@@ -8,11 +9,21 @@ HasRoom w n = vec_len w.bytes + n ≤ vec_capacity w.bytes
 
 -- the lines of any tick fit
 abbrev pub HasTickRoom : Waiting → Type 0
-HasTickRoom w = HasRoom w (length w.line.items + 64)
+HasTickRoom w = HasRoom w (length w.line.items + 96)
+
+-- lines are written as in a report
+abbrev pub IsPlain : Waiting → Type 0
+IsPlain w = (names : List (List ℕ)) × (w.format ≡ format.Report names)
+
+-- these bytes wait too, with room as before
+pub record Adds (old new : Waiting) (bytes : List ℕ) : Type 0 where
+  pub bytes_are : new.bytes.items ≡ old.bytes.items ++ bytes
+  pub line : length new.line.items ≡ length old.line.items
+  pub capacity : vec_capacity old.bytes ≤ vec_capacity new.bytes
 
 -- these bytes wait too, and the rest is as before
 pub record Gains (old new : Waiting) (bytes : List ℕ) : Type 0 where
   pub bytes_are : new.bytes.items ≡ old.bytes.items ++ bytes
-  pub names : new.names ≡ old.names
+  pub format : new.format ≡ old.format
   pub line : length new.line.items ≡ length old.line.items
   pub capacity : vec_capacity old.bytes ≤ vec_capacity new.bytes

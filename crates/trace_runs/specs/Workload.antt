@@ -6,7 +6,7 @@ use Rattle.forec_kernel.specs.declared.shape.Outcome.{Outcome}
 use Rattle.forec_kernel.specs.declared.shape.Outcome.TheVariants as outcome
 use Rattle.forec_kernel.specs.Shapes.{PlainShape, PlainKernel}
 use Rattle.forec_kernel.specs.Ticks.{Fresh, Tick, run_from}
-use Rattle.trace_rows.specs.Report.{trap_line, over_line}
+use Rattle.trace_rows.specs.Report.{trap_words, over_words}
 use Rattle.trace_runs.specs.Report.{Report, last_outcome}
 use Rattle.trace_runs.specs.declared.generated.TheConstants.{WORKLOAD_TICKS}
 use Rattle.trace_runs.specs.declared.status.Status.TheVariants as status
@@ -35,8 +35,8 @@ workload_line threads sum = codes "gen " ++ decimal threads ++ codes " ticks 100
 abbrev pub ticks_report : ℕ → ℕ → List Tick → Outcome → Report
 ticks_report threads budget ticks outcome.Paused = record { bytes = workload_line threads (outputs_sum ticks); status = status.Done }
 ticks_report threads budget ticks outcome.Ended = record { bytes = workload_line threads (outputs_sum ticks); status = status.Done }
-ticks_report threads budget ticks (outcome.Trapped place trap) = record { bytes = trap_line (length ticks) place trap; status = status.Trapped }
-ticks_report threads budget ticks outcome.Over = record { bytes = over_line (length ticks) budget; status = status.Over }
+ticks_report threads budget ticks (outcome.Trapped place trap) = record { bytes = trap_words (length ticks) place trap ++ codes "\n"; status = status.Trapped }
+ticks_report threads budget ticks outcome.Over = record { bytes = over_words (length ticks) budget ++ codes "\n"; status = status.Over }
 
 -- the report of a workload of so many threads, whose kernel this is
 unfoldable pub ticked_report : ℕ → PlainKernel → ℕ → Report

@@ -8,11 +8,13 @@ ghost use Rattle.core_alloc.specs.Places.{is_on_one_core};
 ghost use Rattle.board_hosts.specs.Boards.{ArePorts};
 ghost use Rattle.core_bells.specs.Ropes.{new_ropes};
 ghost use Rattle.trace_runs.specs.Hosting.{DidForEach};
+ghost use Rattle.trace_runs.specs.KernelNames.{run_format};
 ghost use Rattle.trace_runs.specs.Led.{RunsRows};
 ghost use Rattle.trace_runs.specs.Prints.{Says};
 ghost use Rattle.trace_runs.specs.Workload.{ticked_report};
 
 use crate::beside::lead_hosts;
+use crate::format::Telling;
 use crate::lead::Lead;
 use crate::session::Session;
 use crate::setting::{Company, Nobody, Setting};
@@ -136,17 +138,18 @@ pub fn host_trace<S: Source, K: Sink, G: Gate + Sync, R: Threads + Wait + Sync>(
     setting: &Setting<'_, G, R>,
     kernel: &Kernel,
     placement: &Placement,
+    telling: Telling,
     budget: u64,
     trace: &mut S,
     out: &mut K,
 ) -> Status
     requires placed { length placement.now.places ≡ length (plain_kernel kernel.now).threads }
     requires small { budget ≤ MAX_BUDGET }
-    ensures { RunsRows S.left S.faults S.down K.held K.faults K.down MAX_ROWS (plain_kernel kernel.now) budget ⊥
+    ensures { RunsRows S.left S.faults S.down K.held K.faults K.down MAX_ROWS (run_format telling (plain_kernel kernel.now)) (plain_kernel kernel.now) budget ⊥
         trace.old trace.new out.old out.new result }
 {
     let alloc = setting.alloc;
-    let Ok(mut session) = Session::new(alloc, kernel.shape(), budget, MAX_ROWS) else {
+    let Ok(mut session) = Session::new(alloc, kernel.shape(), telling, budget, MAX_ROWS) else {
         return Status::NoMemory;
     };
     let mut job = TraceRun {
@@ -175,7 +178,13 @@ pub fn host_workload<K: Sink, G: Gate + Sync, R: Threads + Wait + Sync>(
     ensures { Says K.held K.faults K.down (ticked_report threads (plain_kernel kernel.now) budget) ⊥ out.old out.new
         result }
 {
-    let Ok(mut session) = Session::new(setting.alloc, kernel.shape(), budget, MAX_ROWS) else {
+    let Ok(mut session) = Session::new(
+        setting.alloc,
+        kernel.shape(),
+        Telling::Report,
+        budget,
+        MAX_ROWS,
+    ) else {
         return Status::NoMemory;
     };
     let mut job = WorkloadRun {

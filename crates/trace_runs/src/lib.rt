@@ -3,10 +3,12 @@
 #![tactic(auto)]
 
 mod beside;
+mod format;
 mod generated;
 mod hosted;
 mod hosting;
 mod image;
+mod laws;
 mod lead;
 mod names;
 mod orders;
@@ -22,8 +24,10 @@ mod trace_run;
 mod waiting;
 mod workload_run;
 
+pub use format::{Format, Telling};
 pub use hosted::Alone;
 pub use hosting::{host_trace, host_workload};
+pub use laws::each_format_writes_one_run;
 pub use rewriting::rewrite_trace;
 pub use session::Session;
 pub use setting::{Company, Nobody, Setting};

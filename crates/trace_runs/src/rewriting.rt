@@ -3,8 +3,10 @@
 ghost use Rattle.std.specs.Prelude.{◌≤◌, ⊤};
 ghost use Rattle.forec_base.specs.declared.limits.TheConstants.{MAX_BUDGET};
 ghost use Rattle.forec_kernel.specs.Shapes.{plain_kernel};
+ghost use Rattle.trace_runs.specs.KernelNames.{run_format};
 ghost use Rattle.trace_runs.specs.Led.{RunsRows};
 
+use crate::format::Telling;
 use crate::rewriter::Rewriter;
 use crate::session::Session;
 use crate::setting::{Company, Nobody, Setting};
@@ -20,16 +22,17 @@ pub fn rewrite_trace<S: Source, K: Sink, G: Gate, R: Wait>(
     setting: &Setting<'_, G, R>,
     kernel: &Kernel,
     order: u32,
+    telling: Telling,
     budget: u64,
     trace: &mut S,
     out: &mut K,
 ) -> Status
     requires { budget ≤ MAX_BUDGET }
-    ensures { RunsRows S.left S.faults S.down K.held K.faults K.down MAX_ROWS (plain_kernel kernel.now) budget ⊤
+    ensures { RunsRows S.left S.faults S.down K.held K.faults K.down MAX_ROWS (run_format telling (plain_kernel kernel.now)) (plain_kernel kernel.now) budget ⊤
         trace.old trace.new out.old out.new result }
 {
     let alloc = setting.alloc;
-    let Ok(mut session) = Session::new(alloc, kernel.shape(), budget, MAX_ROWS) else {
+    let Ok(mut session) = Session::new(alloc, kernel.shape(), telling, budget, MAX_ROWS) else {
         return Status::NoMemory;
     };
     let Ok(mut rewriter) = Rewriter::new(alloc, kernel, order) else {

@@ -3,10 +3,12 @@
 ghost use Rattle.forec_base.specs.declared.limits.TheConstants.{MAX_BUDGET, MAX_ROWS};
 ghost use Rattle.std.specs.Prelude.{◌≤◌, ◌≡◌, IfOk};
 ghost use Rattle.forec_kernel.specs.Shapes.{plain_shape};
-ghost use Rattle.trace_runs.specs.KernelNames.{IsNamed};
+ghost use Rattle.trace_runs.specs.Formats.{format_for};
+ghost use Rattle.trace_runs.specs.KernelNames.{IsNamed, outputs_of};
 ghost use Rattle.trace_runs.specs.Sessions.{IsSessionOf};
 ghost use Rattle.trace_runs.specs.Workload.{zero_row};
 
+use crate::format::{Format, Telling};
 use crate::image::Image;
 use crate::names::pick_names;
 use crate::waiting::Waiting;
@@ -29,8 +31,8 @@ pub struct Session {
 }
 
 impl Session {
-    /// For a run of a program of this shape, of which no line was written yet. A tick may have so many units, and so
-    /// many rows are run.
+    /// For a run of a program of this shape, of which no line was written yet, and which tells this. A tick may have so
+    /// many units, and so many rows are run.
     ///
     /// # Errors
     ///
@@ -38,6 +40,7 @@ impl Session {
     pub fn new(
         alloc: Global,
         shape: &Shape,
+        telling: Telling,
         budget: u64,
         limit: u64,
     ) -> Result<Session, OutOfMemory>
@@ -47,11 +50,12 @@ impl Session {
         ensures session { IfOk result (IsSessionOf (plain_shape shape.now)) }
         ensures budget { IfOk result (λ s. s.budget ≡ budget) }
         ensures limit { IfOk result (λ s. s.limit ≡ limit) }
+        ensures format { IfOk result (λ s. s.waiting.format ≡ format_for telling (outputs_of (plain_shape shape.now))) }
         ensures zeros { IfOk result (λ s. s.image.inputs.items ≡ zero_row (plain_shape shape.now)) }
     {
         let inputs = pick_names(alloc, &shape.names, &shape.inputs)?;
         let outputs = pick_names(alloc, &shape.names, &shape.outputs)?;
-        let waiting = Waiting::new(alloc, outputs)?;
+        let waiting = Waiting::new(alloc, Format::new(alloc, telling, outputs)?)?;
         let image = Image::new(alloc, shape.inputs.len(), shape.outputs.len())?;
         Ok(Session {
             inputs,

@@ -29,7 +29,8 @@ impl<'a, 'b, 'c, S: Source, K: Sink> Lead for TraceRun<'a, 'b, 'c, S, K> {
 
     ghost did = { λ old new k end. (new.trace.ghost_name ≡ old.trace.ghost_name)
         × (new.out.ghost_name ≡ old.out.ghost_name)
-        × RunsRows S.left S.faults S.down K.held K.faults K.down old.session.now.limit k old.session.now.budget ⊥
+        × RunsRows S.left S.faults S.down K.held K.faults K.down old.session.now.limit
+        old.session.now.waiting.format k old.session.now.budget ⊥
         old.trace.now new.trace.now old.out.now new.out.now end };
 
     fn lead<T: Ticker, O: Serve, G: Gate, R: Wait>(

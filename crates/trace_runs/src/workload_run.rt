@@ -22,10 +22,12 @@ impl<'a, 'b, K: Sink> Lead for WorkloadRun<'a, 'b, K> {
     ghost use Rattle.std.specs.Prelude.{◌≡◌};
     ghost use Rattle.trace_runs.specs.Prints.{Says};
     ghost use Rattle.trace_runs.specs.Sessions.{IsSessionOf};
+    ghost use Rattle.trace_runs.specs.WaitingRoom.{IsPlain};
     ghost use Rattle.trace_runs.specs.Workload.{ticked_report, zero_row};
 
     ghost can = { λ run shape. IsSessionOf shape run.session.now
-        × (run.session.now.image.inputs.items ≡ zero_row shape) };
+        × (run.session.now.image.inputs.items ≡ zero_row shape)
+        × IsPlain run.session.now.waiting };
 
     ghost did = { λ old new k end. (new.out.ghost_name ≡ old.out.ghost_name)
         × Says K.held K.faults K.down (ticked_report old.threads k old.session.now.budget) ⊥ old.out.now new.out.now

@@ -11,6 +11,12 @@ returns-in-Run g c =
     subst (λ m. Answers g.S.Source.left g.S.Source.faults g.S.Source.down g.K.Sink.held g.K.Sink.faults g.K.Sink.down m a.counts (plain_kernel a.kernel) c.args.trace.now c.start.new.trace c.args.out.now c.start.new.out c.start.result)
     (sym (ap plain_command c.in-Run.is)) c.start.ensures
 
+pub returns-in-Wave : goal.returns-in-Wave
+returns-in-Wave g c =
+    let a = c.args.accepted.now in
+    subst (λ m. Answers g.S.Source.left g.S.Source.faults g.S.Source.down g.K.Sink.held g.K.Sink.faults g.K.Sink.down m a.counts (plain_kernel a.kernel) c.args.trace.now c.start-in-Wave.new.trace c.args.out.now c.start-in-Wave.new.out c.start-in-Wave.result)
+    (sym (ap plain_command c.in-Wave.is)) c.start-in-Wave.ensures
+
 pub returns-in-Check : goal.returns-in-Check
 returns-in-Check g c =
     let a = c.args.accepted.now in

@@ -1,6 +1,7 @@
 use Rattle.std.proofs.Common.{refl, sym}
 use Rattle.forec_kernel.specs.Shapes.{plain_kernel}
-use Rattle.command_words.specs.Requests.{Run, plain_running}
+use Rattle.command_words.specs.Requests.{plain_running}
+use Rattle.forec_engine.specs.Ends.{run_with}
 use Rattle.forec_engine.proofs.Answered.{run_boundless, nothing_done}
 use Rattle.forec_engine.proofs.answering.start.Goals as goal
 
@@ -9,9 +10,9 @@ returns-in-Ok-None g c =
     let a = c.args.accepted.now in
     let none = rw c.in-Ok-None.field-0-is at c.in-Ok-None.ensures.units in
     run_boundless g.K.Sink.held g.K.Sink.faults g.K.Sink.down c.args.out.now c.say_boundless.new.out c.say_boundless.result g.S.Source.left g.S.Source.faults g.S.Source.down a.counts (plain_kernel a.kernel) c.args.trace.now c.args.trace.now
-    (plain_running c.args.running) (sym none) refl c.say_boundless.ensures
+    c.args.telling (plain_running c.args.running) (sym none) refl c.say_boundless.ensures
 
 pub returns-in-Err : goal.returns-in-Err
 returns-in-Err g c =
     let a = c.args.accepted.now in
-    nothing_done g.S.Source.left g.S.Source.faults g.S.Source.down g.K.Sink.held g.K.Sink.faults g.K.Sink.down (Run (plain_running c.args.running)) a.counts (plain_kernel a.kernel) c.args.trace.now c.args.trace.now c.args.out.now c.args.out.now refl refl
+    nothing_done g.S.Source.left g.S.Source.faults g.S.Source.down g.K.Sink.held g.K.Sink.faults g.K.Sink.down (run_with c.args.telling (plain_running c.args.running)) a.counts (plain_kernel a.kernel) c.args.trace.now c.args.trace.now c.args.out.now c.args.out.now refl refl

@@ -1,8 +1,8 @@
 use Rattle.std.proofs.Common.{inl, inr, map, string_bytes, refl}
 use Rattle.forec_base.specs.Outside.{Fell}
-use Rattle.command_words.specs.Requests.{OnText, OnWorkload, plain_command, plain_running}
+use Rattle.command_words.specs.Requests.{OnText, OnWorkload, OnDump, plain_command, plain_running}
 use Rattle.forec_engine.proofs.Bounds.{ranges}
-use Rattle.forec_engine.proofs.TopCall.{answers_words, words_text, words_trace, words_workload, words_nothing}
+use Rattle.forec_engine.proofs.TopCall.{answers_words, words_text, words_trace, words_workload, words_dump, words_nothing}
 use Rattle.forec_engine.proofs.command.forec_within.Goals as goal
 
 -- ---- the text that the words name
@@ -11,12 +11,32 @@ pub returns-in-Ok-Text : goal.returns-in-Ok-Text
 returns-in-Ok-Text g c =
     answers_words g.T.Texts.content g.T.Texts.faults g.T.Texts.down g.S.Source.left g.S.Source.faults g.S.Source.down g.K.Sink.held g.K.Sink.faults g.K.Sink.down (map string_bytes c.args.words.now) c.args.texts.now c.run_named.new.texts c.args.trace.now c.run_named.new.trace c.args.out.now c.run_named.new.out c.run_named.result
     (words_text g.S.Source.left g.S.Source.faults g.S.Source.down g.K.Sink.held g.K.Sink.faults g.K.Sink.down (map string_bytes c.args.words.now) (g.T.Texts.content c.args.texts.now) (Fell (g.T.Texts.faults c.args.texts.now) (g.T.Texts.faults c.run_named.new.texts) (g.T.Texts.down c.run_named.new.texts)) c.args.trace.now c.run_named.new.trace c.args.out.now c.run_named.new.out c.in-Ok-Text.program.now (plain_command c.in-Ok-Text.command) c.in-Ok-Text.fold c.run_named.result (rw c.in-Ok-Text.field-0-is at c.in-Ok-Text.ensures.request) c.run_named.ensures)
-    (inr (c.in-Ok-Text.program.now, plain_command c.in-Ok-Text.command, c.in-Ok-Text.fold, (rw c.in-Ok-Text.field-0-is at c.in-Ok-Text.ensures.request)))
+    (inr (c.in-Ok-Text.program.now, record { request = OnText c.in-Ok-Text.program.now (plain_command c.in-Ok-Text.command) c.in-Ok-Text.fold; asks = (rw c.in-Ok-Text.field-0-is at c.in-Ok-Text.ensures.request); names = refl }))
     (words_trace g.S.Source.left g.S.Source.faults g.S.Source.down g.K.Sink.held g.K.Sink.faults g.K.Sink.down (map string_bytes c.args.words.now) (g.T.Texts.content c.args.texts.now) (Fell (g.T.Texts.faults c.args.texts.now) (g.T.Texts.faults c.run_named.new.texts) (g.T.Texts.down c.run_named.new.texts)) c.args.trace.now c.run_named.new.trace c.args.out.now c.run_named.new.out c.in-Ok-Text.program.now (plain_command c.in-Ok-Text.command) c.in-Ok-Text.fold c.run_named.result (rw c.in-Ok-Text.field-0-is at c.in-Ok-Text.ensures.request) c.run_named.ensures)
 
 pub run_named-requires-clause-ranges : goal.run_named-requires-clause-ranges
 run_named-requires-clause-ranges g c = λ κs within.
     ranges (map string_bytes c.args.words.now) (OnText c.in-Ok-Text.program.now (plain_command c.in-Ok-Text.command) c.in-Ok-Text.fold) (rw c.in-Ok-Text.field-0-is at c.in-Ok-Text.ensures.request)
+
+pub run_named-requires-clause-may : goal.run_named-requires-clause-may
+run_named-requires-clause-may g c = λ κs within.
+    c.requires c.in-Ok-Text.program.now (record {
+      request = OnText c.in-Ok-Text.program.now (plain_command c.in-Ok-Text.command) c.in-Ok-Text.fold;
+      asks = (rw c.in-Ok-Text.field-0-is at c.in-Ok-Text.ensures.request);
+      names = refl;
+    })
+
+-- ---- a dump
+
+pub tell_named-requires : goal.tell_named-requires
+tell_named-requires g c = λ κs within.
+    c.requires c.in-Ok-Dump.dump.now (record { request = OnDump c.in-Ok-Dump.dump.now; asks = (rw c.in-Ok-Dump.field-0-is at c.in-Ok-Dump.ensures.request); names = refl })
+
+pub returns-in-Ok-Dump : goal.returns-in-Ok-Dump
+returns-in-Ok-Dump g c =
+    answers_words g.T.Texts.content g.T.Texts.faults g.T.Texts.down g.S.Source.left g.S.Source.faults g.S.Source.down g.K.Sink.held g.K.Sink.faults g.K.Sink.down (map string_bytes c.args.words.now) c.args.texts.now c.tell_named.new.texts c.args.trace.now c.args.trace.now c.args.out.now c.tell_named.new.out c.tell_named.result
+    (words_dump g.S.Source.left g.S.Source.faults g.S.Source.down g.K.Sink.held g.K.Sink.faults g.K.Sink.down (map string_bytes c.args.words.now) (g.T.Texts.content c.args.texts.now) (Fell (g.T.Texts.faults c.args.texts.now) (g.T.Texts.faults c.tell_named.new.texts) (g.T.Texts.down c.tell_named.new.texts)) c.args.trace.now c.args.trace.now c.args.out.now c.tell_named.new.out c.in-Ok-Dump.dump.now c.tell_named.result (rw c.in-Ok-Dump.field-0-is at c.in-Ok-Dump.ensures.request) c.tell_named.ensures)
+    (inr (c.in-Ok-Dump.dump.now, record { request = OnDump c.in-Ok-Dump.dump.now; asks = (rw c.in-Ok-Dump.field-0-is at c.in-Ok-Dump.ensures.request); names = refl })) (inl refl)
 
 -- ---- a workload
 

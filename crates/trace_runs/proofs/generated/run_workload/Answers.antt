@@ -1,10 +1,12 @@
-use Rattle.std.proofs.Common.{◌≡◌, ◌+◌, length, rules, refl, sym, ap, subst, ◌∙◌, arith}
+use Rattle.std.specs.Prelude.{codes}
+use Rattle.std.proofs.Common.{◌≡◌, ◌+◌, ◌++◌, length, rules, refl, sym, ap, subst, ◌∙◌, arith}
 use Rattle.std.proofs.lemmas.List.{with_items_is, places}
 use Rattle.forec_kernel.specs.declared.shape.Outcome.TheVariants as outcome
 use Rattle.forec_kernel.specs.Ticks.{goes_on}
 use Rattle.tick_jobs.specs.Outcomes.{HasOutputs}
-use Rattle.trace_rows.specs.Report.{trap_line, over_line}
+use Rattle.trace_rows.specs.Report.{trap_words, over_words}
 use Rattle.trace_rows.specs.Trace.{Row}
+use Rattle.trace_runs.specs.Formats.{last_written}
 use Rattle.trace_runs.specs.WaitingRoom.{HasRoom}
 use Rattle.trace_runs.specs.Workload.{zero_row, workload_line}
 use Rattle.trace_runs.specs.declared.waiting.Waiting.{Waiting}
@@ -63,26 +65,28 @@ loop-tick-preserved g c =
 pub returns-in-Trapped-clause-report : goal.returns-in-Trapped-clause-report
 returns-in-Trapped-clause-report g c = λ k s.
     let i = c.loop-tick.invariant in
+    let plain = ap (λ (w : Waiting). w.format) i.waits ∙ c.requires.plain.1 in
     let gone = i.gone k s in
     let count = c.loop-tick.tick in
     let are = c.deref.ensures.value ∙ i.row ∙ ap zero_row (sym s.shaped) in
     let how = made_outcome k c.args.budget gone.turns gone.state gone.led c.deref.result.now are c.in-Ok.outcome (c.in-Ok.ensures.tick.outcome k gone.turns gone.follows) in
     let F = g.T.Ticker.follows c.loop-tick.ticker k in
-    put_report c.loop-tick.waiting c.args.waiting.now c.put_trap.new.self (trap_line (count + 1) c.in-Trapped.place c.in-Trapped.trap) _ _ status.Trapped i.waits
+    put_report c.loop-tick.waiting c.args.waiting.now c.put_trap.new.self (last_written c.loop-tick.waiting.format (trap_words (count + 1) c.in-Trapped.place c.in-Trapped.trap)) _ _ status.Trapped i.waits
     (stopped k c.args.budget F count c.loop-tick.sum gone c.args.threads (outcome.Trapped c.in-Trapped.place c.in-Trapped.trap) c.loop-tick-test.true (sym c.in-Trapped.is ∙ how) refl)
-    (ap (λ n. trap_line n c.in-Trapped.place c.in-Trapped.trap) (sym (number k c.args.budget F count c.loop-tick.sum gone))) refl c.put_trap.ensures
+    (ap (λ f. last_written f (trap_words (count + 1) c.in-Trapped.place c.in-Trapped.trap)) plain ∙ ap (λ n. trap_words n c.in-Trapped.place c.in-Trapped.trap ++ codes "\n") (sym (number k c.args.budget F count c.loop-tick.sum gone))) refl c.put_trap.ensures
 
 pub returns-in-Over-clause-report : goal.returns-in-Over-clause-report
 returns-in-Over-clause-report g c = λ k s.
     let i = c.loop-tick.invariant in
+    let plain = ap (λ (w : Waiting). w.format) i.waits ∙ c.requires.plain.1 in
     let gone = i.gone k s in
     let count = c.loop-tick.tick in
     let are = c.deref.ensures.value ∙ i.row ∙ ap zero_row (sym s.shaped) in
     let how = made_outcome k c.args.budget gone.turns gone.state gone.led c.deref.result.now are c.in-Ok.outcome (c.in-Ok.ensures.tick.outcome k gone.turns gone.follows) in
     let F = g.T.Ticker.follows c.loop-tick.ticker k in
-    put_report c.loop-tick.waiting c.args.waiting.now c.put_over.new.self (over_line (count + 1) c.args.budget) _ _ status.Over i.waits
+    put_report c.loop-tick.waiting c.args.waiting.now c.put_over.new.self (last_written c.loop-tick.waiting.format (over_words (count + 1) c.args.budget)) _ _ status.Over i.waits
     (stopped k c.args.budget F count c.loop-tick.sum gone c.args.threads outcome.Over c.loop-tick-test.true (sym c.in-Over.is ∙ how) refl)
-    (ap (λ n. over_line n c.args.budget) (sym (number k c.args.budget F count c.loop-tick.sum gone))) refl c.put_over.ensures
+    (ap (λ f. last_written f (over_words (count + 1) c.args.budget)) plain ∙ ap (λ n. over_words n c.args.budget ++ codes "\n") (sym (number k c.args.budget F count c.loop-tick.sum gone))) refl c.put_over.ensures
 
 pub returns-in-Ended-clause-report : goal.returns-in-Ended-clause-report
 returns-in-Ended-clause-report g c = λ k s.

@@ -1,6 +1,7 @@
 use Rattle.std.proofs.Common.{◌≡◌, ◌≤◌, ◌+◌, ◌-◌, true, length}
 use Rattle.std.specs.Io.KnownBytes.{IsAtEnd}
 use Rattle.forec_kernel.specs.Shapes.{PlainKernel}
+use Rattle.trace_runs.specs.Formats.{names_in}
 use Rattle.trace_runs.specs.Ticking.{Starts}
 use Rattle.trace_runs.proofs.Asking.{Asked}
 use Rattle.trace_runs.proofs.Running.{Reached, Stands_at}
@@ -12,9 +13,9 @@ invariant-ticks g l =
     let held = g.K.Sink.held in
     let shape = g.T.Ticker.shape l.fn.ticker in
     record {
-      reached : (k : PlainKernel) → Starts shape (g.T.Ticker.follows l.fn.ticker) k → Reached (record { kernel = k; budget = l.budget; first = l.fn.rows })
-          (g.T.Ticker.follows l.ticker k) l.rows (left l.fn.trace) (left l.trace) (held l.fn.out) (held l.out) l.session.waiting.bytes.items l.row;
-      asked : (k : PlainKernel) → Starts shape (g.T.Ticker.follows l.fn.ticker) k → Asked left g.S.Source.faults g.S.Source.down (record { kernel = k; budget = l.budget; first = l.fn.rows })
+      reached : (k : PlainKernel) → Starts shape (g.T.Ticker.follows l.fn.ticker) k → Reached (record { format = l.fn.session.waiting.format; kernel = k; budget = l.budget; first = l.fn.rows })
+          (g.T.Ticker.follows l.ticker k) l.rows (left l.fn.trace) (left l.trace) (held l.fn.out) (held l.out) l.session.waiting.bytes.items l.session.waiting.format l.row;
+      asked : (k : PlainKernel) → Starts shape (g.T.Ticker.follows l.fn.ticker) k → Asked left g.S.Source.faults g.S.Source.down (record { format = l.fn.session.waiting.format; kernel = k; budget = l.budget; first = l.fn.rows })
           (g.T.Ticker.follows l.ticker k) l.rows l.row l.fn.trace l.trace;
       shape : g.T.Ticker.shape l.ticker ≡ shape;
       ready : g.T.Ticker.ready l.ticker ≡ g.T.Ticker.ready l.fn.ticker;
@@ -25,7 +26,7 @@ invariant-ticks g l =
       stands : Stands_at l.fn.rows l.row l.rows;
       low : 1 ≤ l.row;
       high : l.row ≤ l.fn.rows.limit + 1;
-      names : l.session.waiting.names ≡ l.fn.session.waiting.names;
+      names : names_in l.session.waiting.format ≡ names_in l.fn.session.waiting.format;
       ended : l.rows.ended ≡ true → IsAtEnd (left l.trace);
       read : g.S.Source.faults l.fn.trace ≤ g.S.Source.faults l.trace;
       written : g.K.Sink.faults l.fn.out ≤ g.K.Sink.faults l.out;

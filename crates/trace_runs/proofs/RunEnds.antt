@@ -10,6 +10,7 @@ use Rattle.trace_runs.specs.Ends.{IsOwn, Given, Wanted, ReadFor}
 use Rattle.trace_runs.specs.Led.{IsTold, IsTraceReport, RunsRows}
 use Rattle.trace_runs.specs.Prints.{Prints, Says}
 use Rattle.trace_runs.specs.Report.{Report, trace_report}
+use Rattle.trace_runs.specs.declared.format.Format.{Format}
 use Rattle.trace_runs.specs.declared.status.Status.{Status}
 use Rattle.trace_runs.specs.declared.status.Status.TheVariants as status
 use Rattle.trace_runs.proofs.Printing.{prints_as, prints_front, prints_part, prints_nothing, prints_unread, told_is}
@@ -30,34 +31,34 @@ module _ {K : Type 0} (held : K → Option (List ℕ)) (lost : K → ℕ) (is_do
   pub line_front : end ≡ status.WriteFault → AppendsFront (held old) (held new) line.bytes
   line_front is = let w = (p.write is).1 tt in subst (λ (q : Report). AppendsFront (held old) (held new) q.bytes) w.1 w.2
 
-module _ {S K : Type 0} (left : S → Option (List ℕ)) (faults : S → ℕ) (down : S → Bool) (held : K → Option (List ℕ)) (lost : K → ℕ) (is_down : K → Bool) (limit : ℕ) (k : PlainKernel) (b : ℕ) (Parted : Type 0) (old new : S)
+module _ {S K : Type 0} (left : S → Option (List ℕ)) (faults : S → ℕ) (down : S → Bool) (held : K → Option (List ℕ)) (lost : K → ℕ) (is_down : K → Bool) (limit : ℕ) (how : Format) (k : PlainKernel) (b : ℕ) (Parted : Type 0) (old new : S)
     (out mid out' : K) where
   abbrev Unread : Type 0
-  Unread = Fell (faults old) (faults new) (down new) × Wanted limit k b (left old) (left new) (held out) (held out')
+  Unread = Fell (faults old) (faults new) (down new) × Wanted limit how k b (left old) (left new) (held out) (held out')
 
   abbrev P : Status → Type 0
-  P end = Prints held lost is_down (IsTold (left old)) (IsTraceReport limit k b (left old)) ⊥ Unread Parted out out' end
+  P end = Prints held lost is_down (IsTold (left old)) (IsTraceReport limit how k b (left old)) ⊥ Unread Parted out out' end
 
-  front : IfSome (left old) (λ x. AppendsFront (held out) (held out') (trace_report limit k b x).bytes) → IsTold (left old) →
-      (r : Report) × IsTraceReport limit k b (left old) r × AppendsFront (held out) (held out') r.bytes
-  front f told = (trace_report limit k b told.0, (told.0, told.1, refl), told_is (left old) _ told.0 f told.1)
+  front : IfSome (left old) (λ x. AppendsFront (held out) (held out') (trace_report limit how k b x).bytes) → IsTold (left old) →
+      (r : Report) × IsTraceReport limit how k b (left old) r × AppendsFront (held out) (held out') r.bytes
+  front f told = (trace_report limit how k b told.0, (told.0, told.1, refl), told_is (left old) _ told.0 f told.1)
 
   pub unread : Unread → P status.ReadFault
-  unread u = prints_unread held lost is_down (IsTold (left old)) (IsTraceReport limit k b (left old)) ⊥ Unread Parted out out' u
+  unread u = prints_unread held lost is_down (IsTold (left old)) (IsTraceReport limit how k b (left old)) ⊥ Unread Parted out out' u
 
-  pub unwritten : Fell (lost out) (lost out') (is_down out') → IfSome (left old) (λ x. AppendsFront (held out) (held out') (trace_report limit k b x).bytes) → P status.WriteFault
-  unwritten fell f = prints_front held lost is_down (IsTold (left old)) (IsTraceReport limit k b (left old)) ⊥ Unread Parted out out' fell (front f)
+  pub unwritten : Fell (lost out) (lost out') (is_down out') → IfSome (left old) (λ x. AppendsFront (held out) (held out') (trace_report limit how k b x).bytes) → P status.WriteFault
+  unwritten fell f = prints_front held lost is_down (IsTold (left old)) (IsTraceReport limit how k b (left old)) ⊥ Unread Parted out out' fell (front f)
 
-  pub parted : Parted → IfSome (left old) (λ x. AppendsFront (held out) (held out') (trace_report limit k b x).bytes) → P status.NoMemory
-  parted p f = prints_part held lost is_down (IsTold (left old)) (IsTraceReport limit k b (left old)) ⊥ Unread Parted out out' p (front f)
+  pub parted : Parted → IfSome (left old) (λ x. AppendsFront (held out) (held out') (trace_report limit how k b x).bytes) → P status.NoMemory
+  parted p f = prints_part held lost is_down (IsTold (left old)) (IsTraceReport limit how k b (left old)) ⊥ Unread Parted out out' p (front f)
 
   pub unbegun : held out' ≡ held out → P status.NoMemory
-  unbegun same = prints_nothing held lost is_down (IsTold (left old)) (IsTraceReport limit k b (left old)) ⊥ Unread Parted out out' same
+  unbegun same = prints_nothing held lost is_down (IsTold (left old)) (IsTraceReport limit how k b (left old)) ⊥ Unread Parted out out' same
 
   -- the last lines were said
   pub last_said : (waiting : List ℕ) (end result : Status) → IsOwn end → end ≢ status.Usage → lost out ≤ lost mid →
-      IfSome (left old) (λ x. Appends (held mid) (held out') waiting → Given (trace_report limit k b x) end (held out) (held out')) →
-      IfSome (left old) (λ x. AppendsFront (held mid) (held out') waiting → AppendsFront (held out) (held out') (trace_report limit k b x).bytes) →
+      IfSome (left old) (λ x. Appends (held mid) (held out') waiting → Given (trace_report limit how k b x) end (held out) (held out')) →
+      IfSome (left old) (λ x. AppendsFront (held mid) (held out') waiting → AppendsFront (held out) (held out') (trace_report limit how k b x).bytes) →
       Says held lost is_down (record { bytes = waiting; status = end }) (end ≡ status.Usage) mid out' result → result ≢ status.NoMemory → P result
   last_said waiting end result own other later whole part p some =
       let line : Report = record { bytes = waiting; status = end } in
@@ -65,14 +66,14 @@ module _ {S K : Type 0} (left : S → Option (List ℕ)) (faults : S → ℕ) (d
         own = λ mine told.
             let is = line_said held lost is_down line (end ≡ status.Usage) mid out' result p mine in
             let all = line_whole held lost is_down line (end ≡ status.Usage) mid out' result p mine in (
-              trace_report limit k b told.0,
+              trace_report limit how k b told.0,
               (told.0, told.1, refl),
-              subst (λ (s : Status). Given (trace_report limit k b told.0) s (held out) (held out')) (sym is) (told_is (left old) _ told.0 whole told.1 all),
+              subst (λ (s : Status). Given (trace_report limit how k b told.0) s (held out) (held out')) (sym is) (told_is (left old) _ told.0 whole told.1 all),
             );
         write = λ is. (
           fell_since (lost out) (lost mid) (lost out') (is_down out') later (p.write is).0,
           λ told. (
-            trace_report limit k b told.0,
+            trace_report limit how k b told.0,
             (told.0, told.1, refl),
             told_is (left old) _ told.0 part told.1 (line_front held lost is_down line (end ≡ status.Usage) mid out' result p is),
           ),
@@ -83,21 +84,21 @@ module _ {S K : Type 0} (left : S → Option (List ℕ)) (faults : S → ℕ) (d
       }
 
 -- when memory may run out between two ticks, said with other words
-pub rows_as : {S K : Type 0} (left : S → Option (List ℕ)) (faults : S → ℕ) (down : S → Bool) (held : K → Option (List ℕ)) (lost : K → ℕ) (is_down : K → Bool) (limit : ℕ) (k : PlainKernel) (b : ℕ) (Parted Parted' : Type 0) (old new : S)
-    (out out' : K) (end : Status) → (Parted → Parted') → RunsRows left faults down held lost is_down limit k b Parted old new out out' end → RunsRows left faults down held lost is_down limit k b Parted' old new out out' end
-rows_as left faults down held lost is_down limit k b Parted Parted' old new out out' end parted p = record {
+pub rows_as : {S K : Type 0} (left : S → Option (List ℕ)) (faults : S → ℕ) (down : S → Bool) (held : K → Option (List ℕ)) (lost : K → ℕ) (is_down : K → Bool) (limit : ℕ) (how : Format) (k : PlainKernel) (b : ℕ) (Parted Parted' : Type 0) (old new : S)
+    (out out' : K) (end : Status) → (Parted → Parted') → RunsRows left faults down held lost is_down limit how k b Parted old new out out' end → RunsRows left faults down held lost is_down limit how k b Parted' old new out out' end
+rows_as left faults down held lost is_down limit how k b Parted Parted' old new out out' end parted p = record {
   prints = prints_as held lost is_down _ _ _ _ _ out out' _ _ _ _ _ end (λ t. t) (λ t r is. is) (λ n. n) (λ u. u) parted p.prints;
   trace = p.trace;
 }
 
 -- ---- nothing was run
 
-module _ {S K : Type 0} (left : S → Option (List ℕ)) (faults : S → ℕ) (down : S → Bool) (held : K → Option (List ℕ)) (lost : K → ℕ) (is_down : K → Bool) (limit : ℕ) (k : PlainKernel) (b : ℕ) (Parted : Type 0) (old new : S)
+module _ {S K : Type 0} (left : S → Option (List ℕ)) (faults : S → ℕ) (down : S → Bool) (held : K → Option (List ℕ)) (lost : K → ℕ) (is_down : K → Bool) (limit : ℕ) (how : Format) (k : PlainKernel) (b : ℕ) (Parted : Type 0) (old new : S)
     (out out' : K) (same : new ≡ old) (kept : out' ≡ out) where
-  pub rows_unrun : RunsRows left faults down held lost is_down limit k b Parted old new out out' status.NoMemory
+  pub rows_unrun : RunsRows left faults down held lost is_down limit how k b Parted old new out out' status.NoMemory
   rows_unrun = record {
-    prints = unbegun left faults down held lost is_down limit k b Parted old new out out out' (ap held kept);
-    trace = subst (λ (t : S). ReadFor left faults down limit k b old t) (sym same) ([], none);
+    prints = unbegun left faults down held lost is_down limit how k b Parted old new out out out' (ap held kept);
+    trace = subst (λ (t : S). ReadFor left faults down limit how k b old t) (sym same) ([], none);
   }
 
 pub workload_unrun : {K : Type 0} (held : K → Option (List ℕ)) (lost : K → ℕ) (is_down : K → Bool) (r : Report) (Misused : Type 0) (out out' : K) → out' ≡ out → Says held lost is_down r Misused out out' status.NoMemory

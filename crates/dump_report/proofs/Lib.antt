@@ -1,0 +1,4 @@
+-- Lemmas.
+mod Sent
+mod Answered
+mod Lines

@@ -1,0 +1,4 @@
+-- What the contracts cite.
+pub mod Told
+pub mod Ends
+pub mod Calls

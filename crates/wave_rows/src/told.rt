@@ -1,0 +1,172 @@
+//! What is told of texts: the reports of worked dumps, and the lines of texts that are refused.
+use crate::worked::{COUNTS, MIXED, NONE};
+use dump_report::{DumpStatus, tell};
+use forec_base::{MAX_TEXT_BYTES, MemSink};
+use std::alloc::Global;
+use std::process::Abort;
+use std::test::Fail;
+
+/// A dump whose output has no name, and an ending that no run has.
+const NAMELESS: &[u8] = b"$timescale 1 ns $end
+$scope module forec $end
+$var wire 32 !  $end
+$upscope $end
+$enddefinitions $end
+#1
+b00000000000000000000000000000001 !
+$comment x $end
+";
+
+/// The unit of time is another.
+const MICROSECONDS: &[u8] = b"$timescale 1 us $end
+$scope module forec $end
+$upscope $end
+$enddefinitions $end
+$comment rows 0 $end
+";
+
+/// The report of `COUNTS`.
+const COUNTED: &[u8] = b"tick 1 o=1\ntick 2 o=2\nrows 2\n";
+
+/// Texts, what is told of them, and the status.
+const REPORTS: [(&[u8], &[u8], DumpStatus); 6] = [
+    (COUNTS, COUNTED, DumpStatus::Done),
+    (
+        MIXED,
+        b"tick 1 a[0]=0 a[1]=-1 b=-2147483648
+tick 2 a[0]=0 a[1]=-1 b=-2147483648
+tick 3 a[0]=0 a[1]=2147483647 b=-2147483648
+tick 4 a[0]=5 a[1]=-2147483648 b=-2
+end 4
+",
+        DumpStatus::Done,
+    ),
+    (NONE, b"row 0 bad\n", DumpStatus::Done),
+    (NAMELESS, b"tick 1 =1\nx\n", DumpStatus::Done),
+    (b"", b"refused byte 1\n", DumpStatus::Refused),
+    (MICROSECONDS, b"refused byte 14\n", DumpStatus::Refused),
+];
+
+/// What is told of a text: what the sink holds then, and the status.
+struct Told {
+    held: Vec<u8>,
+    status: DumpStatus,
+}
+
+/// Tells a text to a sink with room for so many bytes, which takes at most `size` of them a call and fails at the calls
+/// of these numbers.
+fn told(
+    alloc: Global,
+    text: &[u8],
+    room: usize,
+    size: usize,
+    fails: Vec<u64>,
+) -> Result<Told, Fail> {
+    let mut sink = MemSink::pieces(alloc, room, fails, size.max(1))?;
+    let status = tell(alloc, text, &mut sink);
+    let held = sink.bytes().to_vec(alloc)?;
+    Ok(Told { held, status })
+}
+
+/// The same to a sink that takes all bytes at once, and doesn't fail.
+fn told_whole(alloc: Global, text: &[u8]) -> Result<Told, Fail> {
+    told(alloc, text, 1_000_000, usize::MAX, Vec::new(alloc))
+}
+
+#[test]
+fn reports(rt: HostRuntime) -> Result<(), Fail> {
+    let alloc = rt.alloc();
+    for (text, report, status) in &REPORTS {
+        let told = told_whole(alloc, text)?;
+        assert_eq!(rt; told.held.as_slice(), *report);
+        assert_eq!(rt; told.status, *status);
+    }
+    Ok(())
+}
+
+/// A dump that is cut is refused at the byte behind its last.
+#[test]
+fn cut_at_each_byte(rt: HostRuntime) -> Result<(), Fail> {
+    let alloc = rt.alloc();
+    for length in 0..COUNTS.len() {
+        let told = told_whole(alloc, &COUNTS[..length])?;
+        let line = format!(in alloc; "refused byte {}\n", length + 1)?;
+        assert_eq!(rt; told.held.as_slice(), line.as_bytes());
+        assert_eq!(rt; told.status, DumpStatus::Refused);
+    }
+    Ok(())
+}
+
+/// A text of a byte too many isn't read.
+#[test]
+fn too_long(rt: HostRuntime) -> Result<(), Fail> {
+    let alloc = rt.alloc();
+    let mut text = vec![in alloc; b'$'; MAX_TEXT_BYTES]?;
+    let longest = told_whole(alloc, &text)?;
+    assert_eq!(rt; longest.held.as_slice(), b"refused byte 2\n");
+    text.push(b'$')?;
+    let long = told_whole(alloc, &text)?;
+    assert_eq!(rt; long.held.as_slice(), b"refused long\n");
+    assert_eq!(rt; long.status, DumpStatus::Refused);
+    Ok(())
+}
+
+/// A dump of so many ticks, whose output has a name of so many bytes, and its report.
+fn wide(alloc: Global, width: usize, ticks: u32) -> Result<(String, String), Fail> {
+    let mut name = String::new(alloc);
+    for _ in 0..width {
+        name.push('n')?;
+    }
+    let mut text = format!(in alloc;
+        "$timescale 1 ns $end\n$scope module forec $end\n$var wire 32 ! {name} $end\n$upscope $end\n$enddefinitions $end\n"
+    )?;
+    let mut report = String::new(alloc);
+    for tick in 0..ticks {
+        text.push_str(format!(in alloc; "#{}\n", u64::from(tick) + 1)?.as_str())?;
+        if tick == 0 {
+            text.push_str("b00000000000000000000000000000000 !\n")?;
+        }
+        report.push_str(format!(in alloc; "tick {} {name}=0\n", u64::from(tick) + 1)?.as_str())?;
+    }
+    text.push_str("$comment rows $end\n")?;
+    report.push_str("rows\n")?;
+    Ok((text, report))
+}
+
+/// More lines than wait at once, and a line that is longer than what waits at once.
+#[test]
+fn in_pieces(rt: HostRuntime) -> Result<(), Fail> {
+    let alloc = rt.alloc();
+    for (width, ticks) in &[(20, 9000), (10_000, 20), (200_000, 3)] {
+        let (text, report) = wide(alloc, *width, *ticks)?;
+        for size in &[usize::MAX, 999] {
+            let told = told(alloc, text.as_bytes(), 1_000_000, *size, Vec::new(alloc))?;
+            assert!(rt; told.held.as_slice() == report.as_bytes());
+            assert_eq!(rt; told.status, DumpStatus::Done);
+        }
+    }
+    Ok(())
+}
+
+/// What a sink holds that failed is a front of the report.
+fn is_front(rt: &impl Abort, told: &Told, report: &[u8]) {
+    assert_eq!(rt; told.status, DumpStatus::WriteFault);
+    assert!(rt; report.starts_with(told.held.as_slice()));
+}
+
+/// The sink takes three bytes a call, and fails at one of its calls, or has less room than the report wants.
+#[test]
+fn a_sink_that_fails(rt: HostRuntime) -> Result<(), Fail> {
+    let alloc = rt.alloc();
+    for call in 1..=10u64 {
+        let fails = vec![in alloc; call]?;
+        is_front(&rt, &told(alloc, COUNTS, 1000, 3, fails)?, COUNTED);
+        let fails = vec![in alloc; call]?;
+        let refused = told(alloc, b"", 1000, 1, fails)?;
+        is_front(&rt, &refused, b"refused byte 1\n");
+    }
+    for room in 0..COUNTED.len() {
+        is_front(&rt, &told(alloc, COUNTS, room, 1, Vec::new(alloc))?, COUNTED);
+    }
+    Ok(())
+}
