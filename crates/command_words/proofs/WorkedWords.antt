@@ -5,7 +5,7 @@ use Rattle.clap.specs.Words.{Text}
 use Rattle.command_words.specs.CommandLine.{command_line}
 use Rattle.command_words.specs.declared.request.Budget.{Budget}
 use Rattle.command_words.specs.declared.request.Budget.TheVariants as budget
-use Rattle.command_words.specs.Requests.{PlainPlacing, PlainRunning, PlainRequest, OnText, OnWorkload, Run, Check, Threads, Code, Explain, request_of}
+use Rattle.command_words.specs.Requests.{PlainPlacing, PlainRunning, PlainRequest, OnText, OnWorkload, OnDump, Run, Check, Threads, Code, Explain, Wave, request_of}
 
 placed : ℕ → Option Text → PlainPlacing
 placed cores list = record { cores = cores; list = list }
@@ -117,3 +117,44 @@ folded_check = refl
 folded_workload : request_of (codes "gen" ∷ codes "7" ∷ codes "--fold" ∷ []) ≡ None
 unfolding request_of command_line clap_on_literals
 folded_workload = refl
+
+waved : request_of (codes "wave" ∷ codes "p" ∷ codes "--cores" ∷ codes "3" ∷ codes "--place=0,1,2" ∷ codes "--budget" ∷ codes "7" ∷ [])
+    ≡ Some (OnText (codes "p") (Wave (running 3 (Some (codes "0,1,2")) (budget.Units 7))) false)
+unfolding request_of running placed command_line clap_on_literals
+waved = refl
+
+bounded_wave : request_of (codes "wave" ∷ codes "p" ∷ codes "--budget" ∷ codes "bound" ∷ []) ≡ Some (OnText (codes "p") (Wave (running 1 None budget.Bound)) false)
+unfolding request_of running placed command_line clap_on_literals
+bounded_wave = refl
+
+folded_wave : request_of (codes "wave" ∷ codes "p" ∷ codes "--fold" ∷ []) ≡ None
+unfolding request_of command_line clap_on_literals
+folded_wave = refl
+
+order_of_a_wave : request_of (codes "wave" ∷ codes "p" ∷ codes "--order" ∷ codes "1" ∷ []) ≡ None
+unfolding request_of command_line clap_on_literals
+order_of_a_wave = refl
+
+told : request_of (codes "unwave" ∷ codes "d" ∷ []) ≡ Some (OnDump (codes "d"))
+unfolding request_of command_line clap_on_literals
+told = refl
+
+told_with_a_budget : request_of (codes "unwave" ∷ codes "d" ∷ codes "--budget" ∷ codes "9" ∷ []) ≡ None
+unfolding request_of command_line clap_on_literals
+told_with_a_budget = refl
+
+told_on_cores : request_of (codes "unwave" ∷ codes "d" ∷ codes "--cores=1" ∷ []) ≡ None
+unfolding request_of command_line clap_on_literals
+told_on_cores = refl
+
+told_folded : request_of (codes "unwave" ∷ codes "d" ∷ codes "--fold" ∷ []) ≡ None
+unfolding request_of command_line clap_on_literals
+told_folded = refl
+
+no_dump : request_of (codes "unwave" ∷ []) ≡ None
+unfolding request_of command_line clap_on_literals
+no_dump = refl
+
+two_dumps : request_of (codes "unwave" ∷ codes "d" ∷ codes "e" ∷ []) ≡ None
+unfolding request_of command_line clap_on_literals
+two_dumps = refl

@@ -29,11 +29,13 @@ pub data PlainCommand : Type 0 where
   Threads : PlainPlacing → PlainCommand
   Code : PlainCommand
   Explain : (budget : Budget) (order : ℕ) → PlainCommand
+  Wave : PlainRunning → PlainCommand
 
--- a command on a program, whose kernel is folded or not; or a workload
+-- a command on a program, whose kernel is folded or not; a workload; or a dump that is told
 pub data PlainRequest : Type 0 where
   OnText : (program : Text) → PlainCommand → (fold : Bool) → PlainRequest
   OnWorkload : (threads : ℕ) → PlainRunning → PlainRequest
+  OnDump : (dump : Text) → PlainRequest
 
 -- ---- of the values of words
 
@@ -74,25 +76,36 @@ has_no_options v = is_none v.cores && (is_none v.place && (is_none v.budget && i
 abbrev pub is_bare : PlainValues → Bool
 is_bare v = has_no_options v && not v.fold
 
+-- the options of `run`, but for the one that folds the kernel
+abbrev pub waving_of : PlainValues → Option PlainCommand
+waving_of v = cond v.fold None (option_map Wave (running_of v))
+
 abbrev pub command_of : Text → PlainValues → Option PlainCommand
 command_of name v =
     if is_word name (codes "run") then option_map Run (running_of v)
     else (if is_word name (codes "threads") then option_map Threads (placing_alone_of v)
     else (if is_word name (codes "explain") then explaining_of v
+    else (if is_word name (codes "wave") then waving_of v
     else (if is_word name (codes "check") then cond (is_bare v) (Some Check) None
     else (if is_word name (codes "code") then cond (has_no_options v) (Some Code) None
-    else None))))
+    else None)))))
 
 -- a workload of 1 to 255 threads, which isn't folded
 abbrev pub workload_of : Text → PlainValues → Option PlainRequest
 workload_of number v = cond v.fold None (option_and_then (λ n. option_map (OnWorkload n) (running_of v)) (number_in 1 MAX_WORKLOAD number))
+
+-- a dump, with no options
+abbrev pub dump_of : Text → PlainValues → Option PlainRequest
+dump_of dump v = cond (is_bare v) (Some (OnDump dump)) None
 
 abbrev pub text_request_of : Text → Text → PlainValues → Option PlainRequest
 text_request_of name program v = option_map (λ c. OnText program c v.fold) (command_of name v)
 
 abbrev pub request_named : Text → Text → PlainValues → Option PlainRequest
 request_named name program v =
-    if is_word name (codes "gen") then workload_of program v else text_request_of name program v
+    if is_word name (codes "gen") then workload_of program v
+    else (if is_word name (codes "unwave") then dump_of program v
+    else text_request_of name program v)
 
 abbrev pub request_by : PlainValues → Option PlainRequest
 request_by v = option_and_then (λ name. option_and_then (λ program. request_named name program v) v.program) v.command
@@ -119,7 +132,9 @@ plain_command command.Check = Check
 plain_command (command.Threads p) = Threads (plain_placing p)
 plain_command command.Code = Code
 plain_command (command.Explain b n) = Explain b n
+plain_command (command.Wave r) = Wave (plain_running r)
 
 abbrev pub plain_request : Request → PlainRequest
 plain_request (request.Text program c fold) = OnText program.now (plain_command c) fold
 plain_request (request.Workload n r) = OnWorkload n (plain_running r)
+plain_request (request.Dump dump) = OnDump dump.now

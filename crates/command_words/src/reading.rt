@@ -107,6 +107,10 @@ fn command<'a>(name: &str, values: &Values<'a>) -> Option<Command<'a>>
             Some(Command::Threads { placing })
         }
         "explain" => explaining(values),
+        "wave" if !values.fold => {
+            let running = running(values)?;
+            Some(Command::Wave { running })
+        }
         "check" if is_bare(values) => Some(Command::Check),
         "code" if is_plain(values) => Some(Command::Code),
         _ => None,
@@ -125,21 +129,41 @@ fn workload<'a>(number: &str, values: &Values<'a>) -> Option<Request<'a>>
     Some(Request::Workload { threads, running })
 }
 
-/// What the values of words ask for.
-fn request<'a>(values: &Values<'a>) -> Option<Request<'a>>
-    ensures { option_map asked.plain_request result ≡ asked.request_by (plain_values values.now) }
+/// The dump of a name, which is told with no option.
+fn dump<'a>(dump: &'a str, values: &Values<'a>) -> Option<Request<'a>>
+    ensures { option_map asked.plain_request result ≡ asked.dump_of dump.entry.now (plain_values values.now) }
 {
-    let name = values.command?;
-    let program = values.program?;
-    if name == "gen" {
-        return workload(program, values);
+    if is_bare(values) {
+        Some(Request::Dump { dump })
+    } else {
+        None
     }
+}
+
+/// The command of a name on the text of a program.
+fn on_text<'a>(name: &str, program: &'a str, values: &Values<'a>) -> Option<Request<'a>>
+    ensures { option_map asked.plain_request result
+        ≡ asked.text_request_of name.now program.entry.now (plain_values values.now) }
+{
     let command = command(name, values)?;
     Some(Request::Text {
         program,
         command,
         fold: values.fold,
     })
+}
+
+/// What the values of words ask for.
+fn request<'a>(values: &Values<'a>) -> Option<Request<'a>>
+    ensures { option_map asked.plain_request result ≡ asked.request_by (plain_values values.now) }
+{
+    let name = values.command?;
+    let program = values.program?;
+    match name {
+        "gen" => workload(program, values),
+        "unwave" => dump(program, values),
+        _ => on_text(name, program, values),
+    }
 }
 
 /// What the words ask for. They are those after the program's own name.
@@ -149,7 +173,8 @@ fn request<'a>(values: &Values<'a>) -> Option<Request<'a>>
 /// `Usage` exactly where they ask for nothing: where `clap` refuses them, the command is none, an option isn't the
 /// command's, or a number is out of its range. Or out of memory.
 pub fn read_words<'a>(alloc: Global, words: &'a [String]) -> Result<Request<'a>, WordsFault>
-    ensures request { IfOk result (λ r. asked.request_of (map string_bytes words.entry.now) ≡ Some (asked.plain_request r)) }
+    ensures request { IfOk result (λ r. asked.request_of (map string_bytes words.entry.now)
+        ≡ Some (asked.plain_request r)) }
     ensures usage { result ≡ Err fault.Usage → asked.request_of (map string_bytes words.entry.now) ≡ None }
 {
     let values = values(alloc, words)?;

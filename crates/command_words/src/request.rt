@@ -45,13 +45,15 @@ pub enum Command<'a> {
     Code,
     /// It runs over the trace by rewriting, in an order of steps that has a number. A tick may have so many units.
     Explain { budget: Budget, order: u32 },
+    /// It runs over the trace, and a value change dump of the run is written.
+    Wave { running: Running<'a> },
 }
 
 /// What words ask for.
 #[derive(Clone, Copy, Debug, PartialEq, Eq)]
 pub enum Request<'a> {
     /// A command on the text of this name. `fold`: its kernel has its constants folded before the command is done;
-    /// never so where the command is [`Command::Check`].
+    /// never so where the command is [`Command::Check`] or [`Command::Wave`].
     Text {
         program: &'a str,
         command: Command<'a>,
@@ -61,5 +63,9 @@ pub enum Request<'a> {
     Workload {
         threads: u32,
         running: Running<'a>,
+    },
+    /// The report is written that the value change dump of this name tells.
+    Dump {
+        dump: &'a str,
     },
 }

@@ -26,7 +26,7 @@ use Rattle.trace_runs.specs.Report.{Report, trace_report}
 use Rattle.trace_runs.specs.declared.status.Status.TheVariants as status
 
 abbrev pub usage_line : List ℕ
-usage_line = codes "usage: forec run|check|threads|code|explain|gen PROGRAM [--cores N] [--place LIST] [--budget B] [--order N] [--fold]\n"
+usage_line = codes "usage: forec run|check|threads|code|explain|gen|wave|unwave PROGRAM [--cores N] [--place LIST] [--budget B] [--order N] [--fold]\n"
 
 abbrev pub usage : Report
 usage = record { bytes = usage_line; status = status.Usage }
