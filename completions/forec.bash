@@ -1,15 +1,15 @@
-# Completion of `forec` for bash: commands, `.forec` files, options, and `.trace` files after `<`.
+# Completion of `forec` for bash: commands, `.forec` files, options, `.trace` files after `<`, and `.vcd` files for `unwave`.
 #
 # Usage: source this file, or install it as share/bash-completion/completions/forec under a prefix.
 
-_forec_commands="run check threads code explain gen"
+_forec_commands="run check threads code explain gen wave unwave"
 _forec_tools="why lint test trace table plot new"
 
 # The options that a command takes.
 _forec_options_of() {
   case $1 in
     run) echo "--cores --place --budget --fold" ;;
-    gen) echo "--cores --place --budget" ;;
+    gen | wave) echo "--cores --place --budget" ;;
     threads) echo "--cores --place --fold" ;;
     code) echo "--fold" ;;
     explain) echo "--budget --order --fold" ;;
@@ -117,6 +117,8 @@ _forec_offer_after() {
     _forec_offer_value "$value" "${word#=}"
   elif [[ $word = -* || $positional -gt 0 ]] && [ -z "$plain" ]; then
     _forec_offer_options "$command" "$word" "${given[@]}"
+  elif [ "$positional" = 0 ] && [ "$command" = unwave ]; then
+    _forec_offer_files '*.vcd' "$word"
   elif [ "$positional" = 0 ] && [ "$command" != gen ]; then
     _forec_offer_files '*.forec' "$word"
   fi
@@ -140,7 +142,7 @@ _forec() {
     1:loop | 1:watch) _forec_offer_files '*.toml' "$word" ;;
     1:replay-field) compopt -o filenames 2> /dev/null; mapfile -t COMPREPLY < <(compgen -d -- "$word") ;;
     *:why | *:lint | *:test | *:trace | *:table | *:plot | *:new) _forec_offer_for_tool "${before[0]}" "$word" $((${#before[@]} - 1)) ;;
-    *:run | *:check | *:threads | *:code | *:explain | *:gen) _forec_offer_after "$word" "${before[@]}" ;;
+    *:run | *:check | *:threads | *:code | *:explain | *:gen | *:wave | *:unwave) _forec_offer_after "$word" "${before[@]}" ;;
   esac
 }
 
