@@ -1,0 +1,6 @@
+//! What the value change dump of a run tells is the run's report.
+#![tactic(auto)]
+
+mod laws;
+
+pub use laws::a_dump_tells_its_run;
