@@ -1,5 +1,7 @@
 -- What the verdict on a text says of its kernel.
-use Rattle.std.proofs.Common.{ℕ, ◌≤◌, List}
+use Rattle.std.proofs.Common.{ℕ, ◌≤◌, List, [], length, get_or, arith}
+use Rattle.std.specs.List.{AllByRecursion}
+use Rattle.std.proofs.lemmas.List.{length-map}
 use Rattle.forec_tree.specs.Terms as tree
 use Rattle.forec_tree.specs.declared.token.Token.{Token}
 use Rattle.forec_tree.specs.LexedText.{IsLexed}
@@ -19,7 +21,10 @@ use Rattle.paced_texts.proofs.Accepted.{accepted_programs_are_paced, accepted_ru
 use Rattle.value_ranges.specs.Words.{KernelWords}
 use Rattle.value_ranges.proofs.Ticks.{values_fit}
 use Rattle.text_ranges.proofs.Whole.{spelled_programs_have_words}
-use Rattle.text_verdict.specs.Laws.{AcceptedTextsAreFormed, AcceptedTextsArePaced, AcceptedTextsAreNeverOver, AcceptedTextsHaveWords, AcceptedTextsGiveWords}
+use Rattle.text_names.specs.Names.{IsPlainName, HasNames}
+use Rattle.text_names.proofs.Bytes.{safe_names}
+use Rattle.text_names.proofs.Whole.{spelled_programs_have_names, spelled_variables_are_named}
+use Rattle.text_verdict.specs.Laws.{AcceptedTextsAreFormed, AcceptedTextsArePaced, AcceptedTextsAreNeverOver, AcceptedTextsHaveWords, AcceptedTextsGiveWords, AcceptedTextsHaveNames, AcceptedTextsHavePlainNames, AcceptedTextsHaveSafeOutputs}
 
 -- what holds of the kernels of all programs that are accepted holds of the kernel of a verdict
 module _ (P : PlainKernel → Type 0)
@@ -66,3 +71,17 @@ accepted_texts_have_words text counts k h =
 
 pub accepted_texts_give_words : AcceptedTextsGiveWords
 accepted_texts_give_words text counts k h budget rows fit = values_fit k (accepted_texts_have_words text counts k h) budget rows fit
+
+pub accepted_texts_have_names : AcceptedTextsHaveNames
+accepted_texts_have_names text counts k h =
+    on_text (λ k. HasNames k.shape) (λ t tokens program names x s f w. spelled_variables_are_named t tokens names most_levels program x s) text (Accepts counts k) h
+
+pub accepted_texts_have_plain_names : AcceptedTextsHavePlainNames
+accepted_texts_have_plain_names text counts k h =
+    on_text (λ k. AllByRecursion IsPlainName k.shape.names) (λ t tokens program names x s f w. spelled_programs_have_names t tokens names most_levels program x s) text (Accepts counts k) h
+
+pub accepted_texts_have_safe_outputs : AcceptedTextsHaveSafeOutputs
+accepted_texts_have_safe_outputs text counts k h =
+    let few = (accepted_texts_are_formed text counts k h).few_outputs in
+    let as_many = length-map k.shape.outputs (λ v. get_or k.shape.names v []) in
+    (omega (arith, few, as_many), safe_names k.shape.names k.shape.outputs (accepted_texts_have_plain_names text counts k h))

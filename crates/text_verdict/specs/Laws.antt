@@ -1,6 +1,7 @@
 -- What holds of all verdicts.
-use Rattle.std.specs.Prelude.{◌≡◌, ◌≤◌, ℕ, ℤ, List}
+use Rattle.std.specs.Prelude.{◌≡◌, ◌≤◌, ℕ, ℤ, List, length}
 use Rattle.std.specs.List.{AllByRecursion}
+use Rattle.forec_base.specs.declared.limits.TheConstants.{MAX_OUTPUTS}
 use Rattle.forec_kernel.specs.Shapes.{PlainKernel}
 use Rattle.forec_kernel.specs.Ticks.{run_of}
 use Rattle.forec_kernel.specs.WellFormed.{WellFormed}
@@ -9,6 +10,7 @@ use Rattle.bound_laws.specs.Paced.{Paced}
 use Rattle.bound_laws.specs.Laws.{NoneOver}
 use Rattle.value_ranges.specs.Words.{AreWords, KernelWords}
 use Rattle.value_ranges.specs.Laws.{TickWords}
+use Rattle.text_names.specs.Names.{IsPlainName, IsSafeName, HasNames, names_at}
 use Rattle.text_verdict.specs.Judging.{Verdict, Accepts, Judged}
 use Rattle.text_verdict.specs.declared.counts.Counts.{Counts}
 
@@ -42,3 +44,17 @@ abbrev pub AcceptedTextsGiveWords : Type 0
 AcceptedTextsGiveWords =
     (text : List ℕ) (counts : Counts) (k : PlainKernel) → Judged text (Accepts counts k) → (budget : ℕ) (rows : List (List ℤ)) → AllByRecursion AreWords rows →
     AllByRecursion (TickWords k) (run_of k budget rows)
+
+-- the variables in the kernel of a text that is accepted have names as texts spell them
+abbrev pub AcceptedTextsHaveNames : Type 0
+AcceptedTextsHaveNames = (text : List ℕ) (counts : Counts) (k : PlainKernel) → Judged text (Accepts counts k) → HasNames k.shape
+
+-- so each byte of them is a letter, `_`, a digit, `[` or `]`
+abbrev pub AcceptedTextsHavePlainNames : Type 0
+AcceptedTextsHavePlainNames = (text : List ℕ) (counts : Counts) (k : PlainKernel) → Judged text (Accepts counts k) → AllByRecursion IsPlainName k.shape.names
+
+-- there are at most 64 outputs, and each byte of their names is one from 33 to 126, and none of `$`, `(` and `)`
+abbrev pub AcceptedTextsHaveSafeOutputs : Type 0
+AcceptedTextsHaveSafeOutputs =
+    (text : List ℕ) (counts : Counts) (k : PlainKernel) → Judged text (Accepts counts k) →
+    (length (names_at k.shape.names k.shape.outputs) ≤ MAX_OUTPUTS) × AllByRecursion IsSafeName (names_at k.shape.names k.shape.outputs)

@@ -1,5 +1,5 @@
 //! Laws of the verdicts.
-ghost use Rattle.text_verdict.specs.Laws.{OneVerdict, SomeVerdict, AcceptedTextsAreFormed, AcceptedTextsArePaced, AcceptedTextsAreNeverOver, AcceptedTextsHaveWords, AcceptedTextsGiveWords};
+ghost use Rattle.text_verdict.specs.Laws.{OneVerdict, SomeVerdict, AcceptedTextsAreFormed, AcceptedTextsArePaced, AcceptedTextsAreNeverOver, AcceptedTextsHaveWords, AcceptedTextsGiveWords, AcceptedTextsHaveNames, AcceptedTextsHavePlainNames, AcceptedTextsHaveSafeOutputs};
 
 use forec_lexer::one_lexing;
 use forec_parser::one_program;
@@ -35,4 +35,13 @@ pub fn each_accepted_text_is_paced()
 pub fn each_accepted_text_has_words()
     ensures words { AcceptedTextsHaveWords }
     ensures outputs { AcceptedTextsGiveWords }
+{}
+
+/// Each variable in the kernel of a text that is accepted has a name as texts spell them, and after it for an element of
+/// an array the index in square brackets: so each byte is a letter, `_`, a digit, `[` or `]`. There are at most 64
+/// outputs, and each byte of their names is one from 33 to 126, and none of `$`, `(` and `)`.
+pub fn each_accepted_text_has_names()
+    ensures named { AcceptedTextsHaveNames }
+    ensures plain { AcceptedTextsHavePlainNames }
+    ensures safe { AcceptedTextsHaveSafeOutputs }
 {}

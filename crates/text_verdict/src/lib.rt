@@ -9,8 +9,8 @@ mod refusal;
 pub use counts::Counts;
 pub use judging::{Accepted, judge};
 pub use laws::{
-    each_accepted_text_has_words, each_accepted_text_is_formed, each_accepted_text_is_paced,
-    each_text_has_a_verdict, one_verdict,
+    each_accepted_text_has_names, each_accepted_text_has_words, each_accepted_text_is_formed,
+    each_accepted_text_is_paced, each_text_has_a_verdict, one_verdict,
 };
 pub use refusal::{JudgeFault, Refusal};
 pub use text_kernel::Quantity;

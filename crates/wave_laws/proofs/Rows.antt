@@ -54,12 +54,12 @@ number_fits (b ∷ bs) n e = by (b == 45) e
 
 numbers_fit : (words : List (List ℕ)) (ns : List ℤ) → numbers_of words ≡ Some ns → AreWords ns
 numbers_fit [] ns e = subst AreWords (some_is [] ns e) tt
-numbers_fit (word ∷ words) ns e = by (number_of word) refl (numbers_of words) refl e
+numbers_fit (word ∷ words) ns e = by (numbers_fit words) (number_of word) refl (numbers_of words) refl e
   where
-    by : (m : Option ℤ) → number_of word ≡ m → (ms : Option (List ℤ)) → numbers_of words ≡ ms → option_and_then (λ x. option_map (λ xs. x ∷ xs) ms) m ≡ Some ns → AreWords ns
-    by None h ms g e = absurd (let bad : None ≡ Some ns = e in cc)
-    by (Some x) h None g e = absurd (let bad : None ≡ Some ns = e in cc)
-    by (Some x) h (Some xs) g e = subst AreWords (some_is (x ∷ xs) ns e) (number_fits word x h, numbers_fit words xs g)
+    by : ((xs : List ℤ) → numbers_of words ≡ Some xs → AreWords xs) → (m : Option ℤ) → number_of word ≡ m → (ms : Option (List ℤ)) → numbers_of words ≡ ms → option_and_then (λ x. option_map (λ xs. x ∷ xs) ms) m ≡ Some ns → AreWords ns
+    by rest None h ms g e = absurd (let bad : None ≡ Some ns = e in cc)
+    by rest (Some x) h None g e = absurd (let bad : None ≡ Some ns = e in cc)
+    by rest (Some x) h (Some xs) g e = subst AreWords (some_is (x ∷ xs) ns e) (number_fits word x h, rest xs g)
 
 at_fits : (ns : List ℤ) (i : ℕ) → AreWords ns → FitsSigned w32 (slice_index_or ns i (pos 0))
 at_fits [] i h = zero_fits
@@ -87,16 +87,16 @@ change_fits names word c e = by (position (bytes_eq (before_first is_equals word
 
 changed_fits : (names : List (List ℕ)) (named : List Bool) (row : List ℤ) (words : List (List ℕ)) (ns : List ℤ) → AreWords row → changed_row names named row words ≡ Some ns → AreWords ns
 changed_fits names named row [] ns h e = subst AreWords (some_is row ns e) h
-changed_fits names named row (word ∷ words) ns h e = by (change_in names word) refl e
+changed_fits names named row (word ∷ words) ns h e = by (λ named row. changed_fits names named row words ns) (change_in names word) refl e
   where
-    again : (c : ℕ × ℤ) → change_in names word ≡ Some c → (b : Bool) → (if b then None else changed_row names (slice_set named c.0 true) (slice_set row c.0 c.1) words) ≡ Some ns → AreWords ns
-    again c g true e = absurd (let bad : None ≡ Some ns = e in cc)
-    again c g false e = changed_fits names (slice_set named c.0 true) (slice_set row c.0 c.1) words ns (set_fits row c.0 c.1 h (change_fits names word c g)) e
+    again : ((named : List Bool) (row : List ℤ) → AreWords row → changed_row names named row words ≡ Some ns → AreWords ns) → (c : ℕ × ℤ) → change_in names word ≡ Some c → (b : Bool) → (if b then None else changed_row names (slice_set named c.0 true) (slice_set row c.0 c.1) words) ≡ Some ns → AreWords ns
+    again go c g true e = absurd (let bad : None ≡ Some ns = e in cc)
+    again go c g false e = go (slice_set named c.0 true) (slice_set row c.0 c.1) (set_fits row c.0 c.1 h (change_fits names word c g)) e
 
-    by : (c : Option (ℕ × ℤ)) → change_in names word ≡ c →
+    by : ((named : List Bool) (row : List ℤ) → AreWords row → changed_row names named row words ≡ Some ns → AreWords ns) → (c : Option (ℕ × ℤ)) → change_in names word ≡ c →
         option_and_then (λ c. if slice_index_or named c.0 false then None else changed_row names (slice_set named c.0 true) (slice_set row c.0 c.1) words) c ≡ Some ns → AreWords ns
-    by None g e = absurd (let bad : None ≡ Some ns = e in cc)
-    by (Some c) g e = again c g (slice_index_or named c.0 false) e
+    by go None g e = absurd (let bad : None ≡ Some ns = e in cc)
+    by go (Some c) g e = again go c g (slice_index_or named c.0 false) e
 
 -- ---- a trace
 
@@ -142,16 +142,16 @@ pub record GoodRows (limit n : ℕ) (rows : List Row) : Type 0 where
 
 good_rows : (limit : ℕ) (form : Form) (n : ℕ) (lines : List (List ℕ)) → FormWords form → GoodRows limit n (rows_from limit form n lines).rows
 good_rows limit form n [] h = record { few = omega arith; words = tt }
-good_rows limit form n (line ∷ lines) h = by (row_at limit form n line) refl
+good_rows limit form n (line ∷ lines) h = by (λ form. good_rows limit form (n + 1) lines) (row_at limit form n line) refl
   where
     more : (row : Row) (rest : Trace) → GoodRow limit n row → GoodRows limit (n + 1) rest.rows → GoodRows limit n (row ∷ rest.rows)
     more row rest one all = record { few = omega (arith, one.within, all.few); words = (one.words, all.words) }
 
-    by : (r : Result Row RowFault) → row_at limit form n line ≡ r → GoodRows limit n (onto r n (rows_from limit (form_after form r) (n + 1) lines)).rows
-    by (Ok row) e =
+    by : ((form : Form) → FormWords form → GoodRows limit (n + 1) (rows_from limit form (n + 1) lines).rows) → (r : Result Row RowFault) → row_at limit form n line ≡ r → GoodRows limit n (onto r n (rows_from limit (form_after form r) (n + 1) lines)).rows
+    by go (Ok row) e =
         let one = good_row limit form n line row h e in
-        more row (rows_from limit (next_form form row) (n + 1) lines) one (good_rows limit (next_form form row) (n + 1) lines (next_fits form row one.words))
-    by (Err f) e = record { few = omega arith; words = tt }
+        more row (rows_from limit (next_form form row) (n + 1) lines) one (go (next_form form row) (next_fits form row one.words))
+    by go (Err f) e = record { few = omega arith; words = tt }
 
 -- ---- the header
 
