@@ -119,7 +119,10 @@ module _ (v : PlainValues) (r : PlainRequest) where
       subst HasRanges m.2 (by_words v m.0 (is_word name (codes "run")) (is_word name (codes "threads")) (is_word name (codes "explain")) (is_word name (codes "wave")) (is_word name (codes "check")) (is_word name (codes "code")) m.1)
 
   dump : (name : List ℕ) (bare : Bool) → cond bare (Some (OnDump name)) None ≡ Some r → HasRanges r
-  dump name true e = subst HasRanges (let g : Some (OnDump name) ≡ Some r = e in cc) tt
+  dump name true e =
+      let is : OnDump name ≡ r = (let g : Some (OnDump name) ≡ Some r = e in cc) in
+      let in_range : HasRanges (OnDump name) = tt in
+      subst HasRanges is in_range
   dump name false e = absurd (let g : None ≡ Some r = e in cc)
 
   by_name : (name program : List ℕ) (gen unwave : Bool) → (if gen then workload_of program v else (if unwave then dump_of program v else text_request_of name program v)) ≡ Some r → HasRanges r

@@ -20,7 +20,7 @@ run_named-requires-clause-ranges g c = λ κs within.
 
 pub run_named-requires-clause-may : goal.run_named-requires-clause-may
 run_named-requires-clause-may g c = λ κs within.
-    c.requires c.in-Ok-Text.program.now (record {
+    c.requires.may c.in-Ok-Text.program.now (record {
       request = OnText c.in-Ok-Text.program.now (plain_command c.in-Ok-Text.command) c.in-Ok-Text.fold;
       asks = (rw c.in-Ok-Text.field-0-is at c.in-Ok-Text.ensures.request);
       names = refl;
@@ -29,8 +29,9 @@ run_named-requires-clause-may g c = λ κs within.
 -- ---- a dump
 
 pub tell_named-requires : goal.tell_named-requires
-tell_named-requires g c = λ κs within.
-    c.requires c.in-Ok-Dump.dump.now (record { request = OnDump c.in-Ok-Dump.dump.now; asks = (rw c.in-Ok-Dump.field-0-is at c.in-Ok-Dump.ensures.request); names = refl })
+tell_named-requires g c = record {
+  may = c.requires.may c.in-Ok-Dump.dump.now (record { request = OnDump c.in-Ok-Dump.dump.now; asks = (rw c.in-Ok-Dump.field-0-is at c.in-Ok-Dump.ensures.request); names = refl });
+}
 
 pub returns-in-Ok-Dump : goal.returns-in-Ok-Dump
 returns-in-Ok-Dump g c =
