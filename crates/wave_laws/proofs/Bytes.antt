@@ -66,41 +66,43 @@ begun : (first : ℕ) (word rest : List ℕ) → AreLineBytes (first ∷ word) �
 begun first word rest h g = record { some = omega arith; each = joined (first ∷ word) rest h g }
 
 pub end_line : (n : ℕ) → IsLine (end_words n)
-end_line n = record { some = omega arith; each = joined (codes "end ") (decimal n) (refl, refl, refl, refl, tt) (decimal_shows n) }
+end_line n = record { some = omega arith; each = joined (codes "end ") (decimal n) (refl, (refl, (refl, (refl, tt)))) (decimal_shows n) }
 
 trap_shows : (t : Trap) → AreLineBytes (trap_word t)
-trap_shows trap.Divide = (refl, refl, refl, refl, refl, refl, refl, tt)
-trap_shows trap.Index = (refl, refl, refl, refl, refl, refl, tt)
-trap_shows trap.Turns = (refl, refl, refl, refl, refl, refl, tt)
+trap_shows trap.Divide = (refl, (refl, (refl, (refl, (refl, (refl, (refl, tt)))))))
+trap_shows trap.Index = (refl, (refl, (refl, (refl, (refl, (refl, tt))))))
+trap_shows trap.Turns = (refl, (refl, (refl, (refl, (refl, (refl, tt))))))
 
 pub trap_line : (n : ℕ) (place : Place) (t : Trap) → IsLine (trap_words n place t)
-trap_line n place t = record {
-  some = omega arith;
-  each = joined (codes "trap ") _ (refl, refl, refl, refl, refl, tt)
-      (joined (decimal n) _ (decimal_shows n) (joined (codes " ") _ (refl, tt)
-      (joined (decimal place.line) _ (decimal_shows place.line) (joined (codes ":") _ (refl, tt)
-      (joined (decimal place.column) _ (decimal_shows place.column) (trap_shows t))))));
-}
+trap_line n place t =
+    let tick = codes "trap " ++ decimal n in
+    let blank = tick ++ codes " " in
+    let line = blank ++ decimal place.line in
+    let colon = line ++ codes ":" in
+    let column = colon ++ decimal place.column in
+    let to_blank : AreLineBytes blank = joined tick (codes " ") (joined (codes "trap ") (decimal n) (refl, (refl, (refl, (refl, (refl, tt))))) (decimal_shows n)) (refl, tt) in
+    let to_colon : AreLineBytes colon = joined line (codes ":") (joined blank (decimal place.line) to_blank (decimal_shows place.line)) (refl, tt) in
+    record { some = omega arith; each = joined column (trap_word t) (joined colon (decimal place.column) to_colon (decimal_shows place.column)) (trap_shows t) }
 
 pub over_line : (n budget : ℕ) → IsLine (over_words n budget)
-over_line n budget = record {
-  some = omega arith;
-  each = joined (codes "over ") _ (refl, refl, refl, refl, refl, tt)
-      (joined (decimal n) _ (decimal_shows n) (joined (codes " budget ") _ (refl, refl, refl, refl, refl, refl, refl, refl, tt) (decimal_shows budget)));
-}
+over_line n budget =
+    let tick = codes "over " ++ decimal n in
+    let word = tick ++ codes " budget " in
+    let to_word : AreLineBytes word = joined tick (codes " budget ") (joined (codes "over ") (decimal n) (refl, (refl, (refl, (refl, (refl, tt))))) (decimal_shows n)) (refl, (refl, (refl, (refl, (refl, (refl, (refl, (refl, tt)))))))) in
+    record { some = omega arith; each = joined word (decimal budget) to_word (decimal_shows budget) }
 
 fault_shows : (f : RowFault) → AreLineBytes (fault_word f)
-fault_shows fault.Bad = (refl, refl, refl, refl, tt)
-fault_shows fault.Long = (refl, refl, refl, refl, refl, tt)
-fault_shows fault.Many = (refl, refl, refl, refl, refl, tt)
+fault_shows fault.Bad = (refl, (refl, (refl, (refl, tt))))
+fault_shows fault.Long = (refl, (refl, (refl, (refl, (refl, tt)))))
+fault_shows fault.Many = (refl, (refl, (refl, (refl, (refl, tt)))))
 fault_shows fault.ReadFault = tt
 fault_shows fault.OutOfMemory = tt
 
 pub trace_line : (cause : Option RowFault) (n : ℕ) → IsLine (trace_words cause n)
-trace_line None n = record { some = omega arith; each = joined (codes "rows ") (decimal (n - 1)) (refl, refl, refl, refl, refl, tt) (decimal_shows (n - 1)) }
+trace_line None n = record { some = omega arith; each = joined (codes "rows ") (decimal (n - 1)) (refl, (refl, (refl, (refl, (refl, tt))))) (decimal_shows (n - 1)) }
 trace_line (Some f) n = record {
   some = omega arith;
-  each = joined (codes "row ") _ (refl, refl, refl, refl, tt) (joined (decimal n) (fault_word f) (decimal_shows n) (fault_shows f));
+  each = joined (codes "row ") _ (refl, (refl, (refl, (refl, tt)))) (joined (decimal n) (fault_word f) (decimal_shows n) (fault_shows f));
 }
 
 line_after : (o : Outcome) (budget n : ℕ) (later : List ℕ) → IsLine later → IsLine (words_after o budget n later)

@@ -3,7 +3,9 @@ use Rattle.std.specs.Prelude.{◌≡◌, ◌≤◌, ℕ, List, length}
 use Rattle.forec_base.specs.declared.limits.TheConstants.{MAX_ROWS, MAX_TEXT_BYTES}
 use Rattle.forec_kernel.specs.Shapes.{PlainKernel}
 use Rattle.dump_report.specs.Told.{ToldReport, told_lines, dump_report}
-use Rattle.dump_report.specs.declared.status.DumpStatus.TheVariants as dump
+use Rattle.dump_report.specs.declared.status.DumpStatus.TheVariants as told
+use Rattle.text_verdict.specs.Judging.{Accepts, Judged}
+use Rattle.text_verdict.specs.declared.counts.Counts.{Counts}
 use Rattle.trace_runs.specs.KernelNames.{run_format}
 use Rattle.trace_runs.specs.Report.{Report, trace_report}
 use Rattle.trace_runs.specs.declared.format.Telling.TheVariants as telling
@@ -19,7 +21,11 @@ pub record TellsRun (d : PlainDump) (wave run : Report) : Type 0 where
   pub lines : run.bytes ≡ told_lines d
   pub status : wave.status ≡ run.status
   -- what was written is told again as the bytes of the report, where it isn't too long
-  pub again : length wave.bytes ≤ MAX_TEXT_BYTES → dump_report wave.bytes ≡ record { bytes = run.bytes; status = dump.Done }
+  pub again : length wave.bytes ≤ MAX_TEXT_BYTES → dump_report wave.bytes ≡ record { bytes = run.bytes; status = told.Done }
+
+-- the kernel of each text that is accepted can be dumped
+abbrev pub AcceptedTextsCanDump : Type 0
+AcceptedTextsCanDump = (text : List ℕ) (counts : Counts) (k : PlainKernel) → Judged text (Accepts counts k) → CanDump k
 
 -- of each run of each kernel that can be dumped, over any bytes and with any budget
 abbrev pub DumpsTellRuns : Type 0

@@ -3,4 +3,4 @@
 
 mod laws;
 
-pub use laws::a_dump_tells_its_run;
+pub use laws::{a_dump_tells_its_run, each_accepted_text_can_be_dumped};
