@@ -1,5 +1,5 @@
 -- What a call does that tells a report.
-use Rattle.std.proofs.Common.{◌≡◌, ℕ, Bool, List, Option, refl}
+use Rattle.std.proofs.Common.{◌≡◌, ℕ, Bool, List, Option, refl, sym, subst}
 use Rattle.std.specs.Io.KnownBytes.{Appends}
 use Rattle.forec_base.specs.Outside.{Fell}
 use Rattle.dump_report.specs.Calls.{AddsFront, TellsReport}
@@ -36,3 +36,7 @@ module _ {K : Type 0} (held : K → Option (List ℕ)) (faults : K → ℕ) (dow
 -- memory ran out
 pub tells_none : {K : Type 0} (held : K → Option (List ℕ)) (faults : K → ℕ) (down : K → Bool) (r : ToldReport) (out : K) → TellsReport held faults down r out out status.NoMemory
 tells_none held faults down r out = record { own = λ own. absurd own; write = λ e. cc; memory = λ _. refl }
+
+-- the same of the report that it is
+pub tells_as : {K : Type 0} (held : K → Option (List ℕ)) (faults : K → ℕ) (down : K → Bool) (old new : K) (r s : ToldReport) (end : DumpStatus) → s ≡ r → TellsReport held faults down r old new end → TellsReport held faults down s old new end
+tells_as held faults down old new r s end e t = subst (λ q. TellsReport held faults down q old new end) (sym e) t

@@ -1,8 +1,12 @@
 -- What was written, over several calls.
-use Rattle.std.proofs.Common.{◌≡◌, ◌-◌, ℕ, List, [], ◌++◌, Option, Some, None, length, take, drop, refl, sym, ap, subst, ◌∙◌, arith, append_assoc, append-nil, length-drop, sub-zero}
+use Rattle.std.proofs.Common.{◌≡◌, ◌-◌, ℕ, List, [], ◌++◌, Option, Some, None, Result, Ok, Err, OnOk, OnErr, length, take, drop, refl, sym, ap, subst, ◌∙◌, arith, append_assoc, append-nil, length-drop, length-append, ◌+◌, ◌≤◌, ◌<◌}
 use Rattle.std.specs.List.{slice_range}
 use Rattle.std.specs.Io.KnownBytes.{Keeps, Appends}
-use Rattle.std.proofs.lemmas.List.{take_all}
+use Rattle.std.proofs.Math.Nat.{sub-zero}
+use Rattle.std.proofs.Math.Seq.{take-append-add}
+use Rattle.std.proofs.lemmas.List.{take_all, take-append-drop, take-append-le, length-take-le}
+use Rattle.std.proofs.lemmas.Slice.{take-put_mid}
+use borrow.Rule.Slice.PartMut.{put_mid}
 use Rattle.dump_report.specs.Calls.{AddsFront, Sends}
 
 -- ---- parts of a list
@@ -12,6 +16,32 @@ range_rest at xs = take_all (length xs - at) (drop at xs) (omega (arith, length-
 
 pub range_front : (n : ℕ) (xs : List ℕ) → slice_range xs 0 n ≡ take n xs
 range_front n xs = ap (λ k. take k xs) (sub-zero n)
+
+-- the front of a list whose rest begins with other elements
+pub front_put : (a k m : ℕ) (xs ys : List ℕ) → a ≤ length xs → m ≤ length ys → take (a + m) (put_mid a k xs ys) ≡ take a xs ++ take m ys
+front_put a k m xs ys h l =
+    let n : ℕ = a + length ys in
+    let all : List ℕ = put_mid a k xs ys in
+    let whole : take n all ≡ take a xs ++ ys = take-put_mid a k xs ys n refl h in
+    let at : length (take a xs) ≡ a = length-take-le a xs h in
+    let long : length (take n all) ≡ a + length ys = ap length whole ∙ length-append (take a xs) ys ∙ ap (λ x. x + length ys) at in
+    let fits : a + m ≤ length (take n all) = omega (arith, long) in
+    ap (take (a + m)) (sym (take-append-drop n all)) ∙ take-append-le (a + m) (take n all) (drop n all) fits ∙ ap (take (a + m)) whole
+    ∙ ap (λ x. take (x + m) (take a xs ++ ys)) (sym at) ∙ take-append-add (take a xs) ys m
+
+-- ---- answers
+
+pub on_ok : {T E : Type 0} (r : Result T E) (P Q : Type 0) → OnOk r P → (P → Q) → OnOk r Q
+on_ok (Ok v) P Q h f = f h
+on_ok (Err e) P Q h f = tt
+
+pub on_err : {T E : Type 0} (r : Result T E) (P Q : Type 0) → OnErr r P → (P → Q) → OnErr r Q
+on_err (Ok v) P Q h f = tt
+on_err (Err e) P Q h f = f h
+
+pub err_holds : {T E : Type 0} (r : Result T E) (P : Type 0) → P → OnErr r P
+err_holds (Ok v) P h = tt
+err_holds (Err e) P h = h
 
 -- ---- one call after the other
 
@@ -91,3 +121,8 @@ sends_front a b c all waiting rest s f =
 -- the same of the last bytes
 pub last_front : (a b c : Option (List ℕ)) (all waiting : List ℕ) → Sends a b all waiting → AddsFront b c waiting → AddsFront a c all
 last_front a b c all waiting s f = subst (AddsFront a c) (sym s.whole) (front_behind a b c s.sent waiting s.appended f)
+
+-- some of what waits is written, and then last bytes wait too
+pub sends_closing : (a b c : Option (List ℕ)) (all waiting left last bytes : List ℕ) → Sends a b all waiting → Sends b c waiting left → bytes ≡ left ++ last → Sends a c (all ++ last) bytes
+sends_closing a b c all waiting left last bytes s made put =
+    subst (Sends a c (all ++ last)) (sym put) (sends_on a b c (all ++ last) waiting left last (sends_longer a b all waiting last s) made)

@@ -150,16 +150,18 @@ pub fn forec_within<T: Texts, S: Source, K: Sink, G: Gate + Sync, R: Threads + W
 /// Does what the words ask, and gives the status. The report goes to `out`.
 ///
 /// `run P` runs the program whose text `texts` has under the name `P`, a tick for each row of `trace`, of which each
-/// may have `--budget B` units, or 10,000,000; with `--budget bound` as many as the program's bound. `check P` counts the program's thread instances, inputs and outputs,
-/// `threads P` lists its threads with their cores and weights and the bound of a tick, and `code P` its code. `gen N`
-/// runs a workload of `N` threads and `main` for 1,000 ticks, and prints the sum of the outputs. `explain P` prints
-/// what `run P` does, made by rewriting the kernel's texts in the order of steps `--order N`; it alone may run out of
-/// memory between ticks. `run` and `explain` read the trace, and `gen` reads no text.
+/// may have `--budget B` units, or 10,000,000; with `--budget bound` as many as the program's bound. `wave P` runs it so
+/// too, and writes a value change dump of the run in place of its report; `unwave D` prints the report that the dump of
+/// the name `D` tells. `check P` counts the program's thread instances, inputs and outputs, `threads P` lists its threads
+/// with their cores and weights and the bound of a tick, and `code P` its code. `gen N` runs a workload of `N` threads
+/// and `main` for 1,000 ticks, and prints the sum of the outputs. `explain P` prints what `run P` does, made by rewriting
+/// the kernel's texts in the order of steps `--order N`; it alone may run out of memory between ticks. `run`, `wave` and
+/// `explain` read the trace, and `gen` reads no text.
 ///
-/// `run`, `threads` and `gen` place the threads on `--cores N` cores, or on one: by the list `--place L`, or
-/// balanced. What `run` and `gen` print doesn't depend on it. With `--fold`, of all but `check` and `gen`, the command is
-/// done with the kernel whose constants are folded. Where the budget is the bound and the program has none, the
-/// line is `bound none`. All other words give the usage line.
+/// `run`, `wave`, `threads` and `gen` place the threads on `--cores N` cores, or on one: by the list `--place L`, or
+/// balanced. What `run`, `wave` and `gen` print doesn't depend on it. With `--fold`, of `run`, `threads`, `code` and
+/// `explain`, the command is done with the kernel whose constants are folded. Where the budget is the bound and the
+/// program has none, the line is `bound none`. All other words give the usage line.
 pub fn forec<T: Texts, S: Source, K: Sink, G: Gate + Sync, R: Threads + Wait + Sync>(
     rt: &R,
     alloc: Global,
@@ -195,7 +197,7 @@ pub fn forec<T: Texts, S: Source, K: Sink, G: Gate + Sync, R: Threads + Wait + S
     // No text is read but the one that the words name.
     ensures texts { (texts.new ≡ texts.old) ⊎ NameText (map string_bytes words.now) }
 
-    // The trace is read by `run` and `explain` alone, for a text that is accepted, where neither the budget nor the
+    // The trace is read by `run`, `wave` and `explain` alone, for a text that is accepted, where neither the budget nor the
     // list of places is refused, and no read is asked for once a line that stops the program has come whole.
     ensures trace { (trace.new ≡ trace.old)
         ⊎ ReadForWords S.left S.faults S.down (map string_bytes words.now) (T.content texts.old) trace.old trace.new }

@@ -133,7 +133,7 @@ fn lead_placed<J: Lead, G: Gate + Sync, R: Threads + Wait + Sync>(
     lead_on_cores(setting, &code, placement, job)
 }
 
-/// Runs a kernel over a trace, with the threads placed so. A tick may have so many units.
+/// Runs a kernel over a trace, with the threads placed so, and writes what is told of it. A tick may have so many units.
 pub fn host_trace<S: Source, K: Sink, G: Gate + Sync, R: Threads + Wait + Sync>(
     setting: &Setting<'_, G, R>,
     kernel: &Kernel,
@@ -145,8 +145,9 @@ pub fn host_trace<S: Source, K: Sink, G: Gate + Sync, R: Threads + Wait + Sync>(
 ) -> Status
     requires placed { length placement.now.places ≡ length (plain_kernel kernel.now).threads }
     requires small { budget ≤ MAX_BUDGET }
-    ensures { RunsRows S.left S.faults S.down K.held K.faults K.down MAX_ROWS (run_format telling (plain_kernel kernel.now)) (plain_kernel kernel.now) budget ⊥
-        trace.old trace.new out.old out.new result }
+    ensures { RunsRows S.left S.faults S.down K.held K.faults K.down MAX_ROWS
+        (run_format telling (plain_kernel kernel.now)) (plain_kernel kernel.now) budget ⊥ trace.old trace.new out.old
+        out.new result }
 {
     let alloc = setting.alloc;
     let Ok(mut session) = Session::new(alloc, kernel.shape(), telling, budget, MAX_ROWS) else {

@@ -16,8 +16,8 @@ use forec_base::{Gate, MAX_ROWS, Sink, Source};
 use forec_kernel::Kernel;
 use std::sync::Wait;
 
-/// Runs a kernel over a trace by rewriting its texts, each tick in the order of steps with this number. A tick may
-/// have so many units.
+/// Runs a kernel over a trace by rewriting its texts, each tick in the order of steps with this number, and writes what
+/// is told of it. A tick may have so many units.
 pub fn rewrite_trace<S: Source, K: Sink, G: Gate, R: Wait>(
     setting: &Setting<'_, G, R>,
     kernel: &Kernel,
@@ -28,8 +28,9 @@ pub fn rewrite_trace<S: Source, K: Sink, G: Gate, R: Wait>(
     out: &mut K,
 ) -> Status
     requires { budget ≤ MAX_BUDGET }
-    ensures { RunsRows S.left S.faults S.down K.held K.faults K.down MAX_ROWS (run_format telling (plain_kernel kernel.now)) (plain_kernel kernel.now) budget ⊤
-        trace.old trace.new out.old out.new result }
+    ensures { RunsRows S.left S.faults S.down K.held K.faults K.down MAX_ROWS
+        (run_format telling (plain_kernel kernel.now)) (plain_kernel kernel.now) budget ⊤ trace.old trace.new out.old
+        out.new result }
 {
     let alloc = setting.alloc;
     let Ok(mut session) = Session::new(alloc, kernel.shape(), telling, budget, MAX_ROWS) else {

@@ -70,25 +70,29 @@ fn run_rows<S: Source, K: Sink, T: Ticker, O: Serve, G: Gate, R: Wait>(
     requires ended { rows.old.ended ≡ true → IsAtEnd (S.left trace.old) }
     ensures own { IsOwn result → (k : PlainKernel) → Starts (T.shape ticker.old) (T.follows ticker.old) k
         → IfSome (S.left trace.old)
-        (IsWhole session.old.waiting.format k session.old.budget rows.old (T.follows ticker.new k) (K.held out.old) (K.held out.new)
-        session.new.waiting.bytes.items result) }
+        (IsWhole session.old.waiting.format k session.old.budget rows.old (T.follows ticker.new k)
+        (K.held out.old) (K.held out.new) session.new.waiting.bytes.items result) }
     ensures read { result ≡ Status.ReadFault → Fell (S.faults trace.old) (S.faults trace.new) (S.down trace.new) }
     ensures wanted { result ≡ Status.ReadFault → (k : PlainKernel)
         → Starts (T.shape ticker.old) (T.follows ticker.old) k
         → (bytes : List ℕ) × Appends (K.held out.old) (K.held out.new) bytes
-        × IfTold (S.left trace.old) (S.left trace.new) (Led session.old.waiting.format k session.old.budget rows.old bytes) }
+        × IfTold (S.left trace.old) (S.left trace.new)
+        (Led session.old.waiting.format k session.old.budget rows.old bytes) }
     ensures write { result ≡ Status.WriteFault → Fell (K.faults out.old) (K.faults out.new) (K.down out.new) }
     ensures front { result ≡ Status.WriteFault → (k : PlainKernel)
         → Starts (T.shape ticker.old) (T.follows ticker.old) k
         → IfSome (S.left trace.old)
-        (λ x. AppendsFront (K.held out.old) (K.held out.new) (report_rest session.old.waiting.format k session.old.budget rows.old x).bytes) }
+        (λ x. AppendsFront (K.held out.old) (K.held out.new)
+        (report_rest session.old.waiting.format k session.old.budget rows.old x).bytes) }
     ensures ready { result ≡ Status.NoMemory → T.ready ticker.old ≡ false }
     ensures memory { result ≡ Status.NoMemory → (k : PlainKernel) → Starts (T.shape ticker.old) (T.follows ticker.old) k
         → IfSome (S.left trace.old)
-        (IsFront session.old.waiting.format k session.old.budget rows.old (K.held out.old) (K.held out.new) session.new.waiting.bytes.items) }
+        (IsFront session.old.waiting.format k session.old.budget rows.old (K.held out.old) (K.held out.new)
+        session.new.waiting.bytes.items) }
     ensures trace { (k : PlainKernel) → Starts (T.shape ticker.old) (T.follows ticker.old) k
-        → (given : List ℕ) × Reads S.left S.faults S.down (GoesOnFrom session.old.waiting.format k session.old.budget rows.old) trace.old given
-        trace.new }
+        → (given : List ℕ)
+        × Reads S.left S.faults S.down (GoesOnFrom session.old.waiting.format k session.old.budget rows.old)
+        trace.old given trace.new }
     ensures later { K.faults out.old ≤ K.faults out.new }
     ensures usage { result ≢ Status.Usage }
 {
@@ -141,7 +145,8 @@ pub fn run<S: Source, K: Sink, T: Ticker, O: Serve, G: Gate, R: Wait>(
     requires session { IsSessionOf (T.shape ticker.old) session.old }
     requires going { T.live ticker.old }
     ensures runs { (k : PlainKernel) → Starts (T.shape ticker.old) (T.follows ticker.old) k
-        → RunsRows S.left S.faults S.down K.held K.faults K.down session.old.limit session.old.waiting.format k session.old.budget
+        → RunsRows S.left S.faults S.down K.held K.faults K.down session.old.limit session.old.waiting.format k
+        session.old.budget
         (T.ready ticker.old ≡ false)
         trace.old trace.new out.old out.new result }
     ensures ran { IsOwn result → (k : PlainKernel) → Starts (T.shape ticker.old) (T.follows ticker.old) k

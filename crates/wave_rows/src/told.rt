@@ -166,7 +166,11 @@ fn a_sink_that_fails(rt: HostRuntime) -> Result<(), Fail> {
         is_front(&rt, &refused, b"refused byte 1\n");
     }
     for room in 0..COUNTED.len() {
-        is_front(&rt, &told(alloc, COUNTS, room, 1, Vec::new(alloc))?, COUNTED);
+        is_front(
+            &rt,
+            &told(alloc, COUNTS, room, 1, Vec::new(alloc))?,
+            COUNTED,
+        );
     }
     Ok(())
 }
