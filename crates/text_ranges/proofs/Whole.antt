@@ -9,7 +9,7 @@ use Rattle.forec_tree.specs.Variables.{PlainVariable, elements, elements_from, v
 use Rattle.text_kernel.specs.Bindings.{params_at, number_of, first_value, nth_value}
 use Rattle.text_kernel.specs.Lowering.{Made, sequence}
 use Rattle.text_kernel.specs.Kernels.{padded, initial_value, variable_shape, table_of, tables_of, function_body, int_functions, main_id, root, kernel_of}
-use Rattle.value_ranges.specs.Words.{AreWords, StmtWords, HasWords}
+use Rattle.value_ranges.specs.Words.{AreWords, StmtWords, KernelWords}
 use Rattle.value_ranges.proofs.Numbers.{zero_fits}
 use Rattle.value_ranges.proofs.Lists.{all_append}
 use Rattle.value_ranges.proofs.Ticks.{values_fit}
@@ -105,7 +105,7 @@ module _ (text : Text) (names : List (List ℕ)) where
         let l = body_words text words 0 (params_at 0 f.params) (record { slot = length f.params; thread = 1; par = 0 }) f.body h.0 in
         (sequence_words (function_body text names f).list l.list, functions_fit fs h.1)
 
-    has_words : HasWords (kernel_of text names)
+    has_words : KernelWords (kernel_of text names)
     unfolding kernel_of
     has_words =
         let r = inlined_words text words (main_id text names) 0 0 (record { slot = 0; thread = 1; par = 0 }) in

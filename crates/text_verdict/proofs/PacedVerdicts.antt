@@ -18,7 +18,7 @@ use Rattle.text_verdict.specs.Judging.{most_levels, Verdict, Accepts, Refuses, O
 use Rattle.forec_kernel.specs.WellFormed.{WellFormed}
 use Rattle.text_kernel.proofs.Whole.{well_formed}
 use Rattle.paced_texts.proofs.Accepted.{accepted_programs_are_paced, accepted_runs_never_over}
-use Rattle.value_ranges.specs.Words.{HasWords}
+use Rattle.value_ranges.specs.Words.{KernelWords}
 use Rattle.value_ranges.proofs.Ticks.{values_fit}
 use Rattle.text_ranges.proofs.Whole.{spelled_programs_have_words}
 use Rattle.text_names.specs.Names.{IsPlainName, HasNames}
@@ -67,7 +67,7 @@ accepted_texts_are_never_over text counts k h budget fits rows =
 
 pub accepted_texts_have_words : AcceptedTextsHaveWords
 accepted_texts_have_words text counts k h =
-    on_text HasWords (λ t tokens program names x s f w. spelled_programs_have_words t tokens names most_levels program x s) text (Accepts counts k) h
+    on_text KernelWords (λ t tokens program names x s f w. spelled_programs_have_words t tokens names most_levels program x s) text (Accepts counts k) h
 
 pub accepted_texts_give_words : AcceptedTextsGiveWords
 accepted_texts_give_words text counts k h budget rows fit = values_fit k (accepted_texts_have_words text counts k h) budget rows fit

@@ -8,9 +8,9 @@ use Rattle.forec_kernel.specs.WellFormed.{WellFormed}
 use Rattle.tick_bounds.specs.Bound.{worst_case}
 use Rattle.bound_laws.specs.Paced.{Paced}
 use Rattle.bound_laws.specs.Laws.{NoneOver}
-use Rattle.value_ranges.specs.Words.{AreWords, HasWords}
-use Rattle.value_ranges.specs.Laws.{HasOutputs}
-use Rattle.text_names.specs.Names.{IsPlainName, IsSafeName, HasNames, names_at}
+use Rattle.value_ranges.specs.Words.{AreWords, KernelWords}
+use Rattle.value_ranges.specs.Laws.{TickWords}
+use Rattle.text_names.specs.Names.{IsPlainName, IsSafeName, HasNames, names_by_number}
 use Rattle.text_verdict.specs.Judging.{Verdict, Accepts, Judged}
 use Rattle.text_verdict.specs.declared.counts.Counts.{Counts}
 
@@ -37,13 +37,13 @@ AcceptedTextsAreNeverOver =
 
 -- each number in the kernel of a text that is accepted fits 32 bits
 abbrev pub AcceptedTextsHaveWords : Type 0
-AcceptedTextsHaveWords = (text : List ℕ) (counts : Counts) (k : PlainKernel) → Judged text (Accepts counts k) → HasWords k
+AcceptedTextsHaveWords = (text : List ℕ) (counts : Counts) (k : PlainKernel) → Judged text (Accepts counts k) → KernelWords k
 
 -- for rows whose numbers fit, each output of each tick of its runs does too
 abbrev pub AcceptedTextsGiveWords : Type 0
 AcceptedTextsGiveWords =
     (text : List ℕ) (counts : Counts) (k : PlainKernel) → Judged text (Accepts counts k) → (budget : ℕ) (rows : List (List ℤ)) → AllByRecursion AreWords rows →
-    AllByRecursion (HasOutputs k) (run_of k budget rows)
+    AllByRecursion (TickWords k) (run_of k budget rows)
 
 -- the variables in the kernel of a text that is accepted have names as texts spell them
 abbrev pub AcceptedTextsHaveNames : Type 0
@@ -57,4 +57,4 @@ AcceptedTextsHavePlainNames = (text : List ℕ) (counts : Counts) (k : PlainKern
 abbrev pub AcceptedTextsHaveSafeOutputs : Type 0
 AcceptedTextsHaveSafeOutputs =
     (text : List ℕ) (counts : Counts) (k : PlainKernel) → Judged text (Accepts counts k) →
-    (length (names_at k.shape.names k.shape.outputs) ≤ MAX_OUTPUTS) × AllByRecursion IsSafeName (names_at k.shape.names k.shape.outputs)
+    (length (names_by_number k.shape.names k.shape.outputs) ≤ MAX_OUTPUTS) × AllByRecursion IsSafeName (names_by_number k.shape.names k.shape.outputs)

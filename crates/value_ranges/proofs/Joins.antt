@@ -7,7 +7,7 @@ use Rattle.forec_kernel.specs.Shapes.{PlainKernel}
 use Rattle.forec_kernel.specs.Values.{Value, Gives, Raises, copy_of, call}
 use Rattle.forec_kernel.specs.Texts.{Threads, no_threads, child, is_active, uses_of}
 use Rattle.forec_kernel.specs.Combining.{Share, contains, shares, takes_part, taking_part, Joint, fold_calls, last_value, variable_calls, combined_value, variable_of, combine_of, part_of, joined_copies}
-use Rattle.value_ranges.specs.Words.{HasWords}
+use Rattle.value_ranges.specs.Words.{KernelWords}
 use Rattle.value_ranges.proofs.Values.{CopiesFit, copy_fits, ValueFits, more_fits, kernel_fits}
 use Rattle.value_ranges.proofs.Texts.{ThreadsFit}
 
@@ -76,7 +76,7 @@ combined_fits f fits base (s ∷ ss) h g = last_fits s.copy.value (variable_call
 
 -- ---- all variables of one join
 
-module _ (k : PlainKernel) (numbers : HasWords k) where
+module _ (k : PlainKernel) (numbers : KernelWords k) where
   combine_fits : (f : Option ℕ) → CombineFits (combine_of k f)
   combine_fits None = tt
   combine_fits (Some f) =

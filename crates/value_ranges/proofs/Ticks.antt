@@ -9,8 +9,8 @@ use Rattle.forec_kernel.specs.Texts.{Thread, uses_of, words_of, body_of, put_cop
 use Rattle.forec_kernel.specs.Size.{text_size}
 use Rattle.forec_kernel.specs.Steps.{Move, Finished, Halts, Moves, Traps, thread_move, woken}
 use Rattle.forec_kernel.specs.Ticks.{Going, is_stopped, moved, State, Fresh, After_tick, start_copies, unmarked, with_row, begin, Tick, values_of, outcome_of, concluded, free_steps, finished, tick, goes_on, run_from}
-use Rattle.value_ranges.specs.Words.{AreWords, HasWords}
-use Rattle.value_ranges.specs.Laws.{FitReached, at_first, after, HasOutputs, TicksFit, ValuesFit}
+use Rattle.value_ranges.specs.Words.{AreWords, KernelWords}
+use Rattle.value_ranges.specs.Laws.{FitReached, at_first, after, TickWords, TicksFit, ValuesFit}
 use Rattle.value_ranges.proofs.Values.{CopiesFit, copy_fits, fresh_fits}
 use Rattle.value_ranges.proofs.Texts.{TextFits, text_fits, put_fits}
 use Rattle.value_ranges.proofs.Moves.{MoveFits, body_fits, move_fits}
@@ -55,7 +55,7 @@ StateFits (After_tick t) = ThreadFits t
 
 -- the outputs of a tick, and the thread that it leaves
 record TickFits (k : PlainKernel) (t : Tick) : Type 0 where
-  outputs : HasOutputs k t
+  outputs : TickWords k t
   state : StateFits t.state
 
 either_going : (b c : Bool) (g g' g'' : Going) → ThreadFits g.thread → ThreadFits g'.thread → ThreadFits g''.thread →
@@ -64,7 +64,7 @@ either_going true c g g' g'' h h' h'' = h
 either_going false true g g' g'' h h' h'' = h'
 either_going false false g g' g'' h h' h'' = h''
 
-module _ (k : PlainKernel) (numbers : HasWords k) where
+module _ (k : PlainKernel) (numbers : KernelWords k) where
   moved_fits : (g : Going) → ThreadFits g.thread → (m : Move) → MoveFits m → ThreadFits (moved g m).thread
   moved_fits g h Finished f = record { text = h.text; words = h.words; copies = h.copies }
   moved_fits g h Halts f = record { text = h.text; words = h.words; copies = h.copies }
@@ -143,15 +143,15 @@ module _ (k : PlainKernel) (numbers : HasWords k) where
   reached_fits s (after budget old row r f) = (tick_fits budget old row (reached_fits old r) f).state
 
   run_fits : (budget : ℕ) (rows : List (List ℤ)) (old : State) → StateFits old → AllByRecursion AreWords rows →
-      AllByRecursion (HasOutputs k) (run_from k budget old rows)
+      AllByRecursion (TickWords k) (run_from k budget old rows)
   run_fits budget [] old h r = tt
   run_fits budget (row ∷ rows) old h r =
       let f = tick_fits budget old row h r.0 in
       pick (tick k budget old row) (goes_on (tick k budget old row).outcome) f.outputs
       (run_fits budget rows (tick k budget old row).state f.state r.1)
     where
-      pick : (t : Tick) (b : Bool) → HasOutputs k t → AllByRecursion (HasOutputs k) (run_from k budget t.state rows) →
-          AllByRecursion (HasOutputs k) (elim b [ true ↦ t ∷ run_from k budget t.state rows | false ↦ t ∷ [] ])
+      pick : (t : Tick) (b : Bool) → TickWords k t → AllByRecursion (TickWords k) (run_from k budget t.state rows) →
+          AllByRecursion (TickWords k) (elim b [ true ↦ t ∷ run_from k budget t.state rows | false ↦ t ∷ [] ])
       pick t true h f = (h, f)
       pick t false h f = (h, tt)
 

@@ -10,7 +10,7 @@ use Rattle.forec_kernel.specs.declared.shape.VarCopy.{VarCopy}
 use Rattle.forec_kernel.specs.Terms.{Expr, Num, Local, LocalAt, Var, SharedAt, TableAt, Un, Bin, And, Or, Choose, Call, Exprs, no_exprs, more_exprs, Stmt, Nop, Set, SetAt, PutAt, Clear, Seq, If, While, Pause, Par, Enter, Return, Stmts, no_stmts, more_stmts}
 use Rattle.forec_kernel.specs.Shapes.{PlainKernel}
 use Rattle.forec_kernel.specs.Values.{word, cleared, copy_of, index_in, Value, Gives, Raises, more_units, value_then, Values, AllGive, OneRaises, one_more, first_then, values_then, Setting, setting, Sight, divided, at_index, val, vals, Flow, Goes, Returns, Breaks, more_flow, flow_with, flow_then, words_alone, stored_at, stored, turns, flow, flows, returned, fresh_words, function_words, call_within}
-use Rattle.value_ranges.specs.Words.{AreWords, ExprWords, ExprsWords, StmtWords, StmtsWords, HasWords}
+use Rattle.value_ranges.specs.Words.{AreWords, ExprWords, ExprsWords, StmtWords, StmtsWords, KernelWords}
 use Rattle.value_ranges.proofs.Numbers.{zero_fits, one_fits, truth_fits, unary_fits, OptionFits, binary_fits}
 use Rattle.value_ranges.proofs.Lists.{all_get, all_set, all_append, all_replicate}
 
@@ -240,7 +240,7 @@ returned_fits (Breaks place trap u) h = tt
 
 -- ---- a kernel
 
-module _ (k : PlainKernel) (numbers : HasWords k) where
+module _ (k : PlainKernel) (numbers : KernelWords k) where
   call_fits : (deep f : ℕ) (ns : List ℤ) → AreWords ns → ValueFits (call_within k deep f ns)
   call_fits zero f ns h = zero_fits
   call_fits (suc deep) f ns h =

@@ -56,7 +56,7 @@ abbrev mutual
 -- ---- a kernel
 
 -- each number in a body, each entry of a table, and the start value of each variable
-pub record HasWords (k : PlainKernel) : Type 0 where
+pub record KernelWords (k : PlainKernel) : Type 0 where
   pub threads : AllByRecursion StmtWords k.threads
   pub functions : AllByRecursion StmtWords k.functions
   pub tables : AllByRecursion AreWords k.shape.tables
