@@ -5,7 +5,7 @@ use Rattle.std.specs.Fmt.{digits, digits_onto, digit_glyph}
 use Rattle.std.proofs.lemmas.Bool.{agree_below_at}
 use Rattle.std.proofs.lemmas.Bool.Decides.{nat_tests}
 use Rattle.forec_tree.specs.Lexis.{is_letter, is_digit, goes_on, Each, IsName}
-use Rattle.text_names.specs.Names.{is_plain_byte, IsPlainName, is_safe_byte, IsSafeName, IsVariableName, alone, element, names_at}
+use Rattle.text_names.specs.Names.{is_plain_byte, IsPlainName, is_safe_byte, IsSafeName, IsVariableName, whole_name, array_element, names_by_number}
 
 -- ---- lists
 
@@ -80,8 +80,8 @@ decimal_plain n = digits_plain 64 n [] tt
 -- ---- the name of a variable
 
 pub variable_plain : (name : List ℕ) → IsVariableName name → IsPlainName name
-variable_plain name (alone n h) = name_plain n h
-variable_plain name (element array i h) =
+variable_plain name (whole_name n h) = name_plain n h
+variable_plain name (array_element array i h) =
     let P : ℕ → Type 0 = λ b. is_plain_byte b ≡ true in
     all_append P (array ++ codes "[" ++ decimal i) (codes "]")
     (all_append P (array ++ codes "[") (decimal i) (all_append P array (codes "[") (name_plain array h) (refl, tt)) (decimal_plain i)) (refl, tt)
@@ -107,6 +107,6 @@ safe_name [] h = tt
 safe_name (b ∷ name) h = (safe_byte b h.0, safe_name name h.1)
 
 -- the names at some numbers are safe where all names are plain, also where a number is that of none
-pub safe_names : (names : List (List ℕ)) (numbers : List ℕ) → AllByRecursion IsPlainName names → AllByRecursion IsSafeName (names_at names numbers)
+pub safe_names : (names : List (List ℕ)) (numbers : List ℕ) → AllByRecursion IsPlainName names → AllByRecursion IsSafeName (names_by_number names numbers)
 safe_names names [] h = tt
 safe_names names (v ∷ rest) h = (safe_name (get_or names v []) (all_get IsPlainName names v [] h tt), safe_names names rest h)

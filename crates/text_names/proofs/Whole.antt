@@ -20,7 +20,7 @@ use Rattle.forec_check.specs.Faultless.{text_names, item_names, IdsBelow}
 use Rattle.forec_check.proofs.NamesBelow.{names_below}
 use Rattle.text_kernel.specs.Kernels.{element_name, variable_name, kernel_of}
 use Rattle.text_kernel.proofs.Counting.{names_each, inputs_named, outputs_named}
-use Rattle.text_names.specs.Names.{IsPlainName, IsVariableName, alone, element, names_at}
+use Rattle.text_names.specs.Names.{IsPlainName, IsVariableName, whole_name, array_element, names_by_number}
 use Rattle.text_names.specs.Laws.{SpelledProgramsHaveNames, SpelledVariablesAreNamed, SpelledOutputsAreSafe}
 use Rattle.text_names.proofs.Bytes.{all_append, all_weaker, variable_plain, safe_names}
 use Rattle.text_names.proofs.TextNames.{AreNames, cuts_named}
@@ -65,15 +65,15 @@ module _ (P : List ℕ → Type 0) where
   at_number (x ∷ names) (suc i) h less = at_number names i h.1 (omega arith)
 
   -- the names at numbers of which each is that of one
-  at_numbers : (names : List (List ℕ)) (numbers : List ℕ) → AllByRecursion P names → all_below (length names) numbers ≡ true → AllByRecursion P (names_at names numbers)
+  at_numbers : (names : List (List ℕ)) (numbers : List ℕ) → AllByRecursion P names → all_below (length names) numbers ≡ true → AllByRecursion P (names_by_number names numbers)
   at_numbers names [] h below = tt
   at_numbers names (v ∷ rest) h below =
       let parts = and_parts (nat_lt v (length names)) (all_below (length names) rest) below in
       (at_number names v h (ltb-true v (length names) parts.0), at_numbers names rest h parts.1)
 
 element_named : (name : List ℕ) (index : Option ℕ) → IsName name → IsVariableName (element_name name index)
-element_named name None h = alone name h
-element_named name (Some i) h = element name i h
+element_named name None h = whole_name name h
+element_named name (Some i) h = array_element name i h
 
 variables_named : (names : List (List ℕ)) (vs : List PlainVariable) → AreNames names → AreNumbered (length names) vs →
     AllByRecursion IsVariableName (map (variable_name names) vs)

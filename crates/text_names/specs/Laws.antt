@@ -6,7 +6,7 @@ use Rattle.forec_tree.specs.LexedText.{IsLexed}
 use Rattle.forec_tree.specs.SpelledPrograms.{IsSpelled}
 use Rattle.forec_tree.specs.Terms.{Text}
 use Rattle.text_kernel.specs.Kernels.{kernel_of}
-use Rattle.text_names.specs.Names.{IsPlainName, IsSafeName, HasNames, names_at}
+use Rattle.text_names.specs.Names.{IsPlainName, IsSafeName, HasNames, names_by_number}
 
 abbrev pub SpelledProgramsHaveNames : Type 0
 SpelledProgramsHaveNames =
@@ -21,4 +21,4 @@ SpelledVariablesAreNamed =
 abbrev pub SpelledOutputsAreSafe : Type 0
 SpelledOutputsAreSafe =
     (bytes : List ℕ) (tokens : List Token) (names : List (List ℕ)) (limit : ℕ) (program : Text) → IsLexed bytes tokens names → IsSpelled limit program tokens →
-    AllByRecursion IsSafeName (names_at (kernel_of program names).shape.names (kernel_of program names).shape.outputs)
+    AllByRecursion IsSafeName (names_by_number (kernel_of program names).shape.names (kernel_of program names).shape.outputs)

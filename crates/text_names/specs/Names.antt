@@ -20,15 +20,15 @@ IsSafeName name = AllByRecursion (λ b. is_safe_byte b ≡ true) name
 
 -- a name as texts spell them, and for an element of an array its index after it, as in h[0]
 pub data IsVariableName : List ℕ → Type 0 where
-  alone : (name : List ℕ) → IsName name → IsVariableName name
-  element : (array : List ℕ) (i : ℕ) → IsName array → IsVariableName (array ++ codes "[" ++ decimal i ++ codes "]")
+  whole_name : (name : List ℕ) → IsName name → IsVariableName name
+  array_element : (array : List ℕ) (i : ℕ) → IsName array → IsVariableName (array ++ codes "[" ++ decimal i ++ codes "]")
 
 -- the names of the variables of these numbers
-abbrev pub names_at : List (List ℕ) → List ℕ → List (List ℕ)
-names_at names = map (λ v. get_or names v [])
+abbrev pub names_by_number : List (List ℕ) → List ℕ → List (List ℕ)
+names_by_number names = map (λ v. get_or names v [])
 
 -- each variable has such a name, and so have the inputs and the outputs
 pub record HasNames (s : PlainShape) : Type 0 where
   pub variables : AllByRecursion IsVariableName s.names
-  pub inputs : AllByRecursion IsVariableName (names_at s.names s.inputs)
-  pub outputs : AllByRecursion IsVariableName (names_at s.names s.outputs)
+  pub inputs : AllByRecursion IsVariableName (names_by_number s.names s.inputs)
+  pub outputs : AllByRecursion IsVariableName (names_by_number s.names s.outputs)

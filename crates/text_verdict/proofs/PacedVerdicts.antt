@@ -1,5 +1,5 @@
 -- What the verdict on a text says of its kernel.
-use Rattle.std.proofs.Common.{ℕ, ◌≤◌, List, [], length, get_or, arith}
+use Rattle.std.proofs.Common.{ℕ, ◌≤◌, List, [], get_or, arith}
 use Rattle.std.specs.List.{AllByRecursion}
 use Rattle.std.proofs.lemmas.List.{length-map}
 use Rattle.forec_tree.specs.Terms as tree

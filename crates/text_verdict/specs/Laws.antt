@@ -10,7 +10,7 @@ use Rattle.bound_laws.specs.Paced.{Paced}
 use Rattle.bound_laws.specs.Laws.{NoneOver}
 use Rattle.value_ranges.specs.Words.{AreWords, KernelWords}
 use Rattle.value_ranges.specs.Laws.{TickWords}
-use Rattle.text_names.specs.Names.{IsPlainName, IsSafeName, HasNames, names_at}
+use Rattle.text_names.specs.Names.{IsPlainName, IsSafeName, HasNames, names_by_number}
 use Rattle.text_verdict.specs.Judging.{Verdict, Accepts, Judged}
 use Rattle.text_verdict.specs.declared.counts.Counts.{Counts}
 
@@ -57,4 +57,4 @@ AcceptedTextsHavePlainNames = (text : List ℕ) (counts : Counts) (k : PlainKern
 abbrev pub AcceptedTextsHaveSafeOutputs : Type 0
 AcceptedTextsHaveSafeOutputs =
     (text : List ℕ) (counts : Counts) (k : PlainKernel) → Judged text (Accepts counts k) →
-    (length (names_at k.shape.names k.shape.outputs) ≤ MAX_OUTPUTS) × AllByRecursion IsSafeName (names_at k.shape.names k.shape.outputs)
+    (length (names_by_number k.shape.names k.shape.outputs) ≤ MAX_OUTPUTS) × AllByRecursion IsSafeName (names_by_number k.shape.names k.shape.outputs)

@@ -37,8 +37,8 @@ pub fn each_accepted_text_has_words()
     ensures outputs { AcceptedTextsGiveWords }
 {}
 
-/// Each variable in the kernel of a text that is accepted has a name as texts spell them, and after it for an element of
-/// an array the index in square brackets: so each byte is a letter, `_`, a digit, `[` or `]`. There are at most 64
+/// Each variable in the kernel of a text that is accepted has a name as texts spell them, and after it for an element
+/// of an array the index in square brackets: so each byte is a letter, `_`, a digit, `[` or `]`. There are at most 64
 /// outputs, and each byte of their names is one from 33 to 126, and none of `$`, `(` and `)`.
 pub fn each_accepted_text_has_names()
     ensures named { AcceptedTextsHaveNames }

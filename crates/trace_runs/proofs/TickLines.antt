@@ -8,16 +8,16 @@ use Rattle.tick_jobs.specs.Outcomes.{HasOutputs}
 use Rattle.trace_runs.specs.KernelNames.{inputs_of, output_names}
 use Rattle.trace_runs.specs.Formats.{names_in, format_after}
 use Rattle.trace_runs.specs.Report.{outcome_lines, tick_lines}
-use Rattle.trace_runs.specs.WaitingRoom.{Adds}
+use Rattle.trace_runs.specs.WaitingRoom.{AddsLines}
 use Rattle.trace_runs.specs.declared.format.Format.{Format}
 use Rattle.trace_runs.specs.declared.format.Format.TheVariants as format
 use Rattle.trace_runs.specs.declared.waiting.Waiting.{Waiting}
 
 pub put_tick_lines : (how : Format) (budget row : ℕ) (t : Tick) (o : Outcome) (values : List ℤ) (old new : Waiting) →
     o ≡ t.outcome → (HasOutputs o → values ≡ t.outputs) →
-    ((outputs : List ℤ) → (HasOutputs o → outputs ≡ values) → Adds old new (outcome_lines how budget row o outputs)) → Adds old new (tick_lines how budget row t)
+    ((outputs : List ℤ) → (HasOutputs o → outputs ≡ values) → AddsLines old new (outcome_lines how budget row o outputs)) → AddsLines old new (tick_lines how budget row t)
 put_tick_lines how budget row t o values old new went outputs adds =
-    subst (Adds old new) (ap (λ q. outcome_lines how budget row q t.outputs) went) (adds t.outputs (λ has. sym (outputs has)))
+    subst (AddsLines old new) (ap (λ q. outcome_lines how budget row q t.outputs) went) (adds t.outputs (λ has. sym (outputs has)))
 
 -- a tick changes no name
 pub names_after : (how : Format) (values : List ℤ) → names_in (format_after how values) ≡ names_in how

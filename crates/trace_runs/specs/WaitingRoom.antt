@@ -16,7 +16,7 @@ abbrev pub IsPlain : Waiting → Type 0
 IsPlain w = (names : List (List ℕ)) × (w.format ≡ format.Report names)
 
 -- these bytes wait too, with room as before
-pub record Adds (old new : Waiting) (bytes : List ℕ) : Type 0 where
+pub record AddsLines (old new : Waiting) (bytes : List ℕ) : Type 0 where
   pub bytes_are : new.bytes.items ≡ old.bytes.items ++ bytes
   pub line : length new.line.items ≡ length old.line.items
   pub capacity : vec_capacity old.bytes ≤ vec_capacity new.bytes

@@ -37,7 +37,7 @@ pub struct Waiting {
     ghost fit: { IsFit format },
 }
 
-/// Adds bytes for which there is room.
+/// AddsLines bytes for which there is room.
 fn append(to: &mut Vec<u8>, bytes: &[u8])
     requires { vec_len to.old + length bytes.now ≤ vec_capacity to.old }
     ensures items { to.new.items ≡ to.old.items ++ bytes.now }
@@ -51,7 +51,7 @@ fn append(to: &mut Vec<u8>, bytes: &[u8])
 impl Waiting {
     ghost use Rattle.trace_runs.specs.Ends.{IsOwn};
     ghost use Rattle.trace_runs.specs.Prints.{Says};
-    ghost use Rattle.trace_runs.specs.WaitingRoom.{HasRoom, HasTickRoom, Adds, Gains, IsPlain};
+    ghost use Rattle.trace_runs.specs.WaitingRoom.{HasRoom, HasTickRoom, AddsLines, Gains, IsPlain};
 
     /// What stands before tick 1 waits. There is room for the lines of a tick that are written so.
     pub fn new(alloc: Global, format: Format) -> Result<Waiting, OutOfMemory>
@@ -89,7 +89,7 @@ impl Waiting {
         self.bytes.capacity() - self.bytes.len() >= self.line.len() + TICK_ROOM
     }
 
-    /// Adds bytes for which there is room.
+    /// AddsLines bytes for which there is room.
     pub fn put(&mut self, bytes: &[u8])
         requires { HasRoom self.old (length bytes.now) }
         ensures { Gains self.old self.new bytes.now }
@@ -97,7 +97,7 @@ impl Waiting {
         append(&mut self.bytes, bytes);
     }
 
-    /// Adds a number in decimal.
+    /// AddsLines a number in decimal.
     pub fn put_number(&mut self, number: u64)
         requires { HasRoom self.old 20 }
         ensures number { Gains self.old self.new (decimal number) }
@@ -106,11 +106,11 @@ impl Waiting {
         self.put(Buffer::new().format(number).as_bytes());
     }
 
-    /// Adds the lines of a tick whose outputs have these values.
+    /// AddsLines the lines of a tick whose outputs have these values.
     fn put_tick(&mut self, tick: u64, values: &[i32])
         requires room { HasRoom self.old (length self.old.line.items) }
         requires values { length values.now ≡ length (names_in self.old.format) }
-        ensures lines { Adds self.old self.new (tick_written self.old.format tick values.now) }
+        ensures lines { AddsLines self.old self.new (tick_written self.old.format tick values.now) }
         ensures short { length (tick_written self.old.format tick values.now) ≤ length self.old.line.items }
         ensures format { self.new.format ≡ format_after self.old.format values.now }
     {
@@ -118,7 +118,7 @@ impl Waiting {
         append(&mut self.bytes, &self.line[..length]);
     }
 
-    /// Adds what stands before the words of the last line.
+    /// AddsLines what stands before the words of the last line.
     fn begin_last(&mut self)
         requires { HasRoom self.old 9 }
         ensures last { Gains self.old self.new (before_words self.old.format) }
@@ -128,7 +128,7 @@ impl Waiting {
         self.put(words);
     }
 
-    /// Adds what stands behind the words of the last line.
+    /// AddsLines what stands behind the words of the last line.
     fn end_last(&mut self)
         requires { HasRoom self.old 6 }
         ensures { Gains self.old self.new (after_words self.old.format) }
@@ -169,7 +169,7 @@ impl Waiting {
         self.put(trap_text(trap));
     }
 
-    /// Adds the last line, of a tick that trapped here.
+    /// AddsLines the last line, of a tick that trapped here.
     pub fn put_trap(&mut self, tick: u64, place: Place, trap: Trap)
         requires { HasRoom self.old 96 }
         ensures { Gains self.old self.new (last_written self.old.format (trap_words tick place trap)) }
@@ -190,7 +190,7 @@ impl Waiting {
         self.put_number(budget);
     }
 
-    /// Adds the last line, of a tick whose units passed the budget.
+    /// AddsLines the last line, of a tick whose units passed the budget.
     pub fn put_over(&mut self, tick: u64, budget: u64)
         requires { HasRoom self.old 96 }
         ensures { Gains self.old self.new (last_written self.old.format (over_words tick budget)) }
@@ -209,7 +209,7 @@ impl Waiting {
         self.put_number(rows);
     }
 
-    /// Adds the last line, of a trace that ended after so many rows.
+    /// AddsLines the last line, of a trace that ended after so many rows.
     pub fn put_rows(&mut self, rows: u64)
         requires { HasRoom self.old 96 }
         ensures { Gains self.old self.new (last_written self.old.format (rows_words rows)) }
@@ -229,7 +229,7 @@ impl Waiting {
         self.put(fault_text(fault));
     }
 
-    /// Adds the last line, of a line of the trace that is no row.
+    /// AddsLines the last line, of a line of the trace that is no row.
     pub fn put_row(&mut self, row: u64, fault: RowFault)
         requires { HasRoom self.old 96 }
         ensures { Gains self.old self.new (last_written self.old.format (row_words row fault)) }
@@ -239,7 +239,7 @@ impl Waiting {
         self.end_last();
     }
 
-    /// Adds the line of a workload of so many threads, whose outputs have this sum.
+    /// AddsLines the line of a workload of so many threads, whose outputs have this sum.
     #[tactic(auto, unfolding(crate::specs::Workload::workload_line))]
     pub fn put_workload(&mut self, threads: u32, sum: u32)
         requires { HasRoom self.old 128 }
@@ -252,12 +252,12 @@ impl Waiting {
         self.put(b"\n");
     }
 
-    /// Adds the lines of a tick that went so, whose outputs have these values.
+    /// AddsLines the lines of a tick that went so, whose outputs have these values.
     pub fn put_outcome(&mut self, tick: u64, outcome: Outcome, values: &[i32], budget: u64)
         requires values { length values.now ≡ length (names_in self.old.format) }
         requires fits { HasTickRoom self.old }
         ensures lines { (outputs : List ℤ) → (HasOutputs outcome → outputs ≡ values.now)
-            → Adds self.old self.new (outcome_lines self.old.format budget tick outcome outputs) }
+            → AddsLines self.old self.new (outcome_lines self.old.format budget tick outcome outputs) }
         ensures format { goes_on outcome ≡ true → self.new.format ≡ format_after self.old.format values.now }
     {
         match outcome {

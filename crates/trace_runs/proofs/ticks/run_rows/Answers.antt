@@ -7,7 +7,7 @@ use Rattle.trace_runs.specs.Report.{tick_lines}
 use Rattle.trace_rows.specs.Report.{rows_words, row_words}
 use Rattle.trace_rows.specs.SourceReads.{NextTook}
 use Rattle.trace_rows.specs.Trace.{Row}
-use Rattle.trace_runs.specs.WaitingRoom.{Adds}
+use Rattle.trace_runs.specs.WaitingRoom.{AddsLines}
 use Rattle.trace_runs.specs.declared.format.Format.{Format}
 use Rattle.trace_runs.specs.declared.status.Status.TheVariants as status
 use Rattle.trace_runs.proofs.Asking.{asked_start, asked_last, asked_more}
@@ -153,7 +153,7 @@ returns-in_default-outcome-clause-own g c = λ own k s.
     let went : o ≡ (tick k run.budget r.state values).outcome = outcome_at k r.turns turn r.state r.led o (c.in-Ok.ensures.tick.outcome k r.turns r.follows) ∙ ap (λ (v : Row). (tick k run.budget r.state v).outcome) are in
     let t = tick k run.budget r.state values in
     let told : HasOutputs o → c.deref-in-ticks.result.now ≡ t.outputs = λ has. c.deref-in-ticks.ensures.value ∙ with_items_is c.ticks.session.image.outputs c.tick.new.outputs (search (rules, places)) ∙ outputs_at k r.turns turn r.state r.led c.tick.new.outputs (c.in-Ok.ensures.tick.outputs k r.turns r.follows has) ∙ ap (λ (v : Row). (tick k run.budget r.state v).outputs) are in
-    let put : Adds c.send_due.new.waiting c.put_outcome.new.self (tick_lines how run.budget row t) =
+    let put : AddsLines c.send_due.new.waiting c.put_outcome.new.self (tick_lines how run.budget row t) =
     put_tick_lines how run.budget row t o c.deref-in-ticks.result.now c.send_due.new.waiting c.put_outcome.new.self went told c.put_outcome.ensures.lines in
     let F' = g.T.Ticker.follows c.tick.new.self k in
     let ran = subst (λ (v : Row). F' (r.turns ++ turn_of run v ∷ [])) are (c.in-Ok.ensures.tick.follows k r.turns r.follows) in
@@ -222,7 +222,7 @@ ticks-preserved g c =
           let went : o ≡ (tick k run.budget r.state values).outcome = outcome_at k r.turns turn r.state r.led o (c.in-Ok.ensures.tick.outcome k r.turns r.follows) ∙ ap (λ (v : Row). (tick k run.budget r.state v).outcome) are in
           let t = tick k run.budget r.state values in
           let told : HasOutputs o → c.deref-in-ticks.result.now ≡ t.outputs = λ has. c.deref-in-ticks.ensures.value ∙ with_items_is c.ticks.session.image.outputs c.tick.new.outputs (search (rules, places)) ∙ outputs_at k r.turns turn r.state r.led c.tick.new.outputs (c.in-Ok.ensures.tick.outputs k r.turns r.follows has) ∙ ap (λ (v : Row). (tick k run.budget r.state v).outputs) are in
-          let put : Adds c.send_due.new.waiting c.put_outcome.new.self (tick_lines how run.budget row t) =
+          let put : AddsLines c.send_due.new.waiting c.put_outcome.new.self (tick_lines how run.budget row t) =
           put_tick_lines how run.budget row t o c.deref-in-ticks.result.now c.send_due.new.waiting c.put_outcome.new.self went told c.put_outcome.ensures.lines in
           let F' = g.T.Ticker.follows c.tick.new.self k in
           let ran = subst (λ (v : Row). F' (r.turns ++ turn_of run v ∷ [])) are (c.in-Ok.ensures.tick.follows k r.turns r.follows) in
