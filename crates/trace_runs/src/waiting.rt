@@ -37,7 +37,7 @@ pub struct Waiting {
     ghost fit: { IsFit format },
 }
 
-/// AddsLines bytes for which there is room.
+/// Adds bytes for which there is room.
 fn append(to: &mut Vec<u8>, bytes: &[u8])
     requires { vec_len to.old + length bytes.now ≤ vec_capacity to.old }
     ensures items { to.new.items ≡ to.old.items ++ bytes.now }
@@ -89,7 +89,7 @@ impl Waiting {
         self.bytes.capacity() - self.bytes.len() >= self.line.len() + TICK_ROOM
     }
 
-    /// AddsLines bytes for which there is room.
+    /// Adds bytes for which there is room.
     pub fn put(&mut self, bytes: &[u8])
         requires { HasRoom self.old (length bytes.now) }
         ensures { Gains self.old self.new bytes.now }
@@ -97,7 +97,7 @@ impl Waiting {
         append(&mut self.bytes, bytes);
     }
 
-    /// AddsLines a number in decimal.
+    /// Adds a number in decimal.
     pub fn put_number(&mut self, number: u64)
         requires { HasRoom self.old 20 }
         ensures number { Gains self.old self.new (decimal number) }
@@ -106,7 +106,7 @@ impl Waiting {
         self.put(Buffer::new().format(number).as_bytes());
     }
 
-    /// AddsLines the lines of a tick whose outputs have these values.
+    /// Adds the lines of a tick whose outputs have these values.
     fn put_tick(&mut self, tick: u64, values: &[i32])
         requires room { HasRoom self.old (length self.old.line.items) }
         requires values { length values.now ≡ length (names_in self.old.format) }
@@ -118,7 +118,7 @@ impl Waiting {
         append(&mut self.bytes, &self.line[..length]);
     }
 
-    /// AddsLines what stands before the words of the last line.
+    /// Adds what stands before the words of the last line.
     fn begin_last(&mut self)
         requires { HasRoom self.old 9 }
         ensures last { Gains self.old self.new (before_words self.old.format) }
@@ -128,7 +128,7 @@ impl Waiting {
         self.put(words);
     }
 
-    /// AddsLines what stands behind the words of the last line.
+    /// Adds what stands behind the words of the last line.
     fn end_last(&mut self)
         requires { HasRoom self.old 6 }
         ensures { Gains self.old self.new (after_words self.old.format) }
@@ -169,7 +169,7 @@ impl Waiting {
         self.put(trap_text(trap));
     }
 
-    /// AddsLines the last line, of a tick that trapped here.
+    /// Adds the last line, of a tick that trapped here.
     pub fn put_trap(&mut self, tick: u64, place: Place, trap: Trap)
         requires { HasRoom self.old 96 }
         ensures { Gains self.old self.new (last_written self.old.format (trap_words tick place trap)) }
@@ -190,7 +190,7 @@ impl Waiting {
         self.put_number(budget);
     }
 
-    /// AddsLines the last line, of a tick whose units passed the budget.
+    /// Adds the last line, of a tick whose units passed the budget.
     pub fn put_over(&mut self, tick: u64, budget: u64)
         requires { HasRoom self.old 96 }
         ensures { Gains self.old self.new (last_written self.old.format (over_words tick budget)) }
@@ -209,7 +209,7 @@ impl Waiting {
         self.put_number(rows);
     }
 
-    /// AddsLines the last line, of a trace that ended after so many rows.
+    /// Adds the last line, of a trace that ended after so many rows.
     pub fn put_rows(&mut self, rows: u64)
         requires { HasRoom self.old 96 }
         ensures { Gains self.old self.new (last_written self.old.format (rows_words rows)) }
@@ -229,7 +229,7 @@ impl Waiting {
         self.put(fault_text(fault));
     }
 
-    /// AddsLines the last line, of a line of the trace that is no row.
+    /// Adds the last line, of a line of the trace that is no row.
     pub fn put_row(&mut self, row: u64, fault: RowFault)
         requires { HasRoom self.old 96 }
         ensures { Gains self.old self.new (last_written self.old.format (row_words row fault)) }
@@ -239,7 +239,7 @@ impl Waiting {
         self.end_last();
     }
 
-    /// AddsLines the line of a workload of so many threads, whose outputs have this sum.
+    /// Adds the line of a workload of so many threads, whose outputs have this sum.
     #[tactic(auto, unfolding(crate::specs::Workload::workload_line))]
     pub fn put_workload(&mut self, threads: u32, sum: u32)
         requires { HasRoom self.old 128 }
@@ -252,7 +252,7 @@ impl Waiting {
         self.put(b"\n");
     }
 
-    /// AddsLines the lines of a tick that went so, whose outputs have these values.
+    /// Adds the lines of a tick that went so, whose outputs have these values.
     pub fn put_outcome(&mut self, tick: u64, outcome: Outcome, values: &[i32], budget: u64)
         requires values { length values.now ≡ length (names_in self.old.format) }
         requires fits { HasTickRoom self.old }
