@@ -4,7 +4,7 @@ import signal
 import subprocess
 
 ROOT = os.path.dirname(os.path.dirname(os.path.realpath(__file__)))
-LIMIT = 60  # seconds
+LIMIT = float(os.environ.get("PATIENCE", "60"))  # seconds
 LATE = "late"
 OPTIONS_OF_CORES = ("--cores", "--place")
 FLAGS = ("--fold",)
