@@ -48,7 +48,8 @@ end 4
 ];
 
 /// What is told of a text: what the sink holds then, and the status.
-struct Told {
+#[derive(Drop)]
+struct Written {
     held: Vec<u8>,
     status: DumpStatus,
 }
@@ -61,15 +62,15 @@ fn told(
     room: usize,
     size: usize,
     fails: Vec<u64>,
-) -> Result<Told, Fail> {
+) -> Result<Written, Fail> {
     let mut sink = MemSink::pieces(alloc, room, fails, size.max(1))?;
     let status = tell(alloc, text, &mut sink);
     let held = sink.bytes().to_vec(alloc)?;
-    Ok(Told { held, status })
+    Ok(Written { held, status })
 }
 
 /// The same to a sink that takes all bytes at once, and doesn't fail.
-fn told_whole(alloc: Global, text: &[u8]) -> Result<Told, Fail> {
+fn told_whole(alloc: Global, text: &[u8]) -> Result<Written, Fail> {
     told(alloc, text, 1_000_000, usize::MAX, Vec::new(alloc))
 }
 
@@ -103,10 +104,10 @@ fn too_long(rt: HostRuntime) -> Result<(), Fail> {
     let alloc = rt.alloc();
     let mut text = vec![in alloc; b'$'; MAX_TEXT_BYTES]?;
     let longest = told_whole(alloc, &text)?;
-    assert_eq!(rt; longest.held.as_slice(), b"refused byte 2\n");
+    assert_eq!(rt; longest.held.as_slice(), b"refused byte 2\n".as_slice());
     text.push(b'$')?;
     let long = told_whole(alloc, &text)?;
-    assert_eq!(rt; long.held.as_slice(), b"refused long\n");
+    assert_eq!(rt; long.held.as_slice(), b"refused long\n".as_slice());
     assert_eq!(rt; long.status, DumpStatus::Refused);
     Ok(())
 }
@@ -149,7 +150,7 @@ fn in_pieces(rt: HostRuntime) -> Result<(), Fail> {
 }
 
 /// What a sink holds that failed is a front of the report.
-fn is_front(rt: &impl Abort, told: &Told, report: &[u8]) {
+fn is_front(rt: &impl Abort, told: &Written, report: &[u8]) {
     assert_eq!(rt; told.status, DumpStatus::WriteFault);
     assert!(rt; report.starts_with(told.held.as_slice()));
 }
