@@ -25,13 +25,11 @@ def many(ticks):
 
 
 def peak(words, source):
-    """Peak memory in MB of a command that does its work."""
+    """Peak memory in MB of a command that does its work, as GNU time tells it: a process that Python starts begins with Python's own peak."""
     with open(source, "rb") as stdin:
-        child = subprocess.Popen(words, stdin=stdin, stdout=subprocess.DEVNULL)
-        _, status, usage = os.wait4(child.pid, 0)
-        child.returncode = os.waitstatus_to_exitcode(status)
-    assert child.returncode == 0, f"{words[:3]} ended with {child.returncode}"
-    return usage.ru_maxrss / 1024
+        done = subprocess.run(["time", "-f", "%M", *words], stdin=stdin, stdout=subprocess.DEVNULL, stderr=subprocess.PIPE, check=False)
+    assert done.returncode == 0, f"{words[:3]} ended with {done.returncode}"
+    return int(done.stderr.split()[-1]) / 1024
 
 
 def writing(program, scratch):
