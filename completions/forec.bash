@@ -2,7 +2,7 @@
 #
 # Usage: source this file, or install it as share/bash-completion/completions/forec under a prefix.
 
-_forec_commands="run check threads code explain gen wave unwave"
+_forec_commands="run check threads code explain gen wave unwave farm"
 _forec_tools="why lint test trace table plot new"
 
 # The options that a command takes.
@@ -13,6 +13,7 @@ _forec_options_of() {
     threads) echo "--cores --place --fold" ;;
     code) echo "--fold" ;;
     explain) echo "--budget --order --fold" ;;
+    farm) echo "--budget" ;;
   esac
 }
 
@@ -94,6 +95,16 @@ _forec_offer_options() {
   _forec_offer_words "$left" "$2"
 }
 
+# Offers traces for `farm`, and its options where no letter of a word stands yet.
+_forec_offer_traces() {
+  local traces
+  _forec_offer_files '*.trace' "$1"
+  traces=("${COMPREPLY[@]}")
+  COMPREPLY=()
+  [ -n "$1$2" ] || _forec_offer_options farm "$1" "${@:3}"
+  COMPREPLY+=("${traces[@]}")
+}
+
 # Offers what fits after these words of a command: a value, an option, or the program.
 _forec_offer_after() {
   local word=$1 command=$2 each value="" plain="" positional=0 given=()
@@ -115,6 +126,8 @@ _forec_offer_after() {
   done
   if [ -n "$value" ]; then
     _forec_offer_value "$value" "${word#=}"
+  elif [ "$command" = farm ] && [ "$positional" -gt 0 ] && { [ -n "$plain" ] || [[ $word != -* ]]; }; then
+    _forec_offer_traces "$word" "$plain" "${given[@]}"
   elif [[ $word = -* || $positional -gt 0 ]] && [ -z "$plain" ]; then
     _forec_offer_options "$command" "$word" "${given[@]}"
   elif [ "$positional" = 0 ] && [ "$command" = unwave ]; then
@@ -142,7 +155,7 @@ _forec() {
     1:loop | 1:watch) _forec_offer_files '*.toml' "$word" ;;
     1:replay-field) compopt -o filenames 2> /dev/null; mapfile -t COMPREPLY < <(compgen -d -- "$word") ;;
     *:why | *:lint | *:test | *:trace | *:table | *:plot | *:new) _forec_offer_for_tool "${before[0]}" "$word" $((${#before[@]} - 1)) ;;
-    *:run | *:check | *:threads | *:code | *:explain | *:gen | *:wave | *:unwave) _forec_offer_after "$word" "${before[@]}" ;;
+    *:run | *:check | *:threads | *:code | *:explain | *:gen | *:wave | *:unwave | *:farm) _forec_offer_after "$word" "${before[@]}" ;;
   esac
 }
 

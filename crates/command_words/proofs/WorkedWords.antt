@@ -1,11 +1,11 @@
 -- What some words mean.
-use Rattle.std.proofs.Common.{◌≡◌, refl, List, ℕ, true, false, [], ◌∷◌, Option, Some, None, codes}
+use Rattle.std.proofs.Common.{◌≡◌, refl, List, ℕ, zero, suc, true, false, [], ◌∷◌, Option, Some, None, codes}
 use Rattle.clap.proofs.OnLiterals.{clap_on_literals}
 use Rattle.clap.specs.Words.{Text}
 use Rattle.command_words.specs.CommandLine.{command_line}
 use Rattle.command_words.specs.declared.request.Budget.{Budget}
 use Rattle.command_words.specs.declared.request.Budget.TheVariants as budget
-use Rattle.command_words.specs.Requests.{PlainPlacing, PlainRunning, PlainRequest, OnText, OnWorkload, OnDump, Run, Check, Threads, Code, Explain, Wave, request_of}
+use Rattle.command_words.specs.Requests.{PlainPlacing, PlainRunning, OnText, OnWorkload, OnDump, OnTraces, Run, Check, Threads, Code, Explain, Wave, request_of}
 
 placed : ℕ → Option Text → PlainPlacing
 placed cores list = record { cores = cores; list = list }
@@ -158,3 +158,57 @@ no_dump = refl
 two_dumps : request_of (codes "unwave" ∷ codes "d" ∷ codes "e" ∷ []) ≡ None
 unfolding request_of command_line clap_on_literals
 two_dumps = refl
+
+over_a_trace : request_of (codes "farm" ∷ codes "p" ∷ codes "t" ∷ []) ≡ Some (OnTraces (codes "p") (codes "t" ∷ []) (budget.Units 10000000))
+unfolding request_of command_line clap_on_literals
+over_a_trace = refl
+
+over_traces : request_of (codes "farm" ∷ codes "p" ∷ codes "t" ∷ codes "--budget" ∷ codes "99" ∷ codes "u" ∷ codes "t" ∷ [])
+    ≡ Some (OnTraces (codes "p") (codes "t" ∷ codes "u" ∷ codes "t" ∷ []) (budget.Units 99))
+unfolding request_of command_line clap_on_literals
+over_traces = refl
+
+over_traces_behind_dashes : request_of (codes "farm" ∷ codes "--budget=bound" ∷ codes "--" ∷ codes "p" ∷ codes "t" ∷ codes "--cores" ∷ [])
+    ≡ Some (OnTraces (codes "p") (codes "t" ∷ codes "--cores" ∷ []) budget.Bound)
+unfolding request_of command_line clap_on_literals
+over_traces_behind_dashes = refl
+
+over_no_trace : request_of (codes "farm" ∷ codes "p" ∷ []) ≡ None
+unfolding request_of command_line clap_on_literals
+over_no_trace = refl
+
+over_traces_on_cores : request_of (codes "farm" ∷ codes "p" ∷ codes "t" ∷ codes "--cores" ∷ codes "2" ∷ []) ≡ None
+unfolding request_of command_line clap_on_literals
+over_traces_on_cores = refl
+
+over_traces_placed : request_of (codes "farm" ∷ codes "p" ∷ codes "t" ∷ codes "--place=0" ∷ []) ≡ None
+unfolding request_of command_line clap_on_literals
+over_traces_placed = refl
+
+over_traces_in_order : request_of (codes "farm" ∷ codes "p" ∷ codes "t" ∷ codes "--order" ∷ codes "1" ∷ []) ≡ None
+unfolding request_of command_line clap_on_literals
+over_traces_in_order = refl
+
+over_traces_folded : request_of (codes "farm" ∷ codes "p" ∷ codes "t" ∷ codes "--fold" ∷ []) ≡ None
+unfolding request_of command_line clap_on_literals
+over_traces_folded = refl
+
+run_with_a_further_word : request_of (codes "run" ∷ codes "p" ∷ codes "t" ∷ []) ≡ None
+unfolding request_of command_line clap_on_literals
+run_with_a_further_word = refl
+
+workload_with_a_further_word : request_of (codes "gen" ∷ codes "7" ∷ codes "t" ∷ []) ≡ None
+unfolding request_of command_line clap_on_literals
+workload_with_a_further_word = refl
+
+names : ℕ → List Text
+names zero = []
+names (suc n) = codes "t" ∷ names n
+
+over_as_many_traces_as_may_be : request_of (codes "farm" ∷ codes "p" ∷ names 64) ≡ Some (OnTraces (codes "p") (names 64) (budget.Units 10000000))
+unfolding request_of names command_line clap_on_literals
+over_as_many_traces_as_may_be = refl
+
+over_a_trace_too_many : request_of (codes "farm" ∷ codes "p" ∷ names 65) ≡ None
+unfolding request_of names command_line clap_on_literals
+over_a_trace_too_many = refl

@@ -1,10 +1,10 @@
 -- What words ask for.
-use Rattle.std.specs.Prelude.{ℕ, Bool, not, ◌&&◌, ◌||◌, cond, is_some, is_none, Option, None, Some, option_map, option_and_then, List, [], ◌∷◌, if◌then◌else◌, codes}
+use Rattle.std.specs.Prelude.{ℕ, Bool, not, nat_eq, nat_le, nat_lt, length, map, ◌&&◌, ◌||◌, cond, is_some, is_none, Option, None, Some, option_map, option_and_then, List, [], ◌∷◌, if◌then◌else◌, codes}
 use Rattle.clap.specs.Words.{Kinds, Text}
 use Rattle.forec_base.specs.declared.limits.TheConstants.{MAX_CORES, MAX_BUDGET}
 use Rattle.command_words.specs.CommandLine.{PlainValues, is_word, kinds_of, values_of}
 use Rattle.command_words.specs.Numbers.{number_in, number_or}
-use Rattle.command_words.specs.declared.request.TheConstants.{DEFAULT_BUDGET, MAX_ORDER, MAX_WORKLOAD}
+use Rattle.command_words.specs.declared.request.TheConstants.{DEFAULT_BUDGET, MAX_ORDER, MAX_WORKLOAD, MAX_TRACES}
 use Rattle.command_words.specs.declared.request.Budget.{Budget}
 use Rattle.command_words.specs.declared.request.Budget.TheVariants as budget
 use Rattle.command_words.specs.declared.request.Placing.{Placing}
@@ -31,11 +31,12 @@ pub data PlainCommand : Type 0 where
   Explain : (budget : Budget) (order : ℕ) → PlainCommand
   Wave : PlainRunning → PlainCommand
 
--- a command on a program, whose kernel is folded or not; a workload; or a dump that is told
+-- a command on a program, whose kernel is folded or not; a workload; a dump that is told; or a program that runs over traces
 pub data PlainRequest : Type 0 where
   OnText : (program : Text) → PlainCommand → (fold : Bool) → PlainRequest
   OnWorkload : (threads : ℕ) → PlainRunning → PlainRequest
   OnDump : (dump : Text) → PlainRequest
+  OnTraces : (program : Text) (traces : List Text) (budget : Budget) → PlainRequest
 
 -- ---- of the values of words
 
@@ -98,14 +99,32 @@ workload_of number v = cond v.fold None (option_and_then (λ n. option_map (OnWo
 abbrev pub dump_of : Text → PlainValues → Option PlainRequest
 dump_of dump v = cond (is_bare v) (Some (OnDump dump)) None
 
+-- a budget alone may be given
+abbrev pub has_budget_alone : PlainValues → Bool
+has_budget_alone v = is_none v.cores && (is_none v.place && (is_none v.order && not v.fold))
+
+-- there are 1 to 64 traces
+abbrev pub has_traces : PlainValues → Bool
+has_traces v = nat_lt 0 (length v.more) && nat_le (length v.more) MAX_TRACES
+
+-- a program over traces, with no option but a budget
+abbrev pub traces_of : Text → PlainValues → Option PlainRequest
+traces_of program v = cond (has_budget_alone v && has_traces v) (option_map (OnTraces program v.more) (budget_of v)) None
+
 abbrev pub text_request_of : Text → Text → PlainValues → Option PlainRequest
 text_request_of name program v = option_map (λ c. OnText program c v.fold) (command_of name v)
 
-abbrev pub request_named : Text → Text → PlainValues → Option PlainRequest
-request_named name program v =
+-- the request of a command that takes no further word
+abbrev pub request_alone : Text → Text → PlainValues → Option PlainRequest
+request_alone name program v =
     if is_word name (codes "gen") then workload_of program v
     else (if is_word name (codes "unwave") then dump_of program v
     else text_request_of name program v)
+
+abbrev pub request_named : Text → Text → PlainValues → Option PlainRequest
+request_named name program v =
+    if is_word name (codes "farm") then traces_of program v
+    else (if nat_eq (length v.more) 0 then request_alone name program v else None)
 
 abbrev pub request_by : PlainValues → Option PlainRequest
 request_by v = option_and_then (λ name. option_and_then (λ program. request_named name program v) v.program) v.command
@@ -138,3 +157,4 @@ abbrev pub plain_request : Request → PlainRequest
 plain_request (request.Text program c fold) = OnText program.now (plain_command c) fold
 plain_request (request.Workload n r) = OnWorkload n (plain_running r)
 plain_request (request.Dump dump) = OnDump dump.now
+plain_request (request.Traces program traces budget) = OnTraces program.now (map (λ s. s.now) traces.items) budget

@@ -1,5 +1,5 @@
-//! The words of a command line, read with `clap` as one simple command: `COMMAND PROGRAM`, and options that
-//! stand anywhere.
+//! The words of a command line, read with `clap` as one simple command: `COMMAND PROGRAM`, further words where the
+//! command takes them, and options that stand anywhere.
 #![tactic(auto)]
 
 mod fault;

@@ -2,7 +2,7 @@
 
 ghost use Rattle.std.specs.Prelude.{◌≡◌, ◌≢◌, [], IfOk, IfErr, Err, map, codes, string_bytes, option_map, false};
 ghost use Rattle.clap.specs.Words.{app_of, rule_of, with_rule};
-ghost use Rattle.command_words.specs.CommandLine.{bared, word_rule, option_rule, flag_rule, is_set, command_line, kinds_of, values_of, plain_values};
+ghost use Rattle.command_words.specs.CommandLine.{bared, word_rule, more_rule, option_rule, flag_rule, is_set, kept_words, command_line, kinds_of, values_of, plain_values};
 ghost use Rattle.command_words.specs.declared.fault.WordsFault.TheVariants as fault;
 
 use crate::fault::WordsFault;
@@ -17,6 +17,14 @@ fn word<'a>(alloc: Global, id: &'a str) -> Arg<'a>
     ensures local { result.global ≡ false }
 {
     Arg::new(alloc, id).required(true).action(ArgAction::Set)
+}
+
+/// The words behind those that must be there.
+fn further<'a>(alloc: Global, id: &'a str) -> Arg<'a>
+    ensures rule { rule_of result ≡ more_rule id.entry.now }
+    ensures local { result.global ≡ false }
+{
+    Arg::new(alloc, id).action(ArgAction::Append)
 }
 
 /// An option with one value.
@@ -45,6 +53,17 @@ fn is_given(word: Option<&str>) -> bool
     }
 }
 
+/// The words that `clap` keeps of a name.
+fn words_kept<'a>(alloc: Global, kept: Option<&[&'a str]>) -> Result<Vec<&'a str>, AllocError>
+    ensures { IfOk result (λ words. map (λ s. s.now) words.items
+        ≡ kept_words (option_map (λ words. map (λ s. s.now) words.now) kept.entry)) }
+{
+    match kept {
+        Some(words) => words.to_vec(alloc),
+        None => Ok(Vec::new(alloc)),
+    }
+}
+
 fn with_arg<'a>(command: Command<'a>, arg: Arg<'a>) -> Result<Command<'a>, AllocError>
     requires { arg.global ≡ false }
     ensures { IfOk result (λ c. app_of c ≡ with_rule (app_of command.entry) (rule_of arg.entry)) }
@@ -69,6 +88,7 @@ fn command<'a>(alloc: Global) -> Result<Command<'a>, AllocError>
 {
     let command = with_arg(Command::new(alloc, "forec"), word(alloc, "command"))?;
     let command = with_arg(command, word(alloc, "program"))?;
+    let command = with_arg(command, further(alloc, "more"))?;
     let command = with_arg(command, option(alloc, "cores"))?;
     let command = with_arg(command, option(alloc, "place"))?;
     let command = with_arg(command, option(alloc, "budget"))?;
@@ -99,15 +119,19 @@ pub fn values<'a>(alloc: Global, words: &'a [String]) -> Result<Values<'a>, Word
 {
     let command = command(alloc)?;
     match command.try_get_matches_from(words) {
-        Ok(matches) => Ok(Values {
-            command: matches.get_str("command"),
-            program: matches.get_str("program"),
-            cores: matches.get_str("cores"),
-            place: matches.get_str("place"),
-            budget: matches.get_str("budget"),
-            order: matches.get_str("order"),
-            fold: is_given(matches.get_str("fold")),
-        }),
+        Ok(matches) => {
+            let more = words_kept(alloc, matches.get_strs("more"))?;
+            Ok(Values {
+                command: matches.get_str("command"),
+                program: matches.get_str("program"),
+                more,
+                cores: matches.get_str("cores"),
+                place: matches.get_str("place"),
+                budget: matches.get_str("budget"),
+                order: matches.get_str("order"),
+                fold: is_given(matches.get_str("fold")),
+            })
+        }
         Err(error) => Err(fault(error.kind())),
     }
 }

@@ -9,7 +9,7 @@ use crate::fault::WordsFault;
 use crate::matching::values;
 use crate::number::{in_range, or_usual};
 use crate::request::{
-    Budget, Command, DEFAULT_BUDGET, MAX_ORDER, MAX_WORKLOAD, Placing, Request, Running,
+    Budget, Command, DEFAULT_BUDGET, MAX_ORDER, MAX_TRACES, MAX_WORKLOAD, Placing, Request, Running,
 };
 use crate::values::Values;
 use forec_base::{MAX_BUDGET, MAX_CORES};
@@ -153,16 +153,61 @@ fn on_text<'a>(name: &str, program: &'a str, values: &Values<'a>) -> Option<Requ
     })
 }
 
-/// What the values of words ask for.
-fn request<'a>(values: &Values<'a>) -> Option<Request<'a>>
-    ensures { option_map asked.plain_request result ≡ asked.request_by (plain_values values.now) }
+/// Whether no option but a budget is given.
+fn is_budget_alone(values: &Values<'_>) -> bool
+    ensures { result ≡ asked.has_budget_alone (plain_values values.now) }
 {
-    let name = values.command?;
-    let program = values.program?;
+    values.cores.is_none() && values.place.is_none() && values.order.is_none() && !values.fold
+}
+
+/// Whether there are 1 to 64 words behind the program.
+fn are_traces(values: &Values<'_>) -> bool
+    ensures { result ≡ asked.has_traces (plain_values values.now) }
+{
+    0 < values.more.len() && values.more.len() <= MAX_TRACES
+}
+
+/// A program over traces, with no option but a budget.
+fn traces<'a>(program: &'a str, values: Values<'a>) -> Option<Request<'a>>
+    ensures { option_map asked.plain_request result ≡ asked.traces_of program.entry.now (plain_values values.entry) }
+{
+    if is_budget_alone(&values) && are_traces(&values) {
+        let budget = budget(values.budget)?;
+        Some(Request::Traces {
+            program,
+            traces: values.more,
+            budget,
+        })
+    } else {
+        None
+    }
+}
+
+/// What a command asks for that takes no word behind the program.
+fn alone<'a>(name: &str, program: &'a str, values: &Values<'a>) -> Option<Request<'a>>
+    ensures { option_map asked.plain_request result
+        ≡ asked.request_alone name.now program.entry.now (plain_values values.now) }
+{
     match name {
         "gen" => workload(program, values),
         "unwave" => dump(program, values),
         _ => on_text(name, program, values),
+    }
+}
+
+/// What the values of words ask for.
+fn request<'a>(values: Values<'a>) -> Option<Request<'a>>
+    ensures { option_map asked.plain_request result ≡ asked.request_by (plain_values values.entry) }
+{
+    let name = values.command?;
+    let program = values.program?;
+    if name == "farm" {
+        return traces(program, values);
+    }
+    if values.more.is_empty() {
+        alone(name, program, &values)
+    } else {
+        None
     }
 }
 
@@ -178,7 +223,7 @@ pub fn read_words<'a>(alloc: Global, words: &'a [String]) -> Result<Request<'a>,
     ensures usage { result ≡ Err fault.Usage → asked.request_of (map string_bytes words.entry.now) ≡ None }
 {
     let values = values(alloc, words)?;
-    match request(&values) {
+    match request(values) {
         Some(request) => Ok(request),
         None => Err(WordsFault::Usage),
     }

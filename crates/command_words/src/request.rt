@@ -9,6 +9,9 @@ pub const MAX_ORDER: u64 = 4_294_967_295;
 /// The most threads of the workload that `gen` makes, `main` apart.
 pub const MAX_WORKLOAD: u64 = 255;
 
+/// The most traces that `farm` runs a program over.
+pub const MAX_TRACES: usize = 64;
+
 /// Where threads run: on so many cores, 1 to 64, by a list of places or balanced.
 #[derive(Clone, Copy, Debug, PartialEq, Eq)]
 pub struct Placing<'a> {
@@ -50,7 +53,7 @@ pub enum Command<'a> {
 }
 
 /// What words ask for.
-#[derive(Clone, Copy, Debug, PartialEq, Eq)]
+#[derive(Debug, PartialEq, Eq, Drop)]
 pub enum Request<'a> {
     /// A command on the text of this name. `fold`: its kernel has its constants folded before the command is done;
     /// never so where the command is [`Command::Check`] or [`Command::Wave`].
@@ -67,5 +70,11 @@ pub enum Request<'a> {
     /// The report is written that the value change dump of this name tells.
     Dump {
         dump: &'a str,
+    },
+    /// The program of this name runs over each of the traces of these names, 1 to 64, in this order.
+    Traces {
+        program: &'a str,
+        traces: Vec<&'a str>,
+        budget: Budget,
     },
 }

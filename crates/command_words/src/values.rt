@@ -5,6 +5,7 @@
 pub struct Values<'a> {
     pub command: Option<&'a str>,
     pub program: Option<&'a str>,
+    pub more: Vec<&'a str>,
     pub cores: Option<&'a str>,
     pub place: Option<&'a str>,
     pub budget: Option<&'a str>,

@@ -1,11 +1,11 @@
 -- What words ask for is within its ranges.
-use Rattle.std.proofs.Common.{◌≡◌, ◌≤◌, ℕ, nat_le, cond, if◌then◌else◌, ◌&&◌, ◌||◌, is_some, Bool, true, false, Option, None, Some, option_map, option_and_then, List, [], ◌∷◌, refl, subst, arith}
+use Rattle.std.proofs.Common.{◌≡◌, ◌≤◌, ℕ, nat_le, cond, if◌then◌else◌, ◌&&◌, ◌||◌, is_some, Bool, true, false, Option, None, Some, option_map, option_and_then, List, [], ◌∷◌, length, nat_eq, refl, subst, arith}
 use Rattle.std.specs.Prelude.{codes}
 use Rattle.std.proofs.lemmas.Bool.{leb-true}
 use Rattle.forec_base.specs.declared.limits.TheConstants.{MAX_CORES, MAX_BUDGET}
 use Rattle.command_words.specs.CommandLine.{PlainValues, is_word, kinds_of, values_of}
 use Rattle.command_words.specs.Numbers.{between, number_of, number_in, number_or}
-use Rattle.command_words.specs.Requests.{PlainPlacing, PlainRunning, PlainCommand, Run, Wave, Check, Threads, Code, Explain, PlainRequest, OnText, OnWorkload, OnDump, placing_of, budget_of, budget_or, order_of, running_of, explaining_of, placing_alone_of, has_no_options, is_bare, waving_of, command_of, workload_of, dump_of, text_request_of, request_named, request_by, unless_refused, request_of}
+use Rattle.command_words.specs.Requests.{PlainPlacing, PlainRunning, PlainCommand, Run, Wave, Check, Threads, Code, Explain, PlainRequest, OnText, OnWorkload, OnDump, placing_of, budget_of, budget_or, order_of, running_of, explaining_of, placing_alone_of, has_no_options, is_bare, waving_of, command_of, workload_of, dump_of, text_request_of, has_budget_alone, has_traces, traces_of, request_alone, request_named, request_by, unless_refused, request_of, OnTraces}
 use Rattle.command_words.specs.declared.request.Budget.{Budget}
 use Rattle.command_words.specs.declared.request.Budget.TheVariants as budget
 use Rattle.command_words.specs.declared.request.TheConstants.{DEFAULT_BUDGET, MAX_WORKLOAD}
@@ -125,16 +125,25 @@ module _ (v : PlainValues) (r : PlainRequest) where
       subst HasRanges is in_range
   dump name false e = absurd (let g : None ≡ Some r = e in cc)
 
-  by_name : (name program : List ℕ) (gen unwave : Bool) → (if gen then workload_of program v else (if unwave then dump_of program v else text_request_of name program v)) ≡ Some r → HasRanges r
-  by_name name program true unwave e = workload program e
-  by_name name program false true e = dump program (is_bare v) e
-  by_name name program false false e = text name program e
+  alone_by : (name program : List ℕ) (gen unwave : Bool) → (if gen then workload_of program v else (if unwave then dump_of program v else text_request_of name program v)) ≡ Some r → HasRanges r
+  alone_by name program true unwave e = workload program e
+  alone_by name program false true e = dump program (is_bare v) e
+  alone_by name program false false e = text name program e
+
+  farmed : (program : List ℕ) (fits : Bool) → cond fits (option_map (OnTraces program v.more) (budget_of v)) None ≡ Some r → HasRanges r
+  farmed program true e = let m = map_some (OnTraces program v.more) (budget_of v) r e in subst HasRanges m.2 (small v.budget m.0 m.1)
+  farmed program false e = absurd (let g : None ≡ Some r = e in cc)
+
+  by_name : (name program : List ℕ) (farm none : Bool) → (if farm then traces_of program v else (if none then request_alone name program v else None)) ≡ Some r → HasRanges r
+  by_name name program true none e = farmed program (has_budget_alone v && has_traces v) e
+  by_name name program false true e = alone_by name program (is_word name (codes "gen")) (is_word name (codes "unwave")) e
+  by_name name program false false e = absurd (let g : None ≡ Some r = e in cc)
 
   by_values : request_by v ≡ Some r → HasRanges r
   by_values e =
       let n = then_some _ v.command r e in
       let p = then_some (λ program. request_named n.0 program v) v.program r n.2 in
-      by_name n.0 p.0 (is_word n.0 (codes "gen")) (is_word n.0 (codes "unwave")) p.2
+      by_name n.0 p.0 (is_word n.0 (codes "farm")) (nat_eq (length v.more) 0) p.2
 
   by_kinds : (kinds : List _) → unless_refused kinds (request_by v) ≡ Some r → HasRanges r
   by_kinds [] e = by_values e

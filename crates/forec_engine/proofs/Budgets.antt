@@ -1,5 +1,5 @@
 -- With a budget of at least the worst case no report says that a run is over.
-use Rattle.std.proofs.Common.{◌≡◌, ◌≢◌, ◌≤◌, ℕ, ℤ, nat_lt, Bool, true, false, cond, List, [], ◌∷◌, Option, Some, None, replicate, refl, sym, ap, subst, ◌∙◌, arith}
+use Rattle.std.proofs.Common.{◌≡◌, ◌≢◌, ◌≤◌, ℕ, ℤ, nat_lt, nat_le, Bool, true, false, cond, if◌then◌else◌, List, [], ◌∷◌, map, length, Option, Some, None, replicate, refl, sym, ap, subst, ◌∙◌, arith}
 use Rattle.forec_base.specs.declared.limits.TheConstants.{MAX_BUDGET, MAX_ROWS}
 use Rattle.trace_runs.specs.declared.generated.TheConstants.{WORKLOAD_TICKS}
 use Rattle.forec_kernel.specs.Shapes.{PlainKernel}
@@ -9,7 +9,7 @@ use Rattle.forec_kernel.specs.declared.shape.Outcome.TheVariants as outcome
 use Rattle.tick_bounds.specs.Bound.{worst_case}
 use Rattle.bound_laws.specs.Laws.{NoneOver, RunsNeverOver}
 use Rattle.core_alloc.specs.declared.fault.PlaceFault.{PlaceFault}
-use Rattle.command_words.specs.Requests.{PlainPlacing, PlainRunning, PlainCommand, Run, Wave, Check, Threads, Code, Explain, OnText, OnWorkload, request_of}
+use Rattle.command_words.specs.Requests.{PlainPlacing, PlainRunning, PlainCommand, Run, Wave, Check, Threads, Code, Explain, OnText, OnWorkload, request_of, OnTraces}
 use Rattle.command_words.specs.declared.request.Budget.{Budget}
 use Rattle.command_words.specs.declared.request.Budget.TheVariants as budget
 use Rattle.workload.specs.Text.{text_of}
@@ -30,12 +30,16 @@ use Rattle.trace_runs.specs.declared.status.Status.{Status}
 use Rattle.trace_runs.specs.declared.status.Status.TheVariants as status
 use Rattle.forec_engine.specs.Budgets.{budget_for, with_budget, Covers}
 use Rattle.forec_engine.specs.Folds.{kernel_for}
-use Rattle.forec_engine.specs.Commands.{ThreadsReport, Of_misplaced, Of_placed, AcceptedReport, CommandReport, IsReport, Of_usage, Of_text, Of_workload, Of_dump, TextReport, Of_refusal, Of_accepted, run_report}
+use Rattle.forec_engine.specs.Commands.{ThreadsReport, Of_misplaced, Of_placed, AcceptedReport, CommandReport, IsReport, Of_usage, Of_text, Of_workload, Of_dump, TextReport, Of_refusal, Of_accepted, run_report, Of_farm}
 use Rattle.forec_engine.specs.Ends.{running_in}
-use Rattle.forec_engine.specs.Laws.{CoverTheirKernel, CoveredNeverOver, BoundCovers, AskForBound, Of_run, Of_gen, BoundNeverOver}
+use Rattle.forec_engine.specs.Laws.{CoverTheirKernel, CoveredNeverOver, BoundCovers, AskForBound, Of_run, Of_gen, Of_traces, BoundNeverOver}
+use Rattle.forec_engine.specs.Farms.{too_long, farmed, worse, worst, farm_report, FarmedReport}
+use Rattle.forec_engine.specs.declared.farm_traces.TheConstants.{FARM_ROWS}
+use Rattle.forec_base.specs.declared.limits.TheConstants.{MAX_TEXT_BYTES}
+use Rattle.trace_runs.specs.StatusNumbers.{number_of}
 use Rattle.forec_engine.specs.Placing.{misplacing, unless_misplaced, workload_report}
 use Rattle.forec_engine.proofs.DumpLemmas.{dump_never}
-use Rattle.forec_engine.proofs.Reports.{some_same, name_same, command_same, threads_same, running_same, never_text}
+use Rattle.forec_engine.proofs.Reports.{some_same, name_same, command_same, threads_same, running_same, never_text, farm_budget_same, never_farm, never_workload}
 
 -- ---- ticks
 
@@ -64,11 +68,14 @@ ticks_never threads b ts outcome.Over h e = h refl
 abbrev NoRunOver : PlainKernel → ℕ → Type 0
 NoRunOver k units = (rows : List (List ℤ)) → NoneOver (run_of k units rows)
 
-trace_never : (tells : Telling) (k : PlainKernel) (units : ℕ) (bytes : List ℕ) → NoRunOver k units → (trace_report MAX_ROWS (run_format tells k) k units bytes).status ≢ status.Over
+limited_never : (rows : ℕ) (tells : Telling) (k : PlainKernel) (units : ℕ) (bytes : List ℕ) → NoRunOver k units → (trace_report rows (run_format tells k) k units bytes).status ≢ status.Over
 unfolding trace_report
-trace_never tells k units bytes never =
-    let trace = trace_of (input_names k) MAX_ROWS bytes in
+limited_never rows tells k units bytes never =
+    let trace = trace_of (input_names k) rows bytes in
     ending_never (run_format tells k) (last_outcome (run_of k units trace.rows)) trace.end (last_never (run_of k units trace.rows) (never trace.rows))
+
+trace_never : (tells : Telling) (k : PlainKernel) (units : ℕ) (bytes : List ℕ) → NoRunOver k units → (trace_report MAX_ROWS (run_format tells k) k units bytes).status ≢ status.Over
+trace_never tells k units bytes never = limited_never MAX_ROWS tells k units bytes never
 
 ticked_never : (threads : ℕ) (k : PlainKernel) (units : ℕ) → NoRunOver k units → (ticked_report threads k units).status ≢ status.Over
 unfolding ticked_report
@@ -117,6 +124,28 @@ workload_never threads running k enough =
     with_never (budget_for k running.budget) (λ units. unless_misplaced (misplacing k running.placing) (ticked_report threads k units))
     (λ units e. unless_never (misplacing k running.placing) (ticked_report threads k units) (ticked_never threads k units (enough units e)))
 
+-- ---- many traces
+
+module _ (k : PlainKernel) (units : ℕ) (never : NoRunOver k units) where
+  farmed_never : (bytes : List ℕ) → (farmed k units bytes).status ≢ status.Over
+  farmed_never bytes = pick (nat_lt MAX_TEXT_BYTES (length bytes))
+    where
+      pick : (long : Bool) → (if long then too_long else trace_report FARM_ROWS (run_format telling.Report k) k units bytes).status ≢ status.Over
+      pick true = λ e. cc
+      pick false = limited_never FARM_ROWS telling.Report k units bytes never
+
+  worst_never : (texts : List (List ℕ)) → worst (map (λ (r : Report). r.status) (map (farmed k units) texts)) ≢ status.Over
+  worst_never [] = λ e. cc
+  worst_never (t ∷ ts) = pick (nat_le (number_of (worst (map (λ (r : Report). r.status) (map (farmed k units) ts)))) (number_of (farmed k units t).status))
+    where
+      pick : (first : Bool) → (if first then (farmed k units t).status else worst (map (λ (r : Report). r.status) (map (farmed k units) ts))) ≢ status.Over
+      pick true = farmed_never t
+      pick false = worst_never ts
+
+farm_never : (content : List ℕ → Option (List ℕ)) (traces : List (List ℕ)) (b : Budget) (c : Counts) (k : PlainKernel) (r : Report) → Suffices k b → FarmedReport content traces b c k r → r.status ≢ status.Over
+farm_never content traces b c k r enough x =
+    is_never r _ x.2 (with_never (budget_for k b) (λ units. farm_report k units traces x.0) (λ units e. worst_never k units (enough units e) x.0))
+
 text_never : (text : List ℕ) (Says : Counts → PlainKernel → Report → Type 0) (r : Report) → ((c : Counts) (k : PlainKernel) → Judged text (Accepts c k) → Says c k r → r.status ≢ status.Over) → TextReport text Says r → r.status ≢ status.Over
 text_never text Says r never (Of_refusal why j e) = is_never r _ e (λ o. cc)
 text_never text Says r never (Of_accepted c k j x) = never c k j x
@@ -146,6 +175,8 @@ module _ (never : KernelsNeverOver) where
   covered_never_over words content trace r covers (Of_workload threads running n x) =
       text_never (text_of threads) (λ c k q. q ≡ workload_report threads running k) r
       (λ c k j y. is_never r _ y (workload_never threads running k (suffices (text_of threads) c k false running.budget j (covers.workload threads running c k n j)))) x
+  covered_never_over words content trace r covers (Of_farm name traces b text n t x) =
+      text_never text (FarmedReport content traces b) r (λ c k j y. farm_never content traces b c k r (suffices text c k false b j (covers.farm name traces b text c k n t j)) y) x
 
 -- ---- the bound
 
@@ -166,14 +197,22 @@ bound_of_text words (Of_run other also folds more m is b) name command fold runn
     let same : also ≡ command = command_same other name also command folds fold (sym m ∙ n) in
     ap (λ (x : PlainRunning). x.budget) (some_same running more (sym e ∙ ap running_in (sym same) ∙ is)) ∙ b
 bound_of_text words (Of_gen threads more m b) name command fold running n e = absurd (never_text name command fold threads more (sym n ∙ m))
+bound_of_text words (Of_traces other traces also m b) name command fold running n e = absurd (never_farm name command fold other traces also (sym n ∙ m))
 
 bound_of_workload : (words : List (List ℕ)) → AskForBound words → (threads : ℕ) (running : PlainRunning) → request_of words ≡ Some (OnWorkload threads running) → running.budget ≡ budget.Bound
 bound_of_workload words (Of_run name command fold more m is b) threads running n = absurd (never_text name command fold threads running (sym m ∙ n))
 bound_of_workload words (Of_gen others more m b) threads running n = ap (λ (x : PlainRunning). x.budget) (running_same threads others running more (sym n ∙ m)) ∙ b
+bound_of_workload words (Of_traces other traces also m b) threads running n = absurd (never_workload threads running other traces also (sym n ∙ m))
+
+bound_of_farm : (words : List (List ℕ)) → AskForBound words → (name : List ℕ) (traces : List (List ℕ)) (b : Budget) → request_of words ≡ Some (OnTraces name traces b) → b ≡ budget.Bound
+bound_of_farm words (Of_run other command fold more m is e) name traces b n = absurd (never_farm other command fold name traces b (sym m ∙ n))
+bound_of_farm words (Of_gen threads more m e) name traces b n = absurd (never_workload threads more name traces b (sym m ∙ n))
+bound_of_farm words (Of_traces other others also m e) name traces b n = farm_budget_same name other traces others b also (sym n ∙ m) ∙ e
 
 pub bound_never_over : KernelsNeverOver → BoundNeverOver
 bound_never_over never words content trace r asks =
     covered_never_over never words content trace r (record {
       text = λ name command fold text running c k n t is j. covers_as (kernel_for fold k) running.budget (bound_of_text words asks name command fold running n is);
       workload = λ threads running c k n j. covers_as k running.budget (bound_of_workload words asks threads running n);
+      farm = λ name traces b text c k n t j. covers_as k b (bound_of_farm words asks name traces b n);
     })

@@ -2,6 +2,10 @@ mod Answered
 mod Bounds
 mod Budgets
 mod DumpLemmas
+mod FarmPieces
+mod FarmPrinting
+mod FarmReading
+mod FarmStatuses
 mod FoldedReports
 mod Named
 mod Reports

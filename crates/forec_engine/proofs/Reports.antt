@@ -1,10 +1,10 @@
 -- Words have one report.
-use Rattle.std.proofs.Common.{◌≡◌, ◌⊎◌, inl, inr, ℕ, Bool, List, Option, Some, None, refl, sym, ap, subst, ◌∙◌}
+use Rattle.std.proofs.Common.{◌≡◌, ◌⊎◌, inl, inr, ℕ, Bool, List, [], ◌∷◌, map, Option, Some, None, refl, sym, ap, ap₂, subst, ◌∙◌}
 use Rattle.forec_kernel.specs.Shapes.{PlainKernel}
 use Rattle.core_alloc.specs.declared.fault.PlaceFault.{PlaceFault}
-use Rattle.command_words.specs.Requests.{PlainPlacing, PlainRunning, PlainCommand, Run, Wave, Check, Threads, Code, Explain, PlainRequest, OnText, OnWorkload, OnDump, request_of}
+use Rattle.command_words.specs.Requests.{PlainPlacing, PlainRunning, PlainCommand, Run, Wave, Check, Threads, Code, Explain, PlainRequest, OnText, OnWorkload, OnDump, request_of, OnTraces}
 use Rattle.thread_places.specs.Laws.{OnePlacement, SomePlacement}
-use Rattle.forec_engine.specs.Commands.{IsListing, ThreadsReport, Of_misplaced, Of_placed, AcceptedReport, CommandReport, Of_refusal, Of_accepted, TextReport, WorkloadReport, Of_usage, Of_text, Of_workload, Of_dump, IsReport, TellsTrace, Tells, usage, refused, counted, threads_listed, run_report, explain_report}
+use Rattle.forec_engine.specs.Commands.{IsListing, ThreadsReport, Of_misplaced, Of_placed, AcceptedReport, CommandReport, Of_refusal, Of_accepted, TextReport, WorkloadReport, Of_usage, Of_text, Of_workload, Of_dump, IsReport, TellsTrace, Tells, usage, refused, counted, threads_listed, run_report, explain_report, Of_farm}
 use Rattle.forec_engine.specs.Dumps.{DumpReport, dump_printed}
 use Rattle.text_verdict.specs.Judging.{Verdict, Refuses, Accepts, Judged}
 use Rattle.text_verdict.specs.Laws.{OneVerdict, SomeVerdict}
@@ -12,6 +12,9 @@ use Rattle.forec_engine.specs.Laws.{AskForCode, OneReport, ListOneKernel, AlikeR
 use Rattle.text_verdict.specs.declared.counts.Counts.{Counts}
 use Rattle.text_verdict.specs.declared.refusal.Refusal.{Refusal}
 use Rattle.forec_engine.specs.Folds.{kernel_for}
+use Rattle.command_words.specs.declared.request.Budget.{Budget}
+use Rattle.forec_engine.specs.Farms.{AreTextsOf, FarmedReport, farm_report}
+use Rattle.forec_engine.specs.Budgets.{budget_for, with_budget}
 use Rattle.forec_engine.specs.Placing.{misplaced, misplacing}
 use Rattle.trace_runs.specs.Report.{Report}
 use Rattle.trace_runs.specs.declared.format.Telling.{Telling}
@@ -108,6 +111,43 @@ threads_same n m c d e = cc
 pub running_same : (n m : ℕ) (c d : PlainRunning) → Some (OnWorkload n c) ≡ Some (OnWorkload m d) → c ≡ d
 running_same n m c d e = cc
 
+farm_name_same : (n m : List ℕ) (ts us : List (List ℕ)) (a b : Budget) → Some (OnTraces n ts a) ≡ Some (OnTraces m us b) → n ≡ m
+farm_name_same n m ts us a b e = cc
+
+farm_traces_same : (n m : List ℕ) (ts us : List (List ℕ)) (a b : Budget) → Some (OnTraces n ts a) ≡ Some (OnTraces m us b) → ts ≡ us
+farm_traces_same n m ts us a b e = cc
+
+pub farm_budget_same : (n m : List ℕ) (ts us : List (List ℕ)) (a b : Budget) → Some (OnTraces n ts a) ≡ Some (OnTraces m us b) → a ≡ b
+farm_budget_same n m ts us a b e = cc
+
+pub never_farm : (n : List ℕ) (c : PlainCommand) (a : Bool) (m : List ℕ) (ts : List (List ℕ)) (b : Budget) → Some (OnText n c a) ≡ Some (OnTraces m ts b) → ⊥
+never_farm n c a m ts b e = cc
+
+pub never_workload : (n : ℕ) (r : PlainRunning) (m : List ℕ) (ts : List (List ℕ)) (b : Budget) → Some (OnWorkload n r) ≡ Some (OnTraces m ts b) → ⊥
+never_workload n r m ts b e = cc
+
+pub farm_no_dump : (n : List ℕ) (ts : List (List ℕ)) (b : Budget) (m : List ℕ) → Some (OnTraces n ts b) ≡ Some (OnDump m) → ⊥
+farm_no_dump n ts b m e = cc
+
+-- names have one list of texts
+one_texts : (texts more : List (List ℕ)) → map Some texts ≡ map Some more → texts ≡ more
+one_texts [] [] e = refl
+one_texts [] (u ∷ us) e = absurd (let bad : [] ≡ Some u ∷ map Some us = e in cc)
+one_texts (t ∷ ts) [] e = absurd (let bad : Some t ∷ map Some ts ≡ [] = e in cc)
+one_texts (t ∷ ts) (u ∷ us) e =
+    let both : Some t ∷ map Some ts ≡ Some u ∷ map Some us = e in
+    let first : t ≡ u = cc in
+    let rest : map Some ts ≡ map Some us = cc in
+    ap₂ ◌∷◌ first (one_texts ts us rest)
+
+-- what two runs over traces say of one kernel
+farm_both : (content : List ℕ → Option (List ℕ)) (traces : List (List ℕ)) (b : Budget) (c d : Counts) (k l : PlainKernel) (r q : Report) → Accepts c k ≡ Accepts d l →
+    FarmedReport content traces b c k r → FarmedReport content traces b d l q → r ≡ q
+farm_both content traces b c d k l r q e x y =
+    let texts : x.0 ≡ y.0 = one_texts x.0 y.0 (sym x.1 ∙ y.1) in
+    x.2 ∙ ap (λ m. with_budget (budget_for m b) (λ units. farm_report m units traces x.0)) (kernel_same c d k l e)
+    ∙ ap (λ ts. with_budget (budget_for l b) (λ units. farm_report l units traces ts)) texts ∙ sym y.2
+
 never_none : (x : PlainRequest) → None ≡ Some x → ⊥
 never_none x e = cc
 
@@ -143,6 +183,15 @@ module _ (one : OneVerdict) (words : List (List ℕ)) (content : List ℕ → Op
       two_of_text one (λ c k x. x ≡ workload_report others also k) P same (λ c d k l a b v x y. same a b (workload_both others also c d k l a b v x y)) _ r q
       (subst (λ n. WorkloadReport n also r) (threads_same threads others running also e) (subst (λ x. WorkloadReport threads x r) (running_same threads others running also e) t)) u
 
+  two_of_farms : (r q : Report) (name other : List ℕ) (traces others : List (List ℕ)) (b also : Budget) (text more : List ℕ) → Some (OnTraces name traces b) ≡ Some (OnTraces other others also) →
+      content name ≡ Some text → content other ≡ Some more → TextReport text (FarmedReport content traces b) r → TextReport more (FarmedReport content others also) q → P r q
+  two_of_farms r q name other traces others b also text more e c d t u =
+      let texts : text ≡ more = some_same text more (sym c ∙ ap content (farm_name_same name other traces others b also e) ∙ d) in
+      two_of_text one (FarmedReport content others also) P same (λ c d k l x y v w z. same x y (farm_both content others also c d k l x y v w z)) more r q
+      (subst (λ x. TextReport x (FarmedReport content others also) r) texts
+      (subst (λ x. TextReport text (FarmedReport content x also) r) (farm_traces_same name other traces others b also e)
+      (subst (λ x. TextReport text (FarmedReport content traces x) r) (farm_budget_same name other traces others b also e) t))) u
+
   two_dumps : (r q : Report) (name other : List ℕ) → Some (OnDump name) ≡ Some (OnDump other) → DumpReport content name r → DumpReport content other q → P r q
   two_dumps r q name other e x y =
       same r q (x.2 ∙ ap dump_printed (some_same x.0 y.0 (sym x.1 ∙ ap content (dump_same name other e) ∙ y.1)) ∙ sym y.2)
@@ -159,7 +208,16 @@ module _ (one : OneVerdict) (words : List (List ℕ)) (content : List ℕ → Op
   two_reports r q (Of_workload threads running n t) (Of_usage m e) = absurd (never_none _ (sym m ∙ n))
   two_reports r q (Of_workload threads running n t) (Of_text name command fold text m c u) = absurd (never_text name command fold threads running (sym m ∙ n))
   two_reports r q (Of_workload threads running n t) (Of_workload others also m u) = two_of_workloads r q threads others running also (sym n ∙ m) t u
+  two_reports r q (Of_usage n e) (Of_farm name traces b text m c t) = absurd (never_none _ (sym n ∙ m))
+  two_reports r q (Of_text name command fold text n c t) (Of_farm other traces b more m d u) = absurd (never_farm name command fold other traces b (sym n ∙ m))
+  two_reports r q (Of_workload threads running n t) (Of_farm name traces b text m c u) = absurd (never_workload threads running name traces b (sym n ∙ m))
+  two_reports r q (Of_farm name traces b text n c t) (Of_usage m e) = absurd (never_none _ (sym m ∙ n))
+  two_reports r q (Of_farm name traces b text n c t) (Of_text other command fold more m d u) = absurd (never_farm other command fold name traces b (sym m ∙ n))
+  two_reports r q (Of_farm name traces b text n c t) (Of_workload threads running m u) = absurd (never_workload threads running name traces b (sym m ∙ n))
+  two_reports r q (Of_farm name traces b text n c t) (Of_farm other others also more m d u) = two_of_farms r q name other traces others b also text more (sym n ∙ m) c d t u
   two_reports r q (Of_workload threads running n t) (Of_dump dump m u) = absurd (workload_no_dump threads running dump (sym n ∙ m))
+  two_reports r q (Of_farm name traces b text n c t) (Of_dump dump m u) = absurd (farm_no_dump name traces b dump (sym n ∙ m))
+  two_reports r q (Of_dump dump n t) (Of_farm name traces b text m c u) = absurd (farm_no_dump name traces b dump (sym m ∙ n))
   two_reports r q (Of_dump dump n t) (Of_usage m e) = absurd (never_none _ (sym m ∙ n))
   two_reports r q (Of_dump dump n t) (Of_text name command fold text m c u) = absurd (text_no_dump name command fold dump (sym m ∙ n))
   two_reports r q (Of_dump dump n t) (Of_workload threads running m u) = absurd (workload_no_dump threads running dump (sym m ∙ n))
@@ -208,6 +266,12 @@ some_of_words verdict some words content trace (Some (OnText name command fold))
     (λ r t. never r (Of_text name command fold text.0 e text.1 t))
 some_of_words verdict some words content trace (Some (OnWorkload threads running)) e not told never =
     some_of_text verdict _ (λ c k x. x ≡ workload_report threads running k) (λ c k none. none (workload_report threads running k) refl) (λ r t. never r (Of_workload threads running e t))
+some_of_words verdict some words content trace (Some (OnTraces name traces b)) e not told never =
+    let text = told.farm name traces b e in
+    some_of_text verdict text.0 (FarmedReport content traces b)
+    (λ c k none. none (with_budget (budget_for k b) (λ units. farm_report k units traces text.2.0)) (text.2.0, text.2.1, refl))
+    (λ r t. never r (Of_farm name traces b text.0 e text.1 t))
+
 some_of_words verdict some words content trace (Some (OnDump name)) e not told never = let text = told.dump name e in never (dump_printed text.0) (Of_dump name e (text.0, text.1, refl))
 
 pub some_report : SomeVerdict → SomePlacement → SomeReport

@@ -1,13 +1,18 @@
 -- What words print.
 use Rattle.std.proofs.Common.{◌≡◌, ◌⊎◌, inl, inr, ℕ, Bool, List, Option, Some, None}
 use Rattle.forec_base.specs.Outside.{Fell}
-use Rattle.command_words.specs.Requests.{PlainRunning, PlainCommand, OnText, OnWorkload, OnDump, request_of}
+use Rattle.command_words.specs.Requests.{PlainRunning, PlainCommand, OnText, OnWorkload, OnDump, request_of, OnTraces}
 use Rattle.workload.specs.Text.{text_of}
 use Rattle.forec_engine.specs.Answers.{AnswersNamed, AnswersWords}
-use Rattle.forec_engine.specs.Commands.{IsReport, Of_usage, Of_text, Of_workload, Of_dump, WorkloadReport, Tells, usage}
+use Rattle.forec_engine.specs.Commands.{IsReport, Of_usage, Of_text, Of_workload, Of_dump, WorkloadReport, Tells, usage, Of_farm}
 use Rattle.forec_engine.specs.Dumps.{DumpReport}
-use Rattle.forec_engine.specs.Ends.{WantedByWords, ReadForWords, AcceptedSo, IsMisuse, Asks_nothing, Misuses, Misuses_workload, NameText, AskForRewriting}
+use Rattle.forec_engine.specs.Ends.{WantedByWords, ReadForWords, AcceptedSo, IsMisuse, Asks_nothing, Misuses, Misuses_workload, NameText, AskForRewriting, Misuses_farm}
+use Rattle.forec_engine.specs.Budgets.{IsBoundless}
+use Rattle.forec_engine.specs.Farms.{TellsFarm}
+use Rattle.forec_engine.specs.Farming.{IsNamedFarm}
 use Rattle.forec_engine.specs.Placing.{IsRefusedRun}
+use Rattle.command_words.specs.declared.request.Budget.{Budget}
+use Rattle.std.specs.Option.{IfSome}
 use Rattle.trace_runs.specs.Ends.{IsOwn}
 use Rattle.trace_runs.specs.Prints.{Prints, Says}
 use Rattle.trace_runs.specs.declared.status.Status.{Status}
@@ -38,6 +43,12 @@ module _ {S K : Type 0} (left : S → Option (List ℕ)) (faults : S → ℕ) (d
       Prints held lost is_down Unit (WorkloadReport threads running) (AcceptedSo (λ k. IsRefusedRun k running) (text_of threads)) ⊥ ⊥ out out' end → WordsPrint end
   words_workload threads running end request p =
       prints_as held lost is_down _ _ _ _ _ out out' _ _ _ _ _ end (λ told. tt) (λ told r is. Of_workload threads running request is) (λ m. Misuses_workload threads running request m) (λ n. absurd n) (λ n. absurd n) p
+
+  pub words_farm : (name : List ℕ) (traces : List (List ℕ)) (b : Budget) (end : Status) → request_of words ≡ Some (OnTraces name traces b) →
+      Prints held lost is_down (TellsFarm content name traces) (IsNamedFarm content name traces b) (IfSome (content name) (AcceptedSo (λ k. IsBoundless k b))) (Lost × (held out' ≡ held out)) ⊥ out out' end → WordsPrint end
+  words_farm name traces b end request p =
+      prints_as held lost is_down _ _ _ _ _ out out' _ _ _ _ _ end (λ told. told.farm name traces b request) (λ told r is. Of_farm name traces b is.0 request is.1 is.2)
+      (λ m. Misuses_farm name traces b request m) (λ u. inl u) (λ n. absurd n) p
 
   pub words_dump : (name : List ℕ) (end : Status) → request_of words ≡ Some (OnDump name) →
       Prints held lost is_down ((text : List ℕ) × (content name ≡ Some text)) (DumpReport content name) ⊥ (Lost × (held out' ≡ held out)) ⊥ out out' end → WordsPrint end

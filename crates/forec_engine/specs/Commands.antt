@@ -8,7 +8,7 @@ use Rattle.thread_code.specs.Plain.{PlainCode}
 use Rattle.thread_code.specs.Valid.{IsValidCode}
 use Rattle.core_alloc.specs.Places.{Places}
 use Rattle.core_alloc.specs.declared.fault.PlaceFault.{PlaceFault}
-use Rattle.command_words.specs.Requests.{PlainPlacing, PlainRunning, PlainCommand, Run, Wave, Check, Threads, Code, Explain, PlainRequest, OnText, OnWorkload, OnDump, request_of}
+use Rattle.command_words.specs.Requests.{PlainPlacing, PlainRunning, PlainCommand, Run, Wave, Check, Threads, Code, Explain, PlainRequest, OnText, OnWorkload, OnDump, request_of, OnTraces}
 use Rattle.thread_places.specs.Lines.{thread_lines}
 use Rattle.thread_places.specs.Placed.{IsPlacement}
 use Rattle.workload.specs.Text.{text_of}
@@ -17,6 +17,7 @@ use Rattle.text_verdict.specs.Counting.{counts_line}
 use Rattle.text_verdict.specs.Judging.{refusal_line, Accepts, Refuses, Judged}
 use Rattle.command_words.specs.declared.request.Budget.{Budget}
 use Rattle.forec_engine.specs.Budgets.{budget_for, with_budget, IsSmallBudget}
+use Rattle.forec_engine.specs.Farms.{FarmedReport, TellsFarm}
 use Rattle.forec_engine.specs.Folds.{kernel_for}
 use Rattle.forec_engine.specs.Placing.{misplaced, misplacing, unless_misplaced}
 use Rattle.forec_engine.specs.Placing.{workload_report}
@@ -30,7 +31,7 @@ use Rattle.trace_runs.specs.declared.format.Telling.TheVariants as telling
 use Rattle.trace_runs.specs.declared.status.Status.TheVariants as status
 
 abbrev pub usage_line : List ℕ
-usage_line = codes "usage: forec run|check|threads|code|explain|gen|wave|unwave PROGRAM [--cores N] [--place LIST] [--budget B] [--order N] [--fold]\n"
+usage_line = codes "usage: forec run|check|threads|code|explain|gen|wave|unwave|farm PROGRAM [MORE...] [--cores N] [--place LIST] [--budget B] [--order N] [--fold]\n"
 
 abbrev pub usage : Report
 usage = record { bytes = usage_line; status = status.Usage }
@@ -103,6 +104,8 @@ pub data IsReport (words : List (List ℕ)) (content : List ℕ → Option (List
       → TextReport text (CommandReport command fold trace) r → IsReport words content trace r
   Of_workload : (threads : ℕ) (running : PlainRunning) → request_of words ≡ Some (OnWorkload threads running) → WorkloadReport threads running r
       → IsReport words content trace r
+  Of_farm : (name : List ℕ) (traces : List (List ℕ)) (b : Budget) (text : List ℕ) → request_of words ≡ Some (OnTraces name traces b) → content name ≡ Some text
+      → TextReport text (FarmedReport content traces b) r → IsReport words content trace r
   Of_dump : (name : List ℕ) → request_of words ≡ Some (OnDump name) → DumpReport content name r → IsReport words content trace r
 
 -- ---- what is told
@@ -120,11 +123,12 @@ TellsTrace (Explain b order) trace = IsTold trace
 abbrev pub TellsNamed : (List ℕ → Option (List ℕ)) → List ℕ → PlainCommand → Option (List ℕ) → Type 0
 TellsNamed content name command trace = (text : List ℕ) × (content name ≡ Some text) × TellsTrace command trace
 
--- the text that the words name is told, and the trace where it is read
+-- the texts that the words name are told, and the trace where it is read
 pub record Tells (words : List (List ℕ)) (content : List ℕ → Option (List ℕ)) (trace : Option (List ℕ)) : Type 0 where
   pub text : (name : List ℕ) (command : PlainCommand) (fold : Bool) → request_of words ≡ Some (OnText name command fold)
       → TellsNamed content name command trace
   pub dump : (name : List ℕ) → request_of words ≡ Some (OnDump name) → (text : List ℕ) × (content name ≡ Some text)
+  pub farm : (name : List ℕ) (traces : List (List ℕ)) (b : Budget) → request_of words ≡ Some (OnTraces name traces b) → TellsFarm content name traces
 
 -- ---- ranges
 
@@ -149,4 +153,5 @@ IsInRange (Explain b order) = IsSmallBudget b
 abbrev pub HasRanges : PlainRequest → Type 0
 HasRanges (OnText name command fold) = IsInRange command
 HasRanges (OnWorkload threads running) = (threads ≤ 255) × IsRunnable running
+HasRanges (OnTraces name traces b) = IsSmallBudget b
 HasRanges (OnDump name) = Unit {0}

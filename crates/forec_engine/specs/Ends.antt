@@ -1,8 +1,8 @@
 -- How a command ends.
-use Rattle.std.specs.Prelude.{◌≡◌, ◌⊎◌, ℕ, Bool, List, Option, None, Some, IfSome}
+use Rattle.std.specs.Prelude.{Contains, [], ◌∷◌, ◌≡◌, ◌⊎◌, ℕ, Bool, List, Option, None, Some, IfSome}
 use Rattle.forec_base.specs.declared.limits.TheConstants.{MAX_ROWS}
 use Rattle.forec_kernel.specs.Shapes.{PlainKernel}
-use Rattle.command_words.specs.Requests.{PlainPlacing, PlainRunning, PlainCommand, Run, Wave, Check, Threads, Code, Explain, PlainRequest, OnText, OnWorkload, OnDump, request_of}
+use Rattle.command_words.specs.Requests.{PlainPlacing, PlainRunning, PlainCommand, Run, Wave, Check, Threads, Code, Explain, PlainRequest, OnText, OnWorkload, OnDump, request_of, OnTraces}
 use Rattle.workload.specs.Text.{text_of}
 use Rattle.text_verdict.specs.Judging.{Accepts, Judged}
 use Rattle.command_words.specs.declared.request.Budget.{Budget}
@@ -102,22 +102,25 @@ pub data IsMisuse (words : List (List ℕ)) (content : List ℕ → Option (List
   Asks_nothing : request_of words ≡ None → IsMisuse words content
   Misuses : (name : List ℕ) (command : PlainCommand) (fold : Bool) → request_of words ≡ Some (OnText name command fold)
       → IfSome (content name) (AcceptedSo (FoldedIsMisused command fold)) → IsMisuse words content
+  Misuses_farm : (name : List ℕ) (traces : List (List ℕ)) (b : Budget) → request_of words ≡ Some (OnTraces name traces b)
+      → IfSome (content name) (AcceptedSo (λ k. IsBoundless k b)) → IsMisuse words content
   Misuses_workload : (threads : ℕ) (running : PlainRunning) → request_of words ≡ Some (OnWorkload threads running)
       → AcceptedSo (λ k. IsRefusedRun k running) (text_of threads) → IsMisuse words content
 
 -- ---- texts
 
--- the name of the text that is asked for
-abbrev pub name_in : PlainRequest → Option (List ℕ)
-name_in (OnText name command fold) = Some name
-name_in (OnWorkload threads running) = None
-name_in (OnDump name) = Some name
+-- the names of the texts that are asked for
+abbrev pub asked_names : PlainRequest → List (List ℕ)
+asked_names (OnText name command fold) = name ∷ []
+asked_names (OnWorkload threads running) = []
+asked_names (OnDump name) = name ∷ []
+asked_names (OnTraces name traces b) = name ∷ traces
 
 -- the words name this text
 pub record NameThis (words : List (List ℕ)) (name : List ℕ) : Type 0 where
   pub request : PlainRequest
   pub asks : request_of words ≡ Some request
-  pub names : name_in request ≡ Some name
+  pub names : Contains (asked_names request) name
 
 -- the words name a text
 abbrev pub NameText : List (List ℕ) → Type 0

@@ -1,7 +1,8 @@
 -- What holds of all reports.
 use Rattle.std.specs.Prelude.{◌≡◌, ◌≢◌, ◌⊎◌, ℕ, Bool, true, false, List, Option, Some}
 use Rattle.forec_kernel.specs.Shapes.{PlainKernel}
-use Rattle.command_words.specs.Requests.{PlainRunning, PlainCommand, OnText, OnWorkload, Code, request_of}
+use Rattle.command_words.specs.Requests.{PlainRunning, PlainCommand, OnText, OnWorkload, OnTraces, Code, request_of}
+use Rattle.command_words.specs.declared.request.Budget.{Budget}
 use Rattle.command_words.specs.declared.request.Budget.TheVariants as budget
 use Rattle.workload.specs.Text.{text_of}
 use Rattle.text_verdict.specs.Judging.{Accepts, Judged}
@@ -48,6 +49,8 @@ pub record CoverTheirKernel (words : List (List ℕ)) (content : List ℕ → Op
       → Covers (kernel_for fold k) running.budget
   pub workload : (threads : ℕ) (running : PlainRunning) (counts : Counts) (k : PlainKernel) → request_of words ≡ Some (OnWorkload threads running)
       → Judged (text_of threads) (Accepts counts k) → Covers k running.budget
+  pub farm : (name : List ℕ) (traces : List (List ℕ)) (b : Budget) (text : List ℕ) (counts : Counts) (k : PlainKernel) → request_of words ≡ Some (OnTraces name traces b)
+      → content name ≡ Some text → Judged text (Accepts counts k) → Covers k b
 
 -- with such a budget no report of a run says that it is over
 abbrev pub CoveredNeverOver : Type 0
@@ -64,6 +67,7 @@ pub data AskForBound (words : List (List ℕ)) : Type 0 where
   Of_run : (name : List ℕ) (command : PlainCommand) (fold : Bool) (running : PlainRunning) → request_of words ≡ Some (OnText name command fold) → running_in command ≡ Some running
       → running.budget ≡ budget.Bound → AskForBound words
   Of_gen : (threads : ℕ) (running : PlainRunning) → request_of words ≡ Some (OnWorkload threads running) → running.budget ≡ budget.Bound → AskForBound words
+  Of_traces : (name : List ℕ) (traces : List (List ℕ)) (b : Budget) → request_of words ≡ Some (OnTraces name traces b) → b ≡ budget.Bound → AskForBound words
 
 -- with it no report says that a run is over
 abbrev pub BoundNeverOver : Type 0

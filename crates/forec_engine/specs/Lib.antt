@@ -4,5 +4,7 @@ pub mod Folds
 pub mod Commands
 pub mod Dumps
 pub mod Ends
+pub mod Farming
+pub mod Farms
 pub mod Laws
 pub mod Placing

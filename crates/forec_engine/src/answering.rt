@@ -64,7 +64,11 @@ fn misplace<K: Sink>(alloc: Global, why: PlaceFault, out: &mut K) -> Status
 }
 
 /// How many units a budget is for a kernel. None where it is the bound of a kernel that has none.
-fn budget_units(alloc: Global, kernel: &Kernel, budget: Budget) -> Result<Option<u64>, OutOfMemory>
+pub fn budget_units(
+    alloc: Global,
+    kernel: &Kernel,
+    budget: Budget,
+) -> Result<Option<u64>, OutOfMemory>
     requires { IsSmallBudget budget }
     ensures units { IfOk result (λ units. units ≡ budget_for (plain_kernel kernel.now) budget) }
     ensures small { IfOk result (λ units. IfSome units (λ most. most ≤ MAX_BUDGET)) }
@@ -76,7 +80,7 @@ fn budget_units(alloc: Global, kernel: &Kernel, budget: Budget) -> Result<Option
 }
 
 /// Says that a kernel has no bound.
-fn say_boundless<K: Sink>(out: &mut K) -> Status
+pub fn say_boundless<K: Sink>(out: &mut K) -> Status
     ensures { Says K.held K.faults K.down boundless ⊤ out.old out.new result }
 {
     say(out, b"bound none\n", Status::Usage)

@@ -14,6 +14,7 @@ ghost use Rattle.trace_runs.specs.Report.{Report};
 
 use crate::answering::{answer_workload, refuse};
 use crate::dumps::tell_named;
+use crate::farming::{Farmed, farm_named};
 use crate::folding::answer_folded;
 use command_words::{Command, Request, Running, WordsFault, read_words};
 use forec_base::{Gate, MAX_DEPTH, MAX_TEXT_BYTES, Sink, Source, TextFault, Texts};
@@ -25,7 +26,7 @@ use trace_runs::{Setting, Status, say};
 use workload::workload_text;
 
 const USAGE: &[u8] =
-    b"usage: forec run|check|threads|code|explain|gen|wave|unwave PROGRAM [--cores N] [--place LIST] [--budget B] [--order N] [--fold]\n";
+    b"usage: forec run|check|threads|code|explain|gen|wave|unwave|farm PROGRAM [MORE...] [--cores N] [--place LIST] [--budget B] [--order N] [--fold]\n";
 
 /// A command, and whether the constants of the kernel are folded before it is done.
 #[derive(Clone, Copy)]
@@ -122,7 +123,7 @@ pub fn forec_within<T: Texts, S: Source, K: Sink, G: Gate + Sync, R: Threads + W
     trace: &mut S,
     out: &mut K,
 ) -> Status
-    // The text that the words name may be asked for.
+    // The texts that the words name may be asked for.
     requires may { (name : List ℕ) → NameThis (map string_bytes words.now) name → T.may texts.old name }
     ensures { AnswersWords T.content T.faults T.down S.left S.faults S.down K.held K.faults K.down
         (map string_bytes words.now) texts.old texts.new trace.old trace.new out.old out.new result }
@@ -141,6 +142,19 @@ pub fn forec_within<T: Texts, S: Source, K: Sink, G: Gate + Sync, R: Threads + W
         Ok(Request::Workload { threads, running }) => {
             run_workload_text(setting, deepest, threads, running, out)
         }
+        Ok(
+            Request::Traces {
+                program,
+                traces,
+                budget,
+            },
+        ) => {
+            let farmed = Farmed {
+                traces: &traces,
+                budget,
+            };
+            farm_named(setting, deepest, program, farmed, texts, out)
+        }
         Ok(Request::Dump { dump }) => tell_named(setting.alloc, dump, texts, out),
         Err(WordsFault::Usage) => say(out, USAGE, Status::Usage),
         Err(WordsFault::OutOfMemory) => Status::NoMemory,
@@ -156,7 +170,9 @@ pub fn forec_within<T: Texts, S: Source, K: Sink, G: Gate + Sync, R: Threads + W
 /// with their cores and weights and the bound of a tick, and `code P` its code. `gen N` runs a workload of `N` threads
 /// and `main` for 1,000 ticks, and prints the sum of the outputs. `explain P` prints what `run P` does, made by rewriting
 /// the kernel's texts in the order of steps `--order N`; it alone may run out of memory between ticks. `run`, `wave` and
-/// `explain` read the trace, and `gen` reads no text.
+/// `explain` read the trace, and `gen` reads no text. `farm P T1 ..` runs the program over traces
+/// that `texts` has under these names, of which at most 1,000 rows each, beside each other, and prints of each what
+/// `run P` would, with its name and the number of its status; the status is the one with the greatest number.
 ///
 /// `run`, `wave`, `threads` and `gen` place the threads on `--cores N` cores, or on one: by the list `--place L`, or
 /// balanced. What `run`, `wave` and `gen` print doesn't depend on it. With `--fold`, of `run`, `threads`, `code` and
@@ -171,7 +187,7 @@ pub fn forec<T: Texts, S: Source, K: Sink, G: Gate + Sync, R: Threads + Wait + S
     out: &mut K,
     gate: &G,
 ) -> Status
-    // The text that the words name may be asked for.
+    // The texts that the words name may be asked for.
     requires may { (name : List ℕ) → NameThis (map string_bytes words.now) name → T.may texts.old name }
 
     // Where the text and the trace are known, what is printed is a report of the words, and the status is the
@@ -194,7 +210,7 @@ pub fn forec<T: Texts, S: Source, K: Sink, G: Gate + Sync, R: Threads + Wait + S
         × IsReport (map string_bytes words.now) (T.content texts.old) (S.left trace.old) r
         × AppendsFront (K.held out.old) (K.held out.new) r.bytes) }
 
-    // No text is read but the one that the words name.
+    // No text is read but those that the words name.
     ensures texts { (texts.new ≡ texts.old) ⊎ NameText (map string_bytes words.now) }
 
     // The trace is read by `run`, `wave` and `explain` alone, for a text that is accepted, where neither the budget nor the

@@ -4,6 +4,10 @@
 mod answering;
 mod command;
 mod dumps;
+mod farm_lines;
+mod farm_reports;
+mod farm_traces;
+mod farming;
 mod folding;
 mod laws;
 mod lines;

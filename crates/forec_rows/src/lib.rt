@@ -10,6 +10,8 @@ mod branches;
 #[cfg(test)]
 mod cores;
 #[cfg(test)]
+mod farms;
+#[cfg(test)]
 mod gate;
 #[cfg(test)]
 mod memory;

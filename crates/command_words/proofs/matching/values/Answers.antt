@@ -1,28 +1,30 @@
-use Rattle.std.proofs.Common.{◌≡◌, ◌∙◌, ap, sym, refl, map, string_bytes, codes, List, ℕ, Option, option_map}
-use Rattle.clap.proofs.WalkLemmas.{first_value-rows}
-use Rattle.clap.specs.Words.{App, Row, Text, found_of, app_of, is_simple, is_simple_and_free, fault_of, first_of, first_value, matches_of, rows_of}
-use Rattle.command_words.specs.CommandLine.{value_of, is_set, command_line}
+use Rattle.std.proofs.Common.{◌≡◌, ◌∙◌, ap, sym, refl, map, string_bytes, codes, List, ℕ}
+use Rattle.clap.proofs.WalkLemmas.{first_value-rows, raw_values-rows}
+use Rattle.clap.specs.Words.{App, Text, found_of, app_of, is_simple, is_simple_and_free, all_of, fault_of, first_of, first_value, matches_of}
+use Rattle.command_words.specs.CommandLine.{value_of, is_set, kept_words}
 use Rattle.command_words.specs.declared.fault.WordsFault.TheVariants.{Usage}
 use Rattle.command_words.proofs.Free.{free, simple, no_kind}
 use Rattle.command_words.proofs.matching.values.Goals as goal
 
-pub returns-in-Ok-clause-accepted : goal.returns-in-Ok-clause-accepted
-returns-in-Ok-clause-accepted c =
+pub returns-in_ok-more-in-Ok-clause-accepted : goal.returns-in_ok-more-in-Ok-clause-accepted
+returns-in_ok-more-in-Ok-clause-accepted c =
     let e = c.in_ok-command.ensures in
     let words : List (List ℕ) = map string_bytes c.args.words.now in
     ap (λ (a : App). fault_of a words) (sym e) ∙ c.in-Ok.ensures.kinds (ap is_simple_and_free e ∙ free)
 
-pub returns-in-Ok-clause-values : goal.returns-in-Ok-clause-values
-returns-in-Ok-clause-values c =
+pub returns-in_ok-more-in-Ok-clause-values : goal.returns-in_ok-more-in-Ok-clause-values
+returns-in_ok-more-in-Ok-clause-values c =
     let e = c.in_ok-command.ensures in
     let words : List (List ℕ) = map string_bytes c.args.words.now in
     let m = (c.in-Ok.ensures.matches (ap is_simple e ∙ simple)).0 in
     let found = m ∙ ap (λ (a : App). matches_of a words) e in
     let value : (id : Text) → first_value (found_of c.in-Ok.matches) id ≡ value_of words id = λ id.
     first_value-rows (found_of c.in-Ok.matches) id ∙ ap (first_of id) found in
+    let more = raw_values-rows (found_of c.in-Ok.matches) (codes "more") ∙ ap (all_of (codes "more")) found in
     rw (
       c.get_str.ensures ∙ value (codes "command"),
       c.get_str-in-Ok.ensures ∙ value (codes "program"),
+      c.in_ok-more-in-Ok.ensures ∙ ap kept_words (c.get_strs.ensures ∙ more),
       c.get_str-in-Ok-2.ensures ∙ value (codes "cores"),
       c.get_str-in-Ok-3.ensures ∙ value (codes "place"),
       c.get_str-in-Ok-4.ensures ∙ value (codes "budget"),

@@ -1,8 +1,6 @@
-use Rattle.std.proofs.Common.{rules, ◌≡◌, ◌≢◌, ◌∙◌, ap, sym, refl, map, string_bytes, List, ℕ, Option, Some, None, option_map, [], ◌∷◌, inl, inr}
-use Rattle.clap.specs.Words.{Kinds, Text}
-use Rattle.command_words.specs.CommandLine.{kinds_of, plain_values, values_of}
-use Rattle.command_words.specs.Requests.{PlainRequest, request_of, request_by, unless_refused, plain_request}
-use Rattle.command_words.specs.declared.fault.WordsFault.TheVariants as fault
+use Rattle.std.proofs.Common.{rules, ◌∙◌, ap, sym, map, string_bytes, List, option_map}
+use Rattle.clap.specs.Words.{Text}
+use Rattle.command_words.specs.Requests.{request_by, plain_request}
 use Rattle.command_words.proofs.Asked.{asked, refused}
 use Rattle.command_words.proofs.reading.read_words.Goals as goal
 

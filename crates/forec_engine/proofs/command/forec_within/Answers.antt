@@ -1,8 +1,9 @@
-use Rattle.std.proofs.Common.{inl, inr, map, string_bytes, refl}
+use Rattle.std.proofs.Common.{inl, inr, ℕ, get_or, List, Bor, All, map, string_bytes, refl, sym, subst}
 use Rattle.forec_base.specs.Outside.{Fell}
-use Rattle.command_words.specs.Requests.{OnText, OnWorkload, OnDump, plain_command, plain_running}
+use Rattle.command_words.specs.Requests.{OnText, OnWorkload, OnDump, plain_command, plain_running, OnTraces}
 use Rattle.forec_engine.proofs.Bounds.{ranges}
-use Rattle.forec_engine.proofs.TopCall.{answers_words, words_text, words_trace, words_workload, words_dump, words_nothing}
+use Rattle.forec_engine.proofs.TopCall.{answers_words, words_text, words_trace, words_workload, words_dump, words_nothing, words_farm}
+use Rattle.forec_engine.proofs.FarmPieces.{each_name, named_first, named_later}
 use Rattle.forec_engine.proofs.command.forec_within.Goals as goal
 
 -- ---- the text that the words name
@@ -11,7 +12,7 @@ pub returns-in-Ok-Text : goal.returns-in-Ok-Text
 returns-in-Ok-Text g c =
     answers_words g.T.Texts.content g.T.Texts.faults g.T.Texts.down g.S.Source.left g.S.Source.faults g.S.Source.down g.K.Sink.held g.K.Sink.faults g.K.Sink.down (map string_bytes c.args.words.now) c.args.texts.now c.run_named.new.texts c.args.trace.now c.run_named.new.trace c.args.out.now c.run_named.new.out c.run_named.result
     (words_text g.S.Source.left g.S.Source.faults g.S.Source.down g.K.Sink.held g.K.Sink.faults g.K.Sink.down (map string_bytes c.args.words.now) (g.T.Texts.content c.args.texts.now) (Fell (g.T.Texts.faults c.args.texts.now) (g.T.Texts.faults c.run_named.new.texts) (g.T.Texts.down c.run_named.new.texts)) c.args.trace.now c.run_named.new.trace c.args.out.now c.run_named.new.out c.in-Ok-Text.program.now (plain_command c.in-Ok-Text.command) c.in-Ok-Text.fold c.run_named.result (rw c.in-Ok-Text.field-0-is at c.in-Ok-Text.ensures.request) c.run_named.ensures)
-    (inr (c.in-Ok-Text.program.now, record { request = OnText c.in-Ok-Text.program.now (plain_command c.in-Ok-Text.command) c.in-Ok-Text.fold; asks = (rw c.in-Ok-Text.field-0-is at c.in-Ok-Text.ensures.request); names = refl }))
+    (inr (c.in-Ok-Text.program.now, record { request = OnText c.in-Ok-Text.program.now (plain_command c.in-Ok-Text.command) c.in-Ok-Text.fold; asks = (rw c.in-Ok-Text.field-0-is at c.in-Ok-Text.ensures.request); names = named_first _ _ }))
     (words_trace g.S.Source.left g.S.Source.faults g.S.Source.down g.K.Sink.held g.K.Sink.faults g.K.Sink.down (map string_bytes c.args.words.now) (g.T.Texts.content c.args.texts.now) (Fell (g.T.Texts.faults c.args.texts.now) (g.T.Texts.faults c.run_named.new.texts) (g.T.Texts.down c.run_named.new.texts)) c.args.trace.now c.run_named.new.trace c.args.out.now c.run_named.new.out c.in-Ok-Text.program.now (plain_command c.in-Ok-Text.command) c.in-Ok-Text.fold c.run_named.result (rw c.in-Ok-Text.field-0-is at c.in-Ok-Text.ensures.request) c.run_named.ensures)
 
 pub run_named-requires-clause-ranges : goal.run_named-requires-clause-ranges
@@ -23,21 +24,21 @@ run_named-requires-clause-may g c = λ κs within.
     c.requires.may c.in-Ok-Text.program.now (record {
       request = OnText c.in-Ok-Text.program.now (plain_command c.in-Ok-Text.command) c.in-Ok-Text.fold;
       asks = (rw c.in-Ok-Text.field-0-is at c.in-Ok-Text.ensures.request);
-      names = refl;
+      names = named_first _ _;
     })
 
 -- ---- a dump
 
 pub tell_named-requires : goal.tell_named-requires
 tell_named-requires g c = record {
-  may = c.requires.may c.in-Ok-Dump.dump.now (record { request = OnDump c.in-Ok-Dump.dump.now; asks = (rw c.in-Ok-Dump.field-0-is at c.in-Ok-Dump.ensures.request); names = refl });
+  may = c.requires.may c.in-Ok-Dump.dump.now (record { request = OnDump c.in-Ok-Dump.dump.now; asks = (rw c.in-Ok-Dump.field-0-is at c.in-Ok-Dump.ensures.request); names = named_first _ _ });
 }
 
 pub returns-in-Ok-Dump : goal.returns-in-Ok-Dump
 returns-in-Ok-Dump g c =
     answers_words g.T.Texts.content g.T.Texts.faults g.T.Texts.down g.S.Source.left g.S.Source.faults g.S.Source.down g.K.Sink.held g.K.Sink.faults g.K.Sink.down (map string_bytes c.args.words.now) c.args.texts.now c.tell_named.new.texts c.args.trace.now c.args.trace.now c.args.out.now c.tell_named.new.out c.tell_named.result
     (words_dump g.S.Source.left g.S.Source.faults g.S.Source.down g.K.Sink.held g.K.Sink.faults g.K.Sink.down (map string_bytes c.args.words.now) (g.T.Texts.content c.args.texts.now) (Fell (g.T.Texts.faults c.args.texts.now) (g.T.Texts.faults c.tell_named.new.texts) (g.T.Texts.down c.tell_named.new.texts)) c.args.trace.now c.args.trace.now c.args.out.now c.tell_named.new.out c.in-Ok-Dump.dump.now c.tell_named.result (rw c.in-Ok-Dump.field-0-is at c.in-Ok-Dump.ensures.request) c.tell_named.ensures)
-    (inr (c.in-Ok-Dump.dump.now, record { request = OnDump c.in-Ok-Dump.dump.now; asks = (rw c.in-Ok-Dump.field-0-is at c.in-Ok-Dump.ensures.request); names = refl })) (inl refl)
+    (inr (c.in-Ok-Dump.dump.now, record { request = OnDump c.in-Ok-Dump.dump.now; asks = (rw c.in-Ok-Dump.field-0-is at c.in-Ok-Dump.ensures.request); names = named_first _ _ })) (inl refl)
 
 -- ---- a workload
 
@@ -54,6 +55,36 @@ returns-in-Ok-Workload g c =
     answers_words g.T.Texts.content g.T.Texts.faults g.T.Texts.down g.S.Source.left g.S.Source.faults g.S.Source.down g.K.Sink.held g.K.Sink.faults g.K.Sink.down (map string_bytes c.args.words.now) c.args.texts.now c.args.texts.now c.args.trace.now c.args.trace.now c.args.out.now c.run_workload_text.new.out c.run_workload_text.result
     (words_workload g.S.Source.left g.S.Source.faults g.S.Source.down g.K.Sink.held g.K.Sink.faults g.K.Sink.down (map string_bytes c.args.words.now) (g.T.Texts.content c.args.texts.now) (Fell (g.T.Texts.faults c.args.texts.now) (g.T.Texts.faults c.args.texts.now) (g.T.Texts.down c.args.texts.now)) c.args.trace.now c.args.trace.now c.args.out.now c.run_workload_text.new.out c.in-Ok-Workload.threads (plain_running c.in-Ok-Workload.running) c.run_workload_text.result (rw c.in-Ok-Workload.field-0-is at c.in-Ok-Workload.ensures.request) c.run_workload_text.ensures)
     (inl refl) (inl refl)
+
+-- ---- a program over traces
+
+pub farm_named-requires-clause-program : goal.farm_named-requires-clause-program
+farm_named-requires-clause-program g c = λ κs within.
+    let name = c.in-Ok-Traces.program.now in
+    let traces = map (λ s. s.now) c.in-Ok-Traces.traces.items in
+    c.requires.may name (record { request = OnTraces name traces c.in-Ok-Traces.budget; asks = (rw c.in-Ok-Traces.field-0-is at c.in-Ok-Traces.ensures.request); names = named_first _ _ })
+
+pub farm_named-requires-clause-may : goal.farm_named-requires-clause-may
+farm_named-requires-clause-may g c = λ κs within.
+    let name = c.in-Ok-Traces.program.now in
+    let traces = map (λ s. s.now) c.in-Ok-Traces.traces.items in
+    let asks = (rw c.in-Ok-Traces.field-0-is at c.in-Ok-Traces.ensures.request) in
+    subst (λ (names : List (Bor (List ℕ))). All (λ n. g.T.Texts.may c.args.texts.now n.now) names) (sym c.deref.ensures.value)
+    (each_name (g.T.Texts.may c.args.texts.now) c.in-Ok-Traces.traces.items
+    (λ k d lt. c.requires.may (get_or traces k d) (record { request = OnTraces name traces c.in-Ok-Traces.budget; asks = asks; names = named_later name traces k d lt })))
+
+pub farm_named-requires-clause-small : goal.farm_named-requires-clause-small
+farm_named-requires-clause-small g c = λ κs within.
+    ranges (map string_bytes c.args.words.now) (OnTraces c.in-Ok-Traces.program.now (map (λ s. s.now) c.in-Ok-Traces.traces.items) c.in-Ok-Traces.budget) (rw c.in-Ok-Traces.field-0-is at c.in-Ok-Traces.ensures.request)
+
+pub returns-in-Ok-Traces : goal.returns-in-Ok-Traces
+returns-in-Ok-Traces g c =
+    let name = c.in-Ok-Traces.program.now in
+    let traces = map (λ s. s.now) c.in-Ok-Traces.traces.items in
+    let request = rw c.in-Ok-Traces.field-0-is at c.in-Ok-Traces.ensures.request in
+    answers_words g.T.Texts.content g.T.Texts.faults g.T.Texts.down g.S.Source.left g.S.Source.faults g.S.Source.down g.K.Sink.held g.K.Sink.faults g.K.Sink.down (map string_bytes c.args.words.now) c.args.texts.now c.farm_named.new.texts c.args.trace.now c.args.trace.now c.args.out.now c.farm_named.new.out c.farm_named.result
+    (words_farm g.S.Source.left g.S.Source.faults g.S.Source.down g.K.Sink.held g.K.Sink.faults g.K.Sink.down (map string_bytes c.args.words.now) (g.T.Texts.content c.args.texts.now) (Fell (g.T.Texts.faults c.args.texts.now) (g.T.Texts.faults c.farm_named.new.texts) (g.T.Texts.down c.farm_named.new.texts)) c.args.trace.now c.args.trace.now c.args.out.now c.farm_named.new.out name traces c.in-Ok-Traces.budget c.farm_named.result request (rw c.deref.ensures.value at c.farm_named.ensures))
+    (inr (name, record { request = OnTraces name traces c.in-Ok-Traces.budget; asks = request; names = named_first _ _ })) (inl refl)
 
 -- ---- words that ask for nothing
 

@@ -1,0 +1,9 @@
+//! Worked rows of runs over many traces.
+#![tactic(auto)]
+
+#[cfg(test)]
+mod compiled;
+#[cfg(test)]
+mod meeting;
+#[cfg(test)]
+mod reports;

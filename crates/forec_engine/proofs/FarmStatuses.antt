@@ -1,0 +1,105 @@
+-- The status of a farm is the one with the greatest number.
+use Rattle.std.proofs.Common.{◌≡◌, ◌≢◌, ◌<◌, ◌≤◌, ℕ, zero, suc, nat_le, Bool, true, false, List, [], ◌∷◌, Option, Some, map, length, get_or, refl, sym, ap, subst, ◌∙◌, arith, if◌then◌else◌, All, le_antisymm, nat_cmp}
+use Rattle.std.proofs.lemmas.Bool.{leb-true, leb-false}
+use Rattle.std.proofs.lemmas.List.Elements.{All-contains}
+use Rattle.rayon.specs.Lists.{IsGreatest}
+use Rattle.rayon.proofs.ToStd.{IsGreatest-All}
+use Rattle.trace_runs.specs.Report.{Report}
+use Rattle.trace_runs.specs.StatusNumbers.{number_of}
+use Rattle.trace_runs.specs.declared.status.Status.{Status}
+use Rattle.trace_runs.specs.declared.status.Status.TheVariants as status
+use Rattle.forec_engine.specs.Farms.{worse, worst}
+use Rattle.forec_engine.specs.Farming.{IsRunStatus, AreRun}
+
+-- ---- of two
+
+module _ (a b : Status) where
+  left : (t : Bool) → nat_le (number_of b) (number_of a) ≡ t → number_of a ≤ number_of (if t then a else b)
+  left true e = omega arith
+  left false e = let h : number_of a < number_of b = leb-false (number_of b) (number_of a) e in omega (arith, h)
+
+  right : (t : Bool) → nat_le (number_of b) (number_of a) ≡ t → number_of b ≤ number_of (if t then a else b)
+  right true e = leb-true (number_of b) (number_of a) e
+  right false e = omega arith
+
+  within : (n : ℕ) (t : Bool) → number_of a ≤ n → number_of b ≤ n → number_of (if t then a else b) ≤ n
+  within n true f g = f
+  within n false f g = g
+
+  runs : (t : Bool) → IsRunStatus a → IsRunStatus b → IsRunStatus (if t then a else b)
+  runs true f g = f
+  runs false f g = g
+
+-- ---- of all
+
+top : (ss : List Status) (k d : ℕ) → k < length (map number_of ss) → get_or (map number_of ss) k d ≤ number_of (worst ss)
+top [] k d lt = absurd (omega (arith, lt))
+top (s ∷ ss) zero d lt = left s (worst ss) (nat_le (number_of (worst ss)) (number_of s)) refl
+top (s ∷ ss) (suc k) d lt =
+    let below : get_or (map number_of ss) k d ≤ number_of (worst ss) = top ss k d (omega (arith, lt)) in
+    let here : number_of (worst ss) ≤ number_of (worse s (worst ss)) = right s (worst ss) (nat_le (number_of (worst ss)) (number_of s)) refl in
+    omega (arith, below, here)
+
+bound : (ss : List Status) (n : ℕ) → ((k d : ℕ) → k < length (map number_of ss) → get_or (map number_of ss) k d ≤ n) → number_of (worst ss) ≤ n
+bound [] n h = omega arith
+bound (s ∷ ss) n h =
+    within s (worst ss) n (nat_le (number_of (worst ss)) (number_of s)) (h zero 0 (omega arith)) (bound ss n (λ k d lt. h (suc k) d (omega (arith, lt))))
+
+-- the greatest number is that of the worst status
+pub greatest_is : (ss : List Status) (n : ℕ) → IsGreatest nat_cmp (map number_of ss) (Some n) → number_of (worst ss) ≡ n
+greatest_is ss n h =
+    let up : n ≤ number_of (worst ss) = All-contains (λ x. x ≤ number_of (worst ss)) (map number_of ss) n (λ k d lt. top ss k d lt) h.0 in
+    let all : All (λ x. x ≤ n) (map number_of ss) = IsGreatest-All (map number_of ss) (Some n) h in
+    let down : number_of (worst ss) ≤ n = bound ss n (λ k d lt. all k d lt) in
+    omega (arith, up, down)
+
+pub no_statuses : (ss : List Status) → map number_of ss ≡ [] → status.Done ≡ worst ss
+no_statuses [] e = refl
+no_statuses (s ∷ ss) e = absurd (let bad : number_of s ∷ map number_of ss ≡ [] = e in cc)
+
+-- ---- statuses of runs
+
+pub worst_runs : (rs : List Report) → AreRun rs → IsRunStatus (worst (map (λ r. r.status) rs))
+worst_runs [] h = tt
+worst_runs (r ∷ rs) h = runs r.status (worst (map (λ r. r.status) rs)) (nat_le (number_of (worst (map (λ r. r.status) rs))) (number_of r.status)) h.0 (worst_runs rs h.1)
+
+-- ---- numbers
+
+-- the status with a number
+abbrev at : ℕ → Status
+at n =
+    if nat_le n 1 then status.Done
+    else (if nat_le n 2 then status.Usage
+    else (if nat_le n 3 then status.Refused
+    else (if nat_le n 4 then status.Trace
+    else (if nat_le n 5 then status.Trapped
+    else (if nat_le n 6 then status.Over
+    else (if nat_le n 7 then status.ReadFault
+    else (if nat_le n 8 then status.WriteFault else status.NoMemory)))))))
+
+at_number : (s : Status) → at (number_of s) ≡ s
+at_number status.Done = refl
+at_number status.Usage = refl
+at_number status.Refused = refl
+at_number status.Trace = refl
+at_number status.Trapped = refl
+at_number status.Over = refl
+at_number status.ReadFault = refl
+at_number status.WriteFault = refl
+at_number status.NoMemory = refl
+
+-- two statuses with one number are the same
+pub same_number : (s t : Status) → number_of s ≡ number_of t → s ≡ t
+same_number s t e = sym (at_number s) ∙ ap at e ∙ at_number t
+
+-- and any other number is that of no memory, if it is one
+pub last_number : (n : ℕ) → n ≢ 0 → n ≢ 2 → n ≢ 3 → n ≢ 4 → n ≢ 5 → n ≢ 6 → n ≢ 7 → n ≢ 8 → (s : Status) → number_of s ≡ n → status.NoMemory ≡ s
+last_number n a b c d e f g h status.Done is = absurd (a (sym is))
+last_number n a b c d e f g h status.Usage is = absurd (b (sym is))
+last_number n a b c d e f g h status.Refused is = absurd (c (sym is))
+last_number n a b c d e f g h status.Trace is = absurd (d (sym is))
+last_number n a b c d e f g h status.Trapped is = absurd (e (sym is))
+last_number n a b c d e f g h status.Over is = absurd (f (sym is))
+last_number n a b c d e f g h status.ReadFault is = absurd (g (sym is))
+last_number n a b c d e f g h status.WriteFault is = absurd (h (sym is))
+last_number n a b c d e f g h status.NoMemory is = refl
