@@ -120,7 +120,6 @@ named_first name names = Contains-get_or (name ∷ names) zero name (omega arith
 pub named_later : (name : List ℕ) (names : List (List ℕ)) (k : ℕ) (d : List ℕ) → k < length names → Contains (name ∷ names) (get_or names k d)
 named_later name names k d lt = Contains-get_or (name ∷ names) (suc k) d (omega (arith, lt))
 
-
 -- a list with one item more
 pub pushed : {A : Type 0} (xs ys : List A) (x : A) (n : ℕ) → ys ≡ xs ++ x ∷ [] → length xs ≡ n → length ys ≡ n + 1
 pushed xs ys x n e h = ap length e ∙ length-append xs (x ∷ []) ∙ ap (λ m. m + 1) h

@@ -31,7 +31,6 @@ use Rattle.trace_runs.proofs.Told.{some_map}
 use Rattle.forec_engine.specs.Budgets.{budget_for, boundless, with_budget, IsBoundless}
 use Rattle.forec_engine.specs.Commands.{Of_refusal, Of_accepted, TextReport, refused}
 use Rattle.forec_engine.specs.Ends.{AcceptedSo}
-
 use Rattle.forec_engine.specs.Farms.{groups, worst, farm_report, TellsTexts, TellsFarm, FarmedReport}
 use Rattle.forec_engine.specs.Farming.{told_all, AreRead, IsRunStatus, AreRun, reports_of, whole_report, IsFarmReport, IsKernelFarm, IsNamedFarm}
 use Rattle.forec_engine.specs.declared.farm_traces.TheConstants.{FARM_ROWS}

@@ -271,7 +271,6 @@ some_of_words verdict some words content trace (Some (OnTraces name traces b)) e
     some_of_text verdict text.0 (FarmedReport content traces b)
     (λ c k none. none (with_budget (budget_for k b) (λ units. farm_report k units traces text.2.0)) (text.2.0, text.2.1, refl))
     (λ r t. never r (Of_farm name traces b text.0 e text.1 t))
-
 some_of_words verdict some words content trace (Some (OnDump name)) e not told never = let text = told.dump name e in never (dump_printed text.0) (Of_dump name e (text.0, text.1, refl))
 
 pub some_report : SomeVerdict → SomePlacement → SomeReport

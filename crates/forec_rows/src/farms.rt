@@ -113,25 +113,37 @@ fn each_read_fails(rt: HostRuntime) -> Result<(), Fail> {
     Ok(())
 }
 
-/// What is held after each of the first writes.
-const FRONTS: [&[u8]; 5] = [
-    b"",
+/// The writes of the report, in order.
+const WRITES: [&[u8]; 14] = [
     b"trace ",
-    b"trace T1",
-    b"trace T1\n",
-    b"trace T1\ntick 1 o=1\ntick 2 o=2\nrows 2\n",
+    b"T1",
+    b"\n",
+    b"tick 1 o=1\ntick 2 o=2\nrows 2\n",
+    b"status ",
+    b"0",
+    b"\n",
+    b"trace ",
+    b"T2",
+    b"\n",
+    b"row 0 bad\n",
+    b"status ",
+    b"4",
+    b"\n",
 ];
 
-/// After a write that fails a front of the report is held.
+/// After a write that fails the writes before it are held.
 #[test]
 fn each_write_fails(rt: HostRuntime) -> Result<(), Fail> {
     let alloc = rt.alloc();
     let mut write = 0u64;
-    for front in FRONTS {
+    let mut front: Vec<u8> = Vec::new(alloc);
+    for piece in WRITES {
         write = write.saturating_add(1);
         let mut texts = store(alloc, COUNTS, [b"\n\n\n", b""], 0)?;
-        let want = (front, Status::WriteFault);
+        let want = (front.as_slice(), Status::WriteFault);
         farms(&rt, alloc, &mut texts, write, &OpenGate, want)?;
+        front.extend_from_slice(piece)?;
     }
+    assert_eq!(&rt; front.as_slice(), TOLD);
     Ok(())
 }
