@@ -1,8 +1,11 @@
-use Rattle.std.proofs.Common.{◌≡◌, ◌<◌, [], ◌∷◌, ℕ, zero, suc, refl, arith}
+use Rattle.std.proofs.Common.{◌≡◌, ◌<◌, [], ◌∷◌, ℕ, zero, suc, Result, Ok, Err, IfOk, refl, arith}
 use Rattle.std.specs.List.{All}
 use Rattle.core_seats.specs.Loads.{AreAll}
-use Rattle.tick_jobs.proofs.Lists.{ok_then}
 use Rattle.trace_farm.proofs.farming.fresh_host.Goals as goal
+
+ok_then : {A E : Type 0} {P Q : A → Type 0} (r : Result A E) → IfOk r P → ((x : A) → P x → Q x) → IfOk r Q
+ok_then (Ok x) had then = then x had
+ok_then (Err e) had then = had
 
 all_below : (cores : ℕ) → cores ≡ 1 → All (λ core. core < cores) (0 ∷ [])
 all_below cores e = grind (arith, e)
