@@ -126,6 +126,10 @@ workload_never threads running k enough =
 
 -- ---- many traces
 
+worse_never : (first : Bool) (s t : Status) → s ≢ status.Over → t ≢ status.Over → (if first then s else t) ≢ status.Over
+worse_never true s t one other = one
+worse_never false s t one other = other
+
 module _ (k : PlainKernel) (units : ℕ) (never : NoRunOver k units) where
   farmed_never : (bytes : List ℕ) → (farmed k units bytes).status ≢ status.Over
   farmed_never bytes = pick (nat_lt MAX_TEXT_BYTES (length bytes))
@@ -136,11 +140,9 @@ module _ (k : PlainKernel) (units : ℕ) (never : NoRunOver k units) where
 
   worst_never : (texts : List (List ℕ)) → worst (map (λ (r : Report). r.status) (map (farmed k units) texts)) ≢ status.Over
   worst_never [] = λ e. cc
-  worst_never (t ∷ ts) = pick (nat_le (number_of (worst (map (λ (r : Report). r.status) (map (farmed k units) ts)))) (number_of (farmed k units t).status))
-    where
-      pick : (first : Bool) → (if first then (farmed k units t).status else worst (map (λ (r : Report). r.status) (map (farmed k units) ts))) ≢ status.Over
-      pick true = farmed_never t
-      pick false = worst_never ts
+  worst_never (t ∷ ts) =
+      worse_never (nat_le (number_of (worst (map (λ (r : Report). r.status) (map (farmed k units) ts)))) (number_of (farmed k units t).status))
+      (farmed k units t).status (worst (map (λ (r : Report). r.status) (map (farmed k units) ts))) (farmed_never t) (worst_never ts)
 
 farm_never : (content : List ℕ → Option (List ℕ)) (traces : List (List ℕ)) (b : Budget) (c : Counts) (k : PlainKernel) (r : Report) → Suffices k b → FarmedReport content traces b c k r → r.status ≢ status.Over
 farm_never content traces b c k r enough x =

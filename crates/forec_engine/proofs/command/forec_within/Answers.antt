@@ -1,4 +1,4 @@
-use Rattle.std.proofs.Common.{inl, inr, ℕ, get_or, List, Bor, All, map, string_bytes, refl, sym, subst}
+use Rattle.std.proofs.Common.{inl, inr, ℕ, get_or, List, [], Bor, All, map, string_bytes, refl, sym, subst}
 use Rattle.forec_base.specs.Outside.{Fell}
 use Rattle.command_words.specs.Requests.{OnText, OnWorkload, OnDump, plain_command, plain_running, OnTraces}
 use Rattle.forec_engine.proofs.Bounds.{ranges}
@@ -12,7 +12,7 @@ pub returns-in-Ok-Text : goal.returns-in-Ok-Text
 returns-in-Ok-Text g c =
     answers_words g.T.Texts.content g.T.Texts.faults g.T.Texts.down g.S.Source.left g.S.Source.faults g.S.Source.down g.K.Sink.held g.K.Sink.faults g.K.Sink.down (map string_bytes c.args.words.now) c.args.texts.now c.run_named.new.texts c.args.trace.now c.run_named.new.trace c.args.out.now c.run_named.new.out c.run_named.result
     (words_text g.S.Source.left g.S.Source.faults g.S.Source.down g.K.Sink.held g.K.Sink.faults g.K.Sink.down (map string_bytes c.args.words.now) (g.T.Texts.content c.args.texts.now) (Fell (g.T.Texts.faults c.args.texts.now) (g.T.Texts.faults c.run_named.new.texts) (g.T.Texts.down c.run_named.new.texts)) c.args.trace.now c.run_named.new.trace c.args.out.now c.run_named.new.out c.in-Ok-Text.program.now (plain_command c.in-Ok-Text.command) c.in-Ok-Text.fold c.run_named.result (rw c.in-Ok-Text.field-0-is at c.in-Ok-Text.ensures.request) c.run_named.ensures)
-    (inr (c.in-Ok-Text.program.now, record { request = OnText c.in-Ok-Text.program.now (plain_command c.in-Ok-Text.command) c.in-Ok-Text.fold; asks = (rw c.in-Ok-Text.field-0-is at c.in-Ok-Text.ensures.request); names = named_first _ _ }))
+    (inr (c.in-Ok-Text.program.now, record { request = OnText c.in-Ok-Text.program.now (plain_command c.in-Ok-Text.command) c.in-Ok-Text.fold; asks = (rw c.in-Ok-Text.field-0-is at c.in-Ok-Text.ensures.request); names = named_first c.in-Ok-Text.program.now [] }))
     (words_trace g.S.Source.left g.S.Source.faults g.S.Source.down g.K.Sink.held g.K.Sink.faults g.K.Sink.down (map string_bytes c.args.words.now) (g.T.Texts.content c.args.texts.now) (Fell (g.T.Texts.faults c.args.texts.now) (g.T.Texts.faults c.run_named.new.texts) (g.T.Texts.down c.run_named.new.texts)) c.args.trace.now c.run_named.new.trace c.args.out.now c.run_named.new.out c.in-Ok-Text.program.now (plain_command c.in-Ok-Text.command) c.in-Ok-Text.fold c.run_named.result (rw c.in-Ok-Text.field-0-is at c.in-Ok-Text.ensures.request) c.run_named.ensures)
 
 pub run_named-requires-clause-ranges : goal.run_named-requires-clause-ranges
@@ -24,21 +24,21 @@ run_named-requires-clause-may g c = λ κs within.
     c.requires.may c.in-Ok-Text.program.now (record {
       request = OnText c.in-Ok-Text.program.now (plain_command c.in-Ok-Text.command) c.in-Ok-Text.fold;
       asks = (rw c.in-Ok-Text.field-0-is at c.in-Ok-Text.ensures.request);
-      names = named_first _ _;
+      names = named_first c.in-Ok-Text.program.now [];
     })
 
 -- ---- a dump
 
 pub tell_named-requires : goal.tell_named-requires
 tell_named-requires g c = record {
-  may = c.requires.may c.in-Ok-Dump.dump.now (record { request = OnDump c.in-Ok-Dump.dump.now; asks = (rw c.in-Ok-Dump.field-0-is at c.in-Ok-Dump.ensures.request); names = named_first _ _ });
+  may = c.requires.may c.in-Ok-Dump.dump.now (record { request = OnDump c.in-Ok-Dump.dump.now; asks = (rw c.in-Ok-Dump.field-0-is at c.in-Ok-Dump.ensures.request); names = named_first c.in-Ok-Dump.dump.now [] });
 }
 
 pub returns-in-Ok-Dump : goal.returns-in-Ok-Dump
 returns-in-Ok-Dump g c =
     answers_words g.T.Texts.content g.T.Texts.faults g.T.Texts.down g.S.Source.left g.S.Source.faults g.S.Source.down g.K.Sink.held g.K.Sink.faults g.K.Sink.down (map string_bytes c.args.words.now) c.args.texts.now c.tell_named.new.texts c.args.trace.now c.args.trace.now c.args.out.now c.tell_named.new.out c.tell_named.result
     (words_dump g.S.Source.left g.S.Source.faults g.S.Source.down g.K.Sink.held g.K.Sink.faults g.K.Sink.down (map string_bytes c.args.words.now) (g.T.Texts.content c.args.texts.now) (Fell (g.T.Texts.faults c.args.texts.now) (g.T.Texts.faults c.tell_named.new.texts) (g.T.Texts.down c.tell_named.new.texts)) c.args.trace.now c.args.trace.now c.args.out.now c.tell_named.new.out c.in-Ok-Dump.dump.now c.tell_named.result (rw c.in-Ok-Dump.field-0-is at c.in-Ok-Dump.ensures.request) c.tell_named.ensures)
-    (inr (c.in-Ok-Dump.dump.now, record { request = OnDump c.in-Ok-Dump.dump.now; asks = (rw c.in-Ok-Dump.field-0-is at c.in-Ok-Dump.ensures.request); names = named_first _ _ })) (inl refl)
+    (inr (c.in-Ok-Dump.dump.now, record { request = OnDump c.in-Ok-Dump.dump.now; asks = (rw c.in-Ok-Dump.field-0-is at c.in-Ok-Dump.ensures.request); names = named_first c.in-Ok-Dump.dump.now [] })) (inl refl)
 
 -- ---- a workload
 
@@ -62,7 +62,7 @@ pub farm_named-requires-clause-program : goal.farm_named-requires-clause-program
 farm_named-requires-clause-program g c = λ κs within.
     let name = c.in-Ok-Traces.program.now in
     let traces = map (λ s. s.now) c.in-Ok-Traces.traces.items in
-    c.requires.may name (record { request = OnTraces name traces c.in-Ok-Traces.budget; asks = (rw c.in-Ok-Traces.field-0-is at c.in-Ok-Traces.ensures.request); names = named_first _ _ })
+    c.requires.may name (record { request = OnTraces name traces c.in-Ok-Traces.budget; asks = (rw c.in-Ok-Traces.field-0-is at c.in-Ok-Traces.ensures.request); names = named_first name traces })
 
 pub farm_named-requires-clause-may : goal.farm_named-requires-clause-may
 farm_named-requires-clause-may g c = λ κs within.
@@ -84,7 +84,7 @@ returns-in-Ok-Traces g c =
     let request = rw c.in-Ok-Traces.field-0-is at c.in-Ok-Traces.ensures.request in
     answers_words g.T.Texts.content g.T.Texts.faults g.T.Texts.down g.S.Source.left g.S.Source.faults g.S.Source.down g.K.Sink.held g.K.Sink.faults g.K.Sink.down (map string_bytes c.args.words.now) c.args.texts.now c.farm_named.new.texts c.args.trace.now c.args.trace.now c.args.out.now c.farm_named.new.out c.farm_named.result
     (words_farm g.S.Source.left g.S.Source.faults g.S.Source.down g.K.Sink.held g.K.Sink.faults g.K.Sink.down (map string_bytes c.args.words.now) (g.T.Texts.content c.args.texts.now) (Fell (g.T.Texts.faults c.args.texts.now) (g.T.Texts.faults c.farm_named.new.texts) (g.T.Texts.down c.farm_named.new.texts)) c.args.trace.now c.args.trace.now c.args.out.now c.farm_named.new.out name traces c.in-Ok-Traces.budget c.farm_named.result request (rw c.deref.ensures.value at c.farm_named.ensures))
-    (inr (name, record { request = OnTraces name traces c.in-Ok-Traces.budget; asks = request; names = named_first _ _ })) (inl refl)
+    (inr (name, record { request = OnTraces name traces c.in-Ok-Traces.budget; asks = request; names = named_first name traces })) (inl refl)
 
 -- ---- words that ask for nothing
 

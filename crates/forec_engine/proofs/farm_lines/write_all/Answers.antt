@@ -1,11 +1,13 @@
-use Rattle.std.proofs.Common.{◌++◌, ◌≤◌, List, ℕ, length, take, drop, sym, subst, ap, ◌∙◌, arith, length-drop}
+use Rattle.std.proofs.Common.{◌≡◌, ◌++◌, ◌≤◌, ◌-◌, List, ℕ, length, take, drop, sym, subst, ap, ◌∙◌, arith, length-drop}
 use Rattle.std.proofs.Math.Seq.{take-add}
 use Rattle.std.specs.List.{slice_range}
 use Rattle.std.specs.Io.KnownBytes.{Appends}
-use Rattle.std.proofs.lemmas.List.{take-append-drop}
+use Rattle.std.proofs.lemmas.List.{take-append-drop, take_all}
 use Rattle.trace_runs.proofs.Told.{appends_both, front_kept}
-use Rattle.trace_runs.proofs.Ranges.{range_rest}
 use Rattle.forec_engine.proofs.farm_lines.write_all.Goals as goal
+
+range_rest : (at : ℕ) (xs : List ℕ) → slice_range xs at (length xs) ≡ drop at xs
+range_rest at xs = take_all (length xs - at) (drop at xs) (omega (arith, length-drop at xs))
 
 pub loop-at-preserved : goal.loop-at-preserved
 loop-at-preserved g c =
