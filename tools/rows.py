@@ -1,5 +1,6 @@
-"""A trace beside the report of its run, tick by tick: what the tools that show runs have in common."""
+"""A trace beside the report of its run, tick by tick, and the words of a tool: what the tools that show and test runs have in common."""
 import re
+import sys
 
 TICK = re.compile(r"tick ([0-9]+)((?: [A-Za-z_][A-Za-z_0-9]*(?:\[[0-9]+\])?=-?[0-9]+)*)")
 LAST = re.compile(r"(?:end|rows) [0-9]+|(?:trap|over|row) ([0-9]+) .*")
@@ -7,6 +8,18 @@ LAST = re.compile(r"(?:end|rows) [0-9]+|(?:trap|over|row) ([0-9]+) .*")
 
 class Fault(Exception):
     """What is wrong with the trace or the report."""
+
+
+def asked(doc, words_of):
+    """What the words of the command line ask for, or the status where that is all: help was wanted, or they are none of the tool's."""
+    if sys.argv[1:] in (["--help"], ["-h"]):
+        print(doc, end="")
+        return 0
+    words = words_of(sys.argv[1:])
+    if not words:
+        print(doc.split("\n\n")[1], file=sys.stderr)
+        return 2
+    return words
 
 
 def text_of(lines):
