@@ -1,36 +1,31 @@
 //! Hosts beside each other: one for each core of a program's threads.
 
-ghost use Rattle.std.specs.Prelude.{◌≡◌, true};
+ghost use Rattle.std.specs.Prelude.{◌≡◌, length, true};
+ghost use Rattle.thread_code.specs.Plain.{plain_code};
 ghost use Rattle.core_host.specs.Hosted.{is_here};
 
-use crate::compiled::compiled;
+use crate::roped::beside_threads;
 use board_hosts::{Hosts, board_of, hosts_of};
 use copy_slots::Port;
-use core_alloc::given;
+use core_alloc::Placement;
 use core_bells::Bells;
-use core_host::{Host, Worker};
+use core_host::{Host, Served, Worker};
 use core_seats::{ForecWork, Serve};
 use forec_base::OpenGate;
 use forec_kernel::Outcome;
 use std::alloc::Global;
 use std::sync::Wait;
 use std::test::Fail;
+use std::thread::Threads;
 use thread_code::Code;
-
-pub const FOLDS_TWICE: &[u8] = b"shared output int s = 1 combine all with plus;
-int plus(int x, int y) { return x + y; }
-void a(void) { s = s + 1; pause; }
-void b(void) { s = s + 2; pause; }
-void main(void) { par(a, b); }
-";
 
 /// How a tick ends, and the output then. Before each tick the output has the value 7.
 pub type Told = (Outcome, i32);
 
 /// Workers that no OS thread runs.
 #[derive(Drop)]
-pub struct Waiting<'c, P: Port<ForecWork> + Drop> {
-    pub workers: Vec<Worker<'c, P>>,
+struct Waiting<'c, P: Port<ForecWork> + Drop> {
+    workers: Vec<Worker<'c, P>>,
 }
 
 impl<'c, P: Port<ForecWork> + Drop> Serve for Waiting<'c, P> {
@@ -74,44 +69,124 @@ pub fn run_tick<'c, P: Port<ForecWork> + Drop, O: Serve, R: Wait>(
     Some((outcome, outputs[0]))
 }
 
-/// The first two ticks.
-fn two_ticks<'c, P: Port<ForecWork> + Drop, R: Wait>(
+/// A host, if there is one, that is served one mailbox a call, and the first mailboxes that it served.
+#[derive(Drop)]
+struct Counting<'c, P: Port<ForecWork> + Drop> {
+    host: Option<Host<'c, P>>,
+    served: [Option<u64>; 3],
+    count: usize,
+}
+
+impl<'c, P: Port<ForecWork> + Drop> Serve for Counting<'c, P> {
+    ghost use Rattle.std.specs.Prelude.{[]};
+
+    ghost kept = { λ w. record { borrow = 0; hosts = [] } };
+
+    fn serve<R: Wait>(&mut self, _rt: &R) -> bool {
+        let Some(host) = &mut self.host else {
+            return false;
+        };
+        let Served::Worked { k } = host.serve(&OpenGate) else {
+            return false;
+        };
+        if self.count < 3 {
+            self.served[self.count] = Some(u64::from(k));
+            self.count += 1;
+        }
+        true
+    }
+
+    fn is_empty(&self) -> bool {
+        false
+    }
+}
+
+/// The first two ticks, and what was counted: how many hints the root and two workers in threads of their own gave, or the first
+/// mailboxes that a host served.
+pub type Ran = (Option<Told>, Option<Told>, [Option<u64>; 3]);
+
+/// Two ticks, between whose steps the root serves the workers.
+fn beside_workers<'c, P: Port<ForecWork> + Drop, R: Wait>(
     rt: &R,
     mut root: Host<'c, P>,
     workers: Vec<Worker<'c, P>>,
     code: &'c Code,
-) -> (Option<Told>, Option<Told>)
+) -> Ran
     requires here { is_here root 0 ≡ true }
     requires code { root.code ≡ code.now }
 {
     let mut others = Waiting { workers };
     let first = run_tick(rt, &mut root, &mut others, code);
     let second = run_tick(rt, &mut root, &mut others, code);
-    (first, second)
+    (first, second, [None, None, None])
 }
 
-/// Those of a program whose three threads are on three cores.
-fn placed<R: Wait>(
+/// Two ticks beside the host of a worker that was stopped before, one mailbox a call.
+fn beside_host<'c, P: Port<ForecWork> + Drop, R: Wait>(
+    rt: &R,
+    mut root: Host<'c, P>,
+    mut workers: Vec<Worker<'c, P>>,
+    code: &'c Code,
+) -> Ran
+    requires here { is_here root 0 ≡ true }
+    requires code { root.code ≡ code.now }
+{
+    root.stop();
+    let host = match workers.pop() {
+        Some(worker) => Some(worker.run(rt, &OpenGate)),
+        None => None,
+    };
+    let mut others = Counting {
+        host,
+        served: [None, None, None],
+        count: 0,
+    };
+    let first = run_tick(rt, &mut root, &mut others, code);
+    let second = run_tick(rt, &mut root, &mut others, code);
+    (first, second, others.served)
+}
+
+/// Who serves the hosts beside the root.
+#[derive(Clone, Copy)]
+pub enum Beside {
+    /// The root, as workers.
+    Workers,
+    /// The root, one mailbox a call.
+    Hosts,
+    /// Each of two workers runs in a thread of its own.
+    Threads,
+}
+
+/// Two ticks of hosts.
+fn ticks_of<'c, P: Port<ForecWork> + Drop + Send, R: Threads + Wait + Sync>(
+    rt: &R,
+    root: Host<'c, P>,
+    workers: Vec<Worker<'c, P>>,
+    code: &'c Code,
+    beside: Beside,
+) -> Ran
+    requires here { is_here root 0 ≡ true }
+    requires code { root.code ≡ code.now }
+{
+    match beside {
+        Beside::Workers => beside_workers(rt, root, workers, code),
+        Beside::Hosts => beside_host(rt, root, workers, code),
+        Beside::Threads => beside_threads(rt, root, workers, code),
+    }
+}
+
+/// Two ticks of the hosts of a placement.
+pub fn ran<R: Threads + Wait + Sync>(
     rt: &R,
     alloc: Global,
     code: &Code,
-) -> Result<(Option<Told>, Option<Told>), Fail> {
-    let count = code.parts().threads.len();
-    let placement = given(alloc, "0,1,2", u32::try_from(count)?, 3)?;
-    if placement.threads() as usize != count {
-        return Ok((None, None));
-    }
-    let mut board = board_of(alloc, code, &placement)?;
-    let mut bells = Bells::new(alloc, code, &placement)?;
-    let Hosts { root, others } = hosts_of(alloc, code, &placement, &mut board, &mut bells)?;
-    Ok(two_ticks(rt, root, others, code))
-}
-
-#[test]
-fn ticks_beside_other_hosts(rt: HostRuntime) -> Result<(), Fail> {
-    let code = compiled(rt.alloc(), FOLDS_TWICE)?;
-    let (first, second) = placed(&rt, rt.alloc(), &code)?;
-    assert!(rt; first == Some((Outcome::Paused, 5)));
-    assert!(rt; second == Some((Outcome::Ended, 10)));
-    Ok(())
+    placement: &Placement,
+    beside: Beside,
+) -> Result<Ran, Fail>
+    requires placed { length placement.now.places ≡ length (plain_code code.now).threads }
+{
+    let mut board = board_of(alloc, code, placement)?;
+    let mut bells = Bells::new(alloc, code, placement)?;
+    let Hosts { root, others } = hosts_of(alloc, code, placement, &mut board, &mut bells)?;
+    Ok(ticks_of(rt, root, others, code, beside))
 }

@@ -59,6 +59,54 @@ void b(void) { s = 2; pause; s = 20; pause; s = 200; pause; }
 void main(void) { while (1) { weak abort { par(a, b); } when (r); pause; } }
 ";
 
+/// The copies are combined in the order of the `par`: 10, 3 and 2 by minus are 5; 8 by 4 is 2 of the new ones; and 9 was assigned.
+const JOINS: &[u8] = b"shared int a = 4 combine all with minus;
+shared int b = 1 combine new with quotient;
+shared int c = 7 combine mod with minus;
+output int o = 0;
+int minus(int x, int y) { return x - y; }
+int quotient(int x, int y) { return x / y; }
+void ten(void) { a = 10; }
+void three(void) { a = 3; b = 8; c = 9; }
+void two(void) { a = 2; b = 4; }
+void main(void) { par(ten, three, two); o = a * 100 + b * 10 + c; }
+";
+
+/// The same, but for a divisor of 0.
+const JOINS_BY_ZERO: &[u8] = b"shared int a = 4 combine all with minus;
+shared int b = 1 combine new with quotient;
+shared int c = 7 combine mod with minus;
+output int o = 0;
+int minus(int x, int y) { return x - y; }
+int quotient(int x, int y) { return x / y; }
+void ten(void) { a = 10; }
+void three(void) { a = 3; b = 8; c = 9; }
+void two(void) { a = 2; b = 0; }
+void main(void) { par(ten, three, two); o = a * 100 + b * 10 + c; }
+";
+
+/// Two branches trap, and the first of them is reported, but not where one is over the budget.
+const TRAPS_TWICE: &[u8] = b"output int o = 0;
+void ends(void) { }
+void index(void) { int t[1]; int i = 1; t[i] = 1; }
+void turns(void) { int i = 0; while (i < 10) #5 { i = i + 1; } }
+void main(void) { par(ends, index, turns); }
+";
+
+/// Each branch is within a budget of 100, and the three are not.
+const LATE: &[u8] = b"output int o = 0;
+void late(void) { for (int i = 0; i < 5; i++) #5 { } }
+void main(void) { par(late, late, late); o = 1; }
+";
+
+/// In the second tick only the branch goes on that paused.
+const WAKES: &[u8] = b"shared output int s = 1 combine mod with plus;
+int plus(int x, int y) { return x + y; }
+void ends(void) { s = s + 1; }
+void waits(void) { s = s + 2; pause; s = s + 10; }
+void main(void) { par(ends, waits, ends); }
+";
+
 pub const TRAPPED: Outcome = Outcome::Trapped {
     place: Place {
         line: 3,
@@ -67,7 +115,23 @@ pub const TRAPPED: Outcome = Outcome::Trapped {
     trap: Trap::Divide,
 };
 
-const RUNS: [Run; 5] = [
+const DIVIDED: Outcome = Outcome::Trapped {
+    place: Place {
+        line: 6,
+        column: 39,
+    },
+    trap: Trap::Divide,
+};
+
+const INDEXED: Outcome = Outcome::Trapped {
+    place: Place {
+        line: 3,
+        column: 41,
+    },
+    trap: Trap::Index,
+};
+
+const RUNS: [Run; 11] = [
     // 7 units each
     Run {
         text: SUMS,
@@ -109,6 +173,36 @@ const RUNS: [Run; 5] = [
         text: DIVIDES,
         places: "0,1,0",
         ticks: &[(0, 1000, TRAPPED, 7)],
+    },
+    Run {
+        text: JOINS,
+        places: "0,2,0,1",
+        ticks: &[(0, 1000, Outcome::Ended, 529)],
+    },
+    Run {
+        text: JOINS_BY_ZERO,
+        places: "0,2,0,1",
+        ticks: &[(0, 1000, DIVIDED, 7)],
+    },
+    Run {
+        text: TRAPS_TWICE,
+        places: "0,2,0,1",
+        ticks: &[(0, 53, INDEXED, 7)],
+    },
+    Run {
+        text: TRAPS_TWICE,
+        places: "0,2,0,1",
+        ticks: &[(0, 52, Outcome::Over, 7)],
+    },
+    Run {
+        text: LATE,
+        places: "0,2,0,1",
+        ticks: &[(0, 100, Outcome::Over, 7)],
+    },
+    Run {
+        text: WAKES,
+        places: "0,2,0,1",
+        ticks: &[(0, 1000, Outcome::Paused, 7), (0, 1000, Outcome::Ended, 17)],
     },
 ];
 

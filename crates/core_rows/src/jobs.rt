@@ -1,12 +1,14 @@
 //! A thread is loaded and does its jobs.
 
-ghost use Rattle.std.specs.Prelude.{◌≡◌, [], ◌∷◌, IfOk};
+ghost use Rattle.std.specs.Prelude.{◌≡◌, [], ◌∷◌, true, IfOk};
+ghost use Rattle.forec_kernel.specs.Packed.{HasRoom};
 ghost use Rattle.forec_kernel.specs.Shapes.{plain_shape};
 ghost use Rattle.thread_code.specs.Plain.{plain_block, plain_code};
-ghost use Rattle.core_machine.specs.Threads.{Loaded, IsResting};
+ghost use Rattle.thread_code.specs.Valid.{of_shape};
+ghost use Rattle.combine_tree.specs.Plain.{plain_packet};
+ghost use Rattle.core_machine.specs.Threads.{Loaded, CanRun, IsResting, HasReply, HasPaused};
 ghost use Rattle.thread_code.specs.Worked.{small_shape, small_main, small_function, small_code};
 
-use crate::joining::{begins, first_thread, pauses, replies, wakes};
 use combine_tree::{Packet, PacketKind};
 use core_machine::{Event, Thread};
 use forec_base::{Labels, OutOfMemory};
@@ -102,6 +104,101 @@ fn code(alloc: Global, fused: bool) -> Result<Box<Code>, OutOfMemory> {
         return Ok(Box::new(alloc, Code::decoded(alloc, parts)?)?);
     }
     Ok(Box::new(alloc, Code::of(parts))?)
+}
+
+/// Whether the packet has that thread's room.
+fn has_room(code: &Code, thread: u32, packet: &Packet) -> bool
+    ensures { result ≡ true → HasRoom (of_shape (plain_code code.now).shape) thread (plain_packet packet.now) }
+{
+    match code.shape().threads.get(thread as usize) {
+        Some(thread) => {
+            packet.args.len() == thread.params as usize && packet.copies.len() == thread.uses.len()
+        }
+        None => false,
+    }
+}
+
+/// Thread 0, which was never started.
+fn first_thread(alloc: Global, code: &Code) -> Result<Thread, OutOfMemory>
+    ensures loaded { IfOk result (λ h. Loaded (plain_code code.now) h) }
+    ensures number { IfOk result (λ h. h.number ≡ 0) }
+    ensures resting { IfOk result (λ h. IsResting h) }
+{
+    if code.parts().threads.is_empty() {
+        return Err(OutOfMemory);
+    }
+    Thread::load(alloc, code, 0)
+}
+
+/// Starts a job where the packet has the thread's room.
+fn begins(thread: &mut Thread, code: &Code, packet: &mut Packet) -> bool
+    requires loaded { Loaded (plain_code code.now) thread.old }
+    requires resting { IsResting thread.old }
+    requires root { thread.old.number ≡ 0 }
+    ensures loaded { Loaded (plain_code code.now) thread.new }
+    ensures number { thread.new.number ≡ thread.old.number }
+    ensures running { result ≡ true → CanRun thread.new }
+    ensures room { result ≡ true
+        → HasRoom (of_shape (plain_code code.now).shape) thread.old.number (plain_packet packet.new) }
+{
+    packet.kind = PacketKind::Start;
+    if packet.allowance > 1 << 62 || !has_room(code, 0, packet) {
+        return false;
+    }
+    thread.begin(code, packet);
+    true
+}
+
+/// Runs to a pause, and writes the reply.
+fn pauses(thread: &mut Thread, code: &Code, packet: &mut Packet) -> bool
+    requires loaded { Loaded (plain_code code.now) thread.old }
+    requires running { CanRun thread.old }
+    requires room { HasRoom (of_shape (plain_code code.now).shape) thread.old.number (plain_packet packet.old) }
+    ensures loaded { Loaded (plain_code code.now) thread.new }
+    ensures number { thread.new.number ≡ thread.old.number }
+    ensures replied { result ≡ true → HasReply thread.new }
+    ensures paused { result ≡ true → HasPaused thread.new }
+    ensures room { HasRoom (of_shape (plain_code code.now).shape) thread.old.number (plain_packet packet.new) }
+{
+    match thread.run(code) {
+        Event::Paused => {
+            thread.reply(code, packet);
+            true
+        }
+        _ => false,
+    }
+}
+
+/// Wakes a thread that has paused, with an allowance.
+fn wakes(thread: &mut Thread, code: &Code, packet: &mut Packet, allowance: u32)
+    requires loaded { Loaded (plain_code code.now) thread.old }
+    requires replied { HasReply thread.old }
+    requires paused { HasPaused thread.old }
+    requires room { HasRoom (of_shape (plain_code code.now).shape) thread.old.number (plain_packet packet.old) }
+    ensures loaded { Loaded (plain_code code.now) thread.new }
+    ensures number { thread.new.number ≡ thread.old.number }
+    ensures running { CanRun thread.new }
+    ensures room { HasRoom (of_shape (plain_code code.now).shape) thread.old.number (plain_packet packet.new) }
+{
+    packet.kind = PacketKind::Wake;
+    packet.allowance = u64::from(allowance);
+    thread.begin(code, packet);
+}
+
+/// Runs to the end of the job, and writes the reply.
+fn replies(thread: &mut Thread, code: &Code, packet: &mut Packet) -> Option<Event>
+    requires loaded { Loaded (plain_code code.now) thread.old }
+    requires running { CanRun thread.old }
+    requires room { HasRoom (of_shape (plain_code code.now).shape) thread.old.number (plain_packet packet.old) }
+    ensures loaded { Loaded (plain_code code.now) thread.new }
+{
+    match thread.run(code) {
+        Event::Fork => None,
+        event => {
+            thread.reply(code, packet);
+            Some(event)
+        }
+    }
 }
 
 /// Starts a job of 4 units, which pauses, and wakes it with 3, which it passes.

@@ -13,8 +13,6 @@ mod hosted;
 #[cfg(test)]
 mod jobs;
 #[cfg(test)]
-mod joining;
-#[cfg(test)]
 mod listed;
 #[cfg(test)]
 mod mailbox;

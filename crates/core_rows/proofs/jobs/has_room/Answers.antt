@@ -4,7 +4,7 @@ use Rattle.forec_kernel.specs.Texts.{params_in, uses_in}
 use Rattle.thread_state.proofs.Indexed.{equal_of}
 use Rattle.thread_state.proofs.Shapes.{read_params}
 use Rattle.core_machine.proofs.Jobs.{read_uses}
-use Rattle.core_rows.proofs.joining.has_room.Goals as goal
+use Rattle.core_rows.proofs.jobs.has_room.Goals as goal
 
 pub returns-then-len-thread : goal.returns-then-len-thread
 returns-then-len-thread c same =
