@@ -1,6 +1,6 @@
 //! What the calling thread does beside the workers of the other cores.
 
-ghost use Rattle.std.specs.Prelude.{◌≡◌, ◌+◌, ◌<◌, ◌≤◌, [], true, length, IfOk, OnErr, vec_len, vec_capacity};
+ghost use Rattle.std.specs.Prelude.{◌≡◌, [], true, IfOk, OnErr};
 ghost use Rattle.core_host.specs.Hosted.{code_of, is_here, is_live};
 ghost use Rattle.core_host.specs.Runs.{HasRun};
 ghost use Rattle.trace_runs.specs.Hosting.{DidForEach};
@@ -12,13 +12,14 @@ use crate::setting::{Company, Setting};
 use crate::status::Status;
 use crate::ticker::Ticker;
 use copy_slots::Port;
+use core_bells::{Bed, Rings, Rung};
 use core_host::{Host, Worker};
 use core_seats::{ForecWork, Serve};
 use forec_base::{Gate, OutOfMemory};
 use std::alloc::{AllocError, Global};
 use std::sync::{Mutex, Wait};
-use std::thread::Threads;
-use worker_scope::{Pending, Runnable, take_refused, with_workers};
+use std::thread::{Threads, available_parallelism};
+use worker_scope::{Runnable, with_workers};
 
 /// A worker, and the gate that it passes.
 #[derive(Drop)]
@@ -27,166 +28,226 @@ struct GatedWorker<'g, 'c, P: Port<ForecWork> + Drop, G> {
     gate: &'g G,
 }
 
-impl<'g, 'c, P: Port<ForecWork> + Drop, G: Gate> Serve for GatedWorker<'g, 'c, P, G> {
-    ghost use Rattle.std.specs.Prelude.{[]};
-
-    ghost kept = { λ w. record { borrow = 0; hosts = [] } };
-
-    fn serve<R: Wait>(&mut self, rt: &R) -> bool {
+impl<'g, 'c, P: Port<ForecWork> + Drop, G: Gate> GatedWorker<'g, 'c, P, G> {
+    /// Serves until nothing is left to do.
+    fn serve<R: Wait>(&mut self, rt: &R) {
         let gate = self.gate;
-        self.worker.serve_beside(rt, gate)
+        for _ in rt.forever() {
+            if !self.worker.serve_beside(rt, gate) {
+                return;
+            }
+        }
+    }
+}
+
+/// A worker in its lock, with its core.
+#[derive(Drop)]
+struct LockedWorker<'g, 'c, P: Port<ForecWork> + Drop, G> {
+    core: u32,
+    worker: Mutex<GatedWorker<'g, 'c, P, G>>,
+}
+
+impl<'g, 'c, P: Port<ForecWork> + Drop, G: Gate> LockedWorker<'g, 'c, P, G> {
+    fn new(worker: Worker<'c, P>, gate: &'g G) -> LockedWorker<'g, 'c, P, G> {
+        let core = match worker.rope() {
+            Some(rope) => rope.core(),
+            None => 0,
+        };
+        LockedWorker {
+            core,
+            worker: Mutex::new(GatedWorker { worker, gate }),
+        }
     }
 
-    fn is_empty(&self) -> bool {
+    /// Serves the worker, if its core was rung and nobody has it in hand. Whether it did: who had a worker in hand looks at the rung cores
+    /// again before it sleeps, since others left that worker to it.
+    fn serve<R: Wait>(&self, rt: &R, rung: Rung) -> bool {
+        if !rung.has(self.core) {
+            return false;
+        }
+        match self.worker.try_lock() {
+            Some(mut worker) => {
+                worker.serve(rt);
+                true
+            }
+            None => false,
+        }
+    }
+
+    /// Serves the worker until nothing is left to do, unless somebody has it in hand. Whether the workers are to stop.
+    fn is_stopped<R: Wait>(&self, rt: &R) -> bool {
+        match self.worker.try_lock() {
+            Some(mut own) => {
+                own.serve(rt);
+                own.worker.stopped()
+            }
+            None => false,
+        }
+    }
+
+    fn take_bed<R: Wait>(&self, rt: &R) -> Option<Bed<'c>> {
+        self.worker.lock(rt).worker.take_bed()
+    }
+}
+
+/// The workers of all cores but that of thread 0, each in its lock: whoever has nothing else to do serves those that were rung.
+#[derive(Drop)]
+struct Workers<'g, 'c, P: Port<ForecWork> + Drop, G> {
+    all: Vec<LockedWorker<'g, 'c, P, G>>,
+    rings: Option<Rings<'c>>,
+    /// How many OS threads there may be for them.
+    threads: usize,
+}
+
+impl<'g, 'c, P: Port<ForecWork> + Drop, G: Gate> Workers<'g, 'c, P, G> {
+    /// Serves the first worker whose core was rung and that nobody has in hand. Whether there was one.
+    fn serve_rung<R: Wait>(&self, rt: &R) -> bool {
+        let Some(rings) = self.rings else {
+            return false
+        };
+        let rung = rings.rung();
+        if rung.is_empty() {
+            return false;
+        }
+        for worker in &self.all {
+            if worker.serve(rt, rung) {
+                return true;
+            }
+        }
         false
     }
-}
 
-impl<'g, 'c, P: Port<ForecWork> + Drop, G: Gate> Runnable for GatedWorker<'g, 'c, P, G> {
-    fn run<R: Wait>(self, rt: &R) {
-        let GatedWorker { worker, gate } = self;
-        let _ = worker.run(rt, gate);
+    /// The same, but this worker comes first.
+    fn serve_from<R: Wait>(&self, rt: &R, own: &LockedWorker<'g, 'c, P, G>) -> bool {
+        let Some(rings) = self.rings else {
+            return false
+        };
+        own.serve(rt, rings.rung()) || self.serve_rung(rt)
+    }
+
+    /// What the thread of a worker does until the workers are to stop: it serves those that were rung, and else waits.
+    fn attend<R: Wait>(&self, rt: &R, own: &LockedWorker<'g, 'c, P, G>, bed: &mut Bed<'c>) {
+        for _ in rt.forever() {
+            if bed.lies() && own.is_stopped(rt) {
+                return;
+            }
+            if self.serve_from(rt, own) {
+                bed.rise();
+            } else {
+                bed.rest(rt);
+            }
+        }
+        unreachable!()
     }
 }
 
-/// The workers that have no thread: the calling thread serves them.
-#[derive(Drop)]
-struct Others<H> {
-    pub workers: Vec<H>,
+impl<'g, 'c, P: Port<ForecWork> + Drop + Send, G: Gate + Sync> Runnable for Workers<'g, 'c, P, G> {
+    fn count(&self) -> usize {
+        self.all.len().min(self.threads)
+    }
+
+    fn run<R: Wait>(&self, rt: &R, at: usize) {
+        let Some(own) = self.all.get(at) else { return };
+        let Some(mut bed) = own.take_bed(rt) else {
+            return
+        };
+        self.attend(rt, own, &mut bed);
+    }
 }
 
-impl<H: Serve> Serve for Others<H> {
+/// The workers, whom the calling thread serves while it waits.
+#[derive(Drop)]
+struct Others<'w, 'g, 'c, P: Port<ForecWork> + Drop, G> {
+    workers: &'w Workers<'g, 'c, P, G>,
+}
+
+impl<'w, 'g, 'c, P: Port<ForecWork> + Drop, G: Gate> Serve for Others<'w, 'g, 'c, P, G> {
     ghost use Rattle.std.specs.Prelude.{[]};
 
     ghost kept = { λ o. record { borrow = 0; hosts = [] } };
 
     fn serve<R: Wait>(&mut self, rt: &R) -> bool {
-        let mut served = false;
-        for worker in self.workers.iter_mut() {
-            if worker.serve(rt) {
-                served = true;
-            }
-        }
-        served
+        self.workers.serve_rung(rt)
     }
 
     fn is_empty(&self) -> bool {
-        self.workers.is_empty()
+        true
     }
 }
 
-/// Workers on their way to a thread, each with this gate.
-fn pending_workers<'g, 'c, P: Port<ForecWork> + Drop, G: Gate>(
+/// Workers in their locks, each with this gate.
+fn locked<'g, 'c, P: Port<ForecWork> + Drop, G: Gate>(
     alloc: Global,
     workers: Vec<Worker<'c, P>>,
     gate: &'g G,
-) -> Result<Vec<Mutex<Pending<GatedWorker<'g, 'c, P, G>>>>, AllocError> {
+) -> Result<Vec<LockedWorker<'g, 'c, P, G>>, AllocError> {
     workers
         .into_iter()
-        .map(|worker| Mutex::new(Pending::new(GatedWorker { worker, gate })))
+        .map(|worker| LockedWorker::new(worker, gate))
         .collect(alloc)
 }
 
-/// Takes a worker, if it has no thread.
-fn take_one<H: Runnable, R: Wait>(rt: &R, pending: &Mutex<Pending<H>>, others: &mut Vec<H>)
-    requires { vec_len others.old < vec_capacity others.old }
-    ensures few { vec_len others.new ≤ vec_len others.old + 1 }
-    ensures room { vec_capacity others.new ≡ vec_capacity others.old }
-{
-    if let Some(worker) = take_refused(rt, pending) {
-        others.push_reserved(worker);
-    }
-}
-
-/// Takes the workers that have no thread.
-fn take_others<H: Runnable, R: Wait>(rt: &R, workers: &[Mutex<Pending<H>>], others: &mut Vec<H>)
-    requires { (vec_len others.old ≡ 0) × (length workers.now ≤ vec_capacity others.old) }
-{
-    for pending in workers {
-        take_one(rt, pending, others);
-    }
-}
-
-/// All workers on their way to a thread, with the runtime, and the gate that the cores pass.
+/// The workers, with the runtime, and the gate that the cores pass.
 #[derive(Drop)]
-struct Workers<'a, 'w, H, G, R> {
+struct Beside<'a, 'w, 'g, 'c, P: Port<ForecWork> + Drop, G, R> {
     rt: &'a R,
     gate: &'a G,
-    all: &'w [Mutex<Pending<H>>],
+    workers: &'w Workers<'g, 'c, P, G>,
 }
 
-impl<'a, 'w, H: Runnable + Serve, G: Gate, R: Wait> Workers<'a, 'w, H, G, R> {
-    /// What the calling thread does beside the workers: it takes those that have no thread, leads, and stops all.
-    fn lead_beside<T: Ticker + StopWorkers, J: Lead>(
-        &self,
-        others: &mut Others<H>,
-        ticker: &mut T,
-        job: &mut J,
-    ) -> Status
-        requires room { (vec_len others.old.workers ≡ 0) × (length self.now.all.now ≤ vec_capacity others.old.workers) }
+impl<
+    'a,
+    'w,
+    'g,
+    'c,
+    P: Port<ForecWork> + Drop + Send,
+    G: Gate + Sync,
+    R: Threads + Wait + Sync,
+> Beside<'a, 'w, 'g, 'c, P, G, R> {
+    /// What the calling thread does beside the workers: it leads, and stops all.
+    fn lead_beside<T: Ticker + StopWorkers, J: Lead>(&self, ticker: &mut T, job: &mut J) -> Status
         requires can { CanLead (J.can job.old) (T.shape ticker.old) (T.live ticker.old) (T.ready ticker.old) }
         ensures { DidFromStart (T.shape ticker.old) (T.follows ticker.old) (J.did job.old job.new) result }
     {
-        take_others(self.rt, self.all, &mut others.workers);
+        let mut others = Others {
+            workers: self.workers,
+        };
         let mut company = Company {
             rt: self.rt,
             gate: self.gate,
-            others,
+            others: &mut others,
         };
         let status = job.lead(&mut company, ticker);
         ticker.stop();
         status
     }
-}
 
-impl<'a, 'w, H: Runnable + Serve + Send, G: Gate, R: Threads + Wait + Sync> Workers<
-    'a,
-    'w,
-    H,
-    G,
-    R,
-> {
-    /// Starts a thread for each worker, and leads beside them.
-    fn lead_all<T: Ticker + StopWorkers, J: Lead>(
-        &self,
-        others: &mut Others<H>,
-        ticker: &mut T,
-        job: &mut J,
-    ) -> Status
-        requires room { (vec_len others.old.workers ≡ 0) × (length self.now.all.now ≤ vec_capacity others.old.workers) }
+    /// Starts an OS thread for each worker, and leads beside them.
+    fn lead<T: Ticker + StopWorkers, J: Lead>(&self, ticker: &mut T, job: &mut J) -> Status
         requires can { CanLead (J.can job.old) (T.shape ticker.old) (T.live ticker.old) (T.ready ticker.old) }
         ensures { DidFromStart (T.shape ticker.old) (T.follows ticker.old) (J.did job.old job.new) result }
     {
         with_workers(
             self.rt,
-            self.all,
+            self.workers,
             &mut || -> Status
-                requires room { (vec_len others.now.workers ≡ 0)
-                    × (length self.now.all.now ≤ vec_capacity others.now.workers) }
                 requires can { CanLead (J.can job.now) (T.shape ticker.now) (T.live ticker.now) (T.ready ticker.now) }
-            { self.lead_beside(others, ticker, job) },
+            { self.lead_beside(ticker, job) },
         )
     }
+}
 
-    /// Leads beside the workers, with room for those that get no thread.
-    ///
-    /// # Errors
-    ///
-    /// Out of memory. Then nothing was done.
-    fn lead<T: Ticker + StopWorkers, J: Lead>(
-        &self,
-        alloc: Global,
-        ticker: &mut T,
-        job: &mut J,
-    ) -> Result<Status, OutOfMemory>
-        requires can { CanLead (J.can job.old) (T.shape ticker.old) (T.live ticker.old) (T.ready ticker.old) }
-        ensures ok { IfOk result (DidFromStart (T.shape ticker.old) (T.follows ticker.old) (J.did job.old job.new)) }
-        ensures err { OnErr result (job.new ≡ job.old) }
-    {
-        let room = Vec::with_capacity(alloc, self.all.len())?;
-        let mut others = Others { workers: room };
-        Ok(self.lead_all(&mut others, ticker, job))
-    }
+/// So many OS threads may work at least, on however few processors: the jobs of a few branches are then in hand beside each other.
+const FEW: usize = 4;
+
+/// How many OS threads there may be beside the calling one: as many as there are processors for them. Where it can't be told how many
+/// processors there are, one is counted.
+fn threads_beside<R: Threads>(rt: &R) -> usize {
+    let processors = match available_parallelism(rt) {
+        Ok(count) => count.get(),
+        Err(_) => 1,
+    };
+    processors.max(FEW).saturating_sub(1)
 }
 
 /// Leads by hosts: that of thread 0 in the calling thread, beside the workers of the other cores.
@@ -212,12 +273,21 @@ pub fn lead_hosts<
     ensures ok { IfOk result (DidForEach (code_of root.entry) (J.did job.old job.new)) }
     ensures err { OnErr result (job.new ≡ job.old) }
 {
-    let pending = pending_workers(setting.alloc, workers, setting.gate)?;
+    let all = locked(setting.alloc, workers, setting.gate)?;
+    let rings = match root.rope() {
+        Some(rope) => Some(rope.rings()),
+        None => None,
+    };
     let workers = Workers {
+        all,
+        rings,
+        threads: threads_beside(setting.rt),
+    };
+    let beside = Beside {
         rt: setting.rt,
         gate: setting.gate,
-        all: &pending,
+        workers: &workers,
     };
     let mut root = Root { host: root };
-    workers.lead(setting.alloc, &mut root, job)
+    Ok(beside.lead(&mut root, job))
 }
