@@ -17,7 +17,7 @@ use core_host::{Host, Worker};
 use core_seats::{ForecWork, Serve};
 use forec_base::{Gate, OutOfMemory};
 use std::alloc::{AllocError, Global};
-use std::sync::{Mutex, Wait};
+use std::sync::{Mutex, MutexGuard, Wait};
 use std::thread::{Threads, available_parallelism};
 use worker_scope::{Runnable, with_workers};
 
@@ -59,18 +59,13 @@ impl<'g, 'c, P: Port<ForecWork> + Drop, G: Gate> LockedWorker<'g, 'c, P, G> {
         }
     }
 
-    /// Serves the worker, if its core was rung and nobody has it in hand. Whether it did: who had a worker in hand looks at the rung cores
-    /// again before it sleeps, since others left that worker to it.
-    fn serve<R: Wait>(&self, rt: &R, rung: Rung) -> bool {
-        if !rung.has(self.core) {
-            return false;
-        }
-        match self.worker.try_lock() {
-            Some(mut worker) => {
-                worker.serve(rt);
-                true
-            }
-            None => false,
+    /// The worker, if its core was rung and nobody has it in hand. Who had it in hand looks at the rung cores again before it sleeps, since
+    /// others left the worker to it.
+    fn take(&self, rung: Rung) -> Option<MutexGuard<'_, GatedWorker<'g, 'c, P, G>>> {
+        if rung.has(self.core) {
+            self.worker.try_lock()
+        } else {
+            None
         }
     }
 
@@ -100,41 +95,46 @@ struct Workers<'g, 'c, P: Port<ForecWork> + Drop, G> {
 }
 
 impl<'g, 'c, P: Port<ForecWork> + Drop, G: Gate> Workers<'g, 'c, P, G> {
-    /// Serves the first worker whose core was rung and that nobody has in hand. Whether there was one.
-    fn serve_rung<R: Wait>(&self, rt: &R) -> bool {
-        let Some(rings) = self.rings else {
-            return false
-        };
-        let rung = rings.rung();
+    /// The first worker whose core was rung and that nobody has in hand.
+    fn take_rung(&self) -> Option<MutexGuard<'_, GatedWorker<'g, 'c, P, G>>> {
+        let rung = self.rings?.rung();
         if rung.is_empty() {
-            return false;
+            return None;
         }
         for worker in &self.all {
-            if worker.serve(rt, rung) {
-                return true;
+            let taken = worker.take(rung);
+            if taken.is_some() {
+                return taken;
             }
         }
-        false
+        None
     }
 
     /// The same, but this worker comes first.
-    fn serve_from<R: Wait>(&self, rt: &R, own: &LockedWorker<'g, 'c, P, G>) -> bool {
-        let Some(rings) = self.rings else {
-            return false
-        };
-        own.serve(rt, rings.rung()) || self.serve_rung(rt)
+    fn take_from<'w>(
+        &'w self,
+        own: &'w LockedWorker<'g, 'c, P, G>,
+    ) -> Option<MutexGuard<'w, GatedWorker<'g, 'c, P, G>>> {
+        let taken = own.take(self.rings?.rung());
+        if taken.is_some() {
+            return taken;
+        }
+        self.take_rung()
     }
 
-    /// What the thread of a worker does until the workers are to stop: it serves those that were rung, and else waits.
+    /// What the thread of a worker does until the workers are to stop: it serves those that were rung, and else waits. It no longer says
+    /// that it sleeps while it serves.
     fn attend<R: Wait>(&self, rt: &R, own: &LockedWorker<'g, 'c, P, G>, bed: &mut Bed<'c>) {
         for _ in rt.forever() {
             if bed.lies() && own.is_stopped(rt) {
                 return;
             }
-            if self.serve_from(rt, own) {
-                bed.rise();
-            } else {
-                bed.rest(rt);
+            match self.take_from(own) {
+                Some(mut worker) => {
+                    bed.rise();
+                    worker.serve(rt);
+                }
+                None => bed.rest(rt),
             }
         }
         unreachable!()
@@ -167,7 +167,13 @@ impl<'w, 'g, 'c, P: Port<ForecWork> + Drop, G: Gate> Serve for Others<'w, 'g, 'c
     ghost kept = { λ o. record { borrow = 0; hosts = [] } };
 
     fn serve<R: Wait>(&mut self, rt: &R) -> bool {
-        self.workers.serve_rung(rt)
+        match self.workers.take_rung() {
+            Some(mut worker) => {
+                worker.serve(rt);
+                true
+            }
+            None => false,
+        }
     }
 
     fn is_empty(&self) -> bool {
