@@ -124,7 +124,12 @@ impl<'g, 'c, P: Port<ForecWork> + Drop, G: Gate> Workers<'g, 'c, P, G> {
 
     /// What the thread of a worker does until the workers are to stop: it serves those that were rung, and else waits. It no longer says
     /// that it sleeps while it serves.
-    fn attend<R: Wait>(&self, rt: &R, own: &LockedWorker<'g, 'c, P, G>, bed: &mut Bed<'c>) {
+    fn attend<'w, R: Wait>(
+        &'w self,
+        rt: &R,
+        own: &'w LockedWorker<'g, 'c, P, G>,
+        bed: &mut Bed<'c>,
+    ) {
         for _ in rt.forever() {
             if bed.lies() && own.is_stopped(rt) {
                 return;
@@ -193,43 +198,42 @@ fn locked<'g, 'c, P: Port<ForecWork> + Drop, G: Gate>(
         .collect(alloc)
 }
 
-/// The workers, with the runtime, and the gate that the cores pass.
+/// What OS threads do beside the calling one, with the runtime, and the gate that the cores pass.
 #[derive(Drop)]
-struct Beside<'a, 'w, 'g, 'c, P: Port<ForecWork> + Drop, G, R> {
+struct Beside<'a, 'w, W, G, R> {
     rt: &'a R,
     gate: &'a G,
-    workers: &'w Workers<'g, 'c, P, G>,
+    workers: &'w W,
 }
 
-impl<
-    'a,
-    'w,
-    'g,
-    'c,
-    P: Port<ForecWork> + Drop + Send,
-    G: Gate + Sync,
-    R: Threads + Wait + Sync,
-> Beside<'a, 'w, 'g, 'c, P, G, R> {
+impl<'a, 'w, W: Runnable + Sync, G: Gate, R: Threads + Wait + Sync> Beside<'a, 'w, W, G, R> {
     /// What the calling thread does beside the workers: it leads, and stops all.
-    fn lead_beside<T: Ticker + StopWorkers, J: Lead>(&self, ticker: &mut T, job: &mut J) -> Status
+    fn lead_beside<O: Serve, T: Ticker + StopWorkers, J: Lead>(
+        &self,
+        others: &mut O,
+        ticker: &mut T,
+        job: &mut J,
+    ) -> Status
         requires can { CanLead (J.can job.old) (T.shape ticker.old) (T.live ticker.old) (T.ready ticker.old) }
         ensures { DidFromStart (T.shape ticker.old) (T.follows ticker.old) (J.did job.old job.new) result }
     {
-        let mut others = Others {
-            workers: self.workers,
-        };
         let mut company = Company {
             rt: self.rt,
             gate: self.gate,
-            others: &mut others,
+            others,
         };
         let status = job.lead(&mut company, ticker);
         ticker.stop();
         status
     }
 
-    /// Starts an OS thread for each worker, and leads beside them.
-    fn lead<T: Ticker + StopWorkers, J: Lead>(&self, ticker: &mut T, job: &mut J) -> Status
+    /// Starts OS threads for the workers, and leads beside them.
+    fn lead<O: Serve, T: Ticker + StopWorkers, J: Lead>(
+        &self,
+        others: &mut O,
+        ticker: &mut T,
+        job: &mut J,
+    ) -> Status
         requires can { CanLead (J.can job.old) (T.shape ticker.old) (T.live ticker.old) (T.ready ticker.old) }
         ensures { DidFromStart (T.shape ticker.old) (T.follows ticker.old) (J.did job.old job.new) result }
     {
@@ -238,7 +242,7 @@ impl<
             self.workers,
             &mut || -> Status
                 requires can { CanLead (J.can job.now) (T.shape ticker.now) (T.live ticker.now) (T.ready ticker.now) }
-            { self.lead_beside(ticker, job) },
+            { self.lead_beside(others, ticker, job) },
         )
     }
 }
@@ -289,11 +293,13 @@ pub fn lead_hosts<
         rings,
         threads: threads_beside(setting.rt),
     };
+    let shared = &workers;
+    let mut others = Others { workers: shared };
     let beside = Beside {
         rt: setting.rt,
         gate: setting.gate,
-        workers: &workers,
+        workers: shared,
     };
     let mut root = Root { host: root };
-    Ok(beside.lead(&mut root, job))
+    Ok(beside.lead(&mut others, &mut root, job))
 }
