@@ -198,53 +198,45 @@ fn locked<'g, 'c, P: Port<ForecWork> + Drop, G: Gate>(
         .collect(alloc)
 }
 
-/// What OS threads do beside the calling one, with the runtime, and the gate that the cores pass.
-#[derive(Drop)]
-struct Beside<'a, 'w, W, G, R> {
-    rt: &'a R,
-    gate: &'a G,
-    workers: &'w W,
+/// What the calling thread does beside the workers: it leads, and stops all.
+fn lead_beside<O: Serve, T: Ticker + StopWorkers, J: Lead, G: Gate, R: Wait>(
+    setting: &Setting<'_, G, R>,
+    others: &mut O,
+    ticker: &mut T,
+    job: &mut J,
+) -> Status
+    requires can { CanLead (J.can job.old) (T.shape ticker.old) (T.live ticker.old) (T.ready ticker.old) }
+    ensures { DidFromStart (T.shape ticker.old) (T.follows ticker.old) (J.did job.old job.new) result }
+{
+    let mut company = Company {
+        rt: setting.rt,
+        gate: setting.gate,
+        others,
+    };
+    let status = job.lead(&mut company, ticker);
+    ticker.stop();
+    status
 }
 
-impl<'a, 'w, W: Runnable + Sync, G: Gate, R: Threads + Wait + Sync> Beside<'a, 'w, W, G, R> {
-    /// What the calling thread does beside the workers: it leads, and stops all.
-    fn lead_beside<O: Serve, T: Ticker + StopWorkers, J: Lead>(
-        &self,
-        others: &mut O,
-        ticker: &mut T,
-        job: &mut J,
-    ) -> Status
-        requires can { CanLead (J.can job.old) (T.shape ticker.old) (T.live ticker.old) (T.ready ticker.old) }
-        ensures { DidFromStart (T.shape ticker.old) (T.follows ticker.old) (J.did job.old job.new) result }
-    {
-        let mut company = Company {
-            rt: self.rt,
-            gate: self.gate,
-            others,
-        };
-        let status = job.lead(&mut company, ticker);
-        ticker.stop();
-        status
-    }
-
-    /// Starts OS threads for the workers, and leads beside them.
-    fn lead<O: Serve, T: Ticker + StopWorkers, J: Lead>(
-        &self,
-        others: &mut O,
-        ticker: &mut T,
-        job: &mut J,
-    ) -> Status
-        requires can { CanLead (J.can job.old) (T.shape ticker.old) (T.live ticker.old) (T.ready ticker.old) }
-        ensures { DidFromStart (T.shape ticker.old) (T.follows ticker.old) (J.did job.old job.new) result }
-    {
-        with_workers(
-            self.rt,
-            self.workers,
-            &mut || -> Status
-                requires can { CanLead (J.can job.now) (T.shape ticker.now) (T.live ticker.now) (T.ready ticker.now) }
-            { self.lead_beside(others, ticker, job) },
-        )
-    }
+/// Starts OS threads for the workers, and leads beside them.
+fn lead_all<
+    W: Runnable + Sync,
+    O: Serve,
+    T: Ticker + StopWorkers,
+    J: Lead,
+    G: Gate,
+    R: Threads + Wait + Sync,
+>(setting: &Setting<'_, G, R>, workers: &W, others: &mut O, ticker: &mut T, job: &mut J) -> Status
+    requires can { CanLead (J.can job.old) (T.shape ticker.old) (T.live ticker.old) (T.ready ticker.old) }
+    ensures { DidFromStart (T.shape ticker.old) (T.follows ticker.old) (J.did job.old job.new) result }
+{
+    with_workers(
+        setting.rt,
+        workers,
+        &mut || -> Status
+            requires can { CanLead (J.can job.now) (T.shape ticker.now) (T.live ticker.now) (T.ready ticker.now) }
+        { lead_beside(setting, others, ticker, job) },
+    )
 }
 
 /// So many OS threads may work at least, on however few processors: the jobs of a few branches are then in hand beside each other.
@@ -295,11 +287,6 @@ pub fn lead_hosts<
     };
     let shared = &workers;
     let mut others = Others { workers: shared };
-    let beside = Beside {
-        rt: setting.rt,
-        gate: setting.gate,
-        workers: shared,
-    };
     let mut root = Root { host: root };
-    Ok(beside.lead(&mut others, &mut root, job))
+    Ok(lead_all(setting, shared, &mut others, &mut root, job))
 }

@@ -5,4 +5,4 @@ use Rattle.trace_runs.proofs.Following.{code_starts}
 use Rattle.trace_runs.proofs.beside.lead_hosts.Goals as goal
 
 pub returns-clause-ok : goal.returns-clause-ok
-returns-clause-ok g c k formed stands = c.lead.ensures k (code_starts (code_of c.args.root) (code_of c.args.root) (HasRun c.args.root) k refl formed stands c.requires.none)
+returns-clause-ok g c k formed stands = c.lead_all.ensures k (code_starts (code_of c.args.root) (code_of c.args.root) (HasRun c.args.root) k refl formed stands c.requires.none)
