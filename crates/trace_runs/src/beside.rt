@@ -160,25 +160,37 @@ impl<'g, 'c, P: Port<ForecWork> + Drop + Send, G: Gate + Sync> Runnable for Work
     }
 }
 
-/// The workers, whom the calling thread serves while it waits.
-#[derive(Drop)]
-struct Others<'w, 'g, 'c, P: Port<ForecWork> + Drop, G> {
-    workers: &'w Workers<'g, 'c, P, G>,
+/// What OS threads do beside each other, and the calling thread too while it waits.
+trait Shared: Runnable {
+    /// Serves one whose core was rung and that nobody has in hand. Returns whether there was one.
+    fn serve_rung<R: Wait>(&self, rt: &R) -> bool;
 }
 
-impl<'w, 'g, 'c, P: Port<ForecWork> + Drop, G: Gate> Serve for Others<'w, 'g, 'c, P, G> {
-    ghost use Rattle.std.specs.Prelude.{[]};
-
-    ghost kept = { λ o. record { borrow = 0; hosts = [] } };
-
-    fn serve<R: Wait>(&mut self, rt: &R) -> bool {
-        match self.workers.take_rung() {
+impl<'g, 'c, P: Port<ForecWork> + Drop + Send, G: Gate + Sync> Shared for Workers<'g, 'c, P, G> {
+    fn serve_rung<R: Wait>(&self, rt: &R) -> bool {
+        match self.take_rung() {
             Some(mut worker) => {
                 worker.serve(rt);
                 true
             }
             None => false,
         }
+    }
+}
+
+/// The workers, whom the calling thread serves while it waits.
+#[derive(Drop)]
+struct Others<'w, W> {
+    workers: &'w W,
+}
+
+impl<'w, W: Shared> Serve for Others<'w, W> {
+    ghost use Rattle.std.specs.Prelude.{[]};
+
+    ghost kept = { λ o. record { borrow = 0; hosts = [] } };
+
+    fn serve<R: Wait>(&mut self, rt: &R) -> bool {
+        self.workers.serve_rung(rt)
     }
 
     fn is_empty(&self) -> bool {
@@ -200,7 +212,8 @@ fn locked<'g, 'c, P: Port<ForecWork> + Drop, G: Gate>(
 
 /// What the calling thread does beside the workers: it leads, and stops all.
 fn lead_beside<O: Serve, T: Ticker + StopWorkers, J: Lead, G: Gate, R: Wait>(
-    setting: &Setting<'_, G, R>,
+    rt: &R,
+    gate: &G,
     others: &mut O,
     ticker: &mut T,
     job: &mut J,
@@ -208,34 +221,44 @@ fn lead_beside<O: Serve, T: Ticker + StopWorkers, J: Lead, G: Gate, R: Wait>(
     requires can { CanLead (J.can job.old) (T.shape ticker.old) (T.live ticker.old) (T.ready ticker.old) }
     ensures { DidFromStart (T.shape ticker.old) (T.follows ticker.old) (J.did job.old job.new) result }
 {
-    let mut company = Company {
-        rt: setting.rt,
-        gate: setting.gate,
-        others,
-    };
+    let mut company = Company { rt, gate, others };
     let status = job.lead(&mut company, ticker);
     ticker.stop();
     status
 }
 
+/// Leads in the calling thread, and serves the workers while it waits.
+fn lead_among<W: Shared, T: Ticker + StopWorkers, J: Lead, G: Gate, R: Wait>(
+    rt: &R,
+    gate: &G,
+    workers: &W,
+    ticker: &mut T,
+    job: &mut J,
+) -> Status
+    requires can { CanLead (J.can job.old) (T.shape ticker.old) (T.live ticker.old) (T.ready ticker.old) }
+    ensures { DidFromStart (T.shape ticker.old) (T.follows ticker.old) (J.did job.old job.new) result }
+{
+    let mut others = Others { workers };
+    lead_beside(rt, gate, &mut others, ticker, job)
+}
+
 /// Starts OS threads for the workers, and leads beside them.
-fn lead_all<
-    W: Runnable + Sync,
-    O: Serve,
-    T: Ticker + StopWorkers,
-    J: Lead,
-    G: Gate,
-    R: Threads + Wait + Sync,
->(setting: &Setting<'_, G, R>, workers: &W, others: &mut O, ticker: &mut T, job: &mut J) -> Status
+fn lead_all<W: Shared + Sync, T: Ticker + StopWorkers, J: Lead, G: Gate, R: Threads + Wait + Sync>(
+    rt: &R,
+    gate: &G,
+    workers: &W,
+    ticker: &mut T,
+    job: &mut J,
+) -> Status
     requires can { CanLead (J.can job.old) (T.shape ticker.old) (T.live ticker.old) (T.ready ticker.old) }
     ensures { DidFromStart (T.shape ticker.old) (T.follows ticker.old) (J.did job.old job.new) result }
 {
     with_workers(
-        setting.rt,
+        rt,
         workers,
         &mut || -> Status
             requires can { CanLead (J.can job.now) (T.shape ticker.now) (T.live ticker.now) (T.ready ticker.now) }
-        { lead_beside(setting, others, ticker, job) },
+        { lead_among(rt, gate, workers, ticker, job) },
     )
 }
 
@@ -285,8 +308,6 @@ pub fn lead_hosts<
         rings,
         threads: threads_beside(setting.rt),
     };
-    let shared = &workers;
-    let mut others = Others { workers: shared };
     let mut root = Root { host: root };
-    Ok(lead_all(setting, shared, &mut others, &mut root, job))
+    Ok(lead_all(setting.rt, setting.gate, &workers, &mut root, job))
 }
