@@ -21,47 +21,28 @@ use std::sync::{Mutex, MutexGuard, Wait};
 use std::thread::{Threads, available_parallelism};
 use worker_scope::{Runnable, with_workers};
 
-/// A worker, and the gate that it passes.
-#[derive(Drop)]
-struct GatedWorker<'g, 'c, P: Port<ForecWork> + Drop, G> {
-    worker: Worker<'c, P>,
-    gate: &'g G,
-}
-
-impl<'g, 'c, P: Port<ForecWork> + Drop, G: Gate> GatedWorker<'g, 'c, P, G> {
-    /// Serves until nothing is left to do.
-    fn serve<R: Wait>(&mut self, rt: &R) {
-        let gate = self.gate;
-        for _ in rt.forever() {
-            if !self.worker.serve_beside(rt, gate) {
-                return;
-            }
-        }
-    }
-}
-
 /// A worker in its lock, with its core.
 #[derive(Drop)]
-struct LockedWorker<'g, 'c, P: Port<ForecWork> + Drop, G> {
+struct LockedWorker<'c, P: Port<ForecWork> + Drop> {
     core: u32,
-    worker: Mutex<GatedWorker<'g, 'c, P, G>>,
+    worker: Mutex<Worker<'c, P>>,
 }
 
-impl<'g, 'c, P: Port<ForecWork> + Drop, G: Gate> LockedWorker<'g, 'c, P, G> {
-    fn new(worker: Worker<'c, P>, gate: &'g G) -> LockedWorker<'g, 'c, P, G> {
+impl<'c, P: Port<ForecWork> + Drop> LockedWorker<'c, P> {
+    fn new(worker: Worker<'c, P>) -> LockedWorker<'c, P> {
         let core = match worker.rope() {
             Some(rope) => rope.core(),
             None => 0,
         };
         LockedWorker {
             core,
-            worker: Mutex::new(GatedWorker { worker, gate }),
+            worker: Mutex::new(worker),
         }
     }
 
     /// The worker, if its core was rung and nobody has it in hand. Who had it in hand looks at the rung cores again before it sleeps, since
     /// others left the worker to it.
-    fn take(&self, rung: Rung) -> Option<MutexGuard<'_, GatedWorker<'g, 'c, P, G>>> {
+    fn take(&self, rung: Rung) -> Option<MutexGuard<'_, Worker<'c, P>>> {
         if rung.has(self.core) {
             self.worker.try_lock()
         } else {
@@ -70,25 +51,40 @@ impl<'g, 'c, P: Port<ForecWork> + Drop, G: Gate> LockedWorker<'g, 'c, P, G> {
     }
 
     /// Serves the worker until nothing is left to do, unless somebody has it in hand. Whether the workers are to stop.
-    fn is_stopped<R: Wait>(&self, rt: &R) -> bool {
+    fn is_stopped<G: Gate, R: Wait>(&self, rt: &R, gate: &G) -> bool {
         match self.worker.try_lock() {
             Some(mut own) => {
-                own.serve(rt);
-                own.worker.stopped()
+                serve_all(rt, gate, &mut own);
+                own.stopped()
             }
             None => false,
         }
     }
 
     fn take_bed<R: Wait>(&self, rt: &R) -> Option<Bed<'c>> {
-        self.worker.lock(rt).worker.take_bed()
+        self.worker.lock(rt).take_bed()
+    }
+}
+
+/// Serves until nothing is left to do.
+fn serve_all<P: Port<ForecWork> + Drop, G: Gate, R: Wait>(
+    rt: &R,
+    gate: &G,
+    worker: &mut Worker<'_, P>,
+) {
+    for _ in rt.forever() {
+        if !worker.serve_beside(rt, gate) {
+            return;
+        }
     }
 }
 
 /// The workers of all cores but that of thread 0, each in its lock: whoever has nothing else to do serves those that were rung.
 #[derive(Drop)]
 struct Workers<'g, 'c, P: Port<ForecWork> + Drop, G> {
-    all: Vec<LockedWorker<'g, 'c, P, G>>,
+    all: Vec<LockedWorker<'c, P>>,
+    /// What each of them passes.
+    gate: &'g G,
     rings: Option<Rings<'c>>,
     /// How many OS threads there may be for them.
     threads: usize,
@@ -96,7 +92,7 @@ struct Workers<'g, 'c, P: Port<ForecWork> + Drop, G> {
 
 impl<'g, 'c, P: Port<ForecWork> + Drop, G: Gate> Workers<'g, 'c, P, G> {
     /// The first worker whose core was rung and that nobody has in hand.
-    fn take_rung(&self) -> Option<MutexGuard<'_, GatedWorker<'g, 'c, P, G>>> {
+    fn take_rung(&self) -> Option<MutexGuard<'_, Worker<'c, P>>> {
         let rung = self.rings?.rung();
         if rung.is_empty() {
             return None;
@@ -113,8 +109,8 @@ impl<'g, 'c, P: Port<ForecWork> + Drop, G: Gate> Workers<'g, 'c, P, G> {
     /// The same, but this worker comes first.
     fn take_from<'w>(
         &'w self,
-        own: &'w LockedWorker<'g, 'c, P, G>,
-    ) -> Option<MutexGuard<'w, GatedWorker<'g, 'c, P, G>>> {
+        own: &'w LockedWorker<'c, P>,
+    ) -> Option<MutexGuard<'w, Worker<'c, P>>> {
         let taken = own.take(self.rings?.rung());
         if taken.is_some() {
             return taken;
@@ -124,20 +120,16 @@ impl<'g, 'c, P: Port<ForecWork> + Drop, G: Gate> Workers<'g, 'c, P, G> {
 
     /// What the thread of a worker does until the workers are to stop: it serves those that were rung, and else waits. It no longer says
     /// that it sleeps while it serves.
-    fn attend<'w, R: Wait>(
-        &'w self,
-        rt: &R,
-        own: &'w LockedWorker<'g, 'c, P, G>,
-        bed: &mut Bed<'c>,
-    ) {
+    fn attend<'w, R: Wait>(&'w self, rt: &R, own: &'w LockedWorker<'c, P>, bed: &mut Bed<'c>) {
+        let gate = self.gate;
         for _ in rt.forever() {
-            if bed.lies() && own.is_stopped(rt) {
+            if bed.lies() && own.is_stopped(rt, gate) {
                 return;
             }
             match self.take_from(own) {
                 Some(mut worker) => {
                     bed.rise();
-                    worker.serve(rt);
+                    serve_all(rt, gate, &mut worker);
                 }
                 None => bed.rest(rt),
             }
@@ -168,9 +160,10 @@ trait Shared: Runnable {
 
 impl<'g, 'c, P: Port<ForecWork> + Drop + Send, G: Gate + Sync> Shared for Workers<'g, 'c, P, G> {
     fn serve_rung<R: Wait>(&self, rt: &R) -> bool {
+        let gate = self.gate;
         match self.take_rung() {
             Some(mut worker) => {
-                worker.serve(rt);
+                serve_all(rt, gate, &mut worker);
                 true
             }
             None => false,
@@ -198,15 +191,14 @@ impl<'w, W: Shared> Serve for Others<'w, W> {
     }
 }
 
-/// Workers in their locks, each with this gate.
-fn locked<'g, 'c, P: Port<ForecWork> + Drop, G: Gate>(
+/// Workers in their locks.
+fn locked<'c, P: Port<ForecWork> + Drop>(
     alloc: Global,
     workers: Vec<Worker<'c, P>>,
-    gate: &'g G,
-) -> Result<Vec<LockedWorker<'g, 'c, P, G>>, AllocError> {
+) -> Result<Vec<LockedWorker<'c, P>>, AllocError> {
     workers
         .into_iter()
-        .map(|worker| LockedWorker::new(worker, gate))
+        .map(|worker| LockedWorker::new(worker))
         .collect(alloc)
 }
 
@@ -298,13 +290,14 @@ pub fn lead_hosts<
     ensures ok { IfOk result (DidForEach (code_of root.entry) (J.did job.old job.new)) }
     ensures err { OnErr result (job.new ≡ job.old) }
 {
-    let all = locked(setting.alloc, workers, setting.gate)?;
+    let all = locked(setting.alloc, workers)?;
     let rings = match root.rope() {
         Some(rope) => Some(rope.rings()),
         None => None,
     };
     let workers = Workers {
         all,
+        gate: setting.gate,
         rings,
         threads: threads_beside(setting.rt),
     };
