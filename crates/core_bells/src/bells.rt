@@ -3,11 +3,13 @@ ghost use Rattle.std.specs.Prelude.{◌≡◌, ◌<◌, All, IfOk, List, length,
 ghost use Rattle.thread_code.specs.Plain.{plain_code};
 ghost use Rattle.core_bells.specs.Ropes.{AreFirsts, AreNewFirst, FitFirst, RopeState, new_ropes};
 
+use crate::bed::Bed;
 use crate::belfry::{Belfry, LooseRope};
 use crate::hints::{HintPass, HintQueue};
 use crate::passes::{open_all, passes_of};
 use crate::rooms::{all_ends, places_of};
 use crate::rope::Rope;
+use crate::watch::Watch;
 use core_alloc::Placement;
 use crossbeam_utils::sync::{Parker, Unparker};
 use forec_base::OutOfMemory;
@@ -83,11 +85,13 @@ impl Bells {
         let cores = placement.cores();
         let (queues, mut firsts) = open_all(alloc, &ends, cores)?;
         let (loose, unparkers) = loosen(alloc, &queues, &mut firsts, cores)?;
+        let watch = Watch::new(&places);
         let belfry = Belfry {
             cores,
             places,
             queues,
             unparkers,
+            watch,
         };
         Ok(Bells { belfry, loose })
     }
@@ -114,7 +118,8 @@ impl Bells {
                 belfry,
                 core,
                 passes,
-                parker,
+                bed: Some(Bed::new(belfry, core, parker)),
+                due: None,
                 pushed: 0,
             });
         }

@@ -2,10 +2,10 @@
 ghost use Rattle.std.specs.Prelude.{◌≡◌, ◌<◌, ◌+◌, ◌-◌, ◌^◌, All, IfSome, None, cond, length, min, slice_get, true, false};
 ghost use Rattle.core_bells.specs.Ropes.{HasHinted, IsSameRope, WasEmpty, WasFull, after_ring, after_rope_pop, capped, own_log, pushed_by};
 
+use crate::bed::{Bed, Rings};
 use crate::belfry::Belfry;
 use crate::hints::HintPass;
 use crate::queue::{pop, push};
-use crossbeam_utils::sync::Parker;
 use std::marker::Model;
 use std::sync::Wait;
 
@@ -20,7 +20,10 @@ pub struct Rope<'b> {
     pub(crate) core: u32,
     /// At c, the pass of core c's queue.
     pub(crate) passes: Vec<HintPass>,
-    pub(crate) parker: Parker,
+    /// What the core waits by, unless it was taken.
+    pub(crate) bed: Option<Bed<'b>>,
+    /// The core that was hinted to last, while it wasn't woken for that.
+    pub(crate) due: Option<u32>,
     /// How many hints were pushed, or the greatest number where there are more.
     pub(crate) pushed: u64,
 }
@@ -72,9 +75,9 @@ impl<'b> Rope<'b> {
         let _ = &self.core;
     }
 
-    /// Pushes a hint to a core's queue, and wakes that core. Whether the hint fitted; where it didn't, the queue was full at one
-    /// moment of the call, and the core is woken all the same.
-    pub fn ring<R: Wait>(&mut self, rt: &R, core: u32, mailbox: u32) -> bool
+    /// Pushes a hint to a core's queue, and rings that core. Whether the hint fitted; where it didn't, the queue was full at one
+    /// moment of the call, and the core is rung all the same.
+    fn post<R: Wait>(&mut self, rt: &R, core: u32, mailbox: u32) -> bool
         requires { core < self.old.placement.cores }
         ensures state { self.new ≡ after_ring core mailbox result self.old }
         ensures full { result ≡ false → WasFull core self.old }
@@ -82,8 +85,44 @@ impl<'b> Rope<'b> {
         let at = core as usize;
         let fits = push(rt, &self.belfry.queues[at], &mut self.passes[at], mailbox);
         self.pushed = counted(self.pushed, fits);
-        self.wake(core);
+        self.belfry.watch.ring(core);
         fits
+    }
+
+    /// Pushes a hint to a core's queue, and wakes that core. Whether the hint fitted; where it didn't, the queue was full at one
+    /// moment of the call, and the core is woken all the same.
+    pub fn ring<R: Wait>(&mut self, rt: &R, core: u32, mailbox: u32) -> bool
+        requires { core < self.old.placement.cores }
+        ensures state { self.new ≡ after_ring core mailbox result self.old }
+        ensures full { result ≡ false → WasFull core self.old }
+    {
+        let fits = self.post(rt, core, mailbox);
+        self.belfry.wake(core);
+        fits
+    }
+
+    /// A core was rung. That of thread 0 is woken; another one is woken once a further core is rung, or this one has something else
+    /// to do, or finds nothing: until then this core may look there itself.
+    fn leave_due(&mut self, core: u32)
+        ensures { self.new ≡ self.old }
+    {
+        if self.belfry.watch.is_root(core) {
+            self.belfry.wake(core);
+        } else if self.due != Some(core) {
+            self.wake_due();
+            self.due = Some(core);
+        }
+    }
+
+    /// Wakes the core that was hinted to last, if nobody has looked there since.
+    pub fn wake_due(&mut self)
+        ensures { self.new ≡ self.old }
+    {
+        if let Some(core) = self.due.take() {
+            if self.belfry.watch.is_rung(core) {
+                self.belfry.wake_for_work(core);
+            }
+        }
     }
 
     /// The core of a thread, if there is such a thread.
@@ -99,15 +138,17 @@ impl<'b> Rope<'b> {
         }
     }
 
-    /// Pushes a hint to the queue of a thread's core, if that is another core, and wakes it. A hint that doesn't fit is dropped, and
-    /// the core is woken all the same. A core needs no hint from itself.
+    /// Pushes a hint to the queue of a thread's core, if that is another core, and rings it. A hint that doesn't fit is dropped, and
+    /// the core is rung all the same. It is woken too, but the core that was hinted to last only by the next hint, by
+    /// [`Rope::wake_due`] or by [`Rope::rest`]. A core needs no hint from itself.
     pub fn hint<R: Wait>(&mut self, rt: &R, thread: u32, mailbox: u32)
         ensures hinted { HasHinted thread mailbox self.old self.new }
         ensures same { IsSameRope self.old self.new }
     {
         if let Some(core) = self.core_of(thread) {
             if core != self.core {
-                self.ring(rt, core, mailbox);
+                self.post(rt, core, mailbox);
+                self.leave_due(core);
             }
         }
     }
@@ -118,26 +159,59 @@ impl<'b> Rope<'b> {
         ensures same { IsSameRope self.old self.new }
         ensures empty { result ≡ None → WasEmpty self.old }
     {
+        self.belfry.watch.hear(self.core);
         let at = self.core as usize;
         pop(rt, &self.belfry.queues[at], &mut self.passes[at])
     }
 
-    /// Wakes a core.
-    fn wake(&self, core: u32) {
-        if let Some(unparker) = self.belfry.unparkers.get(core as usize) {
-            unparker.unpark();
+    /// What a core does after it looked at all that it serves, and found nothing to do: the core that it hinted to last is woken, if
+    /// nobody has looked there since. Then it waits as [`Bed::rest`] says, if its bed was not taken.
+    pub fn rest<R: Wait>(&mut self, rt: &R)
+        ensures { self.new ≡ self.old }
+    {
+        self.wake_due();
+        if let Some(bed) = &mut self.bed {
+            bed.rest(rt);
         }
     }
 
-    /// Wakes every core, this one too.
+    /// The core found something to do, so it doesn't sleep.
+    pub fn rise(&mut self)
+        ensures { self.new ≡ self.old }
+    {
+        if let Some(bed) = &mut self.bed {
+            bed.rise();
+        }
+    }
+
+    /// What the core waits by. The rope has none from then on.
+    pub fn take_bed(&mut self) -> Option<Bed<'b>>
+        ensures { self.new ≡ self.old }
+    {
+        self.bed.take()
+    }
+
+    /// What all cores see of each other.
+    pub fn rings(&self) -> Rings<'b> {
+        Rings {
+            belfry: self.belfry,
+        }
+    }
+
+    /// Wakes every core, this one too. From then on none sleeps.
     pub fn wake_all(&self) {
-        for unparker in &self.belfry.unparkers {
-            unparker.unpark();
+        self.belfry.watch.close();
+        for core in 0..self.belfry.cores {
+            self.belfry.wake(core);
         }
     }
 
-    /// Sleeps until this core is woken. If it was woken since the last sleep it doesn't sleep at all.
-    pub fn sleep<R: Wait>(&self, rt: &R) {
-        self.parker.park(rt);
+    /// Sleeps until this core is woken. If it was rung and nobody has looked there since, or all were woken, it doesn't sleep at all.
+    pub fn sleep<R: Wait>(&mut self, rt: &R)
+        ensures { self.new ≡ self.old }
+    {
+        if let Some(bed) = &mut self.bed {
+            bed.sleep(rt);
+        }
     }
 }

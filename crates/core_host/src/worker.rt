@@ -1,5 +1,5 @@
 //! What works beside a tick: hosts without thread 0.
-ghost use Rattle.std.specs.Prelude.{◌≡◌, ◌<◌, ℕ, suc, List, IfOk, IfErr, map, true, false};
+ghost use Rattle.std.specs.Prelude.{◌≡◌, ◌<◌, ℕ, suc, List, IfOk, IfErr, map, option_map, true, false};
 ghost use Rattle.forec_kernel.specs.Composed.{TickInput};
 ghost use Rattle.forec_kernel.specs.Engine.{Job};
 ghost use Rattle.copy_slots.specs.Ports.{after_stop, after_check};
@@ -9,6 +9,7 @@ ghost use Rattle.core_host.specs.Runs.{AreIdleHere, HasJobs, HasRun};
 
 use crate::host::Host;
 use copy_slots::Port;
+use core_bells::{Bed, Rope};
 use core_seats::{ForecWork, Serve};
 use forec_base::Gate;
 use std::marker::Model;
@@ -102,6 +103,27 @@ impl<'c, P: Port<ForecWork> + Drop> Host<'c, P> {
         self.scheduler.stopped()
     }
 
+    /// Its core found something to do.
+    fn rise(&mut self)
+        ensures { self.new ≡ self.old }
+    {
+        self.round.rise();
+    }
+
+    /// Its core found nothing to do. With a rope it waits, and else it lets other threads run.
+    fn rest<R: Wait>(&mut self, rt: &R)
+        ensures { self.new ≡ self.old }
+    {
+        self.round.rest(rt, false, true);
+    }
+
+    /// What its core waits by, if a rope hangs and it was not taken yet.
+    fn take_bed(&mut self) -> Option<Bed<'c>>
+        ensures { self.new ≡ self.old }
+    {
+        self.round.take_bed()
+    }
+
     /// Serves, for as long as the workers are not stopped. It returns the host, and only after it loaded a stop word 1.
     ///
     /// A host with a rope sleeps after some time in which there was nothing to do, until it is woken; else it looks all
@@ -113,16 +135,15 @@ impl<'c, P: Port<ForecWork> + Drop> Host<'c, P> {
         ensures same { IsSameHost self.entry result }
     {
         let mut host = self;
-        let mut looks = 0;
         for _ in rt.forever() {
             if host.serve_beside(rt, gate) {
-                looks = 0;
+                host.rise();
                 continue;
             }
             if host.stopped() {
                 return host;
             }
-            looks = host.round.rest(rt, false, true, looks);
+            host.rest(rt);
         }
         unreachable!()
     }
@@ -170,6 +191,28 @@ impl<'c, P: Port<ForecWork> + Drop> Worker<'c, P> {
         ensures same { IsSameHost self.old self.new }
     {
         self.host.serve_beside(rt, gate)
+    }
+
+    /// Its rope, if one hangs.
+    pub fn rope(&self) -> Option<&Rope<'c>>
+        ensures { option_map (λ r. r.now) result ≡ self.now.rope }
+    {
+        self.host.rope()
+    }
+
+    /// Loads the stop word: whether it was stored.
+    pub fn stopped(&mut self) -> bool
+        ensures loaded { self.new ≡ record self.old { mail = after_check result self.old.mail } }
+        ensures grown { Grown self.old.mail self.new.mail }
+    {
+        self.host.stopped()
+    }
+
+    /// What its core waits by, if a rope hangs and it was not taken yet. Whoever has it says when the core sleeps.
+    pub fn take_bed(&mut self) -> Option<Bed<'c>>
+        ensures { self.new ≡ self.old }
+    {
+        self.host.take_bed()
     }
 
     /// Serves, as [`Host::run`] does, and returns its host once that has loaded a stop word 1.

@@ -164,14 +164,14 @@ impl<'c, P: Port<ForecWork> + Drop> Scheduler<'c, P> {
             → HasReplies self.new thread.now pairs }
         ensures others { O.kept others.new ≡ O.kept others.old }
     {
-        let mut looks = 0;
         for _ in rt.forever() {
             let mine = self.serve_sweep(rt, gate, round);
             let theirs = others.serve(rt);
             if self.gather_replies(thread) {
+                round.rise();
                 return;
             }
-            looks = round.rest(rt, mine || theirs, others.is_empty(), looks);
+            round.rest(rt, mine || theirs, others.is_empty());
         }
         unreachable!()
     }

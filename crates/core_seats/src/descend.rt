@@ -230,6 +230,7 @@ impl<'c, P: Port<ForecWork> + Drop> Scheduler<'c, P> {
     {
         match self.take_up(gate, mailbox) {
             Some(active) => {
+                round.set_out();
                 self.advance_down(rt, gate, active, round);
                 true
             }

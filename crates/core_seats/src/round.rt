@@ -2,13 +2,9 @@
 ghost use Rattle.std.specs.Prelude.{◌≡◌, ◌<◌, ◌+◌, true, false};
 ghost use Rattle.core_seats.specs.Hung.{KeepsRope};
 
-use core_bells::Rope;
+use core_bells::{Bed, Rope};
 use std::sync::Wait;
 use std::thread::yield_now;
-
-/// How often a core looks in vain before it sleeps. What it waits for within a tick mostly comes sooner, and to wake a core takes
-/// longer than to look.
-const PATIENCE: u32 = 1024;
 
 /// The mailboxes of a host's threads, and how it goes round them.
 #[derive(Drop)]
@@ -36,22 +32,56 @@ impl<'c> Round<'c> {
         }
     }
 
-    /// What a core does after a look: it goes on if it found something to do. Else it lets other threads run, or sleeps until it is
-    /// woken, if it may, has a rope, and has looked in vain for long enough. How often it has looked in vain since.
-    pub fn rest<R: Wait>(&self, rt: &R, found: bool, may_sleep: bool, looks: u32) -> u32
-        ensures { found ≡ true → result ≡ 0 }
+    /// What a core does after it looked at all that it serves: where it found something to do it goes on. Else it looks for rings and then
+    /// sleeps until it is woken, if it may and has a rope, or else lets other threads run.
+    pub fn rest<R: Wait>(&mut self, rt: &R, found: bool, may_sleep: bool)
+        ensures { self.new ≡ self.old }
     {
         if found {
-            return 0;
+            self.rise();
+        } else if may_sleep {
+            self.sleep(rt);
+        } else {
+            yield_now();
         }
-        if may_sleep && looks >= PATIENCE {
-            if let Some(rope) = &self.rope {
-                rope.sleep(rt);
-                return 0;
-            }
+    }
+
+    /// The core looks for rings and then sleeps until it is woken, if it has a rope, or else lets other threads run.
+    fn sleep<R: Wait>(&mut self, rt: &R)
+        ensures { self.new ≡ self.old }
+    {
+        match &mut self.rope {
+            Some(rope) => rope.rest(rt),
+            None => yield_now(),
         }
-        yield_now();
-        looks.saturating_add(1)
+    }
+
+    /// The core found something to do.
+    pub fn rise(&mut self)
+        ensures { self.new ≡ self.old }
+    {
+        if let Some(rope) = &mut self.rope {
+            rope.rise();
+        }
+    }
+
+    /// What its core waits by, if it has a rope and that was not taken yet.
+    pub fn take_bed(&mut self) -> Option<Bed<'c>>
+        ensures { self.new ≡ self.old }
+    {
+        match &mut self.rope {
+            Some(rope) => rope.take_bed(),
+            None => None,
+        }
+    }
+
+    /// The core is about to run a thread: the core that it hinted to last is woken, if nobody has looked there.
+    pub(crate) fn set_out(&mut self)
+        ensures { self.new ≡ self.old }
+    {
+        if let Some(rope) = &mut self.rope {
+            rope.wake_due();
+        }
     }
 }
 

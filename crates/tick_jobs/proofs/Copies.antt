@@ -37,7 +37,7 @@ copy_counted from (c ∷ cs) (suc v) n d lt e =
     ap (λ b. cond b c (copy_of (count_up (suc from) (length cs)) cs n)) (other_number from n (omega arith))
     ∙ copy_counted (suc from) cs v n d (omega arith) (omega arith)
 
-below_is : (a n : ℕ) (b : Bool) → IsTrue (nat_lt a n && b) → (a < n) × IsTrue b
+pub below_is : (a n : ℕ) (b : Bool) → IsTrue (nat_lt a n && b) → (a < n) × IsTrue b
 below_is a n b h = pick (nat_lt a n) refl h
   where
     pick : (t : Bool) → nat_lt a n ≡ t → IsTrue (t && b) → (a < n) × IsTrue b

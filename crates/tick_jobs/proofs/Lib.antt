@@ -2,6 +2,7 @@ pub mod Lists
 pub mod Pairs
 pub mod Branching
 pub mod Copies
+pub mod InARow
 pub mod Rooms
 pub mod KeptCopies
 pub mod Readiness

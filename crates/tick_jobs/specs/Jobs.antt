@@ -1,5 +1,5 @@
 -- The jobs that a host gives its thread.
-use Rattle.std.specs.Prelude.{ℕ, ℤ, List, []}
+use Rattle.std.specs.Prelude.{ℕ, ◌+◌, ◌==◌, ℤ, Bool, true, List, [], ◌∷◌, ◌&&◌}
 use Rattle.forec_kernel.specs.declared.shape.VarCopy.{VarCopy}
 use Rattle.forec_kernel.specs.Shapes.{PlainShape}
 use Rattle.forec_kernel.specs.Texts.{uses_in}
@@ -35,3 +35,9 @@ job_of s p row budget = job_with p.kind (values_in (copies_at s p row)) budget
 abbrev pub kind_of : PacketKind → PacketKind
 kind_of kind.Blank = kind.Start
 kind_of _ = kind.Wake
+
+-- each number is one more than the one before it
+abbrev pub follow_each_other : List ℕ → Bool
+follow_each_other [] = true
+follow_each_other (a ∷ []) = true
+follow_each_other (a ∷ b ∷ rest) = (b == a + 1) && follow_each_other (b ∷ rest)

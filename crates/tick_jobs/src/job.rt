@@ -5,9 +5,10 @@ ghost use Rattle.forec_kernel.specs.Packed.{HasRoom, IsJob};
 ghost use Rattle.forec_kernel.specs.Shapes.{plain_shape};
 ghost use Rattle.forec_kernel.specs.Ticks.{start_copies, unmarked, with_row};
 ghost use Rattle.forec_kernel.specs.WellFormed.{all_below, count_up};
+ghost use Rattle.forec_base.specs.declared.limits.TheConstants.{MAX_GLOBALS};
 ghost use Rattle.combine_tree.specs.Plain.{plain_packet};
 ghost use Rattle.thread_code.specs.Valid.{FineShape, of_shape};
-ghost use Rattle.tick_jobs.specs.Jobs.{IsBetween, copies_before, job_of, kind_of};
+ghost use Rattle.tick_jobs.specs.Jobs.{IsBetween, copies_before, follow_each_other, job_of, kind_of};
 
 use combine_tree::{Packet, PacketKind};
 use forec_kernel::{Shape, VarCopy, Variable};
@@ -33,8 +34,36 @@ fn clear_marks(copies: &mut [VarCopy])
     }
 }
 
+/// Whether the inputs are variables that follow each other, so that their copies lie beside each other.
+fn are_in_a_row(inputs: &[u32]) -> bool
+    requires small { IsTrue (all_below MAX_GLOBALS inputs.now) }
+    ensures { result ≡ follow_each_other inputs.now }
+{
+    let mut follow = true;
+    for i in 1..inputs.len() {
+        follow &= inputs[i] == inputs[i - 1] + 1;
+    }
+    follow
+}
+
+/// The copies of inputs that follow each other get the values of the row, unmarked.
+fn write_in_a_row(copies: &mut [VarCopy], inputs: &[u32], row: &[i32])
+    requires inputs { IsTrue (all_below (length copies.old) inputs.now) }
+    requires row { length row.now ≡ length inputs.now }
+    requires follow { IsTrue (follow_each_other inputs.now) }
+    ensures { copies.new ≡ with_row (count_up 0 (length copies.old)) inputs.now row.now copies.old }
+{
+    let values = &row[..inputs.len()];
+    for i in 0..inputs.len() {
+        copies[inputs[0] as usize + i] = VarCopy {
+            value: values[i],
+            modified: false,
+        };
+    }
+}
+
 /// The copies of the inputs get the values of the row, unmarked.
-fn write_row(copies: &mut [VarCopy], inputs: &[u32], row: &[i32])
+fn write_each(copies: &mut [VarCopy], inputs: &[u32], row: &[i32])
     requires inputs { IsTrue (all_below (length copies.old) inputs.now) }
     requires row { length row.now ≡ length inputs.now }
     ensures { copies.new ≡ with_row (count_up 0 (length copies.old)) inputs.now row.now copies.old }
@@ -45,6 +74,20 @@ fn write_row(copies: &mut [VarCopy], inputs: &[u32], row: &[i32])
             value: values[i],
             modified: false,
         };
+    }
+}
+
+/// The copies of the inputs get the values of the row, unmarked: in one sweep where they lie beside each other.
+fn write_row(copies: &mut [VarCopy], inputs: &[u32], row: &[i32])
+    requires inputs { IsTrue (all_below (length copies.old) inputs.now) }
+    requires small { IsTrue (all_below MAX_GLOBALS inputs.now) }
+    requires row { length row.now ≡ length inputs.now }
+    ensures { copies.new ≡ with_row (count_up 0 (length copies.old)) inputs.now row.now copies.old }
+{
+    if are_in_a_row(inputs) {
+        write_in_a_row(copies, inputs, row);
+    } else {
+        write_each(copies, inputs, row);
     }
 }
 

@@ -1,6 +1,6 @@
 //! What the calling thread does beside the workers of the other cores.
 
-ghost use Rattle.std.specs.Prelude.{◌≡◌, ◌+◌, ◌<◌, ◌≤◌, [], true, length, IfOk, OnErr, vec_len, vec_capacity};
+ghost use Rattle.std.specs.Prelude.{◌≡◌, [], true, IfOk, OnErr};
 ghost use Rattle.core_host.specs.Hosted.{code_of, is_here, is_live};
 ghost use Rattle.core_host.specs.Runs.{HasRun};
 ghost use Rattle.trace_runs.specs.Hosting.{DidForEach};
@@ -12,181 +12,259 @@ use crate::setting::{Company, Setting};
 use crate::status::Status;
 use crate::ticker::Ticker;
 use copy_slots::Port;
+use core_bells::{Bed, Rings, Rung};
 use core_host::{Host, Worker};
 use core_seats::{ForecWork, Serve};
 use forec_base::{Gate, OutOfMemory};
 use std::alloc::{AllocError, Global};
-use std::sync::{Mutex, Wait};
-use std::thread::Threads;
-use worker_scope::{Pending, Runnable, take_refused, with_workers};
+use std::sync::{Mutex, MutexGuard, Wait};
+use std::thread::{Threads, available_parallelism};
+use worker_scope::{Runnable, with_workers};
 
-/// A worker, and the gate that it passes.
+/// A worker in its lock, with its core.
 #[derive(Drop)]
-struct GatedWorker<'g, 'c, P: Port<ForecWork> + Drop, G> {
-    worker: Worker<'c, P>,
+struct LockedWorker<'c, P: Port<ForecWork> + Drop> {
+    core: u32,
+    worker: Mutex<Worker<'c, P>>,
+}
+
+impl<'c, P: Port<ForecWork> + Drop> LockedWorker<'c, P> {
+    fn new(worker: Worker<'c, P>) -> LockedWorker<'c, P> {
+        let core = match worker.rope() {
+            Some(rope) => rope.core(),
+            None => 0,
+        };
+        LockedWorker {
+            core,
+            worker: Mutex::new(worker),
+        }
+    }
+
+    /// The worker, if its core was rung and nobody has it in hand. Who had it in hand looks at the rung cores again before it sleeps, since
+    /// others left the worker to it.
+    fn take(&self, rung: Rung) -> Option<MutexGuard<'_, Worker<'c, P>>> {
+        if rung.has(self.core) {
+            self.worker.try_lock()
+        } else {
+            None
+        }
+    }
+
+    /// Serves the worker until nothing is left to do, unless somebody has it in hand. Whether the workers are to stop.
+    fn is_stopped<G: Gate, R: Wait>(&self, rt: &R, gate: &G) -> bool {
+        match self.worker.try_lock() {
+            Some(mut own) => {
+                serve_all(rt, gate, &mut own);
+                own.stopped()
+            }
+            None => false,
+        }
+    }
+
+    fn take_bed<R: Wait>(&self, rt: &R) -> Option<Bed<'c>> {
+        self.worker.lock(rt).take_bed()
+    }
+}
+
+/// Serves until nothing is left to do.
+fn serve_all<P: Port<ForecWork> + Drop, G: Gate, R: Wait>(
+    rt: &R,
+    gate: &G,
+    worker: &mut Worker<'_, P>,
+) {
+    for _ in rt.forever() {
+        if !worker.serve_beside(rt, gate) {
+            return;
+        }
+    }
+}
+
+/// The workers of all cores but that of thread 0, each in its lock: whoever has nothing else to do serves those that were rung.
+#[derive(Drop)]
+struct Workers<'g, 'c, P: Port<ForecWork> + Drop, G> {
+    all: Vec<LockedWorker<'c, P>>,
+    /// What each of them passes.
     gate: &'g G,
+    rings: Option<Rings<'c>>,
+    /// How many OS threads there may be for them.
+    threads: usize,
 }
 
-impl<'g, 'c, P: Port<ForecWork> + Drop, G: Gate> Serve for GatedWorker<'g, 'c, P, G> {
-    ghost use Rattle.std.specs.Prelude.{[]};
+impl<'g, 'c, P: Port<ForecWork> + Drop, G: Gate> Workers<'g, 'c, P, G> {
+    /// The first worker whose core was rung and that nobody has in hand.
+    fn take_rung(&self) -> Option<MutexGuard<'_, Worker<'c, P>>> {
+        let rung = self.rings?.rung();
+        if rung.is_empty() {
+            return None;
+        }
+        for worker in &self.all {
+            let taken = worker.take(rung);
+            if taken.is_some() {
+                return taken;
+            }
+        }
+        None
+    }
 
-    ghost kept = { λ w. record { borrow = 0; hosts = [] } };
+    /// The same, but this worker comes first.
+    fn take_from<'w>(
+        &'w self,
+        own: &'w LockedWorker<'c, P>,
+    ) -> Option<MutexGuard<'w, Worker<'c, P>>> {
+        let taken = own.take(self.rings?.rung());
+        if taken.is_some() {
+            return taken;
+        }
+        self.take_rung()
+    }
 
-    fn serve<R: Wait>(&mut self, rt: &R) -> bool {
+    /// What the thread of a worker does until the workers are to stop: it serves those that were rung, and else waits. It no longer says
+    /// that it sleeps while it serves.
+    fn attend<'w, R: Wait>(&'w self, rt: &R, own: &'w LockedWorker<'c, P>, bed: &mut Bed<'c>) {
         let gate = self.gate;
-        self.worker.serve_beside(rt, gate)
-    }
-
-    fn is_empty(&self) -> bool {
-        false
+        for _ in rt.forever() {
+            if bed.lies() && own.is_stopped(rt, gate) {
+                return;
+            }
+            match self.take_from(own) {
+                Some(mut worker) => {
+                    bed.rise();
+                    serve_all(rt, gate, &mut worker);
+                }
+                None => bed.rest(rt),
+            }
+        }
+        unreachable!()
     }
 }
 
-impl<'g, 'c, P: Port<ForecWork> + Drop, G: Gate> Runnable for GatedWorker<'g, 'c, P, G> {
-    fn run<R: Wait>(self, rt: &R) {
-        let GatedWorker { worker, gate } = self;
-        let _ = worker.run(rt, gate);
+impl<'g, 'c, P: Port<ForecWork> + Drop + Send, G: Gate + Sync> Runnable for Workers<'g, 'c, P, G> {
+    fn count(&self) -> usize {
+        self.all.len().min(self.threads)
+    }
+
+    fn run<R: Wait>(&self, rt: &R, at: usize) {
+        let Some(own) = self.all.get(at) else { return };
+        let Some(mut bed) = own.take_bed(rt) else {
+            return
+        };
+        self.attend(rt, own, &mut bed);
     }
 }
 
-/// The workers that have no thread: the calling thread serves them.
+/// What OS threads do beside each other, and the calling thread too while it waits.
+trait Shared: Runnable {
+    /// Serves one whose core was rung and that nobody has in hand. Returns whether there was one.
+    fn serve_rung<R: Wait>(&self, rt: &R) -> bool;
+}
+
+impl<'g, 'c, P: Port<ForecWork> + Drop + Send, G: Gate + Sync> Shared for Workers<'g, 'c, P, G> {
+    fn serve_rung<R: Wait>(&self, rt: &R) -> bool {
+        let gate = self.gate;
+        match self.take_rung() {
+            Some(mut worker) => {
+                serve_all(rt, gate, &mut worker);
+                true
+            }
+            None => false,
+        }
+    }
+}
+
+/// The workers, whom the calling thread serves while it waits.
 #[derive(Drop)]
-struct Others<H> {
-    pub workers: Vec<H>,
+struct Others<'w, W> {
+    workers: &'w W,
 }
 
-impl<H: Serve> Serve for Others<H> {
+impl<'w, W: Shared> Serve for Others<'w, W> {
     ghost use Rattle.std.specs.Prelude.{[]};
 
     ghost kept = { λ o. record { borrow = 0; hosts = [] } };
 
     fn serve<R: Wait>(&mut self, rt: &R) -> bool {
-        let mut served = false;
-        for worker in self.workers.iter_mut() {
-            if worker.serve(rt) {
-                served = true;
-            }
-        }
-        served
+        self.workers.serve_rung(rt)
     }
 
     fn is_empty(&self) -> bool {
-        self.workers.is_empty()
+        true
     }
 }
 
-/// Workers on their way to a thread, each with this gate.
-fn pending_workers<'g, 'c, P: Port<ForecWork> + Drop, G: Gate>(
+/// Workers in their locks.
+fn locked<'c, P: Port<ForecWork> + Drop>(
     alloc: Global,
     workers: Vec<Worker<'c, P>>,
-    gate: &'g G,
-) -> Result<Vec<Mutex<Pending<GatedWorker<'g, 'c, P, G>>>>, AllocError> {
+) -> Result<Vec<LockedWorker<'c, P>>, AllocError> {
     workers
         .into_iter()
-        .map(|worker| Mutex::new(Pending::new(GatedWorker { worker, gate })))
+        .map(|worker| LockedWorker::new(worker))
         .collect(alloc)
 }
 
-/// Takes a worker, if it has no thread.
-fn take_one<H: Runnable, R: Wait>(rt: &R, pending: &Mutex<Pending<H>>, others: &mut Vec<H>)
-    requires { vec_len others.old < vec_capacity others.old }
-    ensures few { vec_len others.new ≤ vec_len others.old + 1 }
-    ensures room { vec_capacity others.new ≡ vec_capacity others.old }
+/// What the calling thread does beside the workers: it leads, and stops all.
+fn lead_beside<O: Serve, T: Ticker + StopWorkers, J: Lead, G: Gate, R: Wait>(
+    rt: &R,
+    gate: &G,
+    others: &mut O,
+    ticker: &mut T,
+    job: &mut J,
+) -> Status
+    requires can { CanLead (J.can job.old) (T.shape ticker.old) (T.live ticker.old) (T.ready ticker.old) }
+    ensures { DidFromStart (T.shape ticker.old) (T.follows ticker.old) (J.did job.old job.new) result }
 {
-    if let Some(worker) = take_refused(rt, pending) {
-        others.push_reserved(worker);
-    }
+    let mut company = Company { rt, gate, others };
+    let status = job.lead(&mut company, ticker);
+    ticker.stop();
+    status
 }
 
-/// Takes the workers that have no thread.
-fn take_others<H: Runnable, R: Wait>(rt: &R, workers: &[Mutex<Pending<H>>], others: &mut Vec<H>)
-    requires { (vec_len others.old ≡ 0) × (length workers.now ≤ vec_capacity others.old) }
+/// Leads in the calling thread, and serves the workers while it waits.
+fn lead_among<W: Shared, T: Ticker + StopWorkers, J: Lead, G: Gate, R: Wait>(
+    rt: &R,
+    gate: &G,
+    workers: &W,
+    ticker: &mut T,
+    job: &mut J,
+) -> Status
+    requires can { CanLead (J.can job.old) (T.shape ticker.old) (T.live ticker.old) (T.ready ticker.old) }
+    ensures { DidFromStart (T.shape ticker.old) (T.follows ticker.old) (J.did job.old job.new) result }
 {
-    for pending in workers {
-        take_one(rt, pending, others);
-    }
+    let mut others = Others { workers };
+    lead_beside(rt, gate, &mut others, ticker, job)
 }
 
-/// All workers on their way to a thread, with the runtime, and the gate that the cores pass.
-#[derive(Drop)]
-struct Workers<'a, 'w, H, G, R> {
-    rt: &'a R,
-    gate: &'a G,
-    all: &'w [Mutex<Pending<H>>],
+/// Starts OS threads for the workers, and leads beside them.
+fn lead_all<W: Shared + Sync, T: Ticker + StopWorkers, J: Lead, G: Gate, R: Threads + Wait + Sync>(
+    rt: &R,
+    gate: &G,
+    workers: &W,
+    ticker: &mut T,
+    job: &mut J,
+) -> Status
+    requires can { CanLead (J.can job.old) (T.shape ticker.old) (T.live ticker.old) (T.ready ticker.old) }
+    ensures { DidFromStart (T.shape ticker.old) (T.follows ticker.old) (J.did job.old job.new) result }
+{
+    with_workers(
+        rt,
+        workers,
+        &mut || -> Status
+            requires can { CanLead (J.can job.now) (T.shape ticker.now) (T.live ticker.now) (T.ready ticker.now) }
+        { lead_among(rt, gate, workers, ticker, job) },
+    )
 }
 
-impl<'a, 'w, H: Runnable + Serve, G: Gate, R: Wait> Workers<'a, 'w, H, G, R> {
-    /// What the calling thread does beside the workers: it takes those that have no thread, leads, and stops all.
-    fn lead_beside<T: Ticker + StopWorkers, J: Lead>(
-        &self,
-        others: &mut Others<H>,
-        ticker: &mut T,
-        job: &mut J,
-    ) -> Status
-        requires room { (vec_len others.old.workers ≡ 0) × (length self.now.all.now ≤ vec_capacity others.old.workers) }
-        requires can { CanLead (J.can job.old) (T.shape ticker.old) (T.live ticker.old) (T.ready ticker.old) }
-        ensures { DidFromStart (T.shape ticker.old) (T.follows ticker.old) (J.did job.old job.new) result }
-    {
-        take_others(self.rt, self.all, &mut others.workers);
-        let mut company = Company {
-            rt: self.rt,
-            gate: self.gate,
-            others,
-        };
-        let status = job.lead(&mut company, ticker);
-        ticker.stop();
-        status
-    }
-}
+/// So many OS threads may work at least, on however few processors: the jobs of a few branches are then in hand beside each other.
+const FEW: usize = 4;
 
-impl<'a, 'w, H: Runnable + Serve + Send, G: Gate, R: Threads + Wait + Sync> Workers<
-    'a,
-    'w,
-    H,
-    G,
-    R,
-> {
-    /// Starts a thread for each worker, and leads beside them.
-    fn lead_all<T: Ticker + StopWorkers, J: Lead>(
-        &self,
-        others: &mut Others<H>,
-        ticker: &mut T,
-        job: &mut J,
-    ) -> Status
-        requires room { (vec_len others.old.workers ≡ 0) × (length self.now.all.now ≤ vec_capacity others.old.workers) }
-        requires can { CanLead (J.can job.old) (T.shape ticker.old) (T.live ticker.old) (T.ready ticker.old) }
-        ensures { DidFromStart (T.shape ticker.old) (T.follows ticker.old) (J.did job.old job.new) result }
-    {
-        with_workers(
-            self.rt,
-            self.all,
-            &mut || -> Status
-                requires room { (vec_len others.now.workers ≡ 0)
-                    × (length self.now.all.now ≤ vec_capacity others.now.workers) }
-                requires can { CanLead (J.can job.now) (T.shape ticker.now) (T.live ticker.now) (T.ready ticker.now) }
-            { self.lead_beside(others, ticker, job) },
-        )
-    }
-
-    /// Leads beside the workers, with room for those that get no thread.
-    ///
-    /// # Errors
-    ///
-    /// Out of memory. Then nothing was done.
-    fn lead<T: Ticker + StopWorkers, J: Lead>(
-        &self,
-        alloc: Global,
-        ticker: &mut T,
-        job: &mut J,
-    ) -> Result<Status, OutOfMemory>
-        requires can { CanLead (J.can job.old) (T.shape ticker.old) (T.live ticker.old) (T.ready ticker.old) }
-        ensures ok { IfOk result (DidFromStart (T.shape ticker.old) (T.follows ticker.old) (J.did job.old job.new)) }
-        ensures err { OnErr result (job.new ≡ job.old) }
-    {
-        let room = Vec::with_capacity(alloc, self.all.len())?;
-        let mut others = Others { workers: room };
-        Ok(self.lead_all(&mut others, ticker, job))
-    }
+/// How many OS threads there may be beside the calling one: as many as there are processors for them. Where it can't be told how many
+/// processors there are, one is counted.
+fn threads_beside<R: Threads>(rt: &R) -> usize {
+    let processors = match available_parallelism(rt) {
+        Ok(count) => count.get(),
+        Err(_) => 1,
+    };
+    processors.max(FEW).saturating_sub(1)
 }
 
 /// Leads by hosts: that of thread 0 in the calling thread, beside the workers of the other cores.
@@ -212,12 +290,17 @@ pub fn lead_hosts<
     ensures ok { IfOk result (DidForEach (code_of root.entry) (J.did job.old job.new)) }
     ensures err { OnErr result (job.new ≡ job.old) }
 {
-    let pending = pending_workers(setting.alloc, workers, setting.gate)?;
+    let all = locked(setting.alloc, workers)?;
+    let rings = match root.rope() {
+        Some(rope) => Some(rope.rings()),
+        None => None,
+    };
     let workers = Workers {
-        rt: setting.rt,
+        all,
         gate: setting.gate,
-        all: &pending,
+        rings,
+        threads: threads_beside(setting.rt),
     };
     let mut root = Root { host: root };
-    workers.lead(setting.alloc, &mut root, job)
+    Ok(lead_all(setting.rt, setting.gate, &workers, &mut root, job))
 }

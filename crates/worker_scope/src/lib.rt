@@ -1,8 +1,8 @@
-//! Workers that run in threads of their own beside the calling thread, and what the calling thread did meanwhile.
+//! Work in threads of its own beside the calling thread, and what the calling thread did meanwhile.
 #![tactic(auto)]
 
-mod pending;
+mod runnable;
 mod scope;
 
-pub use pending::{Pending, Runnable, take_refused};
+pub use runnable::Runnable;
 pub use scope::with_workers;

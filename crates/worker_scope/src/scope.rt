@@ -1,8 +1,8 @@
 //! A scope whose own work is known afterwards.
 ghost use Rattle.std.specs.Prelude.{◌≡◌};
 
-use crate::pending::{Pending, Runnable, start_all};
-use std::sync::{Mutex, Wait};
+use crate::runnable::{Runnable, start_all};
+use std::sync::Wait;
 use std::thread;
 use std::thread::Threads;
 
@@ -40,9 +40,9 @@ impl<'a, F: FnMut() -> A, A> Task for Lent<'a, F> {
 }
 
 /// Runs a task in this thread, beside the workers.
-fn run_task<R: Threads + Wait + Sync, H: Runnable + Send, T: Task<Output = A> + Drop, A>(
+fn run_task<R: Threads + Wait + Sync, H: Runnable + Sync, T: Task<Output = A> + Drop, A>(
     rt: &R,
-    workers: &[Mutex<Pending<H>>],
+    work: &H,
     task: T,
 ) -> A
     requires { T.can_run task }
@@ -55,7 +55,7 @@ fn run_task<R: Threads + Wait + Sync, H: Runnable + Send, T: Task<Output = A> + 
             requires { T.can_run task }
             ensures { T.run_gives task result }
         {
-            start_all(rt, scope, workers);
+            start_all(rt, scope, work);
             task.run()
         },
     )
@@ -66,21 +66,19 @@ fn take_back<T>(x: &mut T)
     ensures { x.new ≡ x.old }
 {}
 
-/// Calls `f` in this thread, beside a thread for each worker, and returns once `f` and each worker have. What `f` wrote
+/// Calls `f` in this thread, beside the threads of `work`, and returns once `f` and each of them have. What `f` wrote
 /// through what it captured is known afterwards, as after a plain call.
 ///
-/// A worker for which no thread could be started stays where it is, and [`take_refused`](crate::take_refused) gives it.
-/// No clause says that a worker is started, or that this returns: a worker that runs until it is stopped is to be stopped
-/// by `f`.
-pub fn with_workers<R: Threads + Wait + Sync, H: Runnable + Send, F: FnMut() -> A, A>(
+/// No clause says that a thread is started, or that this returns: what runs until it is stopped is to be stopped by `f`.
+pub fn with_workers<R: Threads + Wait + Sync, H: Runnable + Sync, F: FnMut() -> A, A>(
     rt: &R,
-    workers: &[Mutex<Pending<H>>],
+    work: &H,
     f: &mut F,
 ) -> A
     requires { F.pre f.old }
     ensures { F.step f.old result f.new }
 {
-    let (f, a) = run_task(rt, workers, Lent { f });
+    let (f, a) = run_task(rt, work, Lent { f });
     take_back(f);
     a
 }

@@ -9,6 +9,10 @@ use Rattle.std.proofs.Common.{rules}
 use Rattle.std.proofs.lemmas.List.{with_items_is, places}
 use Rattle.tick_jobs.specs.Jobs.{copies_at}
 use Rattle.tick_jobs.proofs.Rooms.{all_copies, no_args, length_before, length_at, below_inputs, row_told, is_job}
+use Rattle.tick_jobs.proofs.InARow.{below_more}
+use Rattle.forec_kernel.specs.WellFormed.{all_below}
+use Rattle.forec_base.specs.declared.limits.TheConstants.{MAX_GLOBALS}
+use Rattle.std.proofs.Common.{ℕ}
 use Rattle.tick_jobs.proofs.job.write_job.Goals as goal
 
 pub write_row-requires-clause-inputs : goal.write_row-requires-clause-inputs
@@ -17,6 +21,12 @@ write_row-requires-clause-inputs c =
     let p = c.args.packet.now in
     let counted = ap length (c.deref_mut.ensures.value ∙ c.write_before.ensures.copies) ∙ length_before s p.kind p.copies.items (all_copies s c.requires.fine (plain_packet p) c.requires.room) in
     below_inputs s c.requires.fine c.deref_mut.result.now counted c.deref.result.now c.deref.ensures.value
+
+pub write_row-requires-clause-small : goal.write_row-requires-clause-small
+write_row-requires-clause-small c =
+    let s = plain_shape c.args.shape.now in
+    ap (λ (vs : List ℕ). all_below MAX_GLOBALS vs) c.deref.ensures.value
+    ∙ below_more (length s.variables) MAX_GLOBALS s.inputs c.requires.fine.few_variables c.requires.fine.inputs_named
 
 written : (c : goal.After-packet-2-1) → (with_items c.write_before.new.packet.copies c.write_row.new.copies).items ≡ copies_at (plain_shape c.args.shape.now) c.args.packet.now c.args.row.now
 written c =

@@ -1,9 +1,8 @@
 use Rattle.std.proofs.Common.{refl}
 use Rattle.core_host.specs.Hosted.{code_of}
 use Rattle.core_host.specs.Runs.{HasRun}
-use Rattle.trace_runs.proofs.Fine.{ok_map}
 use Rattle.trace_runs.proofs.Following.{code_starts}
 use Rattle.trace_runs.proofs.beside.lead_hosts.Goals as goal
 
 pub returns-clause-ok : goal.returns-clause-ok
-returns-clause-ok g c = ok_map c.lead.result _ _ (λ end did k formed stands. did k (code_starts (code_of c.args.root) (code_of c.args.root) (HasRun c.args.root) k refl formed stands c.requires.none)) c.lead.ensures.ok
+returns-clause-ok g c k formed stands = c.lead_all.ensures k (code_starts (code_of c.args.root) (code_of c.args.root) (HasRun c.args.root) k refl formed stands c.requires.none)

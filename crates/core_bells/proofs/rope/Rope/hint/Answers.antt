@@ -10,12 +10,12 @@ none_some : (a : ℕ) → None ≡ Some a → ⊥
 none_some a e = cc
 
 pub returns-then-core-self-clause-same : goal.returns-then-core-self-clause-same
-returns-then-core-self-clause-same g c = subst (IsSameRope c.args.self.now) (sym c.ring.ensures.state) (ring_same c.in-Some.core c.args.mailbox c.ring.result c.args.self.now)
+returns-then-core-self-clause-same g c = subst (IsSameRope c.args.self.now) (sym (c.leave_due.ensures ∙ c.post.ensures.state)) (ring_same c.in-Some.core c.args.mailbox c.post.result c.args.self.now)
 
 pub returns-then-core-self-clause-hinted : goal.returns-then-core-self-clause-hinted
 returns-then-core-self-clause-hinted g c = record {
   other = λ core at ne. let same = some_once c.in-Some.core core (sym c.in-Some.is ∙ c.core_of.ensures.value ∙ at) in
-      subst (λ k. HasRung k c.args.mailbox c.args.self.now c.ring.new.self) same (record { fits = c.ring.result; state = c.ring.ensures.state; full = c.ring.ensures.full });
+      subst (λ k. HasRung k c.args.mailbox c.args.self.now c.leave_due.new.self) same (record { fits = c.post.result; state = c.leave_due.ensures ∙ c.post.ensures.state; full = c.post.ensures.full });
   own = λ at. absurd (c.if-core-self.true (some_once c.in-Some.core c.args.self.now.core (sym c.in-Some.is ∙ c.core_of.ensures.value ∙ at) ∙ ap (λ (r : RopeState). r.core) (sym c.self.view_is)));
   else = λ at. absurd (none_some c.in-Some.core (sym at ∙ sym c.core_of.ensures.value ∙ c.in-Some.is));
 }

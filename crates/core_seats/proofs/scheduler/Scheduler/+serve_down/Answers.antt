@@ -390,6 +390,9 @@ pub serve_down-returns-in-Some-clause-worked : goal.serve_down-returns-in-Some-c
 serve_down-returns-in-Some-clause-worked g t c _ =
     served_worked c.args.self.now c.args.mailbox c.requires.between c.take_up.new.self c.take_up.ensures.touches c.in-Some.active c.in-Some.ensures.running.0 c.in-Some.ensures.running.1 c.advance_down.new.self c.advance_down.ensures.descends c.advance_down.ensures.worked
 
+pub serve_down-returns-in-Some-clause-round : goal.serve_down-returns-in-Some-clause-round
+serve_down-returns-in-Some-clause-round g t c = subst (λ r. KeepsRound r c.advance_down.new.round) c.set_out.ensures c.advance_down.ensures.round
+
 pub serve_down-returns-in-None-clause-descends : goal.serve_down-returns-in-None-clause-descends
 serve_down-returns-in-None-clause-descends g t c =
     not_taken c.args.self.now c.args.mailbox c.take_up.new.self c.requires.between c.take_up.ensures.touches (c.in-None.ensures.between refl)

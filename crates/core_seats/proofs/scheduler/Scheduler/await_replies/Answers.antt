@@ -1,4 +1,5 @@
-use Rattle.std.proofs.Common.{refl, ◌∙◌}
+use Rattle.std.proofs.Common.{refl, sym, ◌∙◌, subst}
+use Rattle.core_seats.specs.Rounds.{IsSameRound}
 use Rattle.core_seats.proofs.ServingLemmas.{keeps_seated}
 use Rattle.core_seats.proofs.BesideLemmas.{others_same, others_then, others_seated, serving_others, branches_others, round_others, serving_gathering}
 use Rattle.core_seats.proofs.RoundLemmas.{round_same, round_then}
@@ -27,7 +28,7 @@ loop-preserved g c = record {
   keeps = others_then c.args.self.now c.loop.self c.gather_replies.new.self c.loop.invariant.keeps
       (others_then c.loop.self c.serve_sweep-mine.new.self c.gather_replies.new.self (serving_others c.loop.self c.serve_sweep-mine.new.self c.serve_sweep-mine.ensures.keeps)
       (branches_others c.serve_sweep-mine.new.self c.gather_replies.new.self c.args.thread.now.number c.requires.root c.gather_replies.ensures.moves));
-  round = round_then c.args.round.now c.loop.round c.serve_sweep-mine.new.round c.loop.invariant.round c.serve_sweep-mine.ensures.round;
+  round = subst (IsSameRound c.args.round.now) (sym c.rest.ensures) (round_then c.args.round.now c.loop.round c.serve_sweep-mine.new.round c.loop.invariant.round c.serve_sweep-mine.ensures.round);
   gathering = λ pairs w. c.gather_replies.ensures.gathering c.if-gather_replies.false pairs (serving_gathering c.loop.self c.serve_sweep-mine.new.self c.args.thread.now c.requires.root c.serve_sweep-mine.ensures.keeps pairs (c.loop.invariant.gathering pairs w));
   others = c.serve-theirs.ensures ∙ c.loop.invariant.others;
 }
@@ -37,7 +38,7 @@ returns-then-gather_replies g c = record {
   keeps = others_then c.args.self.now c.loop.self c.gather_replies.new.self c.loop.invariant.keeps
       (others_then c.loop.self c.serve_sweep-mine.new.self c.gather_replies.new.self (serving_others c.loop.self c.serve_sweep-mine.new.self c.serve_sweep-mine.ensures.keeps)
       (branches_others c.serve_sweep-mine.new.self c.gather_replies.new.self c.args.thread.now.number c.requires.root c.gather_replies.ensures.moves));
-  round = round_then c.args.round.now c.loop.round c.serve_sweep-mine.new.round c.loop.invariant.round c.serve_sweep-mine.ensures.round;
+  round = subst (IsSameRound c.args.round.now) (sym c.rise.ensures) (round_then c.args.round.now c.loop.round c.serve_sweep-mine.new.round c.loop.invariant.round c.serve_sweep-mine.ensures.round);
   all = λ pairs w. c.gather_replies.ensures.all c.if-gather_replies.true pairs (serving_gathering c.loop.self c.serve_sweep-mine.new.self c.args.thread.now c.requires.root c.serve_sweep-mine.ensures.keeps pairs (c.loop.invariant.gathering pairs w));
   others = c.serve-theirs.ensures ∙ c.loop.invariant.others;
 }

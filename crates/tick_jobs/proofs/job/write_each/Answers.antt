@@ -1,7 +1,7 @@
 use Rattle.std.proofs.Common.{rules, ◌≡◌, ◌∙◌, ℤ, List, length, get_or, take, sym, ap, arith, length-set, w32, to_z, of_z, pos}
 use Rattle.std.proofs.lemmas.List.{take_all}
 use Rattle.tick_jobs.proofs.Copies.{below_at, row_more}
-use Rattle.tick_jobs.proofs.job.write_row.Goals as goal
+use Rattle.tick_jobs.proofs.job.write_each.Goals as goal
 
 pub bounds-copies-inputs : goal.bounds-copies-inputs
 bounds-copies-inputs c =

@@ -1,7 +1,7 @@
 use Rattle.std.proofs.Common.{◌≡◌, length, drop}
 use Rattle.forec_kernel.specs.Ticks.{with_row}
 use Rattle.forec_kernel.specs.WellFormed.{count_up}
-use Rattle.tick_jobs.proofs.job.write_row.Given as goal
+use Rattle.tick_jobs.proofs.job.write_each.Given as goal
 
 abbrev pub invariant-loop-i : goal.invariant-loop-i
 invariant-loop-i l = record {

@@ -4,7 +4,7 @@ use Rattle.core_bells.specs.Hints.{after_push}
 use Rattle.core_bells.specs.Ropes.{RopeState, WasFull, after_ring, placed_on}
 use Rattle.core_bells.proofs.Lists.{at_index}
 use Rattle.core_bells.proofs.Hanging.{within, fits_set, state_set, full_at, count_push, may_push}
-use Rattle.core_bells.proofs.rope.Rope.ring.Goals as goal
+use Rattle.core_bells.proofs.rope.Rope.post.Goals as goal
 
 pub invariant_of-self : goal.invariant_of-self
 invariant_of-self g c =

@@ -1,0 +1,47 @@
+//! How often a core looks in vain before it sleeps.
+
+/// The most looks: some ten microseconds, about as long as a sleep and a wake take.
+const MOST: u32 = 256;
+
+/// The fewest.
+const FEWEST: u32 = 4;
+
+/// So many waits in a row without a find, and the next one is a long one again.
+const TRIAL: u32 = 16;
+
+/// How long a core looks before it sleeps: longer where looking paid, and shorter where it was in vain.
+#[derive(Drop)]
+pub(crate) struct Patience {
+    looks: u32,
+    vain: u32,
+}
+
+impl Patience {
+    pub(crate) fn new() -> Patience {
+        Patience {
+            looks: MOST,
+            vain: 0,
+        }
+    }
+
+    /// How often to look this time.
+    pub(crate) fn looks(&self) -> u32 {
+        if self.vain >= TRIAL { MOST } else { self.looks }
+    }
+
+    /// The core heard a ring while it looked, and found something to do there.
+    pub(crate) fn pay(&mut self) {
+        self.looks = self.looks.saturating_mul(2).min(MOST);
+        self.vain = 0;
+    }
+
+    /// It heard none, or found nothing: somebody else had taken it.
+    pub(crate) fn lose(&mut self) {
+        if self.vain >= TRIAL {
+            self.vain = 0;
+            return;
+        }
+        self.looks = (self.looks / 2).max(FEWEST);
+        self.vain = self.vain.saturating_add(1);
+    }
+}
