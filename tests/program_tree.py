@@ -77,10 +77,11 @@ class Function:
 
 
 class Loop:
-    """A `while`, or a `for` without its start. `form` is what its number of turns is inferred from."""
+    """A `while`, or a `for` without its start. `form` is what its number of turns is inferred from; a `for` with a step is `stepped`,
+    and the step is the last part of its body."""
 
-    def __init__(self, test, bound, body, place, form=None):
-        self.test, self.bound, self.body, self.place, self.form = test, bound, body, place, form
+    def __init__(self, test, bound, body, place, form=None, stepped=False):
+        self.test, self.bound, self.body, self.place, self.form, self.stepped = test, bound, body, place, form, stepped
 
 
 class Variable:
@@ -255,8 +256,8 @@ class Program:
     def bound(self):
         return self.take("number") if self.takes("#") else None
 
-    def loop(self, test, bound, body, place, form=None):
-        found = Loop(test, bound, body, place, form)
+    def loop(self, test, bound, body, place, form=None, stepped=False):
+        found = Loop(test, bound, body, place, form, stepped)
         self.loops.append(found)
         return ("while", found)
 
@@ -281,7 +282,7 @@ class Program:
         body = self.scoped(self.statement)
         form = (name, start, test, step, self.named[before:]) if start and test and step else None
         turn = ("list", [body] + ([step] if step else []))
-        loop = self.loop(test or ("number", 1), bound, turn, place, form)
+        loop = self.loop(test or ("number", 1), bound, turn, place, form, bool(step))
         return ("list", ([start] if start else []) + [loop])
 
     def branch(self):
@@ -425,6 +426,10 @@ class Program:
 
     # -- the variables of a thread
 
+    def function_of(self, what):
+        """A function that is named, or the body of a block."""
+        return what if isinstance(what, Function) else self.functions[what]
+
     def uses(self, function):
         """The numbers of the variables that a body or a thread below it names, in order of declaration."""
         if function.uses is None:
@@ -494,7 +499,7 @@ class Program:
         return self.most(node[1])
 
     def most_of_par(self, branches):
-        functions = [what if isinstance(what, Function) else self.functions[what] for _, what, _ in branches]
+        functions = [self.function_of(what) for _, what, _ in branches]
         found = 1 + sum(self.most(a) for _, _, given in branches for a in given) + sum(map(self.bound_of, functions))
         for variable in self.variables:
             sharing = sum(variable.number in self.uses(function) for function in functions)
