@@ -64,6 +64,7 @@ impl<'c, P: Port<ForecWork> + Drop> Host<'c, P> {
     ghost use Rattle.core_seats.specs.Posts.{HasPosted, HasPostedTaken};
     ghost use Rattle.core_host.specs.Hosted.{code_of, is_live, is_here, IsSameHost, IsWhole};
     ghost use Rattle.core_host.specs.Runs.{AreIdleHere, HasJobs, HasRun, IsNewHost};
+    ghost use Rattle.core_host.specs.Owned.{HasOwnPort};
 
     /// The threads of these cores, over a port with the ends of their mailboxes. No tick was run.
     ///
@@ -216,9 +217,17 @@ impl<'c, P: Port<ForecWork> + Drop> Host<'c, P> {
         self.round.rope.as_ref()
     }
 
+    /// The port, with what went through its ends.
+    pub fn port(&self) -> &P
+        ensures { P.state result.now ≡ self.now.mail }
+    {
+        &self.scheduler.port
+    }
+
     /// A law: the mailboxes of a thread's branches carried exactly the jobs that the thread gives, and their replies: for thread 0
-    /// in the ticks so far, for each other thread that rests in the jobs that were taken.
+    /// in the ticks so far, for each other thread that rests in the jobs that were taken. The port is one for the host's code.
     pub fn posts(&self)
+        ensures port { HasOwnPort self.now }
         ensures root { (jobs : List Job) → HasJobs self.now jobs → HasPosted (code_of self.now) 0 self.now.mail jobs }
         ensures taken { (k : ℕ) → k < length self.now.mail.ends → ChildIs self.now.mail k false
             → HasPostedTaken (code_of self.now) self.now.mail k }

@@ -19,6 +19,8 @@ mod mailbox;
 #[cfg(test)]
 mod placed;
 #[cfg(test)]
+mod replayed;
+#[cfg(test)]
 mod roped;
 #[cfg(test)]
 mod together;

@@ -49,7 +49,7 @@ impl Gate for Meeting {
 }
 
 fn meet(rt: &(impl Abort + Threads + Wait + Sync), alloc: Global) -> Result<(), Fail> {
-    let code = compiled(alloc, ADDS)?;
+    let code = compiled(rt, alloc, ADDS)?;
     let gate = Meeting {
         begun: AtomicU32::new(0),
         late: AtomicU32::new(0),

@@ -1,7 +1,7 @@
 //! The reports of a program over lists of traces, and the status of the whole.
 
 use crate::compiled::{COUNTS, compiled};
-use forec_base::{Failed, MAX_ROWS, OpenGate, OutOfMemory, Sink, Source};
+use forec_base::{Failed, MAX_BUDGET, MAX_ROWS, OpenGate, OutOfMemory, Sink, Source};
 use std::alloc::Global;
 use std::process::Abort;
 use std::sync::Wait;
@@ -108,7 +108,8 @@ fn run_farm(
     alloc: Global,
     case: &Farmed,
 ) -> Result<(), Fail> {
-    let code = compiled(alloc, case.text)?;
+    assert!(rt; case.rows <= MAX_ROWS && case.budget <= MAX_BUDGET);
+    let code = compiled(rt, alloc, case.text)?;
     let mut traces = Vec::new(alloc);
     for trace in case.traces {
         traces.push(trace.to_vec(alloc)?)?;
@@ -137,7 +138,7 @@ fn reports_are_in_order(rt: HostRuntime) -> Result<(), Fail> {
 #[test]
 fn a_tick_is_over(rt: HostRuntime) -> Result<(), Fail> {
     let alloc = rt.alloc();
-    let code = compiled(alloc, COUNTS)?;
+    let code = compiled(&rt, alloc, COUNTS)?;
     let traces = vec![in alloc; b"\n\n".to_vec(alloc)?]?;
     let reports = farm(&rt, alloc, &code, &traces, MAX_ROWS, 6, &OpenGate)?;
     let report = &reports[0];
@@ -150,7 +151,7 @@ fn a_tick_is_over(rt: HostRuntime) -> Result<(), Fail> {
 #[test]
 fn reports_have_no_room(rt: HostRuntime) -> Result<(), Fail> {
     let alloc = rt.alloc();
-    let code = compiled(alloc, COUNTS)?;
+    let code = compiled(&rt, alloc, COUNTS)?;
     let trace = vec![in alloc; b'\n'; 1_000_000]?;
     let mut traces = Vec::new(alloc);
     for _ in 0..9 {

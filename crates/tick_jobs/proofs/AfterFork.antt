@@ -4,9 +4,9 @@ use Rattle.std.specs.Prelude.{slice_get, IsNone}
 use Rattle.std.proofs.lemmas.Bool.Decides.{nat_tests}
 use Rattle.std.proofs.lemmas.Option.{slice_get_within}
 use Rattle.forec_kernel.specs.WellFormed.{thread_of}
-use Rattle.forec_kernel.specs.Engine.{Job, Start, Wake, allowance_of, Reply, WasPaused, Seed, Starts, Wakes, Written, written, AtFork as IsAtFork, Engine, Exchange, Nothing, Begins, Answered, pair_up, pair_forks, pair_all, jobs_to, Allowed, Answers}
+use Rattle.forec_kernel.specs.Engine.{Job, Start, Wake, allowance_of, Reply, WasPaused, Seed, Starts, Wakes, Written, written, AtFork as IsAtFork, Engine, Exchange, Output, Nothing, Begins, Answered, pair_up, pair_forks, pair_all, jobs_to, Allowed, Answers}
 use Rattle.forec_kernel.specs.Reached.{Inside}
-use Rattle.forec_kernel.proofs.ReachedLemmas.{Went}
+use Rattle.forec_kernel.proofs.ReachedLemmas.{Went, alone_of, alone_snoc}
 use Rattle.thread_code.specs.Plain.{PlainCode}
 use Rattle.thread_code.specs.Valid.{IsValidCode, costs, of_shape}
 use Rattle.thread_code.specs.Machine.{Machine, On, Waits, Merges, Failing, Paused, Ended, Trapped, Exceeded, Stuck}
@@ -18,6 +18,7 @@ use Rattle.core_machine.specs.declared.thread.Phase.TheVariants as phase
 use Rattle.core_machine.specs.Held.{branch_of, machine_in, machine_of, Waits_at, Placed}
 use Rattle.core_machine.specs.Threads.{Loaded, StandsFor, HasSettled}
 use Rattle.core_machine.specs.Forks.{seeds_in, jobs_at, next_replies, with_replies}
+use Rattle.core_machine.proofs.Asking.{went_fork}
 use Rattle.tick_jobs.specs.Branches.{replies_to}
 use Rattle.tick_jobs.specs.Writing.{Log, heard, told, Wrote}
 use Rattle.tick_jobs.specs.Told.{Book, AreAnswered, AtJob, IsAsleep, MayTell, IsJobFor}
@@ -278,6 +279,29 @@ module _ (c : PlainCode) (valid : IsValidCode c) (h : Thread) (loaded : Loaded c
 
   pub its_jobs : AreAnswered c t (told c t jobs job l) → (i : ℕ) (w : Written) → slice_get (jobs_at c h) i ≡ Some w → IsJobFor c (λ b. jobs_to b (told c t jobs job l)) t w
   its_jobs answered i w wi = each_job c valid t (told c t jobs job l) answered (h.allowance - h.units) waits.seeds i w facts.mine facts.wakes (ap (λ z. slice_get z i) (sym ws_are) ∙ wi)
+
+  -- each job is for a branch of the thread
+  pub its_mine : (i : ℕ) (w : Written) → slice_get (jobs_at c h) i ≡ Some w → ((thread_of (of_shape c.shape) w.branch).parent ≡ Some t) × (w.branch < length c.shape.threads)
+  its_mine i w wi = mine_at (jobs_at c h) i w (subst (AllAre (IsMine c t)) (sym branches) facts.mine) wi
+    where
+      mine_at : (ws : List Written) (i : ℕ) (w : Written) → AllAre (IsMine c t) (map (λ w. w.branch) ws) → slice_get ws i ≡ Some w → IsMine c t w.branch
+      mine_at [] zero w m e = cc
+      mine_at [] (suc i) w m e = cc
+      mine_at (x ∷ ws) zero w m e = let same : x ≡ w = cc in subst (λ (v : Written). IsMine c t v.branch) same m.0
+      mine_at (x ∷ ws) (suc i) w m e = mine_at ws i w m.1 e
+
+  -- by itself it comes to this fork, and writes these jobs there
+  pub runs_here : CodeAlone c t (l.exchanges ++ record { job = job; replies = l.before } ∷ []) (l.outputs ++ record { jobs = l.forks ++ jobs_at c h ∷ []; reply = None } ∷ [])
+  runs_here =
+      let within = settled.within in
+      let ws = map (written (allowance_of job - units_of inside.machine)) waits.seeds in
+      let same : ws ≡ jobs_at c h = ap (λ n. map (written (n - units_of inside.machine)) waits.seeds) (sym inside.allowance) ∙ ap (λ n. map (written (h.allowance - n)) waits.seeds) units ∙ sym ws_are in
+      let forks : working.forks ++ ws ∷ [] ≡ l.forks ++ jobs_at c h ∷ [] = ap (λ fs. fs ++ ws ∷ []) same_forks ∙ ap (λ x. l.forks ++ x ∷ []) same in
+      let serves = went_fork Machine e (allowance_of job) l.before l.begin working.forks inside.machine waits.seeds went (omega (arith, units, within, inside.allowance)) view in
+      let out : Output = record { jobs = working.forks ++ ws ∷ []; reply = None } in
+      let runs = alone_of Machine e (l.exchanges ++ record { job = job; replies = l.before } ∷ []) Nothing Nothing (l.outputs ++ out ∷ [])
+          (alone_snoc Machine e l.exchanges (record { job = job; replies = l.before }) Nothing l.rest Nothing l.outputs l.begin out l.alone l.begins serves) in
+      subst (λ fs. CodeAlone c t (l.exchanges ++ record { job = job; replies = l.before } ∷ []) (l.outputs ++ record { jobs = fs; reply = None } ∷ [])) forks runs
 
   pub some_branches : 0 < length h.branches.numbers
   some_branches = let n = some_of (map branch_of waits.seeds) facts.some in let m = ap length (numbers ∙ branches) in omega (arith, n, m)

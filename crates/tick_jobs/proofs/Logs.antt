@@ -237,15 +237,16 @@ allowed_above : (t : ℕ) (Sub : ℕ → List Job → Reply → Type 0) (past xs
 allowed_above t Sub past [] a h = tt
 allowed_above t Sub past (x ∷ xs) a h = ((a.0, h.0), allowed_above t Sub (past ++ x ∷ []) xs a.1 h.1)
 
-pub record Ends (c : PlainCode) (h : Thread) (Posted : ℕ → List Answered → Type 0) (jobs : List Job) (p : PlainPacket) : Type 0 where
+-- it has done one job more, and this is its reply to it
+pub record Does (c : PlainCode) (h : Thread) (Posted : ℕ → List Answered → Type 0) (jobs : List Job) (p : PlainPacket) : Type 0 where
   pub done : DidJobs c h Posted jobs
   pub reply : Reply
   pub is : IsReply p reply
-  pub answers : Answers (CodeAlone c) (length c.threads) h.number jobs reply
+  pub last : last_reply done.outputs ≡ Some reply
 
-pub job_ends : (c : PlainCode) (h : Thread) (Posted : ℕ → List Answered → Type 0) → ((t : ℕ) (pairs : List Answered) → Posted t pairs → AreAnswered c t pairs) → (jobs : List Job) (job : Job) (p : PlainPacket) →
-    h.number < length c.threads → AtJob c h Posted jobs job → ((xs : List Exchange) → StandsFor c h xs → Gives c h.number xs p) → Ends c h Posted (jobs ++ job ∷ []) p
-job_ends c h Posted answered jobs job p lt i gives =
+pub job_does : (c : PlainCode) (h : Thread) (Posted : ℕ → List Answered → Type 0) (jobs : List Job) (job : Job) (p : PlainPacket) →
+    AtJob c h Posted jobs job → ((xs : List Exchange) → StandsFor c h xs → Gives c h.number xs p) → Does c h Posted (jobs ++ job ∷ []) p
+job_does c h Posted jobs job p i gives =
     let l = i.log in
     let x : Exchange = record { job = job; replies = l.before } in
     let g = gives (heard c h.number jobs job l) i.stands in
@@ -258,26 +259,48 @@ job_ends c h Posted answered jobs job p lt i gives =
     let outputs = t.are ∙ ap (λ os. os ++ t.output ∷ []) (sym same.0) in
     let pairs : pair_all (l.exchanges ++ x ∷ []) (l.outputs ++ t.output ∷ []) ≡ told c h.number jobs job l =
     all_then l.exchanges l.outputs x t.output (alone_count (code_engine c h.number) l.exchanges Nothing l.rest l.outputs l.alone) ∙ ap (λ js. pair_all l.exchanges l.outputs ++ pair_forks js l.before) jobs_same in
-    let runs = subst (CodeAlone c h.number (l.exchanges ++ x ∷ [])) outputs g.runs in
-    let complete = reply_then l.outputs t.output g.reply l.complete last in
-    let jobs_are = map_then l.exchanges x ∙ ap (λ js. js ++ job ∷ []) l.jobs_are in
-    let posts = subst (Posted h.number) (sym pairs) i.posts in
-    let all = answered h.number _ posts in
     record {
-      done = record { exchanges = l.exchanges ++ x ∷ []; outputs = l.outputs ++ t.output ∷ []; stands = i.stands; jobs_are = jobs_are; runs = runs; complete = complete; posts = posts };
-      reply = g.reply;
-      is = g.is;
-      answers = answers_join (CodeAlone c) (length c.threads) h.number (jobs ++ job ∷ []) g.reply lt (record {
+      done = record {
         exchanges = l.exchanges ++ x ∷ [];
         outputs = l.outputs ++ t.output ∷ [];
-        runs = runs;
-        jobs_are = jobs_are;
-        complete = complete;
-        allowed = allowed_above h.number (Answers (CodeAlone c) (length c.threads)) [] _ all.above all.allowed;
-        gives = last_of l.outputs t.output ∙ last;
-      });
+        stands = i.stands;
+        jobs_are = map_then l.exchanges x ∙ ap (λ js. js ++ job ∷ []) l.jobs_are;
+        runs = subst (CodeAlone c h.number (l.exchanges ++ x ∷ [])) outputs g.runs;
+        complete = reply_then l.outputs t.output g.reply l.complete last;
+        posts = subst (Posted h.number) (sym pairs) i.posts;
+      };
+      reply = g.reply;
+      is = g.is;
+      last = last_of l.outputs t.output ∙ last;
     }
   where
     map_then : (xs : List Exchange) (x : Exchange) → map (λ (y : Exchange). y.job) (xs ++ x ∷ []) ≡ map (λ (y : Exchange). y.job) xs ++ x.job ∷ []
     map_then [] x = refl
     map_then (y ∷ xs) x = ap (λ l. y.job ∷ l) (map_then xs x)
+
+pub record Ends (c : PlainCode) (h : Thread) (Posted : ℕ → List Answered → Type 0) (jobs : List Job) (p : PlainPacket) : Type 0 where
+  pub done : DidJobs c h Posted jobs
+  pub reply : Reply
+  pub is : IsReply p reply
+  pub answers : Answers (CodeAlone c) (length c.threads) h.number jobs reply
+
+-- where its branches' replies answer what they were told, so does its own
+pub job_ends : (c : PlainCode) (h : Thread) (Posted : ℕ → List Answered → Type 0) → ((t : ℕ) (pairs : List Answered) → Posted t pairs → AreAnswered c t pairs) → (jobs : List Job) (job : Job) (p : PlainPacket) →
+    h.number < length c.threads → AtJob c h Posted jobs job → ((xs : List Exchange) → StandsFor c h xs → Gives c h.number xs p) → Ends c h Posted (jobs ++ job ∷ []) p
+job_ends c h Posted answered jobs job p lt i gives =
+    let d = job_does c h Posted jobs job p i gives in
+    let all = answered h.number _ d.done.posts in
+    record {
+      done = d.done;
+      reply = d.reply;
+      is = d.is;
+      answers = answers_join (CodeAlone c) (length c.threads) h.number (jobs ++ job ∷ []) d.reply lt (record {
+        exchanges = d.done.exchanges;
+        outputs = d.done.outputs;
+        runs = d.done.runs;
+        jobs_are = d.done.jobs_are;
+        complete = d.done.complete;
+        allowed = allowed_above h.number (Answers (CodeAlone c) (length c.threads)) [] _ all.above all.allowed;
+        gives = d.last;
+      });
+    }

@@ -1,0 +1,9 @@
+pub mod RegisterLemmas
+pub mod KeptLemmas
+pub mod LineLemmas
+pub mod PairLemmas
+pub mod PortLines
+pub mod PostedLemmas
+pub mod WordLemmas
+pub mod TextLemmas
+pub mod UnusedLemmas

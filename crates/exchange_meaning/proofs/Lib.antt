@@ -1,0 +1,13 @@
+pub mod TellingLemmas
+pub mod Once
+pub mod Sound
+pub mod Complete
+pub mod KeptCopies
+pub mod Shaped
+pub mod TickLemmas
+pub mod Replayed
+pub mod OwnBranches
+pub mod Differing
+pub mod Failing
+pub mod Deciding
+pub mod Pausing

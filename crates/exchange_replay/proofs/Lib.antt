@@ -1,0 +1,10 @@
+pub mod Sames
+pub mod TrackLemmas
+pub mod NewLemmas
+pub mod ForkLemmas
+pub mod HeardLemmas
+pub mod FinishLemmas
+pub mod PairLemmas
+pub mod UsedLemmas
+pub mod ReplayLemmas
+pub mod RootLemmas

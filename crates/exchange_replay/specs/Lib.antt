@@ -1,0 +1,4 @@
+pub mod Tracks
+pub mod Walks
+pub mod Replaying
+pub mod Rooted

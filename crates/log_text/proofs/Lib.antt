@@ -1,0 +1,13 @@
+pub mod DigitLemmas
+pub mod DigitRuns
+pub mod PieceLemmas
+pub mod LineLemmas
+pub mod StageLemmas
+pub mod SignedLemmas
+pub mod ValueLemmas
+pub mod LineReads
+pub mod FrontLemmas
+pub mod StopLemmas
+pub mod SectionLemmas
+pub mod ReadLemmas
+pub mod OnceLemmas

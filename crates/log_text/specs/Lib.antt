@@ -1,0 +1,9 @@
+pub mod Pieces
+pub mod Numbers
+pub mod Values
+pub mod Fronts
+pub mod Stages
+pub mod Readings
+pub mod Sections
+pub mod ReadLogs
+pub mod Laws
