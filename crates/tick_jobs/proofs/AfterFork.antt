@@ -300,7 +300,7 @@ module _ (c : PlainCode) (valid : IsValidCode c) (h : Thread) (loaded : Loaded c
       let serves = went_fork Machine e (allowance_of job) l.before l.begin working.forks inside.machine waits.seeds went (omega (arith, units, within, inside.allowance)) view in
       let out : Output = record { jobs = working.forks ++ ws ∷ []; reply = None } in
       let runs = alone_of Machine e (l.exchanges ++ record { job = job; replies = l.before } ∷ []) Nothing Nothing (l.outputs ++ out ∷ [])
-          (alone_snoc Machine e l.exchanges (record { job = job; replies = l.before }) Nothing l.rest Nothing l.outputs l.begin out l.alone l.begins serves) in
+      (alone_snoc Machine e l.exchanges (record { job = job; replies = l.before }) Nothing l.rest Nothing l.outputs l.begin out l.alone l.begins serves) in
       subst (λ fs. CodeAlone c t (l.exchanges ++ record { job = job; replies = l.before } ∷ []) (l.outputs ++ record { jobs = fs; reply = None } ∷ [])) forks runs
 
   pub some_branches : 0 < length h.branches.numbers
