@@ -154,7 +154,7 @@ fn reports_have_no_room(rt: HostRuntime) -> Result<(), Fail> {
     let code = compiled(&rt, alloc, COUNTS)?;
     let trace = vec![in alloc; b'\n'; 1_000_000]?;
     let mut traces = Vec::new(alloc);
-    for _ in 0..9 {
+    for _ in 0..12 {
         traces.push(trace.clone()?)?;
     }
     match farm(&rt, alloc, &code, &traces, MAX_ROWS, 100, &OpenGate) {
@@ -162,7 +162,7 @@ fn reports_have_no_room(rt: HostRuntime) -> Result<(), Fail> {
         Ok(_) => assert!(&rt; false, "there is room"),
     }
     let few = farm(&rt, alloc, &code, &traces, 10, 100, &OpenGate)?;
-    assert_eq!(&rt; few.len(), 9);
+    assert_eq!(&rt; few.len(), 12);
     Ok(())
 }
 
