@@ -1,19 +1,20 @@
-# Completion of `forec` for bash: commands, `.forec` files, options, `.trace` files after `<`, and `.vcd` files for `unwave`.
+# Completion of `forec` for bash: commands, `.forec` files, options, `.trace` files after `<`, `.vcd` files for `unwave`, and `.log` files for
+# `replay`.
 #
 # Usage: source this file, or install it as share/bash-completion/completions/forec under a prefix.
 
-_forec_commands="run check threads code explain gen wave unwave farm"
-_forec_tools="why lint test trace table plot new"
+_forec_commands="run check threads code explain gen wave unwave log replay farm"
+_forec_tools="why lint test trace table plot new exchanges"
 
 # The options that a command takes.
 _forec_options_of() {
   case $1 in
     run) echo "--cores --place --budget --fold" ;;
-    gen | wave) echo "--cores --place --budget" ;;
+    gen | wave | log) echo "--cores --place --budget" ;;
     threads) echo "--cores --place --fold" ;;
     code) echo "--fold" ;;
     explain) echo "--budget --order --fold" ;;
-    farm) echo "--budget" ;;
+    replay | farm) echo "--budget" ;;
   esac
 }
 
@@ -44,6 +45,7 @@ _forec_options_of_tool() {
     trace) echo "--columns --scale --changes --rows" ;;
     table) echo "--changes --width" ;;
     plot) echo "--only --from --to --width --svg --png --cores" ;;
+    exchanges) echo "--budget --ticks --only --all --units" ;;
   esac
 }
 
@@ -51,13 +53,15 @@ _forec_options_of_tool() {
 _forec_offer_for_tool() {
   local files='*'
   case $1 in
-    why | lint | test) files='*.forec' ;;
+    why | lint | test | exchanges) files='*.forec' ;;
     table | plot) files='*.trace' ;;
   esac
   if [[ $2 = -* ]]; then
     _forec_offer_words "$(_forec_options_of_tool "$1") --help" "$2"
-  elif [ "$1" = why ] && [ "$3" -gt 0 ]; then
+  elif [[ $1 = @(why|exchanges) && $3 = 1 ]]; then
     _forec_offer_files '*.trace' "$2"
+  elif [[ $1 = @(why|exchanges) && $3 -gt 1 ]]; then
+    _forec_offer_files '*.log' "$2"
   elif [[ $1 = table || $1 = plot ]] && [ "$3" -gt 0 ]; then
     _forec_offer_files '*.report' "$2"
   elif [ "$1" != new ]; then
@@ -128,6 +132,8 @@ _forec_offer_after() {
     _forec_offer_value "$value" "${word#=}"
   elif [ "$command" = farm ] && [ "$positional" -gt 0 ] && { [ -n "$plain" ] || [[ $word != -* ]]; }; then
     _forec_offer_traces "$word" "$plain" "${given[@]}"
+  elif [ "$command" = replay ] && [ "$positional" = 1 ] && { [ -n "$plain" ] || [[ $word != -* ]]; }; then
+    _forec_offer_files '*.log' "$word"
   elif [[ $word = -* || $positional -gt 0 ]] && [ -z "$plain" ]; then
     _forec_offer_options "$command" "$word" "${given[@]}"
   elif [ "$positional" = 0 ] && [ "$command" = unwave ]; then
@@ -154,8 +160,9 @@ _forec() {
     1:help) _forec_offer_words "$pages" "$word" ;;
     1:loop | 1:watch) _forec_offer_files '*.toml' "$word" ;;
     1:replay-field) compopt -o filenames 2> /dev/null; mapfile -t COMPREPLY < <(compgen -d -- "$word") ;;
-    *:why | *:lint | *:test | *:trace | *:table | *:plot | *:new) _forec_offer_for_tool "${before[0]}" "$word" $((${#before[@]} - 1)) ;;
-    *:run | *:check | *:threads | *:code | *:explain | *:gen | *:wave | *:unwave | *:farm) _forec_offer_after "$word" "${before[@]}" ;;
+    *:why | *:lint | *:test | *:trace | *:table | *:plot | *:new | *:exchanges) _forec_offer_for_tool "${before[0]}" "$word" $((${#before[@]} - 1)) ;;
+    *:run | *:check | *:threads | *:code | *:explain | *:gen | *:wave | *:unwave | *:log | *:replay | *:farm)
+      _forec_offer_after "$word" "${before[@]}" ;;
   esac
 }
 

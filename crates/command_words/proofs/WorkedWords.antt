@@ -5,7 +5,7 @@ use Rattle.clap.specs.Words.{Text}
 use Rattle.command_words.specs.CommandLine.{command_line}
 use Rattle.command_words.specs.declared.request.Budget.{Budget}
 use Rattle.command_words.specs.declared.request.Budget.TheVariants as budget
-use Rattle.command_words.specs.Requests.{PlainPlacing, PlainRunning, OnText, OnWorkload, OnDump, OnTraces, Run, Check, Threads, Code, Explain, Wave, request_of}
+use Rattle.command_words.specs.Requests.{PlainPlacing, PlainRunning, OnText, OnWorkload, OnDump, OnTraces, OnLog, OnReplay, Run, Check, Threads, Code, Explain, Wave, request_of}
 
 placed : ℕ → Option Text → PlainPlacing
 placed cores list = record { cores = cores; list = list }
@@ -212,3 +212,44 @@ over_as_many_traces_as_may_be = refl
 over_a_trace_too_many : request_of (codes "farm" ∷ codes "p" ∷ names 65) ≡ None
 unfolding request_of names command_line clap_on_literals
 over_a_trace_too_many = refl
+
+logged : request_of (codes "log" ∷ codes "p" ∷ codes "--cores" ∷ codes "3" ∷ codes "--place=0,1,2" ∷ codes "--budget" ∷ codes "7" ∷ [])
+    ≡ Some (OnLog (codes "p") (running 3 (Some (codes "0,1,2")) (budget.Units 7)))
+unfolding request_of running placed command_line clap_on_literals
+logged = refl
+
+logged_folded : request_of (codes "log" ∷ codes "p" ∷ codes "--fold" ∷ []) ≡ None
+unfolding request_of command_line clap_on_literals
+logged_folded = refl
+
+logged_in_order : request_of (codes "log" ∷ codes "p" ∷ codes "--order" ∷ codes "1" ∷ []) ≡ None
+unfolding request_of command_line clap_on_literals
+logged_in_order = refl
+
+logged_with_a_further_word : request_of (codes "log" ∷ codes "p" ∷ codes "l" ∷ []) ≡ None
+unfolding request_of command_line clap_on_literals
+logged_with_a_further_word = refl
+
+replayed : request_of (codes "replay" ∷ codes "p" ∷ codes "--budget" ∷ codes "7" ∷ codes "l" ∷ []) ≡ Some (OnReplay (codes "p") (codes "l") (budget.Units 7))
+unfolding request_of command_line clap_on_literals
+replayed = refl
+
+replayed_of_a_bound : request_of (codes "replay" ∷ codes "p" ∷ codes "l" ∷ codes "--budget=bound" ∷ []) ≡ Some (OnReplay (codes "p") (codes "l") budget.Bound)
+unfolding request_of command_line clap_on_literals
+replayed_of_a_bound = refl
+
+replayed_without_a_log : request_of (codes "replay" ∷ codes "p" ∷ []) ≡ None
+unfolding request_of command_line clap_on_literals
+replayed_without_a_log = refl
+
+replayed_with_two_logs : request_of (codes "replay" ∷ codes "p" ∷ codes "l" ∷ codes "m" ∷ []) ≡ None
+unfolding request_of command_line clap_on_literals
+replayed_with_two_logs = refl
+
+replayed_on_cores : request_of (codes "replay" ∷ codes "p" ∷ codes "l" ∷ codes "--cores" ∷ codes "2" ∷ []) ≡ None
+unfolding request_of command_line clap_on_literals
+replayed_on_cores = refl
+
+replayed_folded : request_of (codes "replay" ∷ codes "p" ∷ codes "l" ∷ codes "--fold" ∷ []) ≡ None
+unfolding request_of command_line clap_on_literals
+replayed_folded = refl

@@ -31,11 +31,14 @@ pub data PlainCommand : Type 0 where
   Explain : (budget : Budget) (order : ℕ) → PlainCommand
   Wave : PlainRunning → PlainCommand
 
--- a command on a program, whose kernel is folded or not; a workload; a dump that is told; or a program that runs over traces
+-- a command on a program, whose kernel is folded or not; a workload; a dump that is told; a program whose exchanges are logged, or are held to
+-- a log; or a program that runs over traces
 pub data PlainRequest : Type 0 where
   OnText : (program : Text) → PlainCommand → (fold : Bool) → PlainRequest
   OnWorkload : (threads : ℕ) → PlainRunning → PlainRequest
   OnDump : (dump : Text) → PlainRequest
+  OnLog : (program : Text) → PlainRunning → PlainRequest
+  OnReplay : (program log : Text) (budget : Budget) → PlainRequest
   OnTraces : (program : Text) (traces : List Text) (budget : Budget) → PlainRequest
 
 -- ---- of the values of words
@@ -99,6 +102,10 @@ workload_of number v = cond v.fold None (option_and_then (λ n. option_map (OnWo
 abbrev pub dump_of : Text → PlainValues → Option PlainRequest
 dump_of dump v = cond (is_bare v) (Some (OnDump dump)) None
 
+-- a program whose exchanges are logged, with the options of `run` but for the one that folds the kernel
+abbrev pub logging_of : Text → PlainValues → Option PlainRequest
+logging_of program v = cond v.fold None (option_map (OnLog program) (running_of v))
+
 -- a budget alone may be given
 abbrev pub has_budget_alone : PlainValues → Bool
 has_budget_alone v = is_none v.cores && (is_none v.place && (is_none v.order && not v.fold))
@@ -111,6 +118,11 @@ has_traces v = nat_lt 0 (length v.more) && nat_le (length v.more) MAX_TRACES
 abbrev pub traces_of : Text → PlainValues → Option PlainRequest
 traces_of program v = cond (has_budget_alone v && has_traces v) (option_map (OnTraces program v.more) (budget_of v)) None
 
+-- a program that is held to a log, the one further word, with no option but a budget
+abbrev pub replaying_of : Text → List Text → PlainValues → Option PlainRequest
+replaying_of program (log ∷ []) v = cond (has_budget_alone v) (option_map (OnReplay program log) (budget_of v)) None
+replaying_of program _ v = None
+
 abbrev pub text_request_of : Text → Text → PlainValues → Option PlainRequest
 text_request_of name program v = option_map (λ c. OnText program c v.fold) (command_of name v)
 
@@ -119,12 +131,14 @@ abbrev pub request_alone : Text → Text → PlainValues → Option PlainRequest
 request_alone name program v =
     if is_word name (codes "gen") then workload_of program v
     else (if is_word name (codes "unwave") then dump_of program v
-    else text_request_of name program v)
+    else (if is_word name (codes "log") then logging_of program v
+    else text_request_of name program v))
 
 abbrev pub request_named : Text → Text → PlainValues → Option PlainRequest
 request_named name program v =
     if is_word name (codes "farm") then traces_of program v
-    else (if nat_eq (length v.more) 0 then request_alone name program v else None)
+    else (if is_word name (codes "replay") then replaying_of program v.more v
+    else (if nat_eq (length v.more) 0 then request_alone name program v else None))
 
 abbrev pub request_by : PlainValues → Option PlainRequest
 request_by v = option_and_then (λ name. option_and_then (λ program. request_named name program v) v.program) v.command
@@ -157,4 +171,6 @@ abbrev pub plain_request : Request → PlainRequest
 plain_request (request.Text program c fold) = OnText program.now (plain_command c) fold
 plain_request (request.Workload n r) = OnWorkload n (plain_running r)
 plain_request (request.Dump dump) = OnDump dump.now
+plain_request (request.Log program r) = OnLog program.now (plain_running r)
+plain_request (request.Replay program log b) = OnReplay program.now log.now b
 plain_request (request.Traces program traces budget) = OnTraces program.now (map (λ s. s.now) traces.items) budget

@@ -140,6 +140,17 @@ fn dump<'a>(dump: &'a str, values: &Values<'a>) -> Option<Request<'a>>
     }
 }
 
+/// A program whose exchanges are logged.
+fn logging<'a>(program: &'a str, values: &Values<'a>) -> Option<Request<'a>>
+    ensures { option_map asked.plain_request result ≡ asked.logging_of program.entry.now (plain_values values.now) }
+{
+    if values.fold {
+        return None;
+    }
+    let running = running(values)?;
+    Some(Request::Log { program, running })
+}
+
 /// The command of a name on the text of a program.
 fn on_text<'a>(name: &str, program: &'a str, values: &Values<'a>) -> Option<Request<'a>>
     ensures { option_map asked.plain_request result
@@ -183,6 +194,24 @@ fn traces<'a>(program: &'a str, values: Values<'a>) -> Option<Request<'a>>
     }
 }
 
+/// A program that is held to a log, the one word behind it, with no option but a budget.
+fn replaying<'a>(program: &'a str, values: &Values<'a>) -> Option<Request<'a>>
+    ensures { option_map asked.plain_request result
+        ≡ asked.replaying_of program.entry.now (plain_values values.now).more (plain_values values.now) }
+{
+    match values.more.as_slice() {
+        [log] if is_budget_alone(values) => {
+            let budget = budget(values.budget)?;
+            Some(Request::Replay {
+                program,
+                log: *log,
+                budget,
+            })
+        }
+        _ => None,
+    }
+}
+
 /// What a command asks for that takes no word behind the program.
 fn alone<'a>(name: &str, program: &'a str, values: &Values<'a>) -> Option<Request<'a>>
     ensures { option_map asked.plain_request result
@@ -191,6 +220,7 @@ fn alone<'a>(name: &str, program: &'a str, values: &Values<'a>) -> Option<Reques
     match name {
         "gen" => workload(program, values),
         "unwave" => dump(program, values),
+        "log" => logging(program, values),
         _ => on_text(name, program, values),
     }
 }
@@ -203,6 +233,9 @@ fn request<'a>(values: Values<'a>) -> Option<Request<'a>>
     let program = values.program?;
     if name == "farm" {
         return traces(program, values);
+    }
+    if name == "replay" {
+        return replaying(program, &values);
     }
     if values.more.is_empty() {
         alone(name, program, &values)

@@ -71,6 +71,17 @@ pub enum Request<'a> {
     Dump {
         dump: &'a str,
     },
+    /// The program of this name runs over the trace, and the jobs and replies that its threads exchange are written.
+    Log {
+        program: &'a str,
+        running: Running<'a>,
+    },
+    /// The log of this name is held to the program of the other name and the trace.
+    Replay {
+        program: &'a str,
+        log: &'a str,
+        budget: Budget,
+    },
     /// The program of this name runs over each of the traces of these names, 1 to 64, in this order.
     Traces {
         program: &'a str,

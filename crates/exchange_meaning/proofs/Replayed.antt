@@ -56,12 +56,12 @@ module _ (k : PlainKernel) (fine : WellFormed k) (below : (t b : ℕ) → HasBra
       forward k (branches_apart k fine) log root.tells below fine.bodies fine.some (answered_root log each root.tells) [] turns [] root.tells.exchanges [] root.tells.outputs None
       (record { exchanges = refl; outputs = refl; count = refl }) refl (first refl refl) root.ticks
 
-  logged_of : (log : ExchangeLog) (turns : List TickInput) → IsReplayed (KernelAlone k) k.shape turns log → LogOfTicks k turns log
+  pub logged_of : (log : ExchangeLog) (turns : List TickInput) → IsReplayed (KernelAlone k) k.shape turns log → LogOfTicks k turns log
   logged_of log turns h =
       let f = by_ticks log h.each turns h.root in
       record { ticks = f.1; log_of = log_of_same Solo (kernel_engine k) k.shape log below h.each (tick_jobs k Fresh turns) h.root.tells f.0 h.used }
 
-  replayed_of : (parents : (b : ℕ) → 0 < b → b < length k.shape.threads → (t : ℕ) × HasBranch k.shape t b) (log : ExchangeLog) (turns : List TickInput) → LogOfTicks k turns log → IsReplayed (KernelAlone k) k.shape turns log
+  pub replayed_of : (parents : (b : ℕ) → 0 < b → b < length k.shape.threads → (t : ℕ) × HasBranch k.shape t b) (log : ExchangeLog) (turns : List TickInput) → LogOfTicks k turns log → IsReplayed (KernelAlone k) k.shape turns log
   replayed_of parents log turns h =
       let R = h.log_of.root in
       let count = alone_length (kernel_engine k 0) R.tells.exchanges Nothing R.tells.outputs R.tells.runs in

@@ -32,7 +32,7 @@ use Rattle.forec_engine.specs.Commands.{ThreadsReport, Of_misplaced, IsListing, 
 use Rattle.forec_engine.specs.Placing.{misplaced, misplacing, unless_misplaced, workload_report, IsMisplaced, IsRefusedRun}
 
 -- why a list is refused, where memory isn't wanting
-refused_by : (o : Option PlaceFault) (why : PlaceFault) → why ≢ fault.OutOfMemory → (why ≡ fault.OutOfMemory) ⊎ (o ≡ Some why) → o ≡ Some why
+pub refused_by : (o : Option PlaceFault) (why : PlaceFault) → why ≢ fault.OutOfMemory → (why ≡ fault.OutOfMemory) ⊎ (o ≡ Some why) → o ≡ Some why
 refused_by o why not (inl e) = absurd (not e)
 refused_by o why not (inr e) = e
 
@@ -50,7 +50,7 @@ unbounded : (o : Option ℕ) (f : ℕ → Report) → o ≡ None → boundless �
 unbounded o f e = sym (ap (λ x. with_budget x f) e)
 
 -- what refuses a list of places prints
-abbrev Misplaces : {K : Type 0} → (K → Option (List ℕ)) → (K → ℕ) → (K → Bool) → PlaceFault → K → K → Status → Type 0
+abbrev pub Misplaces : {K : Type 0} → (K → Option (List ℕ)) → (K → ℕ) → (K → Bool) → PlaceFault → K → K → Status → Type 0
 Misplaces {K} held lost is_down why out out' end =
     Prints held lost is_down Unit (λ r. (why ≢ fault.OutOfMemory) × (r ≡ misplaced why)) (why ≢ fault.OutOfMemory) ⊥ ⊥ out out' end
 

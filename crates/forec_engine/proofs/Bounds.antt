@@ -5,7 +5,7 @@ use Rattle.std.proofs.lemmas.Bool.{leb-true}
 use Rattle.forec_base.specs.declared.limits.TheConstants.{MAX_CORES, MAX_BUDGET}
 use Rattle.command_words.specs.CommandLine.{PlainValues, is_word, kinds_of, values_of}
 use Rattle.command_words.specs.Numbers.{between, number_of, number_in, number_or}
-use Rattle.command_words.specs.Requests.{PlainPlacing, PlainRunning, PlainCommand, Run, Wave, Check, Threads, Code, Explain, PlainRequest, OnText, OnWorkload, OnDump, placing_of, budget_of, budget_or, order_of, running_of, explaining_of, placing_alone_of, has_no_options, is_bare, waving_of, command_of, workload_of, dump_of, text_request_of, has_budget_alone, has_traces, traces_of, request_alone, request_named, request_by, unless_refused, request_of, OnTraces}
+use Rattle.command_words.specs.Requests.{PlainPlacing, PlainRunning, PlainCommand, Run, Wave, Check, Threads, Code, Explain, PlainRequest, OnText, OnWorkload, OnDump, OnLog, OnReplay, placing_of, budget_of, budget_or, order_of, running_of, explaining_of, placing_alone_of, has_no_options, is_bare, waving_of, logging_of, replaying_of, command_of, workload_of, dump_of, text_request_of, has_budget_alone, has_traces, traces_of, request_alone, request_named, request_by, unless_refused, request_of, OnTraces}
 use Rattle.command_words.specs.declared.request.Budget.{Budget}
 use Rattle.command_words.specs.declared.request.Budget.TheVariants as budget
 use Rattle.command_words.specs.declared.request.TheConstants.{DEFAULT_BUDGET, MAX_WORKLOAD}
@@ -125,25 +125,41 @@ module _ (v : PlainValues) (r : PlainRequest) where
       subst HasRanges is in_range
   dump name false e = absurd (let g : None ≡ Some r = e in cc)
 
-  alone_by : (name program : List ℕ) (gen unwave : Bool) → (if gen then workload_of program v else (if unwave then dump_of program v else text_request_of name program v)) ≡ Some r → HasRanges r
-  alone_by name program true unwave e = workload program e
-  alone_by name program false true e = dump program (is_bare v) e
-  alone_by name program false false e = text name program e
+  logging : (program : List ℕ) → logging_of program v ≡ Some r → HasRanges r
+  logging program e = let m = map_some (OnLog program) (running_of v) r (unless v.fold (option_map (OnLog program) (running_of v)) r e) in subst HasRanges m.2 (runnable v m.0 m.1)
+
+  alone_by : (name program : List ℕ) (gen unwave log : Bool) →
+      (if gen then workload_of program v else (if unwave then dump_of program v else (if log then logging_of program v else text_request_of name program v))) ≡ Some r → HasRanges r
+  alone_by name program true unwave log e = workload program e
+  alone_by name program false true log e = dump program (is_bare v) e
+  alone_by name program false false true e = logging program e
+  alone_by name program false false false e = text name program e
 
   farmed : (program : List ℕ) (fits : Bool) → cond fits (option_map (OnTraces program v.more) (budget_of v)) None ≡ Some r → HasRanges r
   farmed program true e = let m = map_some (OnTraces program v.more) (budget_of v) r e in subst HasRanges m.2 (small v.budget m.0 m.1)
   farmed program false e = absurd (let g : None ≡ Some r = e in cc)
 
-  by_name : (name program : List ℕ) (farm none : Bool) → (if farm then traces_of program v else (if none then request_alone name program v else None)) ≡ Some r → HasRanges r
-  by_name name program true none e = farmed program (has_budget_alone v && has_traces v) e
-  by_name name program false true e = alone_by name program (is_word name (codes "gen")) (is_word name (codes "unwave")) e
-  by_name name program false false e = absurd (let g : None ≡ Some r = e in cc)
+  replayed : (program log : List ℕ) (fits : Bool) → cond fits (option_map (OnReplay program log) (budget_of v)) None ≡ Some r → HasRanges r
+  replayed program log true e = let m = map_some (OnReplay program log) (budget_of v) r e in subst HasRanges m.2 (small v.budget m.0 m.1)
+  replayed program log false e = absurd (let g : None ≡ Some r = e in cc)
+
+  replaying : (program : List ℕ) (more : List (List ℕ)) → replaying_of program more v ≡ Some r → HasRanges r
+  replaying program [] e = absurd (let g : None ≡ Some r = e in cc)
+  replaying program (log ∷ []) e = replayed program log (has_budget_alone v) e
+  replaying program (log ∷ other ∷ more) e = absurd (let g : None ≡ Some r = e in cc)
+
+  by_name : (name program : List ℕ) (farm replay none : Bool) →
+      (if farm then traces_of program v else (if replay then replaying_of program v.more v else (if none then request_alone name program v else None))) ≡ Some r → HasRanges r
+  by_name name program true replay none e = farmed program (has_budget_alone v && has_traces v) e
+  by_name name program false true none e = replaying program v.more e
+  by_name name program false false true e = alone_by name program (is_word name (codes "gen")) (is_word name (codes "unwave")) (is_word name (codes "log")) e
+  by_name name program false false false e = absurd (let g : None ≡ Some r = e in cc)
 
   by_values : request_by v ≡ Some r → HasRanges r
   by_values e =
       let n = then_some _ v.command r e in
       let p = then_some (λ program. request_named n.0 program v) v.program r n.2 in
-      by_name n.0 p.0 (is_word n.0 (codes "farm")) (nat_eq (length v.more) 0) p.2
+      by_name n.0 p.0 (is_word n.0 (codes "farm")) (is_word n.0 (codes "replay")) (nat_eq (length v.more) 0) p.2
 
   by_kinds : (kinds : List _) → unless_refused kinds (request_by v) ≡ Some r → HasRanges r
   by_kinds [] e = by_values e

@@ -9,7 +9,7 @@ use Rattle.forec_kernel.specs.declared.shape.Outcome.TheVariants as outcome
 use Rattle.tick_bounds.specs.Bound.{worst_case}
 use Rattle.bound_laws.specs.Laws.{NoneOver, RunsNeverOver}
 use Rattle.core_alloc.specs.declared.fault.PlaceFault.{PlaceFault}
-use Rattle.command_words.specs.Requests.{PlainPlacing, PlainRunning, PlainCommand, Run, Wave, Check, Threads, Code, Explain, OnText, OnWorkload, request_of, OnTraces}
+use Rattle.command_words.specs.Requests.{PlainPlacing, PlainRunning, PlainCommand, Run, Wave, Check, Threads, Code, Explain, OnText, OnWorkload, OnLog, OnReplay, request_of, OnTraces}
 use Rattle.command_words.specs.declared.request.Budget.{Budget}
 use Rattle.command_words.specs.declared.request.Budget.TheVariants as budget
 use Rattle.workload.specs.Text.{text_of}
@@ -30,16 +30,20 @@ use Rattle.trace_runs.specs.declared.status.Status.{Status}
 use Rattle.trace_runs.specs.declared.status.Status.TheVariants as status
 use Rattle.forec_engine.specs.Budgets.{budget_for, with_budget, Covers}
 use Rattle.forec_engine.specs.Folds.{kernel_for}
-use Rattle.forec_engine.specs.Commands.{ThreadsReport, Of_misplaced, Of_placed, AcceptedReport, CommandReport, IsReport, Of_usage, Of_text, Of_workload, Of_dump, TextReport, Of_refusal, Of_accepted, run_report, Of_farm}
+use Rattle.forec_engine.specs.Logs.{LogReport, Of_boundless, Of_misplaced_run, Of_logged, AcceptedLog}
+use Rattle.forec_engine.specs.Replays.{ReplayReport, Of_no_bound, Of_long_log, Of_replayed, AcceptedReplay}
+use Rattle.log_runs.specs.ReplayRuns.{IsReplay, Of_no_log, Of_thread, Of_tick, Of_left, Of_same}
+use Rattle.log_runs.specs.RunLogs.{IsLogReport, Of_kept, Of_full, run_status}
+use Rattle.forec_engine.specs.Commands.{ThreadsReport, Of_misplaced, Of_placed, AcceptedReport, CommandReport, IsReport, Of_usage, Of_text, Of_workload, Of_dump, TextReport, Of_refusal, Of_accepted, run_report, Of_farm, Of_log, Of_replay}
 use Rattle.forec_engine.specs.Ends.{running_in}
-use Rattle.forec_engine.specs.Laws.{CoverTheirKernel, CoveredNeverOver, BoundCovers, AskForBound, Of_run, Of_gen, Of_traces, BoundNeverOver}
+use Rattle.forec_engine.specs.Laws.{CoverTheirKernel, CoveredNeverOver, BoundCovers, AskForBound, Of_run, Of_gen, Of_traces, Of_log_run, Of_replay_run, BoundNeverOver}
 use Rattle.forec_engine.specs.Farms.{too_long, farmed, worse, worst, farm_report, FarmedReport}
 use Rattle.forec_engine.specs.declared.farm_traces.TheConstants.{FARM_ROWS}
 use Rattle.forec_base.specs.declared.limits.TheConstants.{MAX_TEXT_BYTES}
 use Rattle.trace_runs.specs.StatusNumbers.{number_of}
 use Rattle.forec_engine.specs.Placing.{misplacing, unless_misplaced, workload_report}
 use Rattle.forec_engine.proofs.DumpLemmas.{dump_never}
-use Rattle.forec_engine.proofs.Reports.{some_same, name_same, command_same, threads_same, running_same, never_text, farm_budget_same, never_farm, never_workload}
+use Rattle.forec_engine.proofs.Reports.{some_same, name_same, command_same, threads_same, running_same, never_text, farm_budget_same, never_farm, never_workload, text_no_log, workload_no_log, farm_no_log, log_running_same, text_no_replay, workload_no_replay, farm_no_replay, log_no_replay, replay_budget_same}
 
 -- ---- ticks
 
@@ -148,6 +152,29 @@ farm_never : (content : List ℕ → Option (List ℕ)) (traces : List (List ℕ
 farm_never content traces b c k r enough x =
     is_never r _ x.2 (with_never (budget_for k b) (λ units. farm_report k units traces x.0) (λ units e. worst_never k units (enough units e) x.0))
 
+-- a replay
+replay_never : (k : PlainKernel) (b : Budget) (lines bytes : List ℕ) (r : Report) → Suffices k b → ReplayReport k b lines bytes r → r.status ≢ status.Over
+replay_never k b lines bytes r fits (Of_no_bound none e) = is_never r _ e (λ o. cc)
+replay_never k b lines bytes r fits (Of_long_log units some long e) = is_never r _ e (λ o. cc)
+replay_never k b lines bytes r fits (Of_replayed units some short x) = by x
+  where
+    by : IsReplay MAX_ROWS k units lines bytes r → r.status ≢ status.Over
+    by (Of_no_log n bad e) = is_never r _ e (λ o. cc)
+    by (Of_thread log t m is fails e) = is_never r _ e (λ o. cc)
+    by (Of_tick a before later turn are runs not e) = is_never r _ e (λ o. cc)
+    by (Of_left a root left e) = is_never r _ e (λ o. cc)
+    by (Of_same log is same e) = is_never r _ e (trace_never telling.Report k units bytes (fits units some))
+
+-- the log of a run
+log_never : (k : PlainKernel) (running : PlainRunning) (bytes : List ℕ) (r : Report) → Suffices k running.budget → LogReport k running bytes r → r.status ≢ status.Over
+log_never k running bytes r fits (Of_boundless none e) = is_never r _ e (λ o. cc)
+log_never k running bytes r fits (Of_misplaced_run units why some bad e) = is_never r _ e (λ o. cc)
+log_never k running bytes r fits (Of_logged units some fine x) = by x.tells
+  where
+    by : IsLogReport k.shape x.log (run_status MAX_ROWS k units bytes) r → r.status ≢ status.Over
+    by (Of_kept few e) = is_never r _ e (trace_never telling.Report k units bytes (fits units some))
+    by (Of_full many e) = is_never r _ e (λ o. cc)
+
 text_never : (text : List ℕ) (Says : Counts → PlainKernel → Report → Type 0) (r : Report) → ((c : Counts) (k : PlainKernel) → Judged text (Accepts c k) → Says c k r → r.status ≢ status.Over) → TextReport text Says r → r.status ≢ status.Over
 text_never text Says r never (Of_refusal why j e) = is_never r _ e (λ o. cc)
 text_never text Says r never (Of_accepted c k j x) = never c k j x
@@ -179,6 +206,12 @@ module _ (never : KernelsNeverOver) where
       (λ c k j y. is_never r _ y (workload_never threads running k (suffices (text_of threads) c k false running.budget j (covers.workload threads running c k n j)))) x
   covered_never_over words content trace r covers (Of_farm name traces b text n t x) =
       text_never text (FarmedReport content traces b) r (λ c k j y. farm_never content traces b c k r (suffices text c k false b j (covers.farm name traces b text c k n t j)) y) x
+  covered_never_over words content trace r covers (Of_replay name log b text n t x) =
+      text_never text (AcceptedReplay content log b trace) r
+      (λ c k j y. replay_never k b y.0 y.1 r (suffices text c k false b j (covers.replay name log b text c k n t j)) y.4) x
+  covered_never_over words content trace r covers (Of_log name running text n t x) =
+      text_never text (AcceptedLog running trace) r
+      (λ c k j y. log_never k running y.0 r (suffices text c k false running.budget j (covers.log name running text c k n t j)) y.2) x
 
 -- ---- the bound
 
@@ -199,17 +232,37 @@ bound_of_text words (Of_run other also folds more m is b) name command fold runn
     let same : also ≡ command = command_same other name also command folds fold (sym m ∙ n) in
     ap (λ (x : PlainRunning). x.budget) (some_same running more (sym e ∙ ap running_in (sym same) ∙ is)) ∙ b
 bound_of_text words (Of_gen threads more m b) name command fold running n e = absurd (never_text name command fold threads more (sym n ∙ m))
+bound_of_text words (Of_log_run other more m b) name command fold running n e = absurd (text_no_log name command fold other more (sym n ∙ m))
+bound_of_text words (Of_replay_run other log b m e) name command fold running n is = absurd (text_no_replay name command fold other log b (sym n ∙ m))
 bound_of_text words (Of_traces other traces also m b) name command fold running n e = absurd (never_farm name command fold other traces also (sym n ∙ m))
 
 bound_of_workload : (words : List (List ℕ)) → AskForBound words → (threads : ℕ) (running : PlainRunning) → request_of words ≡ Some (OnWorkload threads running) → running.budget ≡ budget.Bound
 bound_of_workload words (Of_run name command fold more m is b) threads running n = absurd (never_text name command fold threads running (sym m ∙ n))
 bound_of_workload words (Of_gen others more m b) threads running n = ap (λ (x : PlainRunning). x.budget) (running_same threads others running more (sym n ∙ m)) ∙ b
+bound_of_workload words (Of_log_run other more m b) threads running n = absurd (workload_no_log threads running other more (sym n ∙ m))
+bound_of_workload words (Of_replay_run other log b m e) threads running n = absurd (workload_no_replay threads running other log b (sym n ∙ m))
 bound_of_workload words (Of_traces other traces also m b) threads running n = absurd (never_workload threads running other traces also (sym n ∙ m))
 
 bound_of_farm : (words : List (List ℕ)) → AskForBound words → (name : List ℕ) (traces : List (List ℕ)) (b : Budget) → request_of words ≡ Some (OnTraces name traces b) → b ≡ budget.Bound
 bound_of_farm words (Of_run other command fold more m is e) name traces b n = absurd (never_farm other command fold name traces b (sym m ∙ n))
 bound_of_farm words (Of_gen threads more m e) name traces b n = absurd (never_workload threads more name traces b (sym m ∙ n))
+bound_of_farm words (Of_log_run other more m e) name traces b n = absurd (farm_no_log name traces b other more (sym n ∙ m))
+bound_of_farm words (Of_replay_run other log also m e) name traces b n = absurd (farm_no_replay name traces b other log also (sym n ∙ m))
 bound_of_farm words (Of_traces other others also m e) name traces b n = farm_budget_same name other traces others b also (sym n ∙ m) ∙ e
+
+bound_of_log : (words : List (List ℕ)) → AskForBound words → (name : List ℕ) (running : PlainRunning) → request_of words ≡ Some (OnLog name running) → running.budget ≡ budget.Bound
+bound_of_log words (Of_run other command fold more m is b) name running n = absurd (text_no_log other command fold name running (sym m ∙ n))
+bound_of_log words (Of_gen threads more m e) name running n = absurd (workload_no_log threads more name running (sym m ∙ n))
+bound_of_log words (Of_traces other others also m e) name running n = absurd (farm_no_log other others also name running (sym m ∙ n))
+bound_of_log words (Of_replay_run other log b m e) name running n = absurd (log_no_replay name running other log b (sym n ∙ m))
+bound_of_log words (Of_log_run other more m b) name running n = ap (λ (x : PlainRunning). x.budget) (log_running_same name other running more (sym n ∙ m)) ∙ b
+
+bound_of_replay : (words : List (List ℕ)) → AskForBound words → (name log : List ℕ) (b : Budget) → request_of words ≡ Some (OnReplay name log b) → b ≡ budget.Bound
+bound_of_replay words (Of_run other command fold more m is e) name log b n = absurd (text_no_replay other command fold name log b (sym m ∙ n))
+bound_of_replay words (Of_gen threads more m e) name log b n = absurd (workload_no_replay threads more name log b (sym m ∙ n))
+bound_of_replay words (Of_traces other others also m e) name log b n = absurd (farm_no_replay other others also name log b (sym m ∙ n))
+bound_of_replay words (Of_log_run other running m e) name log b n = absurd (log_no_replay other running name log b (sym m ∙ n))
+bound_of_replay words (Of_replay_run other more also m e) name log b n = replay_budget_same name other log more b also (sym n ∙ m) ∙ e
 
 pub bound_never_over : KernelsNeverOver → BoundNeverOver
 bound_never_over never words content trace r asks =
@@ -217,4 +270,6 @@ bound_never_over never words content trace r asks =
       text = λ name command fold text running c k n t is j. covers_as (kernel_for fold k) running.budget (bound_of_text words asks name command fold running n is);
       workload = λ threads running c k n j. covers_as k running.budget (bound_of_workload words asks threads running n);
       farm = λ name traces b text c k n t j. covers_as k b (bound_of_farm words asks name traces b n);
+      replay = λ name log b text c k n t j. covers_as k b (bound_of_replay words asks name log b n);
+      log = λ name running text c k n t j. covers_as k running.budget (bound_of_log words asks name running n);
     })

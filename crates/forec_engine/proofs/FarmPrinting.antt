@@ -49,6 +49,7 @@ run_own status.Over h = tt
 run_own status.ReadFault h = h
 run_own status.WriteFault h = h
 run_own status.NoMemory h = h
+run_own status.Full h = absurd h
 
 run_used : (s : Status) → IsRunStatus s → s ≡ status.Usage → ⊥
 run_used s h e = subst IsRunStatus e h

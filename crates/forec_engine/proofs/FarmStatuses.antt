@@ -75,7 +75,8 @@ at n =
     else (if nat_le n 5 then status.Trapped
     else (if nat_le n 6 then status.Over
     else (if nat_le n 7 then status.ReadFault
-    else (if nat_le n 8 then status.WriteFault else status.NoMemory)))))))
+    else (if nat_le n 8 then status.WriteFault
+    else (if nat_le n 9 then status.NoMemory else status.Full))))))))
 
 at_number : (s : Status) → at (number_of s) ≡ s
 at_number status.Done = refl
@@ -87,19 +88,21 @@ at_number status.Over = refl
 at_number status.ReadFault = refl
 at_number status.WriteFault = refl
 at_number status.NoMemory = refl
+at_number status.Full = refl
 
 -- two statuses with one number are the same
 pub same_number : (s t : Status) → number_of s ≡ number_of t → s ≡ t
 same_number s t e = sym (at_number s) ∙ ap at e ∙ at_number t
 
 -- and any other number is that of no memory, if it is one
-pub last_number : (n : ℕ) → n ≢ 0 → n ≢ 2 → n ≢ 3 → n ≢ 4 → n ≢ 5 → n ≢ 6 → n ≢ 7 → n ≢ 8 → (s : Status) → number_of s ≡ n → status.NoMemory ≡ s
-last_number n a b c d e f g h status.Done is = absurd (a (sym is))
-last_number n a b c d e f g h status.Usage is = absurd (b (sym is))
-last_number n a b c d e f g h status.Refused is = absurd (c (sym is))
-last_number n a b c d e f g h status.Trace is = absurd (d (sym is))
-last_number n a b c d e f g h status.Trapped is = absurd (e (sym is))
-last_number n a b c d e f g h status.Over is = absurd (f (sym is))
-last_number n a b c d e f g h status.ReadFault is = absurd (g (sym is))
-last_number n a b c d e f g h status.WriteFault is = absurd (h (sym is))
-last_number n a b c d e f g h status.NoMemory is = refl
+pub last_number : (n : ℕ) → n ≢ 0 → n ≢ 2 → n ≢ 3 → n ≢ 4 → n ≢ 5 → n ≢ 6 → n ≢ 7 → n ≢ 8 → n ≢ 10 → (s : Status) → number_of s ≡ n → status.NoMemory ≡ s
+last_number n a b c d e f g h i status.Done is = absurd (a (sym is))
+last_number n a b c d e f g h i status.Usage is = absurd (b (sym is))
+last_number n a b c d e f g h i status.Refused is = absurd (c (sym is))
+last_number n a b c d e f g h i status.Trace is = absurd (d (sym is))
+last_number n a b c d e f g h i status.Trapped is = absurd (e (sym is))
+last_number n a b c d e f g h i status.Over is = absurd (f (sym is))
+last_number n a b c d e f g h i status.ReadFault is = absurd (g (sym is))
+last_number n a b c d e f g h i status.WriteFault is = absurd (h (sym is))
+last_number n a b c d e f g h i status.NoMemory is = refl
+last_number n a b c d e f g h i status.Full is = absurd (i (sym is))

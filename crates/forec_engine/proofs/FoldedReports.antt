@@ -24,11 +24,11 @@ use Rattle.trace_runs.specs.declared.format.Telling.TheVariants as telling
 use Rattle.trace_runs.specs.Report.{Report, outcome_lines, lines_from, last_outcome, ending, behind_bytes, trace_report}
 use Rattle.trace_runs.specs.declared.status.Status.TheVariants as status
 use Rattle.forec_engine.specs.Budgets.{budget_for, with_budget}
-use Rattle.forec_engine.specs.Commands.{AcceptedReport, CommandReport, IsReport, Of_usage, Of_text, Of_workload, Of_dump, TextReport, Of_refusal, Of_accepted, run_report, explain_report, Of_farm}
+use Rattle.forec_engine.specs.Commands.{AcceptedReport, CommandReport, IsReport, Of_usage, Of_text, Of_workload, Of_dump, TextReport, Of_refusal, Of_accepted, run_report, explain_report, Of_farm, Of_log, Of_replay}
 use Rattle.forec_engine.specs.Ends.{running_in}
 use Rattle.forec_engine.specs.Laws.{DifferByFold, FoldingPrintsTheSame}
 use Rattle.forec_engine.specs.Placing.{misplacing, unless_misplaced}
-use Rattle.forec_engine.proofs.Reports.{some_same, name_same, command_same, fold_same, never_text, text_no_dump, never_farm}
+use Rattle.forec_engine.proofs.Reports.{some_same, name_same, command_same, fold_same, never_text, text_no_dump, never_farm, text_no_log, text_no_replay}
 
 -- ---- the ticks of a run whose last one isn't over
 
@@ -165,4 +165,6 @@ prints_the_same keeps words folding content trace r d (Of_text name command fold
     (λ c k y. accepted_same keeps d.command d.running d.units d.runs d.limited trace c k r h y) here)
 prints_the_same keeps words folding content trace r d (Of_dump name n x) h = absurd (text_no_dump d.name d.command false name (sym d.plain ∙ n))
 prints_the_same keeps words folding content trace r d (Of_workload threads running n x) h = absurd (never_text d.name d.command false threads running (sym d.plain ∙ n))
+prints_the_same keeps words folding content trace r d (Of_replay name log b text n t x) h = absurd (text_no_replay d.name d.command false name log b (sym d.plain ∙ n))
+prints_the_same keeps words folding content trace r d (Of_log name running text n t x) h = absurd (text_no_log d.name d.command false name running (sym d.plain ∙ n))
 prints_the_same keeps words folding content trace r d (Of_farm name traces b text n t x) h = absurd (never_farm d.name d.command false name traces b (sym d.plain ∙ n))

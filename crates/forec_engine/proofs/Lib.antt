@@ -7,7 +7,11 @@ mod FarmPrinting
 mod FarmReading
 mod FarmStatuses
 mod FoldedReports
+mod LogAnswered
 mod Named
+mod ReplayAnswered
+mod ReplayLaw
 mod Reports
+mod SomeReplay
 mod TopCall
 mod WorkedLines

@@ -17,7 +17,7 @@ use Rattle.trace_runs.specs.declared.status.Status.TheVariants as status
 use Rattle.trace_runs.proofs.Told.{some_map}
 use Rattle.trace_runs.proofs.Printing.{prints_as, prints_nothing, prints_unread}
 
-told_same : (o : Option (List ℕ)) (Q : List ℕ → Type 0) (text : List ℕ) → IfSome o Q → o ≡ Some text → Q text
+pub told_same : (o : Option (List ℕ)) (Q : List ℕ → Type 0) (text : List ℕ) → IfSome o Q → o ≡ Some text → Q text
 told_same o Q text q e = subst (λ (x : Option (List ℕ)). IfSome x Q) e q
 
 module _ {S K : Type 0} (left : S → Option (List ℕ)) (faults : S → ℕ) (down : S → Bool) (held : K → Option (List ℕ)) (lost : K → ℕ) (is_down : K → Bool) (command : PlainCommand) (fold : Bool) (old new : S) (out out' : K) where

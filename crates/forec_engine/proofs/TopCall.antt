@@ -1,16 +1,18 @@
 -- What words print.
 use Rattle.std.proofs.Common.{◌≡◌, ◌⊎◌, inl, inr, ℕ, Bool, List, Option, Some, None}
 use Rattle.forec_base.specs.Outside.{Fell}
-use Rattle.command_words.specs.Requests.{PlainRunning, PlainCommand, OnText, OnWorkload, OnDump, request_of, OnTraces}
+use Rattle.command_words.specs.Requests.{PlainRunning, PlainCommand, OnText, OnWorkload, OnDump, OnLog, OnReplay, request_of, OnTraces}
 use Rattle.workload.specs.Text.{text_of}
 use Rattle.forec_engine.specs.Answers.{AnswersNamed, AnswersWords}
-use Rattle.forec_engine.specs.Commands.{IsReport, Of_usage, Of_text, Of_workload, Of_dump, WorkloadReport, Tells, usage, Of_farm}
+use Rattle.forec_engine.specs.Commands.{IsReport, Of_usage, Of_text, Of_workload, Of_dump, WorkloadReport, Tells, usage, Of_farm, Of_log, Of_replay}
 use Rattle.forec_engine.specs.Dumps.{DumpReport}
-use Rattle.forec_engine.specs.Ends.{WantedByWords, ReadForWords, AcceptedSo, IsMisuse, Asks_nothing, Misuses, Misuses_workload, NameText, AskForRewriting, Misuses_farm}
+use Rattle.forec_engine.specs.Ends.{WantedByWords, Wanted_by_run, Wanted_by_log, Wanted_by_replay, ReadForWords, Read_for_run, Read_for_log, Read_for_replay, AcceptedSo, IsMisuse, Asks_nothing, Misuses, Misuses_workload, NameText, AskForRewriting, Misuses_farm, Misuses_log, Misuses_replay}
 use Rattle.forec_engine.specs.Budgets.{IsBoundless}
 use Rattle.forec_engine.specs.Farms.{TellsFarm}
 use Rattle.forec_engine.specs.Farming.{IsNamedFarm}
+use Rattle.forec_engine.specs.Logging.{LogsNamed}
 use Rattle.forec_engine.specs.Placing.{IsRefusedRun}
+use Rattle.forec_engine.specs.Replaying.{ReplaysNamed}
 use Rattle.command_words.specs.declared.request.Budget.{Budget}
 use Rattle.std.specs.Option.{IfSome}
 use Rattle.trace_runs.specs.Ends.{IsOwn}
@@ -32,12 +34,12 @@ module _ {S K : Type 0} (left : S → Option (List ℕ)) (faults : S → ℕ) (d
       AnswersNamed left faults down held lost is_down command fold content name Lost old new out out' end → WordsPrint end
   words_text name command fold end request p =
       prints_as held lost is_down _ _ _ _ _ out out' _ _ _ _ _ end (λ told. told.text name command fold request) (λ told r is. Of_text name command fold is.0 request is.1 is.2)
-      (λ m. Misuses name command fold request m) (λ u. elim u [ inl store ↦ inl store | inr r ↦ inr (r.2.0, (r.0, name, command, fold, request, r.1, r.2.1)) ])
+      (λ m. Misuses name command fold request m) (λ u. elim u [ inl store ↦ inl store | inr r ↦ inr (r.2.0, Wanted_by_run r.0 name command fold request r.1 r.2.1) ])
       (λ m. (name, command, fold, request, m)) p.prints
 
   pub words_trace : (name : List ℕ) (command : PlainCommand) (fold : Bool) (end : Status) → request_of words ≡ Some (OnText name command fold) →
       AnswersNamed left faults down held lost is_down command fold content name Lost old new out out' end → (new ≡ old) ⊎ ReadForWords left faults down words content old new
-  words_trace name command fold end request p = elim p.trace [ inl same ↦ inl same | inr r ↦ inr (r.0, name, command, fold, request, r.1, r.2) ]
+  words_trace name command fold end request p = elim p.trace [ inl same ↦ inl same | inr r ↦ inr (Read_for_run r.0 name command fold request r.1 r.2) ]
 
   pub words_workload : (threads : ℕ) (running : PlainRunning) (end : Status) → request_of words ≡ Some (OnWorkload threads running) →
       Prints held lost is_down Unit (WorkloadReport threads running) (AcceptedSo (λ k. IsRefusedRun k running) (text_of threads)) ⊥ ⊥ out out' end → WordsPrint end
@@ -49,6 +51,28 @@ module _ {S K : Type 0} (left : S → Option (List ℕ)) (faults : S → ℕ) (d
   words_farm name traces b end request p =
       prints_as held lost is_down _ _ _ _ _ out out' _ _ _ _ _ end (λ told. told.farm name traces b request) (λ told r is. Of_farm name traces b is.0 request is.1 is.2)
       (λ m. Misuses_farm name traces b request m) (λ u. inl u) (λ n. absurd n) p
+
+  pub words_log : (name : List ℕ) (running : PlainRunning) (end : Status) → request_of words ≡ Some (OnLog name running) →
+      LogsNamed left faults down held lost is_down running content name Lost old new out out' end → WordsPrint end
+  words_log name running end request p =
+      prints_as held lost is_down _ _ _ _ _ out out' _ _ _ _ _ end (λ told. told.log name running request) (λ told r is. Of_log name running is.0 request is.1 is.2)
+      (λ m. Misuses_log name running request m) (λ u. elim u [ inl store ↦ inl store | inr w ↦ inr (w.0, Wanted_by_log running name request w.1) ])
+      (λ n. absurd n) p.prints
+
+  pub words_log_trace : (name : List ℕ) (running : PlainRunning) (end : Status) → request_of words ≡ Some (OnLog name running) →
+      LogsNamed left faults down held lost is_down running content name Lost old new out out' end → (new ≡ old) ⊎ ReadForWords left faults down words content old new
+  words_log_trace name running end request p = elim p.trace [ inl same ↦ inl same | inr r ↦ inr (Read_for_log running name request r) ]
+
+  pub words_replay : (name log : List ℕ) (b : Budget) (end : Status) → request_of words ≡ Some (OnReplay name log b) →
+      ReplaysNamed left faults down held lost is_down content log b Lost name old new out out' end → WordsPrint end
+  words_replay name log b end request p =
+      prints_as held lost is_down _ _ _ _ _ out out' _ _ _ _ _ end (λ told. told.replay name log b request) (λ told r is. Of_replay name log b is.0 request is.1 is.2)
+      (λ m. Misuses_replay name log b request m) (λ u. elim u [ inl store ↦ inl store | inr w ↦ inr (w.0, Wanted_by_replay name log b request w.1) ])
+      (λ n. absurd n) p.prints
+
+  pub words_replay_trace : (name log : List ℕ) (b : Budget) (end : Status) → request_of words ≡ Some (OnReplay name log b) →
+      ReplaysNamed left faults down held lost is_down content log b Lost name old new out out' end → (new ≡ old) ⊎ ReadForWords left faults down words content old new
+  words_replay_trace name log b end request p = elim p.trace [ inl same ↦ inl same | inr r ↦ inr (Read_for_replay name log b request r) ]
 
   pub words_dump : (name : List ℕ) (end : Status) → request_of words ≡ Some (OnDump name) →
       Prints held lost is_down ((text : List ℕ) × (content name ≡ Some text)) (DumpReport content name) ⊥ (Lost × (held out' ≡ held out)) ⊥ out out' end → WordsPrint end

@@ -63,7 +63,7 @@ pub record AnswersWords {T S K : Type 0} (content : T → List ℕ → Option (L
   -- the sink failed; what was printed is a prefix of a report of the words
   pub write : end ≡ status.WriteFault → Fell (lost out_old) (lost out_new) (is_down out_new) × (Tells words (content store_old) (left old) →
       (r : Report) × IsReport words (content store_old) (left old) r × AppendsFront (held out_old) (held out_new) r.bytes)
-  -- the trace is read by `run`, `wave` and `explain` alone, for a text that is accepted, where neither the budget nor the list of places is refused, and no read is asked for
+  -- the trace is read by `run`, `wave`, `log`, `replay` and `explain` alone, for a text that is accepted, where neither the budget nor the list of places is refused, and no read is asked for
   -- once a line that stops the program has come whole
   pub trace : (new ≡ old) ⊎ ReadForWords left faults down words (content store_old) old new
   -- no text is read but the one that the words name

@@ -8,7 +8,7 @@ use Rattle.thread_code.specs.Plain.{PlainCode}
 use Rattle.thread_code.specs.Valid.{IsValidCode}
 use Rattle.core_alloc.specs.Places.{Places}
 use Rattle.core_alloc.specs.declared.fault.PlaceFault.{PlaceFault}
-use Rattle.command_words.specs.Requests.{PlainPlacing, PlainRunning, PlainCommand, Run, Wave, Check, Threads, Code, Explain, PlainRequest, OnText, OnWorkload, OnDump, request_of, OnTraces}
+use Rattle.command_words.specs.Requests.{PlainPlacing, PlainRunning, PlainCommand, Run, Wave, Check, Threads, Code, Explain, PlainRequest, OnText, OnWorkload, OnDump, OnLog, OnReplay, request_of, OnTraces}
 use Rattle.thread_places.specs.Lines.{thread_lines}
 use Rattle.thread_places.specs.Placed.{IsPlacement}
 use Rattle.workload.specs.Text.{text_of}
@@ -19,7 +19,9 @@ use Rattle.command_words.specs.declared.request.Budget.{Budget}
 use Rattle.forec_engine.specs.Budgets.{budget_for, with_budget, IsSmallBudget}
 use Rattle.forec_engine.specs.Farms.{FarmedReport, TellsFarm}
 use Rattle.forec_engine.specs.Folds.{kernel_for}
+use Rattle.forec_engine.specs.Logs.{AcceptedLog, TellsLog}
 use Rattle.forec_engine.specs.Placing.{misplaced, misplacing, unless_misplaced}
+use Rattle.forec_engine.specs.Replays.{AcceptedReplay, TellsReplay}
 use Rattle.forec_engine.specs.Placing.{workload_report}
 use Rattle.text_verdict.specs.declared.counts.Counts.{Counts}
 use Rattle.text_verdict.specs.declared.refusal.Refusal.{Refusal}
@@ -31,7 +33,7 @@ use Rattle.trace_runs.specs.declared.format.Telling.TheVariants as telling
 use Rattle.trace_runs.specs.declared.status.Status.TheVariants as status
 
 abbrev pub usage_line : List ℕ
-usage_line = codes "usage: forec run|check|threads|code|explain|gen|wave|unwave|farm PROGRAM [MORE...] [--cores N] [--place LIST] [--budget B] [--order N] [--fold]\n"
+usage_line = codes "usage: forec run|check|threads|code|explain|gen|wave|unwave|log|replay|farm PROGRAM [MORE...] [--cores N] [--place LIST] [--budget B] [--order N] [--fold]\n"
 
 abbrev pub usage : Report
 usage = record { bytes = usage_line; status = status.Usage }
@@ -106,6 +108,10 @@ pub data IsReport (words : List (List ℕ)) (content : List ℕ → Option (List
       → IsReport words content trace r
   Of_farm : (name : List ℕ) (traces : List (List ℕ)) (b : Budget) (text : List ℕ) → request_of words ≡ Some (OnTraces name traces b) → content name ≡ Some text
       → TextReport text (FarmedReport content traces b) r → IsReport words content trace r
+  Of_log : (name : List ℕ) (running : PlainRunning) (text : List ℕ) → request_of words ≡ Some (OnLog name running) → content name ≡ Some text
+      → TextReport text (AcceptedLog running trace) r → IsReport words content trace r
+  Of_replay : (name log : List ℕ) (b : Budget) (text : List ℕ) → request_of words ≡ Some (OnReplay name log b) → content name ≡ Some text
+      → TextReport text (AcceptedReplay content log b trace) r → IsReport words content trace r
   Of_dump : (name : List ℕ) → request_of words ≡ Some (OnDump name) → DumpReport content name r → IsReport words content trace r
 
 -- ---- what is told
@@ -129,6 +135,8 @@ pub record Tells (words : List (List ℕ)) (content : List ℕ → Option (List 
       → TellsNamed content name command trace
   pub dump : (name : List ℕ) → request_of words ≡ Some (OnDump name) → (text : List ℕ) × (content name ≡ Some text)
   pub farm : (name : List ℕ) (traces : List (List ℕ)) (b : Budget) → request_of words ≡ Some (OnTraces name traces b) → TellsFarm content name traces
+  pub log : (name : List ℕ) (running : PlainRunning) → request_of words ≡ Some (OnLog name running) → TellsLog content name trace
+  pub replay : (name log : List ℕ) (b : Budget) → request_of words ≡ Some (OnReplay name log b) → TellsReplay content name log trace
 
 -- ---- ranges
 
@@ -154,4 +162,6 @@ abbrev pub HasRanges : PlainRequest → Type 0
 HasRanges (OnText name command fold) = IsInRange command
 HasRanges (OnWorkload threads running) = (threads ≤ 255) × IsRunnable running
 HasRanges (OnTraces name traces b) = IsSmallBudget b
+HasRanges (OnLog name running) = IsRunnable running
+HasRanges (OnReplay name log b) = IsSmallBudget b
 HasRanges (OnDump name) = Unit {0}

@@ -1,14 +1,17 @@
 -- How a command ends.
-use Rattle.std.specs.Prelude.{Contains, [], ◌∷◌, ◌≡◌, ◌⊎◌, ℕ, Bool, List, Option, None, Some, IfSome}
+use Rattle.std.specs.Prelude.{Contains, false, [], ◌∷◌, ◌≡◌, ◌≤◌, ◌⊎◌, length, ℕ, Bool, List, Option, None, Some, IfSome}
 use Rattle.forec_base.specs.declared.limits.TheConstants.{MAX_ROWS}
 use Rattle.forec_kernel.specs.Shapes.{PlainKernel}
-use Rattle.command_words.specs.Requests.{PlainPlacing, PlainRunning, PlainCommand, Run, Wave, Check, Threads, Code, Explain, PlainRequest, OnText, OnWorkload, OnDump, request_of, OnTraces}
+use Rattle.command_words.specs.Requests.{PlainPlacing, PlainRunning, PlainCommand, Run, Wave, Check, Threads, Code, Explain, PlainRequest, OnText, OnWorkload, OnDump, OnLog, OnReplay, request_of, OnTraces}
 use Rattle.workload.specs.Text.{text_of}
 use Rattle.text_verdict.specs.Judging.{Accepts, Judged}
 use Rattle.command_words.specs.declared.request.Budget.{Budget}
 use Rattle.forec_engine.specs.Budgets.{budget_for, IsBoundless}
 use Rattle.forec_engine.specs.Folds.{kernel_for}
 use Rattle.forec_engine.specs.Placing.{misplacing, IsMisplaced, IsRefusedRun}
+use Rattle.log_runs.specs.ReplayRuns.{WantedByReplay, ReadForReplay}
+use Rattle.log_runs.specs.RunLogs.{WantedUntold}
+use Rattle.log_runs.specs.declared.replaying.TheConstants.{MAX_LOG_BYTES}
 use Rattle.trace_runs.specs.Ends.{Wanted, ReadFor}
 use Rattle.trace_runs.specs.KernelNames.{run_format}
 use Rattle.trace_runs.specs.declared.format.Telling.{Telling}
@@ -52,13 +55,43 @@ running_in (Threads placing) = None
 running_in (Explain budget order) = Some (record { placing = record { cores = 1; list = None }; budget = budget })
 running_in Code = None
 
+-- the trace was wanted by the kernel of a text, of whose run nothing is told
+abbrev pub WantedForLog : PlainRunning → List ℕ → Option (List ℕ) → Option (List ℕ) → Option (List ℕ) → Option (List ℕ) → Type 0
+WantedForLog running text left_old left_new held_old held_new =
+    (k : PlainKernel) × (units : ℕ) × RunsAs text false running k units × WantedUntold MAX_ROWS k units left_old left_new held_old held_new
+
+-- A text of this kernel and a log are replayed with so many units a tick: the text is accepted, the budget isn't refused, and
+-- the log is told, and isn't too long.
+pub record ReplaysAs (content : List ℕ → Option (List ℕ)) (log : List ℕ) (b : Budget) (text : List ℕ) (k : PlainKernel) (units : ℕ) (lines : List ℕ) : Type 0 where
+  pub counts : Counts
+  pub judged : Judged text (Accepts counts k)
+  pub bounded : budget_for k b ≡ Some units
+  pub told : content log ≡ Some lines
+  pub short : length lines ≤ MAX_LOG_BYTES
+
+-- the trace was wanted by a replay of the kernel of a text, where the log is told
+abbrev pub WantedForReplay : (List ℕ → Option (List ℕ)) → List ℕ → Budget → List ℕ → Option (List ℕ) → Option (List ℕ) → Option (List ℕ) → Option (List ℕ) → Type 0
+WantedForReplay content log b text left_old left_new held_old held_new =
+    IfSome (content log) (λ lines. (k : PlainKernel) × (units : ℕ) × ReplaysAs content log b text k units lines
+    × WantedByReplay MAX_ROWS k units lines left_old left_new held_old held_new)
+
 -- the same by words, which are a command that runs over the trace
-abbrev pub WantedByWords : List (List ℕ) → (List ℕ → Option (List ℕ)) → Option (List ℕ) → Option (List ℕ) → Option (List ℕ) → Option (List ℕ) → Type 0
-WantedByWords words content left_old left_new held_old held_new =
-    (running : PlainRunning) × (name : List ℕ) × (command : PlainCommand) × (fold : Bool) × (request_of words ≡ Some (OnText name command fold))
-    × (running_in command ≡ Some running) × IfSome (content name) (λ text. WantedByText (telling_in command) fold running text left_old left_new held_old held_new)
+pub data WantedByWords (words : List (List ℕ)) (content : List ℕ → Option (List ℕ)) (left_old left_new held_old held_new : Option (List ℕ)) : Type 0 where
+  Wanted_by_run : (running : PlainRunning) (name : List ℕ) (command : PlainCommand) (fold : Bool) → request_of words ≡ Some (OnText name command fold)
+      → running_in command ≡ Some running → IfSome (content name) (λ text. WantedByText (telling_in command) fold running text left_old left_new held_old held_new)
+      → WantedByWords words content left_old left_new held_old held_new
+  Wanted_by_replay : (name log : List ℕ) (b : Budget) → request_of words ≡ Some (OnReplay name log b)
+      → IfSome (content name) (λ text. WantedForReplay content log b text left_old left_new held_old held_new) → WantedByWords words content left_old left_new held_old held_new
+  Wanted_by_log : (running : PlainRunning) (name : List ℕ) → request_of words ≡ Some (OnLog name running)
+      → IfSome (content name) (λ text. WantedForLog running text left_old left_new held_old held_new) → WantedByWords words content left_old left_new held_old held_new
 
 -- ---- reads of the trace
+
+-- the trace was read for a replay of the kernel of a text, where the log is told
+abbrev pub ReadForReplayOf : {S : Type 0} → (S → Option (List ℕ)) → (S → ℕ) → (S → Bool) → (List ℕ → Option (List ℕ)) → List ℕ → Budget → List ℕ → S → S → Type 0
+ReadForReplayOf left faults down content log b text old new =
+    IfSome (content log) (λ lines. (k : PlainKernel) × (units : ℕ) × ReplaysAs content log b text k units lines
+    × ReadForReplay left faults down MAX_ROWS k units lines old new)
 
 -- the trace was read for the kernel of a text, which runs
 abbrev pub ReadForText : {S : Type 0} → (S → Option (List ℕ)) → (S → ℕ) → (S → Bool) → Telling → Bool → PlainRunning → List ℕ → S → S → Type 0
@@ -67,10 +100,14 @@ ReadForText left faults down tells fold running text old new =
     × ReadFor left faults down MAX_ROWS (run_format tells (kernel_for fold k)) (kernel_for fold k) units old new
 
 -- the same for words, which are a command that runs over the trace
-abbrev pub ReadForWords : {S : Type 0} → (S → Option (List ℕ)) → (S → ℕ) → (S → Bool) → List (List ℕ) → (List ℕ → Option (List ℕ)) → S → S → Type 0
-ReadForWords left faults down words content old new =
-    (running : PlainRunning) × (name : List ℕ) × (command : PlainCommand) × (fold : Bool) × (request_of words ≡ Some (OnText name command fold))
-    × (running_in command ≡ Some running) × IfSome (content name) (λ text. ReadForText left faults down (telling_in command) fold running text old new)
+pub data ReadForWords {S : Type 0} (left : S → Option (List ℕ)) (faults : S → ℕ) (down : S → Bool) (words : List (List ℕ)) (content : List ℕ → Option (List ℕ)) (old new : S) : Type 0 where
+  Read_for_run : (running : PlainRunning) (name : List ℕ) (command : PlainCommand) (fold : Bool) → request_of words ≡ Some (OnText name command fold)
+      → running_in command ≡ Some running → IfSome (content name) (λ text. ReadForText left faults down (telling_in command) fold running text old new)
+      → ReadForWords left faults down words content old new
+  Read_for_replay : (name log : List ℕ) (b : Budget) → request_of words ≡ Some (OnReplay name log b)
+      → IfSome (content name) (λ text. ReadForReplayOf left faults down content log b text old new) → ReadForWords left faults down words content old new
+  Read_for_log : (running : PlainRunning) (name : List ℕ) → request_of words ≡ Some (OnLog name running)
+      → IfSome (content name) (λ text. ReadForText left faults down telling.Report false running text old new) → ReadForWords left faults down words content old new
 
 -- ---- misuse
 
@@ -104,6 +141,10 @@ pub data IsMisuse (words : List (List ℕ)) (content : List ℕ → Option (List
       → IfSome (content name) (AcceptedSo (FoldedIsMisused command fold)) → IsMisuse words content
   Misuses_farm : (name : List ℕ) (traces : List (List ℕ)) (b : Budget) → request_of words ≡ Some (OnTraces name traces b)
       → IfSome (content name) (AcceptedSo (λ k. IsBoundless k b)) → IsMisuse words content
+  Misuses_log : (name : List ℕ) (running : PlainRunning) → request_of words ≡ Some (OnLog name running)
+      → IfSome (content name) (AcceptedSo (λ k. IsRefusedRun k running)) → IsMisuse words content
+  Misuses_replay : (name log : List ℕ) (b : Budget) → request_of words ≡ Some (OnReplay name log b)
+      → IfSome (content name) (AcceptedSo (λ k. IsBoundless k b)) → IsMisuse words content
   Misuses_workload : (threads : ℕ) (running : PlainRunning) → request_of words ≡ Some (OnWorkload threads running)
       → AcceptedSo (λ k. IsRefusedRun k running) (text_of threads) → IsMisuse words content
 
@@ -115,6 +156,8 @@ asked_names (OnText name command fold) = name ∷ []
 asked_names (OnWorkload threads running) = []
 asked_names (OnDump name) = name ∷ []
 asked_names (OnTraces name traces b) = name ∷ traces
+asked_names (OnLog name running) = name ∷ []
+asked_names (OnReplay name log b) = name ∷ log ∷ []
 
 -- the words name this text
 pub record NameThis (words : List (List ℕ)) (name : List ℕ) : Type 0 where

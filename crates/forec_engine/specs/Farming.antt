@@ -65,6 +65,7 @@ IsRunStatus status.Over = Unit {0}
 IsRunStatus status.ReadFault = ⊥
 IsRunStatus status.WriteFault = ⊥
 IsRunStatus status.NoMemory = ⊥
+IsRunStatus status.Full = ⊥
 
 -- each of these is the report of a trace
 abbrev pub AreRun : List Report → Type 0

@@ -7,4 +7,8 @@ pub mod Ends
 pub mod Farming
 pub mod Farms
 pub mod Laws
+pub mod Logging
+pub mod Logs
 pub mod Placing
+pub mod Replaying
+pub mod Replays

@@ -52,7 +52,7 @@ fn say_misplaced<K: Sink>(alloc: Global, why: PlaceFault, out: &mut K) -> Status
 }
 
 /// Says why a list of places is refused, where memory wasn't wanting.
-fn misplace<K: Sink>(alloc: Global, why: PlaceFault, out: &mut K) -> Status
+pub fn misplace<K: Sink>(alloc: Global, why: PlaceFault, out: &mut K) -> Status
     ensures { Prints K.held K.faults K.down ⊤ (λ r. (why ≢ fault.OutOfMemory)
         × (r ≡ misplaced why)) (why ≢ fault.OutOfMemory) ⊥ ⊥
         out.old out.new result }

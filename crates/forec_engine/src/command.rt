@@ -16,6 +16,8 @@ use crate::answering::{answer_workload, refuse};
 use crate::dumps::tell_named;
 use crate::farming::{Farmed, farm_named};
 use crate::folding::answer_folded;
+use crate::logging::log_named;
+use crate::replaying::{Replayed, replay_named};
 use command_words::{Command, Request, Running, WordsFault, read_words};
 use forec_base::{Gate, MAX_DEPTH, MAX_TEXT_BYTES, Sink, Source, TextFault, Texts};
 use std::alloc::Global;
@@ -26,7 +28,7 @@ use trace_runs::{Setting, Status, say};
 use workload::workload_text;
 
 const USAGE: &[u8] =
-    b"usage: forec run|check|threads|code|explain|gen|wave|unwave|farm PROGRAM [MORE...] [--cores N] [--place LIST] [--budget B] [--order N] [--fold]\n";
+    b"usage: forec run|check|threads|code|explain|gen|wave|unwave|log|replay|farm PROGRAM [MORE...] [--cores N] [--place LIST] [--budget B] [--order N] [--fold]\n";
 
 /// A command, and whether the constants of the kernel are folded before it is done.
 #[derive(Clone, Copy)]
@@ -155,6 +157,19 @@ pub fn forec_within<T: Texts, S: Source, K: Sink, G: Gate + Sync, R: Threads + W
             };
             farm_named(setting, deepest, program, farmed, texts, out)
         }
+        Ok(Request::Log { program, running }) => {
+            log_named(setting, deepest, program, running, texts, trace, out)
+        }
+        Ok(
+            Request::Replay {
+                program,
+                log,
+                budget,
+            },
+        ) => {
+            let replayed = Replayed { log, budget };
+            replay_named(setting.alloc, deepest, program, replayed, texts, trace, out)
+        }
         Ok(Request::Dump { dump }) => tell_named(setting.alloc, dump, texts, out),
         Err(WordsFault::Usage) => say(out, USAGE, Status::Usage),
         Err(WordsFault::OutOfMemory) => Status::NoMemory,
@@ -164,20 +179,24 @@ pub fn forec_within<T: Texts, S: Source, K: Sink, G: Gate + Sync, R: Threads + W
 /// Does what the words ask, and gives the status. The report goes to `out`.
 ///
 /// `run P` runs the program whose text `texts` has under the name `P`, a tick for each row of `trace`, of which each
-/// may have `--budget B` units, or 10,000,000; with `--budget bound` as many as the program's bound. `wave P` runs it so
-/// too, and writes a value change dump of the run in place of its report; `unwave D` prints the report that the dump of
-/// the name `D` tells. `check P` counts the program's thread instances, inputs and outputs, `threads P` lists its threads
-/// with their cores and weights and the bound of a tick, and `code P` its code. `gen N` runs a workload of `N` threads
-/// and `main` for 1,000 ticks, and prints the sum of the outputs. `explain P` prints what `run P` does, made by rewriting
-/// the kernel's texts in the order of steps `--order N`; it alone may run out of memory between ticks. `run`, `wave` and
-/// `explain` read the trace, and `gen` reads no text. `farm P T1 ..` runs the program over traces
-/// that `texts` has under these names, of which at most 1,000 rows each, beside each other, and prints of each what
-/// `run P` would, with its name and the number of its status; the status is the one with the greatest number.
+/// may have `--budget B` units, or 10,000,000; with `--budget bound` as many as the program's bound. `wave P` runs it
+/// so too, and writes a value change dump of the run in place of its report; `unwave D` prints the report that the dump
+/// of the name `D` tells. `log P` runs it so too, and once it has ended writes the jobs and replies that its threads
+/// have exchanged, thread by thread, or `log full` where they need more than 4,194,304 words. `replay P L` holds such a
+/// log, which `texts` has under the name `L`, to the program and the trace: it prints what `run P` does, and then
+/// whether the log is that of the run, or where it first isn't. `check P` counts the program's thread instances, inputs
+/// and outputs, `threads P` lists its threads with their cores and weights and the bound of a tick, and `code P` its
+/// code. `gen N` runs a workload of `N` threads and `main` for 1,000 ticks, and prints the sum of the outputs.
+/// `explain P` prints what `run P` does, made by rewriting the kernel's texts in the order of steps `--order N`; it alone may
+/// run out of memory between ticks. `run`, `wave`, `log`, `replay` and `explain` read the trace, and `gen` reads no
+/// text. `farm P T1 ..` runs the program over traces that `texts` has under these names, of which at most 1,000 rows
+/// each, beside each other, and prints of each what `run P` would, with its name and the number of its status; the
+/// status is the one with the greatest number.
 ///
-/// `run`, `wave`, `threads` and `gen` place the threads on `--cores N` cores, or on one: by the list `--place L`, or
-/// balanced. What `run`, `wave` and `gen` print doesn't depend on it. With `--fold`, of `run`, `threads`, `code` and
-/// `explain`, the command is done with the kernel whose constants are folded. Where the budget is the bound and the
-/// program has none, the line is `bound none`. All other words give the usage line.
+/// `run`, `wave`, `log`, `threads` and `gen` place the threads on `--cores N` cores, or on one: by the list
+/// `--place L`, or balanced. What `run`, `wave`, `log` and `gen` print doesn't depend on it. With `--fold`, of `run`, `threads`,
+/// `code` and `explain`, the command is done with the kernel whose constants are folded. Where the budget is the bound
+/// and the program has none, the line is `bound none`. All other words give the usage line.
 pub fn forec<T: Texts, S: Source, K: Sink, G: Gate + Sync, R: Threads + Wait + Sync>(
     rt: &R,
     alloc: Global,
@@ -213,8 +232,10 @@ pub fn forec<T: Texts, S: Source, K: Sink, G: Gate + Sync, R: Threads + Wait + S
     // No text is read but those that the words name.
     ensures texts { (texts.new ≡ texts.old) ⊎ NameText (map string_bytes words.now) }
 
-    // The trace is read by `run`, `wave` and `explain` alone, for a text that is accepted, where neither the budget nor the
-    // list of places is refused, and no read is asked for once a line that stops the program has come whole.
+    // The trace is read by `run`, `wave`, `log`, `replay` and `explain` alone, for a text that is accepted, where neither
+    // the budget nor the list of places is refused, and no read is asked for once a line that stops the program has
+    // come whole. By `replay` it is read for a log of the program's threads alone, with which each but thread 0 agrees,
+    // and no read is asked for once a tick differs.
     ensures trace { (trace.new ≡ trace.old)
         ⊎ ReadForWords S.left S.faults S.down (map string_bytes words.now) (T.content texts.old) trace.old trace.new }
 

@@ -57,6 +57,7 @@ fn status_of(number: u32) -> Status
         6 => Status::Over,
         7 => Status::ReadFault,
         8 => Status::WriteFault,
+        10 => Status::Full,
         _ => Status::NoMemory,
     }
 }

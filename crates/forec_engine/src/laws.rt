@@ -1,8 +1,10 @@
 //! Laws of the reports.
-ghost use Rattle.forec_engine.specs.Laws.{OneReport, AlikeReports, SomeReport, CoveredNeverOver, BoundCovers, BoundNeverOver, FoldingPrintsTheSame};
+ghost use Rattle.forec_engine.specs.Laws.{OneReport, AlikeReports, SomeReport, CoveredNeverOver, BoundCovers, BoundNeverOver, FoldingPrintsTheSame, ReplayOkIsTheLog};
 
 use bound_laws::no_tick_passes_the_bound;
 use kernel_fold::{folding_keeps_form, folding_keeps_paced, folding_keeps_runs};
+use log_laws::each_accepted_text_has_fitting_logs;
+use log_runs::{a_run_has_one_log, a_run_has_one_replay};
 use text_verdict::{
     each_accepted_text_is_formed, each_accepted_text_is_paced, each_text_has_a_verdict, one_verdict,
 };
@@ -14,6 +16,9 @@ pub fn reports_are_unique()
     ensures { OneReport }
 {
     one_verdict();
+    each_accepted_text_is_formed();
+    a_run_has_one_log();
+    a_run_has_one_replay();
     one_placement();
 }
 
@@ -23,14 +28,19 @@ pub fn reports_are_alike()
     ensures { AlikeReports }
 {
     one_verdict();
+    each_accepted_text_is_formed();
+    a_run_has_one_log();
+    a_run_has_one_replay();
     one_placement();
 }
 
-/// Where the texts and the trace are told, it can't be that words other than `code P` have no report.
+/// Where the texts and the trace are told, it can't be that words other than `log P` have no report.
 pub fn each_command_has_a_report()
     ensures { SomeReport }
 {
     each_text_has_a_verdict();
+    each_accepted_text_is_formed();
+    folding_keeps_form();
     some_placement();
 }
 
@@ -54,4 +64,15 @@ pub fn folding_prints_the_same()
     ensures { FoldingPrintsTheSame }
 {
     folding_keeps_runs();
+}
+
+/// `replay P L` tells `replay ok`, behind the report of `run P`, exactly where `L` is the log of that run, as `log P`
+/// writes it.
+pub fn replay_ok_is_the_log()
+    ensures { ReplayOkIsTheLog }
+{
+    one_verdict();
+    each_accepted_text_is_formed();
+    each_accepted_text_has_fitting_logs();
+    a_run_has_one_replay();
 }

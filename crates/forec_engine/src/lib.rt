@@ -11,11 +11,13 @@ mod farming;
 mod folding;
 mod laws;
 mod lines;
+mod logging;
+mod replaying;
 mod room;
 
 pub use command::{forec, forec_within};
 pub use laws::{
-    each_command_has_a_report, enough_is_never_over, folding_prints_the_same, reports_are_alike,
-    reports_are_unique,
+    each_command_has_a_report, enough_is_never_over, folding_prints_the_same, replay_ok_is_the_log,
+    reports_are_alike, reports_are_unique,
 };
 pub use trace_runs::{Setting, Status};

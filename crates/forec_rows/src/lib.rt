@@ -14,6 +14,8 @@ mod farms;
 #[cfg(test)]
 mod gate;
 #[cfg(test)]
+mod logs;
+#[cfg(test)]
 mod memory;
 #[cfg(test)]
 mod one_thread;

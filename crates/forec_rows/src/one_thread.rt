@@ -210,7 +210,7 @@ fn counts_and_lists(rt: HostRuntime) -> Result<(), Fail> {
 }
 
 const USAGE: &[u8] =
-    b"usage: forec run|check|threads|code|explain|gen|wave|unwave|farm PROGRAM [MORE...] [--cores N] [--place LIST] [--budget B] [--order N] [--fold]\n";
+    b"usage: forec run|check|threads|code|explain|gen|wave|unwave|log|replay|farm PROGRAM [MORE...] [--cores N] [--place LIST] [--budget B] [--order N] [--fold]\n";
 
 /// These words are no command.
 const NO_COMMANDS: [&[&str]; 12] = [

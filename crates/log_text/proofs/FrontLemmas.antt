@@ -9,8 +9,8 @@ use Rattle.forec_kernel.specs.Texts.{uses_in}
 use Rattle.exchange_meaning.specs.Logged.{Logged, ExchangeLog}
 use Rattle.exchange_meaning.specs.LogLines.{job_line, reply_line, exchange_lines, thread_log_lines, log_lines_from}
 use Rattle.exchange_meaning.specs.OfShape.{AreInts, IsOfThread, AreOfThread, IsOfShape}
-use Rattle.log_text.specs.Fronts.{lines_in, IsHeadLine, pair_lines, AreLogLines, BeginsLog}
-use Rattle.log_text.specs.Stages.{Stage, AtHead, AtJob, AtReply, at_pairs, IsNext, IsJobOf, IsReplyOf, LinesLead, IsLast}
+use Rattle.log_text.specs.Fronts.{lines_in, IsHeadLine, lines_of_pairs, AreLogLines, BeginsLog}
+use Rattle.log_text.specs.Stages.{LogStage, AtHead, AtJob, AtReply, at_pairs, IsNext, IsJobOf, IsReplyOf, LinesLead, IsLast}
 use Rattle.log_text.proofs.DigitLemmas.{decimal_is}
 use Rattle.log_text.proofs.LineLemmas.{lines_step, job_is_line, reply_is_line, head_is_line}
 use Rattle.log_text.proofs.StageLemmas.{leads_append, leads_split}
@@ -23,31 +23,31 @@ reply_of s t l h = record { fits = h.reply; numbers = h.reply_numbers }
 
 -- ---- from a log to stages
 
-pub pairs_lead : (s : PlainShape) (t : ℕ) (ls : List Logged) → AreOfThread s t ls → LinesLead s (at_pairs t (length ls)) (pair_lines ls) (AtHead (suc t))
+pub pairs_lead : (s : PlainShape) (t : ℕ) (ls : List Logged) → AreOfThread s t ls → LinesLead s (at_pairs t (length ls)) (lines_of_pairs ls) (AtHead (suc t))
 pairs_lead s t [] h = refl
 pairs_lead s t (l ∷ ls) h =
     (AtReply t (length ls), (l.job, job_of s t l h.0, refl, refl), (at_pairs t (length ls), (l.reply, reply_of s t l h.0, refl, refl), pairs_lead s t ls h.1))
 
 pub log_leads : (s : PlainShape) (log : ExchangeLog) (n t : ℕ) (lines : List (List ℕ)) → IsOfShape s log → 0 < t → n ≡ length s.threads - t → AreLogLines log t n lines →
-    (to : Stage) × IsLast s to × LinesLead s (AtHead t) lines to
+    (to : LogStage) × IsLast s to × LinesLead s (AtHead t) lines to
 log_leads s log zero t lines fit some left h = (AtHead t, omega arith, subst (λ (x : List (List ℕ)). LinesLead s (AtHead t) x (AtHead t)) (sym h) refl)
 log_leads s log (suc n) t lines fit some left h =
     let low : t < length s.threads = omega arith in
     let rest = log_leads s log n (suc t) h.1 fit (omega arith) (omega arith) h.4 in
-    let mine = leads_append s (at_pairs t (length (log t))) (AtHead (suc t)) rest.0 (pair_lines (log t)) h.1 (pairs_lead s t (log t) (fit t some low)) rest.2 in
+    let mine = leads_append s (at_pairs t (length (log t))) (AtHead (suc t)) rest.0 (lines_of_pairs (log t)) h.1 (pairs_lead s t (log t) (fit t some low)) rest.2 in
     (rest.0, rest.1, subst (λ (x : List (List ℕ)). LinesLead s (AtHead t) x rest.0) (sym h.3) (at_pairs t (length (log t)), (low, length (log t), h.2, refl), mine))
 
 -- ---- from stages to a log
 
-pub pairs_back : (s : PlainShape) (t k : ℕ) (lines : List (List ℕ)) (to : Stage) → t < length s.threads → IsLast s to → LinesLead s (at_pairs t k) lines to →
-    (ls : List Logged) × (rest : List (List ℕ)) × (length ls ≡ k) × AreOfThread s t ls × (lines ≡ pair_lines ls ++ rest) × LinesLead s (AtHead (suc t)) rest to
+pub pairs_back : (s : PlainShape) (t k : ℕ) (lines : List (List ℕ)) (to : LogStage) → t < length s.threads → IsLast s to → LinesLead s (at_pairs t k) lines to →
+    (ls : List Logged) × (rest : List (List ℕ)) × (length ls ≡ k) × AreOfThread s t ls × (lines ≡ lines_of_pairs ls ++ rest) × LinesLead s (AtHead (suc t)) rest to
 pairs_back s t zero lines to low last h = ([], lines, refl, tt, refl, h)
 pairs_back s t (suc k) [] to low last h = absurd (subst (IsLast s) (sym h) last)
 pairs_back s t (suc k) (a ∷ []) to low last h = absurd (subst (IsLast s) (sym h.2 ∙ h.1.3) last)
 pairs_back s t (suc k) (a ∷ b ∷ lines) to low last h =
     let j = h.1 in
-    let r = subst (λ (x : Stage). IsNext s x b h.2.0) j.3 h.2.1 in
-    let more = subst (λ (x : Stage). LinesLead s x lines to) r.3 h.2.2 in
+    let r = subst (λ (x : LogStage). IsNext s x b h.2.0) j.3 h.2.1 in
+    let more = subst (λ (x : LogStage). LinesLead s x lines to) r.3 h.2.2 in
     let rest = pairs_back s t k lines to low last more in
     let l : Logged = record { job = j.0; reply = r.0 } in (
       l ∷ rest.0,
@@ -62,7 +62,7 @@ pub lines_same : (log other : ExchangeLog) (t n : ℕ) (lines : List (List ℕ))
 lines_same log other t zero lines same h = h
 lines_same log other t (suc n) lines same h =
     let here : log t ≡ other t = same t (omega arith) in
-    (h.0, h.1, subst (λ (ls : List Logged). IsHeadLine t (length ls) h.0) here h.2, h.3 ∙ ap (λ (ls : List Logged). h.0 ∷ (pair_lines ls ++ h.1)) here, lines_same log other (suc t) n h.1 (λ u low. same u (omega arith)) h.4)
+    (h.0, h.1, subst (λ (ls : List Logged). IsHeadLine t (length ls) h.0) here h.2, h.3 ∙ ap (λ (ls : List Logged). h.0 ∷ (lines_of_pairs ls ++ h.1)) here, lines_same log other (suc t) n h.1 (λ u low. same u (omega arith)) h.4)
 
 -- a log with this list for thread t
 abbrev pub with_list : ℕ → List Logged → ExchangeLog → ExchangeLog
@@ -77,14 +77,14 @@ eqb_same t = eq-eqb t t refl
 pub list_here : (t : ℕ) (ls : List Logged) (log : ExchangeLog) → with_list t ls log t ≡ ls
 list_here t ls log = rw (eqb_same t) refl
 
-pub leads_log : (s : PlainShape) (n t : ℕ) (lines : List (List ℕ)) (to : Stage) → 0 < t → n ≡ length s.threads - t → IsLast s to → LinesLead s (AtHead t) lines to →
+pub leads_log : (s : PlainShape) (n t : ℕ) (lines : List (List ℕ)) (to : LogStage) → 0 < t → n ≡ length s.threads - t → IsLast s to → LinesLead s (AtHead t) lines to →
     (log : ExchangeLog) × ((u : ℕ) → t ≤ u → u < length s.threads → AreOfThread s u (log u)) × AreLogLines log t n lines
 leads_log s zero t [] to some left last h = (λ u. [], λ u low high. tt, refl)
 leads_log s zero t (l ∷ lines) to some left last h = absurd (let low : t < length s.threads = h.1.0 in omega arith)
 leads_log s (suc n) t [] to some left last h = absurd (let past : length s.threads ≤ t = subst (IsLast s) (sym h) last in omega arith)
 leads_log s (suc n) t (head ∷ lines) to some left last h =
     let is = h.1 in
-    let mine = pairs_back s t is.1 lines to is.0 last (subst (λ (x : Stage). LinesLead s x lines to) is.3 h.2) in
+    let mine = pairs_back s t is.1 lines to is.0 last (subst (λ (x : LogStage). LinesLead s x lines to) is.3 h.2) in
     let rest = leads_log s n (suc t) mine.1 to (omega arith) (omega arith) last mine.5 in
     let log : ExchangeLog = with_list t mine.0 rest.0 in
     let here : log t ≡ mine.0 = list_here t mine.0 rest.0 in
@@ -98,14 +98,14 @@ leads_log s (suc n) t (head ∷ lines) to some left last h =
         head,
         mine.1,
         subst (λ (k : ℕ). IsHeadLine t k head) size is.2,
-        ap (λ (x : List (List ℕ)). head ∷ x) (mine.4 ∙ ap (λ (ls : List Logged). pair_lines ls ++ mine.1) (sym here)),
+        ap (λ (x : List (List ℕ)). head ∷ x) (mine.4 ∙ ap (λ (ls : List Logged). lines_of_pairs ls ++ mine.1) (sym here)),
         lines_same rest.0 log (suc t) n mine.1 (λ u low. sym (list_other t u mine.0 rest.0 (λ e. omega arith))) rest.2,
       ),
     )
 
 -- ---- each stage goes on to the last
 
-abbrev pub IsGood : PlainShape → Stage → Type 0
+abbrev pub IsGood : PlainShape → LogStage → Type 0
 IsGood s (AtHead t) = Unit {0}
 IsGood s (AtJob t k) = t < length s.threads
 IsGood s (AtReply t k) = t < length s.threads
@@ -114,12 +114,12 @@ pairs_good : (s : PlainShape) (t k : ℕ) → t < length s.threads → IsGood s 
 pairs_good s t zero low = tt
 pairs_good s t (suc k) low = low
 
-next_good : (s : PlainShape) (from to : Stage) (line : List ℕ) → IsGood s from → IsNext s from line to → IsGood s to
+next_good : (s : PlainShape) (from to : LogStage) (line : List ℕ) → IsGood s from → IsNext s from line to → IsGood s to
 next_good s (AtHead t) to line g n = subst (IsGood s) (sym n.3) (pairs_good s t n.1 n.0)
 next_good s (AtJob t k) to line g n = subst (IsGood s) (sym n.3) g
 next_good s (AtReply t k) to line g n = subst (IsGood s) (sym n.3) (pairs_good s t k g)
 
-pub leads_good : (s : PlainShape) (from to : Stage) (lines : List (List ℕ)) → IsGood s from → LinesLead s from lines to → IsGood s to
+pub leads_good : (s : PlainShape) (from to : LogStage) (lines : List (List ℕ)) → IsGood s from → LinesLead s from lines to → IsGood s to
 leads_good s from to [] g h = subst (IsGood s) h g
 leads_good s from to (l ∷ ls) g h = leads_good s h.0 to ls (next_good s from h.0 l g h.1) h.2
 
@@ -134,9 +134,9 @@ blank_job s t = (
 )
 
 -- further lines lead to the last stage
-pub record GoesOn (s : PlainShape) (from : Stage) : Type 0 where
+pub record GoesOn (s : PlainShape) (from : LogStage) : Type 0 where
   pub more : List (List ℕ)
-  pub to : Stage
+  pub to : LogStage
   pub last : IsLast s to
   pub leads : LinesLead s from more to
 
@@ -169,21 +169,21 @@ more_pairs : (s : PlainShape) (t k : ℕ) → GoesOn s (at_pairs t k)
 more_pairs s t zero = more_heads s (length s.threads - suc t) (suc t) refl
 more_pairs s t (suc k) = more_job s t k (more_reply s t k (more_pairs s t k))
 
-pub goes_on : (s : PlainShape) (stage : Stage) → GoesOn s stage
+pub goes_on : (s : PlainShape) (stage : LogStage) → GoesOn s stage
 goes_on s (AtHead t) = more_heads s (length s.threads - t) t refl
 goes_on s (AtJob t k) = more_job s t k (more_reply s t k (more_pairs s t k))
 goes_on s (AtReply t k) = more_reply s t k (more_pairs s t k)
 
 -- ---- fronts
 
-pub begins : (s : PlainShape) (lines : List (List ℕ)) (stage : Stage) → LinesLead s (AtHead 1) lines stage → BeginsLog s lines
+pub begins : (s : PlainShape) (lines : List (List ℕ)) (stage : LogStage) → LinesLead s (AtHead 1) lines stage → BeginsLog s lines
 begins s lines stage h =
     let g = goes_on s stage in
     let all = leads_append s (AtHead 1) stage g.to lines g.more h g.leads in
     let l = leads_log s (length s.threads - 1) 1 (lines ++ g.more) g.to (omega arith) refl g.last all in
     record { log = l.0; fits = λ u some low. l.1 u some low; more = g.more; are = l.2 }
 
-pub begins_leads : (s : PlainShape) (lines : List (List ℕ)) → BeginsLog s lines → (stage : Stage) × LinesLead s (AtHead 1) lines stage
+pub begins_leads : (s : PlainShape) (lines : List (List ℕ)) → BeginsLog s lines → (stage : LogStage) × LinesLead s (AtHead 1) lines stage
 begins_leads s lines b =
     let all = log_leads s b.log (length s.threads - 1) 1 (lines ++ b.more) b.fits (omega arith) refl b.are in
     let parts = leads_split s (AtHead 1) all.0 lines b.more all.2 in
@@ -202,7 +202,7 @@ pairs_short (l ∷ ls) = omega (arith, pairs_short ls, job_some l.job, length-ap
 pub pairs_text : (l : Logged) (ls : List Logged) (rest : List ℕ) → exchange_lines (l ∷ ls) ++ rest ≡ job_line l.job ++ (reply_line l.reply ++ (exchange_lines ls ++ rest))
 pairs_text l ls rest = append_assoc (job_line l.job ++ reply_line l.reply) (exchange_lines ls) rest ∙ append_assoc (job_line l.job) (reply_line l.reply) (exchange_lines ls ++ rest)
 
-pub pairs_in : (s : PlainShape) (t : ℕ) (ls : List Logged) (rest : List ℕ) → AreOfThread s t ls → lines_in (exchange_lines ls ++ rest) ≡ pair_lines ls ++ lines_in rest
+pub pairs_in : (s : PlainShape) (t : ℕ) (ls : List Logged) (rest : List ℕ) → AreOfThread s t ls → lines_in (exchange_lines ls ++ rest) ≡ lines_of_pairs ls ++ lines_in rest
 pairs_in s t [] rest h = refl
 pairs_in s t (l ∷ ls) rest h =
     let more = exchange_lines ls ++ rest in

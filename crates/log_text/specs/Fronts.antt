@@ -28,15 +28,15 @@ pub record IsHeadLine (t jobs : ℕ) (line : List ℕ) : Type 0 where
   pub number : IsDecimal digits jobs
   pub is : line ≡ codes "thread " ++ (decimal t ++ (codes " jobs " ++ (digits ++ codes "\n")))
 
-abbrev pub pair_lines : List Logged → List (List ℕ)
-pair_lines [] = []
-pair_lines (l ∷ ls) = job_line l.job ∷ reply_line l.reply ∷ pair_lines ls
+abbrev pub lines_of_pairs : List Logged → List (List ℕ)
+lines_of_pairs [] = []
+lines_of_pairs (l ∷ ls) = job_line l.job ∷ reply_line l.reply ∷ lines_of_pairs ls
 
 -- the lines of so many threads of a log, from thread t on
 abbrev pub AreLogLines : ExchangeLog → ℕ → ℕ → List (List ℕ) → Type 0
 AreLogLines log t zero lines = lines ≡ []
 AreLogLines log t (suc n) lines =
-    (head : List ℕ) × (rest : List (List ℕ)) × IsHeadLine t (length (log t)) head × (lines ≡ head ∷ (pair_lines (log t) ++ rest)) × AreLogLines log (suc t) n rest
+    (head : List ℕ) × (rest : List (List ℕ)) × IsHeadLine t (length (log t)) head × (lines ≡ head ∷ (lines_of_pairs (log t) ++ rest)) × AreLogLines log (suc t) n rest
 
 -- some log of the shape begins with these lines
 pub record BeginsLog (s : PlainShape) (lines : List (List ℕ)) : Type 0 where

@@ -11,7 +11,7 @@ use Rattle.exchange_meaning.specs.OfShape.{IsOfThread, AreOfThread}
 use Rattle.log_text.specs.declared.section.Section.{Section}
 use Rattle.log_text.specs.declared.section.Spot.{Spot}
 use Rattle.log_text.specs.Pieces.{StandsTo}
-use Rattle.log_text.specs.Stages.{Stage, AtHead, at_pairs, HasCome}
+use Rattle.log_text.specs.Stages.{LogStage, AtHead, at_pairs, HasCome}
 
 -- the lines of these pairs stand where the section begins
 pub record IsSection (bytes : List ℕ) (section : Section) (pairs : List Logged) : Type 0 where
@@ -25,7 +25,7 @@ pub record IsOn (bytes : List ℕ) (spot : Spot) : Type 0 where
   pub few : 2 * spot.line ≤ spot.at + 2
 
 -- a reader with this packet, which has room for thread t, stands there and expects what the stage says
-pub record Expects (s : PlainShape) (t : ℕ) (bytes : List ℕ) (spot : Spot) (packet : Packet) (stage : Stage) : Type 0 where
+pub record Expects (s : PlainShape) (t : ℕ) (bytes : List ℕ) (spot : Spot) (packet : Packet) (stage : LogStage) : Type 0 where
   pub small : length s.threads < 2 ^ 64
   pub size : length bytes < 2 ^ 64
   pub room : HasRoom (of_shape s) t (plain_packet packet)

@@ -15,32 +15,32 @@ pub record IsReplyOf (s : PlainShape) (t : ℕ) (r : Reply) : Type 0 where
   pub fits : FitsReply s t (Some r)
   pub numbers : HasReplyNumbers r
 
-pub data Stage : Type 0 where
+pub data LogStage : Type 0 where
   -- the head of thread t, or nothing where there is no such thread
-  AtHead : (t : ℕ) → Stage
+  AtHead : (t : ℕ) → LogStage
   -- a job of thread t, and then its reply and so many further pairs
-  AtJob : (t left : ℕ) → Stage
+  AtJob : (t left : ℕ) → LogStage
   -- the reply of a job of thread t, and then so many further pairs
-  AtReply : (t left : ℕ) → Stage
+  AtReply : (t left : ℕ) → LogStage
 
 -- before so many pairs of thread t
-abbrev pub at_pairs : ℕ → ℕ → Stage
+abbrev pub at_pairs : ℕ → ℕ → LogStage
 at_pairs t zero = AtHead (suc t)
 at_pairs t (suc left) = AtJob t left
 
 -- this line may come next, and then that
-abbrev pub IsNext : PlainShape → Stage → List ℕ → Stage → Type 0
+abbrev pub IsNext : PlainShape → LogStage → List ℕ → LogStage → Type 0
 IsNext s (AtHead t) line next = (t < length s.threads) × (jobs : ℕ) × IsHeadLine t jobs line × (next ≡ at_pairs t jobs)
 IsNext s (AtJob t left) line next = (j : Job) × IsJobOf s t j × (line ≡ job_line j) × (next ≡ AtReply t left)
 IsNext s (AtReply t left) line next = (r : Reply) × IsReplyOf s t r × (line ≡ reply_line r) × (next ≡ at_pairs t left)
 
 -- these lines may come next, and then that
-abbrev pub LinesLead : PlainShape → Stage → List (List ℕ) → Stage → Type 0
+abbrev pub LinesLead : PlainShape → LogStage → List (List ℕ) → LogStage → Type 0
 LinesLead s from [] to = from ≡ to
-LinesLead s from (line ∷ lines) to = (next : Stage) × IsNext s from line next × LinesLead s next lines to
+LinesLead s from (line ∷ lines) to = (next : LogStage) × IsNext s from line next × LinesLead s next lines to
 
 -- a reader stands at this place, in this line: the lines before it lead to this stage
-pub record HasCome (s : PlainShape) (bytes : List ℕ) (line at : ℕ) (stage : Stage) : Type 0 where
+pub record HasCome (s : PlainShape) (bytes : List ℕ) (line at : ℕ) (stage : LogStage) : Type 0 where
   pub within : at ≤ length bytes
   pub passed : List (List ℕ)
   pub lines : lines_in bytes ≡ passed ++ lines_in (drop at bytes)
@@ -49,14 +49,14 @@ pub record HasCome (s : PlainShape) (bytes : List ℕ) (line at : ℕ) (stage : 
   pub leads : LinesLead s (AtHead 1) passed stage
 
 -- nothing may come next
-abbrev pub IsLast : PlainShape → Stage → Type 0
+abbrev pub IsLast : PlainShape → LogStage → Type 0
 IsLast s (AtHead t) = length s.threads ≤ t
 IsLast s _ = ⊥
 
 -- a reader stops in this line: what stands there may not come next
 pub record Stops (s : PlainShape) (bytes : List ℕ) (line : ℕ) : Type 0 where
   pub at : ℕ
-  pub stage : Stage
+  pub stage : LogStage
   pub come : HasCome s bytes line at stage
-  pub other : (next : Stage) (piece rest : List ℕ) → IsNext s stage piece next → drop at bytes ≡ piece ++ rest → ⊥
+  pub other : (next : LogStage) (piece rest : List ℕ) → IsNext s stage piece next → drop at bytes ≡ piece ++ rest → ⊥
   pub unfinished : IsLast s stage → at < length bytes

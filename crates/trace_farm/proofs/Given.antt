@@ -20,7 +20,7 @@ use Rattle.trace_runs.specs.StatusNumbers.{number_of}
 use Rattle.trace_runs.specs.Ticking.{Starts}
 use Rattle.trace_runs.specs.declared.status.Status.{Status}
 use Rattle.trace_farm.specs.declared.farm_report.FarmReport.{FarmReport}
-use Rattle.trace_farm.specs.Farm.{NumberedReport, with_number, plain_report, IsKept, report_of, IsReportOf, AreReportsOf, AreReportsFor}
+use Rattle.trace_farm.specs.Farm.{NumberedReport, with_number, plain_report, KeepsReport, report_of, IsReportOf, AreReportsOf, AreReportsFor}
 
 -- a code is followed from its start
 pub code_starts : (c now : PlainCode) (Ran : List TickInput → Type 0) (k : PlainKernel) → now ≡ c → WellFormed k → Stands c k → Ran [] → Starts now.shape (CodeFollows now Ran) k
@@ -36,7 +36,7 @@ numbers b n = record { bytes = b; status = n }
 pub reported : (rows limit budget units : ℕ) (how : Format) (k : PlainKernel) (trace rest held bytes kept : List ℕ) (end : Status) (r : Result FarmReport OutOfMemory) →
     limit ≡ rows → units ≡ budget → how ≡ run_format telling.Report k → rest ≡ trace → held ≡ [] → kept ≡ bytes →
     (IsOwn end → IsTold (Some rest) → (q : Report) × IsTraceReport limit how k units (Some rest) q × Given q end (Some held) (Some bytes)) →
-    IfOk r (λ _. IsOwn end) → IfOk r (IsKept kept end) → IfOk r (IsReportOf rows k budget trace)
+    IfOk r (λ _. IsOwn end) → IfOk r (KeepsReport kept end) → IfOk r (IsReportOf rows k budget trace)
 reported rows limit budget units how k trace rest held bytes kept end (Err e) few small told same none stays runs own is = tt
 reported rows limit budget units how k trace rest held bytes kept end (Ok r) few small told same none stays runs own is =
     let g = runs own (rest, refl) in

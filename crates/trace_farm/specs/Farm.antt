@@ -30,8 +30,8 @@ abbrev pub plain_report : FarmReport → NumberedReport
 plain_report r = record { bytes = r.bytes.items; status = r.status }
 
 -- it has these bytes, and the number of this status
-abbrev pub IsKept : List ℕ → Status → FarmReport → Type 0
-IsKept bytes status r = plain_report r ≡ record { bytes = bytes; status = number_of status }
+abbrev pub KeepsReport : List ℕ → Status → FarmReport → Type 0
+KeepsReport bytes status r = plain_report r ≡ record { bytes = bytes; status = number_of status }
 
 -- what a kernel reports of a trace, of which at most `rows` rows are run
 abbrev pub report_of : (rows : ℕ) → PlainKernel → ℕ → List ℕ → NumberedReport

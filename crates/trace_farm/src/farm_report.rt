@@ -2,7 +2,7 @@
 
 ghost use Rattle.std.specs.Prelude.{◌≡◌, IfOk};
 ghost use Rattle.trace_runs.specs.Ends.{IsOwn};
-ghost use Rattle.trace_farm.specs.Farm.{IsKept};
+ghost use Rattle.trace_farm.specs.Farm.{KeepsReport};
 
 use forec_base::OutOfMemory;
 use trace_runs::Status;
@@ -22,7 +22,7 @@ impl FarmReport {
     /// Out of memory, where the run ended by a fault of its streams: the trace lies in memory, so that is what it was.
     pub(crate) fn of(bytes: Vec<u8>, status: Status) -> Result<FarmReport, OutOfMemory>
         ensures own { IfOk result (λ _. IsOwn status) }
-        ensures kept { IfOk result (IsKept bytes.items status) }
+        ensures kept { IfOk result (KeepsReport bytes.items status) }
     {
         match status {
             Status::ReadFault | Status::WriteFault | Status::NoMemory => Err(OutOfMemory),

@@ -21,7 +21,7 @@ use Rattle.trace_runs.proofs.Following.{led_on}
 use Rattle.trace_runs.proofs.Splitting.{no_line, first_none, first_cut, whole_lines-line}
 
 -- the first line of bytes, and those after it
-lines_behind : (bytes held rest : List ℕ) → HasLine bytes → held ≡ after_first is_newline bytes →
+pub lines_behind : (bytes held rest : List ℕ) → HasLine bytes → held ≡ after_first is_newline bytes →
     whole_lines (bytes ++ rest) ≡ first_line bytes ∷ whole_lines (held ++ rest)
 lines_behind bytes held rest has e =
     ap (λ b. whole_lines (b ++ rest)) (first_cut bytes has ∙ ap (λ h. first_line bytes ++ 10 ∷ h) (sym e))
@@ -58,7 +58,7 @@ covers_more run now new p given came bytes values c behind at same takes e on =
 
 module _ {S : Type 0} (left : S → Option (List ℕ)) (faults : S → ℕ) (down : S → Bool) where
   -- reads after reads
-  reads_then : (May Then : List ℕ → Type 0) (o t : S) (front : List ℕ) {x : List ℕ} {v : S} → Reads left faults down May o front t → ((x : List ℕ) → Then x → May (front ++ x)) →
+  pub reads_then : (May Then : List ℕ → Type 0) (o t : S) (front : List ℕ) {x : List ℕ} {v : S} → Reads left faults down May o front t → ((x : List ℕ) → Then x → May (front ++ x)) →
       Reads left faults down Then t x v → Reads left faults down May o (front ++ x) v
   reads_then May Then o t front first f none = subst (λ x. Reads left faults down May o x t) (sym (append-nil front)) first
   reads_then May Then o t front first f (more {given} {piece} {s} {new} rest may read) =

@@ -15,6 +15,7 @@ neither_fault status.Over r w = inl tt
 neither_fault status.ReadFault r w = absurd (r refl)
 neither_fault status.WriteFault r w = absurd (w refl)
 neither_fault status.NoMemory r w = inr refl
+neither_fault status.Full r w = inl tt
 
 pub own_not : (s : Status) → IsOwn s → s ≡ status.WriteFault → ⊥
 own_not s own e = subst IsOwn e own

@@ -52,20 +52,20 @@ unfolding printed_for
 printed_rows limit how k b line form lines p h e = rw (h, e) refl
 
 module _ (limit : ℕ) (how : Format) (k : PlainKernel) (b : ℕ) (inputs : List (List ℕ)) (same : inputs ≡ input_names k) where
-  trace_reads : (x : List ℕ) (t : Trace) → trace_of inputs limit x ≡ t → trace_report limit how k b x ≡ behind_bytes (opening how) (report_from how k b Fresh 1 t)
+  pub trace_reads : (x : List ℕ) (t : Trace) → trace_of inputs limit x ≡ t → trace_report limit how k b x ≡ behind_bytes (opening how) (report_from how k b Fresh 1 t)
   unfolding trace_report
   trace_reads x t h =
       ap (λ ns. behind_bytes (opening how) (report_from how k b Fresh 1 (trace_of ns limit x))) (sym same) ∙ ap (λ (u : Trace). behind_bytes (opening how) (report_from how k b Fresh 1 u)) h
 
-  turns_read : (x : List ℕ) (t : Trace) → trace_of inputs limit x ≡ t → trace_turns limit k b x ≡ turns_from k b Fresh t.rows
+  pub turns_read : (x : List ℕ) (t : Trace) → trace_of inputs limit x ≡ t → trace_turns limit k b x ≡ turns_from k b Fresh t.rows
   unfolding trace_turns
   turns_read x t h = ap (λ ns. turns_from k b Fresh (trace_of ns limit x).rows) (sym same) ∙ ap (λ (u : Trace). turns_from k b Fresh u.rows) h
 
-  header_row : (r : Reader) (x y : List ℕ) → trace_of inputs limit x ≡ ahead r y → trace_report limit how k b x ≡ report_rest how k b r y
+  pub header_row : (r : Reader) (x y : List ℕ) → trace_of inputs limit x ≡ ahead r y → trace_report limit how k b x ≡ report_rest how k b r y
   unfolding report_rest
   header_row r x y h = trace_reads x (ahead r y) h
 
-  header_turns : (r : Reader) (x y : List ℕ) → trace_of inputs limit x ≡ ahead r y → trace_turns limit k b x ≡ turns_rest k b r y
+  pub header_turns : (r : Reader) (x y : List ℕ) → trace_of inputs limit x ≡ ahead r y → trace_turns limit k b x ≡ turns_rest k b r y
   unfolding turns_rest
   header_turns r x y h = turns_read x (ahead r y) h
 

@@ -1,20 +1,20 @@
-mod Advancing
-mod AfterHeader
-mod Asking
+pub mod Advancing
+pub mod AfterHeader
+pub mod Asking
 pub mod EndLemmas
 mod Fine
-mod Following
-mod Heading
-mod NextRows
+pub mod Following
+pub mod Heading
+pub mod NextRows
 mod OneTelling
 mod Numbered
 mod Picking
 pub mod Printing
 mod Ranges
-mod Running
-mod Splitting
-mod RunEnds
-mod TickLines
+pub mod Running
+pub mod Splitting
+pub mod RunEnds
+pub mod TickLines
 mod TickingLemmas
 pub mod Told
 mod WorkedLines

@@ -31,6 +31,7 @@ own_else status.Over r w m = tt
 own_else status.ReadFault r w m = absurd (r refl)
 own_else status.WriteFault r w m = absurd (w refl)
 own_else status.NoMemory r w m = absurd (m refl)
+own_else status.Full r w m = tt
 
 module _ {K : Type 0} (held : K → Option (List ℕ)) (faults : K → ℕ) (down : K → Bool) (Told : Type 0) (Is : Report → Type 0) (Misused Unread Parted : Type 0) (old new : K) where
   abbrev P : Status → Type 0

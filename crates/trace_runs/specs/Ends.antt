@@ -21,6 +21,7 @@ IsOwn status.Over = ⊤
 IsOwn status.ReadFault = ⊥
 IsOwn status.WriteFault = ⊥
 IsOwn status.NoMemory = ⊥
+IsOwn status.Full = ⊤
 
 -- the report was given, whole
 pub record Given (r : Report) (end : Status) (held_old held_new : Option (List ℕ)) : Type 0 where

@@ -13,3 +13,4 @@ number_of status.Over = 6
 number_of status.ReadFault = 7
 number_of status.WriteFault = 8
 number_of status.NoMemory = 9
+number_of status.Full = 10

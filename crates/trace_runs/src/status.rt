@@ -23,6 +23,8 @@ pub enum Status {
     WriteFault,
     /// There is no memory left. Nothing was written; of a program that is rewritten perhaps the front of a report.
     NoMemory,
+    /// The jobs and replies of a run that is logged need more words than are kept.
+    Full,
 }
 
 impl Status {
@@ -40,6 +42,7 @@ impl Status {
             Status::ReadFault => 7,
             Status::WriteFault => 8,
             Status::NoMemory => 9,
+            Status::Full => 10,
         }
     }
 }

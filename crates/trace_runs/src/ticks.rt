@@ -27,8 +27,9 @@ use std::alloc::Global;
 use std::sync::Wait;
 use trace_rows::{Next, RowFault, Rows};
 
-/// Writes the lines that wait, where a read of the trace comes next, or the lines of a further tick don't fit.
-fn send_due<K: Sink>(rows: &Rows, waiting: &mut Waiting, out: &mut K) -> Result<(), Failed>
+/// Writes the lines that wait, where a read of the trace comes next, or the lines of a further tick don't fit. At an
+/// `Err` a front of them is written.
+pub fn send_due<K: Sink>(rows: &Rows, waiting: &mut Waiting, out: &mut K) -> Result<(), Failed>
     ensures ok { OnOk result ((sent : List ℕ) × Appends (K.held out.old) (K.held out.new) sent
         × (waiting.old.bytes.items ≡ sent ++ waiting.new.bytes.items)) }
     ensures all { OnOk result ((HasLine rows.now.held → ⊥) → waiting.new.bytes.items ≡ []) }
@@ -44,7 +45,7 @@ fn send_due<K: Sink>(rows: &Rows, waiting: &mut Waiting, out: &mut K) -> Result<
 }
 
 /// The status of a run whose last tick went so.
-fn last_status(outcome: Outcome) -> Status
+pub fn last_status(outcome: Outcome) -> Status
     ensures { result ≡ status_after outcome }
 {
     match outcome {

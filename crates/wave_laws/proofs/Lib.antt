@@ -1,4 +1,4 @@
 mod Bytes
-mod Rows
+pub mod Rows
 mod Values
 mod Whole

@@ -2,4 +2,4 @@ use Rattle.forec_engine.proofs.Reports.{one_report}
 use Rattle.forec_engine.proofs.laws.reports_are_unique.Goals as goal
 
 pub returns : goal.returns
-returns c = one_report c.one_verdict.ensures c.one_placement.ensures
+returns c = one_report c.one_verdict.ensures c.each_accepted_text_is_formed.ensures c.a_run_has_one_log.ensures c.a_run_has_one_replay.ensures c.one_placement.ensures

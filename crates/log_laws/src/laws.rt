@@ -1,0 +1,22 @@
+//! Laws of the logs of programs that are accepted.
+
+ghost use Rattle.log_laws.specs.Laws.{AcceptedTextsHaveFittingLogs, AcceptedTextsHavePlaces};
+
+use log_ranges::logs_fit;
+use text_verdict::{each_accepted_text_has_words, each_accepted_text_is_formed};
+
+/// In the kernel of a text that is accepted each place where a term can trap has a line and a column from 1, below
+/// 2^32.
+pub fn each_accepted_text_has_places()
+    ensures { AcceptedTextsHavePlaces }
+{}
+
+/// So the log of its ticks fits its shape, where the rows of the ticks are of `int`s and no budget passes the greatest.
+pub fn each_accepted_text_has_fitting_logs()
+    ensures { AcceptedTextsHaveFittingLogs }
+{
+    each_accepted_text_is_formed();
+    each_accepted_text_has_words();
+    each_accepted_text_has_places();
+    logs_fit();
+}

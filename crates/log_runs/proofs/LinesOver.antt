@@ -1,0 +1,115 @@
+-- The ticks over lines that have come whole.
+use Rattle.std.proofs.Common.{◌≡◌, ℕ, ◌+◌, Bool, true, false, cond, if◌then◌else◌, List, [], ◌∷◌, ◌++◌, Option, Some, None, Ok, Err, codes, append_assoc, refl, sym, ap, subst, ◌∙◌}
+use Rattle.std.specs.List.{slice_split, onto_first}
+use Rattle.std.proofs.lemmas.List.Elements.{All-nil, All-cons}
+use Rattle.std.proofs.lemmas.List.Splits.{slice_split_at}
+use Rattle.forec_kernel.specs.Composed.{TickInput}
+use Rattle.forec_kernel.specs.Shapes.{PlainKernel}
+use Rattle.forec_kernel.specs.Ticks.{State, Fresh, tick, goes_on}
+use Rattle.trace_rows.specs.Lines.{is_newline, tidy, front, on_parts, lines_of, whole_lines}
+use Rattle.trace_rows.specs.Trace.{Row, Form, Trace, behind, form_after, header_at, next_form, onto, row_at, rows_from, rows_of_lines, trace_of}
+use Rattle.trace_runs.specs.KernelNames.{input_names}
+use Rattle.trace_runs.specs.Report.{Pace, advance, turns_from, trace_turns}
+use Rattle.trace_runs.specs.Formats.{format_after}
+use Rattle.trace_runs.specs.declared.format.Format.{Format}
+use Rattle.trace_runs.proofs.Advancing.{turns_on, went_of}
+use Rattle.trace_runs.proofs.Splitting.{NoNewline, first_part}
+use Rattle.log_runs.specs.ReplayRuns.{with_ends}
+use Rattle.log_runs.specs.RootWalks.{turns_over, turns_given}
+
+-- ---- one line more
+
+row_first : (limit : ℕ) (form : Form) (n : ℕ) (line : List ℕ) (lines : List (List ℕ)) (row : Row) → row_at limit form n line ≡ Ok row →
+    rows_from limit form n (line ∷ lines) ≡ onto (Ok row) n (rows_from limit (next_form form row) (n + 1) lines)
+row_first limit form n line lines row e = ap (λ r. onto r n (rows_from limit (form_after form r) (n + 1) lines)) e
+
+abbrev turn_at : ℕ → Row → TickInput
+turn_at budget row = record { row = row; budget = budget }
+
+abbrev turns_in : ℕ → PlainKernel → ℕ → Form → State → ℕ → List (List ℕ) → List TickInput
+turns_in limit k budget form s n lines = turns_from k budget s (rows_from limit form n lines).rows
+
+turn_alone : (k : PlainKernel) (budget : ℕ) (s : State) (row : Row) → turns_from k budget s (row ∷ []) ≡ turn_at budget row ∷ []
+turn_alone k budget s row = by (goes_on (tick k budget s row).outcome)
+  where
+    by : (b : Bool) → turn_at budget row ∷ (if b then [] else []) ≡ turn_at budget row ∷ []
+    by true = refl
+    by false = refl
+
+pub turns_more : (limit : ℕ) (how : Format) (k : PlainKernel) (budget : ℕ) (form : Form) (s : State) (n : ℕ) (lines : List (List ℕ)) (p : Pace) (line : List ℕ) (row : Row) →
+    advance limit how k budget form s n lines ≡ Some p → row_at limit p.form p.next line ≡ Ok row →
+    turns_from k budget s (rows_from limit form n (lines ++ line ∷ [])).rows ≡ turns_from k budget s (rows_from limit form n lines).rows ++ record { row = row; budget = budget } ∷ []
+turns_more limit how k budget form s n [] p line row e h =
+    let same : record { state = s; next = n; form = form; format = how; bytes = [] } ≡ p = cc in
+    let is : row_at limit form n line ≡ Ok row = subst (λ (q : Pace). row_at limit q.form q.next line ≡ Ok row) (sym same) h in
+    ap (λ (t : Trace). turns_from k budget s t.rows) (row_first limit form n line [] row is) ∙ turn_alone k budget s row
+turns_more limit how k budget form s n (first ∷ lines) p line row e h =
+    let w = went_of limit how k budget form s n first lines p e in
+    let t = tick k budget s w.row in
+    let is : row_at limit w.rest.form w.rest.next line ≡ Ok row = subst (λ (q : Pace). row_at limit q.form q.next line ≡ Ok row) w.whole h in
+    let step : (ls : List (List ℕ)) → turns_in limit k budget form s n (first ∷ ls) ≡ turn_at budget w.row ∷ turns_in limit k budget (next_form form w.row) t.state (n + 1) ls =
+    λ ls. ap (λ (x : Trace). turns_from k budget s x.rows) (row_first limit form n first ls w.row w.goes.row_is) ∙ turns_on k budget s w.row (rows_from limit (next_form form w.row) (n + 1) ls).rows w.goes.on in
+    step (lines ++ line ∷ [])
+    ∙ ap (λ ts. turn_at budget w.row ∷ ts) (turns_more limit (format_after how t.outputs) k budget (next_form form w.row) t.state (n + 1) lines w.rest line row w.rest_is is)
+    ∙ ap (λ ts. ts ++ turn_at budget row ∷ []) (sym (step lines))
+
+-- ---- lines without byte 10
+
+abbrev AllClean : List (List ℕ) → Type 0
+AllClean [] = Unit {0}
+AllClean (l ∷ ls) = NoNewline l × AllClean ls
+
+parts_clean : (bs : List ℕ) → AllClean (slice_split is_newline bs)
+parts_clean [] = (All-nil (λ b. is_newline b ≡ false), tt)
+parts_clean (x ∷ xs) = by_test (is_newline x) (slice_split is_newline xs) refl (parts_clean xs)
+  where
+    by_test : (b : Bool) (parts : List (List ℕ)) → is_newline x ≡ b → AllClean parts → AllClean (cond b ([] ∷ parts) (onto_first x parts))
+    by_test true parts e h = (All-nil (λ b. is_newline b ≡ false), h)
+    by_test false [] e h = (All-cons (λ b. is_newline b ≡ false) x [] e (All-nil (λ b. is_newline b ≡ false)), tt)
+    by_test false (part ∷ parts) e h = (All-cons (λ b. is_newline b ≡ false) x part e h.0, h.1)
+
+front_clean : (parts : List (List ℕ)) (part : List ℕ) → AllClean parts → NoNewline part → AllClean (front parts part)
+front_clean [] part hs h = tt
+front_clean (next ∷ parts) part hs h = (h, front_clean parts next hs.1 hs.0)
+
+whole_clean : (bs : List ℕ) → AllClean (whole_lines bs)
+unfolding whole_lines
+whole_clean bs = by (slice_split is_newline bs) (parts_clean bs)
+  where
+    by : (parts : List (List ℕ)) → AllClean parts → AllClean (on_parts front parts)
+    by [] h = tt
+    by (part ∷ parts) h = front_clean parts part h.1 h.0
+
+lines_of-none : lines_of [] ≡ []
+unfolding lines_of
+lines_of-none = refl
+
+lines_of-line : (l r : List ℕ) → NoNewline l → lines_of (l ++ 10 ∷ r) ≡ l ∷ lines_of r
+unfolding lines_of
+lines_of-line l r h =
+    let p = first_part r in
+    rw (slice_split_at is_newline l 10 r h refl, p.2)
+
+newline : codes "\n" ≡ 10 ∷ []
+newline = refl
+
+ends_lines : (ls : List (List ℕ)) → AllClean ls → lines_of (with_ends ls) ≡ ls
+ends_lines [] h = lines_of-none
+ends_lines (l ∷ ls) h = ap (λ (c : List ℕ). lines_of (l ++ c ++ with_ends ls)) newline ∙ ap lines_of (append_assoc l (10 ∷ []) (with_ends ls)) ∙ lines_of-line l (with_ends ls) h.0 ∙ ap (λ x. l ∷ x) (ends_lines ls h.1)
+
+-- ---- the ticks over what has come of a trace
+
+-- nothing has come whole
+pub given_none : (limit : ℕ) (k : PlainKernel) (budget : ℕ) (came : List ℕ) → whole_lines came ≡ [] → turns_given limit k budget came ≡ []
+unfolding trace_turns trace_of
+given_none limit k budget came none =
+    ap (λ ls. turns_from k budget Fresh (rows_of_lines (input_names k) limit (lines_of (with_ends ls))).rows) none ∙ ap (λ ls. turns_from k budget Fresh (rows_of_lines (input_names k) limit ls).rows) lines_of-none
+
+-- a header has, and these bytes after it
+pub given_rows : (limit : ℕ) (k : PlainKernel) (budget : ℕ) (header : List ℕ) (form : Form) (came rest : List ℕ) → whole_lines came ≡ header ∷ whole_lines rest → header_at (input_names k) header ≡ Ok form →
+    turns_given limit k budget came ≡ turns_over limit k budget form (whole_lines rest)
+unfolding trace_turns trace_of
+given_rows limit k budget header form came rest split is =
+    let clean = whole_clean came in
+    ap (λ ls. turns_from k budget Fresh (rows_of_lines (input_names k) limit ls).rows) (ends_lines (whole_lines came) clean ∙ split)
+    ∙ ap (λ r. turns_from k budget Fresh (behind r (λ f. rows_from limit f 1 (whole_lines rest))).rows) is

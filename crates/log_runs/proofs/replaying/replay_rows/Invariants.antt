@@ -1,0 +1,41 @@
+use Rattle.std.proofs.Common.{◌≡◌, ◌≤◌, ◌+◌, ◌-◌, true, length, List}
+use Rattle.std.specs.Io.KnownBytes.{IsAtEnd}
+use Rattle.forec_kernel.specs.Composed.{TickInput}
+use Rattle.forec_kernel.specs.Shapes.{PlainKernel}
+use Rattle.thread_code.specs.Plain.{plain_code}
+use Rattle.exchange_meaning.specs.Logged.{ExchangeLog}
+use Rattle.exchange_replay.specs.Rooted.{HasReplayed}
+use Rattle.log_text.specs.ReadLogs.{HasPairs}
+use Rattle.trace_runs.specs.Formats.{names_in}
+use Rattle.trace_runs.proofs.Running.{Reached, Stands_at}
+use Rattle.log_runs.specs.RootWalks.{IsHeldTo, RootRuns}
+use Rattle.log_runs.proofs.Alongside.{Along}
+use Rattle.log_runs.proofs.replaying.replay_rows.Given as goal
+
+abbrev pub invariant-ticks : goal.invariant-ticks
+invariant-ticks g l =
+    let left = g.S.Source.left in
+    let held = g.K.Sink.held in
+    let code = plain_code l.fn.code in
+    record {
+      reached : (k : PlainKernel) (pairs : ExchangeLog) → IsHeldTo code l.fn.log k pairs → Reached (record { format = l.fn.session.waiting.format; kernel = k; budget = l.budget; first = l.fn.rows })
+          (HasReplayed code l.fn.log pairs l.replayer) l.rows (left l.fn.trace) (left l.trace) (held l.fn.out) (held l.out) l.session.waiting.bytes.items l.session.waiting.format l.row;
+      along : (k : PlainKernel) (pairs : ExchangeLog) → IsHeldTo code l.fn.log k pairs →
+          Along left g.S.Source.faults g.S.Source.down (RootRuns code pairs) (record { format = l.fn.session.waiting.format; kernel = k; budget = l.budget; first = l.fn.rows })
+          (HasReplayed code l.fn.log pairs l.replayer) l.rows (left l.fn.trace) (left l.trace) (held l.fn.out) (held l.out) l.session.waiting.bytes.items l.session.waiting.format l.row l.fn.trace l.trace;
+      some : (pairs : ExchangeLog) → HasPairs code.shape l.fn.log pairs → (turns : List TickInput) × HasReplayed code l.fn.log pairs l.replayer turns;
+      inputs : length l.session.image.inputs.items ≡ length l.fn.session.image.inputs.items;
+      outputs : length l.session.image.outputs.items ≡ length l.fn.session.image.outputs.items;
+      live : l.replayer.live ≡ true;
+      reads : l.rows.live ≡ true;
+      stands : Stands_at l.fn.rows l.row l.rows;
+      low : 1 ≤ l.row;
+      high : l.row ≤ l.fn.rows.limit + 1;
+      names : names_in l.session.waiting.format ≡ names_in l.fn.session.waiting.format;
+      ended : l.rows.ended ≡ true → IsAtEnd (left l.trace);
+      read : g.S.Source.faults l.fn.trace ≤ g.S.Source.faults l.trace;
+      written : g.K.Sink.faults l.fn.out ≤ g.K.Sink.faults l.out;
+    }
+
+abbrev pub decreases-ticks : goal.decreases-ticks
+decreases-ticks g l = l.fn.rows.limit + 2 - l.row

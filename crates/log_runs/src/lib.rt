@@ -1,0 +1,14 @@
+//! Runs whose exchanges are kept, as a log; and logs that are held to a run.
+#![tactic(auto)]
+
+mod laws;
+mod logging;
+mod pieces;
+mod quiet;
+mod replaying;
+mod ticker;
+mod writing;
+
+pub use laws::{a_run_has_one_log, a_run_has_one_replay};
+pub use logging::log_trace;
+pub use replaying::{MAX_LOG_BYTES, replay_log};

@@ -1,0 +1,5 @@
+pub mod Tokens
+pub mod Trees
+pub mod Spelled
+pub mod Lowered
+pub mod Whole
