@@ -6,6 +6,7 @@ import statistics
 import subprocess
 import time
 
+from grain_picture import write_picture
 from measure import ROOT, gen_text, in_turn, robot_trace, row, same, written
 
 # Four branches that each take so many turns a tick, of 20 units.
@@ -33,7 +34,7 @@ TIMES = 5
 
 
 def ticks(name, program, text, source, scratch, counts, rows):
-    """Ticks a second on several numbers of cores, beside one core."""
+    """Ticks a second on several numbers of cores, beside one core. Gives how many times as fast as one core each of them is."""
     outs = [os.path.join(scratch, f"out{count}") for count in counts]
     runs = [([program, "run", text, "--budget", "100000000", "--cores", str(count)], source, out) for count, out in zip(counts, outs)]
     seconds = in_turn(TIMES, *runs)
@@ -41,6 +42,7 @@ def ticks(name, program, text, source, scratch, counts, rows):
         assert same(out, outs[0]), "the lines differ from those of one core"
         row(f"{name}, --cores {count}", f"{rows / took / 1e3:.1f} k ticks/s", f"one core: {rows / seconds[0] / 1e3:.1f} k ticks/s",
             f"{seconds[0] / took:.2f}")
+    return {count: seconds[0] / took for count, took in zip(counts[1:], seconds[1:])}
 
 
 def beside(count, words, source):
@@ -64,12 +66,16 @@ def machine(program, text, source):
 
 
 def grains(program, scratch):
-    """Four branches of more and more units: from which on more cores pay."""
+    """Four branches of more and more units: from which on more cores pay. Gives the points of the picture."""
+    lines = {2: [], 4: []}
     for turns, rows in ((10, 40_000), (100, 20_000), (1000, 4000), (10_000, 1000)):
         text = written(scratch, "work.forec", WORK.format(turns=turns))
         source = written(scratch, "work.trace", "\n" * (rows + 1))
-        ticks(f"4 branches of {turns * UNITS_OF_A_TURN:,} units", program, text, source, scratch, (1, 2, 4), rows)
+        speeds = ticks(f"4 branches of {turns * UNITS_OF_A_TURN:,} units", program, text, source, scratch, (1, *lines), rows)
+        for count, speed in speeds.items():
+            lines[count].append((turns * UNITS_OF_A_TURN, speed))
     machine(program, text, source)
+    return lines
 
 
 def many_cores(program, scratch):
@@ -152,8 +158,10 @@ def waiting(program):
         row(f"{name}, --cores 4", f"{ours * scale:.2f} {unit}", f"one core: {reference * scale:.2f} {unit}", ratio(ours, reference))
 
 
-def cores(program, scratch):
-    grains(program, scratch)
+def cores(program, scratch, plot=False):
+    lines = grains(program, scratch)
+    if plot:
+        write_picture(lines)
     many_cores(program, scratch)
     hand_over(program, scratch)
     waiting(program)
