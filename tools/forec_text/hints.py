@@ -95,6 +95,7 @@ HINTS = [
     (2, r"\bint", r"[*&]", "there are no pointers: an array and an index say which"),
     (1, r"[\w)\]=+*/(,?:&|<>!-]", r"\+\+|--", "++ and -- are statements of their own, and stand in no expression"),
     (1, r"[\w\]]", r"=(?!=)|[-+*/%&|^]=|<<=|>>=", "an assignment is a statement of its own; a comparison is =="),
+    (1, r"\?[^:;]*", r"[;)]", "a choice has two sides: x ? 1 : 0"),
     (1, r"[;{}]\s*\w+", r"[!=<>+*/%&|^?-]", "this is an expression: a statement assigns, calls, or begins with a word such as if"),
     (2, r"[=(,?:*/<>&|!+-]", r"\+", "there is no unary +"),
     (0, r"=\s*-?", r"[A-Za-z_(]", "the first value of a global is one number; what is calculated is set in main"),
@@ -115,7 +116,8 @@ OWN = "no function is there from the start, so write your own: "
 NAMES = {
     **dict.fromkeys("true TRUE True on ON".split(), "all values are numbers: 1 is true"),
     **dict.fromkeys("false FALSE False off OFF".split(), "all values are numbers: 0 is false"),
-    **dict.fromkeys("wait delay sleep usleep".split(), f"{OWN}void wait(int n) {{ pause; for (int i = 1; i < n; i++) pause; }} waits for n ticks"),
+    **dict.fromkeys("wait delay delay_ms sleep usleep".split(), f"{OWN}void wait(int n) {{ pause; for (int i = 1; i < n; i++) pause; }} waits for n ticks"),
+    **dict.fromkeys("await wait_for wait_until".split(), "what waits for x is while (!x) pause;"),
     **dict.fromkeys("printf print puts".split(), "nothing has to print: the outputs are printed at the end of each tick"),
     **dict.fromkeys("time now clock millis".split(), "there is no clock: count the ticks, or let the time be an input"),
     "abs": f"{OWN}int abs(int x) {{ return x < 0 ? -x : x; }}",
@@ -123,10 +125,14 @@ NAMES = {
     "max": f"{OWN}int max(int x, int y) {{ return x > y ? x : y; }}",
 }
 
+# The same where a for begins with the name.
+COUNTER = "a for declares what it counts with: for (int i = 0; i < 3; i++)"
+
 # The bytes before and at a place at which no token begins, and what they may mean.
 LEX = [
     (r"#\s*include\b[^\n]*", r"", "there is no #include: a program is one text"),
     (r"(?<!\w)\d+", r"\.", "numbers are whole: count in tenths, as 15 for 1.5"),
+    (r"[A-Za-z_]\w*\s*", r"\.\d", "a name has no bits: bit 3 of x is x >> 3 & 1"),
     (r"", r"\.\d", "numbers are whole: count in tenths, as 5 for .5"),
     (r"", r"0[0-9]*[89]", "a number that begins with 0 is octal: leave the 0 out"),
     (r"", r"0[bB][01]+", "there are no binary numbers: write them with 0x, as 0x1A for 11010"),
@@ -244,7 +250,9 @@ def of_name(text: str, name: str) -> str:
     known = set(re.findall(r"\b[A-Za-z_]\w*", COMMENT.sub(blanks, text[:LONGEST_TEXT]))) - {name, *RESERVED.split("|"), "pause", "par"}
     known -= {"main"} if name in NAMES else set()
     near = difflib.get_close_matches(name[:LONGEST_WORD], [each for each in sorted(known) if len(each) <= LONGEST_WORD], 1)
-    return f"'{name}' may be {near[0]}" if near else NAMES.get(name, "")
+    if near or name in NAMES:
+        return f"'{name}' may be {near[0]}" if near else NAMES[name]
+    return COUNTER if name and re.search(rf"\bfor\s*\(\s*{name}\s*=", text[:LONGEST_TEXT]) else ""
 
 
 def blanks(found: re.Match[str]) -> str:
