@@ -9,7 +9,7 @@ use Rattle.forec_engine.specs.Commands.{IsListing, ThreadsReport, Of_misplaced, 
 use Rattle.forec_engine.specs.Dumps.{DumpReport, dump_printed}
 use Rattle.text_verdict.specs.Judging.{Verdict, Refuses, Accepts, Judged}
 use Rattle.text_verdict.specs.Laws.{OneVerdict, SomeVerdict, AcceptedTextsAreFormed}
-use Rattle.forec_engine.specs.Laws.{AskForLog, OneReport, ListOneKernel, AlikeReports, SomeReport}
+use Rattle.forec_engine.specs.Laws.{OneReport, ListOneKernel, AlikeReports, SomeReport}
 use Rattle.text_verdict.specs.declared.counts.Counts.{Counts}
 use Rattle.text_verdict.specs.declared.refusal.Refusal.{Refusal}
 use Rattle.forec_engine.specs.Folds.{kernel_for}
@@ -26,11 +26,15 @@ use Rattle.log_runs.specs.Laws.{RunHasOneLog, RunHasOneReplay}
 use Rattle.log_runs.specs.ReplayRuns.{IsReplay}
 use Rattle.log_runs.specs.declared.replaying.TheConstants.{MAX_LOG_BYTES}
 use Rattle.forec_engine.specs.Replays.{ReplayReport, Of_no_bound, Of_long_log, Of_replayed, AcceptedReplay}
-use Rattle.log_runs.specs.RunLogs.{IsRunLog}
+use Rattle.log_runs.specs.RunLogs.{IsRunLog, Of_kept, Of_full, log_full, logged_report, run_status}
+use Rattle.log_runs.specs.declared.logging.TheConstants.{LOG_WORDS}
+use Rattle.log_runs.proofs.Pausing.{trace_pauses}
+use Rattle.log_laws.specs.Laws.{EachRunHasALog}
+use Rattle.exchange_log.specs.Posted.{log_words}
 use Rattle.forec_kernel.specs.WellFormed.{WellFormed}
 use Rattle.forec_base.specs.declared.limits.TheConstants.{MAX_ROWS}
 use Rattle.forec_engine.specs.Placing.{misplaced, misplacing}
-use Rattle.trace_runs.specs.Report.{Report}
+use Rattle.trace_runs.specs.Report.{Report, trace_turns}
 use Rattle.trace_runs.specs.declared.format.Telling.{Telling}
 use Rattle.trace_runs.specs.declared.format.Telling.TheVariants as telling
 use Rattle.forec_engine.specs.Placing.{workload_report}
@@ -416,6 +420,25 @@ some_of_replay k b lines bytes (Some units) e never =
     ⊎_elim (λ long. never too_long (Of_long_log units e long refl)) (λ short. some_replay MAX_ROWS k units lines bytes (λ r is. never r (Of_replayed units e short is)))
     (cases_lt MAX_LOG_BYTES (length lines))
 
+-- a run whose exchanges are logged
+some_run_log : EachRunHasALog → (k : PlainKernel) → WellFormed k → (units : ℕ) (bytes : List ℕ) → ((r : Report) → IsRunLog MAX_ROWS k units bytes r → ⊥) → ⊥
+some_run_log logs k fine units bytes never =
+    let run = logs k fine (trace_turns MAX_ROWS k units bytes) (trace_pauses MAX_ROWS k units bytes) in
+    ⊎_elim (λ full. never log_full (record { log = run.0; is = run.1; tells = Of_full full refl }))
+    (λ kept. never (logged_report k.shape run.0 (run_status MAX_ROWS k units bytes)) (record { log = run.0; is = run.1; tells = Of_kept kept refl }))
+    (cases_lt LOG_WORDS (log_words k.shape run.0))
+
+some_of_log : EachRunHasALog → (k : PlainKernel) → WellFormed k → (running : PlainRunning) (bytes : List ℕ) → ((r : Report) → LogReport k running bytes r → ⊥) → ⊥
+some_of_log logs k fine running bytes never = by_budget (budget_for k running.budget) refl
+  where
+    by_places : (units : ℕ) → budget_for k running.budget ≡ Some units → (o : Option PlaceFault) → misplacing k running.placing ≡ o → ⊥
+    by_places units e None m = some_run_log logs k fine units bytes (λ r is. never r (Of_logged units e m is))
+    by_places units e (Some why) m = never (misplaced why) (Of_misplaced_run units why e m refl)
+
+    by_budget : (o : Option ℕ) → budget_for k running.budget ≡ o → ⊥
+    by_budget None e = never boundless (Of_boundless e refl)
+    by_budget (Some units) e = by_places units e (misplacing k running.placing) refl
+
 some_of_text : SomeVerdict → (text : List ℕ) (Says : Counts → PlainKernel → Report → Type 0) →
     ((c : Counts) (k : PlainKernel) → Judged text (Accepts c k) → ((r : Report) → Says c k r → ⊥) → ⊥) → ((r : Report) → TextReport text Says r → ⊥) → ⊥
 some_of_text verdict text Says some never = verdict text by
@@ -424,30 +447,34 @@ some_of_text verdict text Says some never = verdict text by
     by (Accepts c k) j = some c k j (λ r x. never r (Of_accepted c k j x))
     by (Refuses why) j = never (refused why) (Of_refusal why j refl)
 
-module _ (verdict : SomeVerdict) (formed : AcceptedTextsAreFormed) (keeps : FoldingKeepsForm) (some : SomePlacement) (words : List (List ℕ)) (content : List ℕ → Option (List ℕ))
+module _ (verdict : SomeVerdict) (formed : AcceptedTextsAreFormed) (keeps : FoldingKeepsForm) (logs : EachRunHasALog) (some : SomePlacement) (words : List (List ℕ)) (content : List ℕ → Option (List ℕ))
     (trace : Option (List ℕ)) (told : Tells words content trace) (never : (r : Report) → IsReport words content trace r → ⊥) where
-  some_of_words : (x : Option PlainRequest) → request_of words ≡ x → (AskForLog words → ⊥) → ⊥
-  some_of_words None e log = never usage (Of_usage e refl)
-  some_of_words (Some (OnText name command fold)) e log =
+  some_of_words : (x : Option PlainRequest) → request_of words ≡ x → ⊥
+  some_of_words None e = never usage (Of_usage e refl)
+  some_of_words (Some (OnText name command fold)) e =
       let text = told.text name command fold e in
       some_of_text verdict text.0 (CommandReport command fold trace)
       (λ c k j. some_of_accepted some command trace c (kernel_for fold k) (fine_for keeps fold k (formed text.0 c k j)) text.2)
       (λ r t. never r (Of_text name command fold text.0 e text.1 t))
-  some_of_words (Some (OnWorkload threads running)) e log =
+  some_of_words (Some (OnWorkload threads running)) e =
       some_of_text verdict _ (λ c k x. x ≡ workload_report threads running k) (λ c k j none. none (workload_report threads running k) refl)
       (λ r t. never r (Of_workload threads running e t))
-  some_of_words (Some (OnTraces name traces b)) e log =
+  some_of_words (Some (OnTraces name traces b)) e =
       let text = told.farm name traces b e in
       some_of_text verdict text.0 (FarmedReport content traces b)
       (λ c k j none. none (with_budget (budget_for k b) (λ units. farm_report k units traces text.2.0)) (text.2.0, text.2.1, refl))
       (λ r t. never r (Of_farm name traces b text.0 e text.1 t))
-  some_of_words (Some (OnLog name running)) e log = log (name, running, e)
-  some_of_words (Some (OnReplay name of b)) e log =
+  some_of_words (Some (OnLog name running)) e =
+      let text = told.log name running e in
+      some_of_text verdict text.0 (AcceptedLog running trace)
+      (λ c k j none. some_of_log logs k (formed text.0 c k j) running text.2.0 (λ r is. none r (text.2.0, text.2.1, is)))
+      (λ r t. never r (Of_log name running text.0 e text.1 t))
+  some_of_words (Some (OnReplay name of b)) e =
       let texts = told.replay name of b e in
       some_of_text verdict texts.0 (AcceptedReplay content of b trace)
       (λ c k j none. some_of_replay k b texts.1 texts.4.0 (budget_for k b) refl (λ r is. none r (texts.1, texts.4.0, texts.3, texts.4.1, is)))
       (λ r t. never r (Of_replay name of b texts.0 e texts.2 t))
-  some_of_words (Some (OnDump name)) e log = let text = told.dump name e in never (dump_printed text.0) (Of_dump name e (text.0, text.1, refl))
+  some_of_words (Some (OnDump name)) e = let text = told.dump name e in never (dump_printed text.0) (Of_dump name e (text.0, text.1, refl))
 
-pub some_report : SomeVerdict → AcceptedTextsAreFormed → FoldingKeepsForm → SomePlacement → SomeReport
-some_report verdict formed keeps some words content trace log told never = some_of_words verdict formed keeps some words content trace told never (request_of words) refl log
+pub some_report : SomeVerdict → AcceptedTextsAreFormed → FoldingKeepsForm → EachRunHasALog → SomePlacement → SomeReport
+some_report verdict formed keeps logs some words content trace told never = some_of_words verdict formed keeps logs some words content trace told never (request_of words) refl

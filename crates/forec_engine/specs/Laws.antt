@@ -42,15 +42,10 @@ AlikeReports =
     (words : List (List ℕ)) (content : List ℕ → Option (List ℕ)) (trace : Option (List ℕ)) (r q : Report) →
     IsReport words content trace r → IsReport words content trace q → (r ≡ q) ⊎ ListOneKernel r q
 
--- the words ask for the log of a run
-abbrev pub AskForLog : List (List ℕ) → Type 0
-AskForLog words = (name : List ℕ) × (running : PlainRunning) × (request_of words ≡ Some (OnLog name running))
-
--- where the texts and the trace are told, it can't be that words other than `log P` have no report
+-- where the texts and the trace are told, it can't be that words have no report
 abbrev pub SomeReport : Type 0
 SomeReport =
-    (words : List (List ℕ)) (content : List ℕ → Option (List ℕ)) (trace : Option (List ℕ)) → (AskForLog words → ⊥) → Tells words content trace →
-    ((r : Report) → IsReport words content trace r → ⊥) → ⊥
+    (words : List (List ℕ)) (content : List ℕ → Option (List ℕ)) (trace : Option (List ℕ)) → Tells words content trace → ((r : Report) → IsReport words content trace r → ⊥) → ⊥
 
 -- the words run a kernel with a budget of at least its worst case, where they run one at all
 pub record CoverTheirKernel (words : List (List ℕ)) (content : List ℕ → Option (List ℕ)) : Type 0 where

@@ -3,7 +3,7 @@ ghost use Rattle.forec_engine.specs.Laws.{OneReport, AlikeReports, SomeReport, C
 
 use bound_laws::no_tick_passes_the_bound;
 use kernel_fold::{folding_keeps_form, folding_keeps_paced, folding_keeps_runs};
-use log_laws::each_accepted_text_has_fitting_logs;
+use log_laws::{each_accepted_text_has_fitting_logs, each_run_has_a_log};
 use log_runs::{a_run_has_one_log, a_run_has_one_replay};
 use text_verdict::{
     each_accepted_text_is_formed, each_accepted_text_is_paced, each_text_has_a_verdict, one_verdict,
@@ -34,13 +34,14 @@ pub fn reports_are_alike()
     one_placement();
 }
 
-/// Where the texts and the trace are told, it can't be that words other than `log P` have no report.
+/// Where the texts and the trace are told, it can't be that words have no report.
 pub fn each_command_has_a_report()
     ensures { SomeReport }
 {
     each_text_has_a_verdict();
     each_accepted_text_is_formed();
     folding_keeps_form();
+    each_run_has_a_log();
     some_placement();
 }
 
