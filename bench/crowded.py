@@ -17,6 +17,7 @@ TICKS = 100
 HOPS = 2 * (THREADS - 1)  # of a tick
 ROBOT_TICKS = 20_000
 TIMES = 5
+COARSE_TIMES = 21  # a machine's processors differ from one second to the next, and a tick waits for the slowest of four
 
 
 class Goals:
@@ -85,7 +86,7 @@ def coarse(program, scratch, goals):
     source = written(scratch, "work.trace", "\n" * (rows + 1))
     words = [program, "run", text, "--budget", "100000000"]
     ratios = []
-    for _ in range(TIMES):
+    for _ in range(COARSE_TIMES):
         one, four = run(words, source, os.devnull), run([*words, "--cores", "4"], source, os.devnull)
         machine = 4 * beside(1, words, source) / beside(4, words, source)
         ratios.append(one / four / machine)

@@ -7,6 +7,13 @@ use combine_tree::Packet;
 use forec_base::OutOfMemory;
 use std::alloc::Global;
 
+/// Where a job and its reply should be. It is a hint: whatever it says, the pair is found, and sooner where it is right.
+#[derive(Clone, Copy)]
+pub struct PairPlace {
+    job: u32,
+    reply: u32,
+}
+
 /// The jobs and replies of mailboxes, counted, and kept as far as there is room.
 #[derive(Drop)]
 pub struct Book {
@@ -90,17 +97,25 @@ impl Book {
         self.replies.add_one(k);
     }
 
+    /// Where pair 0 of mailbox k should be.
+    pub fn first_pair(&self, k: u32) -> PairPlace {
+        PairPlace {
+            job: self.jobs.first(k),
+            reply: self.replies.first(k),
+        }
+    }
+
     /// Writes the two lines of job number j of mailbox k and of its reply to the front of a buffer, and says how many bytes they
-    /// have.
-    pub fn put_pair(&self, k: u32, j: u64, buffer: &mut [u8]) -> usize
+    /// have. They should be `near`, which becomes where the next pair should be.
+    pub fn put_pair(&self, k: u32, j: u64, near: &mut PairPlace, buffer: &mut [u8]) -> usize
         requires there { HasPair self.now k j }
         requires room { HasPairRoom self.now k j (length buffer.old) }
         ensures lines { TellsPair self.now k j (take result buffer.new) }
         ensures within { IsPairWithin self.now k j result }
         ensures same_length { length buffer.new ≡ length buffer.old }
     {
-        let job = self.jobs.get(k, j);
-        let reply = self.replies.get(k, j);
+        let job = self.jobs.get(k, j, &mut near.job);
+        let reply = self.replies.get(k, j, &mut near.reply);
         let end = put_job(buffer, 0, job.kind, job.amount, job.args, job.copies);
         put_reply(buffer, end, reply.kind, reply.amount, reply.copies)
     }

@@ -9,6 +9,7 @@ mod links;
 mod port;
 mod register;
 
+pub use book::PairPlace;
 pub use laws::posts_make_the_log;
 pub use lines::log_room;
 pub use port::LogPort;

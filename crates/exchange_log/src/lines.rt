@@ -1,5 +1,5 @@
 //! The lines of a job and its reply.
-ghost use Rattle.std.specs.Prelude.{◌≡◌, ◌<◌, ◌≤◌, ◌+◌, ◌*◌, ◌-◌, ◌^◌, ◌++◌, length, take, min, codes, decimal, pos, slice_index_or, slice_get, Some};
+ghost use Rattle.std.specs.Prelude.{◌≡◌, ◌<◌, ◌≤◌, ◌+◌, ◌*◌, ◌-◌, ◌^◌, ◌++◌, [], ◌∷◌, length, take, min, codes, decimal, pos, slice_index_or, slice_get, Some};
 ghost use Rattle.std.specs.Fmt.{signed_decimal};
 ghost use Rattle.forec_kernel.specs.declared.shape.ThreadShape.{ThreadShape};
 ghost use Rattle.forec_kernel.specs.Shapes.{plain_shape, plain_thread};
@@ -22,6 +22,17 @@ fn put(buffer: &mut [u8], at: usize, bytes: &[u8]) -> usize
     let end = at + bytes.len();
     buffer[at..end].copy_from_slice(bytes);
     end
+}
+
+/// Puts a byte at a place, and says where it ends.
+fn put_byte(buffer: &mut [u8], at: usize, byte: u8) -> usize
+    requires { at < length buffer.old }
+    ensures end { result ≡ at + 1 }
+    ensures same_length { length buffer.new ≡ length buffer.old }
+    ensures front { take result buffer.new ≡ take at buffer.old ++ byte ∷ [] }
+{
+    buffer[at] = byte;
+    at + 1
 }
 
 /// Puts a number at a place.
@@ -65,11 +76,11 @@ fn put_place(buffer: &mut [u8], at: usize, place: Place) -> usize
     ensures front { take result buffer.new
         ≡ take at buffer.old ++ (codes " " ++ decimal place.line ++ codes ":" ++ decimal place.column ++ codes " ") }
 {
-    let end = put(buffer, at, b" ");
+    let end = put_byte(buffer, at, b' ');
     let end = put_small(buffer, end, place.line);
-    let end = put(buffer, end, b":");
+    let end = put_byte(buffer, end, b':');
     let end = put_small(buffer, end, place.column);
-    put(buffer, end, b" ")
+    put_byte(buffer, end, b' ')
 }
 
 /// Puts a space and number i of these at a place.
@@ -82,7 +93,7 @@ fn put_value(buffer: &mut [u8], at: usize, numbers: &[i32], i: usize) -> usize
         ≡ take at buffer.old ++ (codes " " ++ signed_decimal (slice_index_or numbers.now i (pos 0))) }
 {
     let mut digits = Buffer::new();
-    let at = put(buffer, at, b" ");
+    let at = put_byte(buffer, at, b' ');
     put(buffer, at, digits.format(numbers[i]).as_bytes())
 }
 
@@ -96,7 +107,7 @@ fn put_copied(buffer: &mut [u8], at: usize, copies: &[VarCopy], i: usize) -> usi
         ≡ take at buffer.old ++ (codes " " ++ signed_decimal (slice_index_or copies.now i unset).value) }
 {
     let mut digits = Buffer::new();
-    let at = put(buffer, at, b" ");
+    let at = put_byte(buffer, at, b' ');
     put(buffer, at, digits.format(copies[i].value).as_bytes())
 }
 
@@ -110,8 +121,10 @@ fn put_marked(buffer: &mut [u8], at: usize, copies: &[VarCopy], i: usize) -> usi
         ≡ take at buffer.old ++ marked_number (slice_index_or copies.now i unset) }
 {
     let end = put_copied(buffer, at, copies, i);
-    let star: &[u8] = if copies[i].modified { b"*" } else { b"" };
-    put(buffer, end, star)
+    if copies[i].modified {
+        return put_byte(buffer, end, b'*');
+    }
+    end
 }
 
 /// Puts a space and a number, for each.
@@ -173,12 +186,12 @@ pub fn put_job(
     if !matches!(kind, PacketKind::Start) {
         let end = put_word(buffer, at, b"wake ", allowance);
         let end = put_values(buffer, end, copies);
-        return put(buffer, end, b"\n");
+        return put_byte(buffer, end, b'\n');
     }
     let end = put_word(buffer, at, b"start ", allowance);
     let end = put_numbers(buffer, end, args);
     let end = put_values(buffer, end, copies);
-    put(buffer, end, b"\n")
+    put_byte(buffer, end, b'\n')
 }
 
 /// The word of a trap.
@@ -227,7 +240,7 @@ fn put_rest(buffer: &mut [u8], at: usize, word: &[u8], units: u64, copies: &[Var
 {
     let end = put_word(buffer, at, word, units);
     let end = put_copies(buffer, end, copies);
-    put(buffer, end, b"\n")
+    put_byte(buffer, end, b'\n')
 }
 
 /// Puts the line of a trap.
@@ -240,7 +253,7 @@ fn put_trap(buffer: &mut [u8], at: usize, place: Place, trap: Trap, units: u64) 
     let end = put_word(buffer, at, b"trapped ", units);
     let end = put_place(buffer, end, place);
     let end = put(buffer, end, trap_word(trap));
-    put(buffer, end, b"\n")
+    put_byte(buffer, end, b'\n')
 }
 
 /// How many bytes the two lines of a job of thread t and its reply take at most.

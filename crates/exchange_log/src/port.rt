@@ -2,7 +2,7 @@
 ghost use Rattle.std.specs.Prelude.{◌≡◌, ◌<◌, ◌≤◌, min, suc, length, take, IfOk};
 ghost use Rattle.copy_slots.specs.Ports.{sent, got};
 
-use crate::book::Book;
+use crate::book::{Book, PairPlace};
 use combine_tree::Packet;
 use copy_slots::Port;
 use core_seats::ForecWork;
@@ -119,9 +119,17 @@ impl<P: Port<ForecWork> + Drop> LogPort<P> {
         self.book.jobs.count(k)
     }
 
+    /// Where pair 0 of mailbox k should be, for [`LogPort::lines`].
+    pub fn first_pair(&self, k: u32) -> PairPlace {
+        self.book.first_pair(k)
+    }
+
     /// Writes the two lines of job number j, from 0, of mailbox k and of its reply to the front of a buffer, and says how many bytes
     /// they have. All jobs and replies have room in the port, and no job is out. It takes no memory.
-    pub fn lines(&self, k: u32, j: u64, buffer: &mut [u8]) -> usize
+    ///
+    /// The pair should be `near`, which becomes where the next one should be. It is a hint alone: where it is right, and so for all
+    /// pairs of a mailbox in turn from [`LogPort::first_pair`] on, the pair is found at once, else among all.
+    pub fn lines(&self, k: u32, j: u64, near: &mut PairPlace, buffer: &mut [u8]) -> usize
         requires parent { HasParent self.now.mail k }
         requires kept { mail_words self.now.mail.ends ≤ self.now.words }
         requires there { j < length (sent self.now.mail k) }
@@ -131,6 +139,6 @@ impl<P: Port<ForecWork> + Drop> LogPort<P> {
         ensures within { result ≤ lines_room (code_in_mail self.now.mail).shape }
         ensures same_length { length buffer.new ≡ length buffer.old }
     {
-        self.book.put_pair(k, j, buffer)
+        self.book.put_pair(k, j, near, buffer)
     }
 }

@@ -91,7 +91,7 @@ impl Register {
             copies_from: self.copies.len() as u32,
             copies: copies.len() as u32,
         };
-        self.links.add(&self.entries, k);
+        self.links.add(k);
         let Ok(()) = self.entries.push(entry) else {
             unreachable!()
         };
@@ -103,16 +103,21 @@ impl Register {
         };
     }
 
-    /// The place of packet number `number`, from 0, of mailbox k. It is looked for by the links, and where they don't
-    /// lead to it, from the first entry on.
-    pub fn find(&self, k: u32, number: u64) -> usize
+    /// Where packet 0 of mailbox k should be.
+    pub fn first(&self, k: u32) -> u32 {
+        self.links.first(k)
+    }
+
+    /// The place of packet number `number`, from 0, of mailbox k. It should be `near`, and where it isn't, it is looked for from
+    /// the first entry on.
+    pub fn find(&self, k: u32, number: u64, near: u32) -> usize
         requires numbered { AreNumbered [] self.now.entries.items }
         requires there { number < count_in k self.now.entries.items }
         ensures { IsEntryAt self.now.entries.items k number result }
     {
-        let guess = self.links.guess(&self.entries, k, number);
-        if guess < self.entries.len() && self.entries[guess].is(k, number) {
-            return guess;
+        let near = near as usize;
+        if near < self.entries.len() && self.entries[near].is(k, number) {
+            return near;
         }
         for at in 0..self.entries.len() {
             if self.entries[at].is(k, number) {
@@ -122,15 +127,17 @@ impl Register {
         unreachable!()
     }
 
-    /// Packet number `number`, from 0, of mailbox k.
-    pub fn get(&self, k: u32, number: u64) -> Kept<'_>
+    /// Packet number `number`, from 0, of mailbox k. It should be `near`, which becomes where the next one should be.
+    pub fn get(&self, k: u32, number: u64, near: &mut u32) -> Kept<'_>
         requires inside { AreInside (length self.now.args.items) (length self.now.copies.items) self.now.entries.items }
         requires numbered { AreNumbered [] self.now.entries.items }
         requires there { number < count_in k self.now.entries.items }
         ensures { slice_get (packets_in self.now k) number
             ≡ Some (note_of result.kind result.amount result.args.now result.copies.now) }
     {
-        let entry = &self.entries[self.find(k, number)];
+        let at = self.find(k, number, *near);
+        *near = self.links.after(at);
+        let entry = &self.entries[at];
         Kept {
             kind: entry.kind,
             amount: entry.amount,

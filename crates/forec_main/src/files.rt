@@ -31,10 +31,13 @@ enum Stopped {
     OutOfMemory,
 }
 
+/// How many bytes are asked for at a time.
+const PIECE: usize = 65_536;
+
 /// The first bytes of a reader, at most `limit` and one more.
 fn read_some<R: Read>(alloc: Global, reader: &mut R, limit: usize) -> Result<Vec<u8>, Stopped> {
     let mut bytes = Vec::new(alloc);
-    let mut piece = [0; 4096];
+    let mut piece = [0; PIECE];
     for _ in 0..u64::MAX {
         match reader.read(&mut piece) {
             Ok(0) => break,

@@ -13,7 +13,7 @@ ghost use Rattle.log_runs.specs.Sending.{HasSpace, SendsBehind, head_line};
 use crate::pieces::{append, make_room};
 use copy_slots::LocalPort;
 use core_seats::ForecWork;
-use exchange_log::LogPort;
+use exchange_log::{LogPort, PairPlace};
 use forec_base::{Failed, OutOfMemory, Sink};
 use itoa::Buffer;
 use std::alloc::Global;
@@ -79,11 +79,12 @@ fn write_head<K: Sink>(room: &mut Room, thread: u32, jobs: u64, out: &mut K) -> 
     }
 }
 
-/// Writes the lines of pair number `pair`, from 0, of a mailbox. At an `Err` a front of what waits is sent.
+/// Writes the lines of pair number `pair`, from 0, of a mailbox, which should be `near`. At an `Err` a front of what waits is sent.
 fn write_pair<K: Sink>(
     port: &LogPort<LocalPort<ForecWork>>,
     mailbox: u32,
     pair: u64,
+    near: &mut PairPlace,
     room: &mut Room,
     out: &mut K,
 ) -> Result<(), Failed>
@@ -99,7 +100,7 @@ fn write_pair<K: Sink>(
     let Room { waiting, line } = room;
     match make_room(waiting, line.len(), out) {
         Ok(()) => {
-            let length = port.lines(mailbox, pair, line);
+            let length = port.lines(mailbox, pair, near, line);
             append(waiting, &line[..length]);
             Ok(())
         }
@@ -129,9 +130,10 @@ fn write_thread<K: Sink>(
     if let Err(failed) = write_head(room, thread, jobs, out) {
         return Err(failed);
     }
+    let mut near = port.first_pair(mailbox);
     let mut pair = 0;
     while pair < jobs {
-        match write_pair(port, mailbox, pair, room, out) {
+        match write_pair(port, mailbox, pair, &mut near, room, out) {
             Ok(()) => pair += 1,
             Err(failed) => return Err(failed),
         }

@@ -51,13 +51,6 @@ decimal_once m n x y p q h k e = number_once (decimal m) (decimal n) x y m n (de
 
 -- ---- reading digit by digit
 
--- the digits from a place on, up to another, and their number
-pub record DigitsTo (bytes : List ℕ) (at end : ℕ) (value : Option ℕ) : Type 0 where
-  pub low : at ≤ end
-  pub within : end ≤ length bytes
-  pub digits : AllDigits 10 (take (end - at) (drop at bytes))
-  pub spells : SomeIff value (digits_value 10 (take (end - at) (drop at bytes)) < 2 ^ 64) (digits_value 10 (take (end - at) (drop at bytes)))
-
 pub digit_is : (b : ℕ) → 48 ≤ b → b ≤ 57 → digit_value b ≡ b - 48
 digit_is b low high = rw (le-ltb b 48 low, lt-ltb b 58 (omega arith)) refl
 

@@ -1,12 +1,12 @@
 -- Digits that are read one by one.
-use Rattle.std.proofs.Common.{◌≡◌, ℕ, ◌+◌, ◌-◌, ◌*◌, ◌^◌, ◌<◌, ◌≤◌, List, ◌++◌, Option, SomeIff, length, get_or, drop, take, refl, sym, ap, ◌∙◌, arith}
+use Rattle.std.proofs.Common.{◌≡◌, ℕ, ◌+◌, ◌-◌, ◌*◌, ◌^◌, ◌<◌, ◌≤◌, List, ◌++◌, Option, Some, SomeIff, length, get_or, drop, take, refl, sym, ap, ◌∙◌, arith}
 use Rattle.std.specs.Char.{digit_value}
 use Rattle.std.specs.Str.Parse.{digits_value}
 use Rattle.std.proofs.lemmas.List.{length-take-le, length-drop, get_or-drop, get_or-take, drop-drop, take-append-drop}
 use Rattle.std.proofs.lemmas.Int.Digits.{digits_more, digits_value_more}
 use Rattle.log_text.specs.Pieces.{EndsDigits, IsDecimal}
-use Rattle.log_text.specs.Numbers.{HasDigits}
-use Rattle.log_text.proofs.DigitLemmas.{DigitsTo, digits_once, digit_is}
+use Rattle.log_text.specs.Numbers.{HasDigits, DigitsTo}
+use Rattle.log_text.proofs.DigitLemmas.{digits_once, digit_is}
 
 pub one_digit_more : (bytes : List ℕ) (at end b : ℕ) (value next : Option ℕ) → DigitsTo bytes at end value → end < length bytes → get_or bytes end 0 ≡ b → 48 ≤ b → b ≤ 57 →
     ((n : ℕ) → SomeIff value (n < 2 ^ 64) n → SomeIff next (n * 10 + (b - 48) < 2 ^ 64) (n * 10 + (b - 48))) → DigitsTo bytes at (end + 1) next
@@ -25,6 +25,9 @@ one_digit_more bytes at end b value next d low e first last step =
       digits = rw one (digits_more 10 bs i few d.digits (omega arith));
       spells = rw (one, more) (step (digits_value 10 (take i bs)) d.spells);
     }
+
+pub short_more : (n b : ℕ) → n < 1152921504606846976 → 48 ≤ b → b ≤ 57 → (m : ℕ) → SomeIff (Some n) (m < 2 ^ 64) m → SomeIff (Some (n * 10 + (b - 48))) (m * 10 + (b - 48) < 2 ^ 64) (m * 10 + (b - 48))
+short_more n b low first last m h = (omega (arith, h.1), ap (λ (k : ℕ). k * 10 + (b - 48)) h.1)
 
 spot : (bytes : List ℕ) (at end : ℕ) → at ≤ end → drop (end - at) (drop at bytes) ≡ drop end bytes
 spot bytes at end low = drop-drop (end - at) at bytes ∙ ap (λ (k : ℕ). drop k bytes) (omega arith)

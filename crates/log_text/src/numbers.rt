@@ -1,10 +1,10 @@
 //! Numbers, decimal and without leading zeros.
-ghost use Rattle.std.specs.Prelude.{◌≡◌, ◌+◌, ◌*◌, ◌<◌, ◌≤◌, ◌^◌, ◌++◌, ℕ, ℤ, List, length, drop, decimal, pos, neg_ℤ};
+ghost use Rattle.std.specs.Prelude.{◌≡◌, ◌+◌, ◌*◌, ◌<◌, ◌≤◌, ◌^◌, ◌++◌, ℕ, ℤ, List, Some, length, drop, decimal, pos, neg_ℤ};
 ghost use Rattle.std.specs.Prelude.{IfSome, IsSomeAnd, SomeIff, FitsSigned};
 ghost use Rattle.std.specs.Fmt.{signed_decimal};
 ghost use Rattle.std.specs.Int.{w32};
 ghost use Rattle.log_text.specs.Pieces.{StandsTo, EndsDigits, IsDecimal};
-ghost use Rattle.log_text.specs.Numbers.{HasDigits, IsNumberAt};
+ghost use Rattle.log_text.specs.Numbers.{DigitsTo, HasDigits, IsNumberAt};
 
 use crate::pieces::stands;
 
@@ -22,6 +22,23 @@ fn with_digit(value: Option<u64>, digit: u8) -> Option<u64>
     value?.checked_mul(10)?.checked_add(u64::from(digit))
 }
 
+/// A number below this has at most 64 bits with one more digit.
+const SHORT: u64 = 1 << 60;
+
+/// The digits at a place as far as their number is short: the number, and where they end. Nearly all numbers are short.
+fn short_digits(bytes: &[u8], at: usize) -> (u64, usize)
+    requires { at ≤ length bytes.now }
+    ensures { DigitsTo bytes.now at result.1 (Some result.0) }
+{
+    let mut number = 0;
+    let mut end = at;
+    while number < SHORT && end < bytes.len() && bytes[end].is_ascii_digit() {
+        number = number * 10 + u64::from(bytes[end] - b'0');
+        end += 1;
+    }
+    (number, end)
+}
+
 /// Reads digits without a leading zero.
 pub fn digits_at(bytes: &[u8], at: usize) -> Option<Digits>
     requires { at ≤ length bytes.now }
@@ -30,8 +47,9 @@ pub fn digits_at(bytes: &[u8], at: usize) -> Option<Digits>
         → drop at bytes.now ≡ digits ++ rest
         → IsSomeAnd result (λ d. (drop d.end bytes.now ≡ rest) × SomeIff d.value (n < 2 ^ 64) n) }
 {
-    let mut value = Some(0);
-    let mut end = at;
+    let (short, from) = short_digits(bytes, at);
+    let mut value = Some(short);
+    let mut end = from;
     while end < bytes.len() && bytes[end].is_ascii_digit() {
         value = with_digit(value, bytes[end] - b'0');
         end += 1;

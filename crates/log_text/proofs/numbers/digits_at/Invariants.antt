@@ -1,5 +1,5 @@
 use Rattle.std.proofs.Common.{length, ◌-◌}
-use Rattle.log_text.proofs.DigitLemmas.{DigitsTo}
+use Rattle.log_text.specs.Numbers.{DigitsTo}
 use Rattle.log_text.proofs.numbers.digits_at.Given as goal
 
 abbrev pub invariant-loop-end : goal.invariant-loop-end
