@@ -1,7 +1,9 @@
 //! How often a core looks in vain before it sleeps.
 
-/// The most looks: some ten microseconds, about as long as a sleep and a wake take.
-const MOST: u32 = 256;
+/// The most looks: some fifty microseconds, about as long as a sleep and a wake take where the processors are virtual (who waits
+/// as long as a sleep costs takes at most twice the least time; Karlin et al., "Empirical Studies of Competitive Spinning for a
+/// Shared-Memory Multiprocessor", 1991).
+const MOST: u32 = 1024;
 
 /// The fewest.
 const FEWEST: u32 = 4;

@@ -26,8 +26,8 @@ one_digit_more bytes at end b value next d low e first last step =
       spells = rw (one, more) (step (digits_value 10 (take i bs)) d.spells);
     }
 
-pub short_more : (n b : ℕ) → n < 1152921504606846976 → 48 ≤ b → b ≤ 57 → (m : ℕ) → SomeIff (Some n) (m < 2 ^ 64) m → SomeIff (Some (n * 10 + (b - 48))) (m * 10 + (b - 48) < 2 ^ 64) (m * 10 + (b - 48))
-short_more n b low first last m h = (omega (arith, h.1), ap (λ (k : ℕ). k * 10 + (b - 48)) h.1)
+pub short_more : (n d b : ℕ) → n < 1152921504606846976 → d ≡ b - 48 → b ≤ 57 → (m : ℕ) → SomeIff (Some n) (m < 2 ^ 64) m → SomeIff (Some (n * 10 + d)) (m * 10 + (b - 48) < 2 ^ 64) (m * 10 + (b - 48))
+short_more n d b low is last m h = (omega (arith, low, last, h.1), omega (arith, is, h.1))
 
 spot : (bytes : List ℕ) (at end : ℕ) → at ≤ end → drop (end - at) (drop at bytes) ≡ drop end bytes
 spot bytes at end low = drop-drop (end - at) at bytes ∙ ap (λ (k : ℕ). drop k bytes) (omega arith)

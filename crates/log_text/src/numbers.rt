@@ -32,7 +32,7 @@ fn short_digits(bytes: &[u8], at: usize) -> (u64, usize)
 {
     let mut number = 0;
     let mut end = at;
-    while number < SHORT && end < bytes.len() && bytes[end].is_ascii_digit() {
+    while end < bytes.len() && bytes[end].is_ascii_digit() && number < SHORT {
         number = number * 10 + u64::from(bytes[end] - b'0');
         end += 1;
     }
