@@ -13,11 +13,12 @@ use Rattle.forec_tree.specs.Plain.{statement, statements, branches, branch_with}
 use Rattle.forec_tree.specs.Terms as tree
 use Rattle.forec_tree.specs.Terms.{Text, Term, Terms, count_terms, Declared, Written, Statement, Statements, no_statements, more_statements, Perhaps, absent, present, Branches, no_branches, by_call, by_group, PlainFunction}
 use Rattle.forec_tree.specs.Pauses.{within, find_function}
+use Rattle.loop_check.specs.Numbered.{put_at}
 use Rattle.loop_check.proofs.IndexLemmas.{split}
 use Rattle.text_kernel.specs.Bindings.{params_at}
 use Rattle.text_kernel.specs.Lowering.{NextNumbers, Lowered, Started, from_slot, scope_after, scope_after_perhaps, par_after, inlined_body, lower_statement, lower_list, lower_perhaps, lower_branches}
 use Rattle.body_lower.specs.declared.added.Added.{Added}
-use Rattle.body_lower.specs.Additions.{nothing, Adds, StatementAdds, PerhapsAdds, ListAdds, BranchesAdd, BodyAdds, FunctionAdds, AllAdd, Joins, put_at}
+use Rattle.body_lower.specs.Additions.{nothing, Adds, StatementAdds, PerhapsAdds, ListAdds, BranchesAdd, BodyAdds, FunctionAdds, AllAdd, Joins}
 use Rattle.body_lower.specs.Landings.{called_within}
 use Rattle.body_lower.proofs.Statements.{drop_next}
 use Rattle.body_lower.proofs.Doing.{branch_first, par_some}

@@ -23,7 +23,8 @@ use Rattle.text_kernel.specs.Bindings.{params_at}
 use Rattle.text_kernel.specs.Lowering.{NextNumbers, Lowered, Inlined, scope_after, from_slot, as_one, bound_of, lower_term, lower_statement, lower_list, lower_perhaps, inlined_body}
 use Rattle.body_lower.specs.declared.landing.Landing.{Landing}
 use Rattle.body_lower.specs.declared.state.State.{State}
-use Rattle.body_lower.specs.Landings.{only, inside, SameKernel, called_within, FunctionLands, AllLand, CallLands, put_at}
+use Rattle.body_lower.specs.Landings.{only, inside, SameKernel, called_within, FunctionLands, AllLand, CallLands}
+use Rattle.loop_check.specs.Numbered.{put_at}
 use Rattle.loop_check.proofs.IndexLemmas.{split}
 use Rattle.body_lower.specs.Views.{seen, Same, next_of, threads_of, bare, Does}
 use Rattle.body_lower.proofs.Doing.{does_as, threads_two, same_seen}

@@ -1,4 +1,3 @@
-pub mod TrailLemmas
 pub mod Looked
 pub mod Lists
 pub mod Statements

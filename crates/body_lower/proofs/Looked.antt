@@ -3,9 +3,9 @@ use Rattle.std.proofs.Common.{ℕ, zero, suc, ◌+◌, ◌-◌, ◌==◌, ◌<�
 use Rattle.std.proofs.lemmas.List.{length-map, take-append-drop}
 use Rattle.loop_check.proofs.IndexLemmas.{split}
 use Rattle.text_kernel.specs.declared.names.Slot.{Slot}
-use Rattle.body_lower.specs.declared.trail.Link.{Link}
+use Rattle.forec_check.specs.declared.scopes.declaration.Declaration.{Declaration}
 use Rattle.text_kernel.specs.Bindings.{slot_id, find_slot}
-use Rattle.body_lower.specs.Trail.{id_of, last_from, last_of}
+use Rattle.forec_check.specs.Declarations.{id_of, last_from, last_of}
 
 -- where the last slot of a name stands, counted from 1
 abbrev slot_from : ℕ → ℕ → ℕ → List Slot → ℕ
@@ -18,7 +18,7 @@ head_same a b as_ bs h = cc
 tail_same : (a b : ℕ) (as_ bs : List ℕ) → a ∷ as_ ≡ b ∷ bs → as_ ≡ bs
 tail_same a b as_ bs h = cc
 
-same_from : (id at f : ℕ) (ss : List Link) (xs : List Slot) → map id_of ss ≡ map slot_id xs → last_from id at f ss ≡ slot_from id at f xs
+same_from : (id at f : ℕ) (ss : List Declaration) (xs : List Slot) → map id_of ss ≡ map slot_id xs → last_from id at f ss ≡ slot_from id at f xs
 same_from id at f [] [] h = refl
 same_from id at f [] (x ∷ xs) h = cc
 same_from id at f (s ∷ ss) [] h = cc
@@ -26,7 +26,7 @@ same_from id at f (s ∷ ss) (x ∷ xs) h =
     let e = head_same s.id x.id (map id_of ss) (map slot_id xs) h in
     ap (λ n. last_from id (suc at) (cond (n == id) (suc at) f) ss) e ∙ same_from id (suc at) (cond (x.id == id) (suc at) f) ss xs (tail_same s.id x.id (map id_of ss) (map slot_id xs) h)
 
-pub same_length : (ss : List Link) (xs : List Slot) → map id_of ss ≡ map slot_id xs → length ss ≡ length xs
+pub same_length : (ss : List Declaration) (xs : List Slot) → map id_of ss ≡ map slot_id xs → length ss ≡ length xs
 same_length ss xs h = sym (length-map ss id_of) ∙ (ap length h ∙ length-map xs slot_id)
 
 from_append : (id at f : ℕ) (xs ys : List Slot) → slot_from id at f (xs ++ ys) ≡ slot_from id (at + length xs) (slot_from id at f xs) ys
@@ -91,7 +91,7 @@ any_default [] k d f h = absurd (omega arith)
 any_default (x ∷ xs) zero d f h = refl
 any_default (x ∷ xs) (suc k) d f h = any_default xs k d f (omega arith)
 
-module _ (id b : ℕ) (ss : List Link) (xs : List Slot) (same : map id_of ss ≡ map slot_id xs) (within : b ≤ length xs) where
+module _ (id b : ℕ) (ss : List Declaration) (xs : List Slot) (same : map id_of ss ≡ map slot_id xs) (within : b ≤ length xs) where
   pub last_low : last_of id ss ≤ length xs
   last_low = let e = same_from id 0 0 ss xs same in let l = from_bound id 0 0 xs (omega arith) in omega (arith, e, l)
 
@@ -116,7 +116,7 @@ module _ (id b : ℕ) (ss : List Link) (xs : List Slot) (same : map id_of ss ≡
             q ∙ ap Some (any_default (drop b xs) k blank_slot d w ∙ (get_drop b k xs d w ∙ ap (λ m. get_or xs m d) n))
       ]
 
-pub map_take : (n : ℕ) (ss : List Link) (xs : List Slot) → map id_of ss ≡ map slot_id xs → map id_of (take n ss) ≡ map slot_id (take n xs)
+pub map_take : (n : ℕ) (ss : List Declaration) (xs : List Slot) → map id_of ss ≡ map slot_id xs → map id_of (take n ss) ≡ map slot_id (take n xs)
 map_take zero ss xs h = refl
 map_take (suc n) [] [] h = refl
 map_take (suc n) [] (x ∷ xs) h = cc

@@ -1,5 +1,5 @@
 -- How many threads and `par`s a text adds, with those of the functions that are inlined.
-use Rattle.std.specs.Prelude.{◌≡◌, ◌≤◌, ℕ, ◌+◌, ◌==◌, cond, Option, Some, None, List, slice_index_or}
+use Rattle.std.specs.Prelude.{◌≡◌, ◌≤◌, ℕ, ◌+◌, Option, Some, None, List, slice_index_or}
 use Rattle.forec_tree.specs.Terms.{Text, PlainFunction, Statement, Statements, Perhaps, Branches}
 use Rattle.forec_tree.specs.Pauses.{find_function}
 use Rattle.text_kernel.specs.Lowering.{NextNumbers, lower_statement, lower_list, lower_perhaps, lower_branches}
@@ -46,7 +46,3 @@ pub record Joins (a b both : Added) : Type 0 where
   pub pars : both.pars ≡ a.pars + b.pars
   pub first : a.calls ≤ both.calls
   pub second : b.calls ≤ both.calls
-
--- what a function adds was put at a name
-abbrev pub put_at : ℕ → ℕ → Option Added → Option Added → Option Added
-put_at id g a before = cond (id == g) a before

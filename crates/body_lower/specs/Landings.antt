@@ -1,5 +1,5 @@
 -- Where statements land: what the kernel has for them is what it has for another statement.
-use Rattle.std.specs.Prelude.{ℕ, ◌+◌, ◌≡◌, ◌==◌, cond, Option, Some, None, List, [], slice_index_or}
+use Rattle.std.specs.Prelude.{ℕ, ◌+◌, ◌≡◌, Option, Some, None, List, [], slice_index_or}
 use Rattle.forec_tree.specs.Plain.{statement}
 use Rattle.forec_tree.specs.Terms.{Text, Statement, Group, Statements, no_statements, more_statements}
 use Rattle.forec_tree.specs.Pauses.{within}
@@ -41,7 +41,3 @@ CallLands text a None = Unit {0}
 CallLands text a (Some l) =
     (above t : ℕ) (s : List Slot) (n : NextNumbers) →
     lower_statement text (called_within text (l.calls + above)) t s n a ≡ lower_statement text (called_within text above) t [] n (statement l.statement.now)
-
--- a landing was put at a name
-abbrev pub put_at : ℕ → ℕ → Option Landing → Option Landing → Option Landing
-put_at id g landing before = cond (id == g) landing before

@@ -3,5 +3,4 @@ pub mod Assigned
 pub mod Heads
 pub mod Landings
 pub mod Numbering
-pub mod Trail
 pub mod Views

@@ -1,7 +1,7 @@
 //! How many threads and `par`s a text adds, with those of the functions that are inlined. Threads and
 //! `par`s are numbered in preorder: a branch takes as many numbers as its text adds.
 
-ghost use Rattle.std.specs.Prelude.{◌≡◌, ◌∷◌, [], ℕ, None, Some, slice_index_or, IfOk, OnOk};
+ghost use Rattle.std.specs.Prelude.{◌≡◌, ◌∷◌, [], ℕ, None, Some, slice_index_or, IfOk};
 ghost use Rattle.forec_base.specs.declared.Place.{Place};
 ghost use Rattle.forec_tree.specs.Plain as plain;
 ghost use Rattle.forec_tree.specs.Plain.{perhaps_of};
@@ -14,7 +14,7 @@ ghost use Rattle.body_lower.specs.Additions.{StatementAdds, PerhapsAdds, ListAdd
 use crate::parts::sum;
 use forec_base::OutOfMemory;
 use forec_tree::{Branch, Function, Stmt, StmtKind};
-use loop_check::{Index, find_function};
+use loop_check::{Index, find_function, put, value_at};
 use std::alloc::Global;
 
 /// How many threads and `par`s a text adds, where so many calls may nest.
@@ -53,10 +53,9 @@ fn both(a: Added, b: Added) -> Result<Added, OutOfMemory>
 fn known(table: &[Option<Added>], id: u32) -> Result<Added, OutOfMemory>
     ensures { IfOk result (λ a. slice_index_or table.now id None ≡ Some a) }
 {
-    match table.get(id as usize) {
+    match value_at(table, id, None) {
         None => Err(OutOfMemory),
-        Some(None) => Err(OutOfMemory),
-        Some(Some(added)) => Ok(*added),
+        Some(added) => Ok(added),
     }
 }
 
@@ -229,18 +228,6 @@ fn of_name(index: &Index<'_>, table: &[Option<Added>], id: u32) -> Option<Added>
     }
 }
 
-/// Puts what a function adds at its name.
-fn put(table: &mut Vec<Option<Added>>, id: u32, added: Option<Added>) -> Result<(), OutOfMemory>
-    ensures { OnOk result ((g : ℕ) → slice_index_or table.new.items g None ≡ additions.put_at id g added (slice_index_or table.old.items g None)) }
-{
-    let at = id as usize;
-    'room: while table.len() <= at {
-        table.push(None)?;
-    }
-    table[at] = added;
-    Ok(())
-}
-
 /// What the calls of functions add, each of which is looked at once, after those that it calls.
 pub fn additions(
     alloc: Global,
@@ -252,7 +239,7 @@ pub fn additions(
     let mut table = Vec::new(alloc);
     for f in order {
         let added = of_name(index, &table, *f);
-        put(&mut table, *f, added)?;
+        put(&mut table, *f, added, None)?;
     }
     Ok(table)
 }

@@ -2,7 +2,7 @@
 //! function of one statement is that one, which sees global names alone: the kernel has nothing for the
 //! way there.
 
-ghost use Rattle.std.specs.Prelude.{◌≡◌, ℕ, None, Some, option_map, slice_index_or, IfOk, OnOk};
+ghost use Rattle.std.specs.Prelude.{◌≡◌, ℕ, None, Some, option_map, slice_index_or, IfOk};
 ghost use Rattle.forec_tree.specs.Plain as plain;
 ghost use Rattle.forec_tree.specs.Pauses.{find_function};
 ghost use Rattle.loop_check.specs.Views.{text_of};
@@ -11,7 +11,7 @@ ghost use Rattle.body_lower.specs.Landings.{AllLand, FunctionLands, SameKernel, 
 
 use forec_base::OutOfMemory;
 use forec_tree::{Function, Stmt, StmtKind};
-use loop_check::{Index, find_function};
+use loop_check::{Index, find_function, put, value_at};
 use std::alloc::Global;
 
 /// The statement to which a call comes, and how many calls lead to it, this one among them.
@@ -58,10 +58,7 @@ pub fn innermost(s: &Stmt) -> &Stmt
 fn known<'p>(table: &[Option<Landing<'p>>], id: u32) -> Option<Landing<'p>>
     ensures { result ≡ slice_index_or table.now id None }
 {
-    match table.get(id as usize) {
-        None => None,
-        Some(landing) => *landing,
-    }
+    value_at(table, id, None)
 }
 
 /// Where a call lands by so many calls at most; only one without arguments does.
@@ -125,22 +122,6 @@ fn landing_of<'p>(index: &Index<'p>, table: &[Option<Landing<'p>>], id: u32) -> 
     }
 }
 
-/// Puts where a function lands at its name.
-fn put<'p>(
-    table: &mut Vec<Option<Landing<'p>>>,
-    id: u32,
-    landing: Option<Landing<'p>>,
-) -> Result<(), OutOfMemory>
-    ensures { OnOk result ((g : ℕ) → slice_index_or table.new.items g None ≡ landings.put_at id g landing.entry (slice_index_or table.old.items g None)) }
-{
-    let at = id as usize;
-    'room: while table.len() <= at {
-        table.push(None)?;
-    }
-    table[at] = landing;
-    Ok(())
-}
-
 /// Where the calls of functions land, each of which is looked at once. Behind those that it calls each
 /// lands as far as it can.
 pub fn landings<'p>(
@@ -153,7 +134,7 @@ pub fn landings<'p>(
     let mut table = Vec::new(alloc);
     for f in order {
         let landing = landing_of(index, &table, *f);
-        put(&mut table, *f, landing)?;
+        put(&mut table, *f, landing, None)?;
     }
     Ok(table)
 }

@@ -16,7 +16,6 @@ mod source;
 mod state;
 mod term;
 mod threads;
-mod trail;
 
 pub use body::{FUEL, in_function, inlined};
 pub use context::Context;

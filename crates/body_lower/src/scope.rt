@@ -1,12 +1,12 @@
 //! The locals that a statement sees.
 
 ghost use Rattle.std.specs.Prelude.{◌≡◌, ◌≤◌, ◌++◌, ◌∷◌, [], ℕ, map, length, drop, take, None, OnOk, OnErr};
-ghost use Rattle.body_lower.specs.Trail.{id_of};
+ghost use Rattle.forec_check.specs.Declarations.{id_of};
 ghost use Rattle.text_kernel.specs.Bindings as bindings;
 
 use crate::parts::sum;
-use crate::trail::Trail;
 use forec_base::OutOfMemory;
+use forec_check::Declarations;
 use forec_tree::Name;
 use std::alloc::Global;
 use text_kernel::Slot;
@@ -14,10 +14,10 @@ use text_kernel::Slot;
 /// Locals in the order of declaration, of which those after the first `base` are seen.
 #[derive(Drop)]
 pub struct Scope {
-    trail: Trail,
+    declared: Declarations,
     pub slots: Vec<Slot>,
     pub base: usize,
-    ghost same: { map id_of trail.links.items ≡ map bindings.slot_id slots.items },
+    ghost same: { map id_of declared.list.items ≡ map bindings.slot_id slots.items },
     ghost within: { base ≤ length slots.items },
 }
 
@@ -31,7 +31,7 @@ impl Scope {
         ensures base { result.base ≡ 0 }
     {
         Scope {
-            trail: Trail::new(alloc),
+            declared: Declarations::new(alloc),
             slots: Vec::new(alloc),
             base: 0,
         }
@@ -48,7 +48,7 @@ impl Scope {
     pub fn find(&self, id: u32) -> Option<Slot>
         ensures { result ≡ bindings.find_slot id None (seen self.now) }
     {
-        let last = self.trail.last(id);
+        let last = self.declared.last(id);
         if last <= self.base {
             return None;
         }
@@ -63,7 +63,7 @@ impl Scope {
         ensures same { OnErr result (Same self.old self.new) }
     {
         self.slots.push(slot)?;
-        if let Err(e) = self.trail.push(slot.id) {
+        if let Err(e) = self.declared.push(slot.id, slot.size.is_some()) {
             let _ = self.slots.pop();
             return Err(e);
         }
@@ -94,7 +94,7 @@ impl Scope {
         ensures slots { self.new.slots.items ≡ take len self.old.slots.items }
         ensures base { self.new.base ≡ self.old.base }
     {
-        self.trail.truncate(len);
+        self.declared.truncate(len);
         self.slots.truncate(len);
     }
 
@@ -118,7 +118,7 @@ impl Scope {
     {
         let len = self.base;
         self.base = base;
-        self.trail.truncate(len);
+        self.declared.truncate(len);
         self.slots.truncate(len);
     }
 }

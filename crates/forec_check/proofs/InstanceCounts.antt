@@ -1,37 +1,17 @@
 -- The instances that start in each function, counted in an order.
-use Rattle.std.proofs.Common.{ℕ, zero, suc, ◌+◌, ◌-◌, ◌^◌, ◌<◌, ◌≤◌, ◌≡◌, ◌∙◌, ◌==◌, min, sym, ap, refl, Bool, true, false, cond, not, Option, Some, None, List, [], ◌∷◌, ◌++◌, length, set, get_or, arith, get_or-set_same, get_or-set_other}
-use Rattle.std.proofs.lemmas.Bool.{eqb-true}
+use Rattle.std.proofs.Common.{ℕ, zero, suc, ◌+◌, ◌-◌, ◌^◌, ◌≡◌, ◌∙◌, ◌==◌, min, ap, refl, true, cond, Option, Some, None, List, [], ◌∷◌, ◌++◌, length, arith}
 use Rattle.std.proofs.lemmas.Bool.Decides.{nat_tests}
 use Rattle.forec_tree.specs.Terms.{Statement, Declare, Nothing, Group, Assign, Invoke, If, While, For, Pause, Par, Abort, Return, Statements, no_statements, more_statements, Perhaps, absent, present, Branches, no_branches, by_call, by_group, Text, PlainFunction}
-use Rattle.forec_tree.specs.Rules.{is_none}
 use Rattle.forec_tree.specs.Pauses.{within, find_function, started, all_started, perhaps_started, branches_started, function_callees, callees_of}
 use Rattle.forec_tree.specs.Threads.{below, below_all, below_perhaps, below_branches, body_below, below_step, instances}
 use Rattle.forec_tree.specs.Faults.{is_in, Leads}
-use Rattle.forec_tree.proofs.Fixed.{IsLocal}
 use Rattle.forec_tree.proofs.CappedSums.{below_all_capped}
 use Rattle.loop_check.specs.Graph.{IsOrder}
-use Rattle.loop_check.specs.Known.{Read, started_in, is_function, list_at}
-use Rattle.loop_check.proofs.IndexLemmas.{split}
-use Rattle.loop_check.proofs.Ordered.{other_id}
-use Rattle.loop_check.proofs.Reading.{leads_same}
-use Rattle.forec_check.specs.Table.{Settles, put_at}
+use Rattle.loop_check.specs.Known.{Read, started_in}
+use Rattle.forec_check.specs.Table.{Settles}
 use Rattle.forec_check.specs.Instances.{count_at, capped_below, count_of}
 use Rattle.forec_check.proofs.Started.{in_left, in_right}
-use Rattle.forec_check.proofs.TableLemmas.{settles_by}
-
-pub count_push : (xs : List ℕ) (k : ℕ) → count_at (xs ++ 0 ∷ []) k ≡ count_at xs k
-count_push [] zero = refl
-count_push [] (suc k) = refl
-count_push (x ∷ xs) zero = refl
-count_push (x ∷ xs) (suc k) = count_push xs k
-
-pub count_set : (xs : List ℕ) (id h v : ℕ) → id < length xs → count_at (set xs id v) h ≡ put_at id h v (count_at xs h)
-count_set xs id h v l =
-    split (id == h)
-    (λ e.
-    let q : id ≡ h = eqb-true id h e in
-    ap (λ n. get_or (set xs id v) n 0) (sym q) ∙ get_or-set_same xs id v 0 l ∙ sym (ap (λ b. cond b v (count_at xs h)) e))
-    (λ e. get_or-set_other xs id h v 0 (other_id id h e) ∙ sym (ap (λ b. cond b v (count_at xs h)) e))
+use Rattle.forec_check.proofs.TableLemmas.{started_settles}
 
 pub nothing_counted : (h : ℕ) → count_at [] h ≡ 0
 nothing_counted zero = refl
@@ -116,24 +96,8 @@ counted_all text first count total h k = let e = h ∙ capped_within text (lengt
 
 -- ---- an order
 
-no_function : (text : Text) (a : ℕ → ℕ) (g : ℕ) → is_function text g ≡ false → capped_below text a g ≡ 0
-no_function text a g h = pick (find_function g text) h
-  where
-    pick : (f : Option PlainFunction) → not (is_none f) ≡ false → min (body_below a f) (2 ^ 64 - 1) ≡ 0
-    pick None h = refl
-    pick (Some f) h = absurd (let q : true ≡ false = h in cc)
-
-started_list : (f : Option PlainFunction) → list_at started_in f ≡ function_callees f
-started_list None = refl
-started_list (Some f) = refl
-
 pub counts_settle : (text : Text) (functions order : List ℕ) (calls : ℕ → List ℕ) → Read started_in text functions calls → IsOrder functions calls order → ((f : ℕ) → Leads (callees_of text) f f → ⊥) →
     Settles 0 (capped_below text) (count_of text) order
 unfolding count_of
 counts_settle text functions order calls r o free =
-    let lists = λ (f : ℕ). r.lists f ∙ started_list (find_function f text) in
-    let short = o.short in
-    let few = r.few in
-    settles_by 0 (capped_below text) (length text) functions order calls o
-    (record { agrees = λ f a b h. ap (λ m. min m (2 ^ 64 - 1)) (body_same a b (find_function f text) (λ g e. h g (ap (is_in g) (lists f) ∙ e))) })
-    (λ g h a. no_function text a g (sym (r.stands g) ∙ h)) (λ g l. free g (leads_same calls (callees_of text) lists l)) (omega (arith, short, few))
+    started_settles 0 (λ a f. min (body_below a f) (2 ^ 64 - 1)) (λ a. refl) (λ a b f h. ap (λ m. min m (2 ^ 64 - 1)) (body_same a b f h)) text functions order calls r o free

@@ -1,9 +1,8 @@
 -- Tables of namings, function by function.
-use Rattle.std.proofs.Common.{ℕ, zero, suc, ◌+◌, ◌-◌, ◌<◌, ◌≤◌, ◌≡◌, ◌≢◌, ◌∙◌, ◌==◌, min, sym, ap, refl, subst, Bool, true, false, cond, not, ◌&&◌, ◌||◌, Option, Some, None, List, [], ◌∷◌, ◌++◌, length, take, drop, set, get_or, map, arith, get_or-set_same, get_or-set_other, append-nil, add-one}
+use Rattle.std.proofs.Common.{ℕ, zero, suc, ◌+◌, ◌-◌, ◌<◌, ◌≤◌, ◌≡◌, ◌≢◌, ◌∙◌, ◌==◌, min, sym, ap, refl, subst, Bool, true, false, cond, not, ◌&&◌, ◌||◌, Option, Some, None, List, [], ◌∷◌, ◌++◌, length, take, drop, get_or, map, arith, append-nil, add-one}
 use Rattle.std.specs.Prelude.{nat_lt, slice_get}
 use Rattle.std.proofs.Math.Seq.{take-suc, drop-cons}
 use Rattle.std.proofs.lemmas.List.{take_all, drop_all}
-use Rattle.std.proofs.lemmas.Bool.{eqb-true}
 use Rattle.std.proofs.lemmas.Bool.Decides.{nat_tests}
 use Rattle.std.specs.declared.vec.Vec.{Vec}
 use Rattle.std.specs.declared.alloc.Global.{Global}
@@ -22,34 +21,18 @@ use Rattle.forec_tree.proofs.Fixed.{IsLocal}
 use Rattle.forec_check.proofs.LeastLaws.{least-append}
 use Rattle.loop_check.specs.Graph.{IsOrder}
 use Rattle.loop_check.specs.Known.{Read, is_function}
-use Rattle.loop_check.proofs.IndexLemmas.{split}
-use Rattle.loop_check.proofs.Ordered.{is_in_snoc, other_id}
+use Rattle.loop_check.proofs.Ordered.{is_in_snoc}
 use Rattle.loop_check.proofs.Settled.{all_ordered}
-use Rattle.forec_check.specs.Table.{put_at}
+use Rattle.loop_check.specs.Numbered.{put_at}
 use Rattle.forec_check.proofs.TableLemmas.{settles_by}
 use Rattle.loop_check.proofs.Reading.{leads_same}
 use Rattle.forec_check.specs.declared.walk.effects.Effect.{Effect}
 use Rattle.forec_check.specs.declared.instances.access_count.AccessCount.{AccessCount}
 use Rattle.forec_check.specs.Walk.{effects_of, item_effects}
 use Rattle.forec_check.specs.Early.{calls_in, improves}
-use Rattle.forec_check.specs.AccessCounts.{capped, access_of, no_access_count, access_at, called_access, effects_in, scan_effects, capped_step, value_of, Orders, access_fault, access_faults}
+use Rattle.forec_check.specs.AccessCounts.{capped, access_of, no_access_count, called_access, effects_in, scan_effects, capped_step, value_of, Orders, access_fault, access_faults}
 use Rattle.forec_check.proofs.Recursion.{graph_is}
 use Rattle.forec_check.proofs.AccessCountLemmas.{effects_tell, capped_local, capped_within, two_instances, counted, capped_twice}
-
-pub few_push : (xs : List AccessCount) (k : ℕ) → access_at (xs ++ no_access_count ∷ []) k ≡ access_at xs k
-few_push [] zero = refl
-few_push [] (suc k) = refl
-few_push (x ∷ xs) zero = refl
-few_push (x ∷ xs) (suc k) = few_push xs k
-
-pub few_set : (xs : List AccessCount) (id h : ℕ) (v : AccessCount) → id < length xs → access_at (set xs id v) h ≡ put_at id h (access_of v) (access_at xs h)
-few_set xs id h v l =
-    split (id == h)
-    (λ e.
-    let q : id ≡ h = eqb-true id h e in
-    ap (λ n. access_of (get_or (set xs id v) n no_access_count)) (sym q) ∙ ap access_of (get_or-set_same xs id v no_access_count l)
-    ∙ sym (ap (λ b. cond b (access_of v) (access_at xs h)) e))
-    (λ e. ap access_of (get_or-set_other xs id h v no_access_count (other_id id h e)) ∙ sym (ap (λ b. cond b (access_of v) (access_at xs h)) e))
 
 -- ---- the step of a function
 
@@ -93,8 +76,11 @@ no_body (u ∷ us) (y ∷ ys) f (suc at) e s = let p : map (λ w. w.items) us �
 
 -- ---- the table
 
-pub put_capped : (f h : ℕ) (v : AccessCount) (before after : TextAccess) → after ≡ put_at f h (access_of v) before → capped after ≡ put_at f h (capped (access_of v)) (capped before)
-put_capped f h v before after e = ap capped e ∙ (elim (f == h) as (λ b. capped (cond b (access_of v) before) ≡ cond b (capped (access_of v)) (capped before)) [ true ↦ refl | false ↦ refl ])
+pub put_capped : (f h : ℕ) (v before after : AccessCount) → after ≡ put_at f h v before →
+    capped (access_of after) ≡ put_at f h (capped (access_of v)) (capped (access_of before))
+put_capped f h v before after e =
+    ap (λ x. capped (access_of x)) e
+    ∙ (elim (f == h) as (λ b. capped (access_of (cond b v before)) ≡ cond b (capped (access_of v)) (capped (access_of before))) [ true ↦ refl | false ↦ refl ])
 
 pub nothing_called : (h : ℕ) → called_access [] h ≡ no_access
 nothing_called zero = refl

@@ -1,16 +1,21 @@
--- A table of values of functions, one function more.
-use Rattle.std.proofs.Common.{ℕ, suc, ◌+◌, ◌<◌, ◌≤◌, ◌≡◌, ◌∙◌, ◌==◌, sym, ap, refl, Bool, true, false, cond, ◌||◌, List, [], ◌∷◌, ◌++◌, length, take, get_or, arith}
+-- A table of values of functions, one function more; and values that follow from those of the functions that are called or started.
+use Rattle.std.proofs.Common.{ℕ, suc, ◌+◌, ◌<◌, ◌≤◌, ◌≡◌, ◌∙◌, ◌==◌, sym, ap, refl, Bool, true, false, cond, not, ◌||◌, Option, Some, None, List, [], ◌∷◌, ◌++◌, length, take, get_or, arith}
 use Rattle.std.proofs.Math.Seq.{take-suc}
 use Rattle.std.proofs.lemmas.List.{take_all}
 use Rattle.std.proofs.lemmas.Bool.{eqb-true}
-use Rattle.forec_tree.specs.Pauses.{within}
+use Rattle.forec_tree.specs.Terms.{Text, PlainFunction}
+use Rattle.forec_tree.specs.Rules.{is_none}
+use Rattle.forec_tree.specs.Pauses.{within, find_function, function_callees, callees_of}
 use Rattle.forec_tree.specs.Faults.{is_in, Leads}
 use Rattle.forec_tree.proofs.Fixed.{IsLocal}
 use Rattle.loop_check.specs.Graph.{IsOrder}
+use Rattle.loop_check.specs.Known.{Read, started_in}
+use Rattle.loop_check.specs.Numbered.{put_at}
 use Rattle.loop_check.proofs.IndexLemmas.{split}
 use Rattle.loop_check.proofs.Ordered.{is_in_snoc}
+use Rattle.loop_check.proofs.Reading.{leads_same, started_list}
 use Rattle.loop_check.proofs.Settled.{settle, out, all_ordered}
-use Rattle.forec_check.specs.Table.{Agrees, Settles, put_at}
+use Rattle.forec_check.specs.Table.{Agrees, Settles}
 
 clash : {P : Type 0} (b : Bool) → b ≡ true → b ≡ false → P
 clash b t f = absurd (let q : true ≡ false = sym t ∙ f in cc)
@@ -65,3 +70,21 @@ settles_by default step deep functions order calls o loc outside free short =
           out default step functions calls order o loc outside deep h
           (split (is_in h functions) (λ f. clash (is_in h order) (all_ordered functions calls order o free h f) i) (λ f. f));
     }
+
+-- an order of all functions settles what a function's text gives by the values of the functions that it calls or starts
+module _ {A : Type 0} (default : A) (of : (ℕ → A) → Option PlainFunction → A) (none : (a : ℕ → A) → of a None ≡ default)
+    (same : (a b : ℕ → A) (f : Option PlainFunction) → ((g : ℕ) → is_in g (function_callees f) ≡ true → a g ≡ b g) → of a f ≡ of b f) where
+  absent : (a : ℕ → A) (f : Option PlainFunction) → not (is_none f) ≡ false → of a f ≡ default
+  absent a None h = none a
+  absent a (Some f) h = clash true refl h
+
+  pub started_settles : (text : Text) (functions order : List ℕ) (calls : ℕ → List ℕ) → Read started_in text functions calls → IsOrder functions calls order →
+      ((f : ℕ) → Leads (callees_of text) f f → ⊥) →
+      Settles default (λ called id. of called (find_function id text)) (within default (λ called id. of called (find_function id text)) (length text)) order
+  started_settles text functions order calls r o free =
+      let lists = λ (f : ℕ). r.lists f ∙ started_list (find_function f text) in
+      let short = o.short in
+      let few = r.few in
+      settles_by default (λ called id. of called (find_function id text)) (length text) functions order calls o
+      (record { agrees = λ f a b h. same a b (find_function f text) (λ g e. h g (ap (is_in g) (lists f) ∙ e)) })
+      (λ g h a. absent a (find_function g text) (sym (r.stands g) ∙ h)) (λ g l. free g (leads_same calls (callees_of text) lists l)) (omega (arith, short, few))

@@ -6,6 +6,9 @@ use Rattle.forec_check.specs.declared.scopes.declaration.Declaration.{Declaratio
 abbrev pub blank : Declaration
 blank = record { id = 0; array = false; before = 0 }
 
+abbrev pub id_of : Declaration → ℕ
+id_of e = e.id
+
 abbrev pub seen : Declaration → Seen
 seen e = record { id = e.id; array = e.array }
 
@@ -20,10 +23,6 @@ last_of id es = last_from id 0 0 es
 -- each entry knows the last one of its name before it
 abbrev pub Chained : List Declaration → Type 0
 Chained es = (k : ℕ) → k < length es → (slice_index_or es k blank).before ≡ last_of (slice_index_or es k blank).id (take k es)
-
--- a number was put at a name
-abbrev pub latest_put : ℕ → ℕ → ℕ → ℕ → ℕ
-latest_put id g value before = cond (id == g) value before
 
 abbrev pub pushed : List Declaration → ℕ → Bool → List Declaration
 pushed es id array = es ++ record { id = id; array = array; before = last_of id es } ∷ []

@@ -2,14 +2,14 @@
 //!
 //! An instance is `main`, or one branch of one `par` where void functions that are called as statements are inlined.
 
-ghost use Rattle.std.specs.Prelude.{◌≡◌, ◌+◌, ◌-◌, ◌^◌, ℕ, min, map, IfOk, OnOk};
+ghost use Rattle.std.specs.Prelude.{◌≡◌, ◌+◌, ◌-◌, ◌^◌, ℕ, min, map, IfOk};
 ghost use Rattle.forec_tree.specs.Plain as plain;
 ghost use Rattle.forec_tree.specs.Plain.{perhaps_of};
 ghost use Rattle.forec_tree.specs.Pauses.{callees_of};
 ghost use Rattle.forec_tree.specs.Faults.{Leads};
 ghost use Rattle.forec_tree.specs.Threads as threads;
 ghost use Rattle.loop_check.specs.Views.{text_of};
-ghost use Rattle.forec_check.specs.Table.{put_at, Settles};
+ghost use Rattle.forec_check.specs.Table.{Settles};
 ghost use Rattle.forec_check.specs.Instances.{count_at, capped_below, count_of};
 
 pub mod access_count;
@@ -21,16 +21,13 @@ pub mod single;
 
 use forec_base::OutOfMemory;
 use forec_tree::{Branch, Item, Stmt, StmtKind};
-use loop_check::{Index, find_function, order, read_calls};
+use loop_check::{Index, find_function, order, put, read_calls, value_at};
 use std::alloc::Global;
 
 fn known_count(table: &[u64], id: u32) -> u64
     ensures { result ≡ count_at table.now id }
 {
-    match table.get(id as usize) {
-        None => 0,
-        Some(count) => *count,
-    }
+    value_at(table, id, 0)
 }
 
 fn sum(a: u64, b: u64) -> u64
@@ -118,17 +115,6 @@ fn count_function(index: &Index<'_>, table: &[u64], id: u32) -> u64
     }
 }
 
-fn put(table: &mut Vec<u64>, id: u32, value: u64) -> Result<(), OutOfMemory>
-    ensures { OnOk result ((h : ℕ) → count_at table.new.items h ≡ put_at id h value (count_at table.old.items h)) }
-{
-    let place = id as usize;
-    'room: while table.len() <= place {
-        table.push(0)?;
-    }
-    table[place] = value;
-    Ok(())
-}
-
 /// How many instances start in each function, each after those that it calls or starts.
 fn counts(alloc: Global, index: &Index<'_>, order: &[u32]) -> Result<Vec<u64>, OutOfMemory>
     requires { Settles 0 (capped_below (text_of index.now)) (count_of (text_of index.now)) order.now }
@@ -137,7 +123,7 @@ fn counts(alloc: Global, index: &Index<'_>, order: &[u32]) -> Result<Vec<u64>, O
     let mut table = Vec::new(alloc);
     for f in order {
         let value = count_function(index, &table, *f);
-        put(&mut table, *f, value)?;
+        put(&mut table, *f, value, 0)?;
     }
     Ok(table)
 }

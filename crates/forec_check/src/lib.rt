@@ -15,3 +15,4 @@ mod walk;
 pub use check_fault::CheckFault;
 pub use checked::Checked;
 pub use front::check;
+pub use scopes::declarations::Declarations;

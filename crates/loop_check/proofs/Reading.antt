@@ -12,7 +12,8 @@ use Rattle.forec_tree.proofs.Fixed.{IsLocal}
 use Rattle.forec_tree.proofs.Agrees.{certain_local}
 use Rattle.loop_check.specs.Graph.{IsOrder, set_at}
 use Rattle.loop_check.proofs.Settled.{settle, out, all_ordered}
-use Rattle.loop_check.specs.Known.{Read, list_at, started_in, is_function, put_at, Agrees, Judged}
+use Rattle.loop_check.specs.Known.{Read, list_at, started_in, is_function, Agrees, Judged}
+use Rattle.loop_check.specs.Numbered.{put_at}
 use Rattle.loop_check.proofs.IndexLemmas.{split}
 use Rattle.loop_check.proofs.Ordered.{is_in_snoc}
 
@@ -189,7 +190,7 @@ no_function text a g h = pick (find_function g text) h
     pick None h = refl
     pick (Some f) h = absurd (let q : true ≡ false = h in cc)
 
-started_list : (f : Option PlainFunction) → list_at started_in f ≡ function_callees f
+pub started_list : (f : Option PlainFunction) → list_at started_in f ≡ function_callees f
 started_list None = refl
 started_list (Some f) = refl
 

@@ -1,5 +1,5 @@
 -- What a table says of each function, and the lists that a walk collects.
-use Rattle.std.specs.Prelude.{◌≡◌, ◌<◌, ◌≤◌, ℕ, length, take, Bool, true, false, cond, not, Option, Some, None, List, [], ◌==◌, slice_index_or}
+use Rattle.std.specs.Prelude.{◌≡◌, ◌<◌, ◌≤◌, ℕ, length, take, Bool, true, false, not, Option, Some, None, List, [], slice_index_or}
 use Rattle.forec_tree.specs.Terms.{Text, PlainItem, IsGlobal, IsFunction, PlainFunction}
 use Rattle.forec_tree.specs.Pauses.{find_function, all_started}
 use Rattle.forec_tree.specs.Faults.{is_in}
@@ -13,10 +13,6 @@ known table id = slice_index_or table id false
 
 abbrev pub is_function : Text → ℕ → Bool
 is_function text id = not (is_none (find_function id text))
-
--- a list was put at a number
-abbrev pub put_at : ℕ → ℕ → List ℕ → List ℕ → List ℕ
-put_at id g list before = cond (id == g) list before
 
 -- a function of the tree, and its plain value
 abbrev pub FunctionOf : Option (Bor Function) → Option PlainFunction → Type 0

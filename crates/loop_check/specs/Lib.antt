@@ -3,4 +3,5 @@ pub mod Index
 pub mod Views
 pub mod Graph
 pub mod Known
+pub mod Numbered
 pub mod Judges

@@ -2,6 +2,7 @@
 //! linear graph algorithms", 1972). Nothing is proved of what it finds: who uses it checks what is
 //! needed, which takes one look at each call.
 
+use crate::numbered::value_at;
 use forec_base::OutOfMemory;
 use std::alloc::Global;
 
@@ -36,10 +37,7 @@ struct Walk {
 }
 
 fn at(table: &[usize], f: u32) -> usize {
-    match table.get(f as usize) {
-        None => 0,
-        Some(value) => *value,
-    }
+    value_at(table, f, 0)
 }
 
 fn put(table: &mut [usize], f: u32, value: usize) {

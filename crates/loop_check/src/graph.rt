@@ -6,6 +6,7 @@ ghost use Rattle.loop_check.specs.Graph.{callees, trues, any_waits, Waits, Held,
 ghost use Rattle.loop_check.specs.Graph as plain;
 
 use crate::components::find_components;
+use crate::numbered::value_at;
 use forec_base::OutOfMemory;
 use std::alloc::Global;
 
@@ -13,10 +14,7 @@ use std::alloc::Global;
 pub fn is_waiting(marks: &[bool], id: u32) -> bool
     ensures { result ≡ slice_index_or marks.now id false }
 {
-    match marks.get(id as usize) {
-        None => false,
-        Some(mark) => *mark,
-    }
+    value_at(marks, id, false)
 }
 
 fn any_waits(marks: &[bool], list: &[u32]) -> bool

@@ -9,6 +9,7 @@ ghost use Rattle.loop_check.specs.Index.{blank, entry_from, noted};
 ghost use Rattle.loop_check.specs.Index as plain;
 
 use crate::entry::Entry;
+use crate::numbered::value_at;
 use forec_base::OutOfMemory;
 use forec_tree::{Item, Name};
 use sqlite_items::at;
@@ -98,10 +99,7 @@ impl<'p> Index<'p> {
     fn entry(&self, id: u32) -> Entry
         ensures { result ≡ entry_from id 0 plain.blank (text_of self.now) }
     {
-        match self.entries.get(id as usize) {
-            None => blank(),
-            Some(entry) => *entry,
-        }
+        value_at(&self.entries, id, blank())
     }
 
     /// The first item of a name.

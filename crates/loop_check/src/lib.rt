@@ -5,6 +5,7 @@ mod components;
 mod entry;
 mod graph;
 mod index;
+mod numbered;
 mod parts;
 mod pauses;
 mod ranks;
@@ -17,6 +18,7 @@ mod touch;
 
 pub use graph::{is_waiting, marked, order};
 pub use index::{Index, item_name};
+pub use numbered::{put, value_at};
 pub use pauses::{always, at_least_one, is_nonzero};
 pub use ranks::acyclic;
 pub use runs::turns;

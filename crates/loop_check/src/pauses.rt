@@ -8,6 +8,7 @@ ghost use Rattle.loop_check.specs.Views.{text_of};
 ghost use Rattle.loop_check.specs.Known.{known};
 
 use crate::index::Index;
+use crate::numbered::value_at;
 use crate::runs::{form_of, run};
 use forec_tree::{Branch, Expr, ExprKind, Stmt, StmtKind};
 
@@ -61,10 +62,7 @@ pub fn at_least_one(turns: Option<u32>) -> bool
 pub fn is_known(called: &[bool], id: u32) -> bool
     ensures { result ≡ known called.now id }
 {
-    match called.get(id as usize) {
-        None => false,
-        Some(answer) => *answer,
-    }
+    value_at(called, id, false)
 }
 
 /// Whether a statement is certain to pause, where `called` says it of each function by its name.

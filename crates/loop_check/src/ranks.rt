@@ -6,16 +6,14 @@ ghost use Rattle.loop_check.specs.Graph.{callees, FunctionsCall, rank_at, NeverU
 
 use crate::components::find_components;
 use crate::graph::{called, mark};
+use crate::numbered::value_at;
 use forec_base::OutOfMemory;
 use std::alloc::Global;
 
 fn rank(ranks: &[usize], f: u32) -> usize
     ensures { result ≡ rank_at ranks.now f }
 {
-    match ranks.get(f as usize) {
-        None => 0,
-        Some(rank) => *rank,
-    }
+    value_at(ranks, f, 0)
 }
 
 /// Whether each of a list has a rank below this one.

@@ -1,18 +1,13 @@
 -- The table of extents tells how many terms the translation has, up to the cap.
-use Rattle.std.proofs.Common.{ℕ, zero, suc, ◌-◌, ◌^◌, ◌<◌, ◌≡◌, ◌∙◌, ◌==◌, min, sym, ap, refl, true, false, cond, not, Option, Some, None, List, [], ◌∷◌, ◌++◌, length, set, get_or, arith, get_or-set_same, get_or-set_other}
-use Rattle.std.proofs.lemmas.Bool.{eqb-true}
+use Rattle.std.proofs.Common.{ℕ, zero, suc, ◌-◌, ◌^◌, ◌≡◌, ◌∙◌, min, ap, refl, true, Option, Some, None, List, [], ◌∷◌, ◌++◌, length, arith}
 use Rattle.forec_tree.specs.Terms.{Text, PlainFunction}
-use Rattle.forec_tree.specs.Rules.{is_none}
 use Rattle.forec_tree.specs.Pauses.{within, find_function, function_callees, callees_of}
 use Rattle.forec_tree.specs.Faults.{is_in, Leads}
 use Rattle.forec_kernel.specs.WellFormed.{stmt_terms}
 use Rattle.loop_check.specs.Graph.{IsOrder}
-use Rattle.loop_check.specs.Known.{Read, started_in, is_function, list_at}
-use Rattle.loop_check.proofs.IndexLemmas.{split}
-use Rattle.loop_check.proofs.Ordered.{other_id}
-use Rattle.loop_check.proofs.Reading.{leads_same}
-use Rattle.forec_check.specs.Table.{Settles, put_at}
-use Rattle.forec_check.proofs.TableLemmas.{settles_by}
+use Rattle.loop_check.specs.Known.{Read, started_in}
+use Rattle.forec_check.specs.Table.{Settles}
+use Rattle.forec_check.proofs.TableLemmas.{started_settles}
 use Rattle.text_sizes.specs.declared.extents.Extent.{Extent}
 use Rattle.text_kernel.specs.Bindings.{params_at}
 use Rattle.text_sizes.specs.TermCounts.{sequence_count, statement_count, own_all, under_all}
@@ -23,20 +18,6 @@ use Rattle.text_sizes.proofs.Sized.{made_terms, list_under}
 use Rattle.text_sizes.proofs.Nearby.{sequence_near, all_near, list_near}
 
 -- ---- tables
-
-pub extent_push : (xs : List Extent) (k : ℕ) → extent_at (xs ++ nothing ∷ []) k ≡ extent_at xs k
-extent_push [] zero = refl
-extent_push [] (suc k) = refl
-extent_push (x ∷ xs) zero = refl
-extent_push (x ∷ xs) (suc k) = extent_push xs k
-
-pub extent_set : (xs : List Extent) (id h : ℕ) (v : Extent) → id < length xs → extent_at (set xs id v) h ≡ put_at id h v (extent_at xs h)
-extent_set xs id h v l =
-    split (id == h)
-    (λ e.
-    let q : id ≡ h = eqb-true id h e in
-    ap (λ n. get_or (set xs id v) n nothing) (sym q) ∙ get_or-set_same xs id v nothing l ∙ sym (ap (λ b. cond b v (extent_at xs h)) e))
-    (λ e. get_or-set_other xs id h v nothing (other_id id h e) ∙ sym (ap (λ b. cond b v (extent_at xs h)) e))
 
 pub nothing_known : (h : ℕ) → extent_at [] h ≡ nothing
 nothing_known zero = refl
@@ -56,27 +37,10 @@ extent_same a b (Some f) h =
     ap (λ n. of_parts n (min (under_all (λ g. (a g).own) (λ g. (a g).under) f.body) cap)) (sequence_near cap (statement_count f.body) _ _ own)
     ∙ ap (λ n. of_parts (min (sequence_count (statement_count f.body) (own_all (λ g. (b g).own) f.body)) cap) n) under
 
-no_function : (text : Text) (a : ℕ → Extent) (g : ℕ) → is_function text g ≡ false → extent_step capped text a g ≡ nothing
-no_function text a g h = pick (find_function g text) h
-  where
-    pick : (f : Option PlainFunction) → not (is_none f) ≡ false → extent_by capped a f ≡ nothing
-    pick None h = refl
-    pick (Some f) h = absurd (let q : true ≡ false = h in cc)
-
-started_list : (f : Option PlainFunction) → list_at started_in f ≡ function_callees f
-started_list None = refl
-started_list (Some f) = refl
-
 pub extents_settle : (text : Text) (functions order : List ℕ) (calls : ℕ → List ℕ) → Read started_in text functions calls → IsOrder functions calls order → ((f : ℕ) → Leads (callees_of text) f f → ⊥) →
     Settles nothing (extent_step capped text) (extent_value text) order
 unfolding extent_value
-extents_settle text functions order calls r o free =
-    let lists = λ (f : ℕ). r.lists f ∙ started_list (find_function f text) in
-    let short = o.short in
-    let few = r.few in
-    settles_by nothing (extent_step capped text) (length text) functions order calls o
-    (record { agrees = λ f a b h. extent_same a b (find_function f text) (λ g e. h g (ap (is_in g) (lists f) ∙ e)) })
-    (λ g h a. no_function text a g (sym (r.stands g) ∙ h)) (λ g l. free g (leads_same calls (callees_of text) lists l)) (omega (arith, short, few))
+extents_settle text functions order calls r o free = started_settles nothing (extent_by capped) (λ a. refl) extent_same text functions order calls r o free
 
 -- ---- what is exact and what is capped
 

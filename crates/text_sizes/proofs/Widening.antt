@@ -1,38 +1,19 @@
 -- The table of spans tells how many words threads take, up to the cap, and at least how deep they are.
-use Rattle.std.proofs.Common.{ℕ, zero, suc, ◌-◌, ◌^◌, ◌<◌, ◌≡◌, ◌∙◌, ◌==◌, min, sym, ap, refl, true, false, cond, not, Option, Some, None, List, [], ◌∷◌, ◌++◌, length, set, get_or, arith, get_or-set_same, get_or-set_other}
-use Rattle.std.proofs.lemmas.Bool.{eqb-true}
+use Rattle.std.proofs.Common.{ℕ, zero, suc, ◌-◌, ◌^◌, ◌≡◌, ◌∙◌, min, ap, refl, true, Option, Some, None, List, [], ◌∷◌, ◌++◌, length, arith}
 use Rattle.forec_tree.specs.Terms.{count_terms, Statement, Declare, Nothing, Group, Assign, Invoke, If, While, For, Pause, Par, Abort, Return, Statements, no_statements, more_statements, Perhaps, absent, present, Branches, no_branches, by_call, by_group, Text, PlainFunction}
-use Rattle.forec_tree.specs.Rules.{is_none}
 use Rattle.forec_tree.specs.Pauses.{within, find_function, function_callees, callees_of, started, all_started, perhaps_started, branches_started}
 use Rattle.forec_tree.specs.Faults.{is_in, Leads}
 use Rattle.forec_tree.proofs.Agrees.{in_left, in_right, in_head, in_tail}
 use Rattle.loop_check.specs.Graph.{IsOrder}
-use Rattle.loop_check.specs.Known.{Read, started_in, is_function, list_at}
-use Rattle.loop_check.proofs.IndexLemmas.{split}
-use Rattle.loop_check.proofs.Ordered.{other_id}
-use Rattle.loop_check.proofs.Reading.{leads_same}
-use Rattle.forec_check.specs.Table.{Settles, put_at}
-use Rattle.forec_check.proofs.TableLemmas.{settles_by}
+use Rattle.loop_check.specs.Known.{Read, started_in}
+use Rattle.forec_check.specs.Table.{Settles}
+use Rattle.forec_check.proofs.TableLemmas.{started_settles}
 use Rattle.text_sizes.specs.declared.span.Span.{Span}
 use Rattle.text_sizes.specs.TermCounts.{slots, slots_all, slots_perhaps, statement_count}
 use Rattle.text_sizes.specs.Extents.{capped, exact}
 use Rattle.text_sizes.specs.Spans.{sequence_levels, levels, levels_all, levels_perhaps, block_levels, most, most_all, most_perhaps, most_branches, words_by, levels_by, no_span, span_at, span_by, span_step, span_value}
 
 -- ---- tables
-
-pub span_push : (xs : List Span) (k : ℕ) → span_at (xs ++ no_span ∷ []) k ≡ span_at xs k
-span_push [] zero = refl
-span_push [] (suc k) = refl
-span_push (x ∷ xs) zero = refl
-span_push (x ∷ xs) (suc k) = span_push xs k
-
-pub span_set : (xs : List Span) (id h : ℕ) (v : Span) → id < length xs → span_at (set xs id v) h ≡ put_at id h v (span_at xs h)
-span_set xs id h v l =
-    split (id == h)
-    (λ e.
-    let q : id ≡ h = eqb-true id h e in
-    ap (λ n. get_or (set xs id v) n no_span) (sym q) ∙ get_or-set_same xs id v no_span l ∙ sym (ap (λ b. cond b v (span_at xs h)) e))
-    (λ e. get_or-set_other xs id h v no_span (other_id id h e) ∙ sym (ap (λ b. cond b v (span_at xs h)) e))
 
 pub span_unknown : (h : ℕ) → span_at [] h ≡ no_span
 span_unknown zero = refl
@@ -233,27 +214,10 @@ span_same a b (Some f) h =
       deepest = λ g i. ap (λ (x : Span). min x.deepest (2 ^ 64 - 1)) (h g i);
     }) f (λ g i. i)
 
-no_function : (text : Text) (a : ℕ → Span) (g : ℕ) → is_function text g ≡ false → span_step capped text a g ≡ no_span
-no_function text a g h = pick (find_function g text) h
-  where
-    pick : (f : Option PlainFunction) → not (is_none f) ≡ false → span_by capped a f ≡ no_span
-    pick None h = refl
-    pick (Some f) h = absurd (let q : true ≡ false = h in cc)
-
-started_list : (f : Option PlainFunction) → list_at started_in f ≡ function_callees f
-started_list None = refl
-started_list (Some f) = refl
-
 pub spans_settle : (text : Text) (functions order : List ℕ) (calls : ℕ → List ℕ) → Read started_in text functions calls → IsOrder functions calls order → ((f : ℕ) → Leads (callees_of text) f f → ⊥) →
     Settles no_span (span_step capped text) (span_value text) order
 unfolding span_value
-spans_settle text functions order calls r o free =
-    let lists = λ (f : ℕ). r.lists f ∙ started_list (find_function f text) in
-    let short = o.short in
-    let few = r.few in
-    settles_by no_span (span_step capped text) (length text) functions order calls o
-    (record { agrees = λ f a b h. span_same a b (find_function f text) (λ g e. h g (ap (is_in g) (lists f) ∙ e)) })
-    (λ g h a. no_function text a g (sym (r.stands g) ∙ h)) (λ g l. free g (leads_same calls (callees_of text) lists l)) (omega (arith, short, few))
+spans_settle text functions order calls r o free = started_settles no_span (span_by capped) (λ a. refl) span_same text functions order calls r o free
 
 -- ---- what is exact and what is capped
 

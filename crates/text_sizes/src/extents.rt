@@ -1,13 +1,13 @@
 //! How many terms the translation of a program has, up to the greatest `u64`, without it being made:
 //! each function is looked at once, after those that it calls or starts.
 
-ghost use Rattle.std.specs.Prelude.{◌≡◌, ◌+◌, ◌-◌, ◌^◌, ℕ, min, map, IfOk, OnOk};
+ghost use Rattle.std.specs.Prelude.{◌≡◌, ◌+◌, ◌-◌, ◌^◌, ℕ, min, map, IfOk};
 ghost use Rattle.forec_tree.specs.Plain as plain;
 ghost use Rattle.forec_tree.specs.Faults.{Leads};
 ghost use Rattle.forec_tree.specs.Pauses.{callees_of};
 ghost use Rattle.forec_tree.specs.Plain.{perhaps_of};
 ghost use Rattle.loop_check.specs.Views.{text_of};
-ghost use Rattle.forec_check.specs.Table.{put_at, Settles};
+ghost use Rattle.forec_check.specs.Table.{Settles};
 ghost use Rattle.text_sizes.specs.TermCounts as counts;
 ghost use Rattle.text_sizes.specs.Extents.{nothing, extent_at, own_at, under_at, extent_step, capped, extent_value, counts_of, IsBlockTerms};
 ghost use Rattle.text_kernel.specs.Items.{functions_of};
@@ -21,7 +21,7 @@ use crate::tally::{
 };
 use forec_base::{Labels, OutOfMemory};
 use forec_tree::{Branch, Expr, Function, Stmt, StmtKind};
-use loop_check::{Index, find_function, order, read_calls};
+use loop_check::{Index, find_function, order, put, read_calls, value_at};
 use std::alloc::Global;
 
 /// The terms of a function that is inlined, and those of the threads below it.
@@ -36,10 +36,7 @@ fn known_of(table: &[Extent], id: u32) -> Extent
     ensures own { result.own ≡ own_at table.now id }
     ensures under { result.under ≡ under_at table.now id }
 {
-    match table.get(id as usize) {
-        None => Extent { own: 1, under: 0 },
-        Some(known) => *known,
-    }
+    value_at(table, id, Extent { own: 1, under: 0 })
 }
 
 /// The terms of a statement.
@@ -215,17 +212,6 @@ fn function_extent(index: &Index<'_>, table: &[Extent], id: u32) -> Extent
     }
 }
 
-fn put(table: &mut Vec<Extent>, id: u32, known: Extent) -> Result<(), OutOfMemory>
-    ensures { OnOk result ((h : ℕ) → extent_at table.new.items h ≡ put_at id h known (extent_at table.old.items h)) }
-{
-    let place = id as usize;
-    'room: while table.len() <= place {
-        table.push(Extent { own: 1, under: 0 })?;
-    }
-    table[place] = known;
-    Ok(())
-}
-
 /// The extent of each function, each after those that it calls or starts.
 fn table_of(alloc: Global, index: &Index<'_>, order: &[u32]) -> Result<Vec<Extent>, OutOfMemory>
     requires { Settles nothing (extent_step capped (text_of index.now)) (extent_value (text_of index.now)) order.now }
@@ -234,7 +220,7 @@ fn table_of(alloc: Global, index: &Index<'_>, order: &[u32]) -> Result<Vec<Exten
     let mut table = Vec::new(alloc);
     for f in order {
         let known = function_extent(index, &table, *f);
-        put(&mut table, *f, known)?;
+        put(&mut table, *f, known, Extent { own: 1, under: 0 })?;
     }
     Ok(table)
 }

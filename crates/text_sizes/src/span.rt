@@ -11,6 +11,7 @@ ghost use Rattle.text_sizes.specs.Spans as of;
 
 use crate::tally::add;
 use forec_tree::{Expr, Local, Stmt, StmtKind};
+use loop_check::value_at;
 use text_kernel::slots_of;
 
 /// The words of a function that is inlined, after its parameters, and those of the widest thread
@@ -39,10 +40,7 @@ pub fn no_span() -> Span
 pub fn span_of(table: &[Span], id: u32) -> Span
     ensures { result ≡ of.span_at table.now id }
 {
-    match table.get(id as usize) {
-        None => no_span(),
-        Some(known) => *known,
-    }
+    value_at(table, id, no_span())
 }
 
 /// The words of a declaration.

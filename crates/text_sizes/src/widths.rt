@@ -1,10 +1,10 @@
 //! The widest and the deepest of the threads below text, up to the greatest `u64`.
 
-ghost use Rattle.std.specs.Prelude.{◌≡◌, ℕ, IfOk, OnOk};
+ghost use Rattle.std.specs.Prelude.{◌≡◌, ℕ, IfOk};
 ghost use Rattle.forec_tree.specs.Faults.{Leads};
 ghost use Rattle.forec_tree.specs.Pauses.{callees_of};
 ghost use Rattle.loop_check.specs.Views.{text_of};
-ghost use Rattle.forec_check.specs.Table.{put_at, Settles};
+ghost use Rattle.forec_check.specs.Table.{Settles};
 ghost use Rattle.text_sizes.specs.Extents.{capped};
 ghost use Rattle.text_sizes.specs.Spans as of;
 ghost use Rattle.text_sizes.specs.Spans.{IsWidest, IsWidestOfOptional, IsWidestOfAll, IsWidestOfBranches, IsDeepest, IsDeepestOfOptional, IsDeepestOfAll, IsDeepestOfBranches};
@@ -13,7 +13,7 @@ use crate::span::{Span, all_slots, arguments, block_levels, no_span, span_of};
 use crate::tally::add;
 use forec_base::OutOfMemory;
 use forec_tree::{Branch, Stmt, StmtKind};
-use loop_check::{Index, find_function, order, read_calls};
+use loop_check::{Index, find_function, order, put, read_calls};
 use std::alloc::Global;
 
 /// The words of the widest thread below a statement.
@@ -178,17 +178,6 @@ fn function_span(index: &Index<'_>, table: &[Span], id: u32) -> Span
     }
 }
 
-fn put(table: &mut Vec<Span>, id: u32, known: Span) -> Result<(), OutOfMemory>
-    ensures { OnOk result ((h : ℕ) → of.span_at table.new.items h ≡ put_at id h known (of.span_at table.old.items h)) }
-{
-    let place = id as usize;
-    'room: while table.len() <= place {
-        table.push(no_span())?;
-    }
-    table[place] = known;
-    Ok(())
-}
-
 /// What is known of each function, each after those that it calls or starts.
 fn table_of(alloc: Global, index: &Index<'_>, order: &[u32]) -> Result<Vec<Span>, OutOfMemory>
     requires { Settles of.no_span (of.span_step capped (text_of index.now)) (of.span_value (text_of index.now)) order.now }
@@ -197,7 +186,7 @@ fn table_of(alloc: Global, index: &Index<'_>, order: &[u32]) -> Result<Vec<Span>
     let mut table = Vec::new(alloc);
     for f in order {
         let known = function_span(index, &table, *f);
-        put(&mut table, *f, known)?;
+        put(&mut table, *f, known, no_span())?;
     }
     Ok(table)
 }

@@ -6,28 +6,32 @@ ghost use Rattle.forec_tree.specs.Pauses.{find_function};
 ghost use Rattle.forec_check.specs.AccessScan.{start, as_access, accessing_instances, instances_of};
 ghost use Rattle.loop_check.specs.Views.{text_of};
 ghost use Rattle.forec_check.specs.Walk.{item_effects, effects_lists};
-ghost use Rattle.forec_check.specs.Table.{put_at};
-ghost use Rattle.forec_check.specs.AccessCounts.{capped, access_at, called_access, access_of, scan_effects, CountsEffect, capped_step, Orders};
+ghost use Rattle.forec_check.specs.AccessCounts.{capped, called_access, access_of, scan_effects, CountsEffect, capped_step, Orders};
+ghost use Rattle.forec_check.specs.AccessCounts as counts;
 
 use crate::instances::access_count::{AccessCount, AccessTally};
 use crate::instances::propagate::effects_of;
 use crate::walk::effects::Effect;
 use forec_base::OutOfMemory;
-use loop_check::Index;
+use loop_check::{Index, put, value_at};
 use std::alloc::Global;
+
+fn no_access_count() -> AccessCount
+    ensures { result ≡ counts.no_access_count }
+{
+    AccessCount {
+        own: false,
+        below: 0,
+    }
+}
 
 fn access_count(table: &[AccessCount], id: u32) -> AccessCount
     ensures { access_of result ≡ called_access table.now id }
 {
-    match table.get(id as usize) {
-        None => AccessCount {
-            own: false,
-            below: 0,
-        },
-        Some(known) => AccessCount {
-            own: known.own,
-            below: known.below.min(2),
-        },
+    let known = value_at(table, id, no_access_count());
+    AccessCount {
+        own: known.own,
+        below: known.below.min(2),
     }
 }
 
@@ -111,20 +115,6 @@ fn function_access(
     Ok(n)
 }
 
-fn put(table: &mut Vec<AccessCount>, id: u32, value: AccessCount) -> Result<(), OutOfMemory>
-    ensures { OnOk result ((h : ℕ) → access_at table.new.items h ≡ put_at id h (access_of value) (access_at table.old.items h)) }
-{
-    let place = id as usize;
-    'room: while table.len() <= place {
-        table.push(AccessCount {
-            own: false,
-            below: 0,
-        })?;
-    }
-    table[place] = value;
-    Ok(())
-}
-
 /// Whether two thread instances access a global. Looks at each effect of the bodies once.
 pub fn two_access(
     alloc: Global,
@@ -141,7 +131,7 @@ pub fn two_access(
     let mut table = Vec::new(alloc);
     for f in order {
         let value = function_access(alloc, index, bodies, g, &table, *f)?;
-        put(&mut table, *f, value)?;
+        put(&mut table, *f, value, no_access_count())?;
     }
     Ok(1 < instances(access_count(&table, first)))
 }

@@ -5,6 +5,7 @@ ghost use Rattle.forec_check.specs.CallSites as plain;
 ghost use Rattle.forec_check.specs.CallSites.{sites_at};
 
 use forec_base::OutOfMemory;
+use loop_check::{put, value_at};
 
 /// Where a function is called or an instance starts: an effect of the body of a function, by its number
 /// from 1. The program itself starts at number 0 of `main`.
@@ -50,10 +51,7 @@ pub fn within(part: CallSites, whole: CallSites) -> bool
 pub fn at(table: &[CallSites], id: u32) -> CallSites
     ensures { result ≡ sites_at table.now id }
 {
-    match table.get(id as usize) {
-        None => CallSites::None,
-        Some(sites) => *sites,
-    }
+    value_at(table, id, CallSites::None)
 }
 
 fn joined(known: CallSites, part: CallSites) -> CallSites {
@@ -72,10 +70,6 @@ pub fn join(table: &mut Vec<CallSites>, id: u32, part: CallSites) -> Result<bool
     if within(part, known) {
         return Ok(false);
     }
-    let place = id as usize;
-    while table.len() <= place {
-        table.push(CallSites::None)?;
-    }
-    table[place] = joined(known, part);
+    put(table, id, joined(known, part), CallSites::None)?;
     Ok(true)
 }

@@ -1,10 +1,11 @@
 //! The declarations so far, innermost last, with the last one of each name at hand.
 
 ghost use Rattle.std.specs.Prelude.{◌≡◌, ◌<◌, ◌≤◌, ◌-◌, [], ℕ, length, take, slice_index_or, OnOk, OnErr};
-ghost use Rattle.forec_check.specs.Declarations.{last_of, Chained, latest_put, pushed};
+ghost use Rattle.forec_check.specs.Declarations.{last_of, Chained, pushed};
 
 use crate::scopes::declaration::Declaration;
 use forec_base::OutOfMemory;
+use loop_check::{put, value_at};
 use std::alloc::Global;
 
 /// Declared names in order. A look-up, a declaration and its undoing take the same time however many
@@ -17,20 +18,8 @@ pub struct Declarations {
     ghost chained: { Chained list.items },
 }
 
-/// Puts a number at a place of a table, which is lengthened as needed.
-fn put(latest: &mut Vec<usize>, id: u32, value: usize) -> Result<(), OutOfMemory>
-    ensures ok { OnOk result ((g : ℕ) → slice_index_or latest.new.items g 0 ≡ latest_put id g value (slice_index_or latest.old.items g 0)) }
-    ensures kept { OnErr result ((g : ℕ) → slice_index_or latest.new.items g 0 ≡ slice_index_or latest.old.items g 0) }
-{
-    let at = id as usize;
-    'room: while latest.len() <= at {
-        latest.push(0)?;
-    }
-    latest[at] = value;
-    Ok(())
-}
-
 impl Declarations {
+    /// No declarations.
     pub fn new(alloc: Global) -> Declarations
         ensures { result.list.items ≡ [] }
     {
@@ -44,10 +33,7 @@ impl Declarations {
     pub fn last(&self, id: u32) -> usize
         ensures { result ≡ last_of id self.now.list.items }
     {
-        match self.latest.get(id as usize) {
-            None => 0,
-            Some(place) => *place,
-        }
+        value_at(&self.latest, id, 0)
     }
 
     /// Declares a name.
@@ -58,7 +44,7 @@ impl Declarations {
         let before = self.last(id);
         let place = self.list.len() + 1;
         self.list.push(Declaration { id, array, before })?;
-        if let Err(e) = put(&mut self.latest, id, place) {
+        if let Err(e) = put(&mut self.latest, id, place, 0) {
             let _ = self.list.pop();
             return Err(e);
         }

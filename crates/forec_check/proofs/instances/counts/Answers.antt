@@ -15,7 +15,7 @@ loop-f-preserved c =
     let k = c.loop-f.f-index in
     let step = c.requires.next k (count_at c.loop-f.table.items) c.loop-f-test.true c.loop-f.invariant in
     agrees_next 0 (count_of text) c.args.order.now k (count_at c.loop-f.table.items) (count_at c.put.new.table.items) c.count_function-value.result c.loop-f-test.true c.loop-f.invariant
-    (c.count_function-value.ensures ∙ ap (λ t. capped_below text (count_at t) (get_or c.args.order.now k 0)) c.deref.ensures.value ∙ step) c.in_ok-put.ensures
+    (c.count_function-value.ensures ∙ ap (λ t. capped_below text (count_at t) (get_or c.args.order.now k 0)) c.deref.ensures.value ∙ step) c.in_ok-put.ensures.ok
 
 pub returns : goal.returns
 returns c =

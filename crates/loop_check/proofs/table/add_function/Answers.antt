@@ -5,7 +5,8 @@ use Rattle.forec_tree.specs.Plain.{plain_item, plain_function}
 use Rattle.forec_tree.specs.Scopes.{name_of}
 use Rattle.forec_tree.specs.Faults.{item_named}
 use Rattle.loop_check.specs.Graph.{callees}
-use Rattle.loop_check.specs.Known.{Read, IsListOf, put_at}
+use Rattle.loop_check.specs.Known.{Read, IsListOf}
+use Rattle.loop_check.specs.Numbered.{put_at}
 use Rattle.loop_check.specs.Views.{text_of}
 use Rattle.loop_check.proofs.Reading.{next_of, read_again, read_global, read_function, function_at}
 use Rattle.loop_check.proofs.table.add_function.Goals as goal

@@ -15,7 +15,7 @@ loop-f-preserved c =
     let k = c.loop-f.f-index in
     let step = c.requires.next k (extent_at c.loop-f.table.items) c.loop-f-test.true c.loop-f.invariant in
     agrees_next nothing (extent_value text) c.args.order.now k (extent_at c.loop-f.table.items) (extent_at c.put.new.table.items) c.function_extent-known.result c.loop-f-test.true c.loop-f.invariant
-    (c.function_extent-known.ensures ∙ ap (λ t. extent_step capped text (extent_at t) (get_or c.args.order.now k 0)) c.deref.ensures.value ∙ step) c.in_ok-put.ensures
+    (c.function_extent-known.ensures ∙ ap (λ t. extent_step capped text (extent_at t) (get_or c.args.order.now k 0)) c.deref.ensures.value ∙ step) c.in_ok-put.ensures.ok
 
 pub returns : goal.returns
 returns c =

@@ -7,14 +7,14 @@ returns-then-last-self c =
     let s = c.args.self.now in
     let e = c.last-last.ensures in
     let t = c.if-last-self.true in
-    sym (not_found c.args.id s.base s.trail.links.items s.slots.items s.same s.within (omega (arith, e, t)))
+    sym (not_found c.args.id s.base s.declared.list.items s.slots.items s.same s.within (omega (arith, e, t)))
 
 pub index-slot-requires : goal.index-slot-requires
 index-slot-requires c =
     let s = c.args.self.now in
     let e = c.last-last.ensures in
     let t = c.if-last-self.false in
-    let l = last_low c.args.id s.base s.trail.links.items s.slots.items s.same s.within in
+    let l = last_low c.args.id s.base s.declared.list.items s.slots.items s.same s.within in
     omega (arith, e, t, l)
 
 pub returns : goal.returns
@@ -23,4 +23,4 @@ returns c =
     let e = c.last-last.ensures in
     let t = c.if-last-self.false in
     ap Some (c.index-slot.ensures ∙ ap (λ n. get_or s.slots.items (n - 1) c.index-slot.result.now) e)
-    ∙ sym (found_at c.args.id s.base s.trail.links.items s.slots.items s.same s.within c.index-slot.result.now (omega (arith, e, t)))
+    ∙ sym (found_at c.args.id s.base s.declared.list.items s.slots.items s.same s.within c.index-slot.result.now (omega (arith, e, t)))

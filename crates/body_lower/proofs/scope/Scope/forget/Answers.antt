@@ -1,5 +1,5 @@
 use Rattle.std.proofs.Common.{◌∙◌, sym, ap, map, length, length-take, arith}
-use Rattle.body_lower.specs.Trail.{id_of}
+use Rattle.forec_check.specs.Declarations.{id_of}
 use Rattle.text_kernel.specs.Bindings.{slot_id}
 use Rattle.body_lower.proofs.Looked.{map_take}
 use Rattle.body_lower.proofs.scope.Scope.forget.Goals as goal
@@ -9,6 +9,6 @@ invariant_of-self c =
     let s = c.args.self.now in
     let n = c.args.len in
     record {
-      same = ap (map id_of) c.truncate.ensures ∙ (map_take n s.trail.links.items s.slots.items s.same ∙ sym (ap (map slot_id) c.truncate-2.ensures.items));
+      same = ap (map id_of) c.truncate.ensures ∙ (map_take n s.declared.list.items s.slots.items s.same ∙ sym (ap (map slot_id) c.truncate-2.ensures.items));
       within = (let e = ap length c.truncate-2.ensures.items in let l = length-take n s.slots.items in let b = c.requires.seen in omega (arith, e, l, b, c.requires.within));
     }

@@ -14,7 +14,7 @@ invariant_of-self-in_default c =
     let place : c.len-place.result + 1 ≡ length es + 1 = omega (arith, n) in
     record {
       latest_right = λ g.
-          latest_push es id c.args.array (c.len-place.result + 1) (λ k. get_or c.args.self.now.latest.items k 0) (λ k. get_or c.put.new.latest.items k 0) place
+          latest_push es id c.args.array (c.len-place.result + 1) (λ k. get_or c.args.self.now.latest.items k 0) (λ k. get_or c.put.new.table.items k 0) place
           c.args.self.now.latest_right c.in_default.ensures.ok g ∙ ap (last_of g) (sym items);
       chained = subst (λ xs. Chained xs) (sym items) (chained_push es id c.args.array c.args.self.now.chained);
     }

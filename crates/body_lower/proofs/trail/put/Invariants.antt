@@ -1,8 +1,0 @@
-use Rattle.std.proofs.Common.{ℕ, ◌≡◌, ◌+◌, ◌-◌, length, get_or}
-use Rattle.body_lower.proofs.trail.put.Given as goal
-
-abbrev pub invariant-room : goal.invariant-room
-invariant-room l = (k : ℕ) → get_or l.latest.items k 0 ≡ get_or l.initial.latest.items k 0
-
-abbrev pub decreases-room : goal.decreases-room
-decreases-room l = (l.at + 1) - length l.latest.items

@@ -1,9 +1,0 @@
-use Rattle.std.proofs.Common.{ℕ, ◌≡◌, ◌+◌, ◌-◌, length}
-use Rattle.forec_check.specs.Instances.{count_at}
-use Rattle.forec_check.proofs.instances.put.Given as goal
-
-abbrev pub invariant-room : goal.invariant-room
-invariant-room l = (k : ℕ) → count_at l.table.items k ≡ count_at l.initial.table.items k
-
-abbrev pub decreases-room : goal.decreases-room
-decreases-room l = (l.place + 1) - length l.table.items

@@ -1,0 +1,6 @@
+-- Tables of values by the numbers of names.
+use Rattle.std.specs.Prelude.{ℕ, ◌==◌, cond}
+
+-- the value at a number `g` after one was put at `id`
+abbrev pub put_at : {A : Type 0} → ℕ → ℕ → A → A → A
+put_at id g value before = cond (id == g) value before
