@@ -2,7 +2,6 @@ pub mod TellingLemmas
 pub mod Once
 pub mod Sound
 pub mod Complete
-pub mod KeptCopies
 pub mod Shaped
 pub mod TickLemmas
 pub mod Replayed

@@ -17,7 +17,7 @@ use Rattle.exchange_meaning.specs.Logged.{ExchangeLog, HasBranch, AreTold}
 use Rattle.exchange_meaning.specs.Telling.{TellsBranches}
 use Rattle.exchange_meaning.specs.LogOf.{AllButLastPause}
 use Rattle.exchange_meaning.specs.Replays.{IsTick, AreTicks}
-use Rattle.exchange_meaning.proofs.KeptCopies.{HasCopies, KeptBy, copies_kept, jobs_then, state_then}
+use Rattle.forec_kernel.proofs.KeptCopies.{HasCopies, KeptBy, copies_kept, jobs_then, state_then}
 
 -- ---- the first exchanges
 

@@ -21,7 +21,7 @@ use Rattle.exchange_meaning.specs.Telling.{TellsBranches}
 use Rattle.exchange_meaning.specs.Replays.{AllAgree}
 use Rattle.exchange_meaning.specs.LogOf.{AllButLastPause, LogOfTicks}
 use Rattle.exchange_meaning.proofs.Complete.{alone_length}
-use Rattle.exchange_meaning.proofs.KeptCopies.{jobs_then}
+use Rattle.forec_kernel.proofs.KeptCopies.{jobs_then}
 use Rattle.exchange_meaning.proofs.OwnBranches.{all_mine}
 use Rattle.exchange_meaning.proofs.Shaped.{below_of}
 use Rattle.exchange_meaning.proofs.Sound.{tells_answered, log_of_same}

@@ -17,7 +17,7 @@ use Rattle.exchange_meaning.specs.Replays.{IsTick, AreTicks, RunsTicks}
 use Rattle.exchange_meaning.specs.LogOf.{AllButLastPause}
 use Rattle.exchange_meaning.specs.Replays.{AllAgree}
 use Rattle.exchange_meaning.proofs.Complete.{alone_length}
-use Rattle.exchange_meaning.proofs.KeptCopies.{jobs_then}
+use Rattle.forec_kernel.proofs.KeptCopies.{jobs_then}
 use Rattle.exchange_meaning.proofs.Sound.{tells_answered}
 use Rattle.exchange_meaning.proofs.TickLemmas.{Cut, Follows, first, later, forward, job_is, tick_told}
 use Rattle.forec_kernel.proofs.Distinct.{branches_apart}

@@ -4,7 +4,6 @@ pub mod Branching
 pub mod Copies
 pub mod InARow
 pub mod Rooms
-pub mod KeptCopies
 pub mod Readiness
 pub mod TickOutcome
 pub mod Once

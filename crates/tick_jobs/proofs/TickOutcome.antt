@@ -27,7 +27,7 @@ use Rattle.tick_jobs.specs.Jobs.{copies_before, copies_at, job_with, job_of}
 use Rattle.tick_jobs.specs.Outcomes.{HasOutputs, outcome_in, ComesTo}
 use Rattle.tick_jobs.specs.Ready.{HoldsState}
 use Rattle.tick_jobs.proofs.Rooms.{no_params, all_copies, length_at}
-use Rattle.tick_jobs.proofs.KeptCopies.{KeptBy, HasCopies, copies_kept, jobs_then, state_then}
+use Rattle.forec_kernel.proofs.KeptCopies.{KeptBy, HasCopies, copies_kept, jobs_then, state_then}
 
 -- ---- the job
 
